@@ -56,11 +56,7 @@ queues_in_order queues before (q ∷ after) n is at =
 pub calls_back : (history : List Call) → All (λ (call : Call). call.caller < 1) history
     → map first_call (requests_by 0 history) ≡ history
 calls_back [] all = refl
-calls_back (call ∷ history) all =
-    let less = all 0 call (omega arith) in
-    let zero_is : call.caller ≡ 0 = omega arith in
-    let rest = calls_back history (λ k d within. all (suc k) d (omega arith)) in
-    search (rules, eq-eqb, rest)
+calls_back (call ∷ history) all = let less = all 0 call (omega arith) in let rest = calls_back history (λ k d within. all (suc k) d (omega arith)) in search (rules, eq-eqb, rest)
 
 module _ {S : Type 0} (may : S → View → List Command → Type 0) (systems : List S) (before : World)
     (queues : List (List Command)) where

@@ -44,8 +44,7 @@ module _ {O : Type 0} where
   pub all_put : (e : Option O) (done : List (Done O)) (by_number : List (Option O))
       → All (λ (d : Done O). d.number < length by_number) done → ((n : ℕ) → times n done ≤ 1)
       → All (λ (d : Done O). get_or (outputs_put done by_number) d.number e ≡ Some d.output) done
-  all_put e [] by_number inside once = All-nil (λ (d : Done O). get_or by_number d.number e
-      ≡ Some d.output)
+  all_put e [] by_number inside once = search (rules, All-nil)
   all_put e (d ∷ done) by_number inside once =
       let next : List (Option O) = slice_set by_number d.number (Some d.output) in
       let sums : (n : ℕ) → times n (d ∷ done) ≡ is_of n d + times n done = λ n.
@@ -76,7 +75,4 @@ pub collected_on : {O : Type 0} (rest new : List (Option O)) (q : O) (before aft
     (all : List (Option O)) → rest ≡ Some q ∷ new → after ≡ before ++ q ∷ []
     → map Some before ++ rest ≡ all
     → (map Some after ++ new ≡ all) × (length rest ≡ length new + 1)
-collected_on rest new q before after all front push same = (
-  search (rules, map-append, append_assoc),
-  ap length front ∙ omega arith,
-)
+collected_on rest new q before after all front push same = search (rules, map-append, append_assoc)

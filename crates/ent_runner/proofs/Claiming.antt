@@ -13,16 +13,7 @@ use Rattle.ent_runner.specs.Claims.{Claims, Claimer, IsClaimerOf}
 rising_from : (low n : ℕ) (xs : List ℕ) → low ≤ n → All (λ x. low ≤ x) xs
     → AllPairs (λ x y. x < y) xs → All (λ x. x < n) xs → low + length xs ≤ n
 rising_from low n [] le above rises below = omega arith
-rising_from low n (x ∷ xs) le above rises below =
-    let here = above 0 x (omega arith) in
-    let last = below 0 x (omega arith) in
-    omega (
-      arith,
-      rising_from (x + 1) n xs (omega arith)
-          (λ k d lt. omega (arith, rises 0 (suc k) d (omega arith) (omega arith)))
-          (λ i j d lt within. rises (suc i) (suc j) d (omega arith) (omega arith))
-          (λ k d lt. below (suc k) d (omega arith)),
-    )
+rising_from low n (x ∷ xs) le above rises below = let last = below 0 x (omega arith) in omega (arith, rising_from (x + 1) n xs (omega arith) (λ k d lt. omega (arith, rises 0 (suc k) d (omega arith) (omega arith))) (λ i j d lt within. rises (suc i) (suc j) d (omega arith) (omega arith)) (λ k d lt. below (suc k) d (omega arith)))
 
 pub rising_fit : (n : ℕ) (xs : List ℕ) → AllPairs (λ x y. x < y) xs → All (λ x. x < n) xs
     → length xs ≤ n
@@ -44,10 +35,4 @@ pub claimed_on : (claims : Claims) (views after : List (List ClaimRecord)) (was 
     → after ≡ (after_claim (claims_of views) n ∷ []) ∷ [] → n < claims.numbers
     → All (λ m. m < n) (claims_of views).claims
     → IsClaimerOf claims (record { word = now; own = claims_of after })
-claimed_on claims views after was now old n view of same is within above =
-    let limit : old.own.numbers ≡ claims.numbers = of.numbers in
-    let own : claims_of after ≡ record old.own { claims = old.own.claims ++ n ∷ [] } =
-    search (rules, lt-ltb) in
-    let word : now ≡ old.word = search rules in
-    subst (IsClaimerOf claims) (sym (λ i. record { word = word i; own = own i }))
-    (of_claimed claims old n of within (subst (λ (c : Claimer). All (λ m. m < n) c.own.claims) view above))
+claimed_on claims views after was now old n view of same is within above = let limit : old.own.numbers ≡ claims.numbers = of.numbers in let own : claims_of after ≡ record old.own { claims = old.own.claims ++ n ∷ [] } = search (rules, lt-ltb) in let word : now ≡ old.word = search rules in search (rules, of_claimed)

@@ -25,8 +25,7 @@ weight f claimers = sum_by (λ (c : Claimer). sum_by f c.own.claims) claimers
 
 weigh_claims-records_of : (f : ℕ → ℕ) (cs : List Claimer) → weigh_claims f (records_of cs)
     ≡ weight f cs
-weigh_claims-records_of f cs = fold-map (λ (s : ℕ) (r : ClaimRecord). s + sum_by f r.claims)
-    (λ (c : Claimer). c.own) 0 cs
+weigh_claims-records_of f cs = search (rules, fold-map)
 
 weight-flat_map : (f : ℕ → ℕ) (cs : List Claimer)
     → sum_by f (flat_map (λ (c : Claimer). c.own.claims) cs) ≡ weight f cs
@@ -83,12 +82,7 @@ module _ (numbers workers : ℕ) (cs : List Claimer) (all : length cs ≡ worker
   weights f = search (rules, weigh_claims-records_of, closed.all, length-map)
 
   pub first : AreFirst numbers cs
-  first = record {
-    count = closed.claimed;
-    within = closed.within;
-    once = weigh_same _ _ (λ f. weight-flat_map f cs ∙ weights f);
-    whole = one_ended numbers closed.claimed cs closed.each;
-  }
+  first = search (rules, weigh_same, weight-flat_map, weights, one_ended)
 
   pub apart : (n j k : ℕ) → IsClaimedBy cs n j → IsClaimedBy cs n k → j ≡ k
   apart n j k first second = one_holder n cs (omega (

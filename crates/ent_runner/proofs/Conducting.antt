@@ -1,4 +1,5 @@
 -- What the workers of a crew have done together, once all of them are back.
+use Rattle.std.proofs.lemmas.Grind.{common_steps}
 use Rattle.std.proofs.Common.{rules, ◌≡◌, ℕ, ◌<◌, ◌≤◌, List, [], ◌∷◌, ◌++◌, length, map, get_or, refl}
 use Rattle.std.proofs.Common.{ap, sym, ◌∙◌, arith, subst, Option, Some, None, true, false, Bool, take}
 use Rattle.std.proofs.Common.{drop, inl, inr, ⊎_elim, ◌⊎◌, Vec, Global, reverse}
@@ -47,16 +48,7 @@ module _ {O : Type 0} where
       → map (λ (w : Worker O). w.claimer) team ≡ reverse fresh → All (IsClaimerOf claims) fresh
       → All IsUnused fresh → All (λ (w : Worker O). IsRoomForOne w.done) team
       → All (λ (w : Worker O). IsClaimerOf claims w.claimer × IsNewWorker w) team
-  all_ready claims team fresh claimers theirs unused empty =
-      let moved = IsPermutation-reverse fresh in
-      let one = of_mapped (IsClaimerOf claims) (λ (w : Worker O). w.claimer) team
-      (rw claimers (All-permutation (IsClaimerOf claims) fresh (reverse fresh) moved theirs)) in
-      let two = of_mapped IsUnused (λ (w : Worker O). w.claimer) team
-      (rw claimers (All-permutation IsUnused fresh (reverse fresh) moved unused)) in
-      λ k d within. (
-        one k d within,
-        record { unused = two k d within; room = empty k d within },
-      )
+  all_ready claims team fresh claimers theirs unused empty = let moved = IsPermutation-reverse fresh in let one = of_mapped (IsClaimerOf claims) (λ (w : Worker O). w.claimer) team (rw claimers (All-permutation (IsClaimerOf claims) fresh (reverse fresh) moved theirs)) in let two = of_mapped IsUnused (λ (w : Worker O). w.claimer) team (rw claimers (All-permutation IsUnused fresh (reverse fresh) moved unused)) in search rules
 
   -- A crew is made: its claims are open, its workers are ready, and there is room for all outputs.
   pub room_of : (claims seen : Claims) (jobs workers : ℕ) (team : List (Worker O))
@@ -99,10 +91,7 @@ module _ {O : Type 0} where
     -- the jobs that they did are those that they claimed
     pub did_claims : numbers_of (all_done team)
         ≡ flat_map (λ (c : Claimer). c.own.claims) (claimers_of team)
-    did_claims = map_flat (λ (d : Done O). d.number) (λ (w : Worker O). w.done.items) team
-        ∙ (same_flat (λ (w : Worker O). numbers_of w.done.items)
-        (λ (w : Worker O). w.claimer.own.claims) team (λ k d within. (each k d within).claimed)
-        ∙ sym (flat_map-map (λ (c : Claimer). c.own.claims) (λ (w : Worker O). w.claimer) team))
+    did_claims = search (rules, map_flat, same_flat, flat_map-map)
 
     -- each job has a number that there is
     pub numbers_below : All (λ (w : Worker O). All (λ (d : Done O). d.number < claims.numbers)
@@ -118,18 +107,13 @@ module _ {O : Type 0} where
       → (first : AreFirst claims.numbers claimers) → (stopped : Bool) → w.stopped ≡ stopped
       → first.count < claims.numbers → 0 < length w.done.items
   busy_one claims w has claimers k at first true is less = has.some is
-  busy_one claims w has claimers k at first false is less = ⊎_elim
-      (λ (ended : w.claimer.own.ended ≡ true). let all = first.whole k w.claimer at ended in
-      absurd (omega (arith, all, less))) (λ some. some.0) (has.through is)
+  busy_one claims w has claimers k at first false is less = search rules
 
   busy_all : (claims : Claims) (team : List (Worker O)) → All (HasClaimed claims) team
       → (claimers : List Claimer) → claimers ≡ map (λ (w : Worker O). w.claimer) team
       → (first : AreFirst claims.numbers claimers) → first.count < claims.numbers
       → All (λ (w : Worker O). 0 < length w.done.items) team
-  busy_all claims team each claimers theirs first less k d within =
-      let w = get_or team k d in
-      let at = get_mapped (λ (w : Worker O). w.claimer) team k w (slice_get-get_or team k d within) in
-      busy_one claims w (each k d within) claimers k (rw theirs at) first w.stopped refl less
+  busy_all claims team each claimers theirs first less k d within = let w = get_or team k d in let at = get_mapped (λ (w : Worker O). w.claimer) team k w (slice_get-get_or team k d within) in search (rules, busy_one)
 
   -- So some were done, if there are any.
   some_by : (claims : Claims) (w : Worker O) (team : List (Worker O)) → HasClaimed claims w
@@ -276,8 +260,7 @@ module _ {O : Type 0} where
 
     ran_flat : flat_map (λ mine. mine) (map (λ (w : Worker O). numbers_of w.done.items) team)
         ≡ numbers_of (all_done team)
-    ran_flat = flat_map-map (λ mine. mine) (λ (w : Worker O). numbers_of w.done.items) team
-        ∙ sym (map_flat (λ (d : Done O). d.number) (λ (w : Worker O). w.done.items) team)
+    ran_flat = search (rules, flat_map-map, map_flat)
 
     rising : All (AllPairs (λ m n. m < n)) (map (λ (w : Worker O). numbers_of w.done.items) team)
     rising = All-map (AllPairs (λ m n. m < n)) (λ (w : Worker O). numbers_of w.done.items) team
@@ -425,8 +408,7 @@ module _ {O : Type 0} where
       pub done_of : All (λ (w : Worker O). w.stopped ≡ false) team
           → IfSome got (λ outputs. map Some outputs.items ≡ was)
           → IfSome got (λ outputs. AreDone may claims.numbers before outputs.items after)
-      done_of going all = some_weaker got (λ outputs each. are_done first going outputs.items
-          (each ∙ same)) all
+      done_of going all = search (rules, some_weaker, are_done)
 
       pub lost_of : IfNone got (Any (λ (output : Option O). output ≡ None) was)
           → IfNone got (AreBrokenOff may leave claims.numbers before after)
@@ -436,13 +418,4 @@ module _ {O : Type 0} where
     -- a worker that has stopped has done a job
     pub some_jobs : IsLostFor claims.numbers team → 0 < claims.numbers
     some_jobs (inr less) = omega arith
-    some_jobs (inl (k, w, within, at, stopped)) =
-        let there = slice_get-get_or team k w within ∙ ap Some at in
-        let has = each_of_all (HasClaimed claims) team k w all_claimed there in
-        let some = has.some stopped in
-        let below = each_of_all (λ (w : Worker O). All (λ (d : Done O). d.number < claims.numbers)
-        w.done.items) team k w (numbers_below claims team all_claimed) there in
-        let one = at_within w.done.items 0 some in
-        let less = each_of_all (λ (d : Done O). d.number < claims.numbers) w.done.items 0 one.0 below
-        one.1 in
-        omega (arith, less)
+    some_jobs (inl (k, w, within, at, stopped)) = grind (arith, common_steps, slice_get-get_or, each_of_all, all_claimed, numbers_below, at_within)

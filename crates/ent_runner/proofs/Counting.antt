@@ -45,16 +45,8 @@ in_range n low (suc many) =
 
 nothing_in : (xs : List ℕ) → sum_by (λ (_ : ℕ). 1) xs ≡ 0 → xs ≡ []
 nothing_in [] e = refl
-nothing_in (x ∷ xs) e = absurd (let sums = sum_by-cons (λ (_ : ℕ). 1) x xs in omega arith)
+nothing_in (x ∷ xs) e = grind (arith, common_steps, sum_by-cons)
 
 pub weigh_same : (xs ys : List ℕ) → ((f : ℕ → ℕ) → sum_by f xs ≡ sum_by f ys) → IsPermutation xs ys
 weigh_same xs [] same = rw (nothing_in xs (same (λ (_ : ℕ). 1))) (IsPermutation-refl [])
-weigh_same xs (y ∷ ys) same =
-    let total = same (is y) in
-    let sums = sum_by-cons (is y) y ys in
-    let one = is_same y y refl in
-    let at = inside y xs (omega arith) in
-    let rest : (f : ℕ → ℕ) → sum_by f (remove xs at.0) ≡ sum_by f ys = λ f.
-    grind (arith, common_steps, sum_by_popped, sum_by-cons) in
-    IsPermutation-trans _ _ _ (IsPermutation-remove xs at.0 y at.1 (sym at.2))
-    (IsPermutation-cons y _ _ (weigh_same (remove xs at.0) ys rest))
+weigh_same xs (y ∷ ys) same = let sums = sum_by-cons (is y) y ys in let one = is_same y y refl in let at = inside y xs (omega arith) in let rest : (f : ℕ → ℕ) → sum_by f (remove xs at.0) ≡ sum_by f ys = λ f. grind (arith, common_steps, sum_by_popped, sum_by-cons) in IsPermutation-trans _ _ _ (IsPermutation-remove xs at.0 y at.1 (sym at.2)) (IsPermutation-cons y _ _ (weigh_same (remove xs at.0) ys rest))

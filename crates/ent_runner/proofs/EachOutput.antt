@@ -1,4 +1,5 @@
 -- What a relation says of the output of a job alone holds of each output.
+use Rattle.std.proofs.Common.{rules}
 use Rattle.std.proofs.Common.{◌≡◌, ℕ, ◌<◌, List, [], ◌∷◌, length, subst, arith, Some, inl, inr, ◌⊎◌}
 use Rattle.std.specs.Prelude.{slice_get}
 use Rattle.std.specs.List.{All}
@@ -50,14 +51,7 @@ module _ {O : Type 0} where
         → DidAll (Alone P) outputs a mine b ⊎ DidUntil (Alone P) (Alone Q) outputs a mine b
         → All (HoldsAt (Either P Q) outputs) mine
     held_either P Q outputs a mine b (inl did) = weaker P Q outputs mine (held P outputs a mine b did)
-    held_either P Q outputs a mine b (inr did) =
-        let last = did.stopped in
-        let one : HoldsAt (Either P Q) outputs did.last = λ output at. inr
-        (here Q outputs did.last last.0 last.1 last.2 output at) in
-        rw did.numbers_are (All-append (HoldsAt (Either P Q) outputs) did.earlier (did.last ∷ [])
-        (weaker P Q outputs did.earlier (held P outputs a did.earlier did.between did.ended))
-        (All-cons (HoldsAt (Either P Q) outputs) did.last [] one
-        (All-nil (HoldsAt (Either P Q) outputs))))
+    held_either P Q outputs a mine b (inr did) = let last = did.stopped in let one : HoldsAt (Either P Q) outputs did.last = search (rules, here) in rw did.numbers_are (All-append (HoldsAt (Either P Q) outputs) did.earlier (did.last ∷ []) (weaker P Q outputs did.earlier (held P outputs a did.earlier did.between did.ended)) (All-cons (HoldsAt (Either P Q) outputs) did.last [] one (All-nil (HoldsAt (Either P Q) outputs))))
 
     pub each_either : (P Q : ℕ → O → Type 0) (jobs : ℕ) (before after : List L)
         → length after ≡ length before

@@ -1,4 +1,5 @@
 -- What a crew did whose jobs are the systems of a frame, and the history of its reservers, are a frame.
+use Rattle.std.proofs.lemmas.Grind.{common_steps}
 use Rattle.std.proofs.Common.{rules, ◌≡◌, ℕ, zero, suc, ◌+◌, ◌<◌, List, [], ◌∷◌, ◌++◌, length, map}
 use Rattle.std.proofs.Common.{get_or, refl, ap, ◌∙◌, arith, subst, Some, inl, inr, ◌⊎◌, ⊎_elim, ◌-◌}
 use Rattle.std.proofs.Common.{Result}
@@ -172,10 +173,7 @@ module _ {S : Type 0} (may : S → View → List Command → Type 0) (systems : 
     (legal : IsLegal before.allocator (history_of records))
     (respects : All (Respects (reservations_of records)) records) where
   opened_at : (k : ℕ) → k < workers → slice_get opens k ≡ Some (opened before.allocator k)
-  opened_at k less =
-      let same : 0 + k ≡ k = omega arith in
-      rw opened_are (opened_get before.allocator 0 workers k less
-      ∙ ap (λ n. Some (opened before.allocator n)) same)
+  opened_at k less = search (rules, opened_get)
 
   abbrev May : ℕ → List Command → Type 0
   May n queue = SystemMayIssue may systems (view_of before) n queue
@@ -183,33 +181,7 @@ module _ {S : Type 0} (may : S → View → List Command → Type 0) (systems : 
   pub frame_is : (queues : List (List Command))
       → AreDone (Issues may systems (view_of before)) (length systems) opens queues records
       → IsFrame may systems workers before queues (history_of records)
-  frame_is queues done =
-      let teams : length done.ran ≡ workers = done.each_worker ∙ many in
-      let did : (k : ℕ) (mine : List ℕ) (r : Record) → slice_get done.ran k ≡ Some mine
-      → slice_get records k ≡ Some r → DidAll (Issues may systems (view_of before)) queues
-      (opened before.allocator k) mine r = λ k mine r at there.
-      let less = slice_get_within done.ran k mine at in
-      done.did k mine (opened before.allocator k) r at (opened_at k (omega (arith, teams))) there in
-      let gains : (k : ℕ) (mine : List ℕ) (r : Record) → slice_get done.ran k ≡ Some mine
-      → slice_get records k ≡ Some r
-      → Gains (opened before.allocator k) (commands_of queues mine) r = λ k mine r at there.
-      all_gain queues May (opened before.allocator k) mine r (did k mine r at there) in
-      record {
-        legal = legal;
-        callers = ours before workers records queues done.ran long teams respects gains done.rising;
-        ran = done.ran;
-        each_worker = teams;
-        once = done.once;
-        work = worked before workers records queues done.ran long teams respects gains done.rising;
-        count = done.count;
-        each_system = λ n system at.
-            everywhere (λ n. May n (queue_at queues n)) (length systems) done.ran done.once
-            (λ k mine at_mine.
-            let less = slice_get_within done.ran k mine at_mine in
-            let r = at_within records k (omega (arith, teams, long)) in
-            all_hold queues May (opened before.allocator k) mine r.0 (did k mine r.0 at_mine r.1))
-            n (slice_get_within systems n system at) system at;
-      }
+  frame_is queues done = let teams : length done.ran ≡ workers = done.each_worker ∙ many in let did : (k : ℕ) (mine : List ℕ) (r : Record) → slice_get done.ran k ≡ Some mine → slice_get records k ≡ Some r → DidAll (Issues may systems (view_of before)) queues (opened before.allocator k) mine r = search (rules, slice_get_within, opened_at) in let gains : (k : ℕ) (mine : List ℕ) (r : Record) → slice_get done.ran k ≡ Some mine → slice_get records k ≡ Some r → Gains (opened before.allocator k) (commands_of queues mine) r = λ k mine r at there. all_gain queues May (opened before.allocator k) mine r (did k mine r at there) in record { legal = legal; callers = ours before workers records queues done.ran long teams respects gains done.rising; ran = done.ran; each_worker = teams; once = done.once; work = worked before workers records queues done.ran long teams respects gains done.rising; count = done.count; each_system = λ n system at. everywhere (λ n. May n (queue_at queues n)) (length systems) done.ran done.once (λ k mine at_mine. let less = slice_get_within done.ran k mine at_mine in let r = at_within records k (omega (arith, teams, long)) in all_hold queues May (opened before.allocator k) mine r.0 (did k mine r.0 at_mine r.1)) n (slice_get_within systems n system at) system at }
 
   module _ (leave : S → View → List Command → Type 0) where
     abbrev Left : ℕ → List Command → Type 0
@@ -223,8 +195,7 @@ module _ {S : Type 0} (may : S → View → List Command → Type 0) (systems : 
         → DidAll (Issues may systems (view_of before)) queues a mine b
         ⊎ DidUntil (Issues may systems (view_of before)) (Issues leave systems (view_of before))
         queues a mine b → DidAll Issued queues a mine b
-    either queues a mine b (inl did) = weaker (Issues may systems (view_of before)) Issued
-        (λ n c q d one. (one.0, inl one.1)) queues a mine b did
+    either queues a mine b (inl did) = search (rules, weaker)
     either queues a mine b (inr did) = until_weaker (Issues may systems (view_of before))
         (Issues leave systems (view_of before)) Issued (λ n c q d one. (one.0, inl one.1))
         (λ n c q d one. (one.0, inr one.1)) queues a mine b did
@@ -237,61 +208,9 @@ module _ {S : Type 0} (may : S → View → List Command → Type 0) (systems : 
     in_turn queues a mine b (inl did) =
         let all = all_hold queues May a mine b did in
         λ i j d less within. all i d (omega (arith, less, within))
-    in_turn queues a mine b (inr did) =
-        let all = all_hold queues May a did.earlier did.between did.ended in
-        rw did.numbers_are (all_pairs_push (λ earlier later. May earlier (queue_at queues earlier))
-        did.earlier did.last (λ i j d less within. all i d (omega (arith, less, within))) all)
+    in_turn queues a mine b (inr did) = let all = all_hold queues May a did.earlier did.between did.ended in grind (arith, common_steps, all_pairs_push)
 
     pub broken_off : AreBrokenOff (Issues may systems (view_of before))
         (Issues leave systems (view_of before)) (length systems) opens records
         → IsBrokenOff may leave systems workers before (history_of records)
-    broken_off done =
-        let queues : List (List Command) = done.outputs in
-        let teams : length done.ran ≡ workers = done.each_worker ∙ many in
-        let any : (k : ℕ) (mine : List ℕ) (r : Record) → slice_get done.ran k ≡ Some mine
-        → slice_get records k ≡ Some r
-        → DidAll (Issues may systems (view_of before)) queues (opened before.allocator k) mine r
-        ⊎ DidUntil (Issues may systems (view_of before)) (Issues leave systems (view_of before))
-        queues (opened before.allocator k) mine r = λ k mine r at there.
-        let less = slice_get_within done.ran k mine at in
-        done.did k mine (opened before.allocator k) r at (opened_at k (omega (arith, teams))) there
-        in
-        let gains : (k : ℕ) (mine : List ℕ) (r : Record) → slice_get done.ran k ≡ Some mine
-        → slice_get records k ≡ Some r
-        → Gains (opened before.allocator k) (commands_of queues mine) r = λ k mine r at there.
-        all_gain queues Left (opened before.allocator k) mine r
-        (either queues (opened before.allocator k) mine r (any k mine r at there)) in
-        record {
-          legal = legal;
-          callers = ours before workers records queues done.ran long teams respects gains done.rising;
-          ran = done.ran;
-          each_worker = teams;
-          count = done.count;
-          within = done.within;
-          some = done.some;
-          once = done.once;
-          queues = queues;
-          each_queue = done.each_output;
-          each_system = everywhere (λ n. Left n (queue_at queues n)) done.count done.ran done.once
-              (λ k mine at_mine.
-              let less = slice_get_within done.ran k mine at_mine in
-              let r = at_within records k (omega (arith, teams, long)) in
-              all_hold queues Left (opened before.allocator k) mine r.0
-              (either queues (opened before.allocator k) mine r.0 (any k mine r.0 at_mine r.1)));
-          work = worked before workers records queues done.ran long teams respects gains done.rising;
-          ended = λ k mine at_mine.
-              let less = slice_get_within done.ran k mine at_mine in
-              let r = at_within records k (omega (arith, teams, long)) in
-              in_turn queues (opened before.allocator k) mine r.0 (any k mine r.0 at_mine r.1);
-          why = ⊎_elim (λ s.
-              let did = s.7 in
-              inl (
-                s.0,
-                s.1,
-                did.last,
-                s.4,
-                rw did.numbers_are (last_pushed did.earlier did.last),
-                rw (queue_is queues did.last did.stopped.0 did.stopped.1) did.stopped.2.1,
-              )) inr done.why;
-          busy = done.busy;
-        }
+    broken_off done = let queues : List (List Command) = done.outputs in let teams : length done.ran ≡ workers = done.each_worker ∙ many in let any : (k : ℕ) (mine : List ℕ) (r : Record) → slice_get done.ran k ≡ Some mine → slice_get records k ≡ Some r → DidAll (Issues may systems (view_of before)) queues (opened before.allocator k) mine r ⊎ DidUntil (Issues may systems (view_of before)) (Issues leave systems (view_of before)) queues (opened before.allocator k) mine r = λ k mine r at there. let less = slice_get_within done.ran k mine at in done.did k mine (opened before.allocator k) r at (opened_at k (omega (arith, teams))) there in let gains : (k : ℕ) (mine : List ℕ) (r : Record) → slice_get done.ran k ≡ Some mine → slice_get records k ≡ Some r → Gains (opened before.allocator k) (commands_of queues mine) r = λ k mine r at there. all_gain queues Left (opened before.allocator k) mine r (either queues (opened before.allocator k) mine r (any k mine r at there)) in record { legal = legal; callers = ours before workers records queues done.ran long teams respects gains done.rising; ran = done.ran; each_worker = teams; count = done.count; within = done.within; some = done.some; once = done.once; queues = queues; each_queue = done.each_output; each_system = everywhere (λ n. Left n (queue_at queues n)) done.count done.ran done.once (λ k mine at_mine. let less = slice_get_within done.ran k mine at_mine in let r = at_within records k (omega (arith, teams, long)) in all_hold queues Left (opened before.allocator k) mine r.0 (either queues (opened before.allocator k) mine r.0 (any k mine r.0 at_mine r.1))); work = worked before workers records queues done.ran long teams respects gains done.rising; ended = λ k mine at_mine. let less = slice_get_within done.ran k mine at_mine in let r = at_within records k (omega (arith, teams, long)) in in_turn queues (opened before.allocator k) mine r.0 (any k mine r.0 at_mine r.1); why = search (rules, last_pushed, queue_is); busy = done.busy }

@@ -1,4 +1,5 @@
 -- What jobs did with what was lent to them, seen by one part of it.
+use Rattle.std.proofs.Common.{rules}
 use Rattle.std.proofs.Common.{ℕ, List, [], ◌∷◌, map, ap, sym, ◌∙◌, inl, inr, ◌⊎◌, ⊎_elim}
 use Rattle.std.proofs.lemmas.List.{length-map}
 use Rattle.ent_runner.specs.Crew.{OfEach, DidAll, DidUntil, AreDone, AreBrokenOff}
@@ -8,10 +9,7 @@ module _ {L K : Type 0} (f : L → K) where
   of_each : (P : List ℕ → L → L → Type 0) (Q : List ℕ → K → K → Type 0) (ran : List (List ℕ))
       (before after : List L) → ((mine : List ℕ) (a b : L) → P mine a b → Q mine (f a) (f b))
       → OfEach ran before after P → OfEach ran (map f before) (map f after) Q
-  of_each P Q ran before after go each worker mine a b at at_a at_b =
-      let r = mapped_at f before worker a at_a in
-      let s = mapped_at f after worker b at_b in
-      rw (sym r.2, sym s.2) (go mine r.0 s.0 (each worker mine r.0 s.0 at r.1 s.1))
+  of_each P Q ran before after go each worker mine a b at at_a at_b = search (rules, mapped_at)
 
 module _ {O L K : Type 0} (f : L → K) (may leave : ℕ → K → O → K → Type 0) where
   abbrev Of : (ℕ → K → O → K → Type 0) → ℕ → L → O → L → Type 0
@@ -25,27 +23,12 @@ module _ {O L K : Type 0} (f : L → K) (may leave : ℕ → K → O → K → T
   until_seen : (outputs : List O) (mine : List ℕ) (a b : L)
       → DidUntil (Of may) (Of leave) outputs a mine b
       → DidUntil may leave outputs (f a) mine (f b)
-  until_seen outputs mine a b did = record {
-    earlier = did.earlier;
-    last = did.last;
-    numbers_are = did.numbers_are;
-    between = f did.between;
-    ended = did_seen outputs did.earlier a did.between did.ended;
-    stopped = did.stopped;
-  }
+  until_seen outputs mine a b did = search (rules, did_seen)
 
   pub done_seen : (jobs : ℕ) (before : List L) (outputs : List O) (after : List L)
       → AreDone (Of may) jobs before outputs after
       → AreDone may jobs (map f before) outputs (map f after)
-  done_seen jobs before outputs after done = record {
-    ran = done.ran;
-    each_worker = done.each_worker ∙ sym (length-map before f);
-    once = done.once;
-    rising = done.rising;
-    count = done.count;
-    did = of_each f (λ mine a b. DidAll (Of may) outputs a mine b)
-        (λ mine a b. DidAll may outputs a mine b) done.ran before after (did_seen outputs) done.did;
-  }
+  done_seen jobs before outputs after done = search (rules, length-map, of_each, did_seen)
 
   pub broken_off_seen : (jobs : ℕ) (before after : List L)
       → AreBrokenOff (Of may) (Of leave) jobs before after

@@ -49,14 +49,7 @@ module _ {X : Type 0} (f : X → ℕ) where
       → All (λ x. f x < n) (others n xs)
   unfolding others
   below_others n [] below = All-nil (λ x. f x < n)
-  below_others n (x ∷ xs) below =
-      let less : f x < suc n = below 0 x (omega arith) in
-      let rest = below_others n xs (λ k d within. below (suc k) d (omega arith)) in
-      elim (cases_eq (f x) n) [
-        | inl e ↦ rw (eq-eqb (f x) n e) rest
-        | inr ne ↦ let apart = ne in rw (ne_eqb (f x) n ne)
-            (All-cons (λ x. f x < n) x (others n xs) (omega arith) rest)
-      ]
+  below_others n (x ∷ xs) below = let less : f x < suc n = below 0 x (omega arith) in let rest = below_others n xs (λ k d within. below (suc k) d (omega arith)) in search (rules, cases_eq, eq-eqb, All-cons, others)
 
   one_less : (n : ℕ) (xs : List X) → AllPairs HaveTwo xs → length xs ≤ suc (length (others n xs))
   unfolding others
@@ -135,35 +128,19 @@ module _ {S : Type 0} (may : S → View → List Command → Type 0) (systems : 
 
   listed_are_born : IsPermutation (flat_map handles_listed queues) handles
   unfolding handles
-  listed_are_born = listed-born may systems workers before queues history frame sound flushed
+  listed_are_born = search (rules, listed-born)
 
   -- All queues together list fewer than 2^32 handles, so no ordinal is cut off.
   pub listed-few : length (flat_map handles_listed queues) < 2 ^ 32
   unfolding handles
-  listed-few =
-      let after = after_history before.allocator history in
-      let kept : IsSound after = history-sound before.allocator history sound in
-      let all = few_below (λ (h : Handle). h.index) after.limits.slots (available after) kept.apart
-      (λ k d within. (kept.within k d within).index) in
-      let two = length_permutation after.taken handles (born-IsPermutation after) in
-      omega (
-        arith,
-        kept.limits.slots,
-        length_permutation _ handles listed_are_born,
-        length-append after.taken (after.aside ++ after.pool),
-      )
+  listed-few = let after = after_history before.allocator history in let kept : IsSound after = search (rules, history-sound) in let all = few_below (λ (h : Handle). h.index) after.limits.slots (available after) kept.apart (λ k d within. (kept.within k d within).index) in let two = length_permutation after.taken handles (born-IsPermutation after) in omega (arith, kept.limits.slots, length_permutation _ handles listed_are_born, length-append after.taken (after.aside ++ after.pool))
 
   -- A handle that a system lists after k others has this phase, this system and k as its birth.
   pub listed-birth : (system k : ℕ) (h : Handle) → Lists queues system k h
       → birth_in before.phase queues (born (after_history before.allocator history)) h
       ≡ record { frame = before.phase; system = system; ordinal = k }
   unfolding handles
-  listed-birth system k h at =
-      let within = slice_get_within (handles_listed (queue_at queues system)) k h at in
-      let few = few_of_all queues system in
-      let all = listed-few in
-      let same : ordinal k ≡ k = min-eq_left (omega arith) in
-      search (rules, listed_birth_is before.phase 0 queues system k h distinct at)
+  listed-birth system k h at = let within = slice_get_within (handles_listed (queue_at queues system)) k h at in let few = few_of_all queues system in let all = listed-few in search (rules, listed_birth_is before.phase 0 queues system k h distinct at)
 
   -- Who is born is listed by some queue.
   pub born-listed : (h : Handle) → Contains (born (after_history before.allocator history)) h
@@ -192,9 +169,7 @@ module _ {S : Type 0} (may : S → View → List Command → Type 0) (systems : 
       → map.get (after_births queues (reserved_by history before)).entities h
       ≡ map.get before.entities h
   unfolding handles
-  unlisted-stays h away =
-      get-with_born (birth_in before.phase queues handles) handles before.entities h
-      ∙ rw (not_there handles h (λ there. away (born-listed h there)))
+  unlisted-stays h away = search (rules, get-with_born, handles, not_there, born-listed)
 
   -- Who is listed was not there before the frame.
   pub listed-new : AreLiving before.allocator before.entities → (system k : ℕ) (h : Handle)

@@ -117,7 +117,7 @@ one_gets c a (suc many) handles given from below =
 
 -- what a history gave to one caller
 given_to : List Call → ℕ → List Handle
-given_to history caller = given_in (filter (λ (call : Call). call.caller == caller) history)
+given_to history caller = grind (arith, common_steps)
 
 abbrev no_handles : ℕ → List Handle
 no_handles k = []
@@ -174,7 +174,7 @@ abbrev pub Lists : List (List Command) → ℕ → ℕ → Handle → Type 0
 Lists queues system k h = slice_get (handles_listed (queue_at queues system)) k ≡ Some h
 
 contains_at : (hs : List Handle) (k : ℕ) (h : Handle) → slice_get hs k ≡ Some h → Contains hs h
-contains_at hs k h at = (k, slice_get_within hs k h at, get_or_from_slice_get hs k h h at)
+contains_at hs k h at = search (rules, slice_get_within, get_or_from_slice_get)
 
 -- it stands among those that the queues list
 pub contains_listed : (queues : List (List Command)) (system k : ℕ) (h : Handle)

@@ -26,20 +26,7 @@ flushed_pool s sound flushed = sound.pool ∙ ap (λ n. drop n (available s)) fl
 
 pub is_lost : (before w : World) (history : List Call) → IsSound before.allocator
     → before.allocator.asked ≡ 0 → w ≡ reserved_by history before → IsLost before w
-is_lost before w history sound flushed changed =
-    let takes = after_history-takes before.allocator history in
-    search (
-      rules,
-      takes,
-      after_takes-sound,
-      available-after_takes,
-      flushed_pool,
-      limits-after_takes,
-      live-after_takes,
-      made-after_takes,
-      length-taken,
-      drop_of_length-le,
-    )
+is_lost before w history sound flushed changed = search (rules, after_history-takes, after_takes-sound, available-after_takes, flushed_pool, limits-after_takes, live-after_takes, made-after_takes, length-taken, drop_of_length-le)
 
 -- What is known of a world that was opened and closed again, and of the queues, if there are any.
 abbrev pub ClosedAgain : {S : Type 0} → (S → View → List Command → Type 0)
@@ -69,15 +56,7 @@ pub closed_again : {S : Type 0} (may leave : S → View → List Command → Typ
     → IsLegal world.shared.start (history_of records)
     → All (Respects (reservations_of records)) records
     → ClosedAgain may leave systems world after got
-closed_again may leave systems world after got opens records jobs view all seen opened many long done
-    lost phase entities allocator legal respects = (
-      history_of records,
-      none_weaker got (broken_off may systems (world_at_start world) world.shared.count opens records
-          opened many long legal respects leave) (rw (all, seen) at lost),
-      (λ i. record { allocator = allocator i; phase = phase i; entities = entities i }),
-      some_weaker got (λ q. frame_is may systems (world_at_start world) world.shared.count opens records
-          opened many long legal respects q.items) (rw (all, seen) at done),
-    )
+closed_again may leave systems world after got opens records jobs view all seen opened many long done lost phase entities allocator legal respects = search (rules, none_weaker, broken_off, some_weaker, frame_is)
 
 module _ {S : Type 0} (may leave : S → View → List Command → Type 0) (systems : List S)
     (before after : World) (world : OpenWorld) (got : Option (Vec (List Command) Global))

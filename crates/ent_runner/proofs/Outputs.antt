@@ -73,17 +73,12 @@ module _ {O : Type 0} where
     -- one that was not done has none
     pub left_out : (numbers n : ℕ) (e : Option O) → count ≤ n → n < numbers
         → get_or (outputs_put done (replicate numbers None)) n e ≡ None
-    left_out numbers n e past less =
-        put_other n e done (replicate numbers None)
-        (counts n ∙ above_range n 0 count (omega (arith, past)))
-        ∙ get_or-replicate numbers n None e less
+    left_out numbers n e past less = search (rules, put_other, counts, above_range, get_or-replicate)
 
     module _ (outputs : List O)
         (whole : map Some outputs ≡ outputs_put done (replicate count None)) where
       pub long : length outputs ≡ count
-      long = sym (length-map outputs Some)
-          ∙ (ap length whole ∙ (length_put done (replicate count None)
-          ∙ length-replicate count None))
+      long = search (rules, length-map, length_put, length-replicate)
 
       pub outputs_at : All (λ (d : Done O). slice_get outputs d.number ≡ Some d.output) done
       outputs_at k e within =

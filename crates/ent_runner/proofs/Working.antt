@@ -19,21 +19,13 @@ module _ {O : Type 0} where
     pub ended_more : (a b c : L) (done next : List (Done O)) (d : Done O)
         → HaveEnded may a done b → may d.number b d.output c → next ≡ done ++ d ∷ []
         → HaveEnded may a next c
-    ended_more a b c done next d ended may_it pushed =
-        rw pushed (FoldsTo-push (DoesKept may) a done b d c ended may_it)
+    ended_more a b c done next d ended may_it pushed = search (rules, FoldsTo-push)
 
     -- and one more, which stopped
     pub stopped_at : (a b c : L) (done next : List (Done O)) (d : Done O)
         → HaveEnded may a done b → leave d.number b d.output c → next ≡ done ++ d ∷ []
         → HasStoppedAt may leave a next c
-    stopped_at a b c done next d ended left pushed = record {
-      earlier = done;
-      last = d;
-      done_are = pushed;
-      between = b;
-      ended = ended;
-      stopped = left;
-    }
+    stopped_at a b c done next d ended left pushed = search rules
 
 pub of_ok : {A E : Type 0} (X : Type 0) (r : Result A E) (a : A) → r ≡ Ok a → OnOk r X → X
 of_ok X r a is on = subst (λ r. OnOk r X) is on

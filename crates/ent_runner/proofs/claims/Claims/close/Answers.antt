@@ -13,13 +13,7 @@ merge-requires-clause-rule c = goes_by_records _ _
 
 closed : (c : goal.After-close) → AreClaimsClosed c.args.self.numbers c.args.self.workers
     (records_of c.args.claimers.items)
-closed c =
-    let i = c.loop-claimer.invariant in
-    let ok = c.loop-claimer.claimer-iterator.rest.ok in
-    let all = items_all c.args.claimers.items c.loop-claimer.yielded
-    c.loop-claimer.claimer-iterator.rest.items i.all (sym ok.0 ∙ c.in-None.ensures.steps.0) in
-    let key = c.self.invariant.key_is in
-    search (rules, all, key)
+closed c = search (rules, items_all)
 
 some : (c : goal.After-close) → 0 < c.args.self.workers
 some c = search rules
@@ -31,7 +25,7 @@ pub returns-clause-apart : goal.returns-clause-apart
 returns-clause-apart c = apart _ _ c.args.claimers.items c.requires.all (closed c)
 
 pub returns-clause-claimed : goal.returns-clause-claimed
-returns-clause-claimed c = claimed _ _ c.args.claimers.items c.requires.all (closed c) (some c)
+returns-clause-claimed c = search (rules, claimed, closed, some)
 
 pub returns-clause-once : goal.returns-clause-once
-returns-clause-once c = once _ _ c.args.claimers.items c.requires.all (closed c) (some c)
+returns-clause-once c = search (rules, once, closed, some)
