@@ -1,4 +1,5 @@
 -- Blocks that are dealt one after the other: where they lie in the pool, and what becomes of it.
+use Rattle.std.proofs.Common.{rules}
 use Rattle.std.proofs.Common.{◌≡◌, refl, sym, ap, ◌∙◌, ℕ, zero, suc, ◌+◌, ◌-◌, ◌<◌, ◌≤◌}
 use Rattle.std.proofs.Common.{List, [], ◌∷◌, ◌++◌, length, take, drop, get_or, map, arith, Contains}
 use Rattle.std.proofs.Common.{append_assoc}
@@ -56,11 +57,7 @@ dealt-unused (b ∷ blocks) = ap (λ n. b.size + n) (dealt-unused blocks)
 
 pub of_phase : (blocks : List Block) (b : Block) → AreLaid 0 blocks → Contains blocks (unused b)
     → b.before + b.size ≤ dealt blocks
-of_phase blocks b laid has =
-    let there = in_laid 0 has.0 blocks (unused b) laid has.1 in
-    let before = ap (λ (b : Block). b.before) has.2 in
-    let size = ap (λ (b : Block). b.size) has.2 in
-    omega arith
+of_phase blocks b laid has = search (rules, in_laid)
 
 -- ---- closing
 
@@ -136,6 +133,4 @@ pub blocks_more : (before left : ℕ) (sizes : List ℕ) (k n : ℕ) → k < len
     → get_or sizes k n ≡ n → blocks_from before left (drop k sizes)
     ≡ record { before = before; size = lesser n left; used = 0 }
     ∷ blocks_from (before + lesser n left) (left - lesser n left) (drop (k + 1) sizes)
-blocks_more before left sizes k n below is =
-    ap (blocks_from before left) (drop_more sizes k n below
-    ∙ ap (λ m. m ∷ drop (k + 1) sizes) is)
+blocks_more before left sizes k n below is = search (rules, drop_more)

@@ -34,15 +34,13 @@ single made x = grind (arith, common_steps)
 module _ (s : Allocator) (sound : IsSound s) (flushed : s.asked ≡ 0) (position : ℕ) (high : ℤ)
     (at : high ≡ cursor s -ℤ pos position) where
   all : available s ≡ s.pool
-  all = let laid = flushed-laid_out s sound flushed in rw (laid.taken, laid.aside)
+  all = search (rules, flushed-laid_out)
 
   pub high_is : high ≡ pos (top s) -ℤ pos position
-  high_is = at ∙ ap (λ n. (pos (top s) -ℤ pos n) -ℤ pos position) flushed ∙ omega (arith, ints)
+  high_is = search rules
 
   asked_is : asked_at (top s) high ≡ position
-  asked_is =
-      let is = asked_at-is (top s) high (omega (arith, ints, high_is)) in
-      omega (arith, ints, high_is)
+  asked_is = search (rules, asked_at-is, high_is)
 
   -- the pool from there on
   pub pool_there : pool_at s high ≡ drop position s.pool
@@ -69,13 +67,7 @@ module _ (s : Allocator) (sound : IsSound s) (flushed : s.asked ≡ 0) (position
   pub no_refusal : (reply : Result Handle Space) → position < length s.pool
       → listed_alone reply ≡ reply_from s.made (pool_at s high) 1
       → (why : Space) → reply ≢ Err why
-  no_refusal reply below replies why is =
-      let enough : 1 ≤ length (drop position s.pool) = omega (arith, length-drop position s.pool) in
-      let given : reply_from s.made (drop position s.pool) 1
-      ≡ Ok (listed s.made (take 1 (drop position s.pool))) = search (rules, le-leb) in
-      let same = sym (ap listed_alone is) ∙ replies ∙ ap (λ pool. reply_from s.made pool 1) pool_there
-      ∙ given in
-      cc
+  no_refusal reply below replies why is = search (rules, length-drop, le-leb, pool_there)
 
 -- ---- a block
 
@@ -101,10 +93,7 @@ rest_is pool b used within =
 
 pub length-rest : (pool : List Handle) (b : Block) → b.used ≤ b.size
     → b.before + b.size ≤ length pool → length (rest_of pool b) ≡ b.size - b.used
-length-rest pool b used within =
-    ap length (rest_is pool b used within)
-    ∙ length-take-le (b.size - b.used) (drop (b.before + b.used) pool)
-    (omega (arith, length-drop (b.before + b.used) pool))
+length-rest pool b used within = search (rules, rest_is, length-take-le, length-drop)
 
 pub used_is : (pool : List Handle) (b : Block) → b.used ≤ b.size
     → used_of pool b ≡ take b.used (drop b.before pool)
@@ -112,9 +101,7 @@ used_is pool b used = take_of_take b.used b.size (drop b.before pool) used
 
 pub length-used : (pool : List Handle) (b : Block) → b.used ≤ b.size
     → b.before + b.size ≤ length pool → length (used_of pool b) ≡ b.used
-length-used pool b used within =
-    ap length (used_is pool b used)
-    ∙ length-take-le b.used (drop b.before pool) (omega (arith, length-drop b.before pool))
+length-used pool b used within = search (rules, used_is, length-take-le, length-drop)
 
 -- too few are left
 pub refused : (made n left : ℕ) (rest : List Handle) → length rest ≡ left → left < n
@@ -141,17 +128,8 @@ served_one made pool b h less within at =
 pub served_many : (made n : ℕ) (pool : List Handle) (b : Block) → b.used + n ≤ b.size
     → b.before + b.size ≤ length pool
     → reply_from made (drop (b.before + b.used) pool) n ≡ reply_from made (rest_of pool b) n
-served_many made n pool b few within =
-    let rest = rest_of pool b in
-    let long : length rest ≡ b.size - b.used = length-rest pool b (omega arith) within in
-    let there = drop (b.before + b.used) pool in
-    let front : take n rest ≡ take n there =
-    ap (take n) (rest_is pool b (omega arith) within)
-    ∙ take_of_take n (b.size - b.used) there (omega arith) in
-    served made n there (omega (arith, length-drop (b.before + b.used) pool))
-    ∙ ap (λ hs. Ok (listed made hs)) (sym front) ∙ sym (served made n rest (omega arith))
+served_many made n pool b few within = search (rules, length-rest, rest_is, take_of_take, served, length-drop)
 
 -- as many are listed as are given
 pub length-listed : (made : ℕ) (given : List Handle) → length (listed made given) ≡ length given
-length-listed made given =
-    length_permutation given (listed made given) (listed-IsPermutation made given)
+length-listed made given = search (rules, length_permutation, listed-IsPermutation)
