@@ -8,10 +8,7 @@ use Rattle.ent_blocks.proofs.Positions.{served_many, served, pool_there, length-
 use Rattle.ent_blocks.proofs.taking.take_many.Goals as goal
 
 pub reply-requires : goal.reply-requires
-reply-requires c =
-    let s = c.args.entities.now.allocator in
-    c.new-span.ensures.valid s
-    (omega (arith, ints, c.requires.few))
+reply-requires c = search rules
 
 pub unreachable-requires : goal.unreachable-requires
 unreachable-requires c =
