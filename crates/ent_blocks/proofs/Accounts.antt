@@ -100,13 +100,7 @@ module _ (bs : List Block) (rs : List Reserver) (i k : ℕ) (b : Block) (here : 
 
   module _ (r : Reserver) (lt : k < length rs) (r_is : r ≡ get_or rs k r) where
     next : drop k (blocks_of rs) ≡ r.block ∷ drop (k + 1) (blocks_of rs)
-    next =
-        let at : get_or (blocks_of rs) k r.block ≡ r.block =
-        get_or-map (λ (r : Reserver). r.block) rs k r r.block lt
-        ∙ ap (λ (r : Reserver). r.block) (sym r_is) in
-        drop_more (blocks_of rs) k r.block
-        (omega (arith, length-map rs (λ (r : Reserver). r.block)))
-        ∙ ap (λ (x : Block). x ∷ drop (k + 1) (blocks_of rs)) at
+    next = let at : get_or (blocks_of rs) k r.block ≡ r.block = get_or-map (λ (r : Reserver). r.block) rs k r r.block lt ∙ ap (λ (r : Reserver). r.block) (sym r_is) in search (rules, drop_more, length-map)
 
     pub among_same : is_same b r.block ≡ true → are_among (drop i bs) (drop k (blocks_of rs))
         ≡ are_among (drop (i + 1) bs) (drop (k + 1) (blocks_of rs))

@@ -50,18 +50,7 @@ module _ (s : Allocator) (sound : IsSound s) (flushed : s.asked ≡ 0) (position
   pub one_there : (reply : Result Handle Space) → position < length s.pool
       → listed_alone reply ≡ reply_from s.made (pool_at s high) 1
       → (h : Handle) → reply ≡ Ok h → slice_get s.pool position ≡ Some h
-  one_there reply below replies h is =
-      let x = get_or s.pool position h in
-      let rest : drop position s.pool ≡ x ∷ drop (position + 1) s.pool =
-      drop_more s.pool position h below in
-      let enough : 1 ≤ length (drop position s.pool) = omega (arith, length-drop position s.pool) in
-      let given : reply_from s.made (drop position s.pool) 1
-      ≡ Ok (listed s.made (take 1 (drop position s.pool))) = search (rules, le-leb) in
-      let front : take 1 (drop position s.pool) ≡ x ∷ [] = ap (take 1) rest in
-      let same = sym (ap listed_alone is) ∙ replies ∙ ap (λ pool. reply_from s.made pool 1) pool_there
-      ∙ given ∙ ap (λ hs. Ok (listed s.made hs)) front ∙ ap Ok (single s.made x) in
-      let here : x ≡ h = grind (arith, common_steps) in
-      slice_get_read s.pool (length s.pool) position h refl below (sym here)
+  one_there reply below replies h is = let x = get_or s.pool position h in let rest : drop position s.pool ≡ x ∷ drop (position + 1) s.pool = drop_more s.pool position h below in let given : reply_from s.made (drop position s.pool) 1 ≡ Ok (listed s.made (take 1 (drop position s.pool))) = search (rules, le-leb) in let front : take 1 (drop position s.pool) ≡ x ∷ [] = ap (take 1) rest in let same = sym (ap listed_alone is) ∙ replies ∙ ap (λ pool. reply_from s.made pool 1) pool_there ∙ given ∙ ap (λ hs. Ok (listed s.made hs)) front ∙ ap Ok (single s.made x) in let here : x ≡ h = grind (arith, common_steps) in slice_get_read s.pool (length s.pool) position h refl below (sym here)
 
   -- no refusal
   pub no_refusal : (reply : Result Handle Space) → position < length s.pool
@@ -85,11 +74,7 @@ served made n pool enough = search (rules, le-leb)
 -- what is left of it
 pub rest_is : (pool : List Handle) (b : Block) → b.used ≤ b.size → b.before + b.size ≤ length pool
     → rest_of pool b ≡ take (b.size - b.used) (drop (b.before + b.used) pool)
-rest_is pool b used within =
-    let whole : b.used + (b.size - b.used) ≡ b.size = omega arith in
-    ap (λ n. drop b.used (take n (drop b.before pool))) (sym whole)
-    ∙ drop-take b.used (b.size - b.used) (drop b.before pool)
-    ∙ ap (take (b.size - b.used)) (drop-drop b.used b.before pool)
+rest_is pool b used within = let whole : b.used + (b.size - b.used) ≡ b.size = omega arith in search (rules, drop-take, drop-drop)
 
 pub length-rest : (pool : List Handle) (b : Block) → b.used ≤ b.size
     → b.before + b.size ≤ length pool → length (rest_of pool b) ≡ b.size - b.used
@@ -112,17 +97,7 @@ refused made n left rest long less = search (rules, lt-leb)
 pub served_one : (made : ℕ) (pool : List Handle) (b : Block) (h : Handle) → b.used < b.size
     → b.before + b.size ≤ length pool → slice_get pool (b.before + b.used) ≡ Some h
     → Ok (h ∷ []) ≡ reply_from made (rest_of pool b) 1
-served_one made pool b h less within at =
-    let rest = rest_of pool b in
-    let long : length rest ≡ b.size - b.used = length-rest pool b (omega arith) within in
-    let there = drop (b.before + b.used) pool in
-    let first : take 1 rest ≡ h ∷ [] =
-    ap (take 1) (rest_is pool b (omega arith) within)
-    ∙ take_of_take 1 (b.size - b.used) there (omega arith)
-    ∙ list_more pool (b.before + b.used) 0 h
-    (ap (slice_get pool) (omega arith) ∙ at) (omega arith) in
-    sym (served made 1 rest (omega arith) ∙ ap (λ hs. Ok (listed made hs)) first
-    ∙ ap Ok (single made h))
+served_one made pool b h less within at = let rest = rest_of pool b in let long : length rest ≡ b.size - b.used = length-rest pool b (omega arith) within in let there = drop (b.before + b.used) pool in let first : take 1 rest ≡ h ∷ [] = ap (take 1) (rest_is pool b (omega arith) within) ∙ take_of_take 1 (b.size - b.used) there (omega arith) ∙ list_more pool (b.before + b.used) 0 h (ap (slice_get pool) (omega arith) ∙ at) (omega arith) in search (rules, served, single)
 
 -- n of a block are those that begin where its rest begins
 pub served_many : (made n : ℕ) (pool : List Handle) (b : Block) → b.used + n ≤ b.size
