@@ -1,4 +1,5 @@
 -- What the end of a phase says, of the phase and of its callers.
+use Rattle.std.proofs.Common.{rules}
 use Rattle.std.proofs.Common.{◌≡◌, ◌≢◌, ap, ◌∙◌, ◌+◌, ◌≤◌, ◌<ℤ◌, List, [], ◌∷◌, ◌↔◌}
 use Rattle.std.proofs.Common.{length, take, drop, sum, All, AllPairs, Contains}
 use Rattle.std.proofs.lemmas.List.Elements.{All-nil, All-cons, All-head, All-tail}
@@ -51,8 +52,7 @@ own_past p (c ∷ callers) own =
 behind_past : (p : Phase) (callers : List Caller) → All (IsOf p) callers
     → All (λ (r : Record). AreBehind p.dealer.own.mark (own_reservations r.entries))
     (past_records callers)
-behind_past p [] own =
-    All-nil (λ (r : Record). AreBehind p.dealer.own.mark (own_reservations r.entries))
+behind_past p [] own = search (rules, All-nil)
 behind_past p (c ∷ callers) own =
     All-cons (λ (r : Record). AreBehind p.dealer.own.mark (own_reservations r.entries)) c.past.own
     (past_records callers) (All-head (IsOf p) c callers own).all

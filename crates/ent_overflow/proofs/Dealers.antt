@@ -103,7 +103,7 @@ nothing_past (c ∷ callers) all =
     (λ i. first i ++ rest i)
 
 pub none_past : (callers : List Caller) → All IsUnused callers → past_history callers ≡ []
-none_past callers all = ap (λ cs. map as_call (by_falling_high cs)) (nothing_past callers all)
+none_past callers all = search (rules, nothing_past)
 
 -- the last one of these, and the others
 module _ (s : Shared) (all rest : List Reserver) (r : Reserver) (front : all ≡ rest ++ r ∷ [])
@@ -119,13 +119,7 @@ pub blocks_more : (before after : List Caller) (bs : List Block) (k : ℕ) (b : 
     → AreLaid 0 bs → k < length bs → b ≡ get_or bs k b
     → after ≡ before ++ record { block = unused b; past = met } ∷ [] → blocks_of before ≡ take k bs
     → blocks_of after ≡ take (k + 1) bs
-blocks_more before after bs k b met laid lt there is so_far =
-    let none : b.used ≡ 0 = ap (λ (x : Block). x.used) there ∙ none_used 0 k bs b laid lt in
-    let same : unused b ≡ b = λ i. record b { used = sym none i } in
-    ap blocks_of is
-    ∙ map-append (λ (c : Caller). c.block) before (record { block = unused b; past = met } ∷ [])
-    ∙ (λ i. so_far i ++ (same ∙ there) i ∷ [])
-    ∙ sym (take_more bs k b lt)
+blocks_more before after bs k b met laid lt there is so_far = search (rules, none_used, map-append, take_more)
 
 pub all_fresh : (s : Shared) (rs : List Reserver) → All (IsReserverOf s) rs
     → All (λ (r : Reserver). r.own.entries ≡ []) rs → All (IsFresh s) rs
