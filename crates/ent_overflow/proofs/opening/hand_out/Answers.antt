@@ -1,3 +1,4 @@
+use Rattle.std.proofs.Common.{rules}
 use Rattle.std.proofs.Common.{◌≡◌, ◌∙◌, [], ◌∷◌, ◌++◌, ap, arith, length}
 use Rattle.std.proofs.lemmas.List.{length-append}
 use Rattle.std.proofs.lemmas.List.Elements.{All-push, All-same}
@@ -62,4 +63,4 @@ loop-part-preserved c =
     }
 
 pub returns-clause-nothing : goal.returns-clause-nothing
-returns-clause-nothing c = none_past c.loop-part.callers.items c.loop-part.invariant.unused
+returns-clause-nothing c = search (rules, none_past)

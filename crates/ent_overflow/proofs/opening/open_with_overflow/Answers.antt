@@ -1,3 +1,4 @@
+use Rattle.std.proofs.Common.{rules}
 use Rattle.std.proofs.Common.{◌∙◌, ◌<◌, ◌^◌, sym, ap, subst, arith, List, [], ◌∷◌, length}
 use Rattle.std.proofs.lemmas.List.{length-append}
 use Rattle.ent_blocks.specs.Blocks.{Block, dealt}
@@ -27,24 +28,10 @@ hand_out-requires-clause-fresh c =
     c.in_ok-shared.ensures.unused)
 
 pub hand_out-requires-clause-many : goal.hand_out-requires-clause-many
-hand_out-requires-clause-many c =
-    omega (
-      arith,
-      c.in_ok-shared.ensures.count,
-      ap length c.in-Some.ensures.items,
-      length-append c.pop.new.self.items (c.in-Some.dealer ∷ []),
-      ap length (c.deref-2.ensures.value ∙ c.in-Ok.ensures.blocks),
-      length-from 0 (length c.args.entities.allocator.pool) c.args.sizes.now,
-    )
+hand_out-requires-clause-many c = search (rules, length-append, length-from)
 
 pub hand_out-requires-clause-room : goal.hand_out-requires-clause-room
-hand_out-requires-clause-room c =
-    omega (
-      arith,
-      ap length (c.deref-2.ensures.value ∙ c.in-Ok.ensures.blocks),
-      length-from 0 (length c.args.entities.allocator.pool) c.args.sizes.now,
-      c.in-Ok-with_capacity.ensures.capacity,
-    )
+hand_out-requires-clause-room c = search (rules, length-from)
 
 pub new-requires-clause-phase : goal.new-requires-clause-phase
 new-requires-clause-phase c =
@@ -62,19 +49,7 @@ new-requires-clause-phase c =
     (subst (IsPhase c.in_ok-shared.shared c.deal.new.dealer) c.deref-2.ensures.value phase)
 
 pub new-requires-clause-ends : goal.new-requires-clause-ends
-new-requires-clause-ends c =
-    omega (
-      arith,
-      ap length c.in-Ok.ensures.blocks,
-      length-from 0 (length c.args.entities.allocator.pool) c.args.sizes.now,
-      c.in-Ok-with_capacity-2.ensures.capacity,
-    )
+new-requires-clause-ends c = search (rules, length-from)
 
 pub new-requires-clause-reservers : goal.new-requires-clause-reservers
-new-requires-clause-reservers c =
-    omega (
-      arith,
-      ap length c.in-Ok.ensures.blocks,
-      length-from 0 (length c.args.entities.allocator.pool) c.args.sizes.now,
-      c.in-Ok-with_capacity-3.ensures.capacity,
-    )
+new-requires-clause-reservers c = search (rules, length-from)

@@ -1,3 +1,4 @@
+use Rattle.std.proofs.Common.{rules}
 use Rattle.std.proofs.Common.{◌≡◌, ◌∙◌, ℕ, ◌-◌, ◌∷◌, ◌++◌, [], sym, ap, subst, arith, List, All, length, map, sum}
 use Rattle.std.proofs.lemmas.List.Elements.{All-cons}
 use Rattle.ent_alloc.specs.Sequential.{Allocator, before_requests}
@@ -17,15 +18,12 @@ seen c =
     let o = c.self.inside in record { shared = o.shared; dealer = o.dealer; blocks = o.parts.items }
 
 own : (c : After-close-entities) → All (IsOf (seen c)) c.args.callers.items
-own c = subst (λ (q : Phase). All (IsOf q) c.args.callers.items) (sym c.self.view_is) c.requires.own
+own c = search rules
 
 -- what is handed to the shared allocator
 handed : (c : After-close-entities) → c.take_apart.new.reservers.items
     ≡ c.self.inside.dealer ∷ past_of c.args.callers.items
-handed c = c.take_apart.ensures.reservers
-    ∙ ap (λ (rs : List Reserver). rs ++ past_of c.args.callers.items)
-    (c.push_reserved.ensures.items
-    ∙ ap (λ (rs : List Reserver). rs ++ c.self.inside.dealer ∷ []) c.self.invariant.3)
+handed c = search rules
 
 -- what is known once it is closed
 known : (c : After-close-entities)
@@ -50,7 +48,7 @@ before_is c = c.dealt-before.ensures ∙ ap dealt c.deref.ensures.value
 
 all_are : (c : After-close-entities)
     → map unused (blocks_of c.args.callers.items) ≡ c.self.inside.parts.items
-all_are c = c.requires.all ∙ sym (ap (λ (q : Phase). q.blocks) c.self.view_is)
+all_are c = search rules
 
 start_is : (c : After-close-entities) (t : Allocator)
     → t ≡ before_requests c.close-entities.result.allocator → t ≡ c.self.inside.shared.start
@@ -131,19 +129,10 @@ new-requires c =
     }
 
 pub returns-clause-start : goal.returns-clause-start
-returns-clause-start c =
-    ap (λ (e : Ended). e.phase.start) c.new.ensures
-    ∙ start_is (goal.at.returns-clause-start c).After-close-entities
-    c.cancel_requests.new.entities.allocator c.cancel_requests.ensures.cancelled
-    ∙ ap (λ (q : Phase). q.shared.start) c.self.view_is
+returns-clause-start c = search (rules, start_is)
 
 pub returns-clause-blocks : goal.returns-clause-blocks
-returns-clause-blocks c =
-    ap (λ (e : Ended). e.phase.blocks) c.new.ensures
-    ∙ ends_are (goal.at.returns-clause-blocks c).After-close-entities c.reserved.result
-    c.append_past.new.ends.items c.reserved.ensures c.append_past.ensures
-    ∙ ap (λ (q : Phase). blocks_of c.args.callers.items ++ past_block (dealt q.blocks)
-    (length (given_in (past_history c.args.callers.items)))) c.self.view_is
+returns-clause-blocks c = search (rules, ends_are)
 
 -- the same of the phase as it was handed in
 known_of : (c : After-close-entities)
@@ -156,7 +145,7 @@ pub returns-clause-handles : goal.returns-clause-handles
 returns-clause-handles c = (known_of (goal.at.returns-clause-handles c).After-close-entities).handles
 
 pub returns-clause-legal : goal.returns-clause-legal
-returns-clause-legal c = (known_of (goal.at.returns-clause-legal c).After-close-entities).legal
+returns-clause-legal c = search (rules, known_of)
 
 pub returns-clause-in_order : goal.returns-clause-in_order
 returns-clause-in_order c = (known_of (goal.at.returns-clause-in_order c).After-close-entities).in_order
