@@ -37,17 +37,7 @@ whole_quota s r of nothing = let adds = of.quota in search (rules, nothing)
 
 pub has_dealt : (s : Shared) (old new : Reserver) (n : ℕ) (result : Result (List Handle) Refused)
     → Reserves s old new n result → old.own.entries ≡ [] → HasDealt n new.own
-has_dealt s old new n result did nothing =
-    let own : new.own ≡ after_reservation old.own did.high n =
-    ap (λ (r : Reserver). r.own) did.after in
-    record {
-      call = reservation_at old.own did.high n;
-      entries = ap (λ (r : Record). r.entries) own
-          ∙ ap (λ (es : List RecordEntry). es ++ Own (reservation_at old.own did.high n) ∷ []) nothing;
-      caller = sym (ap (λ (r : Record). r.number) own);
-      requested = refl;
-      mark = ap (λ (r : Record). r.mark) own;
-    }
+has_dealt s old new n result did nothing = let own : new.own ≡ after_reservation old.own did.high n = ap (λ (r : Reserver). r.own) did.after in record { call = reservation_at old.own did.high n; entries = search rules; caller = sym (ap (λ (r : Record). r.number) own); requested = refl; mark = ap (λ (r : Record). r.mark) own }
 
 pub is_dealer : (s : Shared) (old new : Reserver) (n : ℕ) (result : Result (List Handle) Refused)
     → 0 < n → Reserves s old new n result → old.own.entries ≡ [] → IsDealer n new.own
@@ -131,11 +121,4 @@ pub opened : (s : Allocator) (sizes : List ℕ) (shared : Shared) (dealer : Rese
     → shared.count ≡ length sizes + 1 → blocks ≡ blocks_from 0 (length s.pool) sizes
     → dealt blocks < 2 ^ 32 → IsReserverOf shared dealer → d ≡ dealt blocks
     → IsDealer d dealer.own → IsPhase shared dealer blocks
-opened s sizes shared dealer blocks d flushed sound start count is few of deals dealer_is = record {
-  lie = subst (λ (t : Allocator). AreDealt t blocks) (sym start)
-      (subst (AreDealt s) (sym is) (are_dealt s sizes (subst IsSound start sound) flushed
-      (subst (λ (bs : List Block). dealt bs < 2 ^ 32) is few)));
-  of = of;
-  deals = subst (λ n. IsDealer n dealer.own) deals dealer_is;
-  count = let long = ap length is ∙ length-from 0 (length s.pool) sizes in omega arith;
-}
+opened s sizes shared dealer blocks d flushed sound start count is few of deals dealer_is = record { lie = subst (λ (t : Allocator). AreDealt t blocks) (sym start) (subst (AreDealt s) (sym is) (are_dealt s sizes (subst IsSound start sound) flushed (subst (λ (bs : List Block). dealt bs < 2 ^ 32) is few))); of = of; deals = subst (λ n. IsDealer n dealer.own) deals dealer_is; count = search (rules, length-from) }

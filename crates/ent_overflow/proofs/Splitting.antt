@@ -56,37 +56,11 @@ module _ (s : Allocator) (dealer : Record) (records : List Record)
 
   dealt_first : (d : ℕ) (h : HasDealt (suc d) dealer)
       → reservations_of (dealer ∷ records) ≡ h.call ∷ reservations_of records
-  dealt_first d h =
-      let mark = h.mark in
-      let some = h.requested in
-      let below : All (λ (c : Reservation). c.high <ℤ h.call.high) (own_of_all records) =
-      All-weaker (λ (c : Reservation). c.high ≤ℤ dealer.mark)
-      (λ (c : Reservation). c.high <ℤ h.call.high) (λ c le. omega (arith, ints))
-      (own_of_all records) behind in
-      ap (λ (es : List RecordEntry). by_falling_high (own_reservations es ++ own_of_all records))
-      h.entries
-      ∙ inserted_first h.call (reservations_of records)
-      (all_sorted (λ (c : Reservation). c.high <ℤ h.call.high) (own_of_all records) below)
+  dealt_first d h = let mark = h.mark in let some = h.requested in let below : All (λ (c : Reservation). c.high <ℤ h.call.high) (own_of_all records) = search (rules, All-weaker) in ap (λ (es : List RecordEntry). by_falling_high (own_reservations es ++ own_of_all records)) h.entries ∙ inserted_first h.call (reservations_of records) (all_sorted (λ (c : Reservation). c.high <ℤ h.call.high) (own_of_all records) below)
 
   pub splits : (d : ℕ) → IsDealer d dealer
       → history.IsLegal s (history_of (dealer ∷ records))
       → AllPairs (λ earlier later. later.high <ℤ earlier.high) (reservations_of (dealer ∷ records))
       → Splits s d dealer records
   splits zero deals legal falls = search (rules, none_first, after_take-none)
-  splits (suc d) h legal falls =
-      let same = dealt_first d h in
-      let from : history.IsLegal s (as_call h.call ∷ history_of records) =
-      subst (λ (cs : List Reservation). history.IsLegal s (map as_call cs)) same legal in
-      record {
-        legal = subst (λ n. history.IsLegal (after_take s n) (history_of records)) h.requested
-            from.2;
-        after = ap (λ (cs : List Reservation). history.after_history s (map as_call cs)) same
-            ∙ ap (λ n. history.after_history (after_take s n) (history_of records)) h.requested;
-        falls = AllPairs-right Falls (h.call ∷ []) (reservations_of records)
-            (subst (AllPairs Falls) same falls);
-        in_order = λ r other respects.
-            (let caller = h.caller in
-            let skip : reservations_by r.number (h.call ∷ reservations_of records)
-            ≡ reservations_by r.number (reservations_of records) = grind (arith, common_steps) in
-            sym skip ∙ ap (reservations_by r.number) (sym same) ∙ respects.own);
-      }
+  splits (suc d) h legal falls = let same = dealt_first d h in let from : history.IsLegal s (as_call h.call ∷ history_of records) = subst (λ (cs : List Reservation). history.IsLegal s (map as_call cs)) same legal in record { legal = subst (λ n. history.IsLegal (after_take s n) (history_of records)) h.requested from.2; after = ap (λ (cs : List Reservation). history.after_history s (map as_call cs)) same ∙ ap (λ n. history.after_history (after_take s n) (history_of records)) h.requested; falls = AllPairs-right Falls (h.call ∷ []) (reservations_of records) (subst (AllPairs Falls) same falls); in_order = search rules }
