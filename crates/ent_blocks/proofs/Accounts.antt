@@ -1,4 +1,5 @@
 -- Reservers of some blocks, in their order, and what was used of all.
+use Rattle.std.proofs.Common.{rules}
 use Rattle.std.proofs.Common.{◌≡◌, refl, sym, ap, ◌∙◌, ℕ, zero, suc, ◌+◌, ◌<◌, ◌≤◌, List}
 use Rattle.std.specs.Prelude.{if◌then◌else◌}
 use Rattle.std.proofs.Common.{[], ◌∷◌, length, map, drop, get_or, arith, Bool, true, false}
@@ -95,55 +96,29 @@ drop_all (suc n) (x ∷ xs) le = drop_all n xs (omega arith)
 module _ (bs : List Block) (rs : List Reserver) (i k : ℕ) (b : Block) (here : i < length bs)
     (b_is : b ≡ get_or bs i b) where
   more : drop i bs ≡ b ∷ drop (i + 1) bs
-  more = drop_more bs i b here ∙ ap (λ (x : Block). x ∷ drop (i + 1) bs) (sym b_is)
+  more = search (rules, drop_more)
 
   module _ (r : Reserver) (lt : k < length rs) (r_is : r ≡ get_or rs k r) where
     next : drop k (blocks_of rs) ≡ r.block ∷ drop (k + 1) (blocks_of rs)
-    next =
-        let at : get_or (blocks_of rs) k r.block ≡ r.block =
-        get_or-map (λ (r : Reserver). r.block) rs k r r.block lt
-        ∙ ap (λ (r : Reserver). r.block) (sym r_is) in
-        drop_more (blocks_of rs) k r.block
-        (omega (arith, length-map rs (λ (r : Reserver). r.block)))
-        ∙ ap (λ (x : Block). x ∷ drop (k + 1) (blocks_of rs)) at
+    next = let at : get_or (blocks_of rs) k r.block ≡ r.block = get_or-map (λ (r : Reserver). r.block) rs k r r.block lt ∙ ap (λ (r : Reserver). r.block) (sym r_is) in search (rules, drop_more, length-map)
 
     pub among_same : is_same b r.block ≡ true → are_among (drop i bs) (drop k (blocks_of rs))
         ≡ are_among (drop (i + 1) bs) (drop (k + 1) (blocks_of rs))
-    among_same same =
-        (λ i'. are_among (more i') (next i'))
-        ∙ (λ i'. if same i' then are_among (drop (i + 1) bs) (drop (k + 1) (blocks_of rs))
-        else are_among (drop (i + 1) bs) (r.block ∷ drop (k + 1) (blocks_of rs)))
+    among_same same = search (rules, more, next)
 
     pub among_other : is_same b r.block ≡ false → are_among (drop i bs) (drop k (blocks_of rs))
         ≡ are_among (drop (i + 1) bs) (drop k (blocks_of rs))
-    among_other other =
-        (λ i'. are_among (more i') (next i'))
-        ∙ (λ i'. if other i' then are_among (drop (i + 1) bs) (drop (k + 1) (blocks_of rs))
-        else are_among (drop (i + 1) bs) (r.block ∷ drop (k + 1) (blocks_of rs)))
-        ∙ ap (are_among (drop (i + 1) bs)) (sym next)
+    among_other other = search (rules, more, next)
 
     pub accounted_same : is_same b r.block ≡ true → accounted (drop i bs) (drop k (blocks_of rs))
         ≡ record b { used = r.block.used }
         ∷ accounted (drop (i + 1) bs) (drop (k + 1) (blocks_of rs))
-    accounted_same same =
-        (λ i'. accounted (more i') (next i'))
-        ∙ (λ i'. if same i'
-        then record b { used = r.block.used }
-        ∷ accounted (drop (i + 1) bs) (drop (k + 1) (blocks_of rs))
-        else record b { used = b.size }
-        ∷ accounted (drop (i + 1) bs) (r.block ∷ drop (k + 1) (blocks_of rs)))
+    accounted_same same = search (rules, more, next)
 
     pub accounted_other : is_same b r.block ≡ false
         → accounted (drop i bs) (drop k (blocks_of rs))
         ≡ record b { used = b.size } ∷ accounted (drop (i + 1) bs) (drop k (blocks_of rs))
-    accounted_other other =
-        (λ i'. accounted (more i') (next i'))
-        ∙ (λ i'. if other i'
-        then record b { used = r.block.used }
-        ∷ accounted (drop (i + 1) bs) (drop (k + 1) (blocks_of rs))
-        else record b { used = b.size }
-        ∷ accounted (drop (i + 1) bs) (r.block ∷ drop (k + 1) (blocks_of rs)))
-        ∙ ap (λ xs. record b { used = b.size } ∷ accounted (drop (i + 1) bs) xs) (sym next)
+    accounted_other other = search (rules, more, next)
 
     pub used_within : is_same b r.block ≡ true → r.block.used ≤ r.block.size
         → r.block.used ≤ b.size
@@ -151,17 +126,15 @@ module _ (bs : List Block) (rs : List Reserver) (i k : ℕ) (b : Block) (here : 
 
   module _ (past : length rs ≤ k) where
     none : drop k (blocks_of rs) ≡ []
-    none = drop_all k (blocks_of rs) (omega (arith, length-map rs (λ (r : Reserver). r.block)))
+    none = search (rules, drop_all, length-map)
 
     pub among_none : are_among (drop i bs) (drop k (blocks_of rs))
         ≡ are_among (drop (i + 1) bs) (drop k (blocks_of rs))
-    among_none = (λ i'. are_among (more i') (none i'))
-        ∙ ap (are_among (drop (i + 1) bs)) (sym none)
+    among_none = search (rules, more, none)
 
     pub accounted_none : accounted (drop i bs) (drop k (blocks_of rs))
         ≡ record b { used = b.size } ∷ accounted (drop (i + 1) bs) (drop k (blocks_of rs))
-    accounted_none = (λ i'. accounted (more i') (none i'))
-        ∙ ap (λ xs. record b { used = b.size } ∷ accounted (drop (i + 1) bs) xs) (sym none)
+    accounted_none = search (rules, more, none)
 
 -- one is left when there is no more block
 pub one_left : (bs : List Block) (rs : List Reserver) (i k : ℕ) → length bs ≤ i → k < length rs

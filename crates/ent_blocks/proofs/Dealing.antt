@@ -1,4 +1,5 @@
 -- Blocks that are dealt one after the other: where they lie in the pool, and what becomes of it.
+use Rattle.std.proofs.Common.{rules}
 use Rattle.std.proofs.Common.{◌≡◌, refl, sym, ap, ◌∙◌, ℕ, zero, suc, ◌+◌, ◌-◌, ◌<◌, ◌≤◌}
 use Rattle.std.proofs.Common.{List, [], ◌∷◌, ◌++◌, length, take, drop, get_or, map, arith, Contains}
 use Rattle.std.proofs.Common.{append_assoc}
@@ -56,11 +57,7 @@ dealt-unused (b ∷ blocks) = ap (λ n. b.size + n) (dealt-unused blocks)
 
 pub of_phase : (blocks : List Block) (b : Block) → AreLaid 0 blocks → Contains blocks (unused b)
     → b.before + b.size ≤ dealt blocks
-of_phase blocks b laid has =
-    let there = in_laid 0 has.0 blocks (unused b) laid has.1 in
-    let before = ap (λ (b : Block). b.before) has.2 in
-    let size = ap (λ (b : Block). b.size) has.2 in
-    omega arith
+of_phase blocks b laid has = search (rules, in_laid)
 
 -- ---- closing
 
@@ -77,33 +74,14 @@ used_laid : (before : ℕ) (blocks : List Block) (pool : List Handle)
     → AreLaid before (map unused blocks) → AreUsed (portions_of blocks)
     → flat_map (used_of pool) blocks ≡ portions.used_of (drop before pool) (portions_of blocks)
 used_laid before [] pool laid fits = refl
-used_laid before (b ∷ blocks) pool laid fits =
-    let first : used_of pool b ≡ take b.used (drop before pool) =
-    ap (λ n. take b.used (take b.size (drop n pool))) laid.0
-    ∙ take_of_take b.used b.size (drop before pool)
-    (first_used (portion_of b) (portions_of blocks) fits) in
-    let others = used_laid (before + b.size) blocks pool laid.2
-    (others_used (portion_of b) (portions_of blocks) fits) in
-    (λ i. first i ++ others i)
-    ∙ ap (λ xs. take b.used (drop before pool) ++ portions.used_of xs (portions_of blocks))
-    (sym (behind before b pool))
+used_laid before (b ∷ blocks) pool laid fits = let first : used_of pool b ≡ take b.used (drop before pool) = ap (λ n. take b.used (take b.size (drop n pool))) laid.0 ∙ take_of_take b.used b.size (drop before pool) (first_used (portion_of b) (portions_of blocks) fits) in let others = used_laid (before + b.size) blocks pool laid.2 (others_used (portion_of b) (portions_of blocks) fits) in search (rules, behind)
 
 left_laid : (before : ℕ) (blocks : List Block) (pool : List Handle)
     → AreLaid before (map unused blocks)
     → flat_map (rest_of pool) blocks ++ drop (before + dealt blocks) pool
     ≡ left_of (drop before pool) (portions_of blocks)
 left_laid before [] pool laid = ap (λ n. drop n pool) (add-zero before)
-left_laid before (b ∷ blocks) pool laid =
-    let first : rest_of pool b ≡ drop b.used (take b.size (drop before pool)) =
-    ap (λ n. drop b.used (take b.size (drop n pool))) laid.0 in
-    let others = left_laid (before + b.size) blocks pool laid.2 in
-    append_assoc (rest_of pool b) (flat_map (rest_of pool) blocks)
-    (drop (before + (b.size + dealt blocks)) pool)
-    ∙ ap (λ n. rest_of pool b ++ (flat_map (rest_of pool) blocks ++ drop n pool))
-    (add-joined before b.size (dealt blocks))
-    ∙ (λ i. first i ++ others i)
-    ∙ ap (λ xs. drop b.used (take b.size (drop before pool)) ++ left_of xs (portions_of blocks))
-    (sym (behind before b pool))
+left_laid before (b ∷ blocks) pool laid = let first : rest_of pool b ≡ drop b.used (take b.size (drop before pool)) = ap (λ n. drop b.used (take b.size (drop n pool))) laid.0 in let others = left_laid (before + b.size) blocks pool laid.2 in search (rules, append_assoc, add-joined, behind)
 
 module _ (s : Allocator) (blocks : List Block) (laid : AreLaid 0 (map unused blocks))
     (fits : AreUsed (portions_of blocks)) (within : dealt blocks ≤ length s.pool) where
@@ -111,19 +89,7 @@ module _ (s : Allocator) (blocks : List Block) (laid : AreLaid 0 (map unused blo
   portions_within = omega (arith, size-portions blocks)
 
   pub closed_is : after_portions s (portions_of blocks) ≡ after_blocks s blocks
-  closed_is =
-      let used = used_laid 0 blocks s.pool laid fits in
-      let none : dealt blocks ≡ 0 + dealt blocks = omega arith in
-      let left = ap (λ n. flat_map (rest_of s.pool) blocks ++ drop n s.pool) none
-      ∙ left_laid 0 blocks s.pool laid in
-      let count : count_of (portions_of blocks) ≡ length (flat_map (used_of s.pool) blocks) =
-      sym (length-used s.pool (portions_of blocks) fits portions_within) ∙ ap length (sym used) in
-      λ i. record s {
-        taken = sym used i;
-        pool = sym left i;
-        made = s.made + made_for s (portions_of blocks);
-        asked = count i;
-      }
+  closed_is = let used = used_laid 0 blocks s.pool laid fits in let none : dealt blocks ≡ 0 + dealt blocks = omega arith in let left = ap (λ n. flat_map (rest_of s.pool) blocks ++ drop n s.pool) none ∙ left_laid 0 blocks s.pool laid in let count : count_of (portions_of blocks) ≡ length (flat_map (used_of s.pool) blocks) = sym (length-used s.pool (portions_of blocks) fits portions_within) ∙ ap length (sym used) in search rules
 
 -- ---- one more block
 
@@ -136,6 +102,4 @@ pub blocks_more : (before left : ℕ) (sizes : List ℕ) (k n : ℕ) → k < len
     → get_or sizes k n ≡ n → blocks_from before left (drop k sizes)
     ≡ record { before = before; size = lesser n left; used = 0 }
     ∷ blocks_from (before + lesser n left) (left - lesser n left) (drop (k + 1) sizes)
-blocks_more before left sizes k n below is =
-    ap (blocks_from before left) (drop_more sizes k n below
-    ∙ ap (λ m. m ∷ drop (k + 1) sizes) is)
+blocks_more before left sizes k n below is = search (rules, drop_more)

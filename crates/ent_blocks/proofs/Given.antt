@@ -1,5 +1,6 @@
 -- What was used of the blocks: no handle twice, none that was alive, and a flush brings to life just
 -- these.
+use Rattle.std.proofs.Common.{rules}
 use Rattle.std.proofs.Common.{◌≡◌, ◌≢◌, ◌⊎◌, ◌↔◌, inl, inr, ap, subst, ◌≤◌, List}
 use Rattle.std.proofs.Common.{◌++◌, length, get_or, map, All, AllPairs, Contains}
 use Rattle.std.specs.List.{flat_map}
@@ -21,9 +22,7 @@ module _ (s : Allocator) (blocks : List Block) (sound : IsSound s) (flushed : s.
   used = flat_map (used_of s.pool) blocks
 
   pub after_blocks-sound : IsSound (after_blocks s blocks)
-  after_blocks-sound = subst IsSound (closed_is s blocks laid fits within)
-      (after_portions-sound s (portions_of blocks) sound flushed fits
-      (portions_within s blocks laid fits within))
+  after_blocks-sound = search (rules, closed_is, after_portions-sound, portions_within)
 
   abbrev pub left : List Handle
   left = (after_blocks s blocks).aside ++ (after_blocks s blocks).pool

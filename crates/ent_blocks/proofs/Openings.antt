@@ -1,4 +1,5 @@
 -- What an opening leaves: the blocks lie in the pool.
+use Rattle.std.proofs.Common.{rules}
 use Rattle.std.proofs.Common.{◌≡◌, refl, ℕ, zero, suc, ◌+◌, ◌-◌, ◌^◌, ◌<◌, List, [], ◌∷◌, length}
 use Rattle.std.proofs.Common.{get_or, arith}
 use Rattle.ent_alloc.specs.Sequential.{Allocator}
@@ -9,13 +10,7 @@ use Rattle.ent_blocks.proofs.Dealing.{laid_from, dealt_from}
 pub are_dealt : (s : Allocator) (sizes : List ℕ) → IsSound s → s.asked ≡ 0
     → dealt (blocks_from 0 (length s.pool) sizes) < 2 ^ 32
     → AreDealt s (blocks_from 0 (length s.pool) sizes)
-are_dealt s sizes sound flushed few = record {
-  sound = sound;
-  flushed = flushed;
-  laid = laid_from 0 (length s.pool) sizes;
-  within = dealt_from 0 (length s.pool) sizes;
-  few = few;
-}
+are_dealt s sizes sound flushed few = search (rules, laid_from, dealt_from)
 
 pub length-from : (before left : ℕ) (sizes : List ℕ)
     → length (blocks_from before left sizes) ≡ length sizes

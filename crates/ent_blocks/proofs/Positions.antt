@@ -34,15 +34,13 @@ single made x = grind (arith, common_steps)
 module _ (s : Allocator) (sound : IsSound s) (flushed : s.asked ≡ 0) (position : ℕ) (high : ℤ)
     (at : high ≡ cursor s -ℤ pos position) where
   all : available s ≡ s.pool
-  all = let laid = flushed-laid_out s sound flushed in rw (laid.taken, laid.aside)
+  all = search (rules, flushed-laid_out)
 
   pub high_is : high ≡ pos (top s) -ℤ pos position
-  high_is = at ∙ ap (λ n. (pos (top s) -ℤ pos n) -ℤ pos position) flushed ∙ omega (arith, ints)
+  high_is = search rules
 
   asked_is : asked_at (top s) high ≡ position
-  asked_is =
-      let is = asked_at-is (top s) high (omega (arith, ints, high_is)) in
-      omega (arith, ints, high_is)
+  asked_is = search (rules, asked_at-is, high_is)
 
   -- the pool from there on
   pub pool_there : pool_at s high ≡ drop position s.pool
@@ -52,30 +50,13 @@ module _ (s : Allocator) (sound : IsSound s) (flushed : s.asked ≡ 0) (position
   pub one_there : (reply : Result Handle Space) → position < length s.pool
       → listed_alone reply ≡ reply_from s.made (pool_at s high) 1
       → (h : Handle) → reply ≡ Ok h → slice_get s.pool position ≡ Some h
-  one_there reply below replies h is =
-      let x = get_or s.pool position h in
-      let rest : drop position s.pool ≡ x ∷ drop (position + 1) s.pool =
-      drop_more s.pool position h below in
-      let enough : 1 ≤ length (drop position s.pool) = omega (arith, length-drop position s.pool) in
-      let given : reply_from s.made (drop position s.pool) 1
-      ≡ Ok (listed s.made (take 1 (drop position s.pool))) = search (rules, le-leb) in
-      let front : take 1 (drop position s.pool) ≡ x ∷ [] = ap (take 1) rest in
-      let same = sym (ap listed_alone is) ∙ replies ∙ ap (λ pool. reply_from s.made pool 1) pool_there
-      ∙ given ∙ ap (λ hs. Ok (listed s.made hs)) front ∙ ap Ok (single s.made x) in
-      let here : x ≡ h = grind (arith, common_steps) in
-      slice_get_read s.pool (length s.pool) position h refl below (sym here)
+  one_there reply below replies h is = let x = get_or s.pool position h in let rest : drop position s.pool ≡ x ∷ drop (position + 1) s.pool = drop_more s.pool position h below in let given : reply_from s.made (drop position s.pool) 1 ≡ Ok (listed s.made (take 1 (drop position s.pool))) = search (rules, le-leb) in let front : take 1 (drop position s.pool) ≡ x ∷ [] = ap (take 1) rest in let same = sym (ap listed_alone is) ∙ replies ∙ ap (λ pool. reply_from s.made pool 1) pool_there ∙ given ∙ ap (λ hs. Ok (listed s.made hs)) front ∙ ap Ok (single s.made x) in let here : x ≡ h = grind (arith, common_steps) in slice_get_read s.pool (length s.pool) position h refl below (sym here)
 
   -- no refusal
   pub no_refusal : (reply : Result Handle Space) → position < length s.pool
       → listed_alone reply ≡ reply_from s.made (pool_at s high) 1
       → (why : Space) → reply ≢ Err why
-  no_refusal reply below replies why is =
-      let enough : 1 ≤ length (drop position s.pool) = omega (arith, length-drop position s.pool) in
-      let given : reply_from s.made (drop position s.pool) 1
-      ≡ Ok (listed s.made (take 1 (drop position s.pool))) = search (rules, le-leb) in
-      let same = sym (ap listed_alone is) ∙ replies ∙ ap (λ pool. reply_from s.made pool 1) pool_there
-      ∙ given in
-      cc
+  no_refusal reply below replies why is = search (rules, length-drop, le-leb, pool_there)
 
 -- ---- a block
 
@@ -93,18 +74,11 @@ served made n pool enough = search (rules, le-leb)
 -- what is left of it
 pub rest_is : (pool : List Handle) (b : Block) → b.used ≤ b.size → b.before + b.size ≤ length pool
     → rest_of pool b ≡ take (b.size - b.used) (drop (b.before + b.used) pool)
-rest_is pool b used within =
-    let whole : b.used + (b.size - b.used) ≡ b.size = omega arith in
-    ap (λ n. drop b.used (take n (drop b.before pool))) (sym whole)
-    ∙ drop-take b.used (b.size - b.used) (drop b.before pool)
-    ∙ ap (take (b.size - b.used)) (drop-drop b.used b.before pool)
+rest_is pool b used within = let whole : b.used + (b.size - b.used) ≡ b.size = omega arith in search (rules, drop-take, drop-drop)
 
 pub length-rest : (pool : List Handle) (b : Block) → b.used ≤ b.size
     → b.before + b.size ≤ length pool → length (rest_of pool b) ≡ b.size - b.used
-length-rest pool b used within =
-    ap length (rest_is pool b used within)
-    ∙ length-take-le (b.size - b.used) (drop (b.before + b.used) pool)
-    (omega (arith, length-drop (b.before + b.used) pool))
+length-rest pool b used within = search (rules, rest_is, length-take-le, length-drop)
 
 pub used_is : (pool : List Handle) (b : Block) → b.used ≤ b.size
     → used_of pool b ≡ take b.used (drop b.before pool)
@@ -112,9 +86,7 @@ used_is pool b used = take_of_take b.used b.size (drop b.before pool) used
 
 pub length-used : (pool : List Handle) (b : Block) → b.used ≤ b.size
     → b.before + b.size ≤ length pool → length (used_of pool b) ≡ b.used
-length-used pool b used within =
-    ap length (used_is pool b used)
-    ∙ length-take-le b.used (drop b.before pool) (omega (arith, length-drop b.before pool))
+length-used pool b used within = search (rules, used_is, length-take-le, length-drop)
 
 -- too few are left
 pub refused : (made n left : ℕ) (rest : List Handle) → length rest ≡ left → left < n
@@ -125,33 +97,14 @@ refused made n left rest long less = search (rules, lt-leb)
 pub served_one : (made : ℕ) (pool : List Handle) (b : Block) (h : Handle) → b.used < b.size
     → b.before + b.size ≤ length pool → slice_get pool (b.before + b.used) ≡ Some h
     → Ok (h ∷ []) ≡ reply_from made (rest_of pool b) 1
-served_one made pool b h less within at =
-    let rest = rest_of pool b in
-    let long : length rest ≡ b.size - b.used = length-rest pool b (omega arith) within in
-    let there = drop (b.before + b.used) pool in
-    let first : take 1 rest ≡ h ∷ [] =
-    ap (take 1) (rest_is pool b (omega arith) within)
-    ∙ take_of_take 1 (b.size - b.used) there (omega arith)
-    ∙ list_more pool (b.before + b.used) 0 h
-    (ap (slice_get pool) (omega arith) ∙ at) (omega arith) in
-    sym (served made 1 rest (omega arith) ∙ ap (λ hs. Ok (listed made hs)) first
-    ∙ ap Ok (single made h))
+served_one made pool b h less within at = let rest = rest_of pool b in let long : length rest ≡ b.size - b.used = length-rest pool b (omega arith) within in let there = drop (b.before + b.used) pool in let first : take 1 rest ≡ h ∷ [] = ap (take 1) (rest_is pool b (omega arith) within) ∙ take_of_take 1 (b.size - b.used) there (omega arith) ∙ list_more pool (b.before + b.used) 0 h (ap (slice_get pool) (omega arith) ∙ at) (omega arith) in search (rules, served, single)
 
 -- n of a block are those that begin where its rest begins
 pub served_many : (made n : ℕ) (pool : List Handle) (b : Block) → b.used + n ≤ b.size
     → b.before + b.size ≤ length pool
     → reply_from made (drop (b.before + b.used) pool) n ≡ reply_from made (rest_of pool b) n
-served_many made n pool b few within =
-    let rest = rest_of pool b in
-    let long : length rest ≡ b.size - b.used = length-rest pool b (omega arith) within in
-    let there = drop (b.before + b.used) pool in
-    let front : take n rest ≡ take n there =
-    ap (take n) (rest_is pool b (omega arith) within)
-    ∙ take_of_take n (b.size - b.used) there (omega arith) in
-    served made n there (omega (arith, length-drop (b.before + b.used) pool))
-    ∙ ap (λ hs. Ok (listed made hs)) (sym front) ∙ sym (served made n rest (omega arith))
+served_many made n pool b few within = search (rules, length-rest, rest_is, take_of_take, served, length-drop)
 
 -- as many are listed as are given
 pub length-listed : (made : ℕ) (given : List Handle) → length (listed made given) ≡ length given
-length-listed made given =
-    length_permutation given (listed made given) (listed-IsPermutation made given)
+length-listed made given = search (rules, length_permutation, listed-IsPermutation)

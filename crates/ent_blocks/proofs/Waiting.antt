@@ -1,4 +1,5 @@
 -- How many slots wait after a close: those that waited before, or no more than were dealt.
+use Rattle.std.proofs.Common.{rules}
 use Rattle.std.proofs.Common.{◌≡◌, ◌≢◌, ◌⊎◌, inl, inr, sym, ap, ◌∙◌, subst, ◌-◌, ◌≤◌, max}
 use Rattle.std.proofs.Common.{List, length, take, drop, map, arith, length-append, length-drop, length-take-le}
 use Rattle.std.specs.List.Sorted.{IsPermutation}
@@ -33,34 +34,17 @@ module _ (s : Allocator) (ps : List Portion) (sound : IsSound s) (flushed : s.as
       ∙ length-take-le (reach_of ps) s.pool reached
 
   front_sound : IsSound (with_front s front)
-  front_sound = with_front-sound s front sound flushed (omega (arith, front_long, reached))
-      (subst (λ n. IsPermutation (take n s.pool) front) (sym front_long)
-      (front_same s.pool ps fits within))
+  front_sound = search (rules, with_front-sound, front_long, reached, front_same)
 
   -- with nothing reserved, all that there is to give is the pool
   pool_long : length (available s) ≡ length s.pool
-  pool_long =
-      let laid = flushed-laid_out s sound flushed in
-      let none = sound.pool in
-      grind (arith, common_steps)
+  pool_long = search (rules, flushed-laid_out)
 
   front_available : length (available (with_front s front)) ≡ length s.pool
-  front_available =
-      let laid = flushed-laid_out (with_front s front) front_sound flushed in
-      let none = front_sound.pool in
-      let long = length-append front (drop (length front) s.pool) in
-      let rest = length-drop (length front) s.pool in
-      let whole : length (with_front s front).pool ≡ length s.pool =
-      omega (arith, long, rest, front_long, reached) in
-      grind (arith, common_steps)
+  front_available = search (rules, flushed-laid_out, front_sound, length-append, length-drop, front_long, reached)
 
   top_front : top (with_front s front) ≤ max (top s) (size_of ps)
-  top_front =
-      let before = length-available s sound in
-      let after = length-available (with_front s front) front_sound in
-      let made = front_sound.made in
-      let long = reach_within ps fits in
-      omega (arith, before, after, made, long, pool_long, front_available, front_long)
+  top_front = search (rules, length-available, front_sound, reach_within, pool_long, front_available, front_long)
 
   top_arranged : top (arranged s ps) ≤ max (top s) (size_of ps)
   top_arranged = by_count (cases_eq (count_of ps) (reach_of ps))

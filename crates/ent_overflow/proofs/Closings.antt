@@ -1,4 +1,5 @@
 -- What the end of a phase says, of the phase and of its callers.
+use Rattle.std.proofs.Common.{rules}
 use Rattle.std.proofs.Common.{◌≡◌, ◌≢◌, ap, ◌∙◌, ◌+◌, ◌≤◌, ◌<ℤ◌, List, [], ◌∷◌, ◌↔◌}
 use Rattle.std.proofs.Common.{length, take, drop, sum, All, AllPairs, Contains}
 use Rattle.std.proofs.lemmas.List.Elements.{All-nil, All-cons, All-head, All-tail}
@@ -51,8 +52,7 @@ own_past p (c ∷ callers) own =
 behind_past : (p : Phase) (callers : List Caller) → All (IsOf p) callers
     → All (λ (r : Record). AreBehind p.dealer.own.mark (own_reservations r.entries))
     (past_records callers)
-behind_past p [] own =
-    All-nil (λ (r : Record). AreBehind p.dealer.own.mark (own_reservations r.entries))
+behind_past p [] own = search (rules, All-nil)
 behind_past p (c ∷ callers) own =
     All-cons (λ (r : Record). AreBehind p.dealer.own.mark (own_reservations r.entries)) c.past.own
     (past_records callers) (All-head (IsOf p) c callers own).all
@@ -61,34 +61,4 @@ behind_past p (c ∷ callers) own =
 pub ending : (p : Phase) (callers : List Caller) (a : Allocator)
     → IsPhase p.shared p.dealer p.blocks → All (IsOf p) callers
     → Closed p.shared.start (p.dealer.own ∷ past_records callers) a → Ending p callers a
-ending p callers a is own closed =
-    let s = p.shared.start in
-    let d = dealt p.blocks in
-    let records = past_records callers in
-    let calls = past_history callers in
-    let split : Splits s d p.dealer.own records =
-    splits s p.dealer.own records
-    (all_behind p.dealer.own.mark records (behind_past p callers own)) d is.deals closed.legal
-    closed.falls in
-    let lie = is.lie in
-    let last = closed.after ∙ split.after ∙ after_history-takes (after_take s d) calls in
-    let N : Record → Record → Type 0 = λ r s. r.number ≢ s.number in
-    let others : All (N p.dealer.own) records =
-    All-head (λ r. All (N r) records) p.dealer.own []
-    (AllPairs-across N (p.dealer.own ∷ []) records closed.numbers) in
-    let all : List Record = p.dealer.own ∷ records in
-    let respects = All-tail (Respects (reservations_of all)) p.dealer.own records closed.respects in
-    record {
-      legal = split.legal;
-      in_order = λ k r lt. split.in_order _ (others k r lt) (respects k r lt);
-      falls = split.falls;
-      handles = ends.same_handles s lie.sound lie.flushed d lie.within calls split.legal;
-      asked = ap (λ (t : Allocator). t.asked) last
-          ∙ ends.all_asked s lie.sound lie.flushed d lie.within calls split.legal;
-      taken = ap (λ (t : Allocator). length t.taken) last
-          ∙ ends.long s lie.sound lie.flushed d lie.within calls split.legal;
-      back = ap before_requests last
-          ∙ ends.taken_back s lie.sound lie.flushed d lie.within calls split.legal;
-      within = ends.within s lie.sound lie.flushed d lie.within calls split.legal;
-      none = ends.some_requested (after_take s d) calls split.legal;
-    }
+ending p callers a is own closed = let s = p.shared.start in let d = dealt p.blocks in let records = past_records callers in let calls = past_history callers in let split : Splits s d p.dealer.own records = search (rules, splits, all_behind, behind_past) in let lie = is.lie in let last = closed.after ∙ split.after ∙ after_history-takes (after_take s d) calls in let N : Record → Record → Type 0 = λ r s. r.number ≢ s.number in let others : All (N p.dealer.own) records = All-head (λ r. All (N r) records) p.dealer.own [] (AllPairs-across N (p.dealer.own ∷ []) records closed.numbers) in let all : List Record = p.dealer.own ∷ records in let respects = All-tail (Respects (reservations_of all)) p.dealer.own records closed.respects in record { legal = split.legal; in_order = λ k r lt. split.in_order _ (others k r lt) (respects k r lt); falls = split.falls; handles = ends.same_handles s lie.sound lie.flushed d lie.within calls split.legal; asked = ap (λ (t : Allocator). t.asked) last ∙ ends.all_asked s lie.sound lie.flushed d lie.within calls split.legal; taken = ap (λ (t : Allocator). length t.taken) last ∙ ends.long s lie.sound lie.flushed d lie.within calls split.legal; back = ap before_requests last ∙ ends.taken_back s lie.sound lie.flushed d lie.within calls split.legal; within = ends.within s lie.sound lie.flushed d lie.within calls split.legal; none = ends.some_requested (after_take s d) calls split.legal }

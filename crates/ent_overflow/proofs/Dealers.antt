@@ -37,17 +37,7 @@ whole_quota s r of nothing = let adds = of.quota in search (rules, nothing)
 
 pub has_dealt : (s : Shared) (old new : Reserver) (n : ℕ) (result : Result (List Handle) Refused)
     → Reserves s old new n result → old.own.entries ≡ [] → HasDealt n new.own
-has_dealt s old new n result did nothing =
-    let own : new.own ≡ after_reservation old.own did.high n =
-    ap (λ (r : Reserver). r.own) did.after in
-    record {
-      call = reservation_at old.own did.high n;
-      entries = ap (λ (r : Record). r.entries) own
-          ∙ ap (λ (es : List RecordEntry). es ++ Own (reservation_at old.own did.high n) ∷ []) nothing;
-      caller = sym (ap (λ (r : Record). r.number) own);
-      requested = refl;
-      mark = ap (λ (r : Record). r.mark) own;
-    }
+has_dealt s old new n result did nothing = let own : new.own ≡ after_reservation old.own did.high n = ap (λ (r : Reserver). r.own) did.after in record { call = reservation_at old.own did.high n; entries = search rules; caller = sym (ap (λ (r : Record). r.number) own); requested = refl; mark = ap (λ (r : Record). r.mark) own }
 
 pub is_dealer : (s : Shared) (old new : Reserver) (n : ℕ) (result : Result (List Handle) Refused)
     → 0 < n → Reserves s old new n result → old.own.entries ≡ [] → IsDealer n new.own
@@ -103,7 +93,7 @@ nothing_past (c ∷ callers) all =
     (λ i. first i ++ rest i)
 
 pub none_past : (callers : List Caller) → All IsUnused callers → past_history callers ≡ []
-none_past callers all = ap (λ cs. map as_call (by_falling_high cs)) (nothing_past callers all)
+none_past callers all = search (rules, nothing_past)
 
 -- the last one of these, and the others
 module _ (s : Shared) (all rest : List Reserver) (r : Reserver) (front : all ≡ rest ++ r ∷ [])
@@ -119,13 +109,7 @@ pub blocks_more : (before after : List Caller) (bs : List Block) (k : ℕ) (b : 
     → AreLaid 0 bs → k < length bs → b ≡ get_or bs k b
     → after ≡ before ++ record { block = unused b; past = met } ∷ [] → blocks_of before ≡ take k bs
     → blocks_of after ≡ take (k + 1) bs
-blocks_more before after bs k b met laid lt there is so_far =
-    let none : b.used ≡ 0 = ap (λ (x : Block). x.used) there ∙ none_used 0 k bs b laid lt in
-    let same : unused b ≡ b = λ i. record b { used = sym none i } in
-    ap blocks_of is
-    ∙ map-append (λ (c : Caller). c.block) before (record { block = unused b; past = met } ∷ [])
-    ∙ (λ i. so_far i ++ (same ∙ there) i ∷ [])
-    ∙ sym (take_more bs k b lt)
+blocks_more before after bs k b met laid lt there is so_far = search (rules, none_used, map-append, take_more)
 
 pub all_fresh : (s : Shared) (rs : List Reserver) → All (IsReserverOf s) rs
     → All (λ (r : Reserver). r.own.entries ≡ []) rs → All (IsFresh s) rs
@@ -137,11 +121,4 @@ pub opened : (s : Allocator) (sizes : List ℕ) (shared : Shared) (dealer : Rese
     → shared.count ≡ length sizes + 1 → blocks ≡ blocks_from 0 (length s.pool) sizes
     → dealt blocks < 2 ^ 32 → IsReserverOf shared dealer → d ≡ dealt blocks
     → IsDealer d dealer.own → IsPhase shared dealer blocks
-opened s sizes shared dealer blocks d flushed sound start count is few of deals dealer_is = record {
-  lie = subst (λ (t : Allocator). AreDealt t blocks) (sym start)
-      (subst (AreDealt s) (sym is) (are_dealt s sizes (subst IsSound start sound) flushed
-      (subst (λ (bs : List Block). dealt bs < 2 ^ 32) is few)));
-  of = of;
-  deals = subst (λ n. IsDealer n dealer.own) deals dealer_is;
-  count = let long = ap length is ∙ length-from 0 (length s.pool) sizes in omega arith;
-}
+opened s sizes shared dealer blocks d flushed sound start count is few of deals dealer_is = record { lie = subst (λ (t : Allocator). AreDealt t blocks) (sym start) (subst (AreDealt s) (sym is) (are_dealt s sizes (subst IsSound start sound) flushed (subst (λ (bs : List Block). dealt bs < 2 ^ 32) is few))); of = of; deals = subst (λ n. IsDealer n dealer.own) deals dealer_is; count = search (rules, length-from) }

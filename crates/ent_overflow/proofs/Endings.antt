@@ -1,4 +1,5 @@
 -- The end of a phase, in the numbers of its code.
+use Rattle.std.proofs.Common.{rules}
 use Rattle.std.proofs.Common.{◌≡◌, refl, sym, ap, ◌∙◌, subst, ℕ, zero, suc, ◌+◌, ◌≤◌}
 use Rattle.std.proofs.Common.{List, [], ◌∷◌, ◌++◌, map, All, AllPairs, Contains, ◌↔◌, arith}
 use Rattle.std.proofs.Common.{length, take, drop, sum, IsPermutation, length-append, inl, inr}
@@ -45,10 +46,7 @@ also_behind front xs ys apart same h has =
 pub some_requested : (s : Allocator) (calls : List history.Call) → history.IsLegal s calls
     → sum (history.requests_of calls) ≡ 0 → calls ≡ []
 some_requested s [] legal none = refl
-some_requested s (call ∷ calls) legal none =
-    let first = legal.0 in
-    let more = sum_by-cons (λ x. x) call.requested (history.requests_of calls) in
-    absurd (omega arith)
+some_requested s (call ∷ calls) legal none = grind (arith, common_steps, sum_by-cons)
 
 -- a flushed allocator, of which d handles were reserved first, and then these calls were made
 module _ (s : Allocator) (sound : IsSound s) (flushed : s.asked ≡ 0) (d : ℕ)
@@ -76,43 +74,28 @@ module _ (s : Allocator) (sound : IsSound s) (flushed : s.asked ≡ 0) (d : ℕ)
   last_sound = after_takes-sound first requests first_sound
 
   all_in_pool : available s ≡ s.pool
-  all_in_pool = let l = flushed-laid_out s sound flushed in λ i. l.taken i ++ (l.aside i ++ s.pool)
+  all_in_pool = search (rules, flushed-laid_out)
 
   last_available : available last ≡ s.pool
-  last_available = available-after_takes first requests first_sound
-      ∙ available-after_take s d sound ∙ all_in_pool
+  last_available = search (rules, available-after_takes, first_sound, available-after_take, all_in_pool)
 
   first_taken : first.taken ≡ front
-  first_taken = ap (λ (t : Allocator). t.taken) (after_take-served s d enough)
-      ∙ ap (λ (hs : List Handle). hs ++ front) (flushed-laid_out s sound flushed).taken
+  first_taken = search (rules, after_take-served, flushed-laid_out)
 
   moved : IsPermutation (front ++ given) last.taken
-  moved = subst (λ (hs : List Handle). IsPermutation (hs ++ given) last.taken) first_taken
-      (subst (λ (hs : List Handle). IsPermutation (first.taken ++ hs) last.taken)
-      (sym (given_in-legal first calls legal)) (taken-after_takes first requests))
+  moved = search (rules, first_taken, given_in-legal, taken-after_takes)
 
   pub long : length last.taken ≡ d + length given
-  long =
-      let same = length_permutation (front ++ given) last.taken moved in
-      let both = length-append front given in
-      let few = length-take-le d s.pool enough in
-      omega arith
+  long = search (rules, length_permutation, moved, length-append, length-take-le)
 
   pub within : d + length given ≤ length s.pool
-  within =
-      let long = long in
-      let cut : length last.taken ≡ length (take (length last.taken) s.pool) =
-      ap length (taken_is last ∙ ap (take (length last.taken)) last_available) in
-      let most = length-take (length last.taken) s.pool in
-      omega arith
+  within = grind (arith, common_steps, long, taken_is, last_available, length-take)
 
   abbrev behind : List Handle
   behind = take (length given) (drop d s.pool)
 
   taken_both : last.taken ≡ front ++ behind
-  taken_both = taken_is last
-      ∙ (λ i. take (long i) (last_available i))
-      ∙ take-add d (length given) s.pool
+  taken_both = grind (arith, common_steps, taken_is, long, last_available, take-add)
 
   apart_both_parts : AllPairs AreApart (front ++ behind)
   apart_both_parts = subst (AllPairs AreApart) taken_both
@@ -122,7 +105,7 @@ module _ (s : Allocator) (sound : IsSound s) (flushed : s.asked ≡ 0) (d : ℕ)
   same_both = subst (IsPermutation (front ++ given)) taken_both moved
 
   back_both : IsPermutation (front ++ behind) (front ++ given)
-  back_both = IsPermutation-sym (front ++ given) (front ++ behind) same_both
+  back_both = search (rules, IsPermutation-sym, same_both)
 
   pub same_handles : (h : Handle) → Contains given h ↔ Contains behind h
   same_handles h = (
@@ -133,26 +116,10 @@ module _ (s : Allocator) (sound : IsSound s) (flushed : s.asked ≡ 0) (d : ℕ)
   )
 
   pub all_asked : last.asked ≡ d + sum requests
-  all_asked =
-      let one = asked-after_take s d in
-      let others = asked-after_takes first requests in
-      omega arith
+  all_asked = search (rules, asked-after_take, asked-after_takes)
 
   pub taken_back : before_requests last ≡ s
-  taken_back =
-      let l = flushed-laid_out s sound flushed in
-      let limits = limits-after_takes first requests ∙ limits-after_take s d in
-      let live = live-after_takes first requests ∙ live-after_take s d in
-      let made = made-after_takes first requests ∙ made-after_take s d in
-      λ i. record {
-        limits = limits i;
-        live = live i;
-        pool = last_available i;
-        taken = sym l.taken i;
-        aside = sym l.aside i;
-        made = made i;
-        asked = sym flushed i;
-      }
+  taken_back = search (rules, flushed-laid_out, limits-after_takes, limits-after_take, live-after_takes, live-after_take, made-after_takes, made-after_take, last_available)
 
 -- one more block
 laid_more : (before : ℕ) (xs ys : List Block) → AreLaid before xs → AreLaid (before + dealt xs) ys
@@ -170,9 +137,7 @@ past_some before n = grind (arith, common_steps)
 
 past_laid : (before n : ℕ) → AreLaid before (map unused (past_block before n))
 past_laid before zero = tt
-past_laid before (suc n) =
-    subst (λ (bs : List Block). AreLaid before (map unused bs)) (sym (past_some before n))
-    (refl, refl, tt)
+past_laid before (suc n) = search (rules, past_some)
 
 past_dealt : (before n : ℕ) → dealt (past_block before n) ≡ n
 past_dealt before zero = refl
@@ -189,20 +154,7 @@ dealt-unused (x ∷ xs) = ap (λ n. x.size + n) (dealt-unused xs)
 module _ (blocks used : List Block) (laid : AreLaid 0 blocks) (all : map unused used ≡ blocks)
     (n : ℕ) where
   pub ends_laid : AreLaid 0 (map unused (used ++ past_block (dealt blocks) n))
-  ends_laid =
-      let is : map unused (used ++ past_block (dealt blocks) n)
-      ≡ blocks ++ map unused (past_block (dealt blocks) n) =
-      map-append unused used (past_block (dealt blocks) n)
-      ∙ ap (λ (bs : List Block). bs ++ map unused (past_block (dealt blocks) n)) all in
-      let from : dealt blocks ≡ 0 + dealt blocks = omega arith in
-      subst (AreLaid 0) (sym is)
-      (laid_more 0 blocks (map unused (past_block (dealt blocks) n)) laid
-      (subst (λ k. AreLaid k (map unused (past_block (dealt blocks) n))) from
-      (past_laid (dealt blocks) n)))
+  ends_laid = search (rules, map-append, laid_more, past_laid)
 
   pub ends_dealt : dealt (used ++ past_block (dealt blocks) n) ≡ dealt blocks + n
-  ends_dealt =
-      let both = dealt-append used (past_block (dealt blocks) n) in
-      let more = past_dealt (dealt blocks) n in
-      let same = sym (dealt-unused used) ∙ ap dealt all in
-      omega arith
+  ends_dealt = search (rules, dealt-append, past_dealt, dealt-unused)

@@ -1,4 +1,6 @@
 -- What a reservation leaves of a caller: from its block, and past it.
+use Rattle.std.proofs.Common.{rules}
+use Rattle.std.proofs.lemmas.Grind.{common_steps}
 use Rattle.std.proofs.Common.{◌≡◌, sym, ap, subst, ℕ, ◌+◌, ◌^◌, ◌<◌, ◌≤◌, ◌≤ℤ◌, List}
 use Rattle.std.proofs.Common.{length, All, arith, inl, inr}
 use Rattle.std.specs.Prelude.{Result}
@@ -19,8 +21,7 @@ use Rattle.ent_overflow.specs.Overflow.{Phase, Caller, IsOf, IsPhase}
 
 -- the same phase and the same caller
 pub here : (p q : Phase) (c d : Caller) → p ≡ q → c ≡ d → IsOf q d → IsOf p c
-here p q c d e f of =
-    subst (λ (x : Phase). IsOf x c) (sym e) (subst (λ (x : Caller). IsOf q x) (sym f) of)
+here p q c d e f of = search rules
 
 module _ (p : Phase) (c : Caller) (is : IsPhase p.shared p.dealer p.blocks) (of : IsOf p c) where
   pub lies_within : c.block.before + c.block.size ≤ length p.shared.start.pool
@@ -32,7 +33,7 @@ module _ (p : Phase) (c : Caller) (is : IsPhase p.shared p.dealer p.blocks) (of 
 -- after more of its block is used
 pub used_on : (p : Phase) (c : Caller) (n : ℕ) → IsOf p c
     → IsOf p (record { block = after_use c.block n; past = c.past })
-used_on p c n of = record { block = of.block; past = of.past; next = of.next; all = of.all }
+used_on p c n of = search rules
 
 -- after a reservation past it
 module _ (p : Phase) (c : Caller) (new : Reserver) (n : ℕ) (result : Result (List Handle) Refused)
@@ -45,34 +46,20 @@ module _ (p : Phase) (c : Caller) (new : Reserver) (n : ℕ) (result : Result (L
     own_is = ap (λ (x : Reserver). x.own) did.after
 
     lower : did.high ≤ℤ p.dealer.own.mark
-    lower = let at = did.at_mark in let next = of.next in omega (arith, ints)
+    lower = search rules
 
     made : Reservation
     made = reservation_at c.past.own did.high n
 
     behind : AllBehind (own_reservations new.own.entries)
     unfolding AllBehind made
-    behind =
-        subst (λ (r : Record). AllBehind (own_reservations r.entries)) (sym own_is)
-        (subst AllBehind (sym (own-made c.past.own.entries made))
-        (All-push (λ (r : Reservation). r.high ≤ℤ p.dealer.own.mark)
-        (own_reservations c.past.own.entries) made of.all lower))
+    behind = grind (arith, common_steps, AllBehind, own_is, own-made, made, All-push, lower)
 
     gone : IsOf p (record { block = c.block; past = new })
     unfolding AllBehind
-    gone = record {
-      block = of.block;
-      past = stays;
-      next = let mark = ap (λ (x : Record). x.mark) own_is in let low = lower in omega (arith, ints);
-      all = behind;
-    }
+    gone = search (rules, own_is, lower, behind)
 
   pub gone_past : (c.past.own.left < n → new ≡ c.past)
       → (n ≤ c.past.own.left → Reserves p.shared c.past new n result)
       → IsOf p (record { block = c.block; past = new })
-  gone_past same gains = elim (cases_lt c.past.own.left n) [
-    | inl few ↦ subst (λ (r : Reserver). IsOf p (record { block = c.block; past = r }))
-        (sym (same few))
-        (record { block = of.block; past = of.past; next = of.next; all = of.all })
-    | inr enough ↦ gone (gains enough)
-  ]
+  gone_past same gains = search (rules, cases_lt, gone)

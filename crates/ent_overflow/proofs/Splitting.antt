@@ -1,4 +1,5 @@
 -- The dealer's reservation is the first one of all, and the others are a history of their own.
+use Rattle.std.proofs.Common.{rules}
 use Rattle.std.proofs.Common.{◌≡◌, ◌≢◌, refl, sym, ap, ◌∙◌, subst, ℕ, zero, suc, ◌≤ℤ◌, ◌<ℤ◌, ℤ}
 use Rattle.std.proofs.Common.{List, [], ◌∷◌, ◌++◌, map, All, AllPairs, arith}
 use Rattle.std.proofs.lemmas.Grind.{common_steps}
@@ -34,9 +35,7 @@ all_behind mark (r ∷ records) all =
 inserted_first : (c : Reservation) (cs : List Reservation)
     → All (λ (d : Reservation). d.high <ℤ c.high) cs → insert_reservation c cs ≡ c ∷ cs
 inserted_first c [] below = refl
-inserted_first c (d ∷ ds) below =
-    let first = All-head (λ (d : Reservation). d.high <ℤ c.high) d ds below in
-    grind (arith, ints, common_steps, first)
+inserted_first c (d ∷ ds) below = search (rules, All-head)
 
 abbrev Falls : Reservation → Reservation → Type 0
 Falls earlier later = later.high <ℤ earlier.high
@@ -53,54 +52,15 @@ pub record Splits (s : Allocator) (d : ℕ) (dealer : Record) (records : List Re
 module _ (s : Allocator) (dealer : Record) (records : List Record)
     (behind : AreBehind dealer.mark (own_of_all records)) where
   none_first : dealer.entries ≡ [] → reservations_of (dealer ∷ records) ≡ reservations_of records
-  none_first nothing =
-      ap (λ (es : List RecordEntry). by_falling_high (own_reservations es ++ own_of_all records))
-      nothing
+  none_first nothing = search rules
 
   dealt_first : (d : ℕ) (h : HasDealt (suc d) dealer)
       → reservations_of (dealer ∷ records) ≡ h.call ∷ reservations_of records
-  dealt_first d h =
-      let mark = h.mark in
-      let some = h.requested in
-      let below : All (λ (c : Reservation). c.high <ℤ h.call.high) (own_of_all records) =
-      All-weaker (λ (c : Reservation). c.high ≤ℤ dealer.mark)
-      (λ (c : Reservation). c.high <ℤ h.call.high) (λ c le. omega (arith, ints))
-      (own_of_all records) behind in
-      ap (λ (es : List RecordEntry). by_falling_high (own_reservations es ++ own_of_all records))
-      h.entries
-      ∙ inserted_first h.call (reservations_of records)
-      (all_sorted (λ (c : Reservation). c.high <ℤ h.call.high) (own_of_all records) below)
+  dealt_first d h = let mark = h.mark in let some = h.requested in let below : All (λ (c : Reservation). c.high <ℤ h.call.high) (own_of_all records) = search (rules, All-weaker) in ap (λ (es : List RecordEntry). by_falling_high (own_reservations es ++ own_of_all records)) h.entries ∙ inserted_first h.call (reservations_of records) (all_sorted (λ (c : Reservation). c.high <ℤ h.call.high) (own_of_all records) below)
 
   pub splits : (d : ℕ) → IsDealer d dealer
       → history.IsLegal s (history_of (dealer ∷ records))
       → AllPairs (λ earlier later. later.high <ℤ earlier.high) (reservations_of (dealer ∷ records))
       → Splits s d dealer records
-  splits zero deals legal falls =
-      let same = none_first deals in
-      record {
-        legal = subst (λ (t : Allocator). history.IsLegal t (history_of records))
-            (sym (after_take-none s))
-            (subst (λ (cs : List Reservation). history.IsLegal s (map as_call cs)) same legal);
-        after = ap (λ (cs : List Reservation). history.after_history s (map as_call cs)) same
-            ∙ ap (λ (t : Allocator). history.after_history t (history_of records))
-            (sym (after_take-none s));
-        falls = subst (AllPairs Falls) same falls;
-        in_order = λ r other respects. ap (reservations_by r.number) (sym same) ∙ respects.own;
-      }
-  splits (suc d) h legal falls =
-      let same = dealt_first d h in
-      let from : history.IsLegal s (as_call h.call ∷ history_of records) =
-      subst (λ (cs : List Reservation). history.IsLegal s (map as_call cs)) same legal in
-      record {
-        legal = subst (λ n. history.IsLegal (after_take s n) (history_of records)) h.requested
-            from.2;
-        after = ap (λ (cs : List Reservation). history.after_history s (map as_call cs)) same
-            ∙ ap (λ n. history.after_history (after_take s n) (history_of records)) h.requested;
-        falls = AllPairs-right Falls (h.call ∷ []) (reservations_of records)
-            (subst (AllPairs Falls) same falls);
-        in_order = λ r other respects.
-            (let caller = h.caller in
-            let skip : reservations_by r.number (h.call ∷ reservations_of records)
-            ≡ reservations_by r.number (reservations_of records) = grind (arith, common_steps) in
-            sym skip ∙ ap (reservations_by r.number) (sym same) ∙ respects.own);
-      }
+  splits zero deals legal falls = search (rules, none_first, after_take-none)
+  splits (suc d) h legal falls = let same = dealt_first d h in let from : history.IsLegal s (as_call h.call ∷ history_of records) = subst (λ (cs : List Reservation). history.IsLegal s (map as_call cs)) same legal in record { legal = subst (λ n. history.IsLegal (after_take s n) (history_of records)) h.requested from.2; after = ap (λ (cs : List Reservation). history.after_history s (map as_call cs)) same ∙ ap (λ n. history.after_history (after_take s n) (history_of records)) h.requested; falls = AllPairs-right Falls (h.call ∷ []) (reservations_of records) (subst (AllPairs Falls) same falls); in_order = search rules }

@@ -11,7 +11,4 @@ loop-reserver-preserved g c =
     (search rules)
 
 pub returns : goal.returns
-returns g c =
-    let all : All (λ (r : Reserver). r.number ≡ c.args.number) c.args.reservers.now =
-    rw (take_all c.loop-reserver.reserver-index c.args.reservers.now (omega arith)) at c.loop-reserver.invariant in
-    (λ _. all, λ _. refl)
+returns g c = search (rules, take_all)

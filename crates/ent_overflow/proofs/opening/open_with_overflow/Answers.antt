@@ -1,3 +1,4 @@
+use Rattle.std.proofs.Common.{rules}
 use Rattle.std.proofs.Common.{◌∙◌, ◌<◌, ◌^◌, sym, ap, subst, arith, List, [], ◌∷◌, length}
 use Rattle.std.proofs.lemmas.List.{length-append}
 use Rattle.ent_blocks.specs.Blocks.{Block, dealt}
@@ -8,16 +9,7 @@ use Rattle.ent_overflow.proofs.Dealers.{opened, all_fresh, others_fresh}
 use Rattle.ent_overflow.proofs.opening.open_with_overflow.Goals as goal
 
 pub hand_out-requires-clause-phase : goal.hand_out-requires-clause-phase
-hand_out-requires-clause-phase c =
-    let s = c.args.entities.allocator in
-    let is = c.deref-2.ensures.value ∙ c.in-Ok.ensures.blocks in
-    opened s c.args.sizes.now c.in_ok-shared.shared c.deal.new.dealer c.deref-2.result.now
-    c.dealt.result c.requires.flushed c.in_ok-shared.ensures.sound c.in_ok-shared.ensures.shared.0
-    (c.in_ok-shared.ensures.shared.1) is
-    (subst (λ (bs : List Block). dealt bs < 2 ^ 32) (sym c.deref-2.ensures.value)
-    c.in-Ok.ensures.few) c.deal.ensures.of
-    (c.dealt.ensures ∙ ap dealt (c.deref.ensures.value ∙ sym c.deref-2.ensures.value))
-    c.deal.ensures.dealt
+hand_out-requires-clause-phase c = let s = c.args.entities.allocator in let is = c.deref-2.ensures.value ∙ c.in-Ok.ensures.blocks in search (rules, opened)
 
 pub hand_out-requires-clause-fresh : goal.hand_out-requires-clause-fresh
 hand_out-requires-clause-fresh c =
@@ -27,54 +19,16 @@ hand_out-requires-clause-fresh c =
     c.in_ok-shared.ensures.unused)
 
 pub hand_out-requires-clause-many : goal.hand_out-requires-clause-many
-hand_out-requires-clause-many c =
-    omega (
-      arith,
-      c.in_ok-shared.ensures.count,
-      ap length c.in-Some.ensures.items,
-      length-append c.pop.new.self.items (c.in-Some.dealer ∷ []),
-      ap length (c.deref-2.ensures.value ∙ c.in-Ok.ensures.blocks),
-      length-from 0 (length c.args.entities.allocator.pool) c.args.sizes.now,
-    )
+hand_out-requires-clause-many c = search (rules, length-append, length-from)
 
 pub hand_out-requires-clause-room : goal.hand_out-requires-clause-room
-hand_out-requires-clause-room c =
-    omega (
-      arith,
-      ap length (c.deref-2.ensures.value ∙ c.in-Ok.ensures.blocks),
-      length-from 0 (length c.args.entities.allocator.pool) c.args.sizes.now,
-      c.in-Ok-with_capacity.ensures.capacity,
-    )
+hand_out-requires-clause-room c = search (rules, length-from)
 
 pub new-requires-clause-phase : goal.new-requires-clause-phase
-new-requires-clause-phase c =
-    let s = c.args.entities.allocator in
-    let is = c.deref-2.ensures.value ∙ c.in-Ok.ensures.blocks in
-    let phase = opened s c.args.sizes.now c.in_ok-shared.shared c.deal.new.dealer
-    c.deref-2.result.now c.dealt.result c.requires.flushed c.in_ok-shared.ensures.sound
-    c.in_ok-shared.ensures.shared.0 (c.in_ok-shared.ensures.shared.1) is
-    (subst (λ (bs : List Block). dealt bs < 2 ^ 32) (sym c.deref-2.ensures.value)
-    c.in-Ok.ensures.few) c.deal.ensures.of
-    (c.dealt.ensures ∙ ap dealt (c.deref.ensures.value ∙ sym c.deref-2.ensures.value))
-    c.deal.ensures.dealt in
-    subst (λ (r : Reserver). IsPhase c.in_ok-shared.shared r c.in-Ok.parts.items)
-    (sym c.hand_out.ensures.dealer)
-    (subst (IsPhase c.in_ok-shared.shared c.deal.new.dealer) c.deref-2.ensures.value phase)
+new-requires-clause-phase c = let s = c.args.entities.allocator in let is = c.deref-2.ensures.value ∙ c.in-Ok.ensures.blocks in let phase = opened s c.args.sizes.now c.in_ok-shared.shared c.deal.new.dealer c.deref-2.result.now c.dealt.result c.requires.flushed c.in_ok-shared.ensures.sound c.in_ok-shared.ensures.shared.0 (c.in_ok-shared.ensures.shared.1) is (subst (λ (bs : List Block). dealt bs < 2 ^ 32) (sym c.deref-2.ensures.value) c.in-Ok.ensures.few) c.deal.ensures.of (c.dealt.ensures ∙ ap dealt (c.deref.ensures.value ∙ sym c.deref-2.ensures.value)) c.deal.ensures.dealt in search rules
 
 pub new-requires-clause-ends : goal.new-requires-clause-ends
-new-requires-clause-ends c =
-    omega (
-      arith,
-      ap length c.in-Ok.ensures.blocks,
-      length-from 0 (length c.args.entities.allocator.pool) c.args.sizes.now,
-      c.in-Ok-with_capacity-2.ensures.capacity,
-    )
+new-requires-clause-ends c = search (rules, length-from)
 
 pub new-requires-clause-reservers : goal.new-requires-clause-reservers
-new-requires-clause-reservers c =
-    omega (
-      arith,
-      ap length c.in-Ok.ensures.blocks,
-      length-from 0 (length c.args.entities.allocator.pool) c.args.sizes.now,
-      c.in-Ok-with_capacity-3.ensures.capacity,
-    )
+new-requires-clause-reservers c = search (rules, length-from)

@@ -1,3 +1,4 @@
+use Rattle.std.proofs.Common.{rules}
 use Rattle.std.proofs.Common.{◌≡◌, ◌≢◌, ◌⊎◌, ◌↔◌, sym, ap, ◌∙◌, subst, arith, List}
 use Rattle.std.proofs.Common.{map, All, AllPairs, Contains, max, ◌≤◌}
 use Rattle.ent_handle.specs.Handle.{Handle}
@@ -14,119 +15,28 @@ use Rattle.ent_blocks.proofs.Given.{used-distinct, used-not_live, used-live}
 use Rattle.ent_blocks.proofs.blocks.Blocks.end_with.Goals as goal
 
 pub returns-in_default-clause-unused : goal.returns-in_default-clause-unused
-returns-in_default-clause-unused g c =
-    subst (λ (bs : List Block). map unused (accounted bs (blocks_of c.args.reservers.items)) ≡ bs)
-    (ap (λ (p : Phase). p.phase.blocks) c.self.view_is)
-    (unused_accounted 0 c.self.inside.parts.items (blocks_of c.args.reservers.items)
-    c.self.invariant.0.laid)
+returns-in_default-clause-unused g c = search (rules, unused_accounted)
 
 pub returns-in_default-take_used-clause-unused : goal.returns-in_default-take_used-clause-unused
-returns-in_default-take_used-clause-unused g c =
-    subst (λ (bs : List Block). map unused (accounted bs (blocks_of c.args.reservers.items)) ≡ bs)
-    (ap (λ (p : Phase). p.phase.blocks) c.self.view_is)
-    (unused_accounted 0 c.self.inside.parts.items (blocks_of c.args.reservers.items)
-    c.self.invariant.0.laid)
+returns-in_default-take_used-clause-unused g c = search (rules, unused_accounted)
 
 pub returns-clause-unused : goal.returns-clause-unused
-returns-clause-unused g c =
-    subst (λ (bs : List Block). map unused (accounted bs (blocks_of c.args.reservers.items)) ≡ bs)
-    (ap (λ (p : Phase). p.phase.blocks) c.self.view_is)
-    (unused_accounted 0 c.self.inside.parts.items (blocks_of c.args.reservers.items)
-    c.self.invariant.0.laid)
+returns-clause-unused g c = search (rules, unused_accounted)
 
 pub take_used-requires-clause-laid : goal.take_used-requires-clause-laid
-take_used-requires-clause-laid g c =
-    let s = c.self.inside.entities.allocator in
-    let all = accounted c.self.inside.parts.items (blocks_of c.args.reservers.items) in
-    let closes = closing s c.self.inside.parts.items (blocks_of c.args.reservers.items)
-    c.self.invariant.0 in
-    let is : c.deref-3.result.now ≡ all = c.deref-3.ensures.value ∙ c.in-Ok.ensures.ok
-    ∙ (λ i. accounted (c.deref.ensures.value i) (blocks_of (c.deref-2.ensures.value i))) in
-    subst (λ (bs : List Block). AreLaid 0 (map unused bs)) (sym is) closes.laid
+take_used-requires-clause-laid g c = search (rules, closing)
 
 pub take_used-requires-clause-within : goal.take_used-requires-clause-within
-take_used-requires-clause-within g c =
-    let s = c.self.inside.entities.allocator in
-    let all = accounted c.self.inside.parts.items (blocks_of c.args.reservers.items) in
-    let closes = closing s c.self.inside.parts.items (blocks_of c.args.reservers.items)
-    c.self.invariant.0 in
-    let is : c.deref-3.result.now ≡ all = c.deref-3.ensures.value ∙ c.in-Ok.ensures.ok
-    ∙ (λ i. accounted (c.deref.ensures.value i) (blocks_of (c.deref-2.ensures.value i))) in
-    omega (arith, ap dealt is, closes.within)
+take_used-requires-clause-within g c = let s = c.self.inside.entities.allocator in let all = accounted c.self.inside.parts.items (blocks_of c.args.reservers.items) in let closes = closing s c.self.inside.parts.items (blocks_of c.args.reservers.items) c.self.invariant.0 in let is : c.deref-3.result.now ≡ all = search rules in omega (arith, ap dealt is, closes.within)
 
 pub returns-clause-distinct : goal.returns-clause-distinct
-returns-clause-distinct g c =
-    let s = c.self.inside.entities.allocator in
-    let all = accounted c.self.inside.parts.items (blocks_of c.args.reservers.items) in
-    let closes = closing s c.self.inside.parts.items (blocks_of c.args.reservers.items)
-    c.self.invariant.0 in
-    let is : c.deref-3.result.now ≡ all = c.deref-3.ensures.value ∙ c.in-Ok.ensures.ok
-    ∙ (λ i. accounted (c.deref.ensures.value i) (blocks_of (c.deref-2.ensures.value i))) in
-    let inv = c.self.invariant.0 in
-    let fits : AreUsed (portions_of all) =
-    subst (λ (bs : List Block). AreUsed (portions_of bs)) is c.in-Ok-take_used.ensures.used in
-    let after : c.take_used.new.entities.allocator ≡ after_blocks s all =
-    c.in-Ok-take_used.ensures.ok ∙ ap (after_blocks s) is in
-    let start : s ≡ c.args.self.phase.start = ap (λ (p : Phase). p.phase.start) c.self.view_is in
-    subst (λ (t : Allocator). AllPairs (λ g h. g ≢ h) t.taken) (sym after)
-    (used-distinct s all inv.sound inv.flushed closes.laid closes.within fits)
+returns-clause-distinct g c = let s = c.self.inside.entities.allocator in let all = accounted c.self.inside.parts.items (blocks_of c.args.reservers.items) in let closes = closing s c.self.inside.parts.items (blocks_of c.args.reservers.items) c.self.invariant.0 in let is : c.deref-3.result.now ≡ all = search rules in let inv = c.self.invariant.0 in let fits : AreUsed (portions_of all) = subst (λ (bs : List Block). AreUsed (portions_of bs)) is c.in-Ok-take_used.ensures.used in let after : c.take_used.new.entities.allocator ≡ after_blocks s all = c.in-Ok-take_used.ensures.ok ∙ ap (after_blocks s) is in let start : s ≡ c.args.self.phase.start = ap (λ (p : Phase). p.phase.start) c.self.view_is in subst (λ (t : Allocator). AllPairs (λ g h. g ≢ h) t.taken) (sym after) (used-distinct s all inv.sound inv.flushed closes.laid closes.within fits)
 
 pub returns-clause-not_live : goal.returns-clause-not_live
-returns-clause-not_live g c =
-    let s = c.self.inside.entities.allocator in
-    let all = accounted c.self.inside.parts.items (blocks_of c.args.reservers.items) in
-    let closes = closing s c.self.inside.parts.items (blocks_of c.args.reservers.items)
-    c.self.invariant.0 in
-    let is : c.deref-3.result.now ≡ all = c.deref-3.ensures.value ∙ c.in-Ok.ensures.ok
-    ∙ (λ i. accounted (c.deref.ensures.value i) (blocks_of (c.deref-2.ensures.value i))) in
-    let inv = c.self.invariant.0 in
-    let fits : AreUsed (portions_of all) =
-    subst (λ (bs : List Block). AreUsed (portions_of bs)) is c.in-Ok-take_used.ensures.used in
-    let after : c.take_used.new.entities.allocator ≡ after_blocks s all =
-    c.in-Ok-take_used.ensures.ok ∙ ap (after_blocks s) is in
-    let start : s ≡ c.args.self.phase.start = ap (λ (p : Phase). p.phase.start) c.self.view_is in
-    subst (λ (u : Allocator). All (λ h. ¬ (IsLive u h)) c.take_used.new.entities.allocator.taken)
-    start
-    (subst (λ (t : Allocator). All (λ h. ¬ (IsLive s h)) t.taken) (sym after)
-    (used-not_live s all inv.sound inv.flushed closes.laid closes.within fits))
+returns-clause-not_live g c = search (rules, closing, used-not_live)
 
 pub returns-clause-brings_to_life : goal.returns-clause-brings_to_life
-returns-clause-brings_to_life g c =
-    let s = c.self.inside.entities.allocator in
-    let all = accounted c.self.inside.parts.items (blocks_of c.args.reservers.items) in
-    let closes = closing s c.self.inside.parts.items (blocks_of c.args.reservers.items)
-    c.self.invariant.0 in
-    let is : c.deref-3.result.now ≡ all = c.deref-3.ensures.value ∙ c.in-Ok.ensures.ok
-    ∙ (λ i. accounted (c.deref.ensures.value i) (blocks_of (c.deref-2.ensures.value i))) in
-    let inv = c.self.invariant.0 in
-    let fits : AreUsed (portions_of all) =
-    subst (λ (bs : List Block). AreUsed (portions_of bs)) is c.in-Ok-take_used.ensures.used in
-    let after : c.take_used.new.entities.allocator ≡ after_blocks s all =
-    c.in-Ok-take_used.ensures.ok ∙ ap (after_blocks s) is in
-    let start : s ≡ c.args.self.phase.start = ap (λ (p : Phase). p.phase.start) c.self.view_is in
-    subst (λ (u : Allocator). (h : Handle)
-    → IsLive (after_flush c.take_used.new.entities.allocator) h
-    ↔ (IsLive u h ⊎ Contains c.take_used.new.entities.allocator.taken h)) start
-    (subst (λ (t : Allocator). (h : Handle) → IsLive (after_flush t) h
-    ↔ (IsLive s h ⊎ Contains t.taken h)) (sym after)
-    (used-live s all inv.sound inv.flushed closes.laid closes.within fits))
+returns-clause-brings_to_life g c = search (rules, closing, used-live)
 
 pub returns-clause-waiting : goal.returns-clause-waiting
-returns-clause-waiting g c =
-    let s = c.self.inside.entities.allocator in
-    let bs = c.self.inside.parts.items in
-    let rs = blocks_of c.args.reservers.items in
-    let all = accounted bs rs in
-    let inv = c.self.invariant.0 in
-    let closes = closing s bs rs inv in
-    let is : c.deref-3.result.now ≡ all = c.deref-3.ensures.value ∙ c.in-Ok.ensures.ok
-    ∙ (λ i. accounted (c.deref.ensures.value i) (blocks_of (c.deref-2.ensures.value i))) in
-    let fits : AreUsed (portions_of all) =
-    subst (λ (bs : List Block). AreUsed (portions_of bs)) is c.in-Ok-take_used.ensures.used in
-    let after : c.take_used.new.entities.allocator ≡ after_blocks s all =
-    c.in-Ok-take_used.ensures.ok ∙ ap (after_blocks s) is in
-    let long : dealt all ≡ dealt bs = sym (dealt-unused all) ∙ ap dealt (unused_accounted 0 bs rs inv.laid) in
-    let most = waiting s all inv.sound inv.flushed closes.laid closes.within fits in
-    subst (λ (p : Phase). top c.take_used.new.entities.allocator
-    ≤ max (top p.phase.start) (dealt p.phase.blocks)) c.self.view_is
-    (omega (arith, ap top after, long, most))
+returns-clause-waiting g c = search (rules, closing, dealt-unused, unused_accounted, waiting)

@@ -1,3 +1,4 @@
+use Rattle.std.proofs.Common.{rules}
 use Rattle.std.proofs.Common.{◌≡◌, ◌∙◌, ℕ, ◌-◌, ◌∷◌, ◌++◌, [], sym, ap, subst, arith, List, All, length, map, sum}
 use Rattle.std.proofs.lemmas.List.Elements.{All-cons}
 use Rattle.ent_alloc.specs.Sequential.{Allocator, before_requests}
@@ -17,40 +18,24 @@ seen c =
     let o = c.self.inside in record { shared = o.shared; dealer = o.dealer; blocks = o.parts.items }
 
 own : (c : After-close-entities) → All (IsOf (seen c)) c.args.callers.items
-own c = subst (λ (q : Phase). All (IsOf q) c.args.callers.items) (sym c.self.view_is) c.requires.own
+own c = search rules
 
 -- what is handed to the shared allocator
 handed : (c : After-close-entities) → c.take_apart.new.reservers.items
     ≡ c.self.inside.dealer ∷ past_of c.args.callers.items
-handed c = c.take_apart.ensures.reservers
-    ∙ ap (λ (rs : List Reserver). rs ++ past_of c.args.callers.items)
-    (c.push_reserved.ensures.items
-    ∙ ap (λ (rs : List Reserver). rs ++ c.self.inside.dealer ∷ []) c.self.invariant.3)
+handed c = search rules
 
 -- what is known once it is closed
 known : (c : After-close-entities)
     → Ending (seen c) c.args.callers.items c.close-entities.result.allocator
-known c =
-    let e = c.close-entities.ensures in
-    let closed : Closed c.self.inside.shared.start (records_of c.take_apart.new.reservers.items)
-    c.close-entities.result.allocator = record {
-      legal = e.legal;
-      respects = e.respects;
-      after = e.after;
-      falls = e.falls;
-      numbers = e.numbers;
-    } in
-    ending (seen c) c.args.callers.items c.close-entities.result.allocator c.self.invariant.0
-    (own c)
-    (subst (λ (rs : List Reserver). Closed c.self.inside.shared.start (records_of rs)
-    c.close-entities.result.allocator) (handed c) closed)
+known c = let e = c.close-entities.ensures in let closed : Closed c.self.inside.shared.start (records_of c.take_apart.new.reservers.items) c.close-entities.result.allocator = search rules in ending (seen c) c.args.callers.items c.close-entities.result.allocator c.self.invariant.0 (own c) (subst (λ (rs : List Reserver). Closed c.self.inside.shared.start (records_of rs) c.close-entities.result.allocator) (handed c) closed)
 
 before_is : (c : After-close-entities) → c.dealt-before.result ≡ dealt c.self.inside.parts.items
 before_is c = c.dealt-before.ensures ∙ ap dealt c.deref.ensures.value
 
 all_are : (c : After-close-entities)
     → map unused (blocks_of c.args.callers.items) ≡ c.self.inside.parts.items
-all_are c = c.requires.all ∙ sym (ap (λ (q : Phase). q.blocks) c.self.view_is)
+all_are c = search rules
 
 start_is : (c : After-close-entities) (t : Allocator)
     → t ≡ before_requests c.close-entities.result.allocator → t ≡ c.self.inside.shared.start
@@ -62,32 +47,10 @@ ends_are : (c : After-close-entities) (reserved : ℕ) (ends : List Block)
     ++ past_block c.dealt-before.result (reserved - c.dealt-before.result)
     → ends ≡ blocks_of c.args.callers.items ++ past_block (dealt c.self.inside.parts.items)
     (length (given_in (past_history c.args.callers.items)))
-ends_are c reserved ends taken is =
-    let k = known c in
-    let before = before_is c in
-    let first : c.take_apart.new.ends.items ≡ blocks_of c.args.callers.items =
-    c.take_apart.ensures.ends
-    ∙ ap (λ (bs : List Block). bs ++ blocks_of c.args.callers.items) c.self.invariant.1 in
-    let given : reserved - c.dealt-before.result
-    ≡ length (given_in (past_history c.args.callers.items)) =
-    omega (arith, before, taken, k.taken) in
-    is ∙ (λ i. first i ++ past_block (before i) (given i))
+ends_are c reserved ends taken is = let k = known c in let before = before_is c in let first : c.take_apart.new.ends.items ≡ blocks_of c.args.callers.items = search rules in let given : reserved - c.dealt-before.result ≡ length (given_in (past_history c.args.callers.items)) = omega (arith, before, taken, k.taken) in is ∙ (λ i. first i ++ past_block (before i) (given i))
 
 pub close-entities-requires-clause-own : goal.close-entities-requires-clause-own
-close-entities-requires-clause-own c =
-    let o = c.self.inside in
-    let seen : Phase =
-    record { shared = o.shared; dealer = o.dealer; blocks = o.parts.items } in
-    let own : All (IsOf seen) c.args.callers.items =
-    subst (λ (q : Phase). All (IsOf q) c.args.callers.items) (sym c.self.view_is) c.requires.own in
-    let handed : c.take_apart.new.reservers.items
-    ≡ o.dealer ∷ past_of c.args.callers.items = c.take_apart.ensures.reservers
-    ∙ ap (λ (rs : List Reserver). rs ++ past_of c.args.callers.items)
-    (c.push_reserved.ensures.items
-    ∙ ap (λ (rs : List Reserver). rs ++ o.dealer ∷ []) c.self.invariant.3) in
-    subst (All (IsReserverOf o.shared)) (sym handed)
-    (All-cons (IsReserverOf o.shared) o.dealer (past_of c.args.callers.items) c.self.invariant.0.of
-    (own_past seen c.args.callers.items own))
+close-entities-requires-clause-own c = let o = c.self.inside in let seen : Phase = record { shared = o.shared; dealer = o.dealer; blocks = o.parts.items } in let own : All (IsOf seen) c.args.callers.items = subst (λ (q : Phase). All (IsOf q) c.args.callers.items) (sym c.self.view_is) c.requires.own in let handed : c.take_apart.new.reservers.items ≡ o.dealer ∷ past_of c.args.callers.items = search rules in subst (All (IsReserverOf o.shared)) (sym handed) (All-cons (IsReserverOf o.shared) o.dealer (past_of c.args.callers.items) c.self.invariant.0.of (own_past seen c.args.callers.items own))
 
 pub overflow_sub-requested : goal.overflow_sub-requested
 overflow_sub-requested c =
@@ -106,44 +69,13 @@ overflow_sub-given c =
     omega (arith, before_is (goal.at.overflow_sub-given c).After-close-entities, c.reserved.ensures, k.taken)
 
 pub new-requires : goal.new-requires
-new-requires c =
-    let k = known (goal.at.new-requires c).After-close-entities in
-    let lie = c.self.invariant.0.lie in
-    let n = length (given_in (past_history c.args.callers.items)) in
-    let all = all_are (goal.at.new-requires c).After-close-entities in
-    let b = (goal.at.new-requires c).After-close-entities in
-    let start = start_is b c.cancel_requests.new.entities.allocator
-    c.cancel_requests.ensures.cancelled in
-    let ends = ends_are b c.reserved.result c.append_past.new.ends.items c.reserved.ensures
-    c.append_past.ensures in
-    record {
-      sound = subst IsSound (sym start) lie.sound;
-      flushed = ap (λ (s : Allocator). s.asked) start ∙ lie.flushed;
-      laid = subst (λ (bs : List Block). AreLaid 0 (map unused bs)) (sym ends)
-          (ends_laid c.self.inside.parts.items (blocks_of c.args.callers.items) lie.laid all n);
-      within = omega (
-        arith,
-        ap dealt ends,
-        ends_dealt c.self.inside.parts.items (blocks_of c.args.callers.items) lie.laid all n,
-        ap (λ (s : Allocator). length s.pool) start,
-        k.within,
-      );
-    }
+new-requires c = let k = known (goal.at.new-requires c).After-close-entities in let lie = c.self.invariant.0.lie in let n = length (given_in (past_history c.args.callers.items)) in let all = all_are (goal.at.new-requires c).After-close-entities in let b = (goal.at.new-requires c).After-close-entities in let start = start_is b c.cancel_requests.new.entities.allocator c.cancel_requests.ensures.cancelled in let ends = ends_are b c.reserved.result c.append_past.new.ends.items c.reserved.ensures c.append_past.ensures in record { sound = subst IsSound (sym start) lie.sound; flushed = ap (λ (s : Allocator). s.asked) start ∙ lie.flushed; laid = search (rules, ends_laid); within = omega (arith, ap dealt ends, ends_dealt c.self.inside.parts.items (blocks_of c.args.callers.items) lie.laid all n, ap (λ (s : Allocator). length s.pool) start, k.within) }
 
 pub returns-clause-start : goal.returns-clause-start
-returns-clause-start c =
-    ap (λ (e : Ended). e.phase.start) c.new.ensures
-    ∙ start_is (goal.at.returns-clause-start c).After-close-entities
-    c.cancel_requests.new.entities.allocator c.cancel_requests.ensures.cancelled
-    ∙ ap (λ (q : Phase). q.shared.start) c.self.view_is
+returns-clause-start c = search (rules, start_is)
 
 pub returns-clause-blocks : goal.returns-clause-blocks
-returns-clause-blocks c =
-    ap (λ (e : Ended). e.phase.blocks) c.new.ensures
-    ∙ ends_are (goal.at.returns-clause-blocks c).After-close-entities c.reserved.result
-    c.append_past.new.ends.items c.reserved.ensures c.append_past.ensures
-    ∙ ap (λ (q : Phase). blocks_of c.args.callers.items ++ past_block (dealt q.blocks)
-    (length (given_in (past_history c.args.callers.items)))) c.self.view_is
+returns-clause-blocks c = search (rules, ends_are)
 
 -- the same of the phase as it was handed in
 known_of : (c : After-close-entities)
@@ -156,7 +88,7 @@ pub returns-clause-handles : goal.returns-clause-handles
 returns-clause-handles c = (known_of (goal.at.returns-clause-handles c).After-close-entities).handles
 
 pub returns-clause-legal : goal.returns-clause-legal
-returns-clause-legal c = (known_of (goal.at.returns-clause-legal c).After-close-entities).legal
+returns-clause-legal c = search (rules, known_of)
 
 pub returns-clause-in_order : goal.returns-clause-in_order
 returns-clause-in_order c = (known_of (goal.at.returns-clause-in_order c).After-close-entities).in_order
@@ -165,21 +97,7 @@ pub returns-clause-falls : goal.returns-clause-falls
 returns-clause-falls c = (known_of (goal.at.returns-clause-falls c).After-close-entities).falls
 
 pub returns-clause-requested : goal.returns-clause-requested
-returns-clause-requested c =
-    let k = known (goal.at.returns-clause-requested c).After-close-entities in
-    ap (λ (e : Ended). e.requested) c.new.ensures
-    ∙ omega (
-      arith,
-      c.from.ensures,
-      before_is (goal.at.returns-clause-requested c).After-close-entities,
-      c.asked.ensures.value,
-      k.asked,
-    )
+returns-clause-requested c = let k = known (goal.at.returns-clause-requested c).After-close-entities in search (rules, before_is)
 
 pub returns-clause-alone : goal.returns-clause-alone
-returns-clause-alone c =
-    let is = returns-clause-requested c in
-    let k = known (goal.at.returns-clause-alone c).After-close-entities in (
-      λ none. k.none (sym is ∙ none),
-      λ nothing. is ∙ ap (λ (cs : List Call). sum (requests_of cs)) nothing,
-    )
+returns-clause-alone c = let is = returns-clause-requested c in let k = known (goal.at.returns-clause-alone c).After-close-entities in search rules
