@@ -1,4 +1,5 @@
 -- What is said of a trace whose first line can't be. The edits in must-fail/ say something else of it.
+use Rattle.std.proofs.Common.{rules}
 use Rattle.std.proofs.Common.{◌≡◌, ℕ, ◌+◌, ◌^◌, ◌<◌, List, [], ◌∷◌, ◌++◌, length, take, None}
 use Rattle.std.proofs.Common.{Some, Ok, Err, refl, sym, ap, subst, arith}
 use Rattle.std.specs.Prelude.{Bool, true, false, nat_le, if◌then◌else◌}
@@ -39,17 +40,13 @@ none_refused true x e is fits = fits
 none_refused false x e is fits = grind arith
 
 never_fits : (number caller : ℕ) (s : Allocator) → Fits s (line.Reserve (never number caller)) → ⊥
-never_fits number caller s fits =
-    let some : nat_le 0 (length s.pool) ≡ true = grind arith in
-    none_refused (nat_le 0 (length s.pool)) (listed s.made (take 0 s.pool))
-    (record { wanted = 0; left = length s.pool }) some fits
+never_fits number caller s fits = search (rules, none_refused)
 
 -- a line that fits nowhere stands in no trace that agrees
 dead : (l : Call) → ((s : Allocator) → Fits s l → ⊥) → (order rest : List Call) (s : Allocator)
     → IsOrderOf (l ∷ rest) order → AreAnswered s order → ⊥
 dead l unfit [] rest s is answered = subst IsCons is tt
-dead l unfit (k ∷ order) rest s ([], after, parts, passes, more) answered =
-    unfit s (subst (Fits s) (sym (ap (first_of l) parts)) answered.0)
+dead l unfit (k ∷ order) rest s ([], after, parts, passes, more) answered = search rules
 dead l unfit (k ∷ order) rest s (x ∷ before, after, parts, passes, more) answered =
     dead l unfit order (before ++ after) (after_line s k)
     (subst (λ (y : Call). IsOrderOf (y ∷ (before ++ after)) order) (sym (ap (first_of l) parts)) more)
@@ -64,8 +61,7 @@ named = never 1 1
 
 no_order : (s : Allocator) (order : List Call) → IsOrderOf (line.Reserve named ∷ []) order
     → AreAnswered s order → ⊥
-no_order s order is answered =
-    dead (line.Reserve named) (never_fits named.number named.caller) order [] s is answered
+no_order s order is answered = search (rules, dead, never_fits)
 
 abbrev rest_of : List Call → List Call
 rest_of [] = []

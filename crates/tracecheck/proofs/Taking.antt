@@ -73,11 +73,7 @@ requested_next old new (line.Len told) reaches = requested-len old new told reac
 
 few_next : (old : Checked) (l : Call) → requested_by old ≤ 2 ^ 50 → (IsTooMany old l → ⊥)
     → requested_after (requested_by old) l ≤ 2 ^ 50
-few_next old (line.Reserve r) few more = elim
-    (cases_lt (2 ^ 50) (old.allocator.asked + requested_in old.run + r.requested)) [
-      | inl many ↦ absurd (more many)
-      | inr within ↦ within
-    ]
+few_next old (line.Reserve r) few more = search (rules, cases_lt)
 few_next old (line.Flush told) few more = omega arith
 few_next old (line.Alloc told) few more = few
 few_next old (line.Free h told) few more = few
