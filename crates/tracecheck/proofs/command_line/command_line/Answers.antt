@@ -1,3 +1,6 @@
+use Rattle.std.proofs.Common.{rules}
+use Rattle.std.proofs.Common.{arith}
+use Rattle.std.proofs.lemmas.Grind.{common_steps}
 use Rattle.std.proofs.Common.{◌≡◌, ◌∙◌, List, ℕ, true, ap, map, subst}
 use Rattle.std.specs.Prelude.{IfOk}
 use Rattle.clap.specs.Words.{App, takes}
@@ -21,18 +24,13 @@ returns-in_err-matches-clause-fault g c =
     c.from_residual-in_err-matches.ensures.1 c.in_err-matches.ensures.kinds
 
 pub beginning_of-requires-clause-slots : goal.beginning_of-requires-clause-slots
-beginning_of-requires-clause-slots g c =
-    slots-given _ _ c.in_ok-program.ensures c.in_ok-matches.ensures.parsed
+beginning_of-requires-clause-slots g c = search (rules, slots-given)
 
 pub beginning_of-requires-clause-generations : goal.beginning_of-requires-clause-generations
-beginning_of-requires-clause-generations g c =
-    generations-given _ _ c.in_ok-program.ensures c.in_ok-matches.ensures.parsed
+beginning_of-requires-clause-generations g c = search (rules, generations-given)
 
 pub returns-clause-asked : goal.returns-clause-asked
-returns-clause-asked g c =
-    subst (λ rows. IfOk c.beginning_of.result (HasBeginning rows))
-    (rows_asked _ (map g.S.AsStr.text c.args.words.now) _ c.in_ok-program.ensures
-    c.in_ok-matches.ensures.matches) c.beginning_of.ensures.asked
+returns-clause-asked g c = grind (arith, common_steps, rows_asked)
 
 pub returns-clause-taken : goal.returns-clause-taken
 returns-clause-taken g c =
