@@ -106,41 +106,7 @@ module _ (limits : Limits) (one two : List ℕ)
     (read : calls_from 1 (one ∷ []) ≡ Ok (line.Reserve first ∷ [])) where
   pub names_the_first : line_of 2 (words_of two) ≡ Ok (Some (line.Flush None))
       → IsVerdict (opening limits) (one ∷ two ∷ []) (verdict.Differs (said limits))
-  names_the_first is = differs (said limits) (record {
-    number = 2;
-    calls = line.Reserve first ∷ [];
-    next = line.Flush None;
-    stands = record {
-      before = one ∷ [];
-      text = two;
-      after = [];
-      is = refl;
-      number_is = refl;
-      read = read;
-      named = is;
-    };
-    checked = record { allocator = state limits; run = named ∷ [] };
-    reached = (record { allocator = opening limits; run = first ∷ [] }, refl, refl);
-    shows = record {
-      placed = [];
-      next = line.Reserve named;
-      left = line.Flush None ∷ [];
-      is_order = ([], line.Flush None ∷ [], refl, tt, ([], [], refl, tt, refl));
-      answered = tt;
-      differs = record {
-        unlike = never_fits named.number named.caller (state limits);
-        expected = grind (arith, common_steps);
-        number_is = refl;
-        told_is = refl;
-        front_is = refl;
-        cursor_is = refl;
-      };
-      stuck = only_first (state limits);
-      blamed = no_order (state limits);
-    };
-    none = λ rest a. dead (line.Reserve first) (never_fits 1 1) a.order (line.Flush None ∷ rest)
-        (opening limits) a.is_order a.answered;
-  })
+  names_the_first is = differs (said limits) (record { number = 2; calls = line.Reserve first ∷ []; next = line.Flush None; stands = record { before = one ∷ []; text = two; after = []; is = refl; number_is = refl; read = read; named = is }; checked = record { allocator = state limits; run = named ∷ [] }; reached = (record { allocator = opening limits; run = first ∷ [] }, refl, refl); shows = record { placed = []; next = line.Reserve named; left = line.Flush None ∷ []; is_order = ([], line.Flush None ∷ [], refl, tt, ([], [], refl, tt, refl)); answered = tt; differs = record { unlike = never_fits named.number named.caller (state limits); expected = grind (arith, common_steps); number_is = refl; told_is = refl; front_is = refl; cursor_is = refl }; stuck = only_first (state limits); blamed = no_order (state limits) }; none = search (rules, dead, never_fits) })
 
 -- a trace is refused for its requests since the last flush
 pub refuses_too_many : (limits : Limits) (texts after : List (List ℕ)) (text : List ℕ) (r : Reservation)
@@ -149,20 +115,4 @@ pub refuses_too_many : (limits : Limits) (texts after : List (List ℕ)) (text :
     → 2 ^ 50 < requested_from 0 (h.calls ++ line.Reserve r ∷ [])
     → IsVerdict (opening limits) (texts ++ text ∷ after)
     (verdict.Refused (length texts + 1) refusal.Requests)
-refuses_too_many limits texts after text r old h named many = asks_too_many (length texts + 1) (record {
-  calls = h.calls;
-  next = line.Reserve r;
-  stands = record {
-    before = texts;
-    text = text;
-    after = after;
-    is = refl;
-    number_is = refl;
-    read = h.read;
-    named = named;
-  };
-  checked = old.comparer;
-  reached = h.reached;
-  few = h.few;
-  many = many;
-})
+refuses_too_many limits texts after text r old h named many = asks_too_many (length texts + 1) (record { calls = h.calls; next = line.Reserve r; stands = search rules; checked = old.comparer; reached = h.reached; few = h.few; many = many })
