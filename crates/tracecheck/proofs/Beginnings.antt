@@ -1,4 +1,5 @@
 -- What a parse says of where a trace begins, and the fault of limits beside an image.
+use Rattle.std.proofs.Common.{rules}
 use Rattle.std.proofs.Common.{◌≡◌, ◌∙◌, ◌∷◌, [], List, Bool, true, false, Option, Some, None, refl, sym, ap}
 use Rattle.std.proofs.Common.{subst, codes}
 use Rattle.std.proofs.lemmas.Bool.{false≢true}
@@ -47,15 +48,13 @@ source-rows f option = go (find (λ (e : Entry). bytes_eq e.0.now option) f.entr
 pub text-rows : (f : Found) (option : Text) (r found : Option (Bor Text))
     → option_map (λ s. s.now) r ≡ first_value f option → r ≡ found
     → first_of option (rows_of f) ≡ option_map (λ s. s.now) found
-text-rows f option r found reads is =
-    sym (first_value-rows f option) ∙ (sym reads ∙ ap (option_map (λ s. s.now)) is)
+text-rows f option r found reads is = search (rules, first_value-rows)
 
 -- ---- the words
 
 pub rows_asked : (app : App) (words : List Text) (m : ArgMatches) → app ≡ program
     → HasMatchesOf app words m → given m ≡ matches_of program words
-rows_asked app words m is matches =
-    (matches (ap is_simple is ∙ program-simple)).0 ∙ ap (λ (a : App). matches_of a words) is
+rows_asked app words m is matches = search (rules, program-simple)
 
 pub name_asked : (words : List Text) (f : Found) (r : Option (Bor Text))
     → option_map (λ s. s.now) r ≡ first_value f (codes "from") → rows_of f ≡ matches_of program words
@@ -67,8 +66,7 @@ name_asked words f (Some name) reads are =
 
 pub faultless : (app : App) (words : List Text) → app ≡ program
     → (is_simple_and_free app ≡ true → fault_of app words ≡ []) → fault_of program words ≡ []
-faultless app words is kinds =
-    ap (λ (a : App). fault_of a words) (sym is) ∙ kinds (is_free app is)
+faultless app words is kinds = search (rules, is_free)
 
 left_true : (a b : Bool) → (a && b) ≡ true → a ≡ true
 left_true true b e = refl
@@ -99,15 +97,12 @@ clap_fault r error app words is fault kinds =
 fault_of_both : (words : List Text) → fault_of program words ≡ []
     → (both : Bool) → has_both (matches_of program words) ≡ both
     → fault_in words ≡ (if both then ArgumentConflict ∷ [] else [])
-fault_of_both words none both is =
-    ap (λ kinds. or_else kinds (both_fault (matches_of program words))) none
-    ∙ ap (λ (b : Bool). if b then ArgumentConflict ∷ [] else []) is
+fault_of_both words none both is = search rules
 
 pub faultless_of_one : (r : Result Beginning LineFault) (words : List Text) (rows : List Row)
     → rows ≡ matches_of program words → fault_of program words ≡ []
     → OnOk r (has_both rows ≡ false) → OnOk r (fault_in words ≡ [])
-faultless_of_one (Ok begin) words rows are none one =
-    fault_of_both words none false (ap has_both (sym are) ∙ one)
+faultless_of_one (Ok begin) words rows are none one = search (rules, fault_of_both)
 faultless_of_one (Err fault) words rows are none one = tt
 
 pub faulty_of_both : (r : Result Beginning LineFault) (words : List Text) (rows : List Row)
@@ -115,9 +110,7 @@ pub faulty_of_both : (r : Result Beginning LineFault) (words : List Text) (rows 
     → OnErr r (has_both rows ≡ true) → IfErr r (IsFaultAmong (ArgumentConflict ∷ []))
     → IfErr r (IsFaultIn words)
 faulty_of_both (Ok begin) words rows are none both fault = tt
-faulty_of_both (Err why) words rows are none both fault =
-    subst (λ kinds. IsFaultAmong kinds why)
-    (sym (fault_of_both words none true (ap has_both (sym are) ∙ both))) fault
+faulty_of_both (Err why) words rows are none both fault = search (rules, fault_of_both)
 
 -- such words are not taken
 not_both : (a b : Bool) → (a && not b) ≡ true → b ≡ true → ⊥
@@ -129,6 +122,4 @@ pub both_not_taken : (r : Result Beginning LineFault) (words : List Text) (rows 
     → rows ≡ matches_of program words → OnErr r (has_both rows ≡ true)
     → IfErr r (λ fault. is_taken words ≡ true → fault ≡ Memory)
 both_not_taken (Ok begin) words rows are both = tt
-both_not_taken (Err fault) words rows are both = λ taken.
-    absurd (not_both (takes program words) (has_both (matches_of program words)) taken
-    (ap has_both (sym are) ∙ both))
+both_not_taken (Err fault) words rows are both = search (rules, not_both)

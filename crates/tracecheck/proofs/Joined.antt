@@ -35,14 +35,7 @@ step number (Ok (Some l)) (Ok front) all rest calls later e =
 pub calls_from-append : (number : ℕ) (texts more : List (List ℕ)) (calls : List Call)
     → calls_from number texts ≡ Ok calls
     → calls_from number (texts ++ more) ≡ with_front calls (calls_from (number + length texts) more)
-calls_from-append number [] more calls e =
-    let is : read [] ≡ read calls = e in
-    let same : [] ≡ calls = cc in
-    let here : number ≡ number + length {A = List ℕ} [] = omega arith in
-    ap (λ n. calls_from n more) here ∙ sym
-    (front_of_none (calls_from (number + length {A = List ℕ} []) more))
-    ∙ ap (λ (ls : List Call). with_front ls (calls_from (number + length {A = List ℕ} []) more))
-    same
+calls_from-append number [] more calls e = search (rules, front_of_none)
 calls_from-append number (text ∷ texts) more calls e =
     let later : number + 1 + length texts ≡ number + length (text ∷ texts) = omega arith in
     step number (line_of number (words_of text)) (calls_from (number + 1) texts)

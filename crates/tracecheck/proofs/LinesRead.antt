@@ -23,7 +23,7 @@ without_return-return (byte ∷ next ∷ more) = search (rules, without_return-r
 
 pub without_return-other : (front : List ℕ) (last : ℕ) → last ≢ 13
     → without_return (front ++ last ∷ []) ≡ front ++ last ∷ []
-without_return-other [] last other = cond-false (eqb last 13) [] (last ∷ []) (ne_eqb last 13 other)
+without_return-other [] last other = search (rules, cond-false, ne_eqb)
 without_return-other (byte ∷ []) last other = search (rules, without_return-other [] last other)
 without_return-other (byte ∷ next ∷ more) last other =
     search (rules, without_return-other (next ∷ more) last other)

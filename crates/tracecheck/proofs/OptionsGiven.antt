@@ -217,7 +217,7 @@ number-given cmd m is p k option most default below at alone named own =
 
 -- a text that differs from another
 differs : (a b : Text) → bytes_eq a b ≡ false → bytes_eq b b ≡ true → a ≡ b → ⊥
-differs a b other same e = false≢true (sym other ∙ (ap (λ text. bytes_eq text b) e ∙ same))
+differs a b other same e = search (rules, false≢true)
 
 slots-alone : Alone 0 (codes "slots")
 slots-alone zero e lt same = refl

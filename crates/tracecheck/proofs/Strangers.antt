@@ -1,4 +1,5 @@
 -- What is said of a trace whose first line can't be. The edits in must-fail/ say something else of it.
+use Rattle.std.proofs.Common.{rules}
 use Rattle.std.proofs.Common.{◌≡◌, ℕ, ◌+◌, ◌^◌, ◌<◌, List, [], ◌∷◌, ◌++◌, length, take, None}
 use Rattle.std.proofs.Common.{Some, Ok, Err, refl, sym, ap, subst, arith}
 use Rattle.std.specs.Prelude.{Bool, true, false, nat_le, if◌then◌else◌}
@@ -39,17 +40,13 @@ none_refused true x e is fits = fits
 none_refused false x e is fits = grind arith
 
 never_fits : (number caller : ℕ) (s : Allocator) → Fits s (line.Reserve (never number caller)) → ⊥
-never_fits number caller s fits =
-    let some : nat_le 0 (length s.pool) ≡ true = grind arith in
-    none_refused (nat_le 0 (length s.pool)) (listed s.made (take 0 s.pool))
-    (record { wanted = 0; left = length s.pool }) some fits
+never_fits number caller s fits = search (rules, none_refused)
 
 -- a line that fits nowhere stands in no trace that agrees
 dead : (l : Call) → ((s : Allocator) → Fits s l → ⊥) → (order rest : List Call) (s : Allocator)
     → IsOrderOf (l ∷ rest) order → AreAnswered s order → ⊥
 dead l unfit [] rest s is answered = subst IsCons is tt
-dead l unfit (k ∷ order) rest s ([], after, parts, passes, more) answered =
-    unfit s (subst (Fits s) (sym (ap (first_of l) parts)) answered.0)
+dead l unfit (k ∷ order) rest s ([], after, parts, passes, more) answered = search rules
 dead l unfit (k ∷ order) rest s (x ∷ before, after, parts, passes, more) answered =
     dead l unfit order (before ++ after) (after_line s k)
     (subst (λ (y : Call). IsOrderOf (y ∷ (before ++ after)) order) (sym (ap (first_of l) parts)) more)
@@ -64,8 +61,7 @@ named = never 1 1
 
 no_order : (s : Allocator) (order : List Call) → IsOrderOf (line.Reserve named ∷ []) order
     → AreAnswered s order → ⊥
-no_order s order is answered =
-    dead (line.Reserve named) (never_fits named.number named.caller) order [] s is answered
+no_order s order is answered = search (rules, dead, never_fits)
 
 abbrev rest_of : List Call → List Call
 rest_of [] = []
@@ -110,41 +106,7 @@ module _ (limits : Limits) (one two : List ℕ)
     (read : calls_from 1 (one ∷ []) ≡ Ok (line.Reserve first ∷ [])) where
   pub names_the_first : line_of 2 (words_of two) ≡ Ok (Some (line.Flush None))
       → IsVerdict (opening limits) (one ∷ two ∷ []) (verdict.Differs (said limits))
-  names_the_first is = differs (said limits) (record {
-    number = 2;
-    calls = line.Reserve first ∷ [];
-    next = line.Flush None;
-    stands = record {
-      before = one ∷ [];
-      text = two;
-      after = [];
-      is = refl;
-      number_is = refl;
-      read = read;
-      named = is;
-    };
-    checked = record { allocator = state limits; run = named ∷ [] };
-    reached = (record { allocator = opening limits; run = first ∷ [] }, refl, refl);
-    shows = record {
-      placed = [];
-      next = line.Reserve named;
-      left = line.Flush None ∷ [];
-      is_order = ([], line.Flush None ∷ [], refl, tt, ([], [], refl, tt, refl));
-      answered = tt;
-      differs = record {
-        unlike = never_fits named.number named.caller (state limits);
-        expected = grind (arith, common_steps);
-        number_is = refl;
-        told_is = refl;
-        front_is = refl;
-        cursor_is = refl;
-      };
-      stuck = only_first (state limits);
-      blamed = no_order (state limits);
-    };
-    none = λ rest a. dead (line.Reserve first) (never_fits 1 1) a.order (line.Flush None ∷ rest)
-        (opening limits) a.is_order a.answered;
-  })
+  names_the_first is = differs (said limits) (record { number = 2; calls = line.Reserve first ∷ []; next = line.Flush None; stands = record { before = one ∷ []; text = two; after = []; is = refl; number_is = refl; read = read; named = is }; checked = record { allocator = state limits; run = named ∷ [] }; reached = (record { allocator = opening limits; run = first ∷ [] }, refl, refl); shows = record { placed = []; next = line.Reserve named; left = line.Flush None ∷ []; is_order = ([], line.Flush None ∷ [], refl, tt, ([], [], refl, tt, refl)); answered = tt; differs = record { unlike = never_fits named.number named.caller (state limits); expected = grind (arith, common_steps); number_is = refl; told_is = refl; front_is = refl; cursor_is = refl }; stuck = only_first (state limits); blamed = no_order (state limits) }; none = search (rules, dead, never_fits) })
 
 -- a trace is refused for its requests since the last flush
 pub refuses_too_many : (limits : Limits) (texts after : List (List ℕ)) (text : List ℕ) (r : Reservation)
@@ -153,20 +115,4 @@ pub refuses_too_many : (limits : Limits) (texts after : List (List ℕ)) (text :
     → 2 ^ 50 < requested_from 0 (h.calls ++ line.Reserve r ∷ [])
     → IsVerdict (opening limits) (texts ++ text ∷ after)
     (verdict.Refused (length texts + 1) refusal.Requests)
-refuses_too_many limits texts after text r old h named many = asks_too_many (length texts + 1) (record {
-  calls = h.calls;
-  next = line.Reserve r;
-  stands = record {
-    before = texts;
-    text = text;
-    after = after;
-    is = refl;
-    number_is = refl;
-    read = h.read;
-    named = named;
-  };
-  checked = old.comparer;
-  reached = h.reached;
-  few = h.few;
-  many = many;
-})
+refuses_too_many limits texts after text r old h named many = asks_too_many (length texts + 1) (record { calls = h.calls; next = line.Reserve r; stands = search rules; checked = old.comparer; reached = h.reached; few = h.few; many = many })

@@ -41,20 +41,7 @@ pub HasTaken-none : (begin : Allocator) (texts : List (List ℕ)) (text : List �
     (number : ℕ) → number ≡ old.lines + 1 → new.lines ≡ number → new.given ≡ old.given
     → new.comparer ≡ old.comparer → line_of number (words_of text) ≡ Ok None
     → HasTaken begin texts old → HasTaken begin (texts ++ text ∷ []) new
-HasTaken-none begin texts text old new number next lines given same named h =
-    let here : number ≡ 1 + length texts = omega (arith, h.lines) in
-    record {
-      calls = h.calls;
-      read = next_call texts text h.calls (Ok None) (Ok []) h.read
-          (ap (λ n. line_of n (words_of text)) (sym here) ∙ named) refl
-          ∙ ap (λ (ls : List Call). Ok ls) (append-nil h.calls);
-      follow = subst (AllFollow (begun begin) h.calls) (sym same) h.follow;
-      reached = subst (ReachesAll (begun begin) h.calls) (sym same) h.reached;
-      requested = ap requested_by same ∙ h.requested;
-      few = h.few;
-      lines = omega (arith, h.lines, length-append texts (text ∷ []));
-      given = given ∙ h.given;
-    }
+HasTaken-none begin texts text old new number next lines given same named h = let here : number ≡ 1 + length texts = omega (arith, h.lines) in record { calls = h.calls; read = next_call texts text h.calls (Ok None) (Ok []) h.read (ap (λ n. line_of n (words_of text)) (sym here) ∙ named) refl ∙ ap (λ (ls : List Call). Ok ls) (append-nil h.calls); follow = subst (AllFollow (begun begin) h.calls) (sym same) h.follow; reached = search rules; requested = ap requested_by same ∙ h.requested; few = h.few; lines = omega (arith, h.lines, length-append texts (text ∷ [])); given = given ∙ h.given }
 
 -- what is requested with one more call
 requested_from-append : (n : ℕ) (calls : List Call) (l : Call) → requested_from n (calls ++ l ∷ [])
@@ -73,11 +60,7 @@ requested_next old new (line.Len told) reaches = requested-len old new told reac
 
 few_next : (old : Checked) (l : Call) → requested_by old ≤ 2 ^ 50 → (IsTooMany old l → ⊥)
     → requested_after (requested_by old) l ≤ 2 ^ 50
-few_next old (line.Reserve r) few more = elim
-    (cases_lt (2 ^ 50) (old.allocator.asked + requested_in old.run + r.requested)) [
-      | inl many ↦ absurd (more many)
-      | inr within ↦ within
-    ]
+few_next old (line.Reserve r) few more = search (rules, cases_lt)
 few_next old (line.Flush told) few more = omega arith
 few_next old (line.Alloc told) few more = few
 few_next old (line.Free h told) few more = few
@@ -100,22 +83,7 @@ pub HasTaken-call : (begin : Allocator) (texts : List (List ℕ)) (text : List �
     → Reaches old.comparer l new.comparer → (IsTooMany old.comparer l → ⊥)
     → line_of number (words_of text) ≡ Ok (Some l)
     → HasTaken begin texts old → HasTaken begin (texts ++ text ∷ []) new
-HasTaken-call begin texts text l old new number next lines given follows reaches more named h =
-    let here : number ≡ 1 + length texts = omega (arith, h.lines) in
-    record {
-      calls = h.calls ++ l ∷ [];
-      read = next_call texts text h.calls (Ok (Some l)) (Ok (l ∷ [])) h.read
-          (ap (λ n. line_of n (words_of text)) (sym here) ∙ named) refl;
-      follow = AllFollow-call (begun begin) old.comparer new.comparer h.calls l h.follow follows;
-      reached = ReachesAll-next (begun begin) old.comparer new.comparer h.calls l h.reached reaches;
-      requested = requested_next old.comparer new.comparer l reaches
-          ∙ ap (λ n. requested_after n l) h.requested ∙ sym (requested_from-append begin.asked h.calls l);
-      few = subst (λ n. n ≤ 2 ^ 50)
-          (ap (λ n. requested_after n l) h.requested ∙ sym (requested_from-append begin.asked h.calls l))
-          (few_next old.comparer l (subst (λ n. n ≤ 2 ^ 50) (sym h.requested) h.few) more);
-      lines = omega (arith, h.lines, length-append texts (text ∷ []));
-      given = omega (arith, h.given, given, sum_by_push given_in h.calls l);
-    }
+HasTaken-call begin texts text l old new number next lines given follows reaches more named h = let here : number ≡ 1 + length texts = omega (arith, h.lines) in record { calls = h.calls ++ l ∷ []; read = next_call texts text h.calls (Ok (Some l)) (Ok (l ∷ [])) h.read (ap (λ n. line_of n (words_of text)) (sym here) ∙ named) refl; follow = AllFollow-call (begun begin) old.comparer new.comparer h.calls l h.follow follows; reached = ReachesAll-next (begun begin) old.comparer new.comparer h.calls l h.reached reaches; requested = requested_next old.comparer new.comparer l reaches ∙ ap (λ n. requested_after n l) h.requested ∙ sym (requested_from-append begin.asked h.calls l); few = search (rules, requested_from-append, few_next); lines = omega (arith, h.lines, length-append texts (text ∷ [])); given = omega (arith, h.given, given, sum_by_push given_in h.calls l) }
 
 stands : (begin : Allocator) (texts after : List (List ℕ)) (text : List ℕ) (l : Call) (old : Checking)
     (number : ℕ) → number ≡ old.lines + 1 → line_of number (words_of text) ≡ Ok (Some l)
@@ -143,17 +111,7 @@ pub asks_here : (begin : Allocator) (texts after : List (List ℕ)) (text : List
     → line_of number (words_of text) ≡ Ok (Some l) → IsTooMany old.comparer l
     → HasTaken begin texts old
     → IsVerdict begin (texts ++ text ∷ after) (verdict.Refused number refusal.Requests)
-asks_here begin texts after text l old number next named many h = asks_too_many number (record {
-  calls = h.calls;
-  next = l;
-  stands = stands begin texts after text l old number next named h;
-  checked = old.comparer;
-  reached = h.reached;
-  few = h.few;
-  many = subst (λ n. 2 ^ 50 < n)
-      (ap (λ n. requested_after n l) h.requested ∙ sym (requested_from-append begin.asked h.calls l))
-      (many_next old.comparer l many);
-})
+asks_here begin texts after text l old number next named many h = asks_too_many number (record { calls = h.calls; next = l; stands = stands begin texts after text l old number next named h; checked = old.comparer; reached = h.reached; few = h.few; many = search (rules, requested_from-append, many_next) })
 
 pub none_here : (begin : Allocator) (texts after : List (List ℕ)) (text : List ℕ) (c : Cause)
     (old : Checking) (number : ℕ) → number ≡ old.lines + 1

@@ -1,3 +1,6 @@
+use Rattle.std.proofs.Common.{rules}
+use Rattle.std.proofs.Common.{arith}
+use Rattle.std.proofs.lemmas.Grind.{common_steps}
 use Rattle.std.proofs.Common.{◌≡◌, ◌∙◌, List, ℕ, true, ap, map, subst}
 use Rattle.std.specs.Prelude.{IfOk}
 use Rattle.clap.specs.Words.{App, takes}
@@ -9,11 +12,7 @@ use Rattle.tracecheck.proofs.OptionsGiven.{generations-given, slots-given}
 use Rattle.tracecheck.proofs.command_line.command_line.Goals as goal
 
 pub returns-in_err-matches-clause-refused : goal.returns-in_err-matches-clause-refused
-returns-in_err-matches-clause-refused g c =
-    let words : List (List ℕ) = map g.S.AsStr.text c.args.words.now in
-    only_memory _ _ (is_taken words ≡ true) c.from_residual-in_err-matches.ensures.1
-    (λ yes. c.in_err-matches.ensures.passes
-    (ap (λ (a : App). takes a words) c.in_ok-program.ensures ∙ is_taken-takes words yes))
+returns-in_err-matches-clause-refused g c = let words : List (List ℕ) = map g.S.AsStr.text c.args.words.now in search (rules, only_memory, is_taken-takes)
 
 pub returns-in_err-matches-clause-fault : goal.returns-in_err-matches-clause-fault
 returns-in_err-matches-clause-fault g c =
@@ -21,38 +20,19 @@ returns-in_err-matches-clause-fault g c =
     c.from_residual-in_err-matches.ensures.1 c.in_err-matches.ensures.kinds
 
 pub beginning_of-requires-clause-slots : goal.beginning_of-requires-clause-slots
-beginning_of-requires-clause-slots g c =
-    slots-given _ _ c.in_ok-program.ensures c.in_ok-matches.ensures.parsed
+beginning_of-requires-clause-slots g c = search (rules, slots-given)
 
 pub beginning_of-requires-clause-generations : goal.beginning_of-requires-clause-generations
-beginning_of-requires-clause-generations g c =
-    generations-given _ _ c.in_ok-program.ensures c.in_ok-matches.ensures.parsed
+beginning_of-requires-clause-generations g c = search (rules, generations-given)
 
 pub returns-clause-asked : goal.returns-clause-asked
-returns-clause-asked g c =
-    subst (λ rows. IfOk c.beginning_of.result (HasBeginning rows))
-    (rows_asked _ (map g.S.AsStr.text c.args.words.now) _ c.in_ok-program.ensures
-    c.in_ok-matches.ensures.matches) c.beginning_of.ensures.asked
+returns-clause-asked g c = grind (arith, common_steps, rows_asked)
 
 pub returns-clause-taken : goal.returns-clause-taken
-returns-clause-taken g c =
-    let words : List (List ℕ) = map g.S.AsStr.text c.args.words.now in
-    faultless_of_one c.beginning_of.result words _
-    (rows_asked _ words _ c.in_ok-program.ensures c.in_ok-matches.ensures.matches)
-    (faultless _ words c.in_ok-program.ensures c.in_ok-matches.ensures.kinds)
-    c.beginning_of.ensures.one
+returns-clause-taken g c = let words : List (List ℕ) = map g.S.AsStr.text c.args.words.now in search (rules, faultless_of_one, rows_asked, faultless)
 
 pub returns-clause-fault : goal.returns-clause-fault
-returns-clause-fault g c =
-    let words : List (List ℕ) = map g.S.AsStr.text c.args.words.now in
-    faulty_of_both c.beginning_of.result words _
-    (rows_asked _ words _ c.in_ok-program.ensures c.in_ok-matches.ensures.matches)
-    (faultless _ words c.in_ok-program.ensures c.in_ok-matches.ensures.kinds)
-    c.beginning_of.ensures.both c.beginning_of.ensures.fault
+returns-clause-fault g c = let words : List (List ℕ) = map g.S.AsStr.text c.args.words.now in search (rules, faulty_of_both, rows_asked, faultless)
 
 pub returns-clause-refused : goal.returns-clause-refused
-returns-clause-refused g c =
-    let words : List (List ℕ) = map g.S.AsStr.text c.args.words.now in
-    both_not_taken c.beginning_of.result words _
-    (rows_asked _ words _ c.in_ok-program.ensures c.in_ok-matches.ensures.matches)
-    c.beginning_of.ensures.both
+returns-clause-refused g c = let words : List (List ℕ) = map g.S.AsStr.text c.args.words.now in search (rules, both_not_taken, rows_asked)

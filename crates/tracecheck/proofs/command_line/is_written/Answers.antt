@@ -1,3 +1,4 @@
+use Rattle.std.proofs.Common.{rules}
 use Rattle.std.proofs.Common.{◌∙◌, ap}
 use Rattle.clap.specs.Words.{found_of}
 use Rattle.tracecheck.specs.CommandLine.{is_of_words}
@@ -5,5 +6,4 @@ use Rattle.tracecheck.proofs.Beginnings.{source-rows}
 use Rattle.tracecheck.proofs.command_line.is_written.Goals as goal
 
 pub returns : goal.returns
-returns c = c.is_of_words.ensures ∙ ap is_of_words
-    (c.value_source.ensures ∙ source-rows (found_of c.args.options.now) c.args.option.now)
+returns c = search (rules, source-rows)
