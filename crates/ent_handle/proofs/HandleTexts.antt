@@ -88,14 +88,7 @@ handle_of_form bytes index generation i g e = handle_of-split bytes index genera
     (decimal_without_letter index i) ∙ handle_of_decimals index generation i g
 
 pub shape_of_none : (bytes : List ℕ) → handle_of bytes ≡ Err Shape → ¬ HasHandleForm bytes
-shape_of_none bytes e form =
-    let f = sym (handle_of_form bytes form.0 form.1 form.2 form.3 form.4) ∙ e in
-    elim (cases_Bool (is_handle (written form.0 form.1))) [
-      | inl is ↦ let x = sym (cond-true _ (Ok (written form.0 form.1)) (Err Range) is)
-          ∙ f in absurd cc
-      | inr lacks ↦ let x = sym (cond-false _ (Ok (written form.0 form.1)) (Err Range) lacks)
-          ∙ f in absurd cc
-    ]
+shape_of_none bytes e form = let f = sym (handle_of_form bytes form.0 form.1 form.2 form.3 form.4) ∙ e in search (rules, cases_Bool, cond-true, cond-false)
 
 parts_of : (bytes : List ℕ) → position_or_len is_letter bytes < length bytes → bytes
     ≡ before_first is_letter bytes ++ 118 ∷ after_first is_letter bytes
@@ -152,17 +145,7 @@ shapeless_parts bytes index generation e h (inr g) = handle_of-split bytes index
     ∙ cond-false _ _ _ (and_right _ _ g)
 
 pub handle_of_text : (h : Handle) → IsHandle h → handle_of (handle_text h) ≡ Ok h
-handle_of_text h is =
-    let index = decimal h.index in
-    let generation = decimal h.generation in
-    let i = decimal_is_decimal h.index (omega (arith, is.index)) in
-    let g = decimal_is_decimal h.generation (omega (arith, is.greatest)) in
-    let same : written index generation
-    ≡ h = same_handle _ _ (value-decimal h.index (omega (arith, is.index)))
-    (value-decimal h.generation (omega (arith, is.greatest))) in
-    handle_of_form (handle_text h) index generation i g refl
-    ∙ ap (λ (k : Handle). cond (is_handle k) (Ok k) (Err Range)) same
-    ∙ cond-true _ _ _ (is_handle_from h is)
+handle_of_text h is = let index = decimal h.index in let generation = decimal h.generation in let i = decimal_is_decimal h.index (omega (arith, is.index)) in let g = decimal_is_decimal h.generation (omega (arith, is.greatest)) in let same : written index generation ≡ h = search (rules, same_handle, value-decimal) in handle_of_form (handle_text h) index generation i g refl ∙ ap (λ (k : Handle). cond (is_handle k) (Ok k) (Err Range)) same ∙ cond-true _ _ _ (is_handle_from h is)
 
 -- a text that is read is the text of that handle
 spelled : (bytes index generation : List ℕ) → IsDecimal index → IsDecimal generation → bytes ≡ index
