@@ -1,4 +1,5 @@
 -- What the tests of slots answer of bytes of which some have been read.
+use Rattle.std.proofs.Common.{rules}
 use Rattle.std.proofs.Common.{◌≡◌, ◌≢◌, refl, sym, ap, ◌∙◌, ℕ, zero, suc, ◌+◌, ◌*◌, ◌^◌, ◌<◌, ◌≤◌}
 use Rattle.std.proofs.Common.{Bool, true, false, ◌&&◌, eqb, List, [], ◌∷◌, ◌++◌, length}
 use Rattle.std.proofs.Common.{get_or, map, arith, subst, None, Some, inl, inr}
@@ -88,12 +89,9 @@ length-records (r ∷ records) =
 row_of_kept : (limits : Limits) (g : ℕ) (t : Occupancy) → IsGeneration limits g
     → is_slot limits.generations (kept_generation t g) (kind_of t) (number_of t) ≡ true
 row_of_kept limits g Retired is = refl
-row_of_kept limits g Alive is =
-    let least = is.least in let most = is.greatest in grind (arith, common_steps)
-row_of_kept limits g (AliveWithRow row) is =
-    let least = is.least in let most = is.greatest in grind (arith, common_steps)
-row_of_kept limits g (Pending position) is =
-    let least = is.least in let most = is.greatest in grind (arith, common_steps)
+row_of_kept limits g Alive is = search rules
+row_of_kept limits g (AliveWithRow row) is = search rules
+row_of_kept limits g (Pending position) is = search rules
 
 waits_there : (kind number position : ℕ) → kind ≡ 3 → number ≡ position
     → (eqb kind 3 && eqb number position) ≡ true
@@ -151,9 +149,7 @@ module _ (limits : Limits) (within : AreLimits limits) (records : List SlotRecor
   untaken : (count position : ℕ) → count ≤ length records
       → ((j : ℕ) → j < count → (record_at records j).occupancy ≢ Pending position)
       → is_taken slots count position ≡ false
-  untaken count position le none = none_is (waits_at slots position) 0 count (λ j lt.
-      let at : 0 + j ≡ j = omega arith in
-      ap (waits_at slots position) at ∙ waits_not j position (omega arith) (none j lt))
+  untaken count position le none = search (rules, none_is, waits_not)
 
   abbrev tested : ℕ → Test
   tested = slot_test limits.generations (length pending) slots
@@ -255,9 +251,7 @@ module _ (limits : Limits) (within : AreLimits limits) (records : List SlotRecor
 
     module _ (all : length records ≡ made) where
       slots_pass : first_failing (map tested (range_with_len 0 made)) ≡ None
-      slots_pass = each_passes tested 0 made (λ k lt.
-          let at : 0 + k ≡ k = omega arith in
-          ap (λ i. (tested i).0) at ∙ passes k (omega arith))
+      slots_pass = search (rules, each_passes, passes)
 
       position_passes : (position : ℕ) → position < length pending
           → get_or pending position 0 ≢ vacant → (position_test made slots (0 + position)).0 ≡ true
@@ -265,9 +259,7 @@ module _ (limits : Limits) (within : AreLimits limits) (records : List SlotRecor
 
       pub no_fault : ((position : ℕ) → position < length pending
           → get_or pending position 0 ≢ vacant) → first_failing slots_then ≡ None
-      no_fault each = passed_before (map tested (range_with_len 0 made)) _ slots_pass
-          ∙ each_passes (position_test made slots) 0 (length pending) (λ position lt.
-          position_passes position lt (each position lt))
+      no_fault each = search (rules, passed_before, slots_pass, each_passes, position_passes)
 
       pub position_free : (position : ℕ) → made ≤ limits.slots → position < length pending
           → get_or pending position 0 ≡ vacant

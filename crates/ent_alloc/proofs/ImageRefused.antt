@@ -33,9 +33,7 @@ module _ (f : ℕ → List ℕ) (g : SlotRecord → List ℕ) (n : ℕ) (long_f 
       → f (from + 0) ≡ g r
       → (k : ℕ) → k < length (r ∷ records) → f (from + k) ≡ g (record_at (r ∷ records) k)
   each_of from r records rest first zero lt = first
-  each_of from r records rest first (suc k) lt =
-      let at : from + 1 + k ≡ from + suc k = omega arith in
-      ap f (sym at) ∙ rest k (omega arith)
+  each_of from r records rest first (suc k) lt = search rules
 
   split : (from count : ℕ) (records : List SlotRecord) (rest : List ℕ) → length records ≤ count
       → flat_map f (range_with_len from count) ≡ flat_map g records ++ rest
@@ -59,17 +57,13 @@ module _ (f : ℕ → List ℕ) (g : SlotRecord → List ℕ) (n : ℕ) (long_f 
 pub slot_in_words : (s : SlotRecord) (rest : List ℕ) → slot_bytes s ++ rest ≡ word s.generation
     ++ (word (kind_of s.occupancy) ++ (word (number_of s.occupancy) ++ rest))
 unfolding slot_bytes
-slot_in_words s rest = append_assoc (word s.generation) _ rest ∙ ap (word s.generation ++◌)
-    (append_assoc (word (kind_of s.occupancy)) (word (number_of s.occupancy)) rest)
+slot_in_words s rest = search (rules, append_assoc)
 
 written_below : (limits : Limits) → AreLimits limits → (g : ℕ) (t : Occupancy)
     → IsWritten limits g t → (g < 2 ^ 32) × (number_of t < 2 ^ 32)
-written_below limits within g Alive is =
-    (let most = is.greatest in omega (arith, within.generations), omega arith)
-written_below limits within g (AliveWithRow row) is =
-    (let most = is.0.greatest in omega (arith, within.generations), is.1)
-written_below limits within g (Pending position) is =
-    (let most = is.0.greatest in omega (arith, within.generations), is.1)
+written_below limits within g Alive is = search rules
+written_below limits within g (AliveWithRow row) is = search rules
+written_below limits within g (Pending position) is = search rules
 written_below limits within g Retired is = (omega arith, omega arith)
 
 -- three words that no slot is written as

@@ -56,8 +56,7 @@ alive_occupied generation (Some row) = refl
 small_occupied : (generation : ℕ) (row : Option ℕ) → generation < 2 ^ 32
     → ((n : ℕ) → row ≡ Some n → n < 2 ^ 32) → IsSmall (occupied generation row)
 small_occupied generation None below fits = record { generation = below; number = omega arith }
-small_occupied generation (Some row) below fits =
-    record { generation = below; number = fits row refl }
+small_occupied generation (Some row) below fits = search rules
 
 written_occupied : (limits : Limits) (generation : ℕ) (row : Option ℕ)
     → IsGeneration limits generation → ((n : ℕ) → row ≡ Some n → n < 2 ^ 32)

@@ -23,9 +23,7 @@ use Rattle.ent_alloc.proofs.Meaning.{top_is, old_is, available_is}
 use Rattle.ent_alloc.proofs.ImageLinked.{AreTied, are_slots}
 
 All-reverse : {X : Type 0} (P : X → Type 0) (xs : List X) → All P xs → All P (reverse xs)
-All-reverse P xs all k d lt =
-    rw (get_or-reverse xs k d (omega (arith, length-reverse xs)))
-    (all (length xs - 1 - k) d (omega (arith, length-reverse xs)))
+All-reverse P xs all k d lt = search (rules, get_or-reverse, length-reverse)
 
 AllPairs-reverse : {X : Type 0} (R : X → X → Type 0) (xs : List X)
     → ((x y : X) → R x y → R y x) → AllPairs R xs → AllPairs R (reverse xs)
@@ -109,8 +107,7 @@ module _ (e : Entities) (has : HasImage e) where
 
   -- what there is to give is what the slots give if nothing is reserved
   pub idle_is : idle (roster e) ≡ available s
-  idle_is = ap (λ hs. hs ++ fresh s.made (s.limits.slots - s.made)) (reverse-reverse old)
-      ∙ sym has.sound.order
+  idle_is = search (rules, reverse-reverse)
 
   pool_is : s.pool ≡ drop s.asked (idle (roster e))
   pool_is = has.sound.pool ∙ ap (drop s.asked) (sym idle_is)
@@ -119,8 +116,7 @@ module _ (e : Entities) (has : HasImage e) where
   reserved_are = taken_is s ∙ ap (take (length s.taken)) (sym idle_is)
 
   passed_over : s.aside ≡ drop (length s.taken) (take s.asked (idle (roster e)))
-  passed_over = aside_is s has.sound
-      ∙ ap (λ hs. drop (length s.taken) (take s.asked hs)) (sym idle_is)
+  passed_over = search (rules, aside_is, idle_is)
 
   -- the entities are those of their slots
   pub entities_are : e ≡ entities_of (roster e) s.asked (length s.taken)

@@ -36,7 +36,7 @@ module _ (limits : Limits) (records : List SlotRecord) (pending : List ℕ) (liv
 
   same_generation : (index : ℕ) → (record_at alive index).generation
       ≡ (record_at records index).generation
-  same_generation index = generation-reused records from (drop from pending) index Wait-drop
+  same_generation index = search (rules, generation-reused, Wait-drop)
 
   position_below : (index position : ℕ) → index < length records → (record_at alive index).occupancy
       ≡ Pending position → position < from
@@ -62,9 +62,7 @@ module _ (limits : Limits) (records : List SlotRecord) (pending : List ℕ) (liv
             (sets.from_list (drop from (roster_of limits records pending).pending));
         pending = take from (roster_of limits records pending).pending;
       }
-  roster_of-reuse =
-      let live_is = live-reused records from (drop from pending) Wait-drop in
-      search (rules, drop-map, rows_from-reused, Wait-drop, same_generation, take-map, length-reused)
+  roster_of-reuse = search (rules, live-reused, Wait-drop, drop-map, rows_from-reused, same_generation, take-map, length-reused)
 
 -- one slot, which waits last
 module _ (limits : Limits) (records : List SlotRecord) (pending rest : List ℕ) (live index : ℕ)
@@ -76,10 +74,10 @@ module _ (limits : Limits) (records : List SlotRecord) (pending rest : List ℕ)
   within = let more = long in omega arith
 
   taken : take (length rest) pending ≡ rest
-  taken = ap (take (length rest)) last ∙ take_at rest (index ∷ []) (length rest) refl
+  taken = search (rules, take_at)
 
   dropped : drop (length rest) pending ≡ index ∷ []
-  dropped = ap (drop (length rest)) last ∙ drop_at rest (index ∷ []) (length rest) refl
+  dropped = search (rules, drop_at)
 
   one_less : length pending - length rest ≡ 1
   one_less = let more = long in omega arith

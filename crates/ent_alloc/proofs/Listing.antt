@@ -80,7 +80,7 @@ rest_to_list records waiting index index_end left range at rest is =
 pub fresh-push : (index count : ℕ) → fresh index count
     ++ record { index = index + count; generation = 1 } ∷ [] ≡ fresh index (count + 1)
 unfolding fresh
-fresh-push index zero = λ i. record { index = add-zero index i; generation = 1 } ∷ []
+fresh-push index zero = search (rules, add-zero)
 fresh-push index (suc count) = search (rules, fresh-push (index + 1) count)
 
 pub replicate-push : {X : Type 0} (count : ℕ) (x : X) → replicate count x ++ x ∷ []

@@ -48,8 +48,7 @@ or_first false false n = refl
 both_in : (live : sets.FinSet handle_cmp) (one two : List Handle) (q : Handle)
     → sets.contains (sets.union (sets.union live (sets.from_list one)) (sets.from_list two)) q
     ≡ ((sets.contains live q || stands_in one q) || stands_in two q)
-both_in live one two q = contains-union_list (sets.union live (sets.from_list one)) two q
-    ∙ ap (λ b. b || stands_in two q) (contains-union_list live one q)
+both_in live one two q = search (rules, contains-union_list)
 
 -- nobody more
 live_none : (live : sets.FinSet handle_cmp)

@@ -1,4 +1,5 @@
 -- Portions of a list: where what was used of them ends, and what is left.
+use Rattle.std.proofs.Common.{rules}
 use Rattle.std.proofs.Common.{◌≡◌, ◌⊎◌, inl, inr, refl, sym, ap, ◌∙◌, subst, ℕ, zero, suc, ◌+◌, ◌-◌}
 use Rattle.std.proofs.Common.{◌<◌, ◌≤◌, List, [], ◌∷◌, ◌++◌, length, take, drop, get_or, map, arith}
 use Rattle.std.proofs.Common.{IsPermutation, append_assoc}
@@ -289,7 +290,7 @@ no_portion = record { size = 0; used = 0 }
 
 pub portion_is : (ps : List Portion) (k : ℕ) → k < length ps
     → get_or ps k no_portion ≡ get_or ps k (get_or ps k no_portion)
-portion_is ps k lt = sym (get_or_default ps k (get_or ps k no_portion) no_portion lt)
+portion_is ps k lt = search (rules, get_or_default)
 
 module _ (ps : List Portion) (k : ℕ) (p : Portion) (lt : k < length ps) (is : p ≡ get_or ps k p)
   where

@@ -32,7 +32,7 @@ count p from n = count_by p (range_with_len from n)
 
 count-next : (p : ℕ → Bool) (from n : ℕ) → count p from (suc n) ≡ weight (p from)
     + count p (from + 1) n
-count-next p from n = sum_by-cons (λ i. weight (p i)) from (range_with_len (from + 1) n)
+count-next p from n = search (rules, sum_by-cons)
 
 -- two tests that agree on these numbers
 count_alike : (p q : ℕ → Bool) (from n : ℕ)
@@ -68,9 +68,7 @@ count-one_more p k from (suc n) least below fails =
 
 has_slot-found : (handles : List Handle) (index : ℕ) → has_slot handles index ≡ true
     → (h : Handle) × Contains handles h × (h.index ≡ index)
-has_slot-found handles index is =
-    let h = Any-from_list_any (λ (h : Handle). eqb h.index index) handles is in
-    search (rules, eqb-true)
+has_slot-found handles index is = search (rules, Any-from_list_any, eqb-true)
 
 has_slot-has : (handles : List Handle) (h : Handle) → Contains handles h → has_slot handles h.index
     ≡ true
@@ -79,8 +77,7 @@ has_slot-has handles h has =
 
 has_slot-apart : (handles : List Handle) (h : Handle) → All (AreApart h) handles
     → has_slot handles h.index ≡ false
-has_slot-apart handles h apart =
-    list_any_none (λ (x : Handle). eqb x.index h.index) handles (search (rules, ne_eqb))
+has_slot-apart handles h apart = search (rules, list_any_none, ne_eqb)
 
 -- handles of as many slots
 count-apart : (handles : List Handle) (n : ℕ) → AllPairs AreApart handles

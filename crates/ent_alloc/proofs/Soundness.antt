@@ -104,12 +104,12 @@ after_free-sound s x h flushed alive =
 -- an old handle that comes to life
 pub after_alloc-old : (s : Allocator) (x : Handle) → x.index < s.made → after_alloc s x
     ≡ record s { live = set.insert s.live x; pool = drop 1 s.pool }
-after_alloc-old s x old = let test : is_old s.made x ≡ true = lt-ltb _ _ old in rw test
+after_alloc-old s x old = search (rules, lt-ltb)
 
 -- a fresh handle that comes to life: its slot is made
 pub after_alloc-fresh : (s : Allocator) (x : Handle) → s.made ≤ x.index → after_alloc s x
     ≡ record s { live = set.insert s.live x; pool = drop 1 s.pool; made = s.made + 1 }
-after_alloc-fresh s x new = let test : is_old s.made x ≡ false = le-ltb _ _ new in rw test
+after_alloc-fresh s x new = search (rules, le-ltb)
 
 -- the first old handle comes to life
 alloc_of_old : (s : Allocator) (x : Handle) (old : List Handle) → IsLaidOut s (x ∷ old)
