@@ -29,13 +29,7 @@ pub told : (s : Allocator) (t : Allocator) (n : ℕ) (span : Span) → IsSound s
     → ((m : ℕ) → span.low ≡ span.high -ℤ pos m
     → r ≡ reply_from t.made (pool_at t span.high) m)
     → r ≡ reply_to s n
-told s t n span sound is step r tells =
-    let high : span.high ≡ cursor s = ap (λ (x : Span). x.high) is in
-    let low : span.low ≡ span.high -ℤ pos n =
-    ap (λ (x : Span). x.low) is ∙ ap (λ z. z -ℤ pos n) (sym high) in
-    tells n low ∙ ap (λ z. reply_from t.made (pool_at t z) n) high
-    ∙ ap (λ (x : Allocator). reply_from x.made (pool_at x (cursor s)) n) step
-    ∙ reply-later s (n ∷ []) n sound
+told s t n span sound is step r tells = let high : span.high ≡ cursor s = ap (λ (x : Span). x.high) is in let low : span.low ≡ span.high -ℤ pos n = search rules in tells n low ∙ ap (λ z. reply_from t.made (pool_at t z) n) high ∙ ap (λ (x : Allocator). reply_from x.made (pool_at x (cursor s)) n) step ∙ reply-later s (n ∷ []) n sound
 
 -- what is left is within the limits
 pub front_within : (s : Allocator) (n : ℕ) → IsSound s → All (IsWithin s.limits) (take n s.pool)
@@ -56,16 +50,7 @@ pub record IsServed (s : Allocator) (n : ℕ) (given : List Handle) : Type 0 whe
 
 pub of_served : (s : Allocator) (n : ℕ) (given : List Handle) → IsSound s
     → reply_to s n ≡ Ok given → IsServed s n given
-of_served s n given sound is =
-    let from = served_from s n given is in
-    record {
-      enough = from.0;
-      lists = from.1;
-      long = length_permutation (take n s.pool) given (reply-IsPermutation s n given is)
-          ∙ length-take-le n s.pool from.0;
-      within = of_reply s n given is (IsWithin s.limits)
-          (of_pool (IsWithin s.limits) s sound.within);
-    }
+of_served s n given sound is = let from = served_from s n given is in record { enough = from.0; lists = from.1; long = length_permutation (take n s.pool) given (reply-IsPermutation s n given is) ∙ length-take-le n s.pool from.0; within = search (rules, of_reply, of_pool) }
 
 -- and one that is refused
 pub record IsShort (s : Allocator) (n : ℕ) (space : Space) : Type 0 where

@@ -187,37 +187,7 @@ module _ (r : Roster) (hs : List Handle) (sound : IsSound (allocator_of r 0 0))
   kept_is = search (rules, cases_lt, wide_long, as_many)
 
   pub front_view : allocator_of (turned (grown r more) hs) 0 0 ≡ with_front (allocator_of r 0 0) hs
-  front_view =
-      let tops : top (allocator_of r 0 0) ≡ length r.pending = top_is r 0 0 (omega arith) sound in
-      let kept = take (length r.pending - length hs) r.pending in
-      let back : reverse (take (length wide - length hs) wide ++ reverse hs) ≡ hs ++ reverse kept =
-      ap (λ xs. reverse (xs ++ reverse hs)) kept_is ∙ reverse-append kept (reverse hs)
-      ∙ ap (◌++ reverse kept) (reverse-reverse hs) in
-      let rest : drop (length hs) (idle r) ≡ reverse kept
-      ++ fresh (r.made + more) (r.limits.slots - (r.made + more)) =
-      drop_joined r.made (r.limits.slots - r.made) (reverse r.pending) below (length hs)
-      ∙ ap (λ k. drop (length hs) (reverse r.pending)
-      ++ fresh (r.made + (length hs - k)) (r.limits.slots - r.made - (length hs - k)))
-      (length-reverse r.pending)
-      ∙ ap (λ k. drop (length hs) (reverse r.pending) ++ fresh (r.made + more) k) (omega arith)
-      ∙ ap (◌++ fresh (r.made + more) (r.limits.slots - (r.made + more)))
-      (drop-reverse (length hs) r.pending) in
-      let pool : reverse (take (length wide - length hs) wide ++ reverse hs)
-      ++ fresh (r.made + more) (r.limits.slots - (r.made + more)) ≡ hs ++ drop (length hs) (idle r) =
-      ap (◌++ fresh (r.made + more) (r.limits.slots - (r.made + more))) back
-      ∙ append_assoc hs (reverse kept) (fresh (r.made + more) (r.limits.slots - (r.made + more)))
-      ∙ ap (hs ++◌) (sym rest) in
-      let made : r.made + more ≡ r.made + (length hs - top (allocator_of r 0 0)) =
-      ap (λ k. r.made + (length hs - k)) (sym tops) in
-      λ i. record {
-        limits = r.limits;
-        live = r.live;
-        pool = pool i;
-        taken = [];
-        aside = [];
-        made = made i;
-        asked = 0;
-      }
+  front_view = let tops : top (allocator_of r 0 0) ≡ length r.pending = top_is r 0 0 (omega arith) sound in let kept = take (length r.pending - length hs) r.pending in let back : reverse (take (length wide - length hs) wide ++ reverse hs) ≡ hs ++ reverse kept = ap (λ xs. reverse (xs ++ reverse hs)) kept_is ∙ reverse-append kept (reverse hs) ∙ ap (◌++ reverse kept) (reverse-reverse hs) in let rest : drop (length hs) (idle r) ≡ reverse kept ++ fresh (r.made + more) (r.limits.slots - (r.made + more)) = search (rules, drop_joined, below, length-reverse, drop-reverse) in let pool : reverse (take (length wide - length hs) wide ++ reverse hs) ++ fresh (r.made + more) (r.limits.slots - (r.made + more)) ≡ hs ++ drop (length hs) (idle r) = ap (◌++ fresh (r.made + more) (r.limits.slots - (r.made + more))) back ∙ append_assoc hs (reverse kept) (fresh (r.made + more) (r.limits.slots - (r.made + more))) ∙ ap (hs ++◌) (sym rest) in let made : r.made + more ≡ r.made + (length hs - top (allocator_of r 0 0)) = ap (λ k. r.made + (length hs - k)) (sym tops) in λ i. record { limits = r.limits; live = r.live; pool = pool i; taken = []; aside = []; made = made i; asked = 0 }
 
 -- ---- where the call begins and ends
 

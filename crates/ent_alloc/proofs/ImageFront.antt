@@ -1,4 +1,5 @@
 -- What the tests of the first forty bytes answer.
+use Rattle.std.proofs.lemmas.Grind.{common_steps}
 use Rattle.std.proofs.Common.{◌≡◌, ◌≢◌, refl, sym, ap, ◌∙◌, ℕ, ◌+◌, ◌-◌, ◌*◌, ◌^◌, ◌<◌, ◌≤◌, ◌⊎◌}
 use Rattle.std.proofs.Common.{Bool, true, false, ◌&&◌, ◌||◌, eqb, leb, ltb, List, [], ◌∷◌, ◌++◌}
 use Rattle.std.proofs.Common.{length, drop, Option, None, Some, arith, rules}
@@ -95,53 +96,7 @@ module _ (h : Header) (rest : List ℕ) (fits : AreNumbers h) where
   spelled_out = search (rules, header_then, letters, numbers_then)
 
   header_is_in : header_in (header_bytes h ++ rest) ≡ h
-  header_is_in =
-      let asked_on = long h.asked ++ rest in
-      let reserved_on = word h.reserved ++ asked_on in
-      let waiting_on = word h.waiting ++ reserved_on in
-      let made_on = word h.made ++ waiting_on in
-      let generations_on = word h.generations ++ made_on in
-      let slots_on = word h.slots ++ generations_on in
-      let version_on = word version ++ slots_on in
-      let to_slots = λ (place : ℕ).
-      word_past (long letters) version_on 8 (4 + place) (length-long letters)
-      ∙ word_past (word version) slots_on 4 place (length-word version) in
-      let past_slots = λ (place : ℕ).
-      word_past (word h.slots) generations_on 4 place (length-word h.slots) in
-      let past_generations = λ (place : ℕ).
-      word_past (word h.generations) made_on 4 place (length-word h.generations) in
-      let past_made = λ (place : ℕ).
-      word_past (word h.made) waiting_on 4 place (length-word h.made) in
-      let past_waiting = λ (place : ℕ).
-      word_past (word h.waiting) reserved_on 4 place (length-word h.waiting) in
-      let slots = ap (λ bs. word_at bs 12) spelled_out ∙ to_slots 0
-      ∙ word_here h.slots generations_on fits.slots in
-      let generations = ap (λ bs. word_at bs 16) spelled_out ∙ to_slots 4 ∙ past_slots 0
-      ∙ word_here h.generations made_on fits.generations in
-      let made = ap (λ bs. word_at bs 20) spelled_out ∙ to_slots 8 ∙ past_slots 4
-      ∙ past_generations 0 ∙ word_here h.made waiting_on fits.made in
-      let waiting = ap (λ bs. word_at bs 24) spelled_out ∙ to_slots 12 ∙ past_slots 8
-      ∙ past_generations 4 ∙ past_made 0 ∙ word_here h.waiting reserved_on fits.waiting in
-      let reserved = ap (λ bs. word_at bs 28) spelled_out ∙ to_slots 16 ∙ past_slots 12
-      ∙ past_generations 8 ∙ past_made 4 ∙ past_waiting 0
-      ∙ word_here h.reserved asked_on fits.reserved in
-      let asked = ap (λ bs. long_at bs 32) spelled_out
-      ∙ long_past (long letters) version_on 8 24 (length-long letters)
-      ∙ long_past (word version) slots_on 4 20 (length-word version)
-      ∙ long_past (word h.slots) generations_on 4 16 (length-word h.slots)
-      ∙ long_past (word h.generations) made_on 4 12 (length-word h.generations)
-      ∙ long_past (word h.made) waiting_on 4 8 (length-word h.made)
-      ∙ long_past (word h.waiting) reserved_on 4 4 (length-word h.waiting)
-      ∙ long_past (word h.reserved) asked_on 4 0 (length-word h.reserved)
-      ∙ long_here h.asked rest fits.asked in
-      λ i. record {
-        slots = slots i;
-        generations = generations i;
-        made = made i;
-        waiting = waiting i;
-        reserved = reserved i;
-        asked = asked i;
-      }
+  header_is_in = let asked_on = long h.asked ++ rest in let reserved_on = word h.reserved ++ asked_on in let waiting_on = word h.waiting ++ reserved_on in let made_on = word h.made ++ waiting_on in let generations_on = word h.generations ++ made_on in let slots_on = word h.slots ++ generations_on in let version_on = word version ++ slots_on in let to_slots = λ (place : ℕ). word_past (long letters) version_on 8 (4 + place) (length-long letters) ∙ word_past (word version) slots_on 4 place (length-word version) in let past_slots = λ (place : ℕ). word_past (word h.slots) generations_on 4 place (length-word h.slots) in let past_generations = λ (place : ℕ). word_past (word h.generations) made_on 4 place (length-word h.generations) in let past_made = λ (place : ℕ). word_past (word h.made) waiting_on 4 place (length-word h.made) in let past_waiting = λ (place : ℕ). word_past (word h.waiting) reserved_on 4 place (length-word h.waiting) in let slots = ap (λ bs. word_at bs 12) spelled_out ∙ to_slots 0 ∙ word_here h.slots generations_on fits.slots in let generations = ap (λ bs. word_at bs 16) spelled_out ∙ to_slots 4 ∙ past_slots 0 ∙ word_here h.generations made_on fits.generations in let made = ap (λ bs. word_at bs 20) spelled_out ∙ to_slots 8 ∙ past_slots 4 ∙ past_generations 0 ∙ word_here h.made waiting_on fits.made in let waiting = ap (λ bs. word_at bs 24) spelled_out ∙ to_slots 12 ∙ past_slots 8 ∙ past_generations 4 ∙ past_made 0 ∙ word_here h.waiting reserved_on fits.waiting in let reserved = ap (λ bs. word_at bs 28) spelled_out ∙ to_slots 16 ∙ past_slots 12 ∙ past_generations 8 ∙ past_made 4 ∙ past_waiting 0 ∙ word_here h.reserved asked_on fits.reserved in let asked = ap (λ bs. long_at bs 32) spelled_out ∙ long_past (long letters) version_on 8 24 (length-long letters) ∙ long_past (word version) slots_on 4 20 (length-word version) ∙ long_past (word h.slots) generations_on 4 16 (length-word h.slots) ∙ long_past (word h.generations) made_on 4 12 (length-word h.generations) ∙ long_past (word h.made) waiting_on 4 8 (length-word h.made) ∙ long_past (word h.waiting) reserved_on 4 4 (length-word h.waiting) ∙ long_past (word h.reserved) asked_on 4 0 (length-word h.reserved) ∙ long_here h.asked rest fits.asked in search rules
 
 -- the tests that are left after the first ones
 abbrev pub later_tests : Header → ℕ → List ℕ → List Test
@@ -153,12 +108,7 @@ module _ (bytes : List ℕ) (h : Header) (rest : List ℕ) (fits : AreNumbers h)
   numbers = ap header_in is ∙ header_is_in h rest fits
 
   pub to_numbers : first_fault bytes ≡ first_failing (later_tests h (length bytes) rest)
-  to_numbers =
-      let left : drop 40 bytes ≡ rest =
-      ap (drop 40) is ∙ drop_at (header_bytes h) rest 40 (length-header_bytes h) in
-      passed_before (front_tests bytes)
-      (later_tests (header_in bytes) (length bytes) (drop 40 bytes)) front
-      ∙ (λ i. first_failing (later_tests (numbers i) (length bytes) (left i)))
+  to_numbers = let left : drop 40 bytes ≡ rest = ap (drop 40) is ∙ drop_at (header_bytes h) rest 40 (length-header_bytes h) in grind (arith, common_steps, passed_before, numbers)
 
   pub no_header_fault : first_failing (header_tests h (length bytes)) ≡ None
       → header_fault bytes ≡ None

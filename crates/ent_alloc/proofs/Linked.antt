@@ -48,13 +48,7 @@ module _ (limits : Limits) (records : List SlotRecord) (pending : List ℕ) (liv
 
   pub reuse_keeps_links : AreLinked limits alive (take from pending) (live
       + (length pending - from))
-  reuse_keeps_links =
-      let as_long : length alive ≡ length records = length-reused records (drop from pending) in
-      let more = length-occupants-reused records from (drop from pending) Wait-drop in
-      let rest = length-drop from pending in
-      let waits = waiting-reused records from (drop from pending) in
-      let waited = waited-reused records from (drop from pending) in
-      search (rules, same_generation, position_below, get_or-take, waits, waited, Wait-drop)
+  reuse_keeps_links = let as_long : length alive ≡ length records = search (rules, length-reused) in let more = length-occupants-reused records from (drop from pending) Wait-drop in let rest = length-drop from pending in let waits = waiting-reused records from (drop from pending) in let waited = waited-reused records from (drop from pending) in search (rules, same_generation, position_below, get_or-take, waits, waited, Wait-drop)
 
   pub roster_of-reuse : roster_of limits alive (take from pending)
       ≡ record (roster_of limits records pending) {
@@ -106,15 +100,7 @@ module _ (limits : Limits) (records : List SlotRecord) (pending rest : List ℕ)
 
   pub last_handle : slice_get (map (handle_at records) pending)
       (length (map (handle_at records) pending) - 1) ≡ Some (handle_at records index)
-  last_handle =
-      let f = handle_at records in
-      let n = length (map f pending) in
-      let more = long in
-      let same = length-map pending f in
-      let at : get_or pending (n - 1) 0 ≡ index = ap (λ ps. get_or ps (n - 1) 0) last
-      ∙ get_or_push rest index 0 (n - 1) (omega arith) in
-      slice_get_read (map f pending) n (n - 1) (f index) refl (omega arith)
-      (sym (get_or-map f pending (n - 1) 0 (f index) (omega arith) ∙ ap f at))
+  last_handle = let f = handle_at records in let n = length (map f pending) in let more = long in let same = length-map pending f in let at : get_or pending (n - 1) 0 ≡ index = search (rules, get_or_push) in slice_get_read (map f pending) n (n - 1) (f index) refl (omega arith) (sym (get_or-map f pending (n - 1) 0 (f index) (omega arith) ∙ ap f at))
 
 -- ---- making
 

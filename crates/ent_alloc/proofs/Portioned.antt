@@ -274,10 +274,7 @@ module _ {A : Type 0} where
   pub left_is_behind : (pool : List A) (ps : List Portion) → AreUsed ps
       → count_of ps ≡ reach_of ps → size_of ps ≤ length pool
       → left_of pool ps ≡ drop (count_of ps) pool
-  left_is_behind pool ps fits all within =
-      let none : 0 ≡ reach_of ps - count_of ps = omega arith in
-      ap (λ n. drop n (left_of pool ps)) none
-      ∙ behind_reach pool ps fits within ∙ ap (λ n. drop n pool) (sym all)
+  left_is_behind pool ps fits all within = let none : 0 ≡ reach_of ps - count_of ps = omega arith in search (rules, behind_reach)
 
 -- ---- one portion more
 
