@@ -29,18 +29,11 @@ pub told : (s : Allocator) (t : Allocator) (n : ℕ) (span : Span) → IsSound s
     → ((m : ℕ) → span.low ≡ span.high -ℤ pos m
     → r ≡ reply_from t.made (pool_at t span.high) m)
     → r ≡ reply_to s n
-told s t n span sound is step r tells =
-    let high : span.high ≡ cursor s = ap (λ (x : Span). x.high) is in
-    let low : span.low ≡ span.high -ℤ pos n =
-    ap (λ (x : Span). x.low) is ∙ ap (λ z. z -ℤ pos n) (sym high) in
-    tells n low ∙ ap (λ z. reply_from t.made (pool_at t z) n) high
-    ∙ ap (λ (x : Allocator). reply_from x.made (pool_at x (cursor s)) n) step
-    ∙ reply-later s (n ∷ []) n sound
+told s t n span sound is step r tells = let high : span.high ≡ cursor s = ap (λ (x : Span). x.high) is in let low : span.low ≡ span.high -ℤ pos n = search rules in tells n low ∙ ap (λ z. reply_from t.made (pool_at t z) n) high ∙ ap (λ (x : Allocator). reply_from x.made (pool_at x (cursor s)) n) step ∙ reply-later s (n ∷ []) n sound
 
 -- what is left is within the limits
 pub front_within : (s : Allocator) (n : ℕ) → IsSound s → All (IsWithin s.limits) (take n s.pool)
-front_within s n sound =
-    All-take (IsWithin s.limits) n s.pool (of_pool (IsWithin s.limits) s sound.within)
+front_within s n sound = search (rules, All-take, of_pool)
 
 pub first_within : (s : Allocator) (h : Handle) → IsSound s → slice_get s.pool 0 ≡ Some h
     → IsWithin s.limits h
@@ -57,16 +50,7 @@ pub record IsServed (s : Allocator) (n : ℕ) (given : List Handle) : Type 0 whe
 
 pub of_served : (s : Allocator) (n : ℕ) (given : List Handle) → IsSound s
     → reply_to s n ≡ Ok given → IsServed s n given
-of_served s n given sound is =
-    let from = served_from s n given is in
-    record {
-      enough = from.0;
-      lists = from.1;
-      long = length_permutation (take n s.pool) given (reply-IsPermutation s n given is)
-          ∙ length-take-le n s.pool from.0;
-      within = of_reply s n given is (IsWithin s.limits)
-          (of_pool (IsWithin s.limits) s sound.within);
-    }
+of_served s n given sound is = let from = served_from s n given is in record { enough = from.0; lists = from.1; long = length_permutation (take n s.pool) given (reply-IsPermutation s n given is) ∙ length-take-le n s.pool from.0; within = search (rules, of_reply, of_pool) }
 
 -- and one that is refused
 pub record IsShort (s : Allocator) (n : ℕ) (space : Space) : Type 0 where
@@ -101,7 +85,7 @@ single made x = grind (arith, nat_tests, common_steps)
 first : (made : ℕ) (pool : List Handle) (h : Handle) → 1 ≤ length pool
     → h ∷ [] ≡ listed made (take 1 pool) → slice_get pool 0 ≡ Some h
 first made [] h some is = absurd (omega arith)
-first made (x ∷ pool) h some is = let same = is ∙ single made x in grind (arith, common_steps)
+first made (x ∷ pool) h some is = search (rules, single)
 
 pub of_front : (s : Allocator) (h : Handle) → IsSound s → reply_to s 1 ≡ Ok (h ∷ []) → IsFront s h
 of_front s h sound is =
@@ -115,8 +99,7 @@ of_front s h sound is =
     }
 
 pub none_left : (s : Allocator) (n : ℕ) (space : Space) → n ≤ 1 → IsShort s n space → s.pool ≡ []
-none_left s n space one short =
-    nil_from_length s.pool (let few = short.short in omega arith)
+none_left s n space one short = search (rules, nil_from_length)
 
 -- ---- a refusal
 
@@ -126,12 +109,10 @@ pub space_of_three : {A : Type 0} (r : Result A ReserveError) (wanted left n poo
     → IfErr r (λ why. (why ≡ failed.Memory)
     ⊎ ((why ≡ failed.Space n pool) ⊎ (why ≡ failed.Quota quota)))
 space_of_three (Ok x) wanted left n pool quota is wanted_is left_is = tt
-space_of_three (Err why) wanted left n pool quota is wanted_is left_is =
-    inr (inl (is ∙ (λ i. failed.Space (wanted_is i) (left_is i))))
+space_of_three (Err why) wanted left n pool quota is wanted_is left_is = search rules
 
 pub space_is : {A : Type 0} (r : Result A Refused) (wanted left n pool : ℕ)
     → IsErrAnd r (λ why. why ≡ refused.Space wanted left) → wanted ≡ n → left ≡ pool
     → IsErrOf r (refused.Space n pool)
 space_is (Ok x) wanted left n pool is wanted_is left_is = absurd is
-space_is (Err why) wanted left n pool is wanted_is left_is =
-    ap Err (is ∙ (λ i. refused.Space (wanted_is i) (left_is i)))
+space_is (Err why) wanted left n pool is wanted_is left_is = search rules

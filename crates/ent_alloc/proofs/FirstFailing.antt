@@ -25,10 +25,8 @@ failed_step : (test : Test) (tests more : List Test) (fault : ImageFault)
     → (first_failing tests ≡ Some fault → first_failing (tests ++ more) ≡ Some fault)
     → first_failing (test ∷ tests) ≡ Some fault
     → (b : Bool) → test.0 ≡ b → first_failing (test ∷ (tests ++ more)) ≡ Some fault
-failed_step test tests more fault after is true passes =
-    passed test (tests ++ more) passes ∙ after (sym (passed test tests passes) ∙ is)
-failed_step test tests more fault after is false fails =
-    failed test (tests ++ more) fails ∙ sym (failed test tests fails) ∙ is
+failed_step test tests more fault after is true passes = search (rules, passed)
+failed_step test tests more fault after is false fails = search (rules, failed)
 
 pub failed_before : (tests more : List Test) (fault : ImageFault)
     → first_failing tests ≡ Some fault → first_failing (tests ++ more) ≡ Some fault
@@ -40,10 +38,8 @@ passed_step : (test : Test) (tests more : List Test)
     → (first_failing tests ≡ None → first_failing (tests ++ more) ≡ first_failing more)
     → first_failing (test ∷ tests) ≡ None
     → (b : Bool) → test.0 ≡ b → first_failing (test ∷ (tests ++ more)) ≡ first_failing more
-passed_step test tests more after is true passes =
-    passed test (tests ++ more) passes ∙ after (sym (passed test tests passes) ∙ is)
-passed_step test tests more after is false fails =
-    absurd (none_some test.1 (sym is ∙ failed test tests fails))
+passed_step test tests more after is true passes = search (rules, passed)
+passed_step test tests more after is false fails = search (rules, none_some, failed)
 
 pub passed_before : (tests more : List Test) → first_failing tests ≡ None
     → first_failing (tests ++ more) ≡ first_failing more

@@ -55,8 +55,7 @@ module _ (s : Allocator) (hs : List Handle) (sound : IsSound s) (flushed : s.ask
   all = rw (was.taken, was.aside)
 
   long : length s.pool ≡ top s + (s.limits.slots - s.made)
-  long = ap length was.pool ∙ length-append (old_ones s) (fresh s.made (s.limits.slots - s.made))
-      ∙ ap (top s +◌) (length-fresh s.made (s.limits.slots - s.made))
+  long = search (rules, length-append, old_ones, length-fresh)
 
   pool_is : hs ++ drop n s.pool ≡ old ++ fresh made (s.limits.slots - made)
   pool_is =
@@ -148,8 +147,7 @@ module _ (r : Roster) (hs : List Handle) (sound : IsSound (allocator_of r 0 0))
   below = pending_below r 0 0 (omega arith) sound
 
   as_many : more ≡ 0 → wide ≡ r.pending
-  as_many none = ap (λ k. r.pending ++ fresh r.made k) none
-      ∙ ap (r.pending ++◌) (fresh-none r.made) ∙ append-nil r.pending
+  as_many none = search (rules, fresh-none, append-nil)
 
   pub same_waits : IsPermutation (drop (length wide - length hs) wide) hs
   same_waits = by_count (cases_lt (length r.pending) (length hs))
@@ -189,37 +187,7 @@ module _ (r : Roster) (hs : List Handle) (sound : IsSound (allocator_of r 0 0))
   kept_is = search (rules, cases_lt, wide_long, as_many)
 
   pub front_view : allocator_of (turned (grown r more) hs) 0 0 ≡ with_front (allocator_of r 0 0) hs
-  front_view =
-      let tops : top (allocator_of r 0 0) ≡ length r.pending = top_is r 0 0 (omega arith) sound in
-      let kept = take (length r.pending - length hs) r.pending in
-      let back : reverse (take (length wide - length hs) wide ++ reverse hs) ≡ hs ++ reverse kept =
-      ap (λ xs. reverse (xs ++ reverse hs)) kept_is ∙ reverse-append kept (reverse hs)
-      ∙ ap (◌++ reverse kept) (reverse-reverse hs) in
-      let rest : drop (length hs) (idle r) ≡ reverse kept
-      ++ fresh (r.made + more) (r.limits.slots - (r.made + more)) =
-      drop_joined r.made (r.limits.slots - r.made) (reverse r.pending) below (length hs)
-      ∙ ap (λ k. drop (length hs) (reverse r.pending)
-      ++ fresh (r.made + (length hs - k)) (r.limits.slots - r.made - (length hs - k)))
-      (length-reverse r.pending)
-      ∙ ap (λ k. drop (length hs) (reverse r.pending) ++ fresh (r.made + more) k) (omega arith)
-      ∙ ap (◌++ fresh (r.made + more) (r.limits.slots - (r.made + more)))
-      (drop-reverse (length hs) r.pending) in
-      let pool : reverse (take (length wide - length hs) wide ++ reverse hs)
-      ++ fresh (r.made + more) (r.limits.slots - (r.made + more)) ≡ hs ++ drop (length hs) (idle r) =
-      ap (◌++ fresh (r.made + more) (r.limits.slots - (r.made + more))) back
-      ∙ append_assoc hs (reverse kept) (fresh (r.made + more) (r.limits.slots - (r.made + more)))
-      ∙ ap (hs ++◌) (sym rest) in
-      let made : r.made + more ≡ r.made + (length hs - top (allocator_of r 0 0)) =
-      ap (λ k. r.made + (length hs - k)) (sym tops) in
-      λ i. record {
-        limits = r.limits;
-        live = r.live;
-        pool = pool i;
-        taken = [];
-        aside = [];
-        made = made i;
-        asked = 0;
-      }
+  front_view = let tops : top (allocator_of r 0 0) ≡ length r.pending = top_is r 0 0 (omega arith) sound in let kept = take (length r.pending - length hs) r.pending in let back : reverse (take (length wide - length hs) wide ++ reverse hs) ≡ hs ++ reverse kept = ap (λ xs. reverse (xs ++ reverse hs)) kept_is ∙ reverse-append kept (reverse hs) ∙ ap (◌++ reverse kept) (reverse-reverse hs) in let rest : drop (length hs) (idle r) ≡ reverse kept ++ fresh (r.made + more) (r.limits.slots - (r.made + more)) = search (rules, drop_joined, below, length-reverse, drop-reverse) in let pool : reverse (take (length wide - length hs) wide ++ reverse hs) ++ fresh (r.made + more) (r.limits.slots - (r.made + more)) ≡ hs ++ drop (length hs) (idle r) = ap (◌++ fresh (r.made + more) (r.limits.slots - (r.made + more))) back ∙ append_assoc hs (reverse kept) (fresh (r.made + more) (r.limits.slots - (r.made + more))) ∙ ap (hs ++◌) (sym rest) in let made : r.made + more ≡ r.made + (length hs - top (allocator_of r 0 0)) = ap (λ k. r.made + (length hs - k)) (sym tops) in λ i. record { limits = r.limits; live = r.live; pool = pool i; taken = []; aside = []; made = made i; asked = 0 }
 
 -- ---- where the call begins and ends
 
@@ -228,7 +196,7 @@ module _ (r : Roster) (requests : Requests) (s : Allocator) (hs : List Handle)
     (view : allocator_of r requests.asked requests.served ≡ s) (flushed : s.asked ≡ 0)
     (few : length hs ≤ length s.pool) (same : IsPermutation (take (length hs) s.pool) hs) where
   view_at_rest : allocator_of r 0 0 ≡ s
-  view_at_rest = rest_is r requests.asked requests.served s reserved view flushed
+  view_at_rest = search (rules, rest_is)
 
   sound_in : IsSound s
   sound_in = subst IsSound view reserved.sound
@@ -240,10 +208,10 @@ module _ (r : Roster) (requests : Requests) (s : Allocator) (hs : List Handle)
   pool_at_rest = ap (λ (s : Allocator). s.pool) view_at_rest
 
   few_at_rest : length hs ≤ length (idle r)
-  few_at_rest = subst (λ pool. length hs ≤ length pool) (sym pool_at_rest) few
+  few_at_rest = search (rules, pool_at_rest)
 
   same_at_rest : IsPermutation (take (length hs) (idle r)) hs
-  same_at_rest = subst (λ pool. IsPermutation (take (length hs) pool) hs) (sym pool_at_rest) same
+  same_at_rest = search (rules, pool_at_rest)
 
   pub few_in : length hs ≤ length r.pending + (r.limits.slots - r.made)
   few_in = omega (arith, length-idle r, few_at_rest)
@@ -253,22 +221,13 @@ module _ (r : Roster) (requests : Requests) (s : Allocator) (hs : List Handle)
 
   module _ (r' : Roster) (grown_is : r' ≡ grown r (length hs - length r.pending)) where
     pub enough_in : length hs ≤ length r'.pending
-    enough_in = subst (λ (r : Roster). length hs ≤ length r.pending) (sym grown_is)
-        (enough_wait r hs sound_at_rest few_at_rest same_at_rest)
+    enough_in = search (rules, enough_wait, sound_at_rest, few_at_rest, same_at_rest)
 
     pub waits_in : IsPermutation (drop (length r'.pending - length hs) r'.pending) hs
-    waits_in =
-        subst (λ (r : Roster). IsPermutation (drop (length r.pending - length hs) r.pending) hs)
-        (sym grown_is) (same_waits r hs sound_at_rest few_at_rest same_at_rest)
+    waits_in = search (rules, same_waits, sound_at_rest, few_at_rest, same_at_rest)
 
     pub front_stands : (r'' : Roster) → r'' ≡ turned r' hs → StandFor r'' requests (with_front s hs)
-    front_stands r'' is =
-        let end = turned (grown r (length hs - length r.pending)) hs in
-        closed r'' end requests (with_front s hs) (is ∙ ap (λ r. turned r hs) grown_is)
-        (none_is r requests s reserved view flushed)
-        (front_view r hs sound_at_rest few_at_rest same_at_rest
-        ∙ ap (λ s. with_front s hs) view_at_rest)
-        (with_front-sound s hs sound_in flushed few same) reserved.rows
+    front_stands r'' is = search (rules, closed, none_is, front_view, sound_at_rest, few_at_rest, same_at_rest, view_at_rest, with_front-sound, sound_in)
 
 -- ---- the same of the slots of these handles
 
@@ -277,13 +236,13 @@ module _ (r : Roster) (requests : Requests) (s : Allocator) (is : List ℕ)
     (view : allocator_of r requests.asked requests.served ≡ s) (flushed : s.asked ≡ 0)
     (few : length is ≤ length s.pool) (order : AreSlotsOf (take (length is) s.pool) is) where
   as_long : length is ≡ length order.front
-  as_long = ap length order.slots ∙ length-map order.front (λ (h : Handle). h.index)
+  as_long = search (rules, length-map)
 
   few_front : length order.front ≤ length s.pool
   few_front = omega (arith, as_long)
 
   same_front : IsPermutation (take (length order.front) s.pool) order.front
-  same_front = subst (λ n. IsPermutation (take n s.pool) order.front) as_long order.same
+  same_front = search (rules, as_long)
 
   pub few_of : length is ≤ length r.pending + (r.limits.slots - r.made)
   few_of = omega (arith, as_long, few_in r requests s order.front reserved view flushed few_front same_front)
@@ -389,20 +348,10 @@ turned_part xs ys from n few = by_from (cases_lt (length xs) from)
 
 pub waiting_long : (limits : Limits) (records : List SlotRecord) (pending : List ℕ) (r : Roster)
     → roster_of limits records pending ≡ r → length r.pending ≡ length pending
-waiting_long limits records pending r view =
-    sym (ap (λ (r : Roster). length r.pending) view) ∙ length-map pending (handle_at records)
+waiting_long limits records pending r view = search (rules, length-map)
 
 pub waiting_part : (limits : Limits) (records : List SlotRecord) (pending : List ℕ) (r : Roster)
     (from n : ℕ) → roster_of limits records pending ≡ r → n ≤ length r.pending - from
     → reverse (take n (drop (length pending - from - n) pending))
     ≡ take n (drop from (slots_of (idle r)))
-waiting_part limits records pending r from n view few =
-    let r' = roster_of limits records pending in
-    let news = fresh r'.made (r'.limits.slots - r'.made) in
-    let as_long = waiting_long limits records pending r view in
-    let slots : slots_of (idle r') ≡ reverse pending ++ slots_of news =
-    map-append (λ (h : Handle). h.index) (reverse r'.pending) news
-    ∙ ap (◌++ slots_of news) (slots_waiting records pending) in
-    turned_part pending (slots_of news) from n (omega (arith, as_long))
-    ∙ ap (λ xs. take n (drop from xs)) (sym slots)
-    ∙ ap (λ (r : Roster). take n (drop from (slots_of (idle r)))) view
+waiting_part limits records pending r from n view few = grind (arith, common_steps, as_long, waiting_long, map-append, slots_waiting, turned_part)

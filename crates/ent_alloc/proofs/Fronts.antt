@@ -428,10 +428,10 @@ module _ (limits : Limits) (records : List SlotRecord) (pending : List ℕ) (liv
   hs = order.front
 
   long_view : length r.pending ≡ length pending
-  long_view = sym (ap (λ (r : Roster). length r.pending) view) ∙ length-map pending (handle_at records)
+  long_view = search (rules, length-map)
 
   as_many : length is ≡ length hs
-  as_many = ap length order.slots ∙ length-map hs (λ (h : Handle). h.index)
+  as_many = search (rules, length-map)
 
   few_in : length hs ≤ length pending
   few_in = omega (arith, long_view, as_many)

@@ -20,8 +20,7 @@ use Rattle.ent_alloc.proofs.MeaningOfAlloc.{pool_is}
 
 -- what may be given is not alive
 not_live : (s : Allocator) → IsSound s → All (λ x. ¬ (IsLive s x)) (available s)
-not_live s sound k d lt alive =
-    let x = slice_index_or (available s) k d in not_apart x ((sound.live x alive).apart k d lt)
+not_live s sound k d lt alive = search (rules, not_apart)
 
 -- so it has no row
 pub front_no_row : (e : Entities) (n : ℕ) → IsSound e.allocator → HasRowsOfLiving e
@@ -52,12 +51,11 @@ module _ (r : Roster) (requests : Requests) (s : Allocator) (rest : IsAtRest r r
   requested = search (rules, lower_served r 0 0 n refl, rest.view)
 
   sound : IsSound (allocator_of r n n)
-  sound = subst IsSound (sym requested) (after_take-sound s n rest.sound)
+  sound = search (rules, requested, after_take-sound)
 
   -- the front of the pool, as the vectors have it
   pub front_is : reverse (drop waits r.pending) ++ fresh r.made news ≡ take n s.pool
-  front_is =
-      sym (taken_is r n n (omega arith) enough sound) ∙ ap (take n) (pool_is r requests s rest)
+  front_is = search (rules, taken_is, sound, pool_is)
 
   -- the slots that are left stand for the allocator
   pub many_given : (new : Roster) → new ≡ flushed_roster r waits news

@@ -1,4 +1,5 @@
 -- No handle is given twice: each step keeps the list of all given handles free of repetitions.
+use Rattle.std.proofs.lemmas.Grind.{common_steps}
 use Rattle.std.proofs.Common.{rules, le_of_eq, append-nil, ◌≡◌, ◌≢◌, refl, sym, subst, ℕ, ◌<◌, ◌≤◌}
 use Rattle.std.proofs.Common.{List, [], ◌∷◌, ◌++◌, length, get_or, take, drop, All, Contains}
 use Rattle.std.proofs.Common.{IsPermutation, Ok, arith, inl, inr}
@@ -44,18 +45,7 @@ not_before_if_after h g after same = let later = after same in omega arith
 
 -- what is taken
 pub taken-spent : (s : Allocator) (h : Handle) → IsSound s → Contains s.taken h → IsSpent s h
-taken-spent s h sound in_taken =
-    let across = AllPairs-across AreApart s.taken (s.aside ++ s.pool) sound.apart in
-    let among = AllPairs-left AreApart s.taken (s.aside ++ s.pool) sound.apart in
-    record {
-      left = All-weaker (AreApart h) (After h) (after_if_apart h) (s.aside ++ s.pool)
-          (All-contains (λ g. All (AreApart g) (s.aside ++ s.pool)) s.taken h across in_taken);
-      taken = λ k d lt same.
-          search (rules, same_from_AllPairs AreApart s.taken (get_or s.taken k d) h among);
-      live = λ g alive same.
-          absurd (All-contains (AreApart g) (available s) h (sound.live g alive).apart
-          (Contains-append_left s.taken (s.aside ++ s.pool) h in_taken) same);
-    }
+taken-spent s h sound in_taken = let across = AllPairs-across AreApart s.taken (s.aside ++ s.pool) sound.apart in let among = AllPairs-left AreApart s.taken (s.aside ++ s.pool) sound.apart in record { left = search (rules, All-weaker, after_if_apart, All-contains); taken = λ k d lt same. search (rules, same_from_AllPairs AreApart s.taken (get_or s.taken k d) h among); live = λ g alive same. absurd (All-contains (AreApart g) (available s) h (sound.live g alive).apart (Contains-append_left s.taken (s.aside ++ s.pool) h in_taken) same) }
 
 -- what is alive
 pub live-spent : (s : Allocator) (h : Handle) → IsSound s → IsLive s h → IsSpent s h
@@ -80,19 +70,7 @@ spent_not_in_pool s h g spent in_pool same =
 
 -- after a request
 take-stays_spent : (s : Allocator) (n : ℕ) (h : Handle) → IsSpent s h → IsSpent (after_take s n) h
-take-stays_spent s n h spent = elim (cases_lt (length s.pool) n) [
-  | inl short ↦ search (rules, after_take-refused, append-nil)
-  | inr enough ↦
-      let in_pool : All (After h) s.pool = All-right (After h) s.aside s.pool spent.left in
-      rw (after_take-served s n enough) record {
-        left = All-append (After h) s.aside (drop n s.pool) (All-left (After h) s.aside s.pool
-            spent.left) (All-drop (After h) n s.pool in_pool);
-        taken = All-append (NotBefore h) s.taken (take n s.pool) spent.taken
-            (All-weaker (After h) (NotBefore h) (not_before_if_after h) (take n s.pool)
-            (All-take (After h) n s.pool in_pool));
-        live = spent.live;
-      }
-]
+take-stays_spent s n h spent = elim (cases_lt (length s.pool) n) [ | inl short ↦ search (rules, after_take-refused, append-nil) | inr enough ↦ let in_pool : All (After h) s.pool = All-right (After h) s.aside s.pool spent.left in rw (after_take-served s n enough) record { left = All-append (After h) s.aside (drop n s.pool) (All-left (After h) s.aside s.pool spent.left) (All-drop (After h) n s.pool in_pool); taken = grind (arith, common_steps, All-append, All-weaker, not_before_if_after, All-take); live = spent.live } ]
 
 -- after a flush
 flush-stays_spent : (s : Allocator) (h : Handle) → IsSpent s h → IsSpent (after_flush s) h
@@ -105,15 +83,7 @@ flush-stays_spent s h spent = record {
 -- after an allocation
 alloc-stays_spent : (s : Allocator) (x : Handle) (rest : List Handle) (h : Handle) → s.pool ≡ x
     ∷ rest → IsSpent s h → IsSpent (after_alloc s x) h
-alloc-stays_spent s x rest h front spent =
-    let in_pool : All (After h) s.pool = All-right (After h) s.aside s.pool spent.left in
-    let first : After h x = All-head (After h) x rest (subst (All (After h)) front in_pool) in
-    record {
-      left = All-append (After h) s.aside (drop 1 s.pool) (All-left (After h) s.aside s.pool
-          spent.left) (All-drop (After h) 1 s.pool in_pool);
-      taken = spent.taken;
-      live = of_inserted (NotBefore h) s.live x (not_before_if_after h x first) spent.live;
-    }
+alloc-stays_spent s x rest h front spent = let in_pool : All (After h) s.pool = All-right (After h) s.aside s.pool spent.left in let first : After h x = search (rules, All-head) in record { left = All-append (After h) s.aside (drop 1 s.pool) (All-left (After h) s.aside s.pool spent.left) (All-drop (After h) 1 s.pool in_pool); taken = spent.taken; live = of_inserted (NotBefore h) s.live x (not_before_if_after h x first) spent.live }
 
 -- after a free: the slot goes on with the next generation, or gives nothing more
 free-stays_spent : (s : Allocator) (x h : Handle) → IsLive s x → IsSpent s h
@@ -161,13 +131,7 @@ flush-given s given once = search (rules, All-weaker, flush-stays_spent)
 -- an allocation gives what was never given
 pub alloc-given : (s : Allocator) (x : Handle) (rest given : List Handle) → IsSound s → s.asked ≡ 0
     → s.pool ≡ x ∷ rest → AreSpent s given → AreSpent (after_alloc s x) (given ++ x ∷ [])
-alloc-given s x rest given sound flushed front once = record {
-  distinct = all_pairs_push (λ g h. g ≢ h) given x once.distinct
-      (λ k d lt. spent_not_in_pool s (get_or given k d) x (once.spent k d lt)
-      (subst (λ pool. Contains pool x) (sym front) (0, omega arith, refl)));
-  spent = let sound_then = after_alloc-sound s x rest sound flushed front in
-      search (rules, All-push, All-weaker, alloc-stays_spent, live-spent, inserted);
-}
+alloc-given s x rest given sound flushed front once = record { distinct = all_pairs_push (λ g h. g ≢ h) given x once.distinct (λ k d lt. spent_not_in_pool s (get_or given k d) x (once.spent k d lt) (subst (λ pool. Contains pool x) (sym front) (0, omega arith, refl))); spent = search (rules, after_alloc-sound, All-push, All-weaker, alloc-stays_spent, live-spent, inserted) }
 
 -- a free gives nothing
 pub free-given : (s : Allocator) (x : Handle) (given : List Handle) → IsLive s x → AreSpent s given

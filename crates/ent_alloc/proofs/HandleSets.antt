@@ -78,7 +78,7 @@ in_union_list s more x e = search (rules, either_true, contains-union_list, Cont
 -- what was there stays
 pub union_list_keeps : (s : Handles) (more : List Handle) (x : Handle) → IsTrue (set.contains s x)
     → IsTrue (set.contains (set.union s (set.from_list more)) x)
-union_list_keeps s more x e = contains-union_list s more x ∙ ap (λ b. b || stands_in more x) e
+union_list_keeps s more x e = search (rules, contains-union_list)
 
 -- what is in the list is there
 pub union_list_has : (s : Handles) (more : List Handle) (x : Handle) → Contains more x

@@ -21,20 +21,17 @@ chunk_at (suc k) (suc i) bytes d lt =
 
 -- how many there are
 pub pieces : (bytes : List ℕ) (made : ℕ) → length bytes ≡ 12 * made → length bytes / 12 ≡ made
-pieces bytes made long =
-    let turned : 12 * made ≡ made * 12 + 0 = omega arith in
-    ap (λ n. n / 12) (long ∙ turned) ∙ div-mul-add made 12 0 (omega arith)
+pieces bytes made long = search (rules, div-mul-add)
 
 module _ (bytes : List ℕ) (made : ℕ) (chunks : List (List ℕ)) (index : ℕ) (d : List ℕ)
     (front : chunks ≡ first_chunks 12 (length bytes / 12) bytes)
     (count : length chunks ≡ length bytes / 12) (long : length bytes ≡ 12 * made)
     (lt : index < length chunks) where
   piece_is : get_or chunks index d ≡ take 12 (drop (12 * index) bytes)
-  piece_is = ap (λ cs. get_or cs index d) front
-      ∙ chunk_at (length bytes / 12) index bytes d (omega (arith, count, lt))
+  piece_is = search (rules, chunk_at)
 
   pub before_end : index < made
-  before_end = let all = pieces bytes made long in omega (arith, count, lt)
+  before_end = search (rules, pieces)
 
   pub length-piece : length (get_or chunks index d) ≡ 12
   length-piece = search (rules, before_end, length-drop, piece_is, length-take-le)
@@ -50,7 +47,7 @@ module _ (bytes : List ℕ) (made : ℕ) (chunks : List (List ℕ)) (index : ℕ
   -- the piece is a slot
   pub slot_cut : (s : SlotRecord) → get_or chunks index d ≡ record_bytes s
       → drop (12 * index) bytes ≡ record_bytes s ++ drop (12 * (index + 1)) bytes
-  slot_cut s is = cut ∙ ap (λ piece. piece ++ drop (12 * (index + 1)) bytes) is
+  slot_cut s is = search (rules, cut)
 
   -- or none
   pub none_cut : (limits : Limits)

@@ -1,4 +1,5 @@
 -- What the tests of slots answer of bytes of which some have been read.
+use Rattle.std.proofs.Common.{rules}
 use Rattle.std.proofs.Common.{◌≡◌, ◌≢◌, refl, sym, ap, ◌∙◌, ℕ, zero, suc, ◌+◌, ◌*◌, ◌^◌, ◌<◌, ◌≤◌}
 use Rattle.std.proofs.Common.{Bool, true, false, ◌&&◌, eqb, List, [], ◌∷◌, ◌++◌, length}
 use Rattle.std.proofs.Common.{get_or, map, arith, subst, None, Some, inl, inr}
@@ -47,18 +48,7 @@ first_spelled s rest fits =
 
 next_spelled : (front more : List ℕ) (n index : ℕ) (s : SlotRecord) → length front ≡ 12 * n
     → IsSpelled more index s → IsSpelled (front ++ more) (n + index) s
-next_spelled front more n index s all is =
-    let first : 12 * (n + index) ≡ 12 * n + 12 * index = omega arith in
-    let second : 12 * (n + index) + 4 ≡ 12 * n + (12 * index + 4) = omega arith in
-    let third : 12 * (n + index) + 8 ≡ 12 * n + (12 * index + 8) = omega arith in
-    record {
-      generation = ap (word_at (front ++ more)) first
-          ∙ word_past front more (12 * n) (12 * index) all ∙ is.generation;
-      kind = ap (word_at (front ++ more)) second
-          ∙ word_past front more (12 * n) (12 * index + 4) all ∙ is.kind;
-      number = ap (word_at (front ++ more)) third
-          ∙ word_past front more (12 * n) (12 * index + 8) all ∙ is.number;
-    }
+next_spelled front more n index s all is = let first : 12 * (n + index) ≡ 12 * n + 12 * index = omega arith in let second : 12 * (n + index) + 4 ≡ 12 * n + (12 * index + 4) = omega arith in let third : 12 * (n + index) + 8 ≡ 12 * n + (12 * index + 8) = omega arith in record { generation = search (rules, word_past); kind = ap (word_at (front ++ more)) second ∙ word_past front more (12 * n) (12 * index + 4) all ∙ is.kind; number = ap (word_at (front ++ more)) third ∙ word_past front more (12 * n) (12 * index + 8) all ∙ is.number }
 
 all_spelled : (records : List SlotRecord) (rest : List ℕ)
     → ((k : ℕ) → k < length records → IsSmall (kept (record_at records k)))
@@ -88,12 +78,9 @@ length-records (r ∷ records) =
 row_of_kept : (limits : Limits) (g : ℕ) (t : Occupancy) → IsGeneration limits g
     → is_slot limits.generations (kept_generation t g) (kind_of t) (number_of t) ≡ true
 row_of_kept limits g Retired is = refl
-row_of_kept limits g Alive is =
-    let least = is.least in let most = is.greatest in grind (arith, common_steps)
-row_of_kept limits g (AliveWithRow row) is =
-    let least = is.least in let most = is.greatest in grind (arith, common_steps)
-row_of_kept limits g (Pending position) is =
-    let least = is.least in let most = is.greatest in grind (arith, common_steps)
+row_of_kept limits g Alive is = search rules
+row_of_kept limits g (AliveWithRow row) is = search rules
+row_of_kept limits g (Pending position) is = search rules
 
 waits_there : (kind number position : ℕ) → kind ≡ 3 → number ≡ position
     → (eqb kind 3 && eqb number position) ≡ true
@@ -126,17 +113,11 @@ module _ (limits : Limits) (within : AreLimits limits) (records : List SlotRecor
 
   waits : (j position : ℕ) → j < length records → (record_at records j).occupancy ≡ Pending position
       → waits_at slots position j ≡ true
-  waits j position lt is =
-      let words = spelled_at j lt in
-      waits_there (kind_in slots j) (number_in slots j) position (words.kind ∙ ap kind_of is)
-      (words.number ∙ ap number_of is)
+  waits j position lt is = let words = spelled_at j lt in search (rules, waits_there)
 
   waits_not : (j position : ℕ) → j < length records
       → (record_at records j).occupancy ≢ Pending position → waits_at slots position j ≡ false
-  waits_not j position lt other =
-      let words = spelled_at j lt in
-      waits_elsewhere (record_at records j).occupancy (kind_in slots j) (number_in slots j) position
-      words.kind words.number other
+  waits_not j position lt other = let words = spelled_at j lt in search (rules, waits_elsewhere)
 
   -- a position that some slot waits at, and one that none does
   taken : (count position : ℕ) → count ≤ length records → position < length pending
@@ -151,9 +132,7 @@ module _ (limits : Limits) (within : AreLimits limits) (records : List SlotRecor
   untaken : (count position : ℕ) → count ≤ length records
       → ((j : ℕ) → j < count → (record_at records j).occupancy ≢ Pending position)
       → is_taken slots count position ≡ false
-  untaken count position le none = none_is (waits_at slots position) 0 count (λ j lt.
-      let at : 0 + j ≡ j = omega arith in
-      ap (waits_at slots position) at ∙ waits_not j position (omega arith) (none j lt))
+  untaken count position le none = search (rules, none_is, waits_not)
 
   abbrev tested : ℕ → Test
   tested = slot_test limits.generations (length pending) slots
@@ -166,15 +145,7 @@ module _ (limits : Limits) (within : AreLimits limits) (records : List SlotRecor
       has_none slots (length pending) k (λ three. absurd (omega arith))
   place_of k Retired lt is = let kind = (spelled_at k lt).kind ∙ ap kind_of is in
       has_none slots (length pending) k (λ three. absurd (omega arith))
-  place_of k (Pending position) lt is =
-      let number : number_in slots k ≡ position = (spelled_at k lt).number ∙ ap number_of is in
-      let below : position < length pending = read.listed k position lt is in
-      let here = read.back k position lt is in
-      let free : is_taken slots k (number_in slots k) ≡ false =
-      ap (is_taken slots k) number ∙ untaken k position (omega arith) (λ j before waits.
-      let there = read.back j position (omega arith) waits in
-      omega (arith, before)) in
-      grind (arith, common_steps)
+  place_of k (Pending position) lt is = let number : number_in slots k ≡ position = (spelled_at k lt).number ∙ ap number_of is in let below : position < length pending = read.listed k position lt is in let here = read.back k position lt is in let free : is_taken slots k (number_in slots k) ≡ false = search (rules, untaken, waits) in grind (arith, common_steps)
 
   passes : (k : ℕ) → k < length records → (tested k).0 ≡ true
   passes k lt = grind (arith, common_steps, spelled_at, row_of_kept, and_from, place_of)
@@ -199,21 +170,7 @@ module _ (limits : Limits) (within : AreLimits limits) (records : List SlotRecor
     pub no_row_next : (slot more : List ℕ) → rest ≡ slot ++ more → length slot ≡ 12
         → is_slot limits.generations (word_at slot 0) (word_at slot 4) (word_at slot 8) ≡ false
         → length records < made → first_failing slots_then ≡ Some (Slot (length records))
-    no_row_next slot more cut all none_is_it lt =
-        let index = length records in
-        let long = length-records records in
-        let bytes = same ∙ ap (flat_map record_bytes records ++◌) cut in
-        let at = λ (place : ℕ) (inside : place + 4 ≤ 12).
-        ap (λ bs. word_at bs (12 * index + place)) bytes
-        ∙ word_past (flat_map record_bytes records) (slot ++ more) (12 * index) place long
-        ∙ word_before slot more place (omega arith) in
-        let none : 12 * index + 0 ≡ 12 * index = omega arith in
-        let first : generation_of slots index ≡ word_at slot 0 =
-        ap (word_at slots) (sym none) ∙ at 0 (omega arith) in
-        let second : kind_in slots index ≡ word_at slot 4 = at 4 (omega arith) in
-        let third : number_in slots index ≡ word_at slot 8 = at 8 (omega arith) in
-        let row = (λ i. is_slot limits.generations (first i) (second i) (third i)) ∙ none_is_it in
-        slot_fault lt (ap (λ b. b && has_place slots (length pending) index) row)
+    no_row_next slot more cut all none_is_it lt = let index = length records in let long = length-records records in let bytes = same ∙ ap (flat_map record_bytes records ++◌) cut in let at = λ (place : ℕ) (inside : place + 4 ≤ 12). ap (λ bs. word_at bs (12 * index + place)) bytes ∙ word_past (flat_map record_bytes records) (slot ++ more) (12 * index) place long ∙ word_before slot more place (omega arith) in let none : 12 * index + 0 ≡ 12 * index = omega arith in let first : generation_of slots index ≡ word_at slot 0 = ap (word_at slots) (sym none) ∙ at 0 (omega arith) in let second : kind_in slots index ≡ word_at slot 4 = at 4 (omega arith) in let third : number_in slots index ≡ word_at slot 8 = at 8 (omega arith) in let row = (λ i. is_slot limits.generations (first i) (second i) (third i)) ∙ none_is_it in search (rules, slot_fault)
 
     -- a slot that has no place to wait at
     pub no_place_next : (s : SlotRecord) (more : List ℕ) → rest ≡ record_bytes s ++ more
@@ -255,9 +212,7 @@ module _ (limits : Limits) (within : AreLimits limits) (records : List SlotRecor
 
     module _ (all : length records ≡ made) where
       slots_pass : first_failing (map tested (range_with_len 0 made)) ≡ None
-      slots_pass = each_passes tested 0 made (λ k lt.
-          let at : 0 + k ≡ k = omega arith in
-          ap (λ i. (tested i).0) at ∙ passes k (omega arith))
+      slots_pass = search (rules, each_passes, passes)
 
       position_passes : (position : ℕ) → position < length pending
           → get_or pending position 0 ≢ vacant → (position_test made slots (0 + position)).0 ≡ true
@@ -265,9 +220,7 @@ module _ (limits : Limits) (within : AreLimits limits) (records : List SlotRecor
 
       pub no_fault : ((position : ℕ) → position < length pending
           → get_or pending position 0 ≢ vacant) → first_failing slots_then ≡ None
-      no_fault each = passed_before (map tested (range_with_len 0 made)) _ slots_pass
-          ∙ each_passes (position_test made slots) 0 (length pending) (λ position lt.
-          position_passes position lt (each position lt))
+      no_fault each = search (rules, passed_before, slots_pass, each_passes, position_passes)
 
       pub position_free : (position : ℕ) → made ≤ limits.slots → position < length pending
           → get_or pending position 0 ≡ vacant

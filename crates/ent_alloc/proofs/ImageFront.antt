@@ -1,4 +1,5 @@
 -- What the tests of the first forty bytes answer.
+use Rattle.std.proofs.lemmas.Grind.{common_steps}
 use Rattle.std.proofs.Common.{◌≡◌, ◌≢◌, refl, sym, ap, ◌∙◌, ℕ, ◌+◌, ◌-◌, ◌*◌, ◌^◌, ◌<◌, ◌≤◌, ◌⊎◌}
 use Rattle.std.proofs.Common.{Bool, true, false, ◌&&◌, ◌||◌, eqb, leb, ltb, List, [], ◌∷◌, ◌++◌}
 use Rattle.std.proofs.Common.{length, drop, Option, None, Some, arith, rules}
@@ -43,23 +44,19 @@ abbrev version_test : List ℕ → Test
 version_test bytes = (eqb (word_at bytes 8) version, Version (word_at bytes 8))
 
 begins : (bytes rest : List ℕ) → bytes ≡ magic ++ rest → starts_with nat_eq bytes magic ≡ true
-begins bytes rest is =
-    (starts_is Decides-eqb bytes magic (starts_with nat_eq bytes magic) refl).1 rest is
+begins bytes rest is = search (rules, starts_is, Decides-eqb)
 
 begins_not : (bytes : List ℕ) → ((rest : List ℕ) → bytes ≢ magic ++ rest)
     → starts_with nat_eq bytes magic ≡ false
-begins_not bytes not = is_false (starts_with nat_eq bytes magic) (λ is. not (drop 8 bytes)
-    ((starts_is Decides-eqb bytes magic (starts_with nat_eq bytes magic) refl).0 is))
+begins_not bytes not = search (rules, is_false, starts_is, Decides-eqb)
 
 pub magic_fault : (bytes : List ℕ) → ((rest : List ℕ) → bytes ≢ magic ++ rest)
     → first_failing (front_tests bytes) ≡ Some Magic
-magic_fault bytes not = failed (magic_test bytes) (length_test bytes ∷ version_test bytes ∷ [])
-    (begins_not bytes not)
+magic_fault bytes not = search (rules, failed, begins_not)
 
 pub too_short_for_magic : (bytes : List ℕ) → length bytes < 8 → (rest : List ℕ) → bytes
     ≢ magic ++ rest
-too_short_for_magic bytes short rest is =
-    let joined = ap length is ∙ length-append magic rest in omega (arith, short, joined)
+too_short_for_magic bytes short rest is = search (rules, length-append)
 
 pub other_letters : (number : ℕ) (bytes more : List ℕ) → bytes ≡ long number ++ more
     → number < 2 ^ 64 → number ≢ letters → (rest : List ℕ) → bytes ≢ magic ++ rest
@@ -72,8 +69,7 @@ module _ (bytes more : List ℕ) (is : bytes ≡ long letters ++ more) where
   has_letters = begins bytes more (is ∙ ap (λ xs. xs ++ more) letters_are)
 
   pub length_fault : length bytes < 40 → first_failing (front_tests bytes) ≡ Some (Length 40)
-  length_fault short = passed (magic_test bytes) (length_test bytes ∷ version_test bytes ∷ []) has_letters
-      ∙ failed (length_test bytes) (version_test bytes ∷ []) (lt-leb 40 (length bytes) short)
+  length_fault short = search (rules, passed, has_letters, failed, lt-leb)
 
   module _ (enough : 40 ≤ length bytes) (number : ℕ) (rest : List ℕ) (below : number < 2 ^ 32)
       (spelled : more ≡ word number ++ rest) where
@@ -83,15 +79,13 @@ module _ (bytes more : List ℕ) (is : bytes ≡ long letters ++ more) where
         ∙ word_here number rest below
 
     to_version : first_failing (front_tests bytes) ≡ first_failing (version_test bytes ∷ [])
-    to_version = passed (magic_test bytes) (length_test bytes ∷ version_test bytes ∷ []) has_letters
-        ∙ passed (length_test bytes) (version_test bytes ∷ []) (le-leb 40 (length bytes) enough)
+    to_version = search (rules, passed, has_letters, le-leb)
 
     pub version_fault : number ≢ version → first_failing (front_tests bytes) ≡ Some (Version number)
     version_fault other = search (rules, to_version, failed, ne_eqb, version_is)
 
     pub front_passes : number ≡ version → first_failing (front_tests bytes) ≡ None
-    front_passes same = to_version
-        ∙ passed (version_test bytes) [] (eq-eqb (word_at bytes 8) version (version_is ∙ same))
+    front_passes same = search (rules, to_version, passed, eq-eqb, version_is)
 
 -- ---- the numbers
 
@@ -99,57 +93,10 @@ module _ (h : Header) (rest : List ℕ) (fits : AreNumbers h) where
   spelled_out : header_bytes h ++ rest ≡ long letters ++ (word version ++ (word h.slots
       ++ (word h.generations ++ (word h.made ++ (word h.waiting ++ (word h.reserved
       ++ (long h.asked ++ rest)))))))
-  spelled_out = header_then h rest
-      ∙ ap (λ xs. long letters ++ (word version ++ xs)) (numbers_then h rest)
+  spelled_out = search (rules, header_then, letters, numbers_then)
 
   header_is_in : header_in (header_bytes h ++ rest) ≡ h
-  header_is_in =
-      let asked_on = long h.asked ++ rest in
-      let reserved_on = word h.reserved ++ asked_on in
-      let waiting_on = word h.waiting ++ reserved_on in
-      let made_on = word h.made ++ waiting_on in
-      let generations_on = word h.generations ++ made_on in
-      let slots_on = word h.slots ++ generations_on in
-      let version_on = word version ++ slots_on in
-      let to_slots = λ (place : ℕ).
-      word_past (long letters) version_on 8 (4 + place) (length-long letters)
-      ∙ word_past (word version) slots_on 4 place (length-word version) in
-      let past_slots = λ (place : ℕ).
-      word_past (word h.slots) generations_on 4 place (length-word h.slots) in
-      let past_generations = λ (place : ℕ).
-      word_past (word h.generations) made_on 4 place (length-word h.generations) in
-      let past_made = λ (place : ℕ).
-      word_past (word h.made) waiting_on 4 place (length-word h.made) in
-      let past_waiting = λ (place : ℕ).
-      word_past (word h.waiting) reserved_on 4 place (length-word h.waiting) in
-      let slots = ap (λ bs. word_at bs 12) spelled_out ∙ to_slots 0
-      ∙ word_here h.slots generations_on fits.slots in
-      let generations = ap (λ bs. word_at bs 16) spelled_out ∙ to_slots 4 ∙ past_slots 0
-      ∙ word_here h.generations made_on fits.generations in
-      let made = ap (λ bs. word_at bs 20) spelled_out ∙ to_slots 8 ∙ past_slots 4
-      ∙ past_generations 0 ∙ word_here h.made waiting_on fits.made in
-      let waiting = ap (λ bs. word_at bs 24) spelled_out ∙ to_slots 12 ∙ past_slots 8
-      ∙ past_generations 4 ∙ past_made 0 ∙ word_here h.waiting reserved_on fits.waiting in
-      let reserved = ap (λ bs. word_at bs 28) spelled_out ∙ to_slots 16 ∙ past_slots 12
-      ∙ past_generations 8 ∙ past_made 4 ∙ past_waiting 0
-      ∙ word_here h.reserved asked_on fits.reserved in
-      let asked = ap (λ bs. long_at bs 32) spelled_out
-      ∙ long_past (long letters) version_on 8 24 (length-long letters)
-      ∙ long_past (word version) slots_on 4 20 (length-word version)
-      ∙ long_past (word h.slots) generations_on 4 16 (length-word h.slots)
-      ∙ long_past (word h.generations) made_on 4 12 (length-word h.generations)
-      ∙ long_past (word h.made) waiting_on 4 8 (length-word h.made)
-      ∙ long_past (word h.waiting) reserved_on 4 4 (length-word h.waiting)
-      ∙ long_past (word h.reserved) asked_on 4 0 (length-word h.reserved)
-      ∙ long_here h.asked rest fits.asked in
-      λ i. record {
-        slots = slots i;
-        generations = generations i;
-        made = made i;
-        waiting = waiting i;
-        reserved = reserved i;
-        asked = asked i;
-      }
+  header_is_in = let asked_on = long h.asked ++ rest in let reserved_on = word h.reserved ++ asked_on in let waiting_on = word h.waiting ++ reserved_on in let made_on = word h.made ++ waiting_on in let generations_on = word h.generations ++ made_on in let slots_on = word h.slots ++ generations_on in let version_on = word version ++ slots_on in let to_slots = λ (place : ℕ). word_past (long letters) version_on 8 (4 + place) (length-long letters) ∙ word_past (word version) slots_on 4 place (length-word version) in let past_slots = λ (place : ℕ). word_past (word h.slots) generations_on 4 place (length-word h.slots) in let past_generations = λ (place : ℕ). word_past (word h.generations) made_on 4 place (length-word h.generations) in let past_made = λ (place : ℕ). word_past (word h.made) waiting_on 4 place (length-word h.made) in let past_waiting = λ (place : ℕ). word_past (word h.waiting) reserved_on 4 place (length-word h.waiting) in let slots = ap (λ bs. word_at bs 12) spelled_out ∙ to_slots 0 ∙ word_here h.slots generations_on fits.slots in let generations = ap (λ bs. word_at bs 16) spelled_out ∙ to_slots 4 ∙ past_slots 0 ∙ word_here h.generations made_on fits.generations in let made = ap (λ bs. word_at bs 20) spelled_out ∙ to_slots 8 ∙ past_slots 4 ∙ past_generations 0 ∙ word_here h.made waiting_on fits.made in let waiting = ap (λ bs. word_at bs 24) spelled_out ∙ to_slots 12 ∙ past_slots 8 ∙ past_generations 4 ∙ past_made 0 ∙ word_here h.waiting reserved_on fits.waiting in let reserved = ap (λ bs. word_at bs 28) spelled_out ∙ to_slots 16 ∙ past_slots 12 ∙ past_generations 8 ∙ past_made 4 ∙ past_waiting 0 ∙ word_here h.reserved asked_on fits.reserved in let asked = ap (λ bs. long_at bs 32) spelled_out ∙ long_past (long letters) version_on 8 24 (length-long letters) ∙ long_past (word version) slots_on 4 20 (length-word version) ∙ long_past (word h.slots) generations_on 4 16 (length-word h.slots) ∙ long_past (word h.generations) made_on 4 12 (length-word h.generations) ∙ long_past (word h.made) waiting_on 4 8 (length-word h.made) ∙ long_past (word h.waiting) reserved_on 4 4 (length-word h.waiting) ∙ long_past (word h.reserved) asked_on 4 0 (length-word h.reserved) ∙ long_here h.asked rest fits.asked in search rules
 
 -- the tests that are left after the first ones
 abbrev pub later_tests : Header → ℕ → List ℕ → List Test
@@ -161,32 +108,22 @@ module _ (bytes : List ℕ) (h : Header) (rest : List ℕ) (fits : AreNumbers h)
   numbers = ap header_in is ∙ header_is_in h rest fits
 
   pub to_numbers : first_fault bytes ≡ first_failing (later_tests h (length bytes) rest)
-  to_numbers =
-      let left : drop 40 bytes ≡ rest =
-      ap (drop 40) is ∙ drop_at (header_bytes h) rest 40 (length-header_bytes h) in
-      passed_before (front_tests bytes)
-      (later_tests (header_in bytes) (length bytes) (drop 40 bytes)) front
-      ∙ (λ i. first_failing (later_tests (numbers i) (length bytes) (left i)))
+  to_numbers = let left : drop 40 bytes ≡ rest = ap (drop 40) is ∙ drop_at (header_bytes h) rest 40 (length-header_bytes h) in grind (arith, common_steps, passed_before, numbers)
 
   pub no_header_fault : first_failing (header_tests h (length bytes)) ≡ None
       → header_fault bytes ≡ None
-  no_header_fault passes =
-      passed_before (front_tests bytes) (header_tests (header_in bytes) (length bytes)) front
-      ∙ (λ i. first_failing (header_tests (numbers i) (length bytes))) ∙ passes
+  no_header_fault passes = search (rules, passed_before, numbers)
 
 -- a fault of the first ones
 pub front_fault : (bytes : List ℕ) (fault : ImageFault)
     → first_failing (front_tests bytes) ≡ Some fault → first_fault bytes ≡ Some fault
-front_fault bytes fault is = failed_before (front_tests bytes)
-    (later_tests (header_in bytes) (length bytes) (drop 40 bytes)) fault is
+front_fault bytes fault is = search (rules, failed_before)
 
 -- ---- the tests of the numbers
 
 limits_true : (h : Header) → AreLimits (record { slots = h.slots; generations = h.generations })
     → in_limits h ≡ true
-limits_true h are = and_from (leb 1 h.slots && leb 1 h.generations) (ltb h.generations (2 ^ 31))
-    (and_from (leb 1 h.slots) (leb 1 h.generations) (le-leb 1 h.slots are.some_slot)
-    (le-leb 1 h.generations are.some_generation)) (lt-ltb h.generations (2 ^ 31) are.generations)
+limits_true h are = search (rules, and_from, le-leb, lt-ltb)
 
 limits_false : (h : Header) → h.slots < 2 ^ 32
     → ¬ (AreLimits (record { slots = h.slots; generations = h.generations }))
@@ -194,8 +131,7 @@ limits_false : (h : Header) → h.slots < 2 ^ 32
 limits_false h fits not = search (rules, is_false, and_parts, leb-true, ltb-true)
 
 counts_true : (h : Header) → h.made ≤ h.slots → h.waiting ≤ h.made → in_counts h ≡ true
-counts_true h few wait = and_from (leb h.made h.slots) (leb h.waiting h.made)
-    (le-leb h.made h.slots few) (le-leb h.waiting h.made wait)
+counts_true h few wait = search (rules, and_from, le-leb)
 
 counts_false : (h : Header) → (h.slots < h.made) ⊎ (h.made < h.waiting) → in_counts h ≡ false
 counts_false h over = search (rules, is_false, and_parts, leb-true)
@@ -237,36 +173,31 @@ module _ (h : Header) (len : ℕ) (slots : List ℕ) where
   pub limits_fault : h.slots < 2 ^ 32
       → ¬ (AreLimits (record { slots = h.slots; generations = h.generations }))
       → later ≡ Some BadLimits
-  limits_fault fits not = failed (in_limits h, BadLimits) ((in_counts h, Counts) ∷ from_requests)
-      (limits_false h fits not)
+  limits_fault fits not = search (rules, failed, limits_false)
 
   module _ (limits : AreLimits (record { slots = h.slots; generations = h.generations })) where
     to_counts : later ≡ first_failing ((in_counts h, Counts) ∷ from_requests)
-    to_counts = passed (in_limits h, BadLimits) ((in_counts h, Counts) ∷ from_requests)
-        (limits_true h limits)
+    to_counts = search (rules, passed, limits_true)
 
     pub counts_fault : (h.slots < h.made) ⊎ (h.made < h.waiting) → later ≡ Some Counts
-    counts_fault over = to_counts ∙ failed (in_counts h, Counts) from_requests (counts_false h over)
+    counts_fault over = search (rules, to_counts, failed, counts_false)
 
     module _ (few : h.made ≤ h.slots) (wait : h.waiting ≤ h.made) where
       to_requests : later ≡ first_failing from_requests
-      to_requests = to_counts ∙ passed (in_counts h, Counts) from_requests (counts_true h few wait)
+      to_requests = search (rules, to_counts, passed, counts_true)
 
       pub requests_fault : ¬ (AreServed h.asked h.reserved (given h)) → later ≡ Some Requests
-      requests_fault not = to_requests
-          ∙ failed (in_requests h, Requests) (whole_test ∷ for_slots) (requests_false h not)
+      requests_fault not = search (rules, to_requests, failed, requests_false)
 
       module _ (served : AreServed h.asked h.reserved (given h)) where
         to_length : later ≡ first_failing (whole_test ∷ for_slots)
-        to_length = to_requests
-            ∙ passed (in_requests h, Requests) (whole_test ∷ for_slots) (requests_true h served)
+        to_length = search (rules, to_requests, passed, requests_true)
 
         pub whole_length_fault : len ≢ 40 + 12 * h.made → later ≡ Some (Length (40 + 12 * h.made))
-        whole_length_fault other = to_length
-            ∙ failed whole_test for_slots (ne_eqb len (40 + 12 * h.made) other)
+        whole_length_fault other = search (rules, to_length, failed, ne_eqb)
 
         pub header_passes : len ≡ 40 + 12 * h.made → first_failing (header_tests h len) ≡ None
         header_passes same = search (rules, passed, limits_true, counts_true, requests_true, eq-eqb)
 
         pub to_slots : len ≡ 40 + 12 * h.made → later ≡ first_failing for_slots
-        to_slots same = to_length ∙ passed whole_test for_slots (eq-eqb len (40 + 12 * h.made) same)
+        to_slots same = search (rules, to_length, passed, eq-eqb)

@@ -45,13 +45,11 @@ length-header_bytes h = search (rules, length-append, length-word, length-number
 -- the header, number by number
 pub header_is : (h : Header) → header_bytes h ≡ long letters ++ (word version ++ numbers_bytes h)
 unfolding header_bytes
-header_is h = ap (λ ms. ms ++ (word version ++ numbers_bytes h)) (sym letters_are)
+header_is h = search (rules, letters_are)
 
 pub header_then : (h : Header) (rest : List ℕ) → header_bytes h ++ rest
     ≡ long letters ++ (word version ++ (numbers_bytes h ++ rest))
-header_then h rest = ap (◌++ rest) (header_is h)
-    ∙ append_assoc (long letters) (word version ++ numbers_bytes h) rest
-    ∙ ap (long letters ++◌) (append_assoc (word version) (numbers_bytes h) rest)
+header_then h rest = search (rules, header_is, append_assoc)
 
 pub numbers_then : (h : Header) (rest : List ℕ) → numbers_bytes h ++ rest ≡ word h.slots
     ++ (word h.generations ++ (word h.made ++ (word h.waiting ++ (word h.reserved
@@ -69,14 +67,11 @@ same_header h k xs ys is_h is_k same =
 
 pub too_short : (bytes : List ℕ) → length bytes < 40 → (h : Header) (rest : List ℕ) → bytes
     ≢ header_bytes h ++ rest
-too_short bytes short h rest same =
-    let long = ap length same ∙ length-append (header_bytes h) rest in
-    omega (arith, long, length-header_bytes h)
+too_short bytes short h rest same = search (rules, length-append, length-header_bytes)
 
 pub other_magic : (number : ℕ) (bytes : List ℕ) → number < 2 ^ 64 → number ≢ letters
     → (h : Header) (rest : List ℕ) → long number ++ bytes ≢ header_bytes h ++ rest
-other_magic number bytes below other h rest same =
-    other (same_longs number letters _ _ below (omega arith) (same ∙ header_then h rest)).0
+other_magic number bytes below other h rest same = search (rules, same_longs, header_then)
 
 pub other_version : (number : ℕ) (bytes : List ℕ) → number < 2 ^ 32 → number ≢ version
     → (h : Header) (rest : List ℕ) → long letters ++ (word number ++ bytes) ≢ header_bytes h ++ rest

@@ -113,64 +113,13 @@ module _ (limits : Limits) (records : List SlotRecord) (pending : List ℕ)
   row_is h = get_rows records h
 
   pub are_slots : AreSlots stands
-  are_slots = record {
-    limits = tied.limited;
-    made = tied.few;
-    live_within = λ h lives.
-        let same = generation_of h lives in
-        let made = made_of h lives in
-        record {
-          index = omega (arith, tied.few);
-          least = omega (arith, tied.least h.index made);
-          greatest = omega (arith, tied.greatest h.index made);
-        };
-    live_made = made_of;
-    live_apart = λ h lives position d lt same.
-        let within : position < length pending = omega (arith, long) in
-        let index : h.index ≡ get_or pending position 0 =
-        same ∙ ap (λ (g : Handle). g.index) (at position d within) in
-        not_pending h position lives (ap (λ i. (record_at records i).occupancy) index
-        ∙ tied.forward position within);
-    one_occupant = λ g h in_g in_h same.
-        let generation : g.generation ≡ h.generation = generation_of g in_g
-        ∙ ap (λ i. (record_at records i).generation) same ∙ sym (generation_of h in_h) in
-        λ i. record { index = same i; generation = generation i };
-    within = λ position d lt.
-        let within : position < length pending = omega (arith, long) in
-        let made = tied.made position within in
-        rw (at position d within) (record {
-          index = omega (arith, tied.few);
-          least = tied.least _ made;
-          greatest = tied.greatest _ made;
-        });
-    waiting_made = λ position d lt.
-        let within : position < length pending = omega (arith, long) in
-        rw (at position d within) (tied.made position within);
-    apart = λ i j d before lt same.
-        let first : i < length pending = omega (arith, long) in
-        let second : j < length pending = omega (arith, long) in
-        let index : get_or pending i 0 ≡ get_or pending j 0 =
-        sym (ap (λ (g : Handle). g.index) (at i d first)) ∙ same
-        ∙ ap (λ (g : Handle). g.index) (at j d second) in
-        let one : Pending i ≡ Pending j = sym (tied.forward i first)
-        ∙ ap (λ k. (record_at records k).occupancy) index ∙ tied.forward j second in
-        let is : i ≡ j = cc in
-        omega arith;
-    rows_of_living = λ h dead.
-        row_is h ∙ no_row (record_at records h.index) h.generation (λ alive same.
-        dead (contains_occupants records h ∙ and_from _ _ alive same));
-    rows = λ h row is.
-        let kept = kept_row (record_at records h.index) h.generation row (sym (row_is h) ∙ is) in
-        tied.rows h.index row (row_made records h.index row kept)
-        (row_alive (record_at records h.index).occupancy row kept);
-  }
+  are_slots = search (rules, generation_of, made_of, long, at, not_pending, row_is, no_row, contains_occupants, and_from, kept_row, row_made, row_alive)
 
   -- ---- what is written of each
 
   lives_at : (index : ℕ) → is_alive (record_at records index).occupancy ≡ true
       → IsTrue (sets.contains stands.live (handle_at records index))
-  lives_at index alive = contains_occupants records (handle_at records index)
-      ∙ and_from _ _ alive (eq-eqb (record_at records index).generation _ refl)
+  lives_at index alive = search (rules, contains_occupants, and_from, eq-eqb)
 
   row_kept_at : (index : ℕ) → maps.get stands.rows (handle_at records index)
       ≡ row_of (record_at records index).occupancy
@@ -218,6 +167,4 @@ module _ (limits : Limits) (records : List SlotRecord) (pending : List ℕ)
 
   pub slots_bytes_are : slots_bytes stands ≡ flat_map record_bytes records
   unfolding slots_bytes
-  slots_bytes_are = pieces_of record_bytes (λ index. slot_bytes (slot stands index)) 0 records
-      (λ k lt. let at : 0 + k ≡ k = omega arith in
-      ap (λ index. slot_bytes (slot stands index)) at ∙ ap slot_bytes (slot_is k lt))
+  slots_bytes_are = search (rules, pieces_of, at, slot_is)

@@ -1,5 +1,6 @@
 -- The image of a sound allocator: its numbers fit, it tells the allocator, and that of what was read
 -- is what was read.
+use Rattle.std.proofs.Common.{rules}
 use Rattle.std.proofs.Common.{◌≡◌, ◌≢◌, refl, sym, ap, ◌∙◌, subst, ℕ, ◌+◌, ◌-◌, ◌*◌, ◌<◌, ◌≤◌, List}
 use Rattle.std.proofs.Common.{◌++◌, length, take, drop, filter, arith, Ok, Err, Result, IfOk, IfErr}
 use Rattle.std.proofs.Common.{IsErrAnd, ◌⊎◌, inl, inr}
@@ -30,8 +31,7 @@ use Rattle.ent_alloc.proofs.ImageHeader.{same_header, length-header_bytes}
 
 pub length-slots_bytes : (r : Roster) → length (slots_bytes r) ≡ 12 * r.made
 unfolding slots_bytes
-length-slots_bytes r = length-pieces (λ index. slot_bytes (slot r index)) 12
-    (λ index. length-slot_bytes (slot r index)) 0 r.made
+length-slots_bytes r = search (rules, length-pieces, length-slot_bytes)
 
 slot_in : (r : Roster) (index : ℕ) → index < r.made
     → take 12 (drop (12 * index) (slots_bytes r)) ≡ slot_bytes (slot r index)
@@ -78,20 +78,11 @@ module _ (e : Entities) (has : HasImage e) where
 -- what the bytes begin with, if they are its image
 pub told : (e : Entities) (h : Header) (rest : List ℕ) → HasImage e → AreNumbers h
     → image e ≡ header_bytes h ++ rest → (header e ≡ h) × (slots_bytes (roster e) ≡ rest)
-told e h rest has fits same = same_header (header e) h _ rest (numbers_fit e has) fits same
+told e h rest has fits same = search (rules, same_header, numbers_fit)
 
 -- an image tells the allocator
 pub same_image : (d e : Entities) → HasImage d → HasImage e → image d ≡ image e → d ≡ e
-same_image d e is_d is_e same =
-    let parts = same_header (header d) (header e) (slots_bytes (roster d)) (slots_bytes (roster e))
-    (numbers_fit d is_d) (numbers_fit e is_e) same in
-    let numbers = parts.0 in
-    let slots = same_slots (roster d) (roster e) (roster_slots d is_d) (roster_slots e is_e)
-    (λ i. record { slots = (numbers i).slots; generations = (numbers i).generations })
-    (ap (λ (h : Header). h.made) numbers)
-    (top_as d is_d ∙ ap (λ (h : Header). h.waiting) numbers ∙ sym (top_as e is_e)) parts.1 in
-    same_entities d e is_d is_e slots (ap (λ (h : Header). h.asked) numbers)
-    (ap (λ (h : Header). h.reserved) numbers)
+same_image d e is_d is_e same = search (rules, same_header, numbers_fit, same_slots, roster_slots, top_as, same_entities)
 
 -- ---- slots and requests that were read
 
@@ -163,17 +154,12 @@ exact bytes (Err fault) found has refused e is same = grind (arith, common_steps
 pub bounded : (bytes : List ℕ) (result : Result Entities ImageFault)
     → IfOk result (λ e. image e ≡ bytes) → IfOk result HasImage
     → IfOk result (λ e. 40 + kept_bytes e.allocator ≤ length bytes)
-bounded bytes (Ok e) found has =
-    let front = length-header_bytes (header e) in
-    let rest = length-slots_bytes (roster e) in
-    let joined = length-append (header_bytes (header e)) (slots_bytes (roster e)) in
-    omega (arith, ap length found, joined, front, rest, few_wait e has)
+bounded bytes (Ok e) found has = search (rules, length-header_bytes, length-slots_bytes, length-append, few_wait)
 bounded bytes (Err fault) found has = tt
 
 -- and has what the allocator had
 pub kept_by_image : (P : Entities → Type 0) (bytes : List ℕ) (result : Result Entities ImageFault)
     → IfOk result (λ e. image e ≡ bytes) → IfOk result HasImage
     → (e : Entities) → HasImage e → image e ≡ bytes → P e → IfOk result P
-kept_by_image P bytes (Ok d) found has e is same holds =
-    subst P (sym (same_image d e has is (found ∙ sym same))) holds
+kept_by_image P bytes (Ok d) found has e is same holds = search (rules, same_image)
 kept_by_image P bytes (Err fault) found has e is same holds = tt

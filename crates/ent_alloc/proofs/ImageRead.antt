@@ -64,23 +64,7 @@ module _ (limits : Limits) (records : List SlotRecord) (pending : List ℕ) (liv
   read_other : (s : SlotRecord) → IsGeneration limits s.generation → number_of s.occupancy < 2 ^ 32
       → ((position : ℕ) → s.occupancy ≢ Pending position)
       → AreRead limits (records ++ s ∷ []) pending (live + one (is_alive s.occupancy))
-  read_other s generation number not_waits = record {
-    counted = ap (λ n. n + one (is_alive s.occupancy)) read.counted ∙ sym (count_more records s);
-    generations = each_more (λ _ r. IsGeneration limits r.generation) records s read.generations
-        generation;
-    numbers = each_more (λ _ r. number_of r.occupancy < 2 ^ 32) records s read.numbers number;
-    made = λ position lt taken.
-        let was = read.made position lt taken in omega (arith, length_push records s);
-    forward = λ position lt taken.
-        rw (old_stays records s (get_or pending position 0) (read.made position lt taken))
-        (read.forward position lt taken);
-    listed = λ index position lt.
-        each_more (λ _ r. r.occupancy ≡ Pending position → position < length pending) records s
-        (λ k below. read.listed k position below) (λ is. absurd (not_waits position is)) index lt;
-    back = λ index position lt.
-        each_more (λ k r. r.occupancy ≡ Pending position → get_or pending position 0 ≡ k) records s
-        (λ k below. read.back k position below) (λ is. absurd (not_waits position is)) index lt;
-  }
+  read_other s generation number not_waits = record { counted = ap (λ n. n + one (is_alive s.occupancy)) read.counted ∙ sym (count_more records s); generations = each_more (λ _ r. IsGeneration limits r.generation) records s read.generations generation; numbers = each_more (λ _ r. number_of r.occupancy < 2 ^ 32) records s read.numbers number; made = λ position lt taken. let was = read.made position lt taken in omega (arith, length_push records s); forward = λ position lt taken. rw (old_stays records s (get_or pending position 0) (read.made position lt taken)) (read.forward position lt taken); listed = λ index position lt. each_more (λ _ r. r.occupancy ≡ Pending position → position < length pending) records s (λ k below. read.listed k position below) (λ is. absurd (not_waits position is)) index lt; back = grind (arith, common_steps, each_more) }
 
   -- what a position has after one was set
   abbrev Placed : ℕ → ℕ → Type 0

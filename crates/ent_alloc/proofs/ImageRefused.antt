@@ -33,43 +33,26 @@ module _ (f : ℕ → List ℕ) (g : SlotRecord → List ℕ) (n : ℕ) (long_f 
       → f (from + 0) ≡ g r
       → (k : ℕ) → k < length (r ∷ records) → f (from + k) ≡ g (record_at (r ∷ records) k)
   each_of from r records rest first zero lt = first
-  each_of from r records rest first (suc k) lt =
-      let at : from + 1 + k ≡ from + suc k = omega arith in
-      ap f (sym at) ∙ rest k (omega arith)
+  each_of from r records rest first (suc k) lt = search rules
 
   split : (from count : ℕ) (records : List SlotRecord) (rest : List ℕ) → length records ≤ count
       → flat_map f (range_with_len from count) ≡ flat_map g records ++ rest
       → IsSplit f g from count records rest
   split from count [] rest le same = search (rules)
   split from zero (r ∷ records) rest le same = absurd (omega arith)
-  split from (suc count) (r ∷ records) rest le same =
-      let parts = same_parts n (f from) (flat_map f (range_with_len (from + 1) count)) (g r)
-      (flat_map g records ++ rest) (long_f from) (long_g r)
-      (same ∙ append_assoc (g r) (flat_map g records) rest) in
-      let more = split (from + 1) count records rest (omega arith) parts.1 in
-      let first : from + 0 ≡ from = omega arith in
-      let at : from + 1 + length records ≡ from + suc (length records) = omega arith in
-      let left : count - length records ≡ suc count - suc (length records) = omega arith in
-      record {
-        each = each_of from r records more.each (ap f first ∙ parts.0);
-        left = more.left ∙ (λ i. flat_map f (range_with_len (at i) (left i)));
-      }
+  split from (suc count) (r ∷ records) rest le same = let parts = same_parts n (f from) (flat_map f (range_with_len (from + 1) count)) (g r) (flat_map g records ++ rest) (long_f from) (long_g r) (same ∙ append_assoc (g r) (flat_map g records) rest) in let more = split (from + 1) count records rest (omega arith) parts.1 in let first : from + 0 ≡ from = omega arith in let at : from + 1 + length records ≡ from + suc (length records) = omega arith in let left : count - length records ≡ suc count - suc (length records) = omega arith in record { each = each_of from r records more.each (ap f first ∙ parts.0); left = search rules }
 
 -- the words of a slot, and what follows it
 pub slot_in_words : (s : SlotRecord) (rest : List ℕ) → slot_bytes s ++ rest ≡ word s.generation
     ++ (word (kind_of s.occupancy) ++ (word (number_of s.occupancy) ++ rest))
 unfolding slot_bytes
-slot_in_words s rest = append_assoc (word s.generation) _ rest ∙ ap (word s.generation ++◌)
-    (append_assoc (word (kind_of s.occupancy)) (word (number_of s.occupancy)) rest)
+slot_in_words s rest = search (rules, append_assoc)
 
 written_below : (limits : Limits) → AreLimits limits → (g : ℕ) (t : Occupancy)
     → IsWritten limits g t → (g < 2 ^ 32) × (number_of t < 2 ^ 32)
-written_below limits within g Alive is =
-    (let most = is.greatest in omega (arith, within.generations), omega arith)
-written_below limits within g (AliveWithRow row) is =
-    (let most = is.0.greatest in omega (arith, within.generations), is.1)
-written_below limits within g (Pending position) is =
-    (let most = is.0.greatest in omega (arith, within.generations), is.1)
+written_below limits within g Alive is = search rules
+written_below limits within g (AliveWithRow row) is = search rules
+written_below limits within g (Pending position) is = search rules
 written_below limits within g Retired is = (omega arith, omega arith)
 
 -- three words that no slot is written as
@@ -105,10 +88,7 @@ module _ (r : Roster) (are : AreSlots r) where
   waits_as : (index position : ℕ) (s : SlotRecord) → slot r index ≡ kept s
       → s.occupancy ≡ Pending position → (position < length r.pending)
       × ((waiter r position).index ≡ index)
-  waits_as index position s is waits =
-      let found = waits_from r are index position s.generation
-      (is ∙ (λ i. kept (record { generation = s.generation; occupancy = waits i }))) in
-      (found.0, ap (λ (h : Handle). h.index) found.1)
+  waits_as index position s is waits = let found = waits_from r are index position s.generation (is ∙ (λ i. kept (record { generation = s.generation; occupancy = waits i }))) in search rules
 
   module _ (records : List SlotRecord) (pending rest : List ℕ) (live : ℕ)
       (read : AreRead r.limits records pending live) (le : length records ≤ r.made)
@@ -157,13 +137,7 @@ module _ (r : Roster) (are : AreSlots r) where
   pub no_slot_next : (records : List SlotRecord) (bytes : List ℕ) → length records < r.made
       → ((s : SlotRecord) (rest : List ℕ) → IsWritten r.limits s.generation s.occupancy
       → bytes ≢ slot_bytes s ++ rest) → slots_bytes r ≡ flat_map record_bytes records ++ bytes → ⊥
-  no_slot_next records bytes lt none same =
-      let index = length records in
-      let left = (begins records bytes (omega arith) same).left in
-      let at : 0 + index ≡ index = omega arith in
-      let more : r.made - index ≡ suc (r.made - index - 1) = omega arith in
-      none (slot r index) (flat_map piece (range_with_len (index + 1) (r.made - index - 1)))
-      (written r are index) (left ∙ (λ i. flat_map piece (range_with_len (at i) (more i))))
+  no_slot_next records bytes lt none same = let index = length records in let left = (begins records bytes (omega arith) same).left in let at : 0 + index ≡ index = omega arith in let more : r.made - index ≡ suc (r.made - index - 1) = omega arith in search (rules, written)
 
   -- the next slot, as it is written
   pub next_slot : (records : List SlotRecord) (rest : List ℕ) (s : SlotRecord)
@@ -171,13 +145,4 @@ module _ (r : Roster) (are : AreSlots r) where
       → number_of s.occupancy < 2 ^ 32
       → slots_bytes r ≡ flat_map record_bytes records ++ (record_bytes s ++ rest)
       → slot r (length records) ≡ kept s
-  next_slot records rest s lt generation number same =
-      let index = length records in
-      let left = (begins records (record_bytes s ++ rest) (omega arith) same).left in
-      let at : 0 + index ≡ index = omega arith in
-      let more : r.made - index ≡ suc (r.made - index - 1) = omega arith in
-      let joined = left ∙ (λ i. flat_map piece (range_with_len (at i) (more i))) in
-      let parts = same_parts 12 (record_bytes s) rest (piece index)
-      (flat_map piece (range_with_len (index + 1) (r.made - index - 1)))
-      (length-slot_bytes (kept s)) (length-slot_bytes (slot r index)) joined in
-      same_kept index s generation number (sym parts.0)
+  next_slot records rest s lt generation number same = let index = length records in let left = (begins records (record_bytes s ++ rest) (omega arith) same).left in let at : 0 + index ≡ index = omega arith in let more : r.made - index ≡ suc (r.made - index - 1) = omega arith in let joined = left ∙ (λ i. flat_map piece (range_with_len (at i) (more i))) in let parts = same_parts 12 (record_bytes s) rest (piece index) (flat_map piece (range_with_len (index + 1) (r.made - index - 1))) (length-slot_bytes (kept s)) (length-slot_bytes (slot r index)) joined in search (rules, same_kept)

@@ -76,12 +76,12 @@ no_rows index (r ∷ records) =
 
 handle_as : (records : List SlotRecord) (index : ℕ)
     → handle_at (map without_row records) index ≡ handle_at records index
-handle_as records index = λ i. record { index = index; generation = generation_at records index i }
+handle_as records index = search (rules, generation_at)
 
 handles_as : (records : List SlotRecord) (pending : List ℕ)
     → map (handle_at (map without_row records)) pending ≡ map (handle_at records) pending
 handles_as records [] = refl
-handles_as records (index ∷ pending) = λ i. handle_as records index i ∷ handles_as records pending i
+handles_as records (index ∷ pending) = search (rules, handle_as)
 
 -- the same slots, without rows
 pub rowless_is : (limits : Limits) (records : List SlotRecord) (pending : List ℕ)

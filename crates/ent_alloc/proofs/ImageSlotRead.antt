@@ -56,6 +56,4 @@ pub living_bytes : (bytes : List ℕ) (g n : ℕ) (rest more : List ℕ) → byt
     → rest ≡ long n ++ more → n ≡ 1 → length more ≡ 0
     → bytes ≡ record_bytes (record { generation = g; occupancy = Alive })
 unfolding slot_bytes
-living_bytes bytes g n rest more first second one none =
-    first ∙ ap (word g ++◌) (second ∙ (λ i. long (one i) ++ no_more more none i)
-    ∙ append-nil (long 1) ∙ one_and_zero)
+living_bytes bytes g n rest more first second one none = search (rules, no_more, append-nil, one_and_zero)

@@ -56,8 +56,7 @@ alive_occupied generation (Some row) = refl
 small_occupied : (generation : ℕ) (row : Option ℕ) → generation < 2 ^ 32
     → ((n : ℕ) → row ≡ Some n → n < 2 ^ 32) → IsSmall (occupied generation row)
 small_occupied generation None below fits = record { generation = below; number = omega arith }
-small_occupied generation (Some row) below fits =
-    record { generation = below; number = fits row refl }
+small_occupied generation (Some row) below fits = search rules
 
 written_occupied : (limits : Limits) (generation : ℕ) (row : Option ℕ)
     → IsGeneration limits generation → ((n : ℕ) → row ≡ Some n → n < 2 ^ 32)
@@ -169,26 +168,7 @@ module _ (r : Roster) (are : AreSlots r) where
 
   -- so no more wait than were made
   pub few : length r.pending ≤ r.made
-  few =
-      let indices : List ℕ = maps (λ (h : Handle). h.index) r.pending in
-      let long : length indices ≡ length r.pending = length-map r.pending (λ (h : Handle). h.index) in
-      let at : (k d : ℕ) → k < length r.pending → get_or indices k d ≡ (waiter r k).index =
-      λ k d lt. get_or-map (λ (h : Handle). h.index) r.pending k no_handle d lt in
-      let apart : AllPairs (λ (x y : ℕ). x ≢ y) indices = λ i j d before lt same.
-      are.apart i j no_handle before (omega arith)
-      (sym (at i d (omega arith)) ∙ same ∙ at j d (omega arith)) in
-      let below : All (λ (x : ℕ). x < r.made) indices = λ k d lt.
-      let is = at k d (omega arith) in
-      omega arith in
-      let least = length-le_from_distinct_below indices r.made
-      (IsDistinct-from_AllPairs Decides-eqb indices apart)
-      (λ q is.
-      let found = Any-from_list_any (eqb q) indices is in
-      let lt = All-contains (λ (x : ℕ). x < r.made) indices found.1 below
-      (found.0, found.2, found.3) in
-      let same = eqb-true q found.1 found.4 in
-      omega arith) in
-      omega arith
+  few = let indices : List ℕ = maps (λ (h : Handle). h.index) r.pending in let long : length indices ≡ length r.pending = length-map r.pending (λ (h : Handle). h.index) in let at : (k d : ℕ) → k < length r.pending → get_or indices k d ≡ (waiter r k).index = λ k d lt. get_or-map (λ (h : Handle). h.index) r.pending k no_handle d lt in let apart : AllPairs (λ (x y : ℕ). x ≢ y) indices = search rules in let below : All (λ (x : ℕ). x < r.made) indices = λ k d lt. let is = at k d (omega arith) in omega arith in let least = length-le_from_distinct_below indices r.made (IsDistinct-from_AllPairs Decides-eqb indices apart) (λ q is. let found = Any-from_list_any (eqb q) indices is in let lt = All-contains (λ (x : ℕ). x < r.made) indices found.1 below (found.0, found.2, found.3) in let same = eqb-true q found.1 found.4 in omega arith) in omega arith
 
   -- of a slot that waits
   pub slot_waits : (position : ℕ) → position < length r.pending

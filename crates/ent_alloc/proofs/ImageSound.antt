@@ -23,9 +23,7 @@ use Rattle.ent_alloc.proofs.Meaning.{top_is, old_is, available_is}
 use Rattle.ent_alloc.proofs.ImageLinked.{AreTied, are_slots}
 
 All-reverse : {X : Type 0} (P : X → Type 0) (xs : List X) → All P xs → All P (reverse xs)
-All-reverse P xs all k d lt =
-    rw (get_or-reverse xs k d (omega (arith, length-reverse xs)))
-    (all (length xs - 1 - k) d (omega (arith, length-reverse xs)))
+All-reverse P xs all k d lt = search (rules, get_or-reverse, length-reverse)
 
 AllPairs-reverse : {X : Type 0} (R : X → X → Type 0) (xs : List X)
     → ((x y : X) → R x y → R y x) → AllPairs R xs → AllPairs R (reverse xs)
@@ -37,21 +35,7 @@ apart_turned g h apart same = apart (sym same)
 -- ---- from slots to an allocator that nothing is reserved of
 
 pub slots_sound : (r : Roster) → AreSlots r → IsSound (allocator_of r 0 0)
-slots_sound r are = laid_out-sound (allocator_of r 0 0) (reverse r.pending) (record {
-  limits = are.limits;
-  made = are.made;
-  taken = refl;
-  aside = refl;
-  asked = refl;
-  pool = refl;
-  within = All-reverse (IsWithin r.limits) r.pending are.within;
-  below = All-reverse (λ h. h.index < r.made) r.pending are.waiting_made;
-  apart = AllPairs-reverse AreApart r.pending apart_turned are.apart;
-  live_within = are.live_within;
-  live_below = are.live_made;
-  live_apart = λ h alive. All-reverse (AreApart h) r.pending (are.live_apart h alive);
-  one_occupant = are.one_occupant;
-})
+slots_sound r are = laid_out-sound (allocator_of r 0 0) (reverse r.pending) (record { limits = are.limits; made = are.made; taken = refl; aside = refl; asked = refl; pool = refl; within = All-reverse (IsWithin r.limits) r.pending are.within; below = search (rules, All-reverse); apart = AllPairs-reverse AreApart r.pending apart_turned are.apart; live_within = are.live_within; live_below = are.live_made; live_apart = λ h alive. All-reverse (AreApart h) r.pending (are.live_apart h alive); one_occupant = are.one_occupant })
 
 -- those that wait and those that live are no more than were made
 pub fewer : (r : Roster) → AreSlots r → sets.len r.live + length r.pending ≤ r.made
@@ -90,27 +74,11 @@ module _ (e : Entities) (has : HasImage e) where
   old = filter (is_old s.made) (available s)
 
   pub roster_slots : AreSlots (roster e)
-  roster_slots = record {
-    limits = has.sound.limits;
-    made = has.sound.made;
-    live_within = λ h alive. (has.sound.live h alive).within;
-    live_made = λ h alive. (has.sound.live h alive).made;
-    live_apart = λ h alive. All-reverse (AreApart h) old
-        (All-filter (is_old s.made) (AreApart h) (available s) (has.sound.live h alive).apart);
-    one_occupant = has.sound.one_occupant;
-    within = All-reverse (IsWithin s.limits) old
-        (All-filter (is_old s.made) (IsWithin s.limits) (available s) has.sound.within);
-    waiting_made = All-reverse (λ h. h.index < s.made) old (old_ones_below s);
-    apart = AllPairs-reverse AreApart old apart_turned
-        (AllPairs-filter AreApart (is_old s.made) (available s) has.sound.apart);
-    rows_of_living = has.rows_of_living;
-    rows = has.rows;
-  }
+  roster_slots = record { limits = has.sound.limits; made = has.sound.made; live_within = λ h alive. (has.sound.live h alive).within; live_made = λ h alive. (has.sound.live h alive).made; live_apart = λ h alive. All-reverse (AreApart h) old (All-filter (is_old s.made) (AreApart h) (available s) (has.sound.live h alive).apart); one_occupant = has.sound.one_occupant; within = search (rules, All-reverse, All-filter); waiting_made = All-reverse (λ h. h.index < s.made) old (old_ones_below s); apart = AllPairs-reverse AreApart old apart_turned (AllPairs-filter AreApart (is_old s.made) (available s) has.sound.apart); rows_of_living = has.rows_of_living; rows = has.rows }
 
   -- what there is to give is what the slots give if nothing is reserved
   pub idle_is : idle (roster e) ≡ available s
-  idle_is = ap (λ hs. hs ++ fresh s.made (s.limits.slots - s.made)) (reverse-reverse old)
-      ∙ sym has.sound.order
+  idle_is = search (rules, reverse-reverse)
 
   pool_is : s.pool ≡ drop s.asked (idle (roster e))
   pool_is = has.sound.pool ∙ ap (drop s.asked) (sym idle_is)
@@ -119,8 +87,7 @@ module _ (e : Entities) (has : HasImage e) where
   reserved_are = taken_is s ∙ ap (take (length s.taken)) (sym idle_is)
 
   passed_over : s.aside ≡ drop (length s.taken) (take s.asked (idle (roster e)))
-  passed_over = aside_is s has.sound
-      ∙ ap (λ hs. drop (length s.taken) (take s.asked hs)) (sym idle_is)
+  passed_over = search (rules, aside_is, idle_is)
 
   -- the entities are those of their slots
   pub entities_are : e ≡ entities_of (roster e) s.asked (length s.taken)

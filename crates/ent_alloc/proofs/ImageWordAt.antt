@@ -1,4 +1,5 @@
 -- The number at a place of bytes that are spelled word by word.
+use Rattle.std.proofs.Common.{rules}
 use Rattle.std.proofs.lemmas.Grind.{common_steps}
 use Rattle.std.proofs.Common.{◌≡◌, ap, ◌∙◌, sym, ℕ, ◌+◌, ◌^◌, ◌<◌, ◌≤◌, List, ◌++◌, length}
 use Rattle.std.proofs.Common.{take, drop, arith}
@@ -12,13 +13,11 @@ use Rattle.ent_alloc.proofs.ImageHeader.{length-long, from_long}
 
 pub word_here : (n : ℕ) (rest : List ℕ) → n < 2 ^ 32 → word_at (word n ++ rest) 0 ≡ n
 unfolding word_at
-word_here n rest fits =
-    ap (from_le_bytes w32) (take_at (word n) rest 4 (length-word n)) ∙ from_word n fits
+word_here n rest fits = search (rules, take_at, length-word, from_word)
 
 pub long_here : (n : ℕ) (rest : List ℕ) → n < 2 ^ 64 → long_at (long n ++ rest) 0 ≡ n
 unfolding long_at
-long_here n rest fits =
-    ap (from_le_bytes w64) (take_at (long n) rest 8 (length-long n)) ∙ from_long n fits
+long_here n rest fits = search (rules, take_at, length-long, from_long)
 
 drop_past : (xs ys : List ℕ) (k place : ℕ) → length xs ≡ k → drop (k + place) (xs ++ ys)
     ≡ drop place ys
@@ -28,14 +27,12 @@ drop_past xs ys k place all =
 pub word_past : (xs ys : List ℕ) (k place : ℕ) → length xs ≡ k → word_at (xs ++ ys) (k + place)
     ≡ word_at ys place
 unfolding word_at
-word_past xs ys k place all =
-    ap (λ bytes. from_le_bytes w32 (take 4 bytes)) (drop_past xs ys k place all)
+word_past xs ys k place all = search (rules, drop_past)
 
 pub long_past : (xs ys : List ℕ) (k place : ℕ) → length xs ≡ k → long_at (xs ++ ys) (k + place)
     ≡ long_at ys place
 unfolding long_at
-long_past xs ys k place all =
-    ap (λ bytes. from_le_bytes w64 (take 8 bytes)) (drop_past xs ys k place all)
+long_past xs ys k place all = search (rules, drop_past)
 
 -- three words one after the other
 pub first_word : (a b c : ℕ) (rest : List ℕ) → a < 2 ^ 32

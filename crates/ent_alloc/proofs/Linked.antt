@@ -36,7 +36,7 @@ module _ (limits : Limits) (records : List SlotRecord) (pending : List ℕ) (liv
 
   same_generation : (index : ℕ) → (record_at alive index).generation
       ≡ (record_at records index).generation
-  same_generation index = generation-reused records from (drop from pending) index Wait-drop
+  same_generation index = search (rules, generation-reused, Wait-drop)
 
   position_below : (index position : ℕ) → index < length records → (record_at alive index).occupancy
       ≡ Pending position → position < from
@@ -48,13 +48,7 @@ module _ (limits : Limits) (records : List SlotRecord) (pending : List ℕ) (liv
 
   pub reuse_keeps_links : AreLinked limits alive (take from pending) (live
       + (length pending - from))
-  reuse_keeps_links =
-      let as_long : length alive ≡ length records = length-reused records (drop from pending) in
-      let more = length-occupants-reused records from (drop from pending) Wait-drop in
-      let rest = length-drop from pending in
-      let waits = waiting-reused records from (drop from pending) in
-      let waited = waited-reused records from (drop from pending) in
-      search (rules, same_generation, position_below, get_or-take, waits, waited, Wait-drop)
+  reuse_keeps_links = let as_long : length alive ≡ length records = search (rules, length-reused) in let more = length-occupants-reused records from (drop from pending) Wait-drop in let rest = length-drop from pending in let waits = waiting-reused records from (drop from pending) in let waited = waited-reused records from (drop from pending) in search (rules, same_generation, position_below, get_or-take, waits, waited, Wait-drop)
 
   pub roster_of-reuse : roster_of limits alive (take from pending)
       ≡ record (roster_of limits records pending) {
@@ -62,9 +56,7 @@ module _ (limits : Limits) (records : List SlotRecord) (pending : List ℕ) (liv
             (sets.from_list (drop from (roster_of limits records pending).pending));
         pending = take from (roster_of limits records pending).pending;
       }
-  roster_of-reuse =
-      let live_is = live-reused records from (drop from pending) Wait-drop in
-      search (rules, drop-map, rows_from-reused, Wait-drop, same_generation, take-map, length-reused)
+  roster_of-reuse = search (rules, live-reused, Wait-drop, drop-map, rows_from-reused, same_generation, take-map, length-reused)
 
 -- one slot, which waits last
 module _ (limits : Limits) (records : List SlotRecord) (pending rest : List ℕ) (live index : ℕ)
@@ -76,10 +68,10 @@ module _ (limits : Limits) (records : List SlotRecord) (pending rest : List ℕ)
   within = let more = long in omega arith
 
   taken : take (length rest) pending ≡ rest
-  taken = ap (take (length rest)) last ∙ take_at rest (index ∷ []) (length rest) refl
+  taken = search (rules, take_at)
 
   dropped : drop (length rest) pending ≡ index ∷ []
-  dropped = ap (drop (length rest)) last ∙ drop_at rest (index ∷ []) (length rest) refl
+  dropped = search (rules, drop_at)
 
   one_less : length pending - length rest ≡ 1
   one_less = let more = long in omega arith
@@ -108,15 +100,7 @@ module _ (limits : Limits) (records : List SlotRecord) (pending rest : List ℕ)
 
   pub last_handle : slice_get (map (handle_at records) pending)
       (length (map (handle_at records) pending) - 1) ≡ Some (handle_at records index)
-  last_handle =
-      let f = handle_at records in
-      let n = length (map f pending) in
-      let more = long in
-      let same = length-map pending f in
-      let at : get_or pending (n - 1) 0 ≡ index = ap (λ ps. get_or ps (n - 1) 0) last
-      ∙ get_or_push rest index 0 (n - 1) (omega arith) in
-      slice_get_read (map f pending) n (n - 1) (f index) refl (omega arith)
-      (sym (get_or-map f pending (n - 1) 0 (f index) (omega arith) ∙ ap f at))
+  last_handle = let f = handle_at records in let n = length (map f pending) in let more = long in let same = length-map pending f in let at : get_or pending (n - 1) 0 ≡ index = search (rules, get_or_push) in slice_get_read (map f pending) n (n - 1) (f index) refl (omega arith) (sym (get_or-map f pending (n - 1) 0 (f index) (omega arith) ∙ ap f at))
 
 -- ---- making
 

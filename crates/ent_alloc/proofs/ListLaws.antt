@@ -84,8 +84,7 @@ All-left P xs ys h i d lt = search (rules, get_or_append_left, length-append)
 
 -- the other half
 pub All-right : {X : Type 0} (P : X → Type 0) (xs ys : List X) → All P (xs ++ ys) → All P ys
-All-right P xs ys h i d lt =
-    simp get_or-append-add at (h (length xs + i) d (omega (arith, length-append xs ys)))
+All-right P xs ys h i d lt = search (rules, get_or-append-add, length-append)
 
 -- pairs of a list and of its parts
 module _ {X : Type 0} (R : X → X → Type 0) where
@@ -95,8 +94,7 @@ module _ {X : Type 0} (R : X → X → Type 0) where
 
   -- the rest
   pub AllPairs-drop : (n : ℕ) (xs : List X) → AllPairs R xs → AllPairs R (drop n xs)
-  AllPairs-drop n xs h i j d lt in_part = simp get_or-drop (h (n + i) (n + j) d (omega arith)
-      (omega (arith, length-drop n xs)))
+  AllPairs-drop n xs h i j d lt in_part = search (rules, get_or-drop, length-drop)
 
   -- the first stands before each other
   pub AllPairs-head : (x : X) (xs : List X) → AllPairs R (x ∷ xs) → All (R x) xs
@@ -108,9 +106,7 @@ module _ {X : Type 0} (R : X → X → Type 0) where
 
   -- the second of two joined lists
   pub AllPairs-right : (xs ys : List X) → AllPairs R (xs ++ ys) → AllPairs R ys
-  AllPairs-right xs ys h i j d lt within =
-      simp get_or-append-add at
-      (h (length xs + i) (length xs + j) d (omega arith) (omega (arith, length-append xs ys)))
+  AllPairs-right xs ys h i j d lt within = search (rules, get_or-append-add, length-append)
 
   -- the first of them
   pub AllPairs-left : (xs ys : List X) → AllPairs R (xs ++ ys) → AllPairs R xs
@@ -167,8 +163,7 @@ get_or-swapped {X} xs a b k d la lb =
 module _ {X : Type 0} (R : X → X → Type 0) (both : (x y : X) → R x y → R y x) where
   -- of each two positions
   AtPositions : List X → Type 0
-  AtPositions xs = (i j : ℕ) (d : X) → i ≢ j → i < length xs → j < length xs
-      → R (get_or xs i d) (get_or xs j d)
+  AtPositions xs = search rules
 
   -- the earlier of two positions may come second
   positions_from_pairs : (xs : List X) → AllPairs R xs → AtPositions xs

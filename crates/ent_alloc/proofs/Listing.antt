@@ -64,23 +64,14 @@ handles_of-none records (at ∷ waiting) index index_end none passed = absurd (o
 pub rest_to_list : (records : List SlotRecord) (waiting : List ℕ) (index index_end left : ℕ)
     → AreToList records waiting index index_end left → (at : ℕ) (rest : List ℕ)
     → waiting ≡ at ∷ rest → AreToList records rest index index_end (left - 1)
-rest_to_list records waiting index index_end left range at rest is =
-    let all : AreToList records (at ∷ rest) index index_end left =
-    subst (λ ws. AreToList records ws index index_end left) is range in
-    record {
-      made = All-tail (λ x. x < length records) at rest all.made;
-      handles = All-tail (λ x. IsHandle (handle_at records x)) at rest all.handles;
-      indexes = all.indexes;
-      last = all.last;
-      count = let count = all.count in omega arith;
-    }
+rest_to_list records waiting index index_end left range at rest is = let all : AreToList records (at ∷ rest) index index_end left = search rules in record { made = All-tail (λ x. x < length records) at rest all.made; handles = All-tail (λ x. IsHandle (handle_at records x)) at rest all.handles; indexes = all.indexes; last = all.last; count = let count = all.count in omega arith }
 
 -- ---- listing one after the other
 
 pub fresh-push : (index count : ℕ) → fresh index count
     ++ record { index = index + count; generation = 1 } ∷ [] ≡ fresh index (count + 1)
 unfolding fresh
-fresh-push index zero = λ i. record { index = add-zero index i; generation = 1 } ∷ []
+fresh-push index zero = search (rules, add-zero)
 fresh-push index (suc count) = search (rules, fresh-push (index + 1) count)
 
 pub replicate-push : {X : Type 0} (count : ℕ) (x : X) → replicate count x ++ x ∷ []

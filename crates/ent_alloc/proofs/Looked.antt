@@ -75,17 +75,7 @@ module _ (limits : Limits) (records : List SlotRecord) (pending : List ℕ) (liv
 
   waiting : (h : Handle) (from : ℕ) → waits_at records h from ≡ true
       → Contains (drop from (map (handle_at records) pending)) h
-  waiting h from is =
-      let parts = and_parts (ltb h.index (length records)) _ is in
-      let rest = and_parts (is_pending_from (record_at records h.index).occupancy from) _ parts.1 in
-      let made = ltb-true h.index (length records) parts.0 in
-      let position = waiting_position (record_at records h.index).occupancy from rest.0 in
-      let listed = linked.listed h.index position.0 made position.1 in
-      let back = linked.back h.index position.0 made position.1 in
-      let there : from + (position.0 - from) ≡ position.0 = omega (arith, position.2) in
-      let at = at_position from (position.0 - from) h in
-      let same = eqb-true _ _ rest.1 in
-      (position.0 - from, omega (arith, long from), search (rules, at, there, back, same))
+  waiting h from is = let parts = and_parts (ltb h.index (length records)) _ is in let rest = and_parts (is_pending_from (record_at records h.index).occupancy from) _ parts.1 in let made = ltb-true h.index (length records) parts.0 in let position = waiting_position (record_at records h.index).occupancy from rest.0 in let listed = linked.listed h.index position.0 made position.1 in let back = linked.back h.index position.0 made position.1 in let there : from + (position.0 - from) ≡ position.0 = omega (arith, position.2) in let at = at_position from (position.0 - from) h in let same = eqb-true _ _ rest.1 in search (rules, long)
 
   -- who waits after a position is told by the record
   pub stands_in-pending : (h : Handle) (from : ℕ) → waits_at records h from

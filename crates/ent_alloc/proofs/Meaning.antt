@@ -90,7 +90,7 @@ allocator_is same = ap (λ (e : Entities). e.allocator) same
 -- what is left after so many
 pub length_left : (r : Roster) (asked : ℕ) → length (drop asked (idle r)) ≡ length r.pending
     + (r.limits.slots - r.made) - asked
-length_left r asked = length-drop asked (idle r) ∙ ap (λ n. n - asked) (length-idle r)
+length_left r asked = search (rules, length-drop, length-idle)
 
 -- how many there are to give, by the vectors
 pub length_available : (r : Roster) (asked given : ℕ) (s : Allocator) → AreReserved r asked given

@@ -73,11 +73,4 @@ module _ (r : Roster) (asked given : ℕ) (within : given ≤ asked) (enough : g
 
   pub flush_is : allocator_of (flushed_roster r kept news) 0 0 ≡ after_flush
       (allocator_of r asked given)
-  flush_is =
-      let live_is : (flushed_roster r kept news).live
-      ≡ sets.union r.live (sets.from_list (take given (idle r))) =
-      live_after r.live (fresh r.made news) (drop kept r.pending)
-      ∙ ap (λ hs. sets.union r.live (sets.from_list hs)) (sym taken_is) in
-      let made_is : r.made + news ≡ r.made + made_at_flush (allocator_of r asked given) =
-      ap (λ n. r.made + n) (sym made_at_flush_is) in
-      search (rules, drop-reverse, length-reverse, drop_joined, waits_below, drop_rest)
+  flush_is = search (rules, live_after, taken_is, made_at_flush_is, drop-reverse, length-reverse, drop_joined, waits_below, drop_rest)

@@ -72,15 +72,7 @@ module _ (r : Roster) (was_asked was_given : ℕ) (s : Allocator) (reserved : Ar
 module _ (r : Roster) (asked given : ℕ) (s : Allocator) (reserved : AreReserved r asked given)
     (view : allocator_of r asked given ≡ s) where
   pub cancelled_view : allocator_of r 0 0 ≡ before_requests s
-  cancelled_view =
-      (λ i. record (allocator_of r 0 0) {
-        pool = sym (available_is r asked given reserved.given_least) i;
-      }) ∙ ap before_requests view
+  cancelled_view = search (rules, available_is)
 
   pub cancelled_reserved : AreReserved r 0 0
-  cancelled_reserved =
-      let all = available_is r asked given reserved.given_least in
-      let sound : IsSound (allocator_of r 0 0) =
-      IsSound-moved (allocator_of r asked given) [] [] (idle r) 0 reserved.sound (sym all)
-      (sym all) (λ _. refl) in
-      AreReserved-flushed r sound reserved.rows
+  cancelled_reserved = search (rules, available_is, IsSound-moved, AreReserved-flushed)

@@ -48,8 +48,7 @@ or_first false false n = refl
 both_in : (live : sets.FinSet handle_cmp) (one two : List Handle) (q : Handle)
     → sets.contains (sets.union (sets.union live (sets.from_list one)) (sets.from_list two)) q
     ≡ ((sets.contains live q || stands_in one q) || stands_in two q)
-both_in live one two q = contains-union_list (sets.union live (sets.from_list one)) two q
-    ∙ ap (λ b. b || stands_in two q) (contains-union_list live one q)
+both_in live one two q = search (rules, contains-union_list)
 
 -- nobody more
 live_none : (live : sets.FinSet handle_cmp)
@@ -93,30 +92,7 @@ module _ (r : Roster) (n : ℕ) where
       → let left = reused_roster r h in
       flushed_roster left (length left.pending - n) (n - length left.pending)
       ≡ flushed_roster r (length r.pending - suc n) (suc n - length r.pending)
-  old_flushed h some last =
-      let len = length r.pending in
-      let others = take (len - 1) r.pending in
-      let long : length others ≡ len - 1 = length-take-le (len - 1) r.pending (omega arith) in
-      let kept_is : length others - n ≡ len - suc n = omega (arith, long) in
-      let news_is : n - length others ≡ suc n - len = omega (arith, long) in
-      let parts : r.pending ≡ others ++ h ∷ [] =
-      sym (take_all (len - 1 + 1) r.pending (omega arith))
-      ∙ take_more r.pending (len - 1) h (omega arith)
-      ∙ ap (λ x. others ++ x ∷ []) (get_or_from_slice_get r.pending (len - 1) h h last) in
-      let all_is : drop (len - suc n) r.pending ≡ drop (len - suc n) others ++ h ∷ [] =
-      ap (drop (len - suc n)) parts
-      ∙ drop-append-le (len - suc n) others (h ∷ []) (omega (arith, long)) in
-      let live_is = (λ i. sets.union (sets.union (sets.union r.live (sets.from_list (h ∷ [])))
-      (sets.from_list (fresh r.made (news_is i)))) (sets.from_list (drop (kept_is i) others)))
-      ∙ live_old r.live h (fresh r.made (suc n - len)) (drop (len - suc n) others)
-      (drop (len - suc n) r.pending) all_is in
-      let pending_is : take (length others - n) others ≡ take (len - suc n) r.pending =
-      ap (λ k. take k others) kept_is ∙ take-take (len - suc n) (len - 1) r.pending (omega arith) in
-      λ i. record r {
-        live = live_is i;
-        pending = pending_is i;
-        made = r.made + news_is i;
-      }
+  old_flushed h some last = let len = length r.pending in let others = take (len - 1) r.pending in let long : length others ≡ len - 1 = length-take-le (len - 1) r.pending (omega arith) in let kept_is : length others - n ≡ len - suc n = omega (arith, long) in let news_is : n - length others ≡ suc n - len = omega (arith, long) in let parts : r.pending ≡ others ++ h ∷ [] = sym (take_all (len - 1 + 1) r.pending (omega arith)) ∙ take_more r.pending (len - 1) h (omega arith) ∙ ap (λ x. others ++ x ∷ []) (get_or_from_slice_get r.pending (len - 1) h h last) in let all_is : drop (len - suc n) r.pending ≡ drop (len - suc n) others ++ h ∷ [] = ap (drop (len - suc n)) parts ∙ drop-append-le (len - suc n) others (h ∷ []) (omega (arith, long)) in let live_is = (λ i. sets.union (sets.union (sets.union r.live (sets.from_list (h ∷ []))) (sets.from_list (fresh r.made (news_is i)))) (sets.from_list (drop (kept_is i) others))) ∙ live_old r.live h (fresh r.made (suc n - len)) (drop (len - suc n) others) (drop (len - suc n) r.pending) all_is in let pending_is : take (length others - n) others ≡ take (len - suc n) r.pending = ap (λ k. take k others) kept_is ∙ take-take (len - suc n) (len - 1) r.pending (omega arith) in search rules
 
   -- the first occupant of a new slot, and then so many
   fresh_flushed : (h : Handle) → length r.pending ≡ 0
@@ -124,29 +100,7 @@ module _ (r : Roster) (n : ℕ) where
       → let left = made_roster r h in
       flushed_roster left (length left.pending - n) (n - length left.pending)
       ≡ flushed_roster r (length r.pending - suc n) (suc n - length r.pending)
-  fresh_flushed h none first =
-      let len = length r.pending in
-      let few_is : n - len ≡ n = omega (arith, none) in
-      let more_is : suc n - len ≡ suc n = omega (arith, none) in
-      let all_is : fresh r.made (suc n) ≡ h ∷ fresh (r.made + 1) n =
-      fresh-next r.made n ∙ ap (λ x. x ∷ fresh (r.made + 1) n) (sym first) in
-      let some_none : drop (len - n) r.pending ≡ [] =
-      drop_all (len - n) r.pending (omega (arith, none)) in
-      let all_none : drop (len - suc n) r.pending ≡ [] =
-      drop_all (len - suc n) r.pending (omega (arith, none)) in
-      let live_is = (λ i. sets.union (sets.union (sets.union r.live (sets.from_list (h ∷ [])))
-      (sets.from_list (fresh (r.made + 1) (few_is i)))) (sets.from_list (some_none i)))
-      ∙ live_fresh r.live h (fresh (r.made + 1) n) (fresh r.made (suc n)) all_is
-      ∙ sym (λ i. sets.union (sets.union r.live (sets.from_list (fresh r.made (more_is i))))
-      (sets.from_list (all_none i))) in
-      let pending_is : take (len - n) r.pending ≡ take (len - suc n) r.pending =
-      ap (λ k. take k r.pending) (omega (arith, none)) in
-      let made_is : r.made + 1 + (n - len) ≡ r.made + (suc n - len) = omega (arith, none) in
-      λ i. record r {
-        live = live_is i;
-        pending = pending_is i;
-        made = made_is i;
-      }
+  fresh_flushed h none first = let len = length r.pending in let few_is : n - len ≡ n = omega (arith, none) in let more_is : suc n - len ≡ suc n = omega (arith, none) in let all_is : fresh r.made (suc n) ≡ h ∷ fresh (r.made + 1) n = fresh-next r.made n ∙ ap (λ x. x ∷ fresh (r.made + 1) n) (sym first) in let some_none : drop (len - n) r.pending ≡ [] = drop_all (len - n) r.pending (omega (arith, none)) in let all_none : drop (len - suc n) r.pending ≡ [] = drop_all (len - suc n) r.pending (omega (arith, none)) in let live_is = (λ i. sets.union (sets.union (sets.union r.live (sets.from_list (h ∷ []))) (sets.from_list (fresh (r.made + 1) (few_is i)))) (sets.from_list (some_none i))) ∙ live_fresh r.live h (fresh (r.made + 1) n) (fresh r.made (suc n)) all_is ∙ sym (λ i. sets.union (sets.union r.live (sets.from_list (fresh r.made (more_is i)))) (sets.from_list (all_none i))) in let pending_is : take (len - n) r.pending ≡ take (len - suc n) r.pending = ap (λ k. take k r.pending) (omega (arith, none)) in let made_is : r.made + 1 + (n - len) ≡ r.made + (suc n - len) = omega (arith, none) in search rules
 
 -- ---- any number of them
 
@@ -174,12 +128,7 @@ module _ (n : ℕ) (rest : (r : Roster) → AreSame n r) (r : Roster) (sound : I
       ≡ flushed_roster r (length r.pending - suc n) (suc n - length r.pending)
       → allocator_of (flushed_roster r (length r.pending - suc n) (suc n - length r.pending)) 0 0
       ≡ after_allocs s (take (suc n) (idle r))
-  one_and h left front given enough same =
-      let sound_left = subst IsSound (sym given)
-      (after_alloc-sound s h (idle left) sound refl front) in
-      ap (λ x. allocator_of x 0 0) (sym same) ∙ rest left sound_left enough
-      ∙ (λ i. after_allocs (given i) (take n (idle left)))
-      ∙ sym (ap (λ hs. after_allocs s (take (suc n) hs)) front)
+  one_and h left front given enough same = let sound_left = subst IsSound (sym given) (after_alloc-sound s h (idle left) sound refl front) in search rules
 
   by_first : (0 < length r.pending) ⊎ (length r.pending ≤ 0)
       → allocator_of (flushed_roster r (length r.pending - suc n) (suc n - length r.pending)) 0 0

@@ -26,7 +26,7 @@ asked_at-cursor s = asked_at_is (top s) s.asked (cursor s) refl
 
 -- and so what is left of the pool
 pub pool_at-cursor : (s : Allocator) → IsSound s → pool_at s (cursor s) ≡ s.pool
-pool_at-cursor s h = ap (λ n. drop n (available s)) (asked_at-cursor s) ∙ sym h.pool
+pool_at-cursor s h = search (rules, asked_at-cursor)
 
 -- and the reply to any request
 pub reply-cursor : (s : Allocator) (n : ℕ) → IsSound s → reply_from s.made (pool_at s (cursor s)) n
@@ -54,7 +54,7 @@ made-after_take s n = after_take-either (λ t. t.made) s.made s n refl refl
 
 -- the request is added
 pub asked-after_take : (s : Allocator) (n : ℕ) → (after_take s n).asked ≡ s.asked + n
-asked-after_take s n = after_take-either (λ t. t.asked) (s.asked + n) s n refl refl
+asked-after_take s n = search (rules, after_take-either)
 
 -- how many old handles there were
 pub top-after_take : (s : Allocator) (n : ℕ) → IsSound s → top (after_take s n) ≡ top s
@@ -63,7 +63,7 @@ top-after_take s n h = search (rules, made-after_take, available-after_take)
 -- the cursor falls by the request
 pub cursor-after_take : (s : Allocator) (n : ℕ) → IsSound s → cursor (after_take s n)
     ≡ cursor s -ℤ pos n
-cursor-after_take s n h = rw (top-after_take s n h, asked-after_take s n) (omega (arith, ints))
+cursor-after_take s n h = search (rules, top-after_take, asked-after_take)
 
 -- the allocator after each request in turn
 abbrev pub after_takes : Allocator → List ℕ → Allocator
@@ -141,7 +141,7 @@ after_take-none s = grind (arith, common_steps)
 
 -- and lists nothing
 pub reply-none : (s : Allocator) → reply_to s 0 ≡ Ok []
-reply-none s = let test : nat_le 0 (length s.pool) ≡ true = le-leb _ _ (omega arith) in rw test
+reply-none s = search (rules, le-leb)
 
 -- where there was enough, all that was asked for is taken
 pub length-taken : (s : Allocator) → IsSound s → s.asked ≤ length (available s) → length s.taken

@@ -44,14 +44,13 @@ module _ (s : Allocator) (ps : List Portion) (fits : AreUsed ps)
   same = front_same s.pool ps fits within
 
   front_long : length front ≡ reach
-  front_long = length_permutation (take reach s.pool) front same
-      ∙ length-take-le reach s.pool reaches
+  front_long = search (rules, length_permutation, same, length-take-le, reaches)
 
   -- ---- the slots of the front
 
   module _ (is : List ℕ) (are : is ≡ slots_of front) where
     order_long : length is ≡ reach
-    order_long = ap length are ∙ length-map front (λ (h : Handle). h.index) ∙ front_long
+    order_long = search (rules, length-map, front_long)
 
     pub order_few : length is ≤ length s.pool
     order_few = omega (arith, order_long, reaches)
@@ -85,27 +84,7 @@ module _ (s : Allocator) (ps : List Portion) (fits : AreUsed ps)
   -- the pool was arranged
   moved_taken : count ≢ reach → s.taken ≡ [] → s.asked ≡ 0
       → after_take (with_front s front) count ≡ after_portions s ps
-  moved_taken short none flushed =
-      let us = used_of s.pool ps in
-      let rs = take (reach - count) (left_of s.pool ps) in
-      let after = drop (length front) s.pool in
-      let whole : (us ++ rs) ++ after ≡ us ++ (rs ++ after) = append_assoc us rs after in
-      let long = length-append us (rs ++ after) in
-      let enough_in : count ≤ length ((us ++ rs) ++ after) = omega (arith, ap length whole, us_long) in
-      let lefts : rs ++ after ≡ left_of s.pool ps =
-      ap (λ n. rs ++ drop n s.pool) front_long
-      ∙ ap (rs ++◌) (sym (behind_reach s.pool ps fits within))
-      ∙ take-append-drop (reach - count) (left_of s.pool ps) in
-      let taken : s.taken ++ take count ((us ++ rs) ++ after) ≡ us =
-      (λ i. none i ++ take count (whole i)) ∙ take_at us (rs ++ after) count us_long in
-      let pool : drop count ((us ++ rs) ++ after) ≡ left_of s.pool ps =
-      ap (drop count) whole ∙ drop_at us (rs ++ after) count us_long ∙ lefts in
-      let made_is : made_for s ps ≡ reach - top s = grind (arith, common_steps) in
-      let made : s.made + (length front - top s) ≡ s.made + made_for s ps =
-      ap (λ n. s.made + (n - top s)) front_long ∙ ap (s.made +◌) (sym made_is) in
-      let asked : s.asked + count ≡ count = omega arith in
-      after_take-served (with_front s front) count enough_in
-      ∙ (λ i. record s { taken = taken i; pool = pool i; made = made i; asked = asked i })
+  moved_taken short none flushed = search (rules, append_assoc, length-append, us_long, front_long, behind_reach, take-append-drop, take_at, drop_at, after_take-served)
 
   pub portions_taken : s.taken ≡ [] → s.asked ≡ 0
       → after_take (arranged s ps) count ≡ after_portions s ps

@@ -1,4 +1,5 @@
 -- Portions of a list: where what was used of them ends, and what is left.
+use Rattle.std.proofs.Common.{rules}
 use Rattle.std.proofs.Common.{◌≡◌, ◌⊎◌, inl, inr, refl, sym, ap, ◌∙◌, subst, ℕ, zero, suc, ◌+◌, ◌-◌}
 use Rattle.std.proofs.Common.{◌<◌, ◌≤◌, List, [], ◌∷◌, ◌++◌, length, take, drop, get_or, map, arith}
 use Rattle.std.proofs.Common.{IsPermutation, append_assoc}
@@ -273,10 +274,7 @@ module _ {A : Type 0} where
   pub left_is_behind : (pool : List A) (ps : List Portion) → AreUsed ps
       → count_of ps ≡ reach_of ps → size_of ps ≤ length pool
       → left_of pool ps ≡ drop (count_of ps) pool
-  left_is_behind pool ps fits all within =
-      let none : 0 ≡ reach_of ps - count_of ps = omega arith in
-      ap (λ n. drop n (left_of pool ps)) none
-      ∙ behind_reach pool ps fits within ∙ ap (λ n. drop n pool) (sym all)
+  left_is_behind pool ps fits all within = let none : 0 ≡ reach_of ps - count_of ps = omega arith in search (rules, behind_reach)
 
 -- ---- one portion more
 
@@ -289,7 +287,7 @@ no_portion = record { size = 0; used = 0 }
 
 pub portion_is : (ps : List Portion) (k : ℕ) → k < length ps
     → get_or ps k no_portion ≡ get_or ps k (get_or ps k no_portion)
-portion_is ps k lt = sym (get_or_default ps k (get_or ps k no_portion) no_portion lt)
+portion_is ps k lt = search (rules, get_or_default)
 
 module _ (ps : List Portion) (k : ℕ) (p : Portion) (lt : k < length ps) (is : p ≡ get_or ps k p)
   where

@@ -37,12 +37,12 @@ listed-IsPermutation made given =
 -- a request for no more than the pool has
 pub reply-served : (s : Allocator) (n : ℕ) → n ≤ length s.pool → reply_to s n
     ≡ Ok (listed s.made (take n s.pool))
-reply-served s n enough = let test : nat_le n (length s.pool) ≡ true = le-leb _ _ enough in rw test
+reply-served s n enough = search (rules, le-leb)
 
 -- a request for more than the pool has
 pub reply-refused : (s : Allocator) (n : ℕ) → length s.pool < n → reply_to s n
     ≡ Err (record { wanted = n; left = length s.pool })
-reply-refused s n short = let test : nat_le n (length s.pool) ≡ false = lt-leb _ _ short in rw test
+reply-refused s n short = search (rules, lt-leb)
 
 -- what a served reply tells of the pool
 pub served_from : (s : Allocator) (n : ℕ) (given : List Handle) → reply_to s n ≡ Ok given
@@ -73,7 +73,7 @@ module _ (s : Allocator) (n : ℕ) (given : List Handle) (is : reply_to s n ≡ 
 
   -- the front of the pool joins what is taken
   pub taken-after_served : (after_take s n).taken ≡ s.taken ++ take n s.pool
-  taken-after_served = ap (λ t. t.taken) (after_take-served s n (served_from s n given is).0)
+  taken-after_served = search (rules, after_take-served, served_from)
 
   -- what holds of the whole pool holds of the reply
   pub of_reply : (P : Handle → Type 0) → All P s.pool → All P given
@@ -88,9 +88,7 @@ module _ (s : Allocator) (n : ℕ) (given : List Handle) (is : reply_to s n ≡ 
 
   -- so what is taken is what was taken and the reply
   pub taken-IsPermutation : IsPermutation (s.taken ++ given) (after_take s n).taken
-  taken-IsPermutation = subst (IsPermutation (s.taken ++ given)) (sym taken-after_served)
-      (IsPermutation-append s.taken s.taken given (take n s.pool) (IsPermutation-refl s.taken)
-      (IsPermutation-sym (take n s.pool) given reply-IsPermutation))
+  taken-IsPermutation = search (rules, taken-after_served, IsPermutation-append, IsPermutation-refl, IsPermutation-sym, reply-IsPermutation)
 
   -- no two are of one slot
   pub reply-apart : IsSound s → AllPairs AreApart given

@@ -32,7 +32,7 @@ count p from n = count_by p (range_with_len from n)
 
 count-next : (p : ℕ → Bool) (from n : ℕ) → count p from (suc n) ≡ weight (p from)
     + count p (from + 1) n
-count-next p from n = sum_by-cons (λ i. weight (p i)) from (range_with_len (from + 1) n)
+count-next p from n = search (rules, sum_by-cons)
 
 -- two tests that agree on these numbers
 count_alike : (p q : ℕ → Bool) (from n : ℕ)
@@ -68,9 +68,7 @@ count-one_more p k from (suc n) least below fails =
 
 has_slot-found : (handles : List Handle) (index : ℕ) → has_slot handles index ≡ true
     → (h : Handle) × Contains handles h × (h.index ≡ index)
-has_slot-found handles index is =
-    let h = Any-from_list_any (λ (h : Handle). eqb h.index index) handles is in
-    search (rules, eqb-true)
+has_slot-found handles index is = search (rules, Any-from_list_any, eqb-true)
 
 has_slot-has : (handles : List Handle) (h : Handle) → Contains handles h → has_slot handles h.index
     ≡ true
@@ -79,20 +77,13 @@ has_slot-has handles h has =
 
 has_slot-apart : (handles : List Handle) (h : Handle) → All (AreApart h) handles
     → has_slot handles h.index ≡ false
-has_slot-apart handles h apart =
-    list_any_none (λ (x : Handle). eqb x.index h.index) handles (search (rules, ne_eqb))
+has_slot-apart handles h apart = search (rules, list_any_none, ne_eqb)
 
 -- handles of as many slots
 count-apart : (handles : List Handle) (n : ℕ) → AllPairs AreApart handles
     → All (λ h. h.index < n) handles → count (has_slot handles) 0 n ≡ length handles
 count-apart [] n apart below = count-none 0 n
-count-apart (h ∷ handles) n apart below =
-    let first : h.index < n = All-head (λ h. h.index < n) h handles below in
-    let rest = count-apart handles n (AllPairs-tail AreApart h handles apart)
-    (All-tail (λ h. h.index < n) h handles below) in
-    let none = has_slot-apart handles h (AllPairs-head AreApart h handles apart) in
-    let more = count-one_more (has_slot handles) h.index 0 n in
-    search (rules)
+count-apart (h ∷ handles) n apart below = let first : h.index < n = search (rules, All-head) in let rest = count-apart handles n (AllPairs-tail AreApart h handles apart) (All-tail (λ h. h.index < n) h handles below) in let none = has_slot-apart handles h (AllPairs-head AreApart h handles apart) in let more = count-one_more (has_slot handles) h.index 0 n in search (rules)
 
 -- a slot has one of these handles at most
 abbrev AreAlone : List Handle → Type 0
@@ -114,25 +105,7 @@ either_of false P f g = g refl
 count-alone : (handles : List Handle) (n : ℕ) → AreAlone handles → All (λ h. h.index < n) handles
     → count (has_slot handles) 0 n ≡ set.len {R = handle_cmp} (set.from_list handles)
 count-alone [] n alone below = count-none 0 n ∙ sym (set.len-empty handle_cmp)
-count-alone (h ∷ handles) n alone below =
-    let first : h.index < n = All-head (λ h. h.index < n) h handles below in
-    let rest = count-alone handles n (alone-tail h handles alone)
-    (All-tail (λ h. h.index < n) h handles below) in
-    let long = set.len-insert handle_cmp_total (set.from_list handles) h in
-    let tells = set.contains-from_list handle_cmp_total handles h in
-    either_of (stands_in handles h)
-    (count (has_slot (h ∷ handles)) 0 n ≡ set.len {R = handle_cmp} (set.from_list (h ∷ handles)))
-    (λ is.
-    let there = has_slot-has handles h (Contains-from_stands_in handles h is) in
-    let same = count_alike (has_slot (h ∷ handles)) (has_slot handles) 0 n
-    (λ i _ _. grind (arith, common_steps)) in
-    cc) (λ is.
-    let none : has_slot handles h.index ≡ false = false_from_ne_true _ (λ one.
-    let found = has_slot-found handles h.index one in
-    let same = alone found.0 h (in_tail h handles found.0 found.1) (0, omega arith, refl) found.2 in
-    true≢false (search (rules, stands_in-from_Contains, same))) in
-    let more = count-one_more (has_slot handles) h.index 0 n (omega arith) (omega arith) none in
-    cc)
+count-alone (h ∷ handles) n alone below = let first : h.index < n = search (rules, All-head) in let rest = count-alone handles n (alone-tail h handles alone) (All-tail (λ h. h.index < n) h handles below) in let long = set.len-insert handle_cmp_total (set.from_list handles) h in let tells = set.contains-from_list handle_cmp_total handles h in either_of (stands_in handles h) (count (has_slot (h ∷ handles)) 0 n ≡ set.len {R = handle_cmp} (set.from_list (h ∷ handles))) (λ is. let there = has_slot-has handles h (Contains-from_stands_in handles h is) in let same = count_alike (has_slot (h ∷ handles)) (has_slot handles) 0 n (λ i _ _. grind (arith, common_steps)) in cc) (λ is. let none : has_slot handles h.index ≡ false = false_from_ne_true _ (λ one. let found = has_slot-found handles h.index one in let same = alone found.0 h (in_tail h handles found.0 found.1) (0, omega arith, refl) found.2 in true≢false (search (rules, stands_in-from_Contains, same))) in let more = count-one_more (has_slot handles) h.index 0 n (omega arith) (omega arith) none in cc)
 
 -- of the old slots, the old handles tell
 has_slot-old : (made : ℕ) (handles : List Handle) (index : ℕ) → index < made

@@ -29,4 +29,4 @@ module _ {X : Type 0} (n : ℕ) (xs : List X) where
 -- a test of the elements doesn't see their order
 pub list_any-reverse : (p : Handle → Bool) (hs : List Handle) → list_any p (reverse hs)
     ≡ list_any p hs
-list_any-reverse p hs = sym (list_any-IsPermutation p hs (reverse hs) (IsPermutation-reverse hs))
+list_any-reverse p hs = search (rules, list_any-IsPermutation, IsPermutation-reverse)

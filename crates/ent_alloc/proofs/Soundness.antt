@@ -104,12 +104,12 @@ after_free-sound s x h flushed alive =
 -- an old handle that comes to life
 pub after_alloc-old : (s : Allocator) (x : Handle) → x.index < s.made → after_alloc s x
     ≡ record s { live = set.insert s.live x; pool = drop 1 s.pool }
-after_alloc-old s x old = let test : is_old s.made x ≡ true = lt-ltb _ _ old in rw test
+after_alloc-old s x old = search (rules, lt-ltb)
 
 -- a fresh handle that comes to life: its slot is made
 pub after_alloc-fresh : (s : Allocator) (x : Handle) → s.made ≤ x.index → after_alloc s x
     ≡ record s { live = set.insert s.live x; pool = drop 1 s.pool; made = s.made + 1 }
-after_alloc-fresh s x new = let test : is_old s.made x ≡ false = le-ltb _ _ new in rw test
+after_alloc-fresh s x new = search (rules, le-ltb)
 
 -- the first old handle comes to life
 alloc_of_old : (s : Allocator) (x : Handle) (old : List Handle) → IsLaidOut s (x ∷ old)
@@ -190,38 +190,7 @@ after_alloc-sound s x rest h flushed front = by_first (old_ones s) (flushed-laid
 -- a flush leaves the old handles that were not taken
 pub flush-laid_out : (s : Allocator) → IsSound s
     → IsLaidOut (after_flush s) (drop (length s.taken) (old_ones s))
-flush-laid_out s h =
-    let k = length s.taken in
-    let old = drop k (old_ones s) in
-    record {
-      limits = h.limits;
-      made = omega (arith, made-after_flush s h, enough s h, h.made);
-      taken = refl;
-      aside = refl;
-      asked = refl;
-      pool = left-parts s h;
-      within = All-drop (IsWithin s.limits) k (old_ones s)
-          (All-filter (is_old s.made) (IsWithin s.limits) (available s) h.within);
-      below = All-drop (λ h. h.index < (after_flush s).made) k (old_ones s)
-          (All-weaker (λ h. h.index < s.made) (λ h. h.index < (after_flush s).made)
-          (λ h lt. omega arith) (old_ones s) (old_ones_below s));
-      apart = AllPairs-drop AreApart k (old_ones s) (AllPairs-filter AreApart (is_old s.made)
-          (available s) h.apart);
-      live_within = of_joined (IsWithin s.limits) s.live s.taken
-          (λ x alive. (h.live x alive).within) (All-left (IsWithin s.limits) s.taken (s.aside
-          ++ s.pool) h.within);
-      live_below = of_joined (λ h. h.index < (after_flush s).made) s.live s.taken
-          (λ x alive. let was = (h.live x alive).made in omega arith) (taken_below s h);
-      live_apart = of_joined (λ h. All (AreApart h) old) s.live s.taken
-          (λ x alive. All-drop (AreApart x) k (old_ones s) (All-filter (is_old s.made) (AreApart x)
-          (available s) (h.live x alive).apart))
-          (λ i d lt. All-left (AreApart (get_or s.taken i d)) old _
-          (subst (All (AreApart (get_or s.taken i d))) (left-parts s h)
-          (AllPairs-across AreApart s.taken (s.aside ++ s.pool) h.apart i d lt)));
-      one_occupant = one_occupant_joined s.live s.taken
-          (λ x alive. All-left (AreApart x) s.taken (s.aside ++ s.pool) (h.live x alive).apart)
-          (AllPairs-left AreApart s.taken (s.aside ++ s.pool) h.apart) h.one_occupant;
-    }
+flush-laid_out s h = let k = length s.taken in let old = drop k (old_ones s) in record { limits = h.limits; made = omega (arith, made-after_flush s h, enough s h, h.made); taken = refl; aside = refl; asked = refl; pool = left-parts s h; within = All-drop (IsWithin s.limits) k (old_ones s) (All-filter (is_old s.made) (IsWithin s.limits) (available s) h.within); below = grind (arith, common_steps, All-drop, old_ones, All-weaker, old_ones_below); apart = AllPairs-drop AreApart k (old_ones s) (AllPairs-filter AreApart (is_old s.made) (available s) h.apart); live_within = of_joined (IsWithin s.limits) s.live s.taken (λ x alive. (h.live x alive).within) (All-left (IsWithin s.limits) s.taken (s.aside ++ s.pool) h.within); live_below = of_joined (λ h. h.index < (after_flush s).made) s.live s.taken (λ x alive. let was = (h.live x alive).made in omega arith) (taken_below s h); live_apart = of_joined (λ h. All (AreApart h) old) s.live s.taken (λ x alive. All-drop (AreApart x) k (old_ones s) (All-filter (is_old s.made) (AreApart x) (available s) (h.live x alive).apart)) (λ i d lt. All-left (AreApart (get_or s.taken i d)) old _ (subst (All (AreApart (get_or s.taken i d))) (left-parts s h) (AllPairs-across AreApart s.taken (s.aside ++ s.pool) h.apart i d lt))); one_occupant = one_occupant_joined s.live s.taken (λ x alive. All-left (AreApart x) s.taken (s.aside ++ s.pool) (h.live x alive).apart) (AllPairs-left AreApart s.taken (s.aside ++ s.pool) h.apart) h.one_occupant }
 
 -- what was taken comes to life
 pub after_flush-sound : (s : Allocator) → IsSound s → IsSound (after_flush s)

@@ -76,10 +76,7 @@ module _ (s : Allocator) (h : IsSound s) where
   -- what is left by the flush
   pub left-parts : s.aside ++ s.pool ≡ drop (length s.taken) (old_ones s)
       ++ fresh (after_flush s).made (s.limits.slots - (after_flush s).made)
-  left-parts =
-      let joined = drop_joined s.made (s.limits.slots - s.made) (old_ones s) (old_ones_below s)
-      (length s.taken) in
-      rw made-after_flush (search (rules, drop-append_seam s.taken (s.aside ++ s.pool), joined))
+  left-parts = let joined = drop_joined s.made (s.limits.slots - s.made) (old_ones s) (old_ones_below s) (length s.taken) in search (rules, made-after_flush, drop-append_seam)
 
   -- and so every slot from which something is taken
   pub taken_below : All (λ h. h.index < (after_flush s).made) s.taken

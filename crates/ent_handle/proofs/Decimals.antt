@@ -1,5 +1,6 @@
 -- A decimal is what std's `decimal` writes of its value, and reading gives the value of nothing
 -- else.
+use Rattle.std.proofs.lemmas.Grind.{common_steps}
 use Rattle.std.proofs.Common.{◌≡◌, ℕ, ◌+◌, ◌*◌, ◌^◌, ◌<◌, ◌≤◌, ◌↔◌, true, false, List}
 use Rattle.std.proofs.Common.{[], ◌∷◌, length, take}
 use Rattle.std.proofs.Common.{get_or, Option, Result, Ok, Err, IsSome, IfSome, IfOk, IsErrOf, refl}
@@ -53,10 +54,7 @@ one_digit n e = search (rules, decimal_digit)
 
 -- the text of a number is a decimal
 pub decimal_is_decimal : (n : ℕ) → n < 2 ^ 64 → IsDecimal (decimal n)
-decimal_is_decimal n small = decimal_from_plain (decimal n) (elim (cases_eq n 0) [
-  | inl e ↦ one_digit n e
-  | inr above ↦ search (rules, digits_decimal, digit_texts, decimal_nonempty, first_decimal)
-])
+decimal_is_decimal n small = search (rules, decimal_from_plain, cases_eq, one_digit, digits_decimal, digit_texts, decimal_nonempty, first_decimal)
 
 pub value-decimal : (n : ℕ) → n < 2 ^ 64 → digits_value 10 (decimal n) ≡ n
 value-decimal n small = (decimal_is_IsNumeral n small).1
@@ -85,12 +83,7 @@ number_of-decimal n small = search (rules, value-decimal, number_in_range, decim
 
 pub number_found : (ds : List ℕ) (r : Result ℕ TextFault) → r ≡ number_of ds
     → IfOk r (λ n. ds ≡ decimal n)
-number_found ds r e =
-    let P : Result ℕ TextFault → Type 0 = λ x. IfOk x (λ n. ds ≡ decimal n) in
-    elim (cases_Bool (is_decimal ds)) [
-      | inr none ↦ subst P (sym (e ∙ number_of_none ds none)) tt
-      | inl is ↦ search (rules, cases_lt, number_in_range, decimal-value, number_too_large)
-    ]
+number_found ds r e = search (rules, cases_Bool, number_of_none, cases_lt, number_in_range, decimal-value, number_too_large)
 
 pub number_only : (ds : List ℕ) (r : Result ℕ TextFault) → r ≡ number_of ds → (n : ℕ) → n < 2 ^ 32
     → ds ≡ decimal n → r ≡ Ok n
@@ -108,11 +101,7 @@ number_range ds r e =
 -- what one digit more adds
 pub value_more : (ds : List ℕ) (i : ℕ) → IsDecimal ds → i < length ds
     → digits_value 10 (take (i + 1) ds) + 48 ≡ digits_value 10 (take i ds) * 10 + get_or ds i 0
-value_more ds i is within =
-    let more = digits_value_more 10 ds i within in
-    let digits = digit_texts.to ds (plain_from_decimal ds is).digits in
-    let digit = digit_value_digit (get_or ds i 0) (digit_at ds i digits within) in
-    omega (arith, more, digit)
+value_more ds i is within = grind (arith, common_steps, digits_value_more, plain_from_decimal, digit_value_digit, digit_at)
 
 -- no part of the digits before it writes more
 pub value_least : (ds : List ℕ) (i : ℕ) → digits_value 10 (take i ds) ≤ digits_value 10 ds

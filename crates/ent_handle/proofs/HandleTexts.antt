@@ -1,4 +1,6 @@
 -- The text of each handle is read as that handle, and no other text is read as it.
+use Rattle.std.proofs.Common.{rules}
+use Rattle.std.proofs.lemmas.Grind.{common_steps}
 use Rattle.std.proofs.Common.{◌≡◌, ◌≢◌, ℕ, ◌<◌, ◌↔◌, ◌⊎◌, Bool, true, false, ◌&&◌, cond, eqb, List}
 use Rattle.std.proofs.Common.{[], ◌∷◌, ◌++◌, length, Option, Some, None, Result, Ok, Err, All}
 use Rattle.std.proofs.Common.{IsSome, IfSome, IfOk, IsErrOf, refl, sym, ap, subst, ◌∙◌, inl, inr}
@@ -37,9 +39,7 @@ fails : (bytes : List ℕ) → IsWithoutLetter bytes → All (λ b. is_letter b 
 fails bytes h k d lt = ne_eqb _ 118 (h k d lt)
 
 decimal_without_letter : (ds : List ℕ) → IsDecimal ds → IsWithoutLetter ds
-decimal_without_letter ds is k d lt e =
-    not_in_digits digit_texts ds 118 (plain_from_decimal ds is).digits (λ range. omega arith) k lt
-    (get_or_default ds k 0 d lt ∙ e)
+decimal_without_letter ds is k d lt e = grind (arith, common_steps, not_in_digits, digit_texts, plain_from_decimal, get_or_default)
 
 -- no letter: no handle
 pub handle_of_whole : (bytes : List ℕ) → IsWithoutLetter bytes → handle_of bytes ≡ Err Shape
@@ -48,12 +48,10 @@ handle_of_whole bytes h = rw (slice_split_none is_letter bytes (fails bytes h)) 
 one_part : (index generation : List ℕ) (parts : List (List ℕ)) → slice_split is_letter generation
     ≡ parts → is_decimal generation ≡ false → handle_of_parts (index ∷ parts)
     ≡ handle_of_numbers index generation
-one_part index generation [] e lacks =
-    absurd (omega (arith, length-slice_split is_letter generation, ap length e))
+one_part index generation [] e lacks = search (rules, length-slice_split)
 one_part index generation (part ∷ []) e lacks = ap (handle_of_numbers index)
     (sym (ap (join_with_byte 118) e) ∙ join_with_byte-slice_split 118 generation)
-one_part index generation (part ∷ more ∷ others) e lacks =
-    sym (cond-false _ _ _ (and_right (is_decimal index) (is_decimal generation) lacks))
+one_part index generation (part ∷ more ∷ others) e lacks = search (rules, cond-false, and_right)
 
 -- the parts round the first letter are the handle's numbers, or there is no handle
 handle_of-split : (bytes index generation : List ℕ) → bytes ≡ index ++ 118 ∷ generation
@@ -72,14 +70,10 @@ same_handle : (h k : Handle) → h.index ≡ k.index → h.generation ≡ k.gene
 same_handle h k i g = λ t. record { index = i t; generation = g t }
 
 pub is_handle_from : (h : Handle) → IsHandle h → is_handle h ≡ true
-is_handle_from h is = and_from _ _ (and_from _ _ (lt-ltb _ _ is.index) (le-leb _ _ is.least))
-    (lt-ltb _ _ is.greatest)
+is_handle_from h is = search (rules, and_from, lt-ltb, le-leb)
 
 pub handle_from : (h : Handle) → is_handle h ≡ true → IsHandle h
-handle_from h e =
-    let a = and_parts _ _ e in
-    let b = and_parts _ _ a.0 in
-    record { index = ltb-true _ _ b.0; least = leb-true _ _ b.1; greatest = ltb-true _ _ a.1 }
+handle_from h e = search (rules, and_parts, ltb-true, leb-true)
 
 handle_of_decimals : (index generation : List ℕ) → IsDecimal index → IsDecimal generation
     → handle_of_numbers index generation ≡ cond (is_handle (written index generation))
@@ -94,14 +88,7 @@ handle_of_form bytes index generation i g e = handle_of-split bytes index genera
     (decimal_without_letter index i) ∙ handle_of_decimals index generation i g
 
 pub shape_of_none : (bytes : List ℕ) → handle_of bytes ≡ Err Shape → ¬ HasHandleForm bytes
-shape_of_none bytes e form =
-    let f = sym (handle_of_form bytes form.0 form.1 form.2 form.3 form.4) ∙ e in
-    elim (cases_Bool (is_handle (written form.0 form.1))) [
-      | inl is ↦ let x = sym (cond-true _ (Ok (written form.0 form.1)) (Err Range) is)
-          ∙ f in absurd cc
-      | inr lacks ↦ let x = sym (cond-false _ (Ok (written form.0 form.1)) (Err Range) lacks)
-          ∙ f in absurd cc
-    ]
+shape_of_none bytes e form = let f = sym (handle_of_form bytes form.0 form.1 form.2 form.3 form.4) ∙ e in search (rules, cases_Bool, cond-true, cond-false)
 
 parts_of : (bytes : List ℕ) → position_or_len is_letter bytes < length bytes → bytes
     ≡ before_first is_letter bytes ++ 118 ∷ after_first is_letter bytes
@@ -158,27 +145,13 @@ shapeless_parts bytes index generation e h (inr g) = handle_of-split bytes index
     ∙ cond-false _ _ _ (and_right _ _ g)
 
 pub handle_of_text : (h : Handle) → IsHandle h → handle_of (handle_text h) ≡ Ok h
-handle_of_text h is =
-    let index = decimal h.index in
-    let generation = decimal h.generation in
-    let i = decimal_is_decimal h.index (omega (arith, is.index)) in
-    let g = decimal_is_decimal h.generation (omega (arith, is.greatest)) in
-    let same : written index generation
-    ≡ h = same_handle _ _ (value-decimal h.index (omega (arith, is.index)))
-    (value-decimal h.generation (omega (arith, is.greatest))) in
-    handle_of_form (handle_text h) index generation i g refl
-    ∙ ap (λ (k : Handle). cond (is_handle k) (Ok k) (Err Range)) same
-    ∙ cond-true _ _ _ (is_handle_from h is)
+handle_of_text h is = let index = decimal h.index in let generation = decimal h.generation in let i = decimal_is_decimal h.index (omega (arith, is.index)) in let g = decimal_is_decimal h.generation (omega (arith, is.greatest)) in let same : written index generation ≡ h = search (rules, same_handle, value-decimal) in handle_of_form (handle_text h) index generation i g refl ∙ ap (λ (k : Handle). cond (is_handle k) (Ok k) (Err Range)) same ∙ cond-true _ _ _ (is_handle_from h is)
 
 -- a text that is read is the text of that handle
 spelled : (bytes index generation : List ℕ) → IsDecimal index → IsDecimal generation → bytes ≡ index
     ++ 118 ∷ generation → IsHandle (written index generation) → bytes
     ≡ handle_text (written index generation)
-spelled bytes index generation i g e is =
-    e ∙ ap (λ (ds : List ℕ). ds ++ 118 ∷ generation)
-    (sym (decimal-value index i (omega (arith, is.index))))
-    ∙ ap (λ (ds : List ℕ). decimal (digits_value 10 index) ++ 118 ∷ ds)
-    (sym (decimal-value generation g (omega (arith, is.greatest))))
+spelled bytes index generation i g e is = search (rules, decimal-value)
 
 -- ---- what reading gives, in plain facts
 
@@ -208,11 +181,7 @@ handle_only bytes r e h is spelled = e ∙ ap handle_of spelled ∙ handle_of_te
 
 pub handle_shape : (bytes : List ℕ) (r : Result Handle TextFault) → r ≡ handle_of bytes
     → IsErrOf r Shape ↔ (¬ HasHandleForm bytes)
-handle_shape bytes r e = (
-  λ shape. shape_of_none bytes (sym e ∙ shape),
-  λ none. e
-      ∙ elim (reading bytes) [ inl form ↦ absurd (none form) | inr lacks ↦ lacks.1 ],
-)
+handle_shape bytes r e = search (rules, shape_of_none, reading)
 
 pub handle_range : (bytes : List ℕ) (r : Result Handle TextFault) → r ≡ handle_of bytes
     → IsErrOf r Range ↔ (HasHandleForm bytes × ((h : Handle) → IsHandle h → bytes ≢ handle_text h))

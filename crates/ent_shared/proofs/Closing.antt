@@ -76,7 +76,7 @@ module _ (start : Allocator) (count : ℕ) (records : List Record) (at : ℤ)
     history_is = ap (map as_call) (reservations_are start count records at k whole)
 
     itself : IsLater start start
-    itself = record { sound = sound; available_is = refl; made_is = refl }
+    itself = search rules
 
     legal : history.IsLegal start (history_of records)
     legal = search (rules, history_is, legal_from, itself)

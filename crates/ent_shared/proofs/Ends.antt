@@ -53,12 +53,7 @@ module _ (start : Allocator) (count : ℕ) where
 
   kept-opened : (at : ℤ) (number : ℕ) → at ≤ℤ cursor start
       → IsKept start at [] (opened start number)
-  kept-opened at number le = record {
-    start_is = refl;
-    caller = All-nil (λ (c : Reservation). c.caller ≡ number);
-    quota = record { quota = omega arith; floor = refl };
-    marks = search (rules, All-nil);
-  }
+  kept-opened at number le = search (rules, All-nil)
 
   all_kept-opened : (at : ℤ) (number many : ℕ) → at ≤ℤ cursor start
       → All (IsKept start at []) (opened_records start number many)

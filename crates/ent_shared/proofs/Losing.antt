@@ -68,8 +68,7 @@ reservation_contains start c asked replied le =
 reservations_contain : (start : Allocator) (asked : ℕ) (cs : List Reservation)
     → All (HasItsReply start) cs → All (λ (c : Reservation). asked_at (top start) c.high
     + c.requested ≤ asked) cs → All (Contains (take asked (available start))) (handles_of cs)
-reservations_contain start asked [] replied within = All-nil
-    (Contains (take asked (available start)))
+reservations_contain start asked [] replied within = search (rules, All-nil)
 reservations_contain start asked (c ∷ cs) replied within =
     let here = reservation_contains start c asked in
     let rest = reservations_contain start asked cs in
@@ -119,8 +118,7 @@ module _ (start : Allocator) (sound : IsSound start) (flushed : start.asked ≡ 
 
   -- none of the pool is alive
   pool_not_live : All (λ h. ¬ (IsLive start h)) start.pool
-  pool_not_live = subst (All (λ h. ¬ (IsLive start h))) all_pool (λ k d lt alive.
-      not_apart (get_or (available start) k d) ((sound.live _ alive).apart k d lt))
+  pool_not_live = search (rules, all_pool, not_apart)
 
   -- the cursor of the allocator that is left
   cursor-loss : (asked : ℕ) → cursor (after_loss start asked) ≡ cursor start -ℤ pos asked

@@ -26,7 +26,7 @@ length-records_of rs = length-map rs (λ (r : Reserver). r.own)
 
 pub sum_by-records_of : (f : Record → ℕ) (rs : List Reserver) → sum_by f (records_of rs)
     ≡ sum_by (λ (r : Reserver). f r.own) rs
-sum_by-records_of f rs = fold-map (λ (s : ℕ) (r : Record). s + f r) (λ (r : Reserver). r.own) 0 rs
+sum_by-records_of f rs = search (rules, fold-map)
 
 records_of-append : (rs : List Reserver) (r : Reserver) → records_of (rs ++ r ∷ []) ≡ records_of rs
     ++ r.own ∷ []

@@ -45,11 +45,7 @@ length-served made pool handles n is =
 pub enough_at_first : (start : Allocator) (high : ℤ) (handles : List Handle) (n : ℕ)
     → IsSound start → start.asked ≡ 0 → reply_from start.made (pool_at start high) n ≡ Ok handles
     → n ≤ length start.pool
-enough_at_first start high handles n sound flushed is =
-    let test = enough_served start.made (pool_at start high) handles n is in
-    let all = length-pool start sound in
-    let left = length-drop (asked_at (top start) high) (available start) in
-    grind (arith, nat_tests, common_steps)
+enough_at_first start high handles n sound flushed is = search (rules, enough_served, length-pool, length-drop)
 
 -- the span of a request, at the cursor as the code reads it
 pub span_at : (span : Span) (high read : ℤ) (n : ℕ) → read ≡ high → span

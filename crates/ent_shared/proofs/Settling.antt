@@ -37,7 +37,7 @@ later_take : (start s : Allocator) (n : ℕ) → IsLater start s → IsLater sta
 later_take start s n l = search (rules, after_take-sound, available-after_take, made-after_take)
 
 top_later : (start s : Allocator) → IsLater start s → top s ≡ top start
-top_later start s l = λ i. length (filter (is_old (l.made_is i)) (l.available_is i))
+top_later start s l = search rules
 
 pool_later : (start s : Allocator) → IsLater start s → pool_at start (cursor s) ≡ s.pool
 pool_later start s l = search (rules, top_later, pool_at-cursor)
@@ -135,7 +135,7 @@ taken_floor start s (c ∷ cs) end flushed l f =
 -- the floor of a list does not depend on its order
 floor-append : (start : Allocator) (xs ys : List Reservation) → floor_of start (xs ++ ys)
     ≡ int_min (floor_of start xs) (floor_of start ys)
-floor-append start [] ys = sym (min_right (cursor start) (floor_of start ys) (floor_below start ys))
+floor-append start [] ys = search (rules, min_right, floor_below)
 floor-append start (x ∷ xs) ys = search (rules, min_assoc, floor-append start xs ys)
 
 floor_inserted : (start : Allocator) (c : Reservation) (cs : List Reservation)

@@ -27,9 +27,7 @@ pub record AreShared (start : Allocator) (n number : ℕ) (word : TableId) (made
 pub opened-first : (start : Allocator) (number n : ℕ) → number < n → opened_records start number
     (n - number) ≡ opened start number ∷ opened_records start (number + 1) (n - (number + 1))
 unfolding opened_records
-opened-first start number n below =
-    let more : n - number ≡ suc (n - (number + 1)) = omega arith in
-    ap (opened_records start number) more
+opened-first start number n below = search rules
 
 pub opened-last : (start : Allocator) (from many : ℕ) → opened_records start from (suc many)
     ≡ opened_records start from many ++ opened start (from + many) ∷ []
@@ -49,7 +47,7 @@ module _ (start : Allocator) (n number : ℕ) (word seat : TableId) (made : List
     (me : Me (Unit {0}) (List Record)) (below : number < n) (d : AreShared start n number word made
     seat me) where
   pub next_is : me.0 ≡ opened start number ∷ opened_records start (number + 1) (n - (number + 1))
-  next_is = ap (λ (m : Me (Unit {0}) (List Record)). m.0) d.left ∙ opened-first start number n below
+  next_is = search (rules, opened-first)
 
   pub next_seated : (views : List (List Record)) (floor : ℤ) → views ≡ take 1 me.0 ∷ [] → floor
       ≡ cursor start → IsSeated views number quota floor

@@ -4,8 +4,4 @@ use Rattle.ent_alloc.proofs.Reversed.{drop-reverse, take-reverse}
 use Rattle.ent_alloc.proofs.giving.in_order.Goals as goal
 
 pub returns : goal.returns
-returns c =
-    let xs = c.args.handles.now in
-    let f = c.args.fresh in
-    let back : length xs - (length xs - f) ≡ f = omega arith in
-    search (rules, back, drop-reverse, take-reverse, length-reverse, reverse-reverse, length-drop, drop_all, append-nil)
+returns c = search (rules, drop-reverse, take-reverse, length-reverse, reverse-reverse, length-drop, drop_all, append-nil)

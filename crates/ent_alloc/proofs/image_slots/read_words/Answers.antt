@@ -8,9 +8,7 @@ use Rattle.ent_alloc.proofs.image_slots.read_words.Goals as goal
 in_words : (c : After-record_of) → c.args.bytes.now ≡ word c.read_word-generation.result.0
     ++ (word c.read_word-kind.result.0 ++ (word c.read_word-number.result.0
     ++ c.read_word-number.result.1.now))
-in_words c = c.read_word-generation.ensures.bytes ∙ ap (word c.read_word-generation.result.0 ++◌)
-    (c.read_word-kind.ensures.bytes ∙ ap (word c.read_word-kind.result.0 ++◌)
-    c.read_word-number.ensures.bytes)
+in_words c = search rules
 
 all : (c : After-record_of) → length c.read_word-number.result.1.now ≡ 0
 all c = search rules
@@ -24,17 +22,7 @@ returns-clause-bytes c =
     c.record_of.ensures.number
 
 pub returns-clause-none : goal.returns-clause-none
-returns-clause-none c =
-    let after = (goal.at.returns-clause-none c).After-record_of in
-    none_spelled c.args.bytes.now c.read_word-generation.result.0 c.read_word-kind.result.0
-    c.read_word-number.result.0 c.read_word-number.result.1.now (in_words after) (all after)
-    c.args.limits c.record_of.ensures.limited (search rules) (search rules) (search rules)
-    c.record_of.result c.record_of.ensures.none
+returns-clause-none c = search (rules, none_spelled, in_words, all)
 
 pub returns-clause-row : goal.returns-clause-row
-returns-clause-row c =
-    let after = (goal.at.returns-clause-row c).After-record_of in
-    no_row c.args.bytes.now c.read_word-generation.result.0 c.read_word-kind.result.0
-    c.read_word-number.result.0 c.read_word-number.result.1.now (in_words after) (all after)
-    c.args.limits c.record_of.ensures.limited (search rules) (search rules) (search rules)
-    c.record_of.result c.record_of.ensures.row
+returns-clause-row c = search (rules, no_row, in_words, all)

@@ -4,15 +4,7 @@ use Rattle.ent_alloc.proofs.MeaningOfRequests.{cancelled_view, cancelled_reserve
 use Rattle.ent_alloc.proofs.requesting.cancel_requests.Goals as goal
 
 pub invariant_of-entities : goal.invariant_of-entities
-invariant_of-entities c =
-    let e = c.entities.inside in
-    let fact = cancelled_reserved e.slots e.requests.asked e.requests.served
-    c.args.entities.now.allocator c.entities.invariant (allocator_is c.entities.view_is) in
-    search (rules, fact)
+invariant_of-entities c = search (rules, cancelled_reserved, allocator_is)
 
 pub returns-clause-cancelled : goal.returns-clause-cancelled
-returns-clause-cancelled c =
-    let e = c.entities.inside in
-    let fact = cancelled_view e.slots e.requests.asked e.requests.served
-    c.args.entities.now.allocator c.entities.invariant (allocator_is c.entities.view_is) in
-    search (rules, fact)
+returns-clause-cancelled c = search (rules, cancelled_view, allocator_is)

@@ -122,8 +122,4 @@ returns-in-Some-clause-within c =
     (reused at.In-Some rest).front
 
 pub returns-in_ok-make_one-clause-within : goal.returns-in_ok-make_one-clause-within
-returns-in_ok-make_one-clause-within c =
-    let at = goal.at.returns-in_ok-make_one-clause-within c in
-    let rest = rest at.Else-needs_flush in
-    first_within c.args.self.now.allocator c.in_ok-make_one.field-0 rest.sound
-    (made at.In_ok-make_one rest (some_room at.Then-room-gt0)).front
+returns-in_ok-make_one-clause-within c = search (rules, rest, first_within, made, some_room)

@@ -24,10 +24,7 @@ rest c = search (rules, at_rest, allocator_is)
 enough : (c : Else-n-left) → IsAtRest c.self.inside.slots c.self.inside.requests
     c.args.self.now.allocator → c.args.n ≤ length c.self.inside.slots.pending
     + (c.self.inside.slots.limits.slots - c.self.inside.slots.made)
-enough c rest =
-    let many = length_pool c.self.inside.slots c.self.inside.requests c.args.self.now.allocator
-    rest in
-    omega (arith, many, c.left.ensures, c.if-n-left.false)
+enough c rest = search (rules, length_pool, rest)
 
 -- how many slots go on waiting, and how many are made
 record AreCounted (waiting n kept news : ℕ) : Type 0 where
@@ -52,13 +49,7 @@ given c rest enough counts =
     ∙ (λ i. flushed_roster c.self.inside.slots (counts.kept_is i) (counts.news_is i)))
 
 pub bring_to_life-requires-clause-room : goal.bring_to_life-requires-clause-room
-bring_to_life-requires-clause-room c =
-    let at = goal.at.bring_to_life-requires-clause-room c in
-    let many = enough at.Else-n-left (rest at.Else-needs_flush) in
-    let counts = counted at.After-fresh-fresh in
-    let news = counts.news_is in
-    let few = c.waiting-waiting.ensures.few in
-    omega (arith, many, news, few)
+bring_to_life-requires-clause-room c = search (rules, enough, rest, counted)
 
 pub in_order-requires : goal.in_order-requires
 in_order-requires c = search (rules, length-append, length-fresh)
@@ -70,10 +61,7 @@ invariant_of-self-2 c =
     (enough at.Else-n-left (rest at.Else-needs_flush)) (counted at.After-fresh-fresh)).reserved
 
 pub returns-clause-ok : goal.returns-clause-ok
-returns-clause-ok c =
-    let at = goal.at.returns-clause-ok c in
-    (given at.In_ok-bring_to_life (rest at.Else-needs_flush)
-    (enough at.Else-n-left (rest at.Else-needs_flush)) (counted at.After-fresh-fresh)).view
+returns-clause-ok c = search (rules, given, rest, enough, counted)
 
 pub returns-clause-handles : goal.returns-clause-handles
 returns-clause-handles c =
@@ -92,19 +80,10 @@ returns-clause-handles c =
     (enough at.Else-n-left (rest at.Else-needs_flush))
 
 pub returns-clause-calls : goal.returns-clause-calls
-returns-clause-calls c =
-    let at = goal.at.returns-clause-calls c in
-    let at_rest = rest at.Else-needs_flush in
-    let many = enough at.Else-n-left at_rest in
-    (given at.In_ok-bring_to_life at_rest many (counted at.After-fresh-fresh)).view
-    ∙ one_by_one c.self.inside.slots c.self.inside.requests c.args.self.now.allocator at_rest
-    c.args.n many
+returns-clause-calls c = search (rules, at_rest, rest, enough, given, counted, one_by_one)
 
 pub returns-clause-within : goal.returns-clause-within
-returns-clause-within c =
-    let at = goal.at.returns-clause-within c in
-    subst (All (IsWithin c.args.self.now.allocator.limits)) (sym (returns-clause-handles c))
-    (front_within c.args.self.now.allocator c.args.n (rest at.Else-needs_flush).sound)
+returns-clause-within c = search (rules, returns-clause-handles, front_within, rest)
 
 pub returns-clause-rows_of_living : goal.returns-clause-rows_of_living
 returns-clause-rows_of_living c =

@@ -26,30 +26,10 @@ set_front-requires-clause-same c =
     order_slots s ps c.requires.used c.requires.within c.deref.result.now are
 
 pub returns-in_err-order-clause-memory : goal.returns-in_err-order-clause-memory
-returns-in_err-order-clause-memory c =
-    let ps = c.args.portions.now in
-    let short : count_of ps < reach_of ps =
-    omega (
-      arith,
-      count_within ps c.requires.used,
-      c.requires.count,
-      c.reach_of-reach.ensures,
-      c.if-count-reach.false,
-    ) in
-    search (rules, short)
+returns-in_err-order-clause-memory c = search (rules, count_within)
 
 pub returns-in_err-set_front-clause-memory : goal.returns-in_err-set_front-clause-memory
-returns-in_err-set_front-clause-memory c =
-    let ps = c.args.portions.now in
-    let short : count_of ps < reach_of ps =
-    omega (
-      arith,
-      count_within ps c.requires.used,
-      c.requires.count,
-      c.reach_of-reach.ensures,
-      c.if-count-reach.false,
-    ) in
-    search (rules, short)
+returns-in_err-set_front-clause-memory c = search (rules, count_within)
 
 pub returns-clause-ok : goal.returns-clause-ok
 returns-clause-ok c =

@@ -63,22 +63,7 @@ invariant_of-self-2 c =
     ]
 
 pub returns-clause-ok : goal.returns-clause-ok
-returns-clause-ok c =
-    let at = goal.at.returns-clause-ok c in
-    elim (cases_eq c.args.handle.generation c.self.inside.slots.limits.generations) [
-      | inl last ↦ search (
-        rules,
-        c.in_ok-next.ensures.retired last,
-        retired_is at.Else-needs_flush last,
-        rest at.Else-needs_flush,
-      )
-      | inr before ↦ search (
-        rules,
-        c.in_ok-next.ensures.waits before,
-        freed_is at.Else-needs_flush before,
-        rest at.Else-needs_flush,
-      )
-    ]
+returns-clause-ok c = search (rules, cases_eq, retired_is, rest, freed_is)
 
 pub returns-clause-rows_of_living : goal.returns-clause-rows_of_living
 returns-clause-rows_of_living c = (invariant_of-self-2 c).rows

@@ -70,7 +70,7 @@ returns-in-None-clause-none c =
 -- how many slots can still be made
 room_is : (r : Roster) (asked given : ℕ) (s : Allocator) (room : ℕ) → allocator_of r asked given ≡ s
     → room ≡ s.limits.slots - s.made → r.limits.slots - r.made ≡ room
-room_is r asked given s room view is = ap (λ (t : Allocator). t.limits.slots - t.made) view ∙ sym is
+room_is r asked given s room view is = search rules
 
 pub returns-in-None-2-clause-found : goal.returns-in-None-2-clause-found
 returns-in-None-2-clause-found c =

@@ -18,7 +18,7 @@ lies c = search (rules, below_top, allocator_is)
 
 -- how many slots may be made
 slots_is : (c : After-slots) → c.slots.result ≡ c.self.inside.slots.limits.slots
-slots_is c = c.slots.ensures ∙ ap (λ (l : Limits). l.slots) c.limits.ensures
+slots_is c = search rules
 
 -- what a reply lists that owns these positions and indexes
 lists : (c : After-self) (n position end index index_end : ℕ)
@@ -68,12 +68,7 @@ returns-then-high-gt0 c n requested =
     (search (rules, ints))
 
 pub new-requires-2 : goal.new-requires-2
-new-requires-2 c =
-    let at = lies (goal.at.new-requires-2 c).After-self in
-    let slots = slots_is (goal.at.new-requires-2 c).After-slots in
-    served_in_range c.self.inside.slots c.args.span.high _ _ _ _ _ (omega (arith, ints))
-    (omega (arith, ints)) (served _ _ _ _ _ _ _ (omega (arith, ints)) (omega (arith, ints))
-    (omega (arith, ints)) (omega (arith, ints)) (omega (arith, ints)))
+new-requires-2 c = search (rules, lies, slots_is, served_in_range, served)
 
 pub returns : goal.returns
 returns c =

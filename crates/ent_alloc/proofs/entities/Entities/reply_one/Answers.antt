@@ -14,7 +14,7 @@ lies c = search (rules, below_top, allocator_is)
 
 -- how many slots may be made
 slots_is : (c : After-slots) → c.slots.result ≡ c.self.inside.slots.limits.slots
-slots_is c = c.slots.ensures ∙ ap (λ (l : Limits). l.slots) c.limits.ensures
+slots_is c = search rules
 
 pub returns-then-position-ge0 : goal.returns-then-position-ge0
 returns-then-position-ge0 c = search (rules, lies, one_pending, allocator_is, ints)

@@ -8,13 +8,11 @@ use Rattle.ent_alloc.proofs.entities.Entities.request_into.Goals.{In_err-reply}
 use Rattle.ent_alloc.proofs.entities.Entities.request_into.Goals as goal
 
 sound : (c : After-reply) → IsSound c.args.self.now.allocator
-sound c = subst IsSound (allocator_is c.self.view_is) c.self.invariant.sound
+sound c = search (rules, allocator_is)
 
 -- the reply that is looked up is that to the request
 replied : (c : After-reply) → c.reply.result ≡ reply_to c.args.self.now.allocator c.args.n
-replied c =
-    told c.args.self.now.allocator c.lower-span.new.self.allocator c.args.n c.lower-span.result
-    (sound c) c.lower-span.ensures.span c.lower-span.ensures.step c.reply.result c.reply.ensures
+replied c = search (rules, told, sound)
 
 pub returns-in_err-reply-clause-refused : goal.returns-in_err-reply-clause-refused
 returns-in_err-reply-clause-refused c =
@@ -33,11 +31,7 @@ append-requires c =
     search (rules)
 
 pub returns-clause-listed : goal.returns-clause-listed
-returns-clause-listed c =
-    let at = goal.at.returns-clause-listed c in
-    let is = of_served c.args.self.now.allocator c.args.n c.in_ok-reply.field-0
-    (sound at.After-reply) (sym (replied at.After-reply) ∙ c.in_ok-reply.was) in
-    search (rules)
+returns-clause-listed c = search (rules, of_served, sound, replied)
 
 pub returns-clause-enough : goal.returns-clause-enough
 returns-clause-enough c =
@@ -46,8 +40,4 @@ returns-clause-enough c =
     (sound at.After-reply) (sym (replied at.After-reply) ∙ c.in_ok-reply.was)).enough
 
 pub returns-clause-within : goal.returns-clause-within
-returns-clause-within c =
-    let at = goal.at.returns-clause-within c in
-    let is = of_served c.args.self.now.allocator c.args.n c.in_ok-reply.field-0
-    (sound at.After-reply) (sym (replied at.After-reply) ∙ c.in_ok-reply.was) in
-    subst (All (IsWithin c.args.self.now.allocator.limits)) is.lists is.within
+returns-clause-within c = search (rules, of_served, sound, replied)

@@ -1,3 +1,4 @@
+use Rattle.std.proofs.Common.{rules}
 use Rattle.std.proofs.Common.{◌≡◌, ◌+◌, ◌-◌, ◌<◌, ◌^◌, pos, ◌≤ℤ◌, subst, sym, ap, ◌∙◌, refl}
 use Rattle.std.proofs.Common.{arith, length, Ok}
 use Rattle.std.proofs.lemmas.Int.{ints}
@@ -33,16 +34,10 @@ viewed c =
     (allocator_is c.self.view_is) (omega arith)
 
 pub invariant_of-self : goal.invariant_of-self
-invariant_of-self c =
-    let keeps : Requests → Type 0 = λ q. AreReserved c.self.inside.slots q.asked q.served in
-    subst keeps (sym c.and_one-self-inside.ensures)
-    (reserved (goal.at.invariant_of-self c).In_ok-handle)
+invariant_of-self c = search (rules, reserved)
 
 pub returns-clause-step : goal.returns-clause-step
-returns-clause-step c =
-    ap (λ (q : Requests). allocator_of c.self.inside.slots q.asked q.served)
-    c.and_one-self-inside.ensures
-    ∙ viewed (goal.at.returns-clause-step c).In_ok-handle
+returns-clause-step c = search (rules, viewed)
 
 pub returns-clause-reply : goal.returns-clause-reply
 returns-clause-reply c =

@@ -7,50 +7,21 @@ use Rattle.ent_alloc.proofs.entities.Entities.set_front.Goals.{After-wait_last}
 use Rattle.ent_alloc.proofs.entities.Entities.set_front.Goals as goal
 
 pub overflow_cast-front : goal.overflow_cast-front
-overflow_cast-front c =
-    let e = c.self.inside in
-    let few = few_of e.slots e.requests c.args.self.now.allocator c.args.front.now c.self.invariant
-    (allocator_is c.self.view_is) c.requires.flushed c.requires.few c.requires.same in
-    omega (
-      arith,
-      few,
-      c.waiting-waiting.ensures.value,
-      c.waiting-waiting.ensures.within,
-      c.waiting-waiting.ensures.few,
-      c.waiting-waiting.ensures.fits,
-    )
+overflow_cast-front c = search (rules, few_of, allocator_is)
 
 pub make_waiting-requires : goal.make_waiting-requires
-make_waiting-requires c =
-    let e = c.self.inside in
-    let room = room_of e.slots e.requests c.args.self.now.allocator c.args.front.now c.self.invariant
-    (allocator_is c.self.view_is) c.requires.flushed c.requires.few c.requires.same in
-    omega (arith, room, c.waiting-waiting.ensures.value, c.saturating_sub-more.ensures)
+make_waiting-requires c = search (rules, room_of, allocator_is)
 
 -- the slots that were made wait
 grown_is : (c : After-wait_last-arg-1) → c.make_waiting.new.self
     ≡ grown c.self.inside.slots (length c.args.front.now - length c.self.inside.slots.pending)
-grown_is c =
-    c.in_ok-make_waiting.ensures.ok
-    ∙ ap (grown c.self.inside.slots)
-    (c.saturating_sub-more.ensures
-    ∙ ap (λ k. length c.args.front.now - k) c.waiting-waiting.ensures.value)
+grown_is c = search (rules, grown)
 
 pub wait_last-requires-clause-few : goal.wait_last-requires-clause-few
-wait_last-requires-clause-few c =
-    let e = c.self.inside in
-    enough_of e.slots e.requests c.args.self.now.allocator c.args.front.now c.self.invariant
-    (allocator_is c.self.view_is) c.requires.flushed c.requires.few c.requires.same
-    c.make_waiting.new.self
-    (grown_is (goal.at.wait_last-requires-clause-few c).After-wait_last-arg-1)
+wait_last-requires-clause-few c = search (rules, enough_of, allocator_is, grown_is)
 
 pub wait_last-requires-clause-same : goal.wait_last-requires-clause-same
-wait_last-requires-clause-same c =
-    let e = c.self.inside in
-    waits_of e.slots e.requests c.args.self.now.allocator c.args.front.now c.self.invariant
-    (allocator_is c.self.view_is) c.requires.flushed c.requires.few c.requires.same
-    c.make_waiting.new.self
-    (grown_is (goal.at.wait_last-requires-clause-same c).After-wait_last-arg-1)
+wait_last-requires-clause-same c = search (rules, waits_of, allocator_is, grown_is)
 
 -- what is left stands for the pool with this front
 left : (c : After-wait_last) → c.make_waiting.new.self
@@ -59,11 +30,7 @@ left : (c : After-wait_last) → c.make_waiting.new.self
     c.args.front.now)
     → StandFor c.wait_last.new.self c.self.inside.requests
     (with_front c.args.self.now.allocator slots.front)
-left c grows slots =
-    let e = c.self.inside in
-    stands_of e.slots e.requests c.args.self.now.allocator c.args.front.now c.self.invariant
-    (allocator_is c.self.view_is) c.requires.flushed c.requires.few slots
-    c.make_waiting.new.self grows c.wait_last.new.self c.wait_last.ensures
+left c grows slots = search (rules, stands_of, allocator_is)
 
 pub invariant_of-self-2 : goal.invariant_of-self-2
 invariant_of-self-2 c =
@@ -71,9 +38,7 @@ invariant_of-self-2 c =
     (left at.After-wait_last (grown_is at.After-wait_last-arg-1) c.requires.same).reserved
 
 pub returns-clause-ok : goal.returns-clause-ok
-returns-clause-ok c slots =
-    let at = goal.at.returns-clause-ok c in
-    (left at.After-wait_last (grown_is at.After-wait_last-arg-1) slots).view
+returns-clause-ok c slots = search (rules, left, grown_is)
 
 pub returns-clause-rows : goal.returns-clause-rows
 returns-clause-rows c =

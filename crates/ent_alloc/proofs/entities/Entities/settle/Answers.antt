@@ -43,10 +43,7 @@ invariant_of-self c =
     (omega (arith, ints)) (omega (arith, ints)) (search (rules, c.requires.all_given, ints))
 
 pub returns-clause-settled : goal.returns-clause-settled
-returns-clause-settled c =
-    let tops = tops (goal.at.returns-clause-settled c).After-self in
-    let both = asked (goal.at.returns-clause-settled c).After-distance-2 tops in
-    search (rules, settled_view, allocator_is, both)
+returns-clause-settled c = search (rules, tops, asked, settled_view, allocator_is)
 
 pub returns-clause-requests : goal.returns-clause-requests
 returns-clause-requests c =

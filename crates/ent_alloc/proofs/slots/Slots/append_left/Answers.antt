@@ -1,3 +1,4 @@
+use Rattle.std.proofs.Common.{rules}
 use Rattle.std.proofs.Common.{◌≡◌, sym, ap, ◌∙◌, ◌+◌, ◌-◌, ◌≤◌, ◌++◌, [], length, get_or, take}
 use Rattle.std.proofs.Common.{drop, arith, append_assoc}
 use Rattle.std.proofs.Math.ListN.{drop_of_length-le}
@@ -59,15 +60,4 @@ loop-portion-preserved c =
     }
 
 pub returns : goal.returns
-returns c =
-    let ps = c.args.portions.now in
-    let k = c.loop-portion.portion-index in
-    let none : drop k ps ≡ [] = drop_of_length-le ps c.loop-portion-test.false in
-    let nothing : c.loop-portion.more ≡ 0 =
-    omega (arith, ap count_of none, ap size_of none, c.loop-portion.invariant.enough) in
-    let order = c.loop-portion.order.items in
-    let others = left_of (drop c.loop-portion.before (slots_of (idle c.args.self.now))) (drop k ps) in
-    record {
-      items = sym (append-nil order) ∙ ap (λ n. order ++ take n others) (sym nothing)
-          ∙ c.loop-portion.invariant.items;
-    }
+returns c = search (rules, drop_of_length-le, append-nil)

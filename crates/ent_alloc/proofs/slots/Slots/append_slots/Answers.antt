@@ -7,8 +7,4 @@ use Rattle.ent_alloc.proofs.Portioned.{list_more}
 use Rattle.ent_alloc.proofs.slots.Slots.append_slots.Goals as goal
 
 pub loop-more-preserved : goal.loop-more-preserved
-loop-more-preserved c =
-    let slots = slots_of (idle c.args.self.now) in
-    let within : c.args.from + c.loop-more.more < length slots =
-    omega (arith, length-map (idle c.args.self.now) (λ (h : Handle). h.index), c.requires.within, c.loop-more-test.true) in
-    search (rules, list_more, append_assoc, within)
+loop-more-preserved c = search (rules, length-map, list_more, append_assoc)

@@ -84,10 +84,7 @@ returns-then-generation-generations-clause-not_alive c =
     (λ no. absurd cc, λ dead. absurd (false≢true (sym dead ∙ alive)))
 
 pub returns-then-is_err-clause-not_alive : goal.returns-then-is_err-clause-not_alive
-returns-then-is_err-clause-not_alive c =
-    let at = goal.at.returns-then-is_err-clause-not_alive c in
-    let alive = living at.After-is_occupied_by ∙ lives at.Else-not-is_occupied_by in
-    (λ no. absurd cc, λ dead. absurd (false≢true (sym dead ∙ alive)))
+returns-then-is_err-clause-not_alive c = search (rules, living, lives, false≢true)
 
 pub pending-requires-clause-few : goal.pending-requires-clause-few
 pending-requires-clause-few c =
@@ -123,12 +120,7 @@ returns-clause-waits c before =
     search (rules, whole, c.self.view_is, c.index-index.ensures, c.push.ensures.items)
 
 pub returns-clause-lived : goal.returns-clause-lived
-returns-clause-lived c =
-    let at = goal.at.returns-clause-lived c in
-    living at.After-is_occupied_by ∙ lives at.Else-not-is_occupied_by
+returns-clause-lived c = search (rules, living, lives)
 
 pub returns-clause-not_alive : goal.returns-clause-not_alive
-returns-clause-not_alive c =
-    let at = goal.at.returns-clause-not_alive c in
-    let alive = living at.After-is_occupied_by ∙ lives at.Else-not-is_occupied_by in
-    (λ no. absurd cc, λ dead. absurd (false≢true (sym dead ∙ alive)))
+returns-clause-not_alive c = search (rules, living, lives, false≢true)

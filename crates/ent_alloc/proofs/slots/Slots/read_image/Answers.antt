@@ -1,3 +1,4 @@
+use Rattle.std.proofs.Common.{rules}
 use Rattle.std.proofs.Common.{◌∙◌, arith}
 use Rattle.ent_alloc.proofs.ImageLinked.{AreTied, are_slots, slots_bytes_are}
 use Rattle.ent_alloc.proofs.ImageRead.{read_all}
@@ -8,12 +9,7 @@ use Rattle.ent_alloc.proofs.slots.Slots.read_image.Goals as goal
 -- what was read points at each other
 are_tied : (c : In_ok-records) → AreTied c.args.limits c.in_ok-records.field-0.records.items
     c.in_ok-records.field-0.pending.items
-are_tied c =
-    let lists = c.in_ok-records.field-0 in
-    let read = c.in_ok-records.ensures in
-    read_all c.args.limits lists.records.items lists.pending.items lists.live read.read read.limited
-    (omega (arith, read.made, c.requires.few))
-    (λ position lt. read.taken position (omega (arith, read.waiting)))
+are_tied c = search (rules, read_all)
 
 pub invariant_of-result : goal.invariant_of-result
 invariant_of-result c =
@@ -22,13 +18,7 @@ invariant_of-result c =
     (are_tied (goal.at.invariant_of-result c).In_ok-records) c.in_ok-records.ensures.read.counted
 
 pub returns-clause-found : goal.returns-clause-found
-returns-clause-found c =
-    let lists = c.in_ok-records.field-0 in
-    slots_bytes_are c.args.limits lists.records.items lists.pending.items
-    (are_tied (goal.at.returns-clause-found c).In_ok-records) ∙ c.in_ok-records.ensures.bytes
+returns-clause-found c = search (rules, slots_bytes_are, are_tied)
 
 pub returns-clause-slots : goal.returns-clause-slots
-returns-clause-slots c =
-    let lists = c.in_ok-records.field-0 in
-    are_slots c.args.limits lists.records.items lists.pending.items
-    (are_tied (goal.at.returns-clause-slots c).In_ok-records)
+returns-clause-slots c = search (rules, are_slots, are_tied)

@@ -22,14 +22,7 @@ record AreWritten (records new_records : List SlotRecord) (pending new_pending :
 
 written : (c : After-wait_last) → AreWritten c.self.inside.records.items c.wait_last.new.records
     c.self.inside.pending.items c.wait_last.new.pending c.args.order.now
-written c = record {
-  records_are = c.wait_last.ensures.records
-      ∙ (λ i. moved (c.deref_mut.ensures.value i) (length (c.deref_mut-2.ensures.value i))
-      c.args.order.now);
-  pending_are = c.wait_last.ensures.listed
-      ∙ (λ i. placed (c.deref_mut-2.ensures.value i) (length (c.deref_mut-2.ensures.value i))
-      c.args.order.now);
-}
+written c = search rules
 
 pub invariant_of-self : goal.invariant_of-self
 invariant_of-self c =

@@ -1,3 +1,4 @@
+use Rattle.std.proofs.Common.{rules}
 use Rattle.std.proofs.Common.{◌++◌, ap, ◌∙◌, subst, sym, List, ℕ, ◌<◌, ◌^◌, length}
 use Rattle.std.specs.List.{flat_map}
 use Rattle.ent_alloc.specs.declared.slot_record.SlotRecord.{SlotRecord}
@@ -10,20 +11,10 @@ use Rattle.ent_alloc.proofs.slots.Slots.write_image.Goals as goal
 
 are_tied : (c : After-write_slots) → AreTied c.self.inside.limits c.self.inside.records.items
     c.self.inside.pending.items
-are_tied c = tied c.self.inside.limits c.self.inside.records.items c.self.inside.pending.items
-    c.self.inside.live c.self.invariant
-    (subst (λ (rs : List SlotRecord). (index : ℕ) → index < length rs
-    → number_of (record_at rs index).occupancy < 2 ^ 32) c.deref.ensures.value
-    c.write_slots.ensures.fits)
+are_tied c = search (rules, tied)
 
 pub returns-clause-written : goal.returns-clause-written
-returns-clause-written c =
-    let e = c.self.inside in
-    let same = slots_bytes_are e.limits e.records.items e.pending.items
-    (are_tied (goal.at.returns-clause-written c).After-write_slots) in
-    c.write_slots.ensures.written
-    ∙ ap (c.args.out.now.items ++◌) (ap (flat_map record_bytes) c.deref.ensures.value
-    ∙ sym same ∙ ap slots_bytes c.self.view_is)
+returns-clause-written c = search (rules, slots_bytes_are, are_tied)
 
 pub returns-clause-slots : goal.returns-clause-slots
 returns-clause-slots c =

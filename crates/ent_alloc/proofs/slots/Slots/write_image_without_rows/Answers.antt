@@ -1,3 +1,4 @@
+use Rattle.std.proofs.Common.{rules}
 use Rattle.std.proofs.Common.{◌++◌, ap, ◌∙◌, subst}
 use Rattle.std.specs.List.{flat_map}
 use Rattle.std.specs.FinMap as maps
@@ -8,12 +9,7 @@ use Rattle.ent_alloc.proofs.ImageRowless.{rowless_slots, rowless_bytes_are}
 use Rattle.ent_alloc.proofs.slots.Slots.write_image_without_rows.Goals as goal
 
 pub returns-clause-written : goal.returns-clause-written
-returns-clause-written c =
-    let e = c.self.inside in
-    let same = rowless_bytes_are e.limits e.records.items e.pending.items e.live c.self.invariant in
-    c.write_rowless_slots.ensures.written
-    ∙ ap (c.args.out.now.items ++◌) (ap (flat_map rowless_bytes) c.deref.ensures.value
-    ∙ same ∙ ap (λ (r : Roster). slots_bytes (record r { rows = maps.empty })) c.self.view_is)
+returns-clause-written c = search (rules, rowless_bytes_are)
 
 pub returns-clause-slots : goal.returns-clause-slots
 returns-clause-slots c =

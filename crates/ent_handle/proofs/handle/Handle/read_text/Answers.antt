@@ -13,20 +13,7 @@ returns-in_default c =
     search (rules, handle_only, handle_shape, handle_range)
 
 pub returns-then-not-is_decimal : goal.returns-then-not-is_decimal
-returns-then-not-is_decimal c =
-    let text = c.args.bytes.now in
-    let index = c.in-Some.index.now in
-    let generation = c.in-Some.generation.now in
-    let which : (is_decimal index ≡ false) ⊎ (is_decimal generation ≡ false) =
-    elim c.then-not-is_decimal.branch [
-      | then-not-is_decimal-via-then-not-is_decimal w ↦ inl (sym c.is_decimal.ensures
-          ∙ w.if-not-is_decimal.true)
-      | then-not-is_decimal-via-else-not-is_decimal+then-not-is_decimal-2 w ↦ inr
-          (sym w.is_decimal-else-not-is_decimal.ensures ∙ w.if-not-is_decimal-2.true)
-    ] in
-    let e = sym (shapeless_parts text index generation c.in-Some.ensures.found
-    c.in-Some.ensures.first which) in
-    search (rules, handle_only, handle_shape, handle_range)
+returns-then-not-is_decimal c = let text = c.args.bytes.now in let index = c.in-Some.index.now in let generation = c.in-Some.generation.now in let which : (is_decimal index ≡ false) ⊎ (is_decimal generation ≡ false) = search rules in let e = sym (shapeless_parts text index generation c.in-Some.ensures.found c.in-Some.ensures.first which) in search (rules, handle_only, handle_shape, handle_range)
 
 pub returns : goal.returns
 returns c =
