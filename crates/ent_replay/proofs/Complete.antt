@@ -17,7 +17,7 @@ use Rattle.ent_replay.specs.declared.trace.reply.ReserveReply.TheVariants as res
 use Rattle.ent_replay.specs.declared.trace.placed.Placed.{Placed}
 use Rattle.ent_replay.specs.Trace.{FitsReserved}
 use Rattle.ent_replay.specs.Checker.{KeyOf, AreKeyed, raised}
-use Rattle.ent_replay.proofs.Lists.{split, all_at, all_without, all_left, all_weaker}
+use Rattle.ent_replay.proofs.Lists.{no_middle, split, all_at, all_without, all_left, all_weaker}
 use Rattle.ent_replay.proofs.Parting.{parted}
 use Rattle.ent_replay.proofs.Sorted.{tie, tie_from, IsRising, TieAlike, whole, least, begins}
 use Rattle.ent_replay.proofs.Sorted.{nothing_left, alike_rest}
@@ -70,10 +70,6 @@ all_alike P sorted run alike all =
 nothing_sorted : (sorted : List Placed) → TieAlike sorted [] → sorted ≡ []
 nothing_sorted [] alike = refl
 nothing_sorted (d ∷ sorted) alike = grind (arith, common_steps, tie d, tie_from d d)
-
-no_middle : (before after : List Placed) (c : Placed) → before ++ c ∷ after ≡ [] → ⊥
-no_middle [] after c e = cc
-no_middle (b ∷ before) after c e = cc
 
 -- ---- refusals
 

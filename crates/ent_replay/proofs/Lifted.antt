@@ -1,9 +1,9 @@
 -- Orders of the lines of a run as orders of its reservations with their keys, and without those for
 -- nothing.
-use Rattle.std.proofs.Common.{rules, ◌≡◌, ℕ, ◌+◌, ◌<◌, ◌≤◌, Bool, true, false, cond, List, [], ◌∷◌}
+use Rattle.std.proofs.Common.{rules, ◌≡◌, ℕ, ◌+◌, ◌<◌, ◌≤◌, Bool, List, [], ◌∷◌}
 use Rattle.std.proofs.Common.{◌++◌, filter, Ok, refl, sym, ap, subst, ◌∙◌, arith, inl, inr}
 use Rattle.std.specs.List.{AllByRecursion}
-use Rattle.std.proofs.lemmas.Bool.{cases_eq}
+use Rattle.std.proofs.lemmas.Bool.{cases_eq, cases_Bool, cond_both}
 use Rattle.std.proofs.lemmas.List.Elements.{filter-append}
 use Rattle.std.proofs.lemmas.List.Sums.{sum_by-cons}
 use Rattle.ent_handle.specs.Handle.{Handle}
@@ -15,7 +15,7 @@ use Rattle.ent_replay.specs.declared.trace.reply.ReserveReply.{ReserveReply}
 use Rattle.ent_replay.specs.declared.trace.placed.Placed.{Placed}
 use Rattle.ent_replay.specs.Trace.{MayPass, IsOrderOf, FitsReserved, AreAnswered, after_lines}
 use Rattle.ent_replay.specs.Checker.{KeyOf, AreKeyed, raised, reservations_of, requested_in}
-use Rattle.ent_replay.proofs.Sorted.{lines, tie, IsRising, TieAlike}
+use Rattle.ent_replay.proofs.Sorted.{lines, lines_append, tie, IsRising, TieAlike}
 use Rattle.ent_replay.proofs.Legal.{asks, asks_some, some_or_none, kept, left_out, total}
 use Rattle.ent_replay.proofs.Legal.{FitsNothing, Answers-some, after-some, nothing-fits}
 use Rattle.ent_replay.proofs.Legal.{Answers-from_some}
@@ -63,10 +63,6 @@ unmapped (p ∷ run) (b ∷ before) after c e =
       after_is = u.after_is;
     }
 
-lines_append : (xs ys : List Placed) → lines (xs ++ ys) ≡ lines xs ++ lines ys
-lines_append [] ys = refl
-lines_append (x ∷ xs) ys = search (rules, lines_append xs ys)
-
 pub others_of : (p : Placed) (before : List Placed)
     → AllByRecursion (MayPass (line.Reserve p.reservation)) (lines before)
     → AllByRecursion (IsOfOther p) before
@@ -102,48 +98,32 @@ lifted (c ∷ order) run (before, after, parts, passes, more) =
 all_filtered : (P : Placed → Type 0) (p : Placed → Bool) (xs : List Placed) → AllByRecursion P xs
     → AllByRecursion P (filter p xs)
 all_filtered P p [] all = tt
-all_filtered P p (x ∷ xs) all = go (all_filtered P p xs all.1) (p x)
-  where
-    go : AllByRecursion P (filter p xs) → (b : Bool)
-        → AllByRecursion P (cond b (x ∷ filter p xs) (filter p xs))
-    go rest true = (all.0, rest)
-    go rest false = rest
+all_filtered P p (x ∷ xs) all =
+    let rest = all_filtered P p xs all.1 in
+    cond_both (p x) _ _ (AllByRecursion P) (λ _. (all.0, rest)) (λ _. rest)
 
 rising_filtered : (p : Placed → Bool) (xs : List Placed) → IsRising xs → IsRising (filter p xs)
 rising_filtered p [] up = tt
-rising_filtered p (x ∷ xs) up = go (rising_filtered p xs up.1) (p x)
-  where
-    go : IsRising (filter p xs) → (b : Bool) → IsRising (cond b (x ∷ filter p xs) (filter p xs))
-    go rest true = (all_filtered (λ (q : Placed). x.key ≤ q.key) p xs up.0, rest)
-    go rest false = rest
+rising_filtered p (x ∷ xs) up =
+    let rest = rising_filtered p xs up.1 in
+    cond_both (p x) _ _ IsRising
+    (λ _. (all_filtered (λ (q : Placed). x.key ≤ q.key) p xs up.0, rest)) (λ _. rest)
 
 swap_filters : (p q : Placed → Bool) (xs : List Placed)
     → filter p (filter q xs) ≡ filter q (filter p xs)
 swap_filters p q [] = refl
-swap_filters p q (x ∷ xs) = swap_with (swap_filters p q xs) (p x) (q x) refl refl
-  where
-    with_p : (b : Bool) → p x ≡ b → (ys : List Placed)
-        → filter p (x ∷ ys) ≡ cond b (x ∷ filter p ys) (filter p ys)
-    with_p b is ys = ap (λ v. cond v (x ∷ filter p ys) (filter p ys)) is
-
-    with_q : (b : Bool) → q x ≡ b → (ys : List Placed)
-        → filter q (x ∷ ys) ≡ cond b (x ∷ filter q ys) (filter q ys)
-    with_q b is ys = ap (λ v. cond v (x ∷ filter q ys) (filter q ys)) is
-
-    swap_with : filter p (filter q xs) ≡ filter q (filter p xs) → (a b : Bool) → p x ≡ a
-        → q x ≡ b → filter p (filter q (x ∷ xs)) ≡ filter q (filter p (x ∷ xs))
-    swap_with rest true true is_a is_b =
-        ap (filter p) (with_q true is_b xs) ∙ with_p true is_a (filter q xs)
-        ∙ ap (λ ps. x ∷ ps) rest ∙ sym (with_q true is_b (filter p xs))
-        ∙ sym (ap (filter q) (with_p true is_a xs))
-    swap_with rest true false is_a is_b =
-        ap (filter p) (with_q false is_b xs) ∙ rest ∙ sym (with_q false is_b (filter p xs))
-        ∙ sym (ap (filter q) (with_p true is_a xs))
-    swap_with rest false true is_a is_b =
-        ap (filter p) (with_q true is_b xs) ∙ with_p false is_a (filter q xs) ∙ rest
-        ∙ sym (ap (filter q) (with_p false is_a xs))
-    swap_with rest false false is_a is_b =
-        ap (filter p) (with_q false is_b xs) ∙ rest ∙ sym (ap (filter q) (with_p false is_a xs))
+swap_filters p q (x ∷ xs) =
+    let rest = swap_filters p q xs in
+    elim (cases_Bool (p x)) [
+      | inl first ↦ elim (cases_Bool (q x)) [
+        | inl both ↦ simp (first, both, rest)
+        | inr only ↦ simp (first, only, rest)
+      ]
+      | inr fails ↦ elim (cases_Bool (q x)) [
+        | inl only ↦ simp (fails, only, rest)
+        | inr neither ↦ simp (fails, neither, rest)
+      ]
+    ]
 
 alike_filtered : (p : Placed → Bool) (sorted run : List Placed) → TieAlike sorted run
     → TieAlike (filter p sorted) (filter p run)

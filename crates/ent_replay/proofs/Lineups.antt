@@ -27,11 +27,12 @@ use Rattle.ent_replay.specs.declared.trace.difference.Difference.{Difference}
 use Rattle.std.proofs.Common.{get_or, take}
 use Rattle.ent_replay.proofs.Legal.{asks, total}
 use Rattle.ent_replay.proofs.Lifted.{total_append, total_is}
-use Rattle.ent_replay.proofs.Maps.{get-inserted, get-insert_other}
+use Rattle.ent_replay.proofs.Maps.{get-inserted, get-insert_other, nothing_in}
 use Rattle.ent_replay.proofs.Orders.{AreAnswered-append, answered_back}
 use Rattle.ent_replay.proofs.Parting.{parted}
 use Rattle.ent_replay.proofs.Sorted.{lines_append}
-use Rattle.ent_replay.proofs.Callers.{keeps-again, keeps-forward, kept_own, left_other}
+use Rattle.ent_replay.proofs.Callers.{keeps-again, keeps-forward, own, other}
+use Rattle.ent_replay.proofs.Lists.{no_middle}
 
 abbrev after : Allocator → List Placed → Allocator
 after s run = after_lines s (lines_of run)
@@ -128,17 +129,10 @@ Passing-start s l blocked h none = record {
   count = omega (arith, length-append l.placed.items l.rest.items);
   grown = omega arith;
   free = λ q is. refl;
-  held = λ q key is empty.
-      let gone : finite.get finite.empty q ≡ Some key = ap (λ m. finite.get m q) (sym none) ∙ is in
-      let no : None ≡ Some key = sym (finite.get-empty nat_cmp q) ∙ gone in
-      absurd cc;
+  held = λ q key is empty. nothing_in blocked none q key is;
   still = λ same. (refl, λ before p more parts. absurd (no_middle before more p (sym parts)));
   whole = λ all. (refl, all);
 }
-  where
-    no_middle : (before more : List Placed) (p : Placed) → before ++ p ∷ more ≡ [] → ⊥
-    no_middle [] more p e = cc
-    no_middle (b ∷ before) more p e = cc
 
 module _ (s : Allocator) (start : Lineup) (placed left rest : List Placed) (p : Placed) (at : ℤ)
     (blocked : finite.FinMap nat_cmp ℕ) (sound : IsSound s)
@@ -156,10 +150,9 @@ module _ (s : Allocator) (start : Lineup) (placed left rest : List Placed) (p : 
   pub Passing-place : finite.get blocked caller ≡ None → FitsAt (after s placed) p
       → Passing s start (placed ++ p ∷ []) left rest (at -ℤ pos (asks p)) blocked
   Passing-place none fits = record {
-    keeps = subst (KeepsCallers (all_of start)) (sym moved)
-        (keeps-forward (all_of start) placed left rest p (h.free caller none) h.keeps);
-    answered = subst (AreAnswered s) (sym (lines_append placed (p ∷ [])))
-        (AreAnswered-append s (lines_of placed) (lines_of (p ∷ [])) h.answered (fits, tt));
+    keeps = rw moved (keeps-forward (all_of start) placed left rest p (h.free caller none) h.keeps);
+    answered = rw lines_append (AreAnswered-append s (lines_of placed) (lines_of (p ∷ [])) h.answered
+        (fits, tt));
     at_is = at-next s placed at sound h.at_is p;
     sum =
         let a = total_append placed (left ++ p ∷ rest) in
@@ -174,11 +167,7 @@ module _ (s : Allocator) (start : Lineup) (placed left rest : List Placed) (p : 
     free = h.free;
     held = h.held;
     still = λ same. let a = h.grown in let b = one_more in absurd (omega arith);
-    whole = λ all. (
-      (h.whole all).0,
-      subst (λ (ps : List Placed). AreAnswered s (lines_of ps))
-          (sym (append_assoc placed (p ∷ []) rest)) (h.whole all).1,
-    );
+    whole = λ all. ((h.whole all).0, rw append_assoc (h.whole all).1);
   }
 
   -- it isn't, or doesn't fit
@@ -186,11 +175,10 @@ module _ (s : Allocator) (start : Lineup) (placed left rest : List Placed) (p : 
       → ((v : ℕ) × (finite.get blocked caller ≡ Some v)) ⊎ (FitsAt (after s placed) p → ⊥)
       → Passing s start placed (left ++ p ∷ []) rest at (finite.insert blocked caller key)
   Passing-leave key why = record {
-    keeps = subst (λ (ps : List Placed). KeepsCallers (all_of start) (placed ++ ps))
-        (sym (append_assoc left (p ∷ []) rest)) h.keeps;
+    keeps = rw (append_assoc left (p ∷ []) rest) h.keeps;
     answered = h.answered;
     at_is = h.at_is;
-    sum = ap (λ (ps : List Placed). total (placed ++ ps)) (append_assoc left (p ∷ []) rest) ∙ h.sum;
+    sum = rw (append_assoc left (p ∷ []) rest) h.sum;
     count = let a = h.count in let b = length-append left (p ∷ []) in omega arith;
     grown = h.grown;
     free = λ q is. elim (cases_eq q caller) [
@@ -199,25 +187,14 @@ module _ (s : Allocator) (start : Lineup) (placed left rest : List Placed) (p : 
           sym (get-inserted blocked caller key)
           ∙ ap (finite.get (finite.insert blocked caller key)) (sym same) ∙ is in
           absurd cc
-      | inr apart ↦
-          filter-append (is_of q) left (p ∷ [])
-          ∙ ap (λ (ps : List Placed). filter (is_of q) left ++ ps)
-          (left_other p q [] (λ e. apart (sym e)))
-          ∙ append-nil (filter (is_of q) left)
-          ∙ h.free q (sym (get-insert_other blocked caller key q apart) ∙ is)
+      | inr apart ↦ simp (filter-append, other p q (λ e. apart (sym e)), append-nil)
+          (h.free q (sym (get-insert_other blocked caller key q apart) ∙ is))
     ];
     held = λ q v is empty. elim (cases_eq q caller) [
-      | inl same ↦
-          let parts : filter (is_of q) left ++ p ∷ [] ≡ [] =
-          ap (λ (ps : List Placed). filter (is_of q) left ++ ps) (sym (kept_own p q [] (sym same)))
-          ∙ sym (filter-append (is_of q) left (p ∷ [])) ∙ empty in
-          some_pushed (filter (is_of q) left) parts
-      | inr apart ↦
-          h.held q v (sym (get-insert_other blocked caller key q apart) ∙ is)
-          (sym (append-nil (filter (is_of q) left))
-          ∙ ap (λ (ps : List Placed). filter (is_of q) left ++ ps)
-          (sym (left_other p q [] (λ e. apart (sym e))))
-          ∙ sym (filter-append (is_of q) left (p ∷ [])) ∙ empty)
+      | inl same ↦ no_middle (filter (is_of q) left) [] p
+          (simp (filter-append, own p q (sym same)) at empty)
+      | inr apart ↦ h.held q v (sym (get-insert_other blocked caller key q apart) ∙ is)
+          (simp (filter-append, other p q (λ e. apart (sym e)), append-nil) at empty)
     ];
     still = λ same.
         let before = h.still same in (
@@ -225,7 +202,7 @@ module _ (s : Allocator) (start : Lineup) (placed left rest : List Placed) (p : 
           λ front x more parts first. elim (parted left [] front more p x parts) [
             | inl inside ↦ before.1 front x inside.more inside.front_is first
             | inr (inl itself) ↦ λ fits. last front x before.0 itself.before_is itself.is first fits
-            | inr (inr behind) ↦ absurd (nothing_behind behind.more more x behind.rest_is)
+            | inr (inr behind) ↦ absurd (no_middle behind.more more x (sym behind.rest_is))
           ],
         );
     whole = λ all.
@@ -241,14 +218,6 @@ module _ (s : Allocator) (start : Lineup) (placed left rest : List Placed) (p : 
         ];
   }
     where
-      some_pushed : (ps : List Placed) → ps ++ p ∷ [] ≡ [] → ⊥
-      some_pushed [] e = cc
-      some_pushed (x ∷ ps) e = cc
-
-      nothing_behind : (before more : List Placed) (x : Placed) → [] ≡ before ++ x ∷ more → ⊥
-      nothing_behind [] more x e = cc
-      nothing_behind (b ∷ before) more x e = cc
-
       last : (front : List Placed) (x : Placed) → placed ≡ start.placed.items → front ≡ left
           → x ≡ p → filter (is_of x.reservation.caller) front ≡ [] → FitsAt (reached s start) x → ⊥
       last front x same all is first fits = elim why [
@@ -299,11 +268,8 @@ module _ (s : Allocator) (start : Lineup) (placed left all rest : List Placed) (
       → FitsReserved p.reservation.reply (reply_from s.made (pool_at s at) (asks p))
       → Passing s start items left rest below blocked
   placed_next items below parts is lower none fits =
-      let h_parts = subst (λ (ps : List Placed). Passing s start placed left ps at blocked) parts h in
-      subst (λ (ps : List Placed). Passing s start ps left rest below blocked) (sym is)
-      (subst (λ x. Passing s start (placed ++ p ∷ []) left rest x blocked) (sym lower)
-      (Passing-place s start placed left rest p at blocked begun.sound h_parts none
-      (subst (λ X. X) fits_here fits)))
+      rw (is, lower) (Passing-place s start placed left rest p at blocked begun.sound (rw parts at h)
+      none (subst (λ X. X) fits_here fits))
 
   pub left_next : (items : List Placed) (now : finite.FinMap nat_cmp ℕ) (key : ℕ) → all ≡ p ∷ rest
       → items ≡ left ++ p ∷ [] → now ≡ finite.insert blocked p.reservation.caller key
@@ -311,21 +277,18 @@ module _ (s : Allocator) (start : Lineup) (placed left all rest : List Placed) (
       ⊎ (FitsReserved p.reservation.reply (reply_from s.made (pool_at s at) (asks p)) → ⊥)
       → Passing s start placed items rest at now
   left_next items now key parts is inserted why =
-      let h_parts = subst (λ (ps : List Placed). Passing s start placed left ps at blocked) parts h in
-      subst (λ (ps : List Placed). Passing s start placed ps rest at now) (sym is)
-      (subst (λ m. Passing s start placed (left ++ p ∷ []) rest at m) (sym inserted)
-      (Passing-leave s start placed left rest p at blocked begun.sound h_parts key (elim why [
+      rw (is, inserted) (Passing-leave s start placed left rest p at blocked begun.sound
+      (rw parts at h) key (elim why [
         | inl found ↦ inl found
         | inr unfit ↦ inr (λ fits. unfit (subst (λ X. X) (sym fits_here) fits))
-      ])))
+      ]))
 
 -- nothing is left to go over
 module _ (s : Allocator) (start l : Lineup) (all : List Placed) (blocked : finite.FinMap nat_cmp ℕ)
     (begun : IsLineup s start) (none : all ≡ [])
     (h : Passing s start l.placed.items l.rest.items all l.at blocked) where
   over : l.placed.items ++ (l.rest.items ++ all) ≡ all_of l
-  over = ap (λ (ps : List Placed). l.placed.items ++ (l.rest.items ++ ps)) none
-      ∙ ap (λ (ps : List Placed). l.placed.items ++ ps) (append-nil l.rest.items)
+  over = rw (none, append-nil) refl
 
   pub over_lined : IsLineup s l
   over_lined = record {
@@ -351,17 +314,11 @@ module _ (s : Allocator) (start l : Lineup) (all : List Placed) (blocked : finit
       let d = length-append start.placed.items start.rest.items in
       omega arith
 
-  pub over_fewer : length l.rest.items ≤ length start.rest.items
-  over_fewer = let a = counted in let b = h.grown in omega arith
-
   pub over_stuck : length l.rest.items ≡ length start.rest.items → NoneFits (reached s l) l.rest.items
   over_stuck same =
       let a = counted in
       let b = h.still (omega arith) in
       subst (λ (ps : List Placed). NoneFits (after s ps) l.rest.items) (sym b.0) b.1
-
-  pub over_whole : AreAnswered s (lines_of (all_of start)) → l.rest.items ≡ []
-  over_whole all_fit = (h.whole all_fit).0
 
 -- what is some is something
 pub some_of : {X : Type 0} (o : Option X) → is_some o ≡ true → (v : X) × (o ≡ Some v)
@@ -376,9 +333,7 @@ pub started : (s : Allocator) (l : Lineup) (left rest : List Placed)
     (blocked : finite.FinMap nat_cmp ℕ) → IsLineup s l → left ≡ [] → rest ≡ l.rest.items
     → blocked ≡ finite.empty → Passing s l l.placed.items left rest l.at blocked
 started s l left rest blocked h none all empty =
-    subst (λ (ps : List Placed). Passing s l l.placed.items ps rest l.at blocked) (sym none)
-    (subst (λ (ps : List Placed). Passing s l l.placed.items [] ps l.at blocked) (sym all)
-    (Passing-start s l blocked h empty))
+    rw (none, all) (Passing-start s l blocked h empty)
 
 pub no_items : {X : Type 0} (xs : List X) → length xs ≡ 0 → xs ≡ []
 no_items [] is = refl
@@ -423,16 +378,6 @@ module _ (s : Allocator) (start l next : Lineup) (before : ℕ) (h : Settling s 
     ]);
   }
 
-  pub Settling-stuck : before ≤ length l.rest.items → NoneFits (reached s l) l.rest.items
-  Settling-stuck over = let a = h.fewer in h.stuck (omega arith)
-
-  pub Settling-whole : before ≤ length l.rest.items → AreAnswered s (lines_of (all_of start))
-      → l.rest.items ≡ []
-  Settling-whole over all = elim (h.whole all) [
-    | inl first ↦ let a = first.1 in absurd (omega arith)
-    | inr gone ↦ gone
-  ]
-
 -- the position of a lineup is one that its allocator counts
 module _ (s : Allocator) (l : Lineup) (h : IsLineup s l) where
   pub lined-least : pos (top s) ≤ℤ (l.at +ℤ pos (2 ^ 50))
@@ -462,18 +407,16 @@ names_one s l rest index x d h none same f at number told expected front cursor_
     let is : l.rest.items ≡ f.before ++ f.named ∷ f.after = sym same ∙ f.is in
     let named : x ≡ f.named =
     at ∙ (λ i. get_or (is i) (f.index_is i) x) ∙ at_middle f.before f.after f.named x in
+    let here : l.rest.items ≡ f.before ++ x ∷ f.after = rw named is in
+    let first : filter (is_of x.reservation.caller) f.before ≡ [] = rw named f.first in
     record {
       before = f.before;
       named = x;
       after = f.after;
-      is = is ∙ ap (λ (y : Placed). f.before ++ y ∷ f.after) (sym named);
-      first = subst (λ (y : Placed). filter (is_of y.reservation.caller) f.before ≡ []) (sym named)
-          f.first;
+      is = here;
+      first = first;
       differs = λ n. record {
-        unlike = none f.before x f.after
-            (is ∙ ap (λ (y : Placed). f.before ++ y ∷ f.after) (sym named))
-            (subst (λ (y : Placed). filter (is_of y.reservation.caller) f.before ≡ []) (sym named)
-            f.first);
+        unlike = none f.before x f.after here first;
         expected = expected ∙ ap (λ r. line.Reserve (record x.reservation { reply = reserve_reply r }))
             (reply-here s l.placed.items l.at h.sound h.at_is x.reservation.requested);
         number_is = number;

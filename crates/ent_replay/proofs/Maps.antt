@@ -1,6 +1,8 @@
 -- Maps of callers: what a tree's entries stand for, and the values of a map under a function.
 use Rattle.std.proofs.Common.{rules, ◌≡◌, ◌≢◌, refl, sym, ap, ◌∙◌, ℕ, true, false, cond, List, []}
-use Rattle.std.proofs.Common.{◌∷◌, map, Some, None, arith, eq-eqb, ne_eqb}
+use Rattle.std.proofs.Common.{◌∷◌, map, Some, None, arith, eq-eqb, ne_eqb, subst, inl, inr}
+use Rattle.std.proofs.lemmas.Bool.{cases_eq}
+use Rattle.std.proofs.lemmas.Option.{same_Some}
 use Rattle.std.proofs.lemmas.Grind.{common_steps}
 use Rattle.std.specs.Option.{option_map, IsSome}
 use Rattle.std.specs.Ordering.{nat_cmp, eq_by_cmp}
@@ -96,6 +98,26 @@ pub get-remove_other : {X : Type 0} (m : FinMap nat_cmp X) (k : ℕ) (q : ℕ) �
     → finite.get (finite.remove m k) q ≡ finite.get m q
 get-remove_other m k q other = get-remove nat_cmp_total m k q
     ∙ ap (λ b. cond b None (finite.get m q)) (apart q k other)
+
+-- an empty map has nothing
+pub nothing_in : {X : Type 0} (m : FinMap nat_cmp X) → m ≡ finite.empty → (q : ℕ) (x : X)
+    → finite.get m q ≡ Some x → ⊥
+nothing_in m none q x at = search (rules, get-empty)
+
+-- what holds of all but the value at k, and of that one
+module _ {X : Type 0} (P : ℕ → X → Type 0) (m : FinMap nat_cmp X) (k : ℕ)
+    (before : (q : ℕ) (x : X) → q ≢ k → finite.get m q ≡ Some x → P q x) where
+  pub on_inserted : (v : X) → P k v → (q : ℕ) (x : X) → finite.get (finite.insert m k v) q ≡ Some x
+      → P q x
+  on_inserted v here q x at = elim (cases_eq q k) [
+    | inl same ↦
+        let is : v ≡ x = search (rules, same_Some, get-inserted) in
+        subst (λ j. P j x) (sym same) (subst (P k) is here)
+    | inr other ↦ before q x other (sym (get-insert_other m k v q other) ∙ at)
+  ]
+
+  pub on_removed : (q : ℕ) (x : X) → finite.get (finite.remove m k) q ≡ Some x → P q x
+  on_removed q x at = search (rules, cases_eq, get-removed, get-remove_other)
 
 -- ---- the values under a function
 

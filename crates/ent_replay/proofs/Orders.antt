@@ -100,11 +100,7 @@ not_in_run run order before after l is parts alone = not_both l alone
   where
     not_both : (l : Call) → IsAlone l → IsReserve l → ⊥
     not_both (line.Reserve r) alone reserve = alone
-    not_both (line.Alloc told) alone reserve = reserve
-    not_both (line.Free h told) alone reserve = reserve
-    not_both (line.Flush told) alone reserve = reserve
-    not_both (line.State h told) alone reserve = reserve
-    not_both (line.Len told) alone reserve = reserve
+    not_both other alone reserve = reserve
 
 no_rest : (run : List Reservation) (order : List Call) → IsOrderOf (reserve_lines run ++ []) order
     → IsOrderOf (reserve_lines run) order
@@ -153,11 +149,7 @@ Shows-more c n l d alone shows = record {
 
 none_blamed : (l : Call) (P : Type 0) → IsAlone l → IfReserve l P
 none_blamed (line.Reserve r) P alone = absurd alone
-none_blamed (line.Alloc told) P alone = tt
-none_blamed (line.Free h told) P alone = tt
-none_blamed (line.Flush told) P alone = tt
-none_blamed (line.State h told) P alone = tt
-none_blamed (line.Len told) P alone = tt
+none_blamed other P alone = tt
 
 -- the run was settled, and the line differs then
 pub called-Shows : (c : Checked) (l : Call) (after : Allocator) (n : ℕ) (d : Difference) → IsAlone l
@@ -204,8 +196,4 @@ pub alone_Reaches : (c : Checked) (l : Call) (new : Checked) (at : Allocator) �
     → IsSettled c at → Fits at l → new ≡ record { allocator = after_line at l; run = [] }
     → Reaches c l new
 alone_Reaches c (line.Reserve r) new at alone settled fits is = absurd alone
-alone_Reaches c (line.Alloc told) new at alone settled fits is = (at, settled, fits, is)
-alone_Reaches c (line.Free h told) new at alone settled fits is = (at, settled, fits, is)
-alone_Reaches c (line.Flush told) new at alone settled fits is = (at, settled, fits, is)
-alone_Reaches c (line.State h told) new at alone settled fits is = (at, settled, fits, is)
-alone_Reaches c (line.Len told) new at alone settled fits is = (at, settled, fits, is)
+alone_Reaches c l new at alone settled fits is = (at, settled, fits, is)

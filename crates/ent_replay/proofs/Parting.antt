@@ -10,7 +10,7 @@ use Rattle.ent_replay.specs.declared.trace.call.Call.TheVariants as line
 use Rattle.ent_replay.specs.declared.trace.reservation.Reservation.{Reservation}
 use Rattle.ent_replay.specs.Trace.{MayPass, IsAlone, IsOrderOf}
 use Rattle.ent_replay.specs.Checker.{reserve_lines}
-use Rattle.ent_replay.proofs.Lists.{all_at, all_without}
+use Rattle.ent_replay.proofs.Lists.{all_at, all_without, no_middle}
 
 abbrev pub IsReserve : Call → Type 0
 IsReserve (line.Reserve r) = Unit {0}
@@ -53,10 +53,6 @@ module _ {X : Type 0} where
       let first : f ≡ b = cc in
       let others : front ++ x ∷ rest ≡ before ++ l ∷ after = cc in
       grind (arith, common_steps, parted front rest before after x l others)
-
-  no_middle : (front rest : List X) (x : X) → front ++ x ∷ rest ≡ [] → ⊥
-  no_middle [] rest x e = cc
-  no_middle (f ∷ front) rest x e = cc
 
 not_passed : (l x : Call) → IsAlone x → MayPass l x → ⊥
 not_passed l other alone p = search rules

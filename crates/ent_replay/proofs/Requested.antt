@@ -59,11 +59,7 @@ asked-reserves (line.Reserve r ∷ order) s all =
     let here = asked-after_take s r.requested in
     let more = asked-reserves order (after_line s (line.Reserve r)) all.1 in
     omega arith
-asked-reserves (line.Alloc told ∷ order) s all = absurd all.0
-asked-reserves (line.Free h told ∷ order) s all = absurd all.0
-asked-reserves (line.Flush told ∷ order) s all = absurd all.0
-asked-reserves (line.State h told ∷ order) s all = absurd all.0
-asked-reserves (line.Len told ∷ order) s all = absurd all.0
+asked-reserves (l ∷ order) s all = absurd all.0
 
 -- the state after a run has asked for what the run requests
 pub asked-settled : (c : Checked) (at : Allocator) → IsSettled c at → at.asked

@@ -1,6 +1,6 @@
 -- An event is read from its own text and from no other.
 use Rattle.std.proofs.Common.{rules, ◌≡◌, ℕ, ◌^◌, ◌<◌, Bool, true, false, not, cond, eqb, List}
-use Rattle.std.proofs.Common.{[], ◌∷◌, ◌++◌, All, Result, Ok, Err, refl, sym, ap, subst, ◌∙◌}
+use Rattle.std.proofs.Common.{[], ◌∷◌, ◌++◌, All, Result, Ok, refl, sym, ap, subst, ◌∙◌}
 use Rattle.std.proofs.Common.{append_assoc, arith}
 use Rattle.std.proofs.lemmas.Grind.{common_steps}
 use Rattle.std.specs.Prelude.{codes}
@@ -46,9 +46,6 @@ or_cause_ok c it x e = search (rules, ok_is)
 two_ok : (words : List (List ℕ)) (pair : List ℕ × List ℕ) → two words ≡ Ok pair → words ≡ pair.0
     ∷ pair.1 ∷ []
 two_ok more pair h = search (rules, ok_is)
-
-abbrev text_fault : {A : Type 0} → TextFault → Result A TextFault
-text_fault f = Err f
 
 number_is_small : (word : List ℕ) (n : ℕ) → number_of word ≡ Ok n → n < 2 ^ 32
 number_is_small word n e = grind (arith, common_steps)

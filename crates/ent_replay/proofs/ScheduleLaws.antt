@@ -9,8 +9,7 @@ use Rattle.std.proofs.lemmas.Bool.{cases_Bool}
 use Rattle.std.proofs.lemmas.List.Folds.{flat_map-map}
 use Rattle.std.proofs.lemmas.List.Splits.{join_with_byte-slice_split}
 use Rattle.ent_replay.specs.declared.event.Event.{Event}
-use Rattle.ent_replay.specs.declared.event.Event.TheVariants.{Alloc, Free, Flush, Begin, Step}
-use Rattle.ent_replay.specs.declared.event.Event.TheVariants.{Answer}
+use Rattle.ent_replay.specs.declared.event.Event.TheVariants.{Alloc}
 use Rattle.ent_replay.specs.declared.read_fault.Cause.{Cause}
 use Rattle.ent_replay.specs.declared.read_fault.ReadFault.{ReadFault}
 use Rattle.ent_replay.specs.declared.read_fault.ReadFault.TheVariants.{Line}
@@ -22,9 +21,6 @@ use Rattle.ent_replay.proofs.ScheduleEvents.{event_again}
 use Rattle.ent_replay.proofs.ScheduleWords.{parts_nonempty, without_empty_end-cons}
 
 -- ---- lines of events
-
-abbrev read_events : List Event → Result (List Event) ReadFault
-read_events events = Ok events
 
 abbrev read_fault : ReadFault → Result (List Event) ReadFault
 read_fault fault = Err fault
@@ -186,11 +182,7 @@ without_empty_end-events : (events : List Event) → without_empty_end (map even
     ≡ map event_text events
 without_empty_end-events [] = refl
 without_empty_end-events (Alloc ∷ []) = last_line _ _
-without_empty_end-events (Free h ∷ []) = last_line _ _
-without_empty_end-events (Flush ∷ []) = last_line _ _
-without_empty_end-events (Begin caller n ∷ []) = last_line _ _
-without_empty_end-events (Step caller ∷ []) = last_line _ _
-without_empty_end-events (Answer caller ∷ []) = last_line _ _
+without_empty_end-events (event ∷ []) = last_line _ _
 without_empty_end-events (event ∷ next ∷ events) = search
     (rules, without_empty_end-events (next ∷ events))
 

@@ -13,10 +13,10 @@ use Rattle.ent_replay.specs.Trace.{Fits, IsOrderOf}
 use Rattle.ent_replay.specs.Checker.{HasNoOrder, Shows, reservations_of}
 use Rattle.ent_replay.specs.Lineup.{IsLineup, KeepsCallers, NamesOne, NoneFits, all_of, is_of, lines_of}
 use Rattle.ent_replay.specs.Lineup.{reached}
-use Rattle.ent_replay.proofs.Lists.{split}
+use Rattle.ent_replay.proofs.Lists.{split, none_kept}
 use Rattle.ent_replay.proofs.Lifted.{lifted, unmapped}
 use Rattle.ent_replay.proofs.Sorted.{lines_append}
-use Rattle.ent_replay.proofs.Callers.{keeps-IsOrderOf, keeps-forward, kept_own, none_before}
+use Rattle.ent_replay.proofs.Callers.{keeps-IsOrderOf, keeps-forward, kept_own}
 use Rattle.ent_replay.proofs.Callers.{order-keeps}
 
 -- lists of the same lines have as many of each caller
@@ -69,7 +69,7 @@ module _ (s : Allocator) (run : List Placed) (l : Lineup) (keeps : KeepsCallers 
       (u.placed ∷ filter (is_of q) u.rest) (filter (is_of q) l.rest.items)
       (alike q u.first l.placed.items u.before_is) whole in
       let at = split (is_of q) u.placed (filter (is_of q) u.rest) l.rest.items (sym here) in
-      none at.before u.placed at.after at.is (none_before q at.before at.none)
+      none at.before u.placed at.after at.is (none_kept (is_of q) at.before at.none)
       (subst (Fits (reached s l)) (sym u.placed_is) fits)
 
   pub lineup-Shows : IsLineup s l → NoneFits (reached s l) l.rest.items

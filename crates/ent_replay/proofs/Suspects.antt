@@ -11,7 +11,7 @@ use Rattle.std.specs.FinMap as finite
 use Rattle.ent_replay.specs.declared.trace.placed.Placed.{Placed}
 use Rattle.ent_replay.specs.Lineup.{IsFirstAt, is_of}
 use Rattle.ent_replay.proofs.Maps.{get-inserted, get-insert_other}
-use Rattle.ent_replay.proofs.Callers.{left_other}
+use Rattle.ent_replay.proofs.Callers.{other}
 
 one_up : (n : ℕ) → suc n ≡ n + 1
 one_up n = omega arith
@@ -28,19 +28,7 @@ module _ (seen : finite.FinMap nat_cmp ℕ) (rest : List Placed) (index : ℕ) (
   others : (q : ℕ) → q ≢ p.reservation.caller → finite.get seen q ≡ None
       → filter (is_of q) (take (index + 1) rest) ≡ []
   others q apart is =
-      ap (filter (is_of q)) more ∙ filter-append (is_of q) (take index rest) (p ∷ [])
-      ∙ ap (λ (ps : List Placed). filter (is_of q) (take index rest) ++ ps)
-      (left_other p q [] (λ e. apart (sym e)))
-      ∙ append-nil (filter (is_of q) (take index rest)) ∙ h q is
-
-  pub AreSeen-again : (v : ℕ) → finite.get seen p.reservation.caller ≡ Some v
-      → AreSeen seen rest (index + 1)
-  AreSeen-again v found q is = elim (cases_eq q p.reservation.caller) [
-    | inl same ↦
-        let no : Some v ≡ None = sym found ∙ ap (finite.get seen) (sym same) ∙ is in
-        absurd cc
-    | inr apart ↦ others q apart is
-  ]
+      rw more (simp (filter-append, other p q (λ e. apart (sym e)), append-nil) (h q is))
 
   pub AreSeen-next : (key : ℕ) → AreSeen (finite.insert seen p.reservation.caller key) rest (index + 1)
   AreSeen-next key q is = elim (cases_eq q p.reservation.caller) [

@@ -1,12 +1,12 @@
 -- Tables with a place for each number: what the map of their values has, and how many there are.
-use Rattle.std.proofs.Common.{◌≡◌, ◌≢◌, refl, sym, ap, ◌∙◌, subst, inl, inr, ℕ, zero, suc, ◌+◌, ◌<◌, ◌≤◌}
+use Rattle.std.proofs.Common.{◌≡◌, refl, sym, ap, ◌∙◌, subst, inl, inr, ℕ, zero, suc, ◌+◌, ◌<◌, ◌≤◌}
 use Rattle.std.proofs.Common.{cond, List, [], ◌∷◌, ◌++◌, length, get_or, set, take, replicate}
 use Rattle.std.proofs.Common.{Option, Some, None, IsSome, rules, arith}
 use Rattle.std.proofs.Math.ListN.{get_or-eq_default}
 use Rattle.std.proofs.lemmas.Bool.{cases_eq}
 use Rattle.std.proofs.lemmas.Grind.{get_or-set_at}
 use Rattle.std.proofs.lemmas.List.{get_or-set_other, take_all}
-use Rattle.std.proofs.lemmas.List.Sums.{sum_by-cons, sum_by-append}
+use Rattle.std.proofs.lemmas.List.Sums.{sum_by-cons}
 use Rattle.std.specs.Ordering.{nat_cmp, eq_by_cmp}
 use Rattle.std.specs.Cmp.{nat_cmp_total}
 use Rattle.std.specs.FinMap as finite
@@ -110,28 +110,11 @@ by_place-padded places n = maps_alike (by_place (places ++ replicate n None)) (b
     get_by_place (places ++ replicate n None) q ∙ get_or-padded places n q
     ∙ sym (get_by_place places q))
 
-values_in_none : (X : Type 0) (n : ℕ) → values_in {X = X} (replicate n None) ≡ 0
-values_in_none X zero = refl
-values_in_none X (suc n) = values_in_none X n
-
-values_in-padded : {X : Type 0} (places : List (Option X)) (n : ℕ)
-    → values_in (places ++ replicate n None) ≡ values_in places
-values_in-padded {X = X} places n =
-    let none = values_in_none X n in
-    let both = sum_by-append one_if_some places (replicate n None) in
-    omega (arith, none, both)
-
 pub by_place-resized : {X : Type 0} (places : List (Option X)) (n m : ℕ) → length places ≤ n
     → by_place (take n places ++ replicate m None) ≡ by_place places
 by_place-resized places n m fits =
     ap (λ kept. by_place (kept ++ replicate m None)) (take_all n places fits)
     ∙ by_place-padded places m
-
-pub values_in-resized : {X : Type 0} (places : List (Option X)) (n m : ℕ) → length places ≤ n
-    → values_in (take n places ++ replicate m None) ≡ values_in places
-values_in-resized places n m fits =
-    ap (λ kept. values_in (kept ++ replicate m None)) (take_all n places fits)
-    ∙ values_in-padded places m
 
 -- ---- how many there are
 
