@@ -26,7 +26,7 @@ other p q apart = ne_eqb p.reservation.caller q apart
 
 pub kept_own : (p : Placed) (q : ℕ) (ps : List Placed) → p.reservation.caller ≡ q
     → filter (is_of q) (p ∷ ps) ≡ p ∷ filter (is_of q) ps
-kept_own p q ps same = ap (λ b. cond b (p ∷ filter (is_of q) ps) (filter (is_of q) ps)) (own p q same)
+kept_own p q ps same = simp own
 
 pub others_all : (c : Placed) (before : List Placed)
     → AllByRecursion (λ b. is_of c.reservation.caller b ≡ false) before
@@ -48,37 +48,16 @@ nothing (d ∷ run) keeps =
 -- one comes before those of others
 forward : (p : Placed) (left rest : List Placed) → filter (is_of p.reservation.caller) left ≡ []
     → (q : ℕ) → filter (is_of q) (p ∷ (left ++ rest)) ≡ filter (is_of q) (left ++ p ∷ rest)
-forward p left rest none q = kept_forward (is_of q) left rest p (λ own.
-    let same : p.reservation.caller ≡ q = grind (arith, nat_tests) in
-    subst (λ k. filter (is_of k) left ≡ []) same none)
+forward p left rest none q = kept_forward (is_of q) left rest p (λ own. let same : p.reservation.caller ≡ q = grind (arith, nat_tests) in rw (← same) none)
 
 pub keeps-IsOrderOf : (order run : List Placed) → KeepsCallers run order
     → IsOrderOf (lines run) (lines order)
 keeps-IsOrderOf [] run keeps = ap lines (nothing run keeps)
-keeps-IsOrderOf (p ∷ order) run keeps =
-    let q = p.reservation.caller in
-    let s = split (is_of q) p (filter (is_of q) order) run (sym (keeps q) ∙ kept_own p q order refl)
-    in
-    let none = none_kept (is_of q) s.before s.none in
-    let rest : KeepsCallers (s.before ++ s.after) order =
-    λ k. kept_rest (is_of k) order (s.before ++ s.after) p
-    (keeps k ∙ ap (filter (is_of k)) s.is ∙ sym (forward p s.before s.after none k)) in (
-      lines s.before,
-      lines s.after,
-      ap lines s.is ∙ lines_split s.before s.after p,
-      others_all p s.before s.none,
-      subst (λ (ls : List Call). IsOrderOf ls (lines order)) (lines_append s.before s.after)
-          (keeps-IsOrderOf order (s.before ++ s.after) rest),
-    )
+keeps-IsOrderOf (p ∷ order) run keeps = let q = p.reservation.caller in let s = split (is_of q) p (filter (is_of q) order) run (sym (keeps q) ∙ kept_own p q order refl) in let none = none_kept (is_of q) s.before s.none in let rest : KeepsCallers (s.before ++ s.after) order = λ k. kept_rest (is_of k) order (s.before ++ s.after) p (keeps k ∙ ap (filter (is_of k)) s.is ∙ sym (forward p s.before s.after none k)) in (lines s.before, lines s.after, ap lines s.is ∙ lines_split s.before s.after p, others_all p s.before s.none, rw (← lines_append s.before s.after) (keeps-IsOrderOf order (s.before ++ s.after) rest))
 
 pub order-keeps : (order run : List Placed) → IsPlacedOrder run order → KeepsCallers run order
-order-keeps [] run is q = ap (filter (is_of q)) (sym is)
-order-keeps (p ∷ order) run (before, after, parts, others, more) q =
-    let none = none_kept (is_of p.reservation.caller) before
-    (all_weaker (IsOfOther p) _ (λ b. other b p.reservation.caller) before others) in
-    ap (λ (ps : List Placed). cond (is_of q p) (p ∷ ps) ps)
-    (order-keeps order (before ++ after) more q)
-    ∙ forward p before after none q ∙ ap (filter (is_of q)) (sym parts)
+order-keeps [] run is q = cc
+order-keeps (p ∷ order) run (before, after, parts, others, more) q = let none = none_kept (is_of p.reservation.caller) before (all_weaker (IsOfOther p) _ (λ b. other b p.reservation.caller) before others) in cc (order-keeps order (before ++ after) more q, forward p before after none q, parts)
 
 pub keeps-again : (first second third : List Placed) → KeepsCallers first second
     → KeepsCallers second third → KeepsCallers first third
@@ -88,7 +67,4 @@ pub keeps-forward : (run placed left rest : List Placed) (p : Placed)
     → filter (is_of p.reservation.caller) left ≡ []
     → KeepsCallers run (placed ++ (left ++ p ∷ rest))
     → KeepsCallers run (placed ++ (p ∷ (left ++ rest)))
-keeps-forward run placed left rest p none keeps q =
-    filter-append (is_of q) placed (p ∷ (left ++ rest))
-    ∙ ap (λ (ps : List Placed). filter (is_of q) placed ++ ps) (forward p left rest none q)
-    ∙ sym (filter-append (is_of q) placed (left ++ p ∷ rest)) ∙ keeps q
+keeps-forward run placed left rest p none keeps q = cc (filter-append (is_of q) placed (p ∷ (left ++ rest)), forward p left rest none q, filter-append (is_of q) placed (left ++ p ∷ rest), keeps q)

@@ -35,4 +35,4 @@ module _ (s : Allocator) (start next : ℤ) (front : List Handle)
 -- at the cursor it is the front of the pool
 pub front_here : (s : Allocator) (at : ℤ) → IsSound s → at ≡ cursor s
     → take 8 (pool_at s at) ≡ take 8 s.pool
-front_here s at sound is = ap (λ p. take 8 (pool_at s p)) is ∙ ap (take 8) (pool_at-cursor s sound)
+front_here s at sound is = simp (is, pool_at-cursor)

@@ -46,7 +46,7 @@ joined-none f zero none = refl
 joined-none f (suc n) none = λ i. joined-none f n none i ++ none n i
 
 same_order : (xs ys : List Handle) → xs ≡ ys → IsPermutation xs ys
-same_order xs ys same = subst (IsPermutation xs) same (IsPermutation-refl xs)
+same_order xs ys same = rw (← same) (IsPermutation-refl xs)
 
 -- the last two parts of a list are swapped
 swapped : (xs ys zs : List Handle) → IsPermutation ((xs ++ ys) ++ zs) ((xs ++ zs) ++ ys)
@@ -62,21 +62,7 @@ joined-more : (f g : ℕ → List Handle) (c n : ℕ) → c < n → f c ≡ [] �
     → IsPermutation (joined f n ++ g c) (joined g n)
 unfolding joined
 joined-more f g c zero lt none alike = absurd (omega arith)
-joined-more f g c (suc n) lt none alike = elim (cases_lt c n) [
-  | inl below ↦
-      let rest = joined-more f g c n below none alike in
-      let last : f n ≡ g n = alike n (λ same. absurd (omega arith)) in
-      IsPermutation-trans ((joined f n ++ f n) ++ g c) ((joined f n ++ g c) ++ f n) (joined g n
-      ++ g n) (swapped (joined f n) (f n) (g c))
-      (subst (λ x. IsPermutation ((joined f n ++ g c) ++ f n) (joined g n ++ x)) last
-      (IsPermutation-append_left (f n) (joined f n ++ g c) (joined g n) rest))
-  | inr past ↦
-      let here : c ≡ n = omega arith in
-      let rest = joined-alike f g n (λ q below. alike q (λ same. absurd (omega arith))) in
-      let nothing : f n ≡ [] = ap f (sym here) ∙ none in
-      same_order ((joined f n ++ f n) ++ g c) (joined g n ++ g n)
-      (λ i. (ap (joined f n ++◌) nothing ∙ append-nil (joined f n) ∙ rest) i ++ g (here i))
-]
+joined-more f g c (suc n) lt none alike = elim (cases_lt c n) [ | inl below ↦ let rest = joined-more f g c n below none alike in let last : f n ≡ g n = alike n (λ same. absurd (omega arith)) in IsPermutation-trans ((joined f n ++ f n) ++ g c) ((joined f n ++ g c) ++ f n) (joined g n ++ g n) (swapped (joined f n) (f n) (g c)) (rw (← last) (IsPermutation-append_left (f n) (joined f n ++ g c) (joined g n) rest)) | inr past ↦ let here : c ≡ n = omega arith in let rest = joined-alike f g n (λ q below. alike q (λ same. absurd (omega arith))) in let nothing : f n ≡ [] = ap f (sym here) ∙ none in same_order ((joined f n ++ f n) ++ g c) (joined g n ++ g n) (λ i. (ap (joined f n ++◌) nothing ∙ append-nil (joined f n) ∙ rest) i ++ g (here i)) ]
 
 -- ---- the handles that are kept for open calls
 
@@ -87,12 +73,7 @@ module _ (calls : FinMap nat_cmp OpenCall) (caller : ℕ) (below : caller < call
   all_held-inserted : (new : OpenCall) → held (finite.get calls caller) ≡ []
       → IsPermutation (all_held calls ++ held_by new.reply)
       (all_held (finite.insert calls caller new))
-  all_held-inserted new none =
-      subst (λ hs. IsPermutation (all_held calls ++ hs) (all_held (finite.insert calls caller new)))
-      (ap held (get-inserted calls caller new))
-      (joined-more (λ q. held (finite.get calls q))
-      (λ q. held (finite.get (finite.insert calls caller new) q)) caller callers below none
-      (λ q other. ap held (sym (get-insert_other calls caller new q other))))
+  all_held-inserted new none = rw (← ap held (get-inserted calls caller new)) (joined-more (λ q. held (finite.get calls q)) (λ q. held (finite.get (finite.insert calls caller new) q)) caller callers below none (λ q other. ap held (sym (get-insert_other calls caller new q other))))
 
   all_held-removed : IsPermutation (all_held (finite.remove calls caller)
       ++ held (finite.get calls caller)) (all_held calls)
@@ -187,8 +168,7 @@ all_held-next s e r t is sound once =
 
 given_run : (s : MachineState) (events : List Event) (given : List Handle) → IsGiven s given
     → AllPairs (λ g h. g ≢ h) (given ++ given_by_all (outcomes_of s events))
-given_run s [] given h = subst (AllPairs (λ g h. g ≢ h)) (sym (append-nil given))
-    (AllPairs-left (λ g h. g ≢ h) given (all_held s.calls) h.once.distinct)
+given_run s [] given h = rw append-nil (AllPairs-left (λ g h. g ≢ h) given (all_held s.calls) h.once.distinct)
 given_run s (e ∷ events) given h = subst (AllPairs (λ g h. g ≢ h)) (search (rules, append_assoc))
     (given_run (after_event s e) events (given ++ given_by (outcome_of s e))
     (given-next s given h (move s e)))

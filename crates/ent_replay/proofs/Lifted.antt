@@ -78,20 +78,7 @@ pub lifted : (order : List Call) (run : List Placed) → IsOrderOf (lines run) o
     → Lifted run order
 lifted [] [] is = record { placed = []; is = refl; is_order = refl }
 lifted [] (p ∷ run) is = absurd (let no : line.Reserve p.reservation ∷ lines run ≡ [] = is in cc)
-lifted (c ∷ order) run (before, after, parts, passes, more) =
-    let u = unmapped run before after c parts in
-    let same : before ++ after ≡ lines (u.first ++ u.rest) =
-    (λ i. sym u.before_is i ++ sym u.after_is i) ∙ sym (lines_append u.first u.rest) in
-    let next = lifted order (u.first ++ u.rest)
-    (subst (λ (ls : List Call). IsOrderOf ls order) same more) in
-    let here = subst (λ (ls : List Call).
-    AllByRecursion (MayPass (line.Reserve u.placed.reservation)) ls) (sym u.before_is)
-    (subst (λ (l : Call). AllByRecursion (MayPass l) before) (sym u.placed_is) passes) in
-    record {
-      placed = u.placed ∷ next.placed;
-      is = λ i. sym u.placed_is i ∷ next.is i;
-      is_order = (u.first, u.rest, u.is, others_of u.placed u.first here, next.is_order);
-    }
+lifted (c ∷ order) run (before, after, parts, passes, more) = let u = unmapped run before after c parts in let same : before ++ after ≡ lines (u.first ++ u.rest) = (λ i. sym u.before_is i ++ sym u.after_is i) ∙ sym (lines_append u.first u.rest) in let next = lifted order (u.first ++ u.rest) (rw (← same) more) in let here = simp (← u.before_is) at (subst (λ (l : Call). AllByRecursion (MayPass l) before) (sym u.placed_is) passes) in record { placed = u.placed ∷ next.placed; is = λ i. sym u.placed_is i ∷ next.is i; is_order = (u.first, u.rest, u.is, others_of u.placed u.first here, next.is_order) }
 
 -- ---- without those for nothing
 
@@ -157,15 +144,7 @@ not_raised f p same = λ i q. each q i
 pub keyed_filtered : (given : List Handle) (f : ℕ → ℕ) (run : List Placed) → AreKeyed given f run
     → AllByRecursion FitsNothing run → AreKeyed given f (filter asks_some run)
 keyed_filtered given f [] keyed fits = tt
-keyed_filtered given f (p ∷ run) keyed fits = elim (some_or_none (asks p)) [
-  | inl some ↦ subst (AreKeyed given f) (sym (kept p run some.0))
-      (keyed.0, keyed_filtered given (raised f p) run keyed.1 fits.1)
-  | inr none ↦
-      let key = keyed.0 in
-      let zero_own = nothing_key given (asks p) key.own p.reservation.reply (fits.0 none.1)
-      key.key_of in
-      search (rules, left_out, asks_some, not_raised, keyed_filtered given (raised f p) run keyed.1 fits.1)
-]
+keyed_filtered given f (p ∷ run) keyed fits = elim (some_or_none (asks p)) [ | inl some ↦ rw (kept p run some.0) (keyed.0, keyed_filtered given (raised f p) run keyed.1 fits.1) | inr none ↦ let key = keyed.0 in let zero_own = nothing_key given (asks p) key.own p.reservation.reply (fits.0 none.1) key.key_of in search (rules, left_out, asks_some, not_raised, keyed_filtered given (raised f p) run keyed.1 fits.1) ]
 
 total_filtered : (run : List Placed) → total (filter asks_some run) ≡ total run
 total_filtered [] = refl
@@ -174,7 +153,7 @@ total_filtered (p ∷ run) = search
 
 pub total_append : (xs ys : List Placed) → total (xs ++ ys) ≡ total xs + total ys
 total_append [] ys = omega arith
-total_append (x ∷ xs) ys = let rest = total_append xs ys in omega arith
+total_append (x ∷ xs) ys = omega (arith, total_append xs ys)
 
 total_ordered : (order run : List Placed) → IsPlacedOrder run order → total order ≡ total run
 total_ordered [] run none = ap total (sym none)
@@ -195,22 +174,4 @@ pub sorted_run : (s : Allocator) (sorted run : List Placed) (order : List Call) 
     → requested_in (reservations_of sorted) ≡ requested_in (reservations_of run)
     → IsOrderOf (lines run) order → AreAnswered s order
     → AreAnswered s (lines sorted) × (after_lines s order ≡ after_lines s (lines sorted))
-sorted_run s sorted run order sound keyed up alike sum is answered =
-    let l = lifted order run is in
-    let order_yes = subst (AreAnswered s) l.is answered in
-    let fits_order = nothing-fits l.placed s order_yes in
-    let fits_run = all_unordered FitsNothing run l.placed l.is_order fits_order in
-    let fits_sorted = all_alike FitsNothing sorted run alike fits_run in
-    let some = filter asks_some in
-    let sums : total (some sorted) ≡ total (some l.placed) =
-    total_filtered sorted ∙ total_is sorted ∙ sum ∙ sym (total_is run)
-    ∙ sym (total_ordered l.placed run l.is_order) ∙ sym (total_filtered l.placed) in
-    let ends = sorted_is (available s) (some l.placed) (some sorted) (some run) s (λ _. 0) sound
-    refl
-    (λ q. (omega arith, omega arith)) (keyed_filtered (available s) (λ _. 0) run keyed fits_run)
-    (order_filtered l.placed run l.is_order) (some_filtered l.placed)
-    (Answers-some l.placed s order_yes) (rising_filtered asks_some sorted up)
-    (alike_filtered asks_some sorted run alike) sums in (
-      Answers-from_some sorted s fits_sorted ends.0,
-      ap (after_lines s) l.is ∙ after-some l.placed s ∙ ends.1 ∙ sym (after-some sorted s),
-    )
+sorted_run s sorted run order sound keyed up alike sum is answered = let l = lifted order run is in let order_yes = rw l.is at answered in let fits_order = nothing-fits l.placed s order_yes in let fits_run = all_unordered FitsNothing run l.placed l.is_order fits_order in let fits_sorted = all_alike FitsNothing sorted run alike fits_run in let some = filter asks_some in let sums : total (some sorted) ≡ total (some l.placed) = cc (total_filtered sorted, total_is sorted, sum, total_is run, total_ordered l.placed run l.is_order, total_filtered l.placed) in let ends = sorted_is (available s) (some l.placed) (some sorted) (some run) s (λ _. 0) sound refl (λ q. (omega arith, omega arith)) (keyed_filtered (available s) (λ _. 0) run keyed fits_run) (order_filtered l.placed run l.is_order) (some_filtered l.placed) (Answers-some l.placed s order_yes) (rising_filtered asks_some sorted up) (alike_filtered asks_some sorted run alike) sums in (Answers-from_some sorted s fits_sorted ends.0, ap (after_lines s) l.is ∙ after-some l.placed s ∙ ends.1 ∙ sym (after-some sorted s))

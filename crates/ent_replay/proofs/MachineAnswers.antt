@@ -54,7 +54,7 @@ module _ (on : MachineState → Returned) (s : Allocator) (spent : finite.FinMap
 pub consistent_as : {s t : Allocator} {spent : finite.FinMap nat_cmp ℕ}
     {calls : finite.FinMap nat_cmp StoredCall} → t ≡ s → AreConsistent s spent calls
     → AreConsistent t spent calls
-consistent_as {s} {t} {spent} {calls} is h = subst (λ a. AreConsistent a spent calls) (sym is) h
+consistent_as {s} {t} {spent} {calls} is h = rw is h
 
 -- what a test of an answer tells
 pub some_of : {X : Type 0} (o : Option X) → true ≡ is_some o → (x : X) × (o ≡ Some x)

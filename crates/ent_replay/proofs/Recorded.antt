@@ -51,21 +51,8 @@ both_follow c m d l lines one all = record {
 pub all_follow : (lines : List Call) (old new : Checker) (c d : Checked) → old.comparer ≡ Ok c
     → new.comparer ≡ Ok d → TakesAll old lines new
     → AllFollow c (numbered_after old.calls lines) d
-all_follow [] old new c d is new_is same =
-    let kept_by = ap (λ (x : Checker). x.comparer) same in
-    let kept : c ≡ d = cc in
-    subst (AllFollow c []) kept (record { sound = λ rest a. a; complete = λ rest a. a })
-all_follow (l ∷ lines) old new c d is new_is (next, takes, more) = elim (ok_or_err next.comparer) [
-  | inl ok ↦
-      subst (λ n. AllFollow c (numbered n l ∷ numbered_after n lines) d)
-      (counted old next l c is takes)
-      (both_follow c ok.0 d (numbered next.calls l) (numbered_after next.calls lines)
-      (compared old next l c (Ok ok.0) is ok.1 takes).follows
-      (all_follow lines next new ok.0 d ok.1 new_is more))
-  | inr bad ↦
-      let same = ap (λ (x : Checker). x.comparer) (stopped-all lines next new bad.0 bad.1 more) in
-      absurd cc
-]
+all_follow [] old new c d is new_is same = let kept_by = ap (λ (x : Checker). x.comparer) same in let kept : c ≡ d = cc in rw (← kept) (record { sound = λ rest a. a; complete = λ rest a. a })
+all_follow (l ∷ lines) old new c d is new_is (next, takes, more) = elim (ok_or_err next.comparer) [ | inl ok ↦ rw (← counted old next l c is takes) (both_follow c ok.0 d (numbered next.calls l) (numbered_after next.calls lines) (compared old next l c (Ok ok.0) is ok.1 takes).follows (all_follow lines next new ok.0 d ok.1 new_is more)) | inr bad ↦ let same = ap (λ (x : Checker). x.comparer) (stopped-all lines next new bad.0 bad.1 more) in absurd cc ]
 
 -- it has stopped for a difference: no trace that begins so agrees
 pub taken-differs : (lines : List Call) (old new : Checker) (c : Checked) (d : Difference)
@@ -73,19 +60,7 @@ pub taken-differs : (lines : List Call) (old new : Checker) (c : Checked) (d : D
     → (rest : List Call) → AgreesWith c (numbered_after old.calls lines ++ rest) → ⊥
 taken-differs [] old new c d is new_is same rest agrees =
     let kept = ap (λ (x : Checker). x.comparer) same in absurd cc
-taken-differs (l ∷ lines) old new c d is new_is (next, takes, more) rest agrees =
-    let here = subst (λ n. AgreesWith c (numbered n l ∷ (numbered_after n lines ++ rest)))
-    (sym (counted old next l c is takes)) agrees in
-    elim (ok_or_err next.comparer) [
-      | inl ok ↦ taken-differs lines next new ok.0 d ok.1 new_is more rest
-          ((compared old next l c (Ok ok.0) is ok.1 takes).follows.complete
-          (numbered_after next.calls lines ++ rest) here)
-      | inr bad ↦
-          let same = ap (λ (x : Checker). x.comparer) (stopped-all lines next new bad.0 bad.1 more) in
-          let named : bad.0 ≡ error.Differs d = cc in
-          (rw named at (compared old next l c (Err bad.0) is bad.1 takes).none)
-          (numbered_after next.calls lines ++ rest) here
-    ]
+taken-differs (l ∷ lines) old new c d is new_is (next, takes, more) rest agrees = let here = rw (← counted old next l c is takes) at agrees in elim (ok_or_err next.comparer) [ | inl ok ↦ taken-differs lines next new ok.0 d ok.1 new_is more rest ((compared old next l c (Ok ok.0) is ok.1 takes).follows.complete (numbered_after next.calls lines ++ rest) here) | inr bad ↦ let same = ap (λ (x : Checker). x.comparer) (stopped-all lines next new bad.0 bad.1 more) in let named : bad.0 ≡ error.Differs d = cc in (rw named at (compared old next l c (Err bad.0) is bad.1 takes).none) (numbered_after next.calls lines ++ rest) here ]
 
 -- ---- from the first call on
 
@@ -112,15 +87,4 @@ pub finished-differs : {A : Type 0} (limits : Limits) (start : Checker) (lines :
     (answer : Result A CheckError) (d : Difference) → start.comparer ≡ Ok (opened limits)
     → Finishes start lines answer → answer ≡ Err (error.Differs d)
     → Agrees (opening limits) (numbered_after start.calls lines) → ⊥
-finished-differs limits start lines answer d opens (taken, all, closes, stopped) named agrees =
-    let whole = subst (Agrees (opening limits)) (sym (append-nil (numbered_after start.calls lines)))
-    agrees in
-    elim (ok_or_err taken.comparer) [
-      | inl c ↦ (rw named at (rw c.1 at closes).none)
-          ((all_follow lines start taken (opened limits) c.0 opens c.1 all).complete [] whole)
-      | inr e ↦
-          let kept : answer ≡ Err e.0 = rw e.1 at stopped in
-          let same : e.0 ≡ error.Differs d = cc in
-          taken-differs lines start taken (opened limits) d opens
-          (e.1 ∙ ap (λ (x : CheckError). Err x) same) all [] whole
-    ]
+finished-differs limits start lines answer d opens (taken, all, closes, stopped) named agrees = let whole = rw (← append-nil (numbered_after start.calls lines)) at agrees in elim (ok_or_err taken.comparer) [ | inl c ↦ (rw named at (rw c.1 at closes).none) ((all_follow lines start taken (opened limits) c.0 opens c.1 all).complete [] whole) | inr e ↦ let kept : answer ≡ Err e.0 = rw e.1 at stopped in let same : e.0 ≡ error.Differs d = cc in taken-differs lines start taken (opened limits) d opens (e.1 ∙ ap (λ (x : CheckError). Err x) same) all [] whole ]

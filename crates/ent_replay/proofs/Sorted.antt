@@ -70,12 +70,7 @@ module _ (Q : Placed → Type 0) where
   pub whole : (run : List Placed) → ((x : Placed) → All Q (filter (tie x) run)) → AllByRecursion Q
       run
   whole [] each = tt
-  whole (d ∷ run) each = (
-    All-head Q d (filter (tie d) run)
-        (subst (λ b. All Q (cond b (d ∷ filter (tie d) run) (filter (tie d) run)))
-        (tie_from d d refl) (each d)),
-    whole run (λ x. rest_of d x run (tie x d) (each x)),
-  )
+  whole (d ∷ run) each = (All-head Q d (filter (tie d) run) ((rw (tie_from d d refl) at (each d))), whole run (λ x. rest_of d x run (tie x d) (each x)))
 
 -- the second list has what ties with any one in the same order
 abbrev pub TieAlike : List Placed → List Placed → Type 0
@@ -84,10 +79,7 @@ TieAlike sorted run = (x : Placed) → filter (tie x) sorted ≡ filter (tie x) 
 pub least : (h : Placed) (sorted run : List Placed)
     → AllByRecursion (λ (p : Placed). h.key ≤ p.key) sorted → TieAlike (h ∷ sorted) run
     → AllByRecursion (λ (p : Placed). h.key ≤ p.key) run
-least h sorted run up alike =
-    let Q : Placed → Type 0 = λ (p : Placed). h.key ≤ p.key in
-    whole Q run (λ x. subst (All Q) (alike x) (All-filter (tie x) Q (h ∷ sorted)
-    (All-cons Q h sorted (omega arith) (All-from_recursion Q sorted up))))
+least h sorted run up alike = let Q : Placed → Type 0 = λ (p : Placed). h.key ≤ p.key in whole Q run (λ x. rw (← alike x) (All-filter (tie x) Q (h ∷ sorted) (All-cons Q h sorted (omega arith) (All-from_recursion Q sorted up))))
 
 -- ---- steady callers
 
