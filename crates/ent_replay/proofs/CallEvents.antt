@@ -3,8 +3,8 @@ use Rattle.std.specs.FinMap.{get-remove, FinMap}
 use Rattle.ent_replay.proofs.Maps.{maps_alike, get-inserted, get-insert_other, get-removed}
 use Rattle.ent_replay.proofs.Maps.{get-remove_other, get-map_values, map_values-insert, on_inserted}
 use Rattle.ent_replay.proofs.Maps.{on_removed}
-use Rattle.std.proofs.Common.{rules, ◌≡◌, sym, ap, subst, ◌∙◌, ℕ, ◌+◌, ◌^◌, ◌<◌, ◌≤◌, pos, ◌-ℤ◌}
-use Rattle.std.proofs.Common.{◌≤ℤ◌, true, nat_lt, length, drop, filter, Option, Some, None, Ok, Err}
+use Rattle.std.proofs.Common.{rules, ◌≡◌, sym, ap, ◌∙◌, ℕ, ◌+◌, ◌^◌, ◌<◌, ◌≤◌, pos, ◌-ℤ◌}
+use Rattle.std.proofs.Common.{true, nat_lt, length, drop, filter, Option, Some, None, Ok, Err}
 use Rattle.std.proofs.Common.{arith}
 use Rattle.std.proofs.lemmas.Int.{ints}
 use Rattle.std.specs.Option.{option_map, unwrap_or}
@@ -43,7 +43,7 @@ module _ (s : Allocator) (spent : FinMap nat_cmp ℕ) (calls : FinMap nat_cmp St
 
     opened : (o : Option StoredCall) → finite.get calls caller ≡ o
         → finite.get (map_values (open_call_of s) calls) caller ≡ option_map (open_call_of s) o
-    opened o is = get-map_values (open_call_of s) calls caller ∙ ap (option_map (open_call_of s)) is
+    opened o is = simp (get-map_values, is)
 
     -- what waits for this caller is counted
     pub awaited-bound : AreConsistent s spent calls → (call : StoredCall) → finite.get calls caller
@@ -186,40 +186,7 @@ module _ (s : Allocator) (spent : FinMap nat_cmp ℕ) (calls : FinMap nat_cmp St
 
       pub step-consistent : AreConsistent s spent calls → call.span ≡ None
           → AreConsistent (after_take s call.requested) spent (finite.insert calls caller stepped)
-      step-consistent h waits = record {
-        sound = after_take-sound s call.requested h.sound;
-        quota = h.quota;
-        asked =
-            let before = h.asked in
-            let all = sum_below-changed (λ q. awaited (finite.get calls q))
-            (λ q. awaited (finite.get (finite.insert calls caller stepped) q)) caller callers below
-            (λ q other. ap awaited (sym (get-insert_other calls caller stepped q other))) in
-            let waited : awaited (finite.get calls caller) ≡ call.requested = ap awaited is
-            ∙ ap (unasked call.requested) waits in
-            let waits_now : awaited (finite.get (finite.insert calls caller stepped) caller)
-            ≡ 0 = ap awaited (get-inserted calls caller stepped) in
-            let asks = asked-after_take s call.requested in
-            omega arith;
-        requests = on_inserted (λ q c. c.requested < 2 ^ 32) calls caller (λ q c _. h.requests q c)
-            stepped (h.requests caller call is);
-        spans = λ q other_call span at. on_inserted
-            (λ q c. c.span ≡ Some span → HasPassed (after_take s call.requested) c.requested span)
-            calls caller (λ q c _ at passed.
-            let old = h.spans q c span at passed in
-            let tops = top-after_take s call.requested h.sound in
-            record {
-              least = old.least;
-              high = subst (λ n. span.high ≤ℤ pos n) (sym tops) old.high;
-              low = old.low;
-            }) stepped (λ passed.
-            let at_span : record { high = cursor s; low = cursor s -ℤ pos call.requested }
-            ≡ span = same_Some _ span passed in
-            search (rules, asked-bound, top-after_take, ints)) q other_call at;
-        once = all_held-next (machine_state s spent calls) (event.Step caller)
-            (Ok (outcome.Cursor (cursor s -ℤ pos call.requested)))
-            (machine_state (after_take s call.requested) spent (finite.insert calls caller stepped))
-            (step-taken h.sound waits) h.sound h.once;
-      }
+      step-consistent h waits = record { sound = after_take-sound s call.requested h.sound; quota = h.quota; asked = let before = h.asked in let all = sum_below-changed (λ q. awaited (finite.get calls q)) (λ q. awaited (finite.get (finite.insert calls caller stepped) q)) caller callers below (λ q other. ap awaited (sym (get-insert_other calls caller stepped q other))) in let waited : awaited (finite.get calls caller) ≡ call.requested = ap awaited is ∙ ap (unasked call.requested) waits in let waits_now : awaited (finite.get (finite.insert calls caller stepped) caller) ≡ 0 = ap awaited (get-inserted calls caller stepped) in omega (arith, asked-after_take); requests = on_inserted (λ q c. c.requested < 2 ^ 32) calls caller (λ q c _. h.requests q c) stepped (h.requests caller call is); spans = λ q other_call span at. on_inserted (λ q c. c.span ≡ Some span → HasPassed (after_take s call.requested) c.requested span) calls caller (λ q c _ at passed. let old = h.spans q c span at passed in let tops = top-after_take s call.requested h.sound in record { least = old.least; high = rw tops old.high; low = old.low }) stepped (λ passed. let at_span : record { high = cursor s; low = cursor s -ℤ pos call.requested } ≡ span = same_Some _ span passed in search (rules, asked-bound, top-after_take, ints)) q other_call at; once = all_held-next (machine_state s spent calls) (event.Step caller) (Ok (outcome.Cursor (cursor s -ℤ pos call.requested))) (machine_state (after_take s call.requested) spent (finite.insert calls caller stepped)) (step-taken h.sound waits) h.sound h.once }
 
       pub answer-not_stepped : call.span ≡ None → on_answer (machine_state s spent calls) caller
           ≡ (Err fault.NotStepped, machine_state s spent calls)

@@ -1,11 +1,10 @@
 -- Lists that have the reservations of each caller in the same order.
-use Rattle.std.proofs.Common.{◌≡◌, ◌≢◌, ℕ, true, false, cond, List, []}
-use Rattle.std.proofs.Common.{◌∷◌, ◌++◌, filter, refl, sym, ap, subst, ◌∙◌, true≢false}
+use Rattle.std.proofs.Common.{◌≡◌, ◌≢◌, ℕ, true, false, List, []}
+use Rattle.std.proofs.Common.{◌∷◌, ◌++◌, filter, refl, sym, ap, ◌∙◌, true≢false}
 use Rattle.std.proofs.Common.{eq-eqb, ne_eqb}
 use Rattle.std.proofs.lemmas.List.Elements.{filter-append}
 use Rattle.std.specs.List.{AllByRecursion}
 use Rattle.ent_replay.specs.declared.trace.placed.Placed.{Placed}
-use Rattle.ent_replay.specs.declared.trace.call.Call.{Call}
 use Rattle.ent_replay.specs.declared.trace.call.Call.TheVariants as line
 use Rattle.ent_replay.specs.Trace.{MayPass, IsOrderOf}
 use Rattle.ent_replay.specs.Lineup.{KeepsCallers, is_of}

@@ -2,8 +2,7 @@
 -- they keep them in order.
 use Rattle.std.proofs.lemmas.List.Elements.{All-nil}
 use Rattle.std.proofs.Common.{rules, ◌≡◌, ◌≢◌, sym, ap, ◌∙◌, ℕ, ◌+◌, ◌*◌, ◌^◌, ◌<◌, ◌≤◌}
-use Rattle.std.proofs.Common.{true, false, not, [], length, slice_get, Some, Ok, Err, arith}
-use Rattle.std.specs.Prelude.{◌==◌}
+use Rattle.std.proofs.Common.{true, false, [], length, slice_get, Some, Ok, Err, arith}
 use Rattle.std.specs.Option.{unwrap_or}
 use Rattle.std.specs.Ordering.{nat_cmp}
 use Rattle.std.specs.FinSet as set
@@ -41,9 +40,7 @@ module _ (s : Allocator) (spent : FinMap nat_cmp ℕ) (calls : FinMap nat_cmp St
   -- ---- whether a call is open
 
   pub quiet : calls ≡ finite.empty → is_busy (machine_state s spent calls) ≡ false
-  quiet none = ap (λ m. not (finite.len (map_values (open_call_of s) m) == 0)) none
-      ∙ ap (λ m. not (finite.len m == 0)) (map_values-empty (open_call_of s))
-      ∙ ap (λ n. not (n == 0)) (len-empty nat_cmp OpenCall)
+  quiet none = cc (none, map_values-empty (open_call_of s), len-empty nat_cmp OpenCall)
 
   pub busy : ¬ (calls ≡ finite.empty) → is_busy (machine_state s spent calls) ≡ true
   busy some = elim (cases_eq (finite.len (map_values (open_call_of s) calls)) 0) [
@@ -62,14 +59,7 @@ module _ (s : Allocator) (spent : FinMap nat_cmp ℕ) (calls : FinMap nat_cmp St
 
   pub quiet_played : AreConsistent s spent calls → calls ≡ finite.empty → (t : Allocator)
       → IsSound t → t.asked ≡ s.asked → AreConsistent t spent calls
-  quiet_played h none t sound same = record {
-    sound = sound;
-    quota = h.quota;
-    asked = let before = h.asked in omega arith;
-    requests = h.requests;
-    spans = λ q call span is _. absurd (nothing_in calls none q call is);
-    once = quiet_once none t;
-  }
+  quiet_played h none t sound same = record { sound = sound; quota = h.quota; asked = omega arith; requests = h.requests; spans = λ q call span is _. absurd (nothing_in calls none q call is); once = quiet_once none t }
 
   -- what was asked for, and what is still to be, is within what a span can have
   pub asked-bound : AreConsistent s spent calls → s.asked

@@ -1,8 +1,8 @@
 -- What the key of a reservation tells of where it comes.
-use Rattle.std.proofs.Common.{rules, ◌≡◌, ◌≢◌, ℕ, ◌+◌, ◌-◌, ◌^◌, ◌<◌, ◌≤◌, false, cond, List, []}
+use Rattle.std.proofs.Common.{rules, ◌≡◌, ◌≢◌, ℕ, ◌+◌, ◌-◌, ◌^◌, ◌<◌, ◌≤◌, false, List, []}
 use Rattle.std.proofs.Common.{◌∷◌, ◌++◌, length, take, drop, get_or, slice_get, Some, Ok, Err, refl}
-use Rattle.std.proofs.Common.{sym, ap, subst, ◌∙◌, arith, true≢false, inl, inr, ◌⊎◌, Contains}
-use Rattle.std.proofs.Common.{AllPairs, eq-eqb, ne_eqb}
+use Rattle.std.proofs.Common.{sym, ◌∙◌, arith, true≢false, inl, inr, ◌⊎◌, Contains}
+use Rattle.std.proofs.Common.{eq-eqb, ne_eqb}
 use Rattle.std.proofs.lemmas.Grind.{common_steps}
 use Rattle.std.specs.List.{AllByRecursion}
 use Rattle.std.proofs.lemmas.Bool.{cases_lt}
@@ -13,7 +13,7 @@ use Rattle.std.proofs.lemmas.Option.{get_or_from_slice_get, slice_get_within}
 use Rattle.ent_handle.specs.Handle.{Handle}
 use Rattle.ent_alloc.specs.Sequential.{Allocator, available, after_take, reply_to, listed}
 use Rattle.ent_alloc.specs.Sequential.{stands_in}
-use Rattle.ent_alloc.specs.Sound.{IsSound, AreApart}
+use Rattle.ent_alloc.specs.Sound.{IsSound}
 use Rattle.ent_alloc.proofs.Replies.{reply-served, reply-refused, listed-IsPermutation}
 use Rattle.ent_alloc.proofs.HandleSets.{stands_in-from_Contains}
 use Rattle.ent_alloc.proofs.PoolLaw.{asked-after_take}
@@ -108,4 +108,4 @@ pub later_keys : (given : List Handle) (run : List Placed) (s : Allocator) (k : 
     → AllByRecursion (HasKey given) run → Answers s run
     → AllByRecursion (λ (p : Placed). k ≤ p.key) run
 later_keys given [] s k sound is low few some keys answered = tt
-later_keys given (p ∷ run) s k sound is low few some keys answered = let n = asks p in let key = keys.0 in let here : k ≤ p.key = elim (cases_lt (length s.pool) n) [ | inl short ↦ let high = refused_key given n key.own (length s.pool) p.reservation.reply key.small (rw (← reply-refused s n short) answered.0) key.key_of in let least = key.least in omega arith | inr enough ↦ omega (arith, served_key given s sound is n key.own p.reservation.reply some.0 enough answered.0 key.key_of) ] in let more = asked-after_take s n in (here, later_keys given run (after_take s n) k (after_take-sound s n sound) (available-after_take s n sound ∙ is) (omega arith) few some.1 keys.1 answered.1)
+later_keys given (p ∷ run) s k sound is low few some keys answered = let n = asks p in let key = keys.0 in let here : k ≤ p.key = elim (cases_lt (length s.pool) n) [ | inl short ↦ omega (arith, refused_key given n key.own (length s.pool) p.reservation.reply key.small (rw (← reply-refused s n short) answered.0) key.key_of) | inr enough ↦ omega (arith, served_key given s sound is n key.own p.reservation.reply some.0 enough answered.0 key.key_of) ] in let more = asked-after_take s n in (here, later_keys given run (after_take s n) k (after_take-sound s n sound) (available-after_take s n sound ∙ is) (omega arith) few some.1 keys.1 answered.1)

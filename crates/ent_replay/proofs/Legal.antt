@@ -1,7 +1,7 @@
 -- Reservations one after the other: those for nothing can be left out, and of those that follow a
 -- refusal none is served.
-use Rattle.std.proofs.Common.{rules, ◌≡◌, ℕ, ◌+◌, ◌<◌, Bool, true, false, cond, nat_lt, List, []}
-use Rattle.std.proofs.Common.{◌∷◌, length, filter, Ok, Err, refl, sym, ap, subst, ◌∙◌, arith, inl}
+use Rattle.std.proofs.Common.{rules, ◌≡◌, ℕ, ◌+◌, ◌<◌, Bool, true, false, nat_lt, List, []}
+use Rattle.std.proofs.Common.{◌∷◌, length, filter, Ok, Err, refl, ap, ◌∙◌, arith, inl}
 use Rattle.std.proofs.Common.{inr, ◌⊎◌, append-nil}
 use Rattle.std.proofs.lemmas.Grind.{common_steps}
 use Rattle.std.specs.List.{AllByRecursion}
@@ -56,7 +56,7 @@ nothing-reply s p none = ap (reply_to s) none ∙ reply-none s
 pub Answers-some : (run : List Placed) (s : Allocator) → Answers s run
     → Answers s (filter asks_some run)
 Answers-some [] s answered = tt
-Answers-some (p ∷ run) s answered = elim (some_or_none (asks p)) [ | inl some ↦ search (rules, kept, Answers-some run (after_take s (asks p)) answered.1) | inr none ↦ subst (Answers s) (sym (left_out p run none.0)) (Answers-some run s (rw (← nothing-after s p none.1) answered.1)) ]
+Answers-some (p ∷ run) s answered = elim (some_or_none (asks p)) [ | inl some ↦ search (rules, kept, Answers-some run (after_take s (asks p)) answered.1) | inr none ↦ rw (left_out p run none.0) (Answers-some run s (rw (← nothing-after s p none.1) answered.1)) ]
 
 pub after-some : (run : List Placed) (s : Allocator) → after_run s run
     ≡ after_run s (filter asks_some run)
@@ -72,7 +72,7 @@ nothing-fits (p ∷ run) s answered = search
 pub Answers-from_some : (run : List Placed) (s : Allocator) → AllByRecursion FitsNothing run
     → Answers s (filter asks_some run) → Answers s run
 Answers-from_some [] s fits answered = tt
-Answers-from_some (p ∷ run) s fits answered = elim (some_or_none (asks p)) [ | inl some ↦ let here = rw (kept p run some.0) at answered in (here.0, Answers-from_some run (after_take s (asks p)) fits.1 here.1) | inr none ↦ (rw (nothing-reply s p none.1) (fits.0 none.1), rw (nothing-after s p none.1) (Answers-from_some run s fits.1 (subst (Answers s) (left_out p run none.0) answered))) ]
+Answers-from_some (p ∷ run) s fits answered = elim (some_or_none (asks p)) [ | inl some ↦ let here = rw (kept p run some.0) at answered in (here.0, Answers-from_some run (after_take s (asks p)) fits.1 here.1) | inr none ↦ (rw (nothing-reply s p none.1) (fits.0 none.1), rw (nothing-after s p none.1) (Answers-from_some run s fits.1 (rw (← left_out p run none.0) answered))) ]
 
 -- ---- after a refusal
 

@@ -1,6 +1,6 @@
 -- The reservations of a run, in the order of their steps, are a legal history, and each answer
 -- tells a reply of it.
-use Rattle.std.proofs.Common.{rules, ◌≡◌, ◌≢◌, refl, sym, ap, subst, ◌∙◌, ℕ, zero, suc, ◌+◌}
+use Rattle.std.proofs.Common.{rules, ◌≡◌, ◌≢◌, refl, sym, ap, ◌∙◌, ℕ, zero, suc, ◌+◌}
 use Rattle.std.proofs.Common.{List, [], ◌∷◌, ◌++◌, append-nil, Some, None, Ok}
 use Rattle.std.proofs.Common.{◌⊎◌, inl, inr, arith}
 use Rattle.std.specs.Prelude.{◌==◌}
@@ -110,36 +110,7 @@ module _ (p : Phase) (s : MachineState) (h : IsFollowed p s) where
   after_step caller zero =
       rw (append-nil, after_take-none, reply-none) (one_more s.spent caller _
       (λ r told. (refl, sym (same_Some (Ok []) r told))))
-  after_step caller (suc n) =
-      let made : Call = record {
-        caller = caller;
-        requested = suc n;
-        reply = reply_to s.allocator (suc n);
-      } in
-      let asked = asked-after_take s.allocator (suc n) in
-      record {
-        legal = IsLegal-append p.start p.calls (made ∷ []) h.legal
-            (subst (λ t. IsLegal t (made ∷ [])) (sym h.reached) (omega arith, refl, tt));
-        reached = after_history-append p.start p.calls (made ∷ []) ∙ ap (λ t. after_take t (suc n))
-            h.reached;
-        rest = λ zero_asked. absurd (omega arith);
-        open_calls = on_inserted (Told (IsOfHistory (p.calls ++ made ∷ []))) s.calls caller
-            (λ q call other at r told. elim (h.open_calls q call at r told) [
-              | inl nothing ↦ inl nothing
-              | inr found ↦ inr (
-                found.0,
-                last_of-append_other q p.calls made (λ same. other (sym same)) ∙ found.1,
-                found.2,
-                found.3,
-              )
-            ]) (record { requested = suc n; reply = Some (reply_to s.allocator (suc n)) })
-            (λ r told. inr (
-              made,
-              last_of-append caller p.calls made refl,
-              refl,
-              sym (same_Some (reply_to s.allocator (suc n)) r told),
-            ));
-      }
+  after_step caller (suc n) = let made : Call = record { caller = caller; requested = suc n; reply = reply_to s.allocator (suc n) } in let asked = asked-after_take s.allocator (suc n) in record { legal = IsLegal-append p.start p.calls (made ∷ []) h.legal (rw h.reached (omega arith, refl, tt)); reached = simp (after_history-append, h.reached); rest = λ zero_asked. absurd (omega arith); open_calls = on_inserted (Told (IsOfHistory (p.calls ++ made ∷ []))) s.calls caller (λ q call other at r told. elim (h.open_calls q call at r told) [ | inl nothing ↦ inl nothing | inr found ↦ inr (found.0, last_of-append_other q p.calls made (λ same. other (sym same)) ∙ found.1, found.2, found.3) ]) (record { requested = suc n; reply = Some (reply_to s.allocator (suc n)) }) (λ r told. inr (made, last_of-append caller p.calls made refl, refl, sym (same_Some (reply_to s.allocator (suc n)) r told))) }
 
   -- the phase goes on, or nothing is asked for and no call is open
   goes_on : {e : Event} {x : Returned} {m : List Call} → Move s e x m

@@ -94,9 +94,7 @@ module _ (s : Allocator) (run : List Placed) (at : ℤ) (sound : IsSound s)
 
   -- after one more
   pub at-next : (p : Placed) → (at -ℤ pos (asks p)) ≡ cursor (after s (run ++ p ∷ []))
-  at-next p =
-      ap (λ x. x -ℤ pos (asks p)) at_is ∙ sym (cursor-after_take (after s run) (asks p) here.sound)
-      ∙ ap cursor (sym (after-append run (p ∷ []) s))
+  at-next p = cc (at_is, cursor-after_take (after s run) (asks p) here.sound, after-append run (p ∷ []) s)
 
 -- ---- one pass
 
@@ -149,74 +147,13 @@ module _ (s : Allocator) (start : Lineup) (placed left rest : List Placed) (p : 
   -- it is its caller's next one, and fits
   pub Passing-place : finite.get blocked caller ≡ None → FitsAt (after s placed) p
       → Passing s start (placed ++ p ∷ []) left rest (at -ℤ pos (asks p)) blocked
-  Passing-place none fits = record {
-    keeps = rw moved (keeps-forward (all_of start) placed left rest p (h.free caller none) h.keeps);
-    answered = rw lines_append (AreAnswered-append s (lines_of placed) (lines_of (p ∷ [])) h.answered
-        (fits, tt));
-    at_is = at-next s placed at sound h.at_is p;
-    sum =
-        let a = total_append placed (left ++ p ∷ rest) in
-        let b = total_append left (p ∷ rest) in
-        let c = total_append (placed ++ p ∷ []) (left ++ rest) in
-        let d = total_append placed (p ∷ []) in
-        let e = total_append left rest in
-        let f = h.sum in
-        omega arith;
-    count = let a = h.count in let b = one_more in omega arith;
-    grown = let a = h.grown in let b = one_more in omega arith;
-    free = h.free;
-    held = h.held;
-    still = λ same. let a = h.grown in let b = one_more in absurd (omega arith);
-    whole = λ all. ((h.whole all).0, rw append_assoc (h.whole all).1);
-  }
+  Passing-place none fits = record { keeps = rw moved (keeps-forward (all_of start) placed left rest p (h.free caller none) h.keeps); answered = rw lines_append (AreAnswered-append s (lines_of placed) (lines_of (p ∷ [])) h.answered (fits, tt)); at_is = at-next s placed at sound h.at_is p; sum = omega (arith, total_append, total_append, total_append, total_append, total_append); count = omega (arith, one_more); grown = omega (arith, one_more); free = h.free; held = h.held; still = λ same. absurd (omega (arith, one_more)); whole = λ all. ((h.whole all).0, rw append_assoc (h.whole all).1) }
 
   -- it isn't, or doesn't fit
   pub Passing-leave : (key : ℕ)
       → ((v : ℕ) × (finite.get blocked caller ≡ Some v)) ⊎ (FitsAt (after s placed) p → ⊥)
       → Passing s start placed (left ++ p ∷ []) rest at (finite.insert blocked caller key)
-  Passing-leave key why = record {
-    keeps = rw (append_assoc left (p ∷ []) rest) h.keeps;
-    answered = h.answered;
-    at_is = h.at_is;
-    sum = rw (append_assoc left (p ∷ []) rest) h.sum;
-    count = let a = h.count in let b = length-append left (p ∷ []) in omega arith;
-    grown = h.grown;
-    free = λ q is. elim (cases_eq q caller) [
-      | inl same ↦
-          let no : Some key ≡ None =
-          sym (get-inserted blocked caller key)
-          ∙ ap (finite.get (finite.insert blocked caller key)) (sym same) ∙ is in
-          absurd cc
-      | inr apart ↦ simp (filter-append, other p q (λ e. apart (sym e)), append-nil)
-          (h.free q (sym (get-insert_other blocked caller key q apart) ∙ is))
-    ];
-    held = λ q v is empty. elim (cases_eq q caller) [
-      | inl same ↦ no_middle (filter (is_of q) left) [] p
-          (simp (filter-append, own p q (sym same)) at empty)
-      | inr apart ↦ h.held q v (sym (get-insert_other blocked caller key q apart) ∙ is)
-          (simp (filter-append, other p q (λ e. apart (sym e)), append-nil) at empty)
-    ];
-    still = λ same.
-        let before = h.still same in (
-          before.0,
-          λ front x more parts first. elim (parted left [] front more p x parts) [
-            | inl inside ↦ before.1 front x inside.more inside.front_is first
-            | inr (inl itself) ↦ λ fits. last front x before.0 itself.before_is itself.is first fits
-            | inr (inr behind) ↦ absurd (no_middle behind.more more x (sym behind.rest_is))
-          ],
-        );
-    whole = λ all.
-        let before = h.whole all in
-        let fits : FitsAt (after s placed) p =
-        (answered_back s (lines_of placed) (lines_of (p ∷ rest))
-        (subst (AreAnswered s) (lines_append placed (p ∷ rest)) before.1)).0 in
-        elim why [
-          | inl found ↦
-              absurd (h.held caller found.0 found.1
-              (ap (filter (is_of caller)) before.0))
-          | inr unfit ↦ absurd (unfit fits)
-        ];
-  }
+  Passing-leave key why = record { keeps = rw (append_assoc left (p ∷ []) rest) h.keeps; answered = h.answered; at_is = h.at_is; sum = rw (append_assoc left (p ∷ []) rest) h.sum; count = omega (arith, length-append left (p ∷ [])); grown = h.grown; free = λ q is. elim (cases_eq q caller) [ | inl same ↦ let no : Some key ≡ None = sym (get-inserted blocked caller key) ∙ ap (finite.get (finite.insert blocked caller key)) (sym same) ∙ is in absurd cc | inr apart ↦ simp (filter-append, other p q (λ e. apart (sym e)), append-nil) (h.free q (sym (get-insert_other blocked caller key q apart) ∙ is)) ]; held = λ q v is empty. elim (cases_eq q caller) [ | inl same ↦ no_middle (filter (is_of q) left) [] p (simp (filter-append, own p q (sym same)) at empty) | inr apart ↦ h.held q v (sym (get-insert_other blocked caller key q apart) ∙ is) (simp (filter-append, other p q (λ e. apart (sym e)), append-nil) at empty) ]; still = λ same. let before = h.still same in (before.0, λ front x more parts first. elim (parted left [] front more p x parts) [ | inl inside ↦ before.1 front x inside.more inside.front_is first | inr (inl itself) ↦ λ fits. last front x before.0 itself.before_is itself.is first fits | inr (inr behind) ↦ absurd (no_middle behind.more more x (sym behind.rest_is)) ]); whole = λ all. let before = h.whole all in let fits : FitsAt (after s placed) p = (answered_back s (lines_of placed) (lines_of (p ∷ rest)) (rw (← lines_append placed (p ∷ rest)) before.1)).0 in elim why [ | inl found ↦ absurd (h.held caller found.0 found.1 (ap (filter (is_of caller)) before.0)) | inr unfit ↦ absurd (unfit fits) ] }
     where
       last : (front : List Placed) (x : Placed) → placed ≡ start.placed.items → front ≡ left
           → x ≡ p → filter (is_of x.reservation.caller) front ≡ [] → FitsAt (reached s start) x → ⊥
@@ -234,11 +171,7 @@ module _ (s : Allocator) (start : Lineup) (placed left all rest : List Placed) (
     (blocked : finite.FinMap nat_cmp ℕ) (begun : IsLineup s start)
     (h : Passing s start placed left all at blocked) where
   few : s.asked + total (placed ++ (left ++ all)) ≤ 2 ^ 50
-  few =
-      let a = begun.few in
-      let b = total_is (all_of start) in
-      let e = h.sum in
-      omega arith
+  few = omega (arith, total_is)
 
   pub Passing-passed : at ≤ℤ pos (top s)
   Passing-passed = at-passed s placed at begun.sound h.at_is
@@ -250,38 +183,24 @@ module _ (s : Allocator) (start : Lineup) (placed left all rest : List Placed) (
       at-least s placed at begun.sound h.at_is (omega arith)
 
   pub Passing-lower : all ≡ p ∷ rest → pos (top s) ≤ℤ ((at -ℤ pos (asks p)) +ℤ pos (2 ^ 50))
-  Passing-lower parts =
-      let a : s.asked + total (placed ++ (left ++ p ∷ rest)) ≤ 2 ^ 50 =
-      subst (λ (ps : List Placed). s.asked + total (placed ++ (left ++ ps)) ≤ 2 ^ 50) parts few in
-      let b = total_append placed (left ++ p ∷ rest) in
-      let e = total_append left (p ∷ rest) in
-      let f = total_append placed (p ∷ []) in
-      at-least s (placed ++ p ∷ []) (at -ℤ pos (asks p)) begun.sound
-      (at-next s placed at begun.sound h.at_is p) (omega arith)
+  Passing-lower parts = let a : s.asked + total (placed ++ (left ++ p ∷ rest)) ≤ 2 ^ 50 = rw (← parts) few in let b = total_append placed (left ++ p ∷ rest) in let e = total_append left (p ∷ rest) in let f = total_append placed (p ∷ []) in at-least s (placed ++ p ∷ []) (at -ℤ pos (asks p)) begun.sound (at-next s placed at begun.sound h.at_is p) (omega arith)
 
   fits_here : FitsReserved p.reservation.reply (reply_from s.made (pool_at s at) (asks p))
       ≡ FitsAt (after s placed) p
-  fits_here = ap (FitsReserved p.reservation.reply) (reply-here s placed at begun.sound h.at_is (asks p))
+  fits_here = cc (reply-here s placed at begun.sound h.at_is (asks p))
 
   pub placed_next : (items : List Placed) (below : ℤ) → all ≡ p ∷ rest → items ≡ placed ++ p ∷ []
       → below ≡ at -ℤ pos (asks p) → finite.get blocked p.reservation.caller ≡ None
       → FitsReserved p.reservation.reply (reply_from s.made (pool_at s at) (asks p))
       → Passing s start items left rest below blocked
-  placed_next items below parts is lower none fits =
-      rw (is, lower) (Passing-place s start placed left rest p at blocked begun.sound (rw parts at h)
-      none (subst (λ X. X) fits_here fits))
+  placed_next items below parts is lower none fits = rw (is, lower) (Passing-place s start placed left rest p at blocked begun.sound (rw parts at h) none (rw (← fits_here) fits))
 
   pub left_next : (items : List Placed) (now : finite.FinMap nat_cmp ℕ) (key : ℕ) → all ≡ p ∷ rest
       → items ≡ left ++ p ∷ [] → now ≡ finite.insert blocked p.reservation.caller key
       → ((v : ℕ) × (finite.get blocked p.reservation.caller ≡ Some v))
       ⊎ (FitsReserved p.reservation.reply (reply_from s.made (pool_at s at) (asks p)) → ⊥)
       → Passing s start placed items rest at now
-  left_next items now key parts is inserted why =
-      rw (is, inserted) (Passing-leave s start placed left rest p at blocked begun.sound
-      (rw parts at h) key (elim why [
-        | inl found ↦ inl found
-        | inr unfit ↦ inr (λ fits. unfit (subst (λ X. X) (sym fits_here) fits))
-      ]))
+  left_next items now key parts is inserted why = rw (is, inserted) (Passing-leave s start placed left rest p at blocked begun.sound (rw parts at h) key (elim why [ | inl found ↦ inl found | inr unfit ↦ inr (λ fits. unfit (rw fits_here fits)) ]))
 
 -- nothing is left to go over
 module _ (s : Allocator) (start l : Lineup) (all : List Placed) (blocked : finite.FinMap nat_cmp ℕ)
@@ -304,21 +223,14 @@ module _ (s : Allocator) (start l : Lineup) (all : List Placed) (blocked : finit
   }
 
   pub over_keeps : KeepsCallers (all_of start) (all_of l)
-  over_keeps = subst (KeepsCallers (all_of start)) over h.keeps
+  over_keeps = rw (← over) h.keeps
 
   counted : length l.placed.items + length l.rest.items
       ≡ length start.placed.items + length start.rest.items
-  counted =
-      let a = h.count in
-      let b : length all ≡ 0 = ap length none in
-      let d = length-append start.placed.items start.rest.items in
-      omega arith
+  counted = let a = h.count in let b : length all ≡ 0 = ap length none in omega (arith, length-append start.placed.items start.rest.items)
 
   pub over_stuck : length l.rest.items ≡ length start.rest.items → NoneFits (reached s l) l.rest.items
-  over_stuck same =
-      let a = counted in
-      let b = h.still (omega arith) in
-      subst (λ (ps : List Placed). NoneFits (after s ps) l.rest.items) (sym b.0) b.1
+  over_stuck same = let a = counted in let b = h.still (omega arith) in rw b.0 b.1
 
 -- what is some is something
 pub some_of : {X : Type 0} (o : Option X) → is_some o ≡ true → (v : X) × (o ≡ Some v)
@@ -365,18 +277,7 @@ module _ (s : Allocator) (start l next : Lineup) (before : ℕ) (h : Settling s 
       → (length next.rest.items ≡ length l.rest.items → NoneFits (reached s next) next.rest.items)
       → (AreAnswered s (lines_of (all_of l)) → next.rest.items ≡ [])
       → Settling s start next (length l.rest.items)
-  Settling-next lined keeps fewer stuck whole = record {
-    lined = lined;
-    keeps = keeps-again (all_of start) (all_of l) (all_of next) h.keeps keeps;
-    fewer = fewer;
-    stuck = λ same. stuck (sym same);
-    whole = λ all. inr (elim (h.whole all) [
-      | inl first ↦ whole (subst (λ (x : Lineup). AreAnswered s (lines_of (all_of x))) (sym first.0) all)
-      | inr gone ↦
-          let none : length l.rest.items ≡ 0 = ap length gone in
-          no_items next.rest.items (omega arith)
-    ]);
-  }
+  Settling-next lined keeps fewer stuck whole = record { lined = lined; keeps = keeps-again (all_of start) (all_of l) (all_of next) h.keeps keeps; fewer = fewer; stuck = λ same. stuck (sym same); whole = λ all. inr (elim (h.whole all) [ | inl first ↦ whole (rw first.0 all) | inr gone ↦ let none : length l.rest.items ≡ 0 = ap length gone in no_items next.rest.items (omega arith) ]) }
 
 -- the position of a lineup is one that its allocator counts
 module _ (s : Allocator) (l : Lineup) (h : IsLineup s l) where

@@ -1,7 +1,7 @@
 -- What a test of a machine's answer tells, and what a refusal for lack of memory has to be.
 use Rattle.std.proofs.Common.{rules, ◌≡◌, sym, ◌∙◌, ℕ, ◌<◌, Bool, true, false, nat_lt, List}
 use Rattle.std.proofs.Common.{◌∷◌, length, drop, slice_get, Option, Some, None, Result, Ok}
-use Rattle.std.proofs.Common.{Err, arith, subst}
+use Rattle.std.proofs.Common.{Err, arith}
 use Rattle.std.specs.Option.{option_map, is_some}
 use Rattle.std.specs.Result.{OnOk, OnErr, is_err}
 use Rattle.std.proofs.lemmas.Bool.Decides.{nat_tests}

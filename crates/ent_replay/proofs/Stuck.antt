@@ -1,6 +1,6 @@
 -- If no caller's first reservation that is left fits, no line that may come next does.
 use Rattle.std.proofs.Common.{arith, ◌≡◌, ℕ, List, [], ◌∷◌, ◌++◌, filter, length, refl, sym, ap}
-use Rattle.std.proofs.Common.{subst, ◌∙◌, Bool, true, false, cond, ◌==◌}
+use Rattle.std.proofs.Common.{subst, Bool, true, false, cond, ◌==◌}
 use Rattle.std.proofs.lemmas.List.{append-nil}
 use Rattle.std.proofs.lemmas.List.Elements.{filter-append}
 use Rattle.ent_alloc.specs.Sequential.{Allocator}
@@ -57,4 +57,4 @@ module _ (s : Allocator) (run : List Placed) (l : Lineup) (keeps : KeepsCallers 
   pub lineup-Shows : IsLineup s l → NoneFits (reached s l) l.rest.items
       → HasNoOrder (record { allocator = s; run = reservations_of run }) → (d : Difference)
       → NamesOne s l d → (n : ℕ) → Shows (record { allocator = s; run = reservations_of run }) n [] d
-  lineup-Shows lined none unordered d names n = let forward : KeepsCallers run (l.placed.items ++ names.named ∷ (names.before ++ names.after)) = keeps-forward run l.placed.items names.before names.after names.named names.first (rw (← names.is) keeps) in record { placed = lines_of l.placed.items; next = line.Reserve names.named.reservation; left = lines_of (names.before ++ names.after); is_order = rw append-nil (subst (IsOrderOf (lines_of run)) (lines_append l.placed.items (names.named ∷ (names.before ++ names.after))) (keeps-IsOrderOf (l.placed.items ++ names.named ∷ (names.before ++ names.after)) run forward)); answered = lined.answered; differs = names.differs n; stuck = λ next left is. stuck none next left (rw (← append-nil (lines_of run)) is); blamed = unordered }
+  lineup-Shows lined none unordered d names n = let forward : KeepsCallers run (l.placed.items ++ names.named ∷ (names.before ++ names.after)) = keeps-forward run l.placed.items names.before names.after names.named names.first (rw (← names.is) keeps) in record { placed = lines_of l.placed.items; next = line.Reserve names.named.reservation; left = lines_of (names.before ++ names.after); is_order = rw append-nil (rw (← lines_append l.placed.items (names.named ∷ (names.before ++ names.after))) (keeps-IsOrderOf (l.placed.items ++ names.named ∷ (names.before ++ names.after)) run forward)); answered = lined.answered; differs = names.differs n; stuck = λ next left is. stuck none next left (rw (← append-nil (lines_of run)) is); blamed = unordered }

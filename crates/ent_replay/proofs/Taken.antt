@@ -1,6 +1,6 @@
 -- What a checker takes, one call after the other.
 use Rattle.std.proofs.Common.{◌≡◌, ℕ, ◌+◌, ◌<◌, ◌≤◌, List, [], ◌∷◌, ◌++◌, map, length, get_or, set}
-use Rattle.std.proofs.Common.{take, drop, refl, sym, ap, subst, ◌∙◌, arith, drop-cons}
+use Rattle.std.proofs.Common.{take, drop, refl, ap, ◌∙◌, arith, drop-cons}
 use Rattle.std.specs.Prelude.{suc, reverse}
 use Rattle.std.proofs.Math.Numerals.{add-one}
 use Rattle.std.proofs.lemmas.List.{append-nil, drop-set-lt, drop_all, reverse-append}
@@ -57,7 +57,7 @@ pub Leads-joined : (old now next : Checker) (all : List Call) (logs : List Log) 
     (log changed : Log) → i < length logs → log ≡ get_or logs i log
     → Leads old all now (lines_in_all (drop i logs)) → TakesAll now (lines_in log) next
     → Leads old all next (lines_in_all (drop (i + 1) (set logs i changed)))
-Leads-joined old now next all logs i log changed within here leads takes final more = let later : drop (i + 1) (set logs i changed) ≡ drop (suc i) logs = cc (drop-set-lt (i + 1) logs i changed (omega arith), add-one i) in let front : drop i logs ≡ log ∷ drop (suc i) logs = cc (drop-cons logs i log within, here) in leads final (rw front (TakesAll-append (lines_in log) (lines_in_all (drop (suc i) logs)) now next final takes (subst (λ (x : List Log). TakesAll next (lines_in_all x) final) later more)))
+Leads-joined old now next all logs i log changed within here leads takes final more = let later : drop (i + 1) (set logs i changed) ≡ drop (suc i) logs = cc (drop-set-lt (i + 1) logs i changed (omega arith), add-one i) in let front : drop i logs ≡ log ∷ drop (suc i) logs = cc (drop-cons logs i log within, here) in leads final (rw front (TakesAll-append (lines_in log) (lines_in_all (drop (suc i) logs)) now next final takes (rw (← later) more)))
 
 pub new_logs-next : (n : ℕ) (logs : List Log) → logs ≡ new_logs n
     → logs ++ record { caller = n; reservations = [] } ∷ [] ≡ new_logs (n + 1)

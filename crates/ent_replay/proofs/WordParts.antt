@@ -1,6 +1,6 @@
 -- Words: what stands before a comment, blanks that part words, and the front of a text's words.
 use Rattle.std.proofs.Common.{rules, ◌≡◌, ◌≢◌, ℕ, ◌<◌, Bool, true, false, not, eqb, List, []}
-use Rattle.std.proofs.Common.{◌∷◌, ◌++◌, length, take, All, refl, ap, ◌∙◌, arith, suc}
+use Rattle.std.proofs.Common.{◌∷◌, ◌++◌, length, take, All, refl, ◌∙◌, arith, suc}
 use Rattle.std.proofs.lemmas.Grind.{common_steps}
 use Rattle.std.specs.List.{before_first, filter}
 use Rattle.std.proofs.lemmas.Bool.{ne_eqb}
