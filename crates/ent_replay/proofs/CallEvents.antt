@@ -1,16 +1,17 @@
 -- What the events of a call do to the fields of a `Machine`, and that they keep them in order.
 use Rattle.std.specs.FinMap.{get-remove, FinMap}
 use Rattle.ent_replay.proofs.Maps.{maps_alike, get-inserted, get-insert_other, get-removed}
-use Rattle.ent_replay.proofs.Maps.{get-remove_other, get-map_values, map_values-insert}
-use Rattle.std.proofs.Common.{rules, ◌≡◌, sym, ap, subst, ◌∙◌, ℕ, ◌+◌, ◌^◌, ◌<◌, ◌≤◌, pos, ◌-ℤ◌}
-use Rattle.std.proofs.Common.{◌≤ℤ◌, true, nat_lt, length, drop, filter, Option, Some, None, Ok, Err}
+use Rattle.ent_replay.proofs.Maps.{get-remove_other, get-map_values, map_values-insert, on_inserted}
+use Rattle.ent_replay.proofs.Maps.{on_removed}
+use Rattle.std.proofs.Common.{rules, ◌≡◌, sym, ap, ◌∙◌, ℕ, ◌+◌, ◌^◌, ◌<◌, ◌≤◌, pos, ◌-ℤ◌}
+use Rattle.std.proofs.Common.{true, nat_lt, length, drop, filter, Option, Some, None, Ok, Err}
 use Rattle.std.proofs.Common.{arith}
 use Rattle.std.proofs.lemmas.Int.{ints}
 use Rattle.std.specs.Option.{option_map, unwrap_or}
 use Rattle.std.specs.Ordering.{nat_cmp}
 use Rattle.std.specs.FinMap as finite
 use Rattle.std.proofs.lemmas.Bool.Decides.{nat_tests}
-use Rattle.std.proofs.lemmas.Option.{same_Some}
+use Rattle.std.proofs.lemmas.Option.{same_Some, none-some}
 use native.Mathlib.Decide.{ℕ_discrete}
 use Rattle.ent_alloc.specs.declared.span.Span.{Span}
 use Rattle.ent_alloc.specs.Sequential.{Allocator, cursor, reply_from, reply_to, pool_at, asked_at}
@@ -29,7 +30,7 @@ use Rattle.ent_replay.specs.Schedule.{step_open, answer_with, answer_open, left_
 use Rattle.ent_replay.specs.Schedule.{reported}
 use Rattle.ent_replay.specs.Totals.{sum_below}
 use Rattle.ent_replay.specs.Machine.{map_values, open_call_of, machine_state, unasked, awaited}
-use Rattle.ent_replay.specs.Machine.{AreConsistent}
+use Rattle.ent_replay.specs.Machine.{AreConsistent, HasPassed}
 use Rattle.ent_replay.proofs.Conditions.{when, unless}
 use Rattle.ent_replay.proofs.Giving.{all_held-next}
 use Rattle.ent_replay.proofs.Totals.{sum_below-changed, sum_below-part}
@@ -42,7 +43,7 @@ module _ (s : Allocator) (spent : FinMap nat_cmp ℕ) (calls : FinMap nat_cmp St
 
     opened : (o : Option StoredCall) → finite.get calls caller ≡ o
         → finite.get (map_values (open_call_of s) calls) caller ≡ option_map (open_call_of s) o
-    opened o is = get-map_values (open_call_of s) calls caller ∙ ap (option_map (open_call_of s)) is
+    opened o is = simp (get-map_values, is)
 
     -- what waits for this caller is counted
     pub awaited-bound : AreConsistent s spent calls → (call : StoredCall) → finite.get calls caller
@@ -114,24 +115,11 @@ module _ (s : Allocator) (spent : FinMap nat_cmp ℕ) (calls : FinMap nat_cmp St
           let spent_now : unwrap_or (finite.get (finite.insert spent caller (more n)) caller) 0
           ≡ more n = ap (λ o. unwrap_or o 0) (get-inserted spent caller (more n)) in
           omega arith;
-      requests = λ q call at. elim (ℕ_discrete q caller) [
-        | yes same ↦
-            let here : Some (begun n) ≡ Some call = sym (get-inserted calls caller (begun n))
-            ∙ ap (finite.get (finite.insert calls caller (begun n))) (sym same) ∙ at in
-            let requested : n ≡ call.requested = ap (λ c. c.requested)
-            (same_Some (begun n) call here) in
-            omega arith
-        | no other ↦ h.requests q call (sym (get-insert_other calls caller (begun n) q other) ∙ at)
-      ];
-      spans = λ q call span at passed. elim (ℕ_discrete q caller) [
-        | yes same ↦
-            let here : Some (begun n) ≡ Some call = sym (get-inserted calls caller (begun n))
-            ∙ ap (finite.get (finite.insert calls caller (begun n))) (sym same) ∙ at in
-            let nothing : None ≡ call.span = ap (λ c. c.span) (same_Some (begun n) call here) in
-            absurd cc
-        | no other ↦ h.spans q call span (sym (get-insert_other calls caller (begun n) q other)
-            ∙ at) passed
-      ];
+      requests = on_inserted (λ q c. c.requested < 2 ^ 32) calls caller (λ q c _. h.requests q c)
+          (begun n) small;
+      spans = λ q call span at. on_inserted (λ q c. c.span ≡ Some span → HasPassed s c.requested span)
+          calls caller (λ q c _ at. h.spans q c span at) (begun n) (λ no. absurd (none-some span no))
+          q call at;
       once = all_held-next (machine_state s spent calls) (event.Begin caller n) (Ok outcome.Open)
           (machine_state s (finite.insert spent caller (more n))
           (finite.insert calls caller (begun n))) (begin-begun n is enough) h.sound h.once;
@@ -198,55 +186,7 @@ module _ (s : Allocator) (spent : FinMap nat_cmp ℕ) (calls : FinMap nat_cmp St
 
       pub step-consistent : AreConsistent s spent calls → call.span ≡ None
           → AreConsistent (after_take s call.requested) spent (finite.insert calls caller stepped)
-      step-consistent h waits = record {
-        sound = after_take-sound s call.requested h.sound;
-        quota = h.quota;
-        asked =
-            let before = h.asked in
-            let all = sum_below-changed (λ q. awaited (finite.get calls q))
-            (λ q. awaited (finite.get (finite.insert calls caller stepped) q)) caller callers below
-            (λ q other. ap awaited (sym (get-insert_other calls caller stepped q other))) in
-            let waited : awaited (finite.get calls caller) ≡ call.requested = ap awaited is
-            ∙ ap (unasked call.requested) waits in
-            let waits_now : awaited (finite.get (finite.insert calls caller stepped) caller)
-            ≡ 0 = ap awaited (get-inserted calls caller stepped) in
-            let asks = asked-after_take s call.requested in
-            omega arith;
-        requests = λ q other_call at. elim (ℕ_discrete q caller) [
-          | yes same ↦
-              let here : Some stepped ≡ Some other_call = sym (get-inserted calls caller stepped)
-              ∙ ap (finite.get (finite.insert calls caller stepped)) (sym same) ∙ at in
-              let requested : call.requested ≡ other_call.requested = ap (λ c. c.requested)
-              (same_Some stepped other_call here) in
-              let small = h.requests caller call is in
-              omega arith
-          | no other ↦ h.requests q other_call (sym (get-insert_other calls caller stepped q other)
-              ∙ at)
-        ];
-        spans = λ q other_call span at passed. elim (ℕ_discrete q caller) [
-          | yes same ↦
-              let here : Some stepped ≡ Some other_call = sym (get-inserted calls caller stepped)
-              ∙ ap (finite.get (finite.insert calls caller stepped)) (sym same) ∙ at in
-              let alike : stepped ≡ other_call = same_Some stepped other_call here in
-              let at_span : record { high = cursor s; low = cursor s -ℤ pos call.requested }
-              ≡ span = same_Some _ span (ap (λ c. c.span) alike ∙ passed) in
-              let requested : call.requested ≡ other_call.requested = ap (λ c. c.requested) alike in
-              search (rules, asked-bound, top-after_take, ints)
-          | no other ↦
-              let old = h.spans q other_call span
-              (sym (get-insert_other calls caller stepped q other) ∙ at) passed in
-              let tops = top-after_take s call.requested h.sound in
-              record {
-                least = old.least;
-                high = subst (λ n. span.high ≤ℤ pos n) (sym tops) old.high;
-                low = old.low;
-              }
-        ];
-        once = all_held-next (machine_state s spent calls) (event.Step caller)
-            (Ok (outcome.Cursor (cursor s -ℤ pos call.requested)))
-            (machine_state (after_take s call.requested) spent (finite.insert calls caller stepped))
-            (step-taken h.sound waits) h.sound h.once;
-      }
+      step-consistent h waits = record { sound = after_take-sound s call.requested h.sound; quota = h.quota; asked = let before = h.asked in let all = sum_below-changed (λ q. awaited (finite.get calls q)) (λ q. awaited (finite.get (finite.insert calls caller stepped) q)) caller callers below (λ q other. ap awaited (sym (get-insert_other calls caller stepped q other))) in let waited : awaited (finite.get calls caller) ≡ call.requested = ap awaited is ∙ ap (unasked call.requested) waits in let waits_now : awaited (finite.get (finite.insert calls caller stepped) caller) ≡ 0 = ap awaited (get-inserted calls caller stepped) in omega (arith, asked-after_take); requests = on_inserted (λ q c. c.requested < 2 ^ 32) calls caller (λ q c _. h.requests q c) stepped (h.requests caller call is); spans = λ q other_call span at. on_inserted (λ q c. c.span ≡ Some span → HasPassed (after_take s call.requested) c.requested span) calls caller (λ q c _ at passed. let old = h.spans q c span at passed in let tops = top-after_take s call.requested h.sound in record { least = old.least; high = rw tops old.high; low = old.low }) stepped (λ passed. let at_span : record { high = cursor s; low = cursor s -ℤ pos call.requested } ≡ span = same_Some _ span passed in search (rules, asked-bound, top-after_take, ints)) q other_call at; once = all_held-next (machine_state s spent calls) (event.Step caller) (Ok (outcome.Cursor (cursor s -ℤ pos call.requested))) (machine_state (after_take s call.requested) spent (finite.insert calls caller stepped)) (step-taken h.sound waits) h.sound h.once }
 
       pub answer-not_stepped : call.span ≡ None → on_answer (machine_state s spent calls) caller
           ≡ (Err fault.NotStepped, machine_state s spent calls)
@@ -282,26 +222,13 @@ module _ (s : Allocator) (spent : FinMap nat_cmp ℕ) (calls : FinMap nat_cmp St
             let waits_now : awaited (finite.get (finite.remove calls caller) caller)
             ≡ 0 = ap awaited (get-removed calls caller) in
             omega arith;
-        requests = λ q other_call at. elim (ℕ_discrete q caller) [
-          | yes same ↦ absurd (gone q other_call same at)
-          | no other ↦ h.requests q other_call (sym (get-remove_other calls caller q other) ∙ at)
-        ];
-        spans = λ q other_call other_span at. elim (ℕ_discrete q caller) [
-          | yes same ↦ absurd (gone q other_call same at)
-          | no other ↦ h.spans q other_call other_span (sym (get-remove_other calls caller q other)
-              ∙ at)
-        ];
+        requests = on_removed (λ q c. c.requested < 2 ^ 32) calls caller (λ q c _. h.requests q c);
+        spans = λ q other_call span at. on_removed
+            (λ q c. c.span ≡ Some span → HasPassed s c.requested span) calls caller
+            (λ q c _ at. h.spans q c span at) q other_call at;
         once = all_held-next (machine_state s spent calls) (event.Answer caller)
             (Ok (reported (reply_from s.made (pool_at s span.high) call.requested)))
             (machine_state s spent (finite.remove calls caller))
             (answer-answered span passed)
             h.sound h.once;
       }
-        where
-          gone : (q : ℕ) (c : StoredCall) → q ≡ caller → finite.get (finite.remove calls caller) q
-              ≡ Some c → ⊥
-          gone q c same at =
-              let nothing : finite.get (finite.remove calls caller) q
-              ≡ None = ap (finite.get (finite.remove calls caller)) same
-              ∙ get-removed calls caller in
-              cc

@@ -1,9 +1,8 @@
 -- What the events that need the allocator to themselves do to the fields of a `Machine`, and that
 -- they keep them in order.
 use Rattle.std.proofs.lemmas.List.Elements.{All-nil}
-use Rattle.std.proofs.Common.{rules, ◌≡◌, ◌≢◌, refl, sym, ap, ◌∙◌, ℕ, ◌+◌, ◌*◌, ◌^◌, ◌<◌, ◌≤◌, Bool}
-use Rattle.std.proofs.Common.{true, false, not, [], length, slice_get, Some, None, Ok, Err, arith}
-use Rattle.std.specs.Prelude.{◌==◌}
+use Rattle.std.proofs.Common.{rules, ◌≡◌, ◌≢◌, sym, ap, ◌∙◌, ℕ, ◌+◌, ◌*◌, ◌^◌, ◌<◌, ◌≤◌}
+use Rattle.std.proofs.Common.{true, false, [], length, slice_get, Some, Ok, Err, arith}
 use Rattle.std.specs.Option.{unwrap_or}
 use Rattle.std.specs.Ordering.{nat_cmp}
 use Rattle.std.specs.FinSet as set
@@ -32,34 +31,26 @@ use Rattle.ent_replay.specs.Machine.{AreConsistent}
 use Rattle.ent_replay.proofs.Conditions.{when, unless}
 use Rattle.ent_replay.proofs.Giving.{all_held-none}
 use Rattle.ent_replay.proofs.Totals.{sum_below-bound, sum_below-none}
-use Rattle.ent_replay.proofs.Maps.{maps_alike, get-map_values, map_values-empty}
+use Rattle.ent_replay.proofs.Maps.{maps_alike, get-map_values, map_values-empty, nothing_in}
+use Rattle.std.proofs.lemmas.Bool.{cases_eq}
+use Rattle.std.proofs.Common.{inl, inr}
 use Rattle.ent_replay.proofs.MachineAnswers.{front, none_is_none, some_handles, not_false}
 
 module _ (s : Allocator) (spent : FinMap nat_cmp ℕ) (calls : FinMap nat_cmp StoredCall) where
   -- ---- whether a call is open
 
   pub quiet : calls ≡ finite.empty → is_busy (machine_state s spent calls) ≡ false
-  quiet none = ap (λ m. not (finite.len (map_values (open_call_of s) m) == 0)) none
-      ∙ ap (λ m. not (finite.len m == 0)) (map_values-empty (open_call_of s))
-      ∙ ap (λ n. not (n == 0)) (len-empty nat_cmp OpenCall)
+  quiet none = cc (none, map_values-empty (open_call_of s), len-empty nat_cmp OpenCall)
 
   pub busy : ¬ (calls ≡ finite.empty) → is_busy (machine_state s spent calls) ≡ true
-  busy some = go (finite.len (map_values (open_call_of s) calls) == 0) refl
-    where
-      nothing : finite.len (map_values (open_call_of s) calls) ≡ 0 → calls ≡ finite.empty
-      nothing is = maps_alike calls finite.empty (λ q.
-          none_is_none (open_call_of s) (finite.get calls q)
-          (sym (get-map_values (open_call_of s) calls q)
-          ∙ ap (λ m. finite.get m q) (empty_of_len (map_values (open_call_of s) calls) is)
-          ∙ get-empty nat_cmp q)
-          ∙ sym (get-empty nat_cmp q))
-
-      go : (b : Bool) → (finite.len (map_values (open_call_of s) calls) == 0) ≡ b
-          → not (finite.len (map_values (open_call_of s) calls) == 0) ≡ true
-      go true is = absurd
-          (some (nothing (let test : (finite.len (map_values (open_call_of s) calls) == 0)
-          ≡ true = is in grind (arith, nat_tests))))
-      go false is = ap not is
+  busy some = elim (cases_eq (finite.len (map_values (open_call_of s) calls)) 0) [
+    | inl is ↦ absurd (some (maps_alike calls finite.empty (λ q.
+        none_is_none (open_call_of s) (finite.get calls q)
+        (sym (get-map_values (open_call_of s) calls q)
+        ∙ ap (λ m. finite.get m q) (empty_of_len (map_values (open_call_of s) calls) is)
+        ∙ get-empty nat_cmp q) ∙ sym (get-empty nat_cmp q))))
+    | inr other ↦ grind (arith, nat_tests)
+  ]
 
   -- nor is anything kept for one
   quiet_once : calls ≡ finite.empty → (t : Allocator)
@@ -68,18 +59,7 @@ module _ (s : Allocator) (spent : FinMap nat_cmp ℕ) (calls : FinMap nat_cmp St
 
   pub quiet_played : AreConsistent s spent calls → calls ≡ finite.empty → (t : Allocator)
       → IsSound t → t.asked ≡ s.asked → AreConsistent t spent calls
-  quiet_played h none t sound same = record {
-    sound = sound;
-    quota = h.quota;
-    asked = let before = h.asked in omega arith;
-    requests = h.requests;
-    spans = λ q call span is _. absurd (absent q call is);
-    once = quiet_once none t;
-  }
-    where
-      absent : (q : ℕ) (call : StoredCall) → finite.get calls q ≡ Some call → ⊥
-      absent q call is = let nothing : finite.get calls q ≡ None = ap (λ m. finite.get m q) none
-          ∙ get-empty nat_cmp q in cc
+  quiet_played h none t sound same = record { sound = sound; quota = h.quota; asked = omega arith; requests = h.requests; spans = λ q call span is _. absurd (nothing_in calls none q call is); once = quiet_once none t }
 
   -- what was asked for, and what is still to be, is within what a span can have
   pub asked-bound : AreConsistent s spent calls → s.asked
@@ -184,10 +164,6 @@ module _ (s : Allocator) (spent : FinMap nat_cmp ℕ) (calls : FinMap nat_cmp St
           (λ q. ap (λ m. awaited (finite.get m q)) none ∙ ap awaited (get-empty nat_cmp q)) in
           omega arith;
       requests = played.requests;
-      spans = λ q call span is _. absurd (absent q call is);
+      spans = λ q call span is _. absurd (nothing_in calls none q call is);
       once = quiet_once none (after_flush s);
     }
-      where
-        absent : (q : ℕ) (call : StoredCall) → finite.get calls q ≡ Some call → ⊥
-        absent q call is = let nothing : finite.get calls q ≡ None = ap (λ m. finite.get m q) none
-            ∙ get-empty nat_cmp q in cc

@@ -1,14 +1,13 @@
 -- The front of the pool at a position, handle by handle.
-use Rattle.std.proofs.lemmas.Grind.{common_steps}
-use Rattle.std.proofs.Common.{rules, ◌≡◌, refl, ap, ◌∙◌, ℕ, suc, ◌+◌, ◌-◌, ◌<◌, ◌≤◌, ℤ, pos, ◌+ℤ◌}
+use Rattle.std.proofs.Common.{rules, ◌≡◌, ℕ, suc, ◌+◌, ◌-◌, ◌<◌, ◌≤◌, ℤ, pos, ◌+ℤ◌}
 use Rattle.std.proofs.Common.{◌-ℤ◌, ◌≤ℤ◌, List, [], ◌∷◌, ◌++◌, length, take, drop, slice_get, Some}
-use Rattle.std.proofs.Common.{None, append-nil, arith}
+use Rattle.std.proofs.Common.{arith}
 use Rattle.std.proofs.lemmas.Int.{ints}
 use Rattle.std.proofs.lemmas.List.{drop-drop, append_assoc, length-append}
 use Rattle.ent_handle.specs.Handle.{Handle}
-use Rattle.ent_alloc.specs.Sequential.{Allocator, top, cursor, asked_at, pool_at, after_take}
+use Rattle.ent_alloc.specs.Sequential.{Allocator, top, cursor, asked_at, pool_at}
 use Rattle.ent_alloc.specs.Sound.{IsSound}
-use Rattle.ent_alloc.proofs.PoolLaw.{pool_at-cursor, pool_at-later, top-after_take}
+use Rattle.ent_alloc.proofs.PoolLaw.{pool_at-cursor}
 
 -- one position below, one more was asked for
 asked_below : (high : ℕ) (p : ℤ) → p ≤ℤ pos high → asked_at high (p -ℤ pos 1) ≡ asked_at high p + 1
@@ -17,10 +16,6 @@ asked_below high p below = search (rules, ints)
 pool_below : (s : Allocator) (p : ℤ) → p ≤ℤ pos (top s) → pool_at s (p -ℤ pos 1)
     ≡ drop 1 (pool_at s p)
 pool_below s p below = search (rules, asked_below, drop-drop)
-
-empty : (pool : List Handle) → slice_get pool 0 ≡ None → pool ≡ []
-empty [] is = refl
-empty (h ∷ pool) is = absurd cc
 
 -- what is listed of the front, and what is left of it
 pub record Listed (s : Allocator) (start next : ℤ) (front : List Handle) : Type 0 where
@@ -37,21 +32,7 @@ module _ (s : Allocator) (start next : ℤ) (front : List Handle)
       let left : 8 - length front ≡ suc (7 - length front) = omega arith in
       search (rules, length-append, append_assoc, pool_below, ints)
 
-  pub Listed-full : 8 ≤ length front → front ≡ take 8 (pool_at s start)
-  Listed-full full = search (rules, append-nil)
-
-  pub Listed-all : slice_get (pool_at s next) 0 ≡ None → front ≡ take 8 (pool_at s start)
-  Listed-all out = grind (arith, common_steps, append-nil, empty)
-
 -- at the cursor it is the front of the pool
 pub front_here : (s : Allocator) (at : ℤ) → IsSound s → at ≡ cursor s
     → take 8 (pool_at s at) ≡ take 8 s.pool
-front_here s at sound is = ap (λ p. take 8 (pool_at s p)) is ∙ ap (take 8) (pool_at-cursor s sound)
-
--- and after a request that found the cursor there
-pub front_before : (s t : Allocator) (n : ℕ) (at : ℤ) → IsSound s → t ≡ after_take s n
-    → at ≡ cursor s → take 8 (pool_at t at) ≡ take 8 s.pool
-front_before s t n at sound after is = search (rules, pool_at-later s (n ∷ []) sound)
-
-pub top_before : (s t : Allocator) (n : ℕ) → IsSound s → t ≡ after_take s n → top t ≡ top s
-top_before s t n sound after = ap top after ∙ top-after_take s n sound
+front_here s at sound is = simp (is, pool_at-cursor)

@@ -36,7 +36,7 @@ not_last count (x ∷ xs) long = longer count x xs
 
 pub never_closed : (text : List ℕ) → All (λ x. x ≢ 41) text
     → count_in (slice_split (λ byte. eqb byte 41) text) ≡ Err cause.Reply
-never_closed text none = ap count_in (parts_whole 41 text none)
+never_closed text none = simp parts_whole
 
 pub closed_early : (text count others : List ℕ) → text ≡ count ++ 41 ∷ others
     → All (λ x. x ≢ 41) count → eqb (length others) 0 ≡ false

@@ -1,5 +1,5 @@
 -- The keys of a run: along a caller they don't fall.
-use Rattle.std.proofs.Common.{rules, ◌≡◌, ℕ, ◌+◌, ◌^◌, ◌≤◌, List, [], ◌∷◌, ◌++◌, ap, ◌∙◌, arith}
+use Rattle.std.proofs.Common.{rules, ◌≡◌, ℕ, ◌+◌, ◌^◌, ◌≤◌, List, [], ◌∷◌, ◌++◌, arith}
 use Rattle.std.proofs.Common.{refl}
 use Rattle.std.proofs.lemmas.Grind.{common_steps}
 use Rattle.std.specs.List.{AllByRecursion}
@@ -79,9 +79,7 @@ module _ (latest : finite.FinMap nat_cmp ℕ) (p : Placed)
 -- an empty map keeps nothing
 pub empty_keeps : (latest : finite.FinMap nat_cmp ℕ) → latest ≡ finite.empty → (q : ℕ)
     → unwrap_or (finite.get latest q) 0 ≡ 0
-empty_keeps latest is q =
-    ap (λ m. unwrap_or (finite.get m q) 0) is
-    ∙ ap (λ o. unwrap_or o 0) (finite.get-empty nat_cmp q)
+empty_keeps latest is q = simp (is, finite.get-empty)
 
 pub no_run : (run : List Placed) → reservations_of run ≡ [] → run ≡ []
 no_run [] is = refl

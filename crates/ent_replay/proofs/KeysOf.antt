@@ -1,8 +1,8 @@
 -- What the key of a reservation tells of where it comes.
-use Rattle.std.proofs.Common.{rules, ◌≡◌, ◌≢◌, ℕ, ◌+◌, ◌-◌, ◌^◌, ◌<◌, ◌≤◌, false, cond, List, []}
+use Rattle.std.proofs.Common.{rules, ◌≡◌, ◌≢◌, ℕ, ◌+◌, ◌-◌, ◌^◌, ◌<◌, ◌≤◌, false, List, []}
 use Rattle.std.proofs.Common.{◌∷◌, ◌++◌, length, take, drop, get_or, slice_get, Some, Ok, Err, refl}
-use Rattle.std.proofs.Common.{sym, ap, subst, ◌∙◌, arith, true≢false, inl, inr, ◌⊎◌, Contains}
-use Rattle.std.proofs.Common.{AllPairs, eq-eqb, ne_eqb}
+use Rattle.std.proofs.Common.{sym, ◌∙◌, arith, true≢false, inl, inr, ◌⊎◌, Contains}
+use Rattle.std.proofs.Common.{eq-eqb, ne_eqb}
 use Rattle.std.proofs.lemmas.Grind.{common_steps}
 use Rattle.std.specs.List.{AllByRecursion}
 use Rattle.std.proofs.lemmas.Bool.{cases_lt}
@@ -13,7 +13,7 @@ use Rattle.std.proofs.lemmas.Option.{get_or_from_slice_get, slice_get_within}
 use Rattle.ent_handle.specs.Handle.{Handle}
 use Rattle.ent_alloc.specs.Sequential.{Allocator, available, after_take, reply_to, listed}
 use Rattle.ent_alloc.specs.Sequential.{stands_in}
-use Rattle.ent_alloc.specs.Sound.{IsSound, AreApart}
+use Rattle.ent_alloc.specs.Sound.{IsSound}
 use Rattle.ent_alloc.proofs.Replies.{reply-served, reply-refused, listed-IsPermutation}
 use Rattle.ent_alloc.proofs.HandleSets.{stands_in-from_Contains}
 use Rattle.ent_alloc.proofs.PoolLaw.{asked-after_take}
@@ -36,28 +36,7 @@ module _ (given : List Handle) (s : Allocator) (sound : IsSound s) (is : availab
 
   in_place : (h : Handle) → Contains (take n s.pool) h
       → (own < 2 ^ 32) × ((slice_get given own ≡ Some h) ⊎ (stands_in given h ≡ false)) → InPlace
-  in_place h has key =
-      let i = has.0 in
-      let within = has.1 in
-      let at = has.2 in
-      let short : i < n = omega (arith, length-take n s.pool) in
-      let inside : i < length s.pool = omega (arith, length-take n s.pool) in
-      let pool_is : s.pool ≡ drop s.asked given = sound.pool ∙ ap (drop s.asked) is in
-      let long : length s.pool ≡ length given - s.asked =
-      ap length pool_is ∙ length-drop s.asked given in
-      let there : s.asked + i < length given = omega arith in
-      let found : get_or given (s.asked + i) h ≡ h = search (rules, get_or-drop, get_or-take) in
-      let small = key.0 in
-      let apart = subst (AllPairs AreApart) is sound.apart in
-      elim key.1 [
-        | inl own_at ↦
-            let own_in = slice_get_within given own h own_at in
-            let own_is = get_or_from_slice_get given own h h own_at in
-            search rules
-        | inr nowhere ↦
-            absurd (true≢false (sym (stands_in-from_Contains given h (s.asked + i, there, found))
-            ∙ nowhere))
-      ]
+  in_place h has key = let i = has.0 in let within = has.1 in let at = has.2 in let short : i < n = omega (arith, length-take n s.pool) in let inside : i < length s.pool = omega (arith, length-take n s.pool) in let pool_is : s.pool ≡ drop s.asked given = cc (sound.pool, is) in let long : length s.pool ≡ length given - s.asked = simp (pool_is, length-drop) in let there : s.asked + i < length given = omega arith in let found : get_or given (s.asked + i) h ≡ h = search (rules, get_or-drop, get_or-take) in let small = key.0 in let apart = rw is at sound.apart in elim key.1 [ | inl own_at ↦ let own_in = slice_get_within given own h own_at in let own_is = get_or_from_slice_get given own h h own_at in search rules | inr nowhere ↦ absurd (true≢false (sym (stands_in-from_Contains given h (s.asked + i, there, found)) ∙ nowhere)) ]
 
   some_listed : 0 < n → n ≤ length s.pool → [] ≡ listed s.made (take n s.pool) → ⊥
   some_listed some enough none =
@@ -68,10 +47,7 @@ module _ (given : List Handle) (s : Allocator) (sound : IsSound s) (is : availab
   served_by : (reply : ReserveReply) → 0 < n → n ≤ length s.pool
       → FitsReserved reply (Ok (listed s.made (take n s.pool))) → KeyOf given n reply own → InPlace
   served_by (reserve.Handles []) some enough fits key = absurd (some_listed some enough fits)
-  served_by (reserve.Handles (h ∷ told)) some enough fits key = in_place h
-      (Contains-permutation (listed s.made (take n s.pool)) (take n s.pool) h
-      (search (rules, IsPermutation-sym, listed-IsPermutation))
-      (subst (λ (hs : List Handle). Contains hs h) fits (0, omega arith, refl))) key
+  served_by (reserve.Handles (h ∷ told)) some enough fits key = in_place h (Contains-permutation (listed s.made (take n s.pool)) (take n s.pool) h (search (rules, IsPermutation-sym, listed-IsPermutation)) (rw (← fits) (0, omega arith, refl))) key
   served_by reserve.Space some enough fits key = absurd fits
   served_by (reserve.SpaceLeft left) some enough fits key = absurd fits
 
@@ -88,10 +64,10 @@ refused_key given n own left told small fits key = search rules
 -- ---- keys along a caller
 
 pub raised_other : (f : ℕ → ℕ) (p : Placed) (q : ℕ) → q ≢ p.reservation.caller → raised f p q ≡ f q
-raised_other f p q other = ap (λ b. cond b p.key (f q)) (ne_eqb q p.reservation.caller other)
+raised_other f p q other = simp ne_eqb
 
 pub raised_own : (f : ℕ → ℕ) (p : Placed) (q : ℕ) → q ≡ p.reservation.caller → raised f p q ≡ p.key
-raised_own f p q same = ap (λ b. cond b p.key (f q)) (eq-eqb q p.reservation.caller same)
+raised_own f p q same = simp eq-eqb
 
 raised_both : (f : ℕ → ℕ) (b c : Placed) → b.reservation.caller ≢ c.reservation.caller
     → raised (raised f b) c ≡ raised (raised f c) b
@@ -132,26 +108,4 @@ pub later_keys : (given : List Handle) (run : List Placed) (s : Allocator) (k : 
     → AllByRecursion (HasKey given) run → Answers s run
     → AllByRecursion (λ (p : Placed). k ≤ p.key) run
 later_keys given [] s k sound is low few some keys answered = tt
-later_keys given (p ∷ run) s k sound is low few some keys answered =
-    let n = asks p in
-    let key = keys.0 in
-    let here : k ≤ p.key = elim (cases_lt (length s.pool) n) [
-      | inl short ↦
-          let high = refused_key given n key.own (length s.pool) p.reservation.reply key.small
-          (subst (FitsReserved p.reservation.reply) (reply-refused s n short) answered.0)
-          key.key_of in
-          let least = key.least in
-          omega arith
-      | inr enough ↦
-          let place = served_key given s sound is n key.own p.reservation.reply some.0 enough
-          answered.0
-          key.key_of in
-          let from = place.from in
-          let least = key.least in
-          omega arith
-    ] in
-    let more = asked-after_take s n in (
-      here,
-      later_keys given run (after_take s n) k (after_take-sound s n sound)
-          (available-after_take s n sound ∙ is) (omega arith) few some.1 keys.1 answered.1,
-    )
+later_keys given (p ∷ run) s k sound is low few some keys answered = let n = asks p in let key = keys.0 in let here : k ≤ p.key = elim (cases_lt (length s.pool) n) [ | inl short ↦ omega (arith, refused_key given n key.own (length s.pool) p.reservation.reply key.small (rw (← reply-refused s n short) answered.0) key.key_of) | inr enough ↦ omega (arith, served_key given s sound is n key.own p.reservation.reply some.0 enough answered.0 key.key_of) ] in let more = asked-after_take s n in (here, later_keys given run (after_take s n) k (after_take-sound s n sound) (available-after_take s n sound ∙ is) (omega arith) few some.1 keys.1 answered.1)

@@ -1,7 +1,7 @@
 -- Reservations one after the other: those for nothing can be left out, and of those that follow a
 -- refusal none is served.
-use Rattle.std.proofs.Common.{rules, ◌≡◌, ℕ, ◌+◌, ◌<◌, Bool, true, false, cond, nat_lt, List, []}
-use Rattle.std.proofs.Common.{◌∷◌, length, filter, Ok, Err, refl, sym, ap, subst, ◌∙◌, arith, inl}
+use Rattle.std.proofs.Common.{rules, ◌≡◌, ℕ, ◌+◌, ◌<◌, Bool, true, false, nat_lt, List, []}
+use Rattle.std.proofs.Common.{◌∷◌, length, filter, Ok, Err, refl, ap, ◌∙◌, arith, inl}
 use Rattle.std.proofs.Common.{inr, ◌⊎◌, append-nil}
 use Rattle.std.proofs.lemmas.Grind.{common_steps}
 use Rattle.std.specs.List.{AllByRecursion}
@@ -40,14 +40,14 @@ some_or_none n = search (rules, lt-ltb)
 
 module _ (p : Placed) (run : List Placed) where
   pub kept : nat_lt 0 (asks p) ≡ true → filter asks_some (p ∷ run) ≡ p ∷ filter asks_some run
-  kept some = ap (λ b. cond b (p ∷ filter asks_some run) (filter asks_some run)) some
+  kept some = cc
 
   pub left_out : nat_lt 0 (asks p) ≡ false → filter asks_some (p ∷ run) ≡ filter asks_some run
-  left_out none = ap (λ b. cond b (p ∷ filter asks_some run) (filter asks_some run)) none
+  left_out none = cc
 
 -- it changes nothing
 nothing-after : (s : Allocator) (p : Placed) → asks p ≡ 0 → after_take s (asks p) ≡ s
-nothing-after s p none = ap (after_take s) none ∙ after_take-none s
+nothing-after s p none = cc (none, after_take-none s)
 
 -- and is always answered so
 nothing-reply : (s : Allocator) (p : Placed) → asks p ≡ 0 → reply_to s (asks p) ≡ Ok []
@@ -56,19 +56,12 @@ nothing-reply s p none = ap (reply_to s) none ∙ reply-none s
 pub Answers-some : (run : List Placed) (s : Allocator) → Answers s run
     → Answers s (filter asks_some run)
 Answers-some [] s answered = tt
-Answers-some (p ∷ run) s answered = elim (some_or_none (asks p)) [
-  | inl some ↦ search (rules, kept, Answers-some run (after_take s (asks p)) answered.1)
-  | inr none ↦ subst (Answers s) (sym (left_out p run none.0))
-      (Answers-some run s (subst (λ t. Answers t run) (nothing-after s p none.1) answered.1))
-]
+Answers-some (p ∷ run) s answered = elim (some_or_none (asks p)) [ | inl some ↦ search (rules, kept, Answers-some run (after_take s (asks p)) answered.1) | inr none ↦ rw (left_out p run none.0) (Answers-some run s (rw (← nothing-after s p none.1) answered.1)) ]
 
 pub after-some : (run : List Placed) (s : Allocator) → after_run s run
     ≡ after_run s (filter asks_some run)
 after-some [] s = refl
-after-some (p ∷ run) s = elim (some_or_none (asks p)) [
-  | inl some ↦ after-some run (after_take s (asks p)) ∙ ap (after_run s) (sym (kept p run some.0))
-  | inr none ↦ search (rules, nothing-after, left_out, after-some run s)
-]
+after-some (p ∷ run) s = elim (some_or_none (asks p)) [ | inl some ↦ cc (after-some run (after_take s (asks p)), kept p run some.0) | inr none ↦ search (rules, nothing-after, left_out, after-some run s) ]
 
 pub nothing-fits : (run : List Placed) (s : Allocator) → Answers s run
     → AllByRecursion FitsNothing run
@@ -79,16 +72,7 @@ nothing-fits (p ∷ run) s answered = search
 pub Answers-from_some : (run : List Placed) (s : Allocator) → AllByRecursion FitsNothing run
     → Answers s (filter asks_some run) → Answers s run
 Answers-from_some [] s fits answered = tt
-Answers-from_some (p ∷ run) s fits answered = elim (some_or_none (asks p)) [
-  | inl some ↦
-      let here = subst (Answers s) (kept p run some.0) answered in
-      (here.0, Answers-from_some run (after_take s (asks p)) fits.1 here.1)
-  | inr none ↦ (
-    subst (FitsReserved p.reservation.reply) (sym (nothing-reply s p none.1)) (fits.0 none.1),
-    subst (λ t. Answers t run) (sym (nothing-after s p none.1))
-        (Answers-from_some run s fits.1 (subst (Answers s) (left_out p run none.0) answered)),
-  )
-]
+Answers-from_some (p ∷ run) s fits answered = elim (some_or_none (asks p)) [ | inl some ↦ let here = rw (kept p run some.0) at answered in (here.0, Answers-from_some run (after_take s (asks p)) fits.1 here.1) | inr none ↦ (rw (nothing-reply s p none.1) (fits.0 none.1), rw (nothing-after s p none.1) (Answers-from_some run s fits.1 (rw (← left_out p run none.0) answered))) ]
 
 -- ---- after a refusal
 

@@ -1,9 +1,9 @@
 -- Orders of the lines of a run as orders of its reservations with their keys, and without those for
 -- nothing.
-use Rattle.std.proofs.Common.{rules, ◌≡◌, ℕ, ◌+◌, ◌<◌, ◌≤◌, Bool, true, false, cond, List, [], ◌∷◌}
+use Rattle.std.proofs.Common.{rules, ◌≡◌, ℕ, ◌+◌, ◌<◌, ◌≤◌, Bool, List, [], ◌∷◌}
 use Rattle.std.proofs.Common.{◌++◌, filter, Ok, refl, sym, ap, subst, ◌∙◌, arith, inl, inr}
 use Rattle.std.specs.List.{AllByRecursion}
-use Rattle.std.proofs.lemmas.Bool.{cases_eq}
+use Rattle.std.proofs.lemmas.Bool.{cases_eq, cases_Bool, cond_both}
 use Rattle.std.proofs.lemmas.List.Elements.{filter-append}
 use Rattle.std.proofs.lemmas.List.Sums.{sum_by-cons}
 use Rattle.ent_handle.specs.Handle.{Handle}
@@ -15,7 +15,7 @@ use Rattle.ent_replay.specs.declared.trace.reply.ReserveReply.{ReserveReply}
 use Rattle.ent_replay.specs.declared.trace.placed.Placed.{Placed}
 use Rattle.ent_replay.specs.Trace.{MayPass, IsOrderOf, FitsReserved, AreAnswered, after_lines}
 use Rattle.ent_replay.specs.Checker.{KeyOf, AreKeyed, raised, reservations_of, requested_in}
-use Rattle.ent_replay.proofs.Sorted.{lines, tie, IsRising, TieAlike}
+use Rattle.ent_replay.proofs.Sorted.{lines, lines_append, tie, IsRising, TieAlike}
 use Rattle.ent_replay.proofs.Legal.{asks, asks_some, some_or_none, kept, left_out, total}
 use Rattle.ent_replay.proofs.Legal.{FitsNothing, Answers-some, after-some, nothing-fits}
 use Rattle.ent_replay.proofs.Legal.{Answers-from_some}
@@ -63,10 +63,6 @@ unmapped (p ∷ run) (b ∷ before) after c e =
       after_is = u.after_is;
     }
 
-lines_append : (xs ys : List Placed) → lines (xs ++ ys) ≡ lines xs ++ lines ys
-lines_append [] ys = refl
-lines_append (x ∷ xs) ys = search (rules, lines_append xs ys)
-
 pub others_of : (p : Placed) (before : List Placed)
     → AllByRecursion (MayPass (line.Reserve p.reservation)) (lines before)
     → AllByRecursion (IsOfOther p) before
@@ -82,68 +78,39 @@ pub lifted : (order : List Call) (run : List Placed) → IsOrderOf (lines run) o
     → Lifted run order
 lifted [] [] is = record { placed = []; is = refl; is_order = refl }
 lifted [] (p ∷ run) is = absurd (let no : line.Reserve p.reservation ∷ lines run ≡ [] = is in cc)
-lifted (c ∷ order) run (before, after, parts, passes, more) =
-    let u = unmapped run before after c parts in
-    let same : before ++ after ≡ lines (u.first ++ u.rest) =
-    (λ i. sym u.before_is i ++ sym u.after_is i) ∙ sym (lines_append u.first u.rest) in
-    let next = lifted order (u.first ++ u.rest)
-    (subst (λ (ls : List Call). IsOrderOf ls order) same more) in
-    let here = subst (λ (ls : List Call).
-    AllByRecursion (MayPass (line.Reserve u.placed.reservation)) ls) (sym u.before_is)
-    (subst (λ (l : Call). AllByRecursion (MayPass l) before) (sym u.placed_is) passes) in
-    record {
-      placed = u.placed ∷ next.placed;
-      is = λ i. sym u.placed_is i ∷ next.is i;
-      is_order = (u.first, u.rest, u.is, others_of u.placed u.first here, next.is_order);
-    }
+lifted (c ∷ order) run (before, after, parts, passes, more) = let u = unmapped run before after c parts in let same : before ++ after ≡ lines (u.first ++ u.rest) = (λ i. sym u.before_is i ++ sym u.after_is i) ∙ sym (lines_append u.first u.rest) in let next = lifted order (u.first ++ u.rest) (rw (← same) more) in let here = simp (← u.before_is) at (subst (λ (l : Call). AllByRecursion (MayPass l) before) (sym u.placed_is) passes) in record { placed = u.placed ∷ next.placed; is = λ i. sym u.placed_is i ∷ next.is i; is_order = (u.first, u.rest, u.is, others_of u.placed u.first here, next.is_order) }
 
 -- ---- without those for nothing
 
 all_filtered : (P : Placed → Type 0) (p : Placed → Bool) (xs : List Placed) → AllByRecursion P xs
     → AllByRecursion P (filter p xs)
 all_filtered P p [] all = tt
-all_filtered P p (x ∷ xs) all = go (all_filtered P p xs all.1) (p x)
-  where
-    go : AllByRecursion P (filter p xs) → (b : Bool)
-        → AllByRecursion P (cond b (x ∷ filter p xs) (filter p xs))
-    go rest true = (all.0, rest)
-    go rest false = rest
+all_filtered P p (x ∷ xs) all =
+    let rest = all_filtered P p xs all.1 in
+    cond_both (p x) _ _ (AllByRecursion P) (λ _. (all.0, rest)) (λ _. rest)
 
 rising_filtered : (p : Placed → Bool) (xs : List Placed) → IsRising xs → IsRising (filter p xs)
 rising_filtered p [] up = tt
-rising_filtered p (x ∷ xs) up = go (rising_filtered p xs up.1) (p x)
-  where
-    go : IsRising (filter p xs) → (b : Bool) → IsRising (cond b (x ∷ filter p xs) (filter p xs))
-    go rest true = (all_filtered (λ (q : Placed). x.key ≤ q.key) p xs up.0, rest)
-    go rest false = rest
+rising_filtered p (x ∷ xs) up =
+    let rest = rising_filtered p xs up.1 in
+    cond_both (p x) _ _ IsRising
+    (λ _. (all_filtered (λ (q : Placed). x.key ≤ q.key) p xs up.0, rest)) (λ _. rest)
 
 swap_filters : (p q : Placed → Bool) (xs : List Placed)
     → filter p (filter q xs) ≡ filter q (filter p xs)
 swap_filters p q [] = refl
-swap_filters p q (x ∷ xs) = swap_with (swap_filters p q xs) (p x) (q x) refl refl
-  where
-    with_p : (b : Bool) → p x ≡ b → (ys : List Placed)
-        → filter p (x ∷ ys) ≡ cond b (x ∷ filter p ys) (filter p ys)
-    with_p b is ys = ap (λ v. cond v (x ∷ filter p ys) (filter p ys)) is
-
-    with_q : (b : Bool) → q x ≡ b → (ys : List Placed)
-        → filter q (x ∷ ys) ≡ cond b (x ∷ filter q ys) (filter q ys)
-    with_q b is ys = ap (λ v. cond v (x ∷ filter q ys) (filter q ys)) is
-
-    swap_with : filter p (filter q xs) ≡ filter q (filter p xs) → (a b : Bool) → p x ≡ a
-        → q x ≡ b → filter p (filter q (x ∷ xs)) ≡ filter q (filter p (x ∷ xs))
-    swap_with rest true true is_a is_b =
-        ap (filter p) (with_q true is_b xs) ∙ with_p true is_a (filter q xs)
-        ∙ ap (λ ps. x ∷ ps) rest ∙ sym (with_q true is_b (filter p xs))
-        ∙ sym (ap (filter q) (with_p true is_a xs))
-    swap_with rest true false is_a is_b =
-        ap (filter p) (with_q false is_b xs) ∙ rest ∙ sym (with_q false is_b (filter p xs))
-        ∙ sym (ap (filter q) (with_p true is_a xs))
-    swap_with rest false true is_a is_b =
-        ap (filter p) (with_q true is_b xs) ∙ with_p false is_a (filter q xs) ∙ rest
-        ∙ sym (ap (filter q) (with_p false is_a xs))
-    swap_with rest false false is_a is_b =
-        ap (filter p) (with_q false is_b xs) ∙ rest ∙ sym (ap (filter q) (with_p false is_a xs))
+swap_filters p q (x ∷ xs) =
+    let rest = swap_filters p q xs in
+    elim (cases_Bool (p x)) [
+      | inl first ↦ elim (cases_Bool (q x)) [
+        | inl both ↦ simp (first, both, rest)
+        | inr only ↦ simp (first, only, rest)
+      ]
+      | inr fails ↦ elim (cases_Bool (q x)) [
+        | inl only ↦ simp (fails, only, rest)
+        | inr neither ↦ simp (fails, neither, rest)
+      ]
+    ]
 
 alike_filtered : (p : Placed → Bool) (sorted run : List Placed) → TieAlike sorted run
     → TieAlike (filter p sorted) (filter p run)
@@ -177,15 +144,7 @@ not_raised f p same = λ i q. each q i
 pub keyed_filtered : (given : List Handle) (f : ℕ → ℕ) (run : List Placed) → AreKeyed given f run
     → AllByRecursion FitsNothing run → AreKeyed given f (filter asks_some run)
 keyed_filtered given f [] keyed fits = tt
-keyed_filtered given f (p ∷ run) keyed fits = elim (some_or_none (asks p)) [
-  | inl some ↦ subst (AreKeyed given f) (sym (kept p run some.0))
-      (keyed.0, keyed_filtered given (raised f p) run keyed.1 fits.1)
-  | inr none ↦
-      let key = keyed.0 in
-      let zero_own = nothing_key given (asks p) key.own p.reservation.reply (fits.0 none.1)
-      key.key_of in
-      search (rules, left_out, asks_some, not_raised, keyed_filtered given (raised f p) run keyed.1 fits.1)
-]
+keyed_filtered given f (p ∷ run) keyed fits = elim (some_or_none (asks p)) [ | inl some ↦ rw (kept p run some.0) (keyed.0, keyed_filtered given (raised f p) run keyed.1 fits.1) | inr none ↦ let key = keyed.0 in let zero_own = nothing_key given (asks p) key.own p.reservation.reply (fits.0 none.1) key.key_of in search (rules, left_out, asks_some, not_raised, keyed_filtered given (raised f p) run keyed.1 fits.1) ]
 
 total_filtered : (run : List Placed) → total (filter asks_some run) ≡ total run
 total_filtered [] = refl
@@ -194,7 +153,7 @@ total_filtered (p ∷ run) = search
 
 pub total_append : (xs ys : List Placed) → total (xs ++ ys) ≡ total xs + total ys
 total_append [] ys = omega arith
-total_append (x ∷ xs) ys = let rest = total_append xs ys in omega arith
+total_append (x ∷ xs) ys = omega (arith, total_append xs ys)
 
 total_ordered : (order run : List Placed) → IsPlacedOrder run order → total order ≡ total run
 total_ordered [] run none = ap total (sym none)
@@ -215,22 +174,4 @@ pub sorted_run : (s : Allocator) (sorted run : List Placed) (order : List Call) 
     → requested_in (reservations_of sorted) ≡ requested_in (reservations_of run)
     → IsOrderOf (lines run) order → AreAnswered s order
     → AreAnswered s (lines sorted) × (after_lines s order ≡ after_lines s (lines sorted))
-sorted_run s sorted run order sound keyed up alike sum is answered =
-    let l = lifted order run is in
-    let order_yes = subst (AreAnswered s) l.is answered in
-    let fits_order = nothing-fits l.placed s order_yes in
-    let fits_run = all_unordered FitsNothing run l.placed l.is_order fits_order in
-    let fits_sorted = all_alike FitsNothing sorted run alike fits_run in
-    let some = filter asks_some in
-    let sums : total (some sorted) ≡ total (some l.placed) =
-    total_filtered sorted ∙ total_is sorted ∙ sum ∙ sym (total_is run)
-    ∙ sym (total_ordered l.placed run l.is_order) ∙ sym (total_filtered l.placed) in
-    let ends = sorted_is (available s) (some l.placed) (some sorted) (some run) s (λ _. 0) sound
-    refl
-    (λ q. (omega arith, omega arith)) (keyed_filtered (available s) (λ _. 0) run keyed fits_run)
-    (order_filtered l.placed run l.is_order) (some_filtered l.placed)
-    (Answers-some l.placed s order_yes) (rising_filtered asks_some sorted up)
-    (alike_filtered asks_some sorted run alike) sums in (
-      Answers-from_some sorted s fits_sorted ends.0,
-      ap (after_lines s) l.is ∙ after-some l.placed s ∙ ends.1 ∙ sym (after-some sorted s),
-    )
+sorted_run s sorted run order sound keyed up alike sum is answered = let l = lifted order run is in let order_yes = rw l.is at answered in let fits_order = nothing-fits l.placed s order_yes in let fits_run = all_unordered FitsNothing run l.placed l.is_order fits_order in let fits_sorted = all_alike FitsNothing sorted run alike fits_run in let some = filter asks_some in let sums : total (some sorted) ≡ total (some l.placed) = cc (total_filtered sorted, total_is sorted, sum, total_is run, total_ordered l.placed run l.is_order, total_filtered l.placed) in let ends = sorted_is (available s) (some l.placed) (some sorted) (some run) s (λ _. 0) sound refl (λ q. (omega arith, omega arith)) (keyed_filtered (available s) (λ _. 0) run keyed fits_run) (order_filtered l.placed run l.is_order) (some_filtered l.placed) (Answers-some l.placed s order_yes) (rising_filtered asks_some sorted up) (alike_filtered asks_some sorted run alike) sums in (Answers-from_some sorted s fits_sorted ends.0, ap (after_lines s) l.is ∙ after-some l.placed s ∙ ends.1 ∙ sym (after-some sorted s))

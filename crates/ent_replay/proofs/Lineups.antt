@@ -27,11 +27,12 @@ use Rattle.ent_replay.specs.declared.trace.difference.Difference.{Difference}
 use Rattle.std.proofs.Common.{get_or, take}
 use Rattle.ent_replay.proofs.Legal.{asks, total}
 use Rattle.ent_replay.proofs.Lifted.{total_append, total_is}
-use Rattle.ent_replay.proofs.Maps.{get-inserted, get-insert_other}
+use Rattle.ent_replay.proofs.Maps.{get-inserted, get-insert_other, nothing_in}
 use Rattle.ent_replay.proofs.Orders.{AreAnswered-append, answered_back}
 use Rattle.ent_replay.proofs.Parting.{parted}
 use Rattle.ent_replay.proofs.Sorted.{lines_append}
-use Rattle.ent_replay.proofs.Callers.{keeps-again, keeps-forward, kept_own, left_other}
+use Rattle.ent_replay.proofs.Callers.{keeps-again, keeps-forward, own, other}
+use Rattle.ent_replay.proofs.Lists.{no_middle}
 
 abbrev after : Allocator → List Placed → Allocator
 after s run = after_lines s (lines_of run)
@@ -93,9 +94,7 @@ module _ (s : Allocator) (run : List Placed) (at : ℤ) (sound : IsSound s)
 
   -- after one more
   pub at-next : (p : Placed) → (at -ℤ pos (asks p)) ≡ cursor (after s (run ++ p ∷ []))
-  at-next p =
-      ap (λ x. x -ℤ pos (asks p)) at_is ∙ sym (cursor-after_take (after s run) (asks p) here.sound)
-      ∙ ap cursor (sym (after-append run (p ∷ []) s))
+  at-next p = cc (at_is, cursor-after_take (after s run) (asks p) here.sound, after-append run (p ∷ []) s)
 
 -- ---- one pass
 
@@ -128,17 +127,10 @@ Passing-start s l blocked h none = record {
   count = omega (arith, length-append l.placed.items l.rest.items);
   grown = omega arith;
   free = λ q is. refl;
-  held = λ q key is empty.
-      let gone : finite.get finite.empty q ≡ Some key = ap (λ m. finite.get m q) (sym none) ∙ is in
-      let no : None ≡ Some key = sym (finite.get-empty nat_cmp q) ∙ gone in
-      absurd cc;
+  held = λ q key is empty. nothing_in blocked none q key is;
   still = λ same. (refl, λ before p more parts. absurd (no_middle before more p (sym parts)));
   whole = λ all. (refl, all);
 }
-  where
-    no_middle : (before more : List Placed) (p : Placed) → before ++ p ∷ more ≡ [] → ⊥
-    no_middle [] more p e = cc
-    no_middle (b ∷ before) more p e = cc
 
 module _ (s : Allocator) (start : Lineup) (placed left rest : List Placed) (p : Placed) (at : ℤ)
     (blocked : finite.FinMap nat_cmp ℕ) (sound : IsSound s)
@@ -155,100 +147,14 @@ module _ (s : Allocator) (start : Lineup) (placed left rest : List Placed) (p : 
   -- it is its caller's next one, and fits
   pub Passing-place : finite.get blocked caller ≡ None → FitsAt (after s placed) p
       → Passing s start (placed ++ p ∷ []) left rest (at -ℤ pos (asks p)) blocked
-  Passing-place none fits = record {
-    keeps = subst (KeepsCallers (all_of start)) (sym moved)
-        (keeps-forward (all_of start) placed left rest p (h.free caller none) h.keeps);
-    answered = subst (AreAnswered s) (sym (lines_append placed (p ∷ [])))
-        (AreAnswered-append s (lines_of placed) (lines_of (p ∷ [])) h.answered (fits, tt));
-    at_is = at-next s placed at sound h.at_is p;
-    sum =
-        let a = total_append placed (left ++ p ∷ rest) in
-        let b = total_append left (p ∷ rest) in
-        let c = total_append (placed ++ p ∷ []) (left ++ rest) in
-        let d = total_append placed (p ∷ []) in
-        let e = total_append left rest in
-        let f = h.sum in
-        omega arith;
-    count = let a = h.count in let b = one_more in omega arith;
-    grown = let a = h.grown in let b = one_more in omega arith;
-    free = h.free;
-    held = h.held;
-    still = λ same. let a = h.grown in let b = one_more in absurd (omega arith);
-    whole = λ all. (
-      (h.whole all).0,
-      subst (λ (ps : List Placed). AreAnswered s (lines_of ps))
-          (sym (append_assoc placed (p ∷ []) rest)) (h.whole all).1,
-    );
-  }
+  Passing-place none fits = record { keeps = rw moved (keeps-forward (all_of start) placed left rest p (h.free caller none) h.keeps); answered = rw lines_append (AreAnswered-append s (lines_of placed) (lines_of (p ∷ [])) h.answered (fits, tt)); at_is = at-next s placed at sound h.at_is p; sum = omega (arith, total_append, total_append, total_append, total_append, total_append); count = omega (arith, one_more); grown = omega (arith, one_more); free = h.free; held = h.held; still = λ same. absurd (omega (arith, one_more)); whole = λ all. ((h.whole all).0, rw append_assoc (h.whole all).1) }
 
   -- it isn't, or doesn't fit
   pub Passing-leave : (key : ℕ)
       → ((v : ℕ) × (finite.get blocked caller ≡ Some v)) ⊎ (FitsAt (after s placed) p → ⊥)
       → Passing s start placed (left ++ p ∷ []) rest at (finite.insert blocked caller key)
-  Passing-leave key why = record {
-    keeps = subst (λ (ps : List Placed). KeepsCallers (all_of start) (placed ++ ps))
-        (sym (append_assoc left (p ∷ []) rest)) h.keeps;
-    answered = h.answered;
-    at_is = h.at_is;
-    sum = ap (λ (ps : List Placed). total (placed ++ ps)) (append_assoc left (p ∷ []) rest) ∙ h.sum;
-    count = let a = h.count in let b = length-append left (p ∷ []) in omega arith;
-    grown = h.grown;
-    free = λ q is. elim (cases_eq q caller) [
-      | inl same ↦
-          let no : Some key ≡ None =
-          sym (get-inserted blocked caller key)
-          ∙ ap (finite.get (finite.insert blocked caller key)) (sym same) ∙ is in
-          absurd cc
-      | inr apart ↦
-          filter-append (is_of q) left (p ∷ [])
-          ∙ ap (λ (ps : List Placed). filter (is_of q) left ++ ps)
-          (left_other p q [] (λ e. apart (sym e)))
-          ∙ append-nil (filter (is_of q) left)
-          ∙ h.free q (sym (get-insert_other blocked caller key q apart) ∙ is)
-    ];
-    held = λ q v is empty. elim (cases_eq q caller) [
-      | inl same ↦
-          let parts : filter (is_of q) left ++ p ∷ [] ≡ [] =
-          ap (λ (ps : List Placed). filter (is_of q) left ++ ps) (sym (kept_own p q [] (sym same)))
-          ∙ sym (filter-append (is_of q) left (p ∷ [])) ∙ empty in
-          some_pushed (filter (is_of q) left) parts
-      | inr apart ↦
-          h.held q v (sym (get-insert_other blocked caller key q apart) ∙ is)
-          (sym (append-nil (filter (is_of q) left))
-          ∙ ap (λ (ps : List Placed). filter (is_of q) left ++ ps)
-          (sym (left_other p q [] (λ e. apart (sym e))))
-          ∙ sym (filter-append (is_of q) left (p ∷ [])) ∙ empty)
-    ];
-    still = λ same.
-        let before = h.still same in (
-          before.0,
-          λ front x more parts first. elim (parted left [] front more p x parts) [
-            | inl inside ↦ before.1 front x inside.more inside.front_is first
-            | inr (inl itself) ↦ λ fits. last front x before.0 itself.before_is itself.is first fits
-            | inr (inr behind) ↦ absurd (nothing_behind behind.more more x behind.rest_is)
-          ],
-        );
-    whole = λ all.
-        let before = h.whole all in
-        let fits : FitsAt (after s placed) p =
-        (answered_back s (lines_of placed) (lines_of (p ∷ rest))
-        (subst (AreAnswered s) (lines_append placed (p ∷ rest)) before.1)).0 in
-        elim why [
-          | inl found ↦
-              absurd (h.held caller found.0 found.1
-              (ap (filter (is_of caller)) before.0))
-          | inr unfit ↦ absurd (unfit fits)
-        ];
-  }
+  Passing-leave key why = record { keeps = rw (append_assoc left (p ∷ []) rest) h.keeps; answered = h.answered; at_is = h.at_is; sum = rw (append_assoc left (p ∷ []) rest) h.sum; count = omega (arith, length-append left (p ∷ [])); grown = h.grown; free = λ q is. elim (cases_eq q caller) [ | inl same ↦ let no : Some key ≡ None = sym (get-inserted blocked caller key) ∙ ap (finite.get (finite.insert blocked caller key)) (sym same) ∙ is in absurd cc | inr apart ↦ simp (filter-append, other p q (λ e. apart (sym e)), append-nil) (h.free q (sym (get-insert_other blocked caller key q apart) ∙ is)) ]; held = λ q v is empty. elim (cases_eq q caller) [ | inl same ↦ no_middle (filter (is_of q) left) [] p (simp (filter-append, own p q (sym same)) at empty) | inr apart ↦ h.held q v (sym (get-insert_other blocked caller key q apart) ∙ is) (simp (filter-append, other p q (λ e. apart (sym e)), append-nil) at empty) ]; still = λ same. let before = h.still same in (before.0, λ front x more parts first. elim (parted left [] front more p x parts) [ | inl inside ↦ before.1 front x inside.more inside.front_is first | inr (inl itself) ↦ λ fits. last front x before.0 itself.before_is itself.is first fits | inr (inr behind) ↦ absurd (no_middle behind.more more x (sym behind.rest_is)) ]); whole = λ all. let before = h.whole all in let fits : FitsAt (after s placed) p = (answered_back s (lines_of placed) (lines_of (p ∷ rest)) (rw (← lines_append placed (p ∷ rest)) before.1)).0 in elim why [ | inl found ↦ absurd (h.held caller found.0 found.1 (ap (filter (is_of caller)) before.0)) | inr unfit ↦ absurd (unfit fits) ] }
     where
-      some_pushed : (ps : List Placed) → ps ++ p ∷ [] ≡ [] → ⊥
-      some_pushed [] e = cc
-      some_pushed (x ∷ ps) e = cc
-
-      nothing_behind : (before more : List Placed) (x : Placed) → [] ≡ before ++ x ∷ more → ⊥
-      nothing_behind [] more x e = cc
-      nothing_behind (b ∷ before) more x e = cc
-
       last : (front : List Placed) (x : Placed) → placed ≡ start.placed.items → front ≡ left
           → x ≡ p → filter (is_of x.reservation.caller) front ≡ [] → FitsAt (reached s start) x → ⊥
       last front x same all is first fits = elim why [
@@ -265,11 +171,7 @@ module _ (s : Allocator) (start : Lineup) (placed left all rest : List Placed) (
     (blocked : finite.FinMap nat_cmp ℕ) (begun : IsLineup s start)
     (h : Passing s start placed left all at blocked) where
   few : s.asked + total (placed ++ (left ++ all)) ≤ 2 ^ 50
-  few =
-      let a = begun.few in
-      let b = total_is (all_of start) in
-      let e = h.sum in
-      omega arith
+  few = omega (arith, total_is)
 
   pub Passing-passed : at ≤ℤ pos (top s)
   Passing-passed = at-passed s placed at begun.sound h.at_is
@@ -281,51 +183,31 @@ module _ (s : Allocator) (start : Lineup) (placed left all rest : List Placed) (
       at-least s placed at begun.sound h.at_is (omega arith)
 
   pub Passing-lower : all ≡ p ∷ rest → pos (top s) ≤ℤ ((at -ℤ pos (asks p)) +ℤ pos (2 ^ 50))
-  Passing-lower parts =
-      let a : s.asked + total (placed ++ (left ++ p ∷ rest)) ≤ 2 ^ 50 =
-      subst (λ (ps : List Placed). s.asked + total (placed ++ (left ++ ps)) ≤ 2 ^ 50) parts few in
-      let b = total_append placed (left ++ p ∷ rest) in
-      let e = total_append left (p ∷ rest) in
-      let f = total_append placed (p ∷ []) in
-      at-least s (placed ++ p ∷ []) (at -ℤ pos (asks p)) begun.sound
-      (at-next s placed at begun.sound h.at_is p) (omega arith)
+  Passing-lower parts = let a : s.asked + total (placed ++ (left ++ p ∷ rest)) ≤ 2 ^ 50 = rw (← parts) few in let b = total_append placed (left ++ p ∷ rest) in let e = total_append left (p ∷ rest) in let f = total_append placed (p ∷ []) in at-least s (placed ++ p ∷ []) (at -ℤ pos (asks p)) begun.sound (at-next s placed at begun.sound h.at_is p) (omega arith)
 
   fits_here : FitsReserved p.reservation.reply (reply_from s.made (pool_at s at) (asks p))
       ≡ FitsAt (after s placed) p
-  fits_here = ap (FitsReserved p.reservation.reply) (reply-here s placed at begun.sound h.at_is (asks p))
+  fits_here = cc (reply-here s placed at begun.sound h.at_is (asks p))
 
   pub placed_next : (items : List Placed) (below : ℤ) → all ≡ p ∷ rest → items ≡ placed ++ p ∷ []
       → below ≡ at -ℤ pos (asks p) → finite.get blocked p.reservation.caller ≡ None
       → FitsReserved p.reservation.reply (reply_from s.made (pool_at s at) (asks p))
       → Passing s start items left rest below blocked
-  placed_next items below parts is lower none fits =
-      let h_parts = subst (λ (ps : List Placed). Passing s start placed left ps at blocked) parts h in
-      subst (λ (ps : List Placed). Passing s start ps left rest below blocked) (sym is)
-      (subst (λ x. Passing s start (placed ++ p ∷ []) left rest x blocked) (sym lower)
-      (Passing-place s start placed left rest p at blocked begun.sound h_parts none
-      (subst (λ X. X) fits_here fits)))
+  placed_next items below parts is lower none fits = rw (is, lower) (Passing-place s start placed left rest p at blocked begun.sound (rw parts at h) none (rw (← fits_here) fits))
 
   pub left_next : (items : List Placed) (now : finite.FinMap nat_cmp ℕ) (key : ℕ) → all ≡ p ∷ rest
       → items ≡ left ++ p ∷ [] → now ≡ finite.insert blocked p.reservation.caller key
       → ((v : ℕ) × (finite.get blocked p.reservation.caller ≡ Some v))
       ⊎ (FitsReserved p.reservation.reply (reply_from s.made (pool_at s at) (asks p)) → ⊥)
       → Passing s start placed items rest at now
-  left_next items now key parts is inserted why =
-      let h_parts = subst (λ (ps : List Placed). Passing s start placed left ps at blocked) parts h in
-      subst (λ (ps : List Placed). Passing s start placed ps rest at now) (sym is)
-      (subst (λ m. Passing s start placed (left ++ p ∷ []) rest at m) (sym inserted)
-      (Passing-leave s start placed left rest p at blocked begun.sound h_parts key (elim why [
-        | inl found ↦ inl found
-        | inr unfit ↦ inr (λ fits. unfit (subst (λ X. X) (sym fits_here) fits))
-      ])))
+  left_next items now key parts is inserted why = rw (is, inserted) (Passing-leave s start placed left rest p at blocked begun.sound (rw parts at h) key (elim why [ | inl found ↦ inl found | inr unfit ↦ inr (λ fits. unfit (rw fits_here fits)) ]))
 
 -- nothing is left to go over
 module _ (s : Allocator) (start l : Lineup) (all : List Placed) (blocked : finite.FinMap nat_cmp ℕ)
     (begun : IsLineup s start) (none : all ≡ [])
     (h : Passing s start l.placed.items l.rest.items all l.at blocked) where
   over : l.placed.items ++ (l.rest.items ++ all) ≡ all_of l
-  over = ap (λ (ps : List Placed). l.placed.items ++ (l.rest.items ++ ps)) none
-      ∙ ap (λ (ps : List Placed). l.placed.items ++ ps) (append-nil l.rest.items)
+  over = rw (none, append-nil) refl
 
   pub over_lined : IsLineup s l
   over_lined = record {
@@ -341,27 +223,14 @@ module _ (s : Allocator) (start l : Lineup) (all : List Placed) (blocked : finit
   }
 
   pub over_keeps : KeepsCallers (all_of start) (all_of l)
-  over_keeps = subst (KeepsCallers (all_of start)) over h.keeps
+  over_keeps = rw (← over) h.keeps
 
   counted : length l.placed.items + length l.rest.items
       ≡ length start.placed.items + length start.rest.items
-  counted =
-      let a = h.count in
-      let b : length all ≡ 0 = ap length none in
-      let d = length-append start.placed.items start.rest.items in
-      omega arith
-
-  pub over_fewer : length l.rest.items ≤ length start.rest.items
-  over_fewer = let a = counted in let b = h.grown in omega arith
+  counted = let a = h.count in let b : length all ≡ 0 = ap length none in omega (arith, length-append start.placed.items start.rest.items)
 
   pub over_stuck : length l.rest.items ≡ length start.rest.items → NoneFits (reached s l) l.rest.items
-  over_stuck same =
-      let a = counted in
-      let b = h.still (omega arith) in
-      subst (λ (ps : List Placed). NoneFits (after s ps) l.rest.items) (sym b.0) b.1
-
-  pub over_whole : AreAnswered s (lines_of (all_of start)) → l.rest.items ≡ []
-  over_whole all_fit = (h.whole all_fit).0
+  over_stuck same = let a = counted in let b = h.still (omega arith) in rw b.0 b.1
 
 -- what is some is something
 pub some_of : {X : Type 0} (o : Option X) → is_some o ≡ true → (v : X) × (o ≡ Some v)
@@ -376,9 +245,7 @@ pub started : (s : Allocator) (l : Lineup) (left rest : List Placed)
     (blocked : finite.FinMap nat_cmp ℕ) → IsLineup s l → left ≡ [] → rest ≡ l.rest.items
     → blocked ≡ finite.empty → Passing s l l.placed.items left rest l.at blocked
 started s l left rest blocked h none all empty =
-    subst (λ (ps : List Placed). Passing s l l.placed.items ps rest l.at blocked) (sym none)
-    (subst (λ (ps : List Placed). Passing s l l.placed.items [] ps l.at blocked) (sym all)
-    (Passing-start s l blocked h empty))
+    rw (none, all) (Passing-start s l blocked h empty)
 
 pub no_items : {X : Type 0} (xs : List X) → length xs ≡ 0 → xs ≡ []
 no_items [] is = refl
@@ -410,28 +277,7 @@ module _ (s : Allocator) (start l next : Lineup) (before : ℕ) (h : Settling s 
       → (length next.rest.items ≡ length l.rest.items → NoneFits (reached s next) next.rest.items)
       → (AreAnswered s (lines_of (all_of l)) → next.rest.items ≡ [])
       → Settling s start next (length l.rest.items)
-  Settling-next lined keeps fewer stuck whole = record {
-    lined = lined;
-    keeps = keeps-again (all_of start) (all_of l) (all_of next) h.keeps keeps;
-    fewer = fewer;
-    stuck = λ same. stuck (sym same);
-    whole = λ all. inr (elim (h.whole all) [
-      | inl first ↦ whole (subst (λ (x : Lineup). AreAnswered s (lines_of (all_of x))) (sym first.0) all)
-      | inr gone ↦
-          let none : length l.rest.items ≡ 0 = ap length gone in
-          no_items next.rest.items (omega arith)
-    ]);
-  }
-
-  pub Settling-stuck : before ≤ length l.rest.items → NoneFits (reached s l) l.rest.items
-  Settling-stuck over = let a = h.fewer in h.stuck (omega arith)
-
-  pub Settling-whole : before ≤ length l.rest.items → AreAnswered s (lines_of (all_of start))
-      → l.rest.items ≡ []
-  Settling-whole over all = elim (h.whole all) [
-    | inl first ↦ let a = first.1 in absurd (omega arith)
-    | inr gone ↦ gone
-  ]
+  Settling-next lined keeps fewer stuck whole = record { lined = lined; keeps = keeps-again (all_of start) (all_of l) (all_of next) h.keeps keeps; fewer = fewer; stuck = λ same. stuck (sym same); whole = λ all. inr (elim (h.whole all) [ | inl first ↦ whole (rw first.0 all) | inr gone ↦ let none : length l.rest.items ≡ 0 = ap length gone in no_items next.rest.items (omega arith) ]) }
 
 -- the position of a lineup is one that its allocator counts
 module _ (s : Allocator) (l : Lineup) (h : IsLineup s l) where
@@ -462,18 +308,16 @@ names_one s l rest index x d h none same f at number told expected front cursor_
     let is : l.rest.items ≡ f.before ++ f.named ∷ f.after = sym same ∙ f.is in
     let named : x ≡ f.named =
     at ∙ (λ i. get_or (is i) (f.index_is i) x) ∙ at_middle f.before f.after f.named x in
+    let here : l.rest.items ≡ f.before ++ x ∷ f.after = rw named is in
+    let first : filter (is_of x.reservation.caller) f.before ≡ [] = rw named f.first in
     record {
       before = f.before;
       named = x;
       after = f.after;
-      is = is ∙ ap (λ (y : Placed). f.before ++ y ∷ f.after) (sym named);
-      first = subst (λ (y : Placed). filter (is_of y.reservation.caller) f.before ≡ []) (sym named)
-          f.first;
+      is = here;
+      first = first;
       differs = λ n. record {
-        unlike = none f.before x f.after
-            (is ∙ ap (λ (y : Placed). f.before ++ y ∷ f.after) (sym named))
-            (subst (λ (y : Placed). filter (is_of y.reservation.caller) f.before ≡ []) (sym named)
-            f.first);
+        unlike = none f.before x f.after here first;
         expected = expected ∙ ap (λ r. line.Reserve (record x.reservation { reply = reserve_reply r }))
             (reply-here s l.placed.items l.at h.sound h.at_is x.reservation.requested);
         number_is = number;

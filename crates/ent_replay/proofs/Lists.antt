@@ -1,6 +1,8 @@
 -- Lists of which one element is taken out.
-use Rattle.std.proofs.Common.{◌≡◌, Bool, true, false, cond, List, [], ◌∷◌, ◌++◌, filter, refl}
-use Rattle.std.proofs.Common.{ap}
+use Rattle.std.proofs.Common.{◌≡◌, Bool, true, false, List, [], ◌∷◌, ◌++◌, filter, refl}
+use Rattle.std.proofs.Common.{ap, inl, inr}
+use Rattle.std.proofs.lemmas.Bool.{cases_Bool}
+use Rattle.std.proofs.lemmas.List.Elements.{filter-append}
 use Rattle.std.specs.List.{AllByRecursion}
 
 -- what holds of all
@@ -27,6 +29,31 @@ module _ {X : Type 0} (P : X → Type 0) where
   all_weaker Q each [] all = tt
   all_weaker Q each (x ∷ xs) all = (each x all.0, all_weaker Q each xs all.1)
 
+pub no_middle : {X : Type 0} (before after : List X) (x : X) → before ++ x ∷ after ≡ [] → ⊥
+no_middle [] after x e = cc
+no_middle (b ∷ before) after x e = cc
+
+-- what a filter keeps
+module _ {X : Type 0} (f : X → Bool) where
+  pub none_kept : (xs : List X) → AllByRecursion (λ b. f b ≡ false) xs → filter f xs ≡ []
+  none_kept [] none = refl
+  none_kept (b ∷ xs) none = simp none.0 (none_kept xs none.1)
+
+  -- an element may come before those that aren't kept with it
+  pub kept_forward : (before after : List X) (x : X) → (f x ≡ true → filter f before ≡ [])
+      → filter f (x ∷ (before ++ after)) ≡ filter f (before ++ x ∷ after)
+  kept_forward before after x none = elim (cases_Bool (f x)) [
+    | inl passes ↦ simp (filter-append, none passes)
+    | inr fails ↦ simp (filter-append, fails)
+  ]
+
+  pub kept_rest : (xs ys : List X) (x : X) → filter f (x ∷ xs) ≡ filter f (x ∷ ys)
+      → filter f xs ≡ filter f ys
+  kept_rest xs ys x e = elim (cases_Bool (f x)) [
+    | inl passes ↦ let both : x ∷ filter f xs ≡ x ∷ filter f ys = simp passes at e in cc
+    | inr fails ↦ simp fails at e
+  ]
+
 -- a list that a filter begins with an element
 pub record Splits {X : Type 0} (p : X → Bool) (h : X) (rest xs : List X) : Type 0 where
   pub before : List X
@@ -36,23 +63,21 @@ pub record Splits {X : Type 0} (p : X → Bool) (h : X) (rest xs : List X) : Typ
   pub rest_is : filter p after ≡ rest
 
 module _ {X : Type 0} (p : X → Bool) (h : X) (rest : List X) where
-  split_more : (d : X) (xs : List X) (b : Bool) → p d ≡ b
-      → (filter p xs ≡ h ∷ rest → Splits p h rest xs)
-      → cond b (d ∷ filter p xs) (filter p xs) ≡ h ∷ rest → Splits p h rest (d ∷ xs)
-  split_more d xs true is more e =
-      let first : d ≡ h = cc in
-      let others : filter p xs ≡ rest = cc in
-      record { before = []; after = xs; is = ap (λ x. x ∷ xs) first; none = tt; rest_is = others }
-  split_more d xs false is more e =
-      let s = more e in
-      record {
-        before = d ∷ s.before;
-        after = s.after;
-        is = ap (λ ys. d ∷ ys) s.is;
-        none = (is, s.none);
-        rest_is = s.rest_is;
-      }
-
   pub split : (xs : List X) → filter p xs ≡ h ∷ rest → Splits p h rest xs
   split [] e = absurd (let no : [] ≡ h ∷ rest = e in cc)
-  split (d ∷ xs) e = split_more d xs (p d) refl (split xs) e
+  split (d ∷ xs) e = elim (cases_Bool (p d)) [
+    | inl passes ↦
+        let here : d ∷ filter p xs ≡ h ∷ rest = simp passes at e in
+        let first : d ≡ h = cc in
+        let others : filter p xs ≡ rest = cc in
+        record { before = []; after = xs; is = ap (λ x. x ∷ xs) first; none = tt; rest_is = others }
+    | inr fails ↦
+        let s = split xs (simp fails at e) in
+        record {
+          before = d ∷ s.before;
+          after = s.after;
+          is = ap (λ ys. d ∷ ys) s.is;
+          none = (fails, s.none);
+          rest_is = s.rest_is;
+        }
+  ]

@@ -1,19 +1,17 @@
 -- What a test of a machine's answer tells, and what a refusal for lack of memory has to be.
-use Rattle.std.proofs.Common.{rules, ◌≡◌, sym, ◌∙◌, ℕ, ◌<◌, Bool, true, false, nat_lt, List, []}
-use Rattle.std.proofs.Common.{◌∷◌, length, drop, filter, slice_get, Option, Some, None, Result, Ok}
-use Rattle.std.proofs.Common.{Err, arith, subst}
-use Rattle.std.proofs.lemmas.Grind.{common_steps}
+use Rattle.std.proofs.Common.{rules, ◌≡◌, sym, ◌∙◌, ℕ, ◌<◌, Bool, true, false, nat_lt, List}
+use Rattle.std.proofs.Common.{◌∷◌, length, drop, slice_get, Option, Some, None, Result, Ok}
+use Rattle.std.proofs.Common.{Err, arith}
 use Rattle.std.specs.Option.{option_map, is_some}
 use Rattle.std.specs.Result.{OnOk, OnErr, is_err}
 use Rattle.std.proofs.lemmas.Bool.Decides.{nat_tests}
 use Rattle.std.specs.FinMap as finite
 use Rattle.ent_handle.specs.Handle.{Handle}
-use Rattle.ent_alloc.specs.Sequential.{next, is_old, Allocator}
+use Rattle.ent_alloc.specs.Sequential.{next, Allocator}
 use Rattle.ent_replay.specs.declared.outcome.Outcome.{Outcome}
-use Rattle.ent_replay.specs.declared.outcome.Outcome.TheVariants as outcome
 use Rattle.ent_replay.specs.declared.fault.ReplayFault.{ReplayFault}
 use Rattle.ent_replay.specs.declared.fault.ReplayFault.TheVariants as fault
-use Rattle.ent_replay.specs.Schedule.{MachineState, Returned, alloc_front, event_takes_memory}
+use Rattle.ent_replay.specs.Schedule.{MachineState, Returned, event_takes_memory}
 use Rattle.ent_replay.specs.Machine.{Makes, machine_state, AreConsistent}
 use Rattle.ent_replay.proofs.Maps.{no_test}
 use Rattle.std.specs.Ordering.{nat_cmp}
@@ -56,7 +54,7 @@ module _ (on : MachineState → Returned) (s : Allocator) (spent : finite.FinMap
 pub consistent_as : {s t : Allocator} {spent : finite.FinMap nat_cmp ℕ}
     {calls : finite.FinMap nat_cmp StoredCall} → t ≡ s → AreConsistent s spent calls
     → AreConsistent t spent calls
-consistent_as {s} {t} {spent} {calls} is h = subst (λ a. AreConsistent a spent calls) (sym is) h
+consistent_as {s} {t} {spent} {calls} is h = rw is h
 
 -- what a test of an answer tells
 pub some_of : {X : Type 0} (o : Option X) → true ≡ is_some o → (x : X) × (o ≡ Some x)
@@ -93,20 +91,9 @@ front ys x is = search rules
 pub none_is_none : {X Y : Type 0} (f : X → Y) (o : Option X) → option_map f o ≡ None → o ≡ None
 none_is_none f it is = search rules
 
--- to take the front of a pool takes memory if it makes a slot
-pub front_takes_memory : (s : MachineState) (pool : List Handle) → ¬ (pool ≡ [])
-    → length (filter (is_old s.allocator.made) pool) ≡ 0
-    → event_takes_memory s (alloc_front s pool).0 ≡ true
-front_takes_memory s rest some none = grind (arith, common_steps)
-
 -- a list that is not empty
 pub some_handles : (hs : List Handle) → 0 < length hs → nat_lt 0 (length hs) ≡ true
 some_handles hs some = grind (arith, nat_tests)
-
--- to list such a reply takes memory
-pub listed-takes_memory : (s : MachineState) (hs : List Handle) → 0 < length hs
-    → event_takes_memory s (Ok (outcome.Handles hs)) ≡ true
-listed-takes_memory s hs some = some_handles hs some
 
 pub not_false : (b : Bool) → ¬ (b ≡ false) → b ≡ true
 not_false b other = search rules

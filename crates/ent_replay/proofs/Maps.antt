@@ -1,6 +1,8 @@
 -- Maps of callers: what a tree's entries stand for, and the values of a map under a function.
 use Rattle.std.proofs.Common.{rules, ◌≡◌, ◌≢◌, refl, sym, ap, ◌∙◌, ℕ, true, false, cond, List, []}
-use Rattle.std.proofs.Common.{◌∷◌, map, Some, None, arith, eq-eqb, ne_eqb}
+use Rattle.std.proofs.Common.{◌∷◌, map, Some, None, arith, eq-eqb, ne_eqb, inl, inr}
+use Rattle.std.proofs.lemmas.Bool.{cases_eq}
+use Rattle.std.proofs.lemmas.Option.{same_Some}
 use Rattle.std.proofs.lemmas.Grind.{common_steps}
 use Rattle.std.specs.Option.{option_map, IsSome}
 use Rattle.std.specs.Ordering.{nat_cmp, eq_by_cmp}
@@ -33,7 +35,7 @@ apart q k other = unsigned_tied q k ∙ ne_eqb q k other
 find-lookup : {X : Type 0} (q : ℕ) (es : List (ℕ × X)) → find nat_cmp q es
     ≡ lookup (is_at (nat_cmp q)) es
 find-lookup q [] = refl
-find-lookup q (e ∷ es) = ap (cond (eq_by_cmp nat_cmp q e.0) (Some e.1)) (find-lookup q es)
+find-lookup q (e ∷ es) = cc (find-lookup q es)
 
 -- a tree's entries as a map
 abbrev pub of_tree : {X : Type 0} → BTreeMap ℕ X → FinMap nat_cmp X
@@ -85,17 +87,30 @@ get-inserted m k v = grind (arith, common_steps, get-insert nat_cmp_total m k v 
 
 pub get-insert_other : {X : Type 0} (m : FinMap nat_cmp X) (k : ℕ) (v : X) (q : ℕ) → q ≢ k
     → finite.get (finite.insert m k v) q ≡ finite.get m q
-get-insert_other m k v q other = get-insert nat_cmp_total m k v q
-    ∙ ap (λ b. cond b (Some v) (finite.get m q)) (apart q k other)
+get-insert_other m k v q other = cc (get-insert nat_cmp_total m k v q, apart q k other)
 
 pub get-removed : {X : Type 0} (m : FinMap nat_cmp X) (k : ℕ) → finite.get (finite.remove m k) k
     ≡ None
-get-removed m k = get-remove nat_cmp_total m k k ∙ ap (λ b. cond b None (finite.get m k)) (itself k)
+get-removed m k = cc (get-remove nat_cmp_total m k k, itself k)
 
 pub get-remove_other : {X : Type 0} (m : FinMap nat_cmp X) (k : ℕ) (q : ℕ) → q ≢ k
     → finite.get (finite.remove m k) q ≡ finite.get m q
-get-remove_other m k q other = get-remove nat_cmp_total m k q
-    ∙ ap (λ b. cond b None (finite.get m q)) (apart q k other)
+get-remove_other m k q other = cc (get-remove nat_cmp_total m k q, apart q k other)
+
+-- an empty map has nothing
+pub nothing_in : {X : Type 0} (m : FinMap nat_cmp X) → m ≡ finite.empty → (q : ℕ) (x : X)
+    → finite.get m q ≡ Some x → ⊥
+nothing_in m none q x at = search (rules, get-empty)
+
+-- what holds of all but the value at k, and of that one
+module _ {X : Type 0} (P : ℕ → X → Type 0) (m : FinMap nat_cmp X) (k : ℕ)
+    (before : (q : ℕ) (x : X) → q ≢ k → finite.get m q ≡ Some x → P q x) where
+  pub on_inserted : (v : X) → P k v → (q : ℕ) (x : X) → finite.get (finite.insert m k v) q ≡ Some x
+      → P q x
+  on_inserted v here q x at = elim (cases_eq q k) [ | inl same ↦ let is : v ≡ x = search (rules, same_Some, get-inserted) in rw same (rw (← is) here) | inr other ↦ before q x other (sym (get-insert_other m k v q other) ∙ at) ]
+
+  pub on_removed : (q : ℕ) (x : X) → finite.get (finite.remove m k) q ≡ Some x → P q x
+  on_removed q x at = search (rules, cases_eq, get-removed, get-remove_other)
 
 -- ---- the values under a function
 
@@ -106,8 +121,7 @@ find-values f q (e ∷ es) = search (rules, find-values f q es)
 
 pub get-map_values : {X Y : Type 0} (f : X → Y) (m : FinMap nat_cmp X) (q : ℕ)
     → finite.get (map_values f m) q ≡ option_map f (finite.get m q)
-get-map_values f m q = get-from_entries nat_cmp_total (map (λ e. (e.0, f e.1)) (finite.entries m)) q
-    ∙ find-values f q (finite.entries m) ∙ ap (option_map f) (sym (get-entries m q))
+get-map_values f m q = cc (get-from_entries nat_cmp_total (map (λ e. (e.0, f e.1)) (finite.entries m)) q, find-values f q (finite.entries m), get-entries m q)
 
 pub map_values-insert : {X Y : Type 0} (f : X → Y) (m : FinMap nat_cmp X) (k : ℕ) (v : X)
     → map_values f (finite.insert m k v) ≡ finite.insert (map_values f m) k (f v)

@@ -12,7 +12,6 @@ use Rattle.ent_replay.specs.Checker.{Differs, IfReserve, Shows, HasNoOrder, None
 use Rattle.ent_replay.proofs.Parting.{IsReserve, parts, parted, all_reserve}
 use Rattle.ent_replay.proofs.Lists.{all_at}
 use Rattle.ent_replay.proofs.Requested.{reserves-ordered}
-use Rattle.std.specs.List.{AllByRecursion}
 use Rattle.std.proofs.lemmas.List.{append-nil, length-append}
 use Rattle.std.proofs.Common.{length, sym, ◌∙◌, inl, inr}
 use Rattle.ent_replay.specs.declared.trace.difference.Difference.{Difference}
@@ -39,7 +38,7 @@ AreAnswered-append s (l ∷ first) second first_yes more =
 pub run_more : (run : List Reservation) (r : Reservation) (rest : List Call)
     → reserve_lines (run ++ r ∷ []) ++ rest ≡ reserve_lines run ++ line.Reserve r ∷ rest
 run_more [] r rest = refl
-run_more (q ∷ run) r rest = ap (λ (lines : List Call). line.Reserve q ∷ lines) (run_more run r rest)
+run_more (q ∷ run) r rest = cc (run_more run r rest)
 
 answered_front : (s : Allocator) (first second : List Call) → AreAnswered s (first ++ second)
     → AreAnswered s first
@@ -69,16 +68,7 @@ told c l rest alone agrees = search (rules, parts, all_reserve, answered_back, a
 -- the run was settled, and the line fits then
 pub called-Follows : (c : Checked) (l : Call) (after : Allocator) → IsAlone l → IsSettled c after
     → Fits after l → Follows c l (record { allocator = after_line after l; run = [] })
-called-Follows c l after alone settled fits = record {
-  sound = λ rest agrees. record {
-    order = settled.order ++ l ∷ agrees.order;
-    is_order = IsOrderOf-append (reserve_lines c.run) (l ∷ rest) settled.order (l ∷ agrees.order)
-        settled.is_order (IsOrderOf-cons l rest agrees.order agrees.is_order);
-    answered = AreAnswered-append c.allocator settled.order (l ∷ agrees.order) settled.answered
-        (subst (λ s. AreAnswered s (l ∷ agrees.order)) settled.after_is (fits, agrees.answered));
-  };
-  complete = λ rest agrees. search (rules, told c l rest alone agrees);
-}
+called-Follows c l after alone settled fits = record { sound = λ rest agrees. record { order = settled.order ++ l ∷ agrees.order; is_order = IsOrderOf-append (reserve_lines c.run) (l ∷ rest) settled.order (l ∷ agrees.order) settled.is_order (IsOrderOf-cons l rest agrees.order agrees.is_order); answered = AreAnswered-append c.allocator settled.order (l ∷ agrees.order) settled.answered (rw (← settled.after_is) (fits, agrees.answered)) }; complete = λ rest agrees. search (rules, told c l rest alone agrees) }
 
 -- ---- where a trace doesn't agree
 
@@ -94,100 +84,33 @@ length-ordered (l ∷ order) lines (before, after, parts, passes, more) =
 -- an alone line isn't one of a run
 not_in_run : (run : List Reservation) (order before after : List Call) (l : Call)
     → IsOrderOf (reserve_lines run) order → order ≡ before ++ l ∷ after → IsAlone l → ⊥
-not_in_run run order before after l is parts alone = not_both l alone
-    (all_at IsReserve before after l (subst (AllByRecursion IsReserve) parts
-    (reserves-ordered order (reserve_lines run) is (all_reserve run))))
+not_in_run run order before after l is parts alone = not_both l alone (all_at IsReserve before after l (rw (← parts) (reserves-ordered order (reserve_lines run) is (all_reserve run))))
   where
     not_both : (l : Call) → IsAlone l → IsReserve l → ⊥
     not_both (line.Reserve r) alone reserve = alone
-    not_both (line.Alloc told) alone reserve = reserve
-    not_both (line.Free h told) alone reserve = reserve
-    not_both (line.Flush told) alone reserve = reserve
-    not_both (line.State h told) alone reserve = reserve
-    not_both (line.Len told) alone reserve = reserve
+    not_both other alone reserve = reserve
 
 no_rest : (run : List Reservation) (order : List Call) → IsOrderOf (reserve_lines run ++ []) order
     → IsOrderOf (reserve_lines run) order
-no_rest run order is = subst (λ (ls : List Call). IsOrderOf ls order) (append-nil (reserve_lines run)) is
+no_rest run order is = rw (← append-nil (reserve_lines run)) is
 
 some_rest : (run : List Reservation) (order : List Call) → IsOrderOf (reserve_lines run) order
     → IsOrderOf (reserve_lines run ++ []) order
-some_rest run order is =
-    subst (λ (ls : List Call). IsOrderOf ls order) (sym (append-nil (reserve_lines run))) is
+some_rest run order is = rw append-nil is
 
 -- one more line doesn't change it
 pub Shows-more : (c : Checked) (n : ℕ) (l : Call) (d : Difference) → IsAlone l → Shows c n [] d
     → Shows c n (l ∷ []) d
-Shows-more c n l d alone shows = record {
-  placed = shows.placed;
-  next = shows.next;
-  left = shows.left ++ l ∷ [];
-  is_order = subst (IsOrderOf (reserve_lines c.run ++ l ∷ []))
-      (append_assoc shows.placed (shows.next ∷ shows.left) (l ∷ []))
-      (IsOrderOf-append (reserve_lines c.run) (l ∷ []) (shows.placed ++ shows.next ∷ shows.left) (l ∷ [])
-      (no_rest c.run (shows.placed ++ shows.next ∷ shows.left) shows.is_order)
-      (IsOrderOf-cons l [] [] refl));
-  answered = shows.answered;
-  differs = shows.differs;
-  blamed = shows.blamed;
-  stuck = λ x more is.
-      let p = parts (reserve_lines c.run) [] l (shows.placed ++ x ∷ more) (all_reserve c.run) alone is in
-      let own = no_rest c.run (shows.placed ++ shows.next ∷ shows.left) shows.is_order in
-      elim (parted shows.placed more p.first p.second x l p.is) [
-        | inl inside ↦
-            absurd (not_in_run c.run (shows.placed ++ shows.next ∷ shows.left) p.first
-            (inside.more ++ shows.next ∷ shows.left) l own
-            (ap (λ (ls : List Call). ls ++ shows.next ∷ shows.left) inside.front_is
-            ∙ append_assoc p.first (l ∷ inside.more) (shows.next ∷ shows.left)) alone)
-        | inr (inl itself) ↦
-            let a = length-ordered p.first (reserve_lines c.run) p.first_is in
-            let b = length-ordered (shows.placed ++ shows.next ∷ shows.left) (reserve_lines c.run) own in
-            let e = length-append shows.placed (shows.next ∷ shows.left) in
-            let f : length p.first ≡ length shows.placed = ap length itself.before_is in
-            absurd (omega arith)
-        | inr (inr behind) ↦
-            shows.stuck x behind.more (some_rest c.run (shows.placed ++ x ∷ behind.more)
-            (subst (IsOrderOf (reserve_lines c.run)) behind.before_is p.first_is))
-      ];
-}
+Shows-more c n l d alone shows = record { placed = shows.placed; next = shows.next; left = shows.left ++ l ∷ []; is_order = rw (← append_assoc shows.placed (shows.next ∷ shows.left) (l ∷ [])) (IsOrderOf-append (reserve_lines c.run) (l ∷ []) (shows.placed ++ shows.next ∷ shows.left) (l ∷ []) (no_rest c.run (shows.placed ++ shows.next ∷ shows.left) shows.is_order) (IsOrderOf-cons l [] [] refl)); answered = shows.answered; differs = shows.differs; blamed = shows.blamed; stuck = λ x more is. let p = parts (reserve_lines c.run) [] l (shows.placed ++ x ∷ more) (all_reserve c.run) alone is in let own = no_rest c.run (shows.placed ++ shows.next ∷ shows.left) shows.is_order in elim (parted shows.placed more p.first p.second x l p.is) [ | inl inside ↦ absurd (not_in_run c.run (shows.placed ++ shows.next ∷ shows.left) p.first (inside.more ++ shows.next ∷ shows.left) l own (ap (λ (ls : List Call). ls ++ shows.next ∷ shows.left) inside.front_is ∙ append_assoc p.first (l ∷ inside.more) (shows.next ∷ shows.left)) alone) | inr (inl itself) ↦ let a = length-ordered p.first (reserve_lines c.run) p.first_is in let b = length-ordered (shows.placed ++ shows.next ∷ shows.left) (reserve_lines c.run) own in let e = length-append shows.placed (shows.next ∷ shows.left) in let f : length p.first ≡ length shows.placed = ap length itself.before_is in absurd (omega arith) | inr (inr behind) ↦ shows.stuck x behind.more (some_rest c.run (shows.placed ++ x ∷ behind.more) (rw (← behind.before_is) p.first_is)) ] }
 
 none_blamed : (l : Call) (P : Type 0) → IsAlone l → IfReserve l P
 none_blamed (line.Reserve r) P alone = absurd alone
-none_blamed (line.Alloc told) P alone = tt
-none_blamed (line.Free h told) P alone = tt
-none_blamed (line.Flush told) P alone = tt
-none_blamed (line.State h told) P alone = tt
-none_blamed (line.Len told) P alone = tt
+none_blamed other P alone = tt
 
 -- the run was settled, and the line differs then
 pub called-Shows : (c : Checked) (l : Call) (after : Allocator) (n : ℕ) (d : Difference) → IsAlone l
     → IsSettled c after → Differs after n l d → Shows c n (l ∷ []) d
-called-Shows c l after n d alone settled differs = record {
-  placed = settled.order;
-  next = l;
-  left = [];
-  is_order = IsOrderOf-append (reserve_lines c.run) (l ∷ []) settled.order (l ∷ []) settled.is_order
-      (IsOrderOf-cons l [] [] refl);
-  answered = settled.answered;
-  differs = subst (λ s. Differs s n l d) settled.after_is differs;
-  blamed = none_blamed l (HasNoOrder c) alone;
-  stuck = λ x more is fits.
-      let p = parts (reserve_lines c.run) [] l (settled.order ++ x ∷ more) (all_reserve c.run) alone is in
-      elim (parted settled.order more p.first p.second x l p.is) [
-        | inl inside ↦
-            not_in_run c.run settled.order p.first inside.more l settled.is_order inside.front_is alone
-        | inr (inl itself) ↦
-            differs.unlike (subst (λ s. Fits s l) (sym settled.after_is)
-            (subst (Fits (after_lines c.allocator settled.order)) (sym itself.is) fits))
-        | inr (inr behind) ↦
-            let a = length-ordered p.first (reserve_lines c.run) p.first_is in
-            let b = length-ordered settled.order (reserve_lines c.run) settled.is_order in
-            let e = length-append settled.order (x ∷ behind.more) in
-            let f : length p.first ≡ length (settled.order ++ x ∷ behind.more) =
-            ap length behind.before_is in
-            absurd (omega arith)
-      ];
-}
+called-Shows c l after n d alone settled differs = record { placed = settled.order; next = l; left = []; is_order = IsOrderOf-append (reserve_lines c.run) (l ∷ []) settled.order (l ∷ []) settled.is_order (IsOrderOf-cons l [] [] refl); answered = settled.answered; differs = rw (← settled.after_is) differs; blamed = none_blamed l (HasNoOrder c) alone; stuck = λ x more is fits. let p = parts (reserve_lines c.run) [] l (settled.order ++ x ∷ more) (all_reserve c.run) alone is in elim (parted settled.order more p.first p.second x l p.is) [ | inl inside ↦ not_in_run c.run settled.order p.first inside.more l settled.is_order inside.front_is alone | inr (inl itself) ↦ differs.unlike (subst (λ s. Fits s l) (sym settled.after_is) (rw itself.is fits)) | inr (inr behind) ↦ let a = length-ordered p.first (reserve_lines c.run) p.first_is in let b = length-ordered settled.order (reserve_lines c.run) settled.is_order in let e = length-append settled.order (x ∷ behind.more) in let f : length p.first ≡ length (settled.order ++ x ∷ behind.more) = ap length behind.before_is in absurd (omega arith) ] }
 
 -- and no other order of the run would help
 pub called-None : (c : Checked) (l : Call) (after : Allocator) → IsAlone l → IsSettled c after
@@ -204,8 +127,4 @@ pub alone_Reaches : (c : Checked) (l : Call) (new : Checked) (at : Allocator) �
     → IsSettled c at → Fits at l → new ≡ record { allocator = after_line at l; run = [] }
     → Reaches c l new
 alone_Reaches c (line.Reserve r) new at alone settled fits is = absurd alone
-alone_Reaches c (line.Alloc told) new at alone settled fits is = (at, settled, fits, is)
-alone_Reaches c (line.Free h told) new at alone settled fits is = (at, settled, fits, is)
-alone_Reaches c (line.Flush told) new at alone settled fits is = (at, settled, fits, is)
-alone_Reaches c (line.State h told) new at alone settled fits is = (at, settled, fits, is)
-alone_Reaches c (line.Len told) new at alone settled fits is = (at, settled, fits, is)
+alone_Reaches c l new at alone settled fits is = (at, settled, fits, is)

@@ -10,7 +10,7 @@ use Rattle.ent_replay.specs.declared.trace.call.Call.TheVariants as line
 use Rattle.ent_replay.specs.declared.trace.reservation.Reservation.{Reservation}
 use Rattle.ent_replay.specs.Trace.{MayPass, IsAlone, IsOrderOf}
 use Rattle.ent_replay.specs.Checker.{reserve_lines}
-use Rattle.ent_replay.proofs.Lists.{all_at, all_without}
+use Rattle.ent_replay.proofs.Lists.{all_at, all_without, no_middle}
 
 abbrev pub IsReserve : Call → Type 0
 IsReserve (line.Reserve r) = Unit {0}
@@ -54,10 +54,6 @@ module _ {X : Type 0} where
       let others : front ++ x ∷ rest ≡ before ++ l ∷ after = cc in
       grind (arith, common_steps, parted front rest before after x l others)
 
-  no_middle : (front rest : List X) (x : X) → front ++ x ∷ rest ≡ [] → ⊥
-  no_middle [] rest x e = cc
-  no_middle (f ∷ front) rest x e = cc
-
 not_passed : (l x : Call) → IsAlone x → MayPass l x → ⊥
 not_passed l other alone p = search rules
 
@@ -76,22 +72,4 @@ pub record Parts (front rest order : List Call) (x : Call) : Type 0 where
 pub parts : (front rest : List Call) (x : Call) (order : List Call) → AllByRecursion IsReserve front
     → IsAlone x → IsOrderOf (front ++ x ∷ rest) order → Parts front rest order x
 parts front rest x [] reserves alone e = absurd (no_middle front rest x e)
-parts front rest x (l ∷ order) reserves alone (before, after, is, passes, more) =
-    elim (parted front rest before after x l is) [
-      | inl p ↦
-          let here = subst (λ (ls : List Call). IsOrderOf ls order)
-          (grind (arith, common_steps, append_assoc)) more in
-          let left = all_without IsReserve before p.more l
-          (subst (AllByRecursion IsReserve) p.front_is reserves) in
-          let next = parts (before ++ p.more) rest x order left alone here in
-          record {
-            first = l ∷ next.first;
-            second = next.second;
-            is = ap (λ (ls : List Call). l ∷ ls) next.is;
-            first_is = (before, p.more, p.front_is, passes, next.first_is);
-            second_is = next.second_is;
-          }
-      | inr (inl p) ↦ search (rules, none_before)
-      | inr (inr p) ↦ absurd (not_passed l x alone (all_at (MayPass l) front p.more x
-          (subst (AllByRecursion (MayPass l)) p.before_is passes)))
-    ]
+parts front rest x (l ∷ order) reserves alone (before, after, is, passes, more) = elim (parted front rest before after x l is) [ | inl p ↦ let here = subst (λ (ls : List Call). IsOrderOf ls order) (grind (arith, common_steps, append_assoc)) more in let left = all_without IsReserve before p.more l (rw (← p.front_is) reserves) in let next = parts (before ++ p.more) rest x order left alone here in record { first = l ∷ next.first; second = next.second; is = cc next.is; first_is = (before, p.more, p.front_is, passes, next.first_is); second_is = next.second_is } | inr (inl p) ↦ search (rules, none_before) | inr (inr p) ↦ absurd (not_passed l x alone (all_at (MayPass l) front p.more x (rw (← p.before_is) passes))) ]

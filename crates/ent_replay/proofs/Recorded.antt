@@ -1,7 +1,7 @@
 -- What the answers of a checker say of all its calls together.
-use Rattle.std.proofs.Common.{◌≡◌, List, [], ◌∷◌, ◌++◌, Result, Ok, Err, refl, sym, ap, subst}
-use Rattle.std.proofs.Common.{◌∙◌}
-use Rattle.std.specs.Prelude.{IsOk, IfOk, IfErr, OnOk, OnErr}
+use Rattle.std.proofs.Common.{◌≡◌, List, [], ◌∷◌, ◌++◌, Result, Ok, Err, refl, ap, subst}
+use Rattle.std.proofs.Common.{◌∙◌, rules, inl, inr, ◌⊎◌}
+use Rattle.std.specs.Prelude.{IsOk, OnOk, OnErr}
 use Rattle.std.proofs.lemmas.List.{append-nil}
 use Rattle.ent_alloc.specs.Limits.{Limits}
 use Rattle.ent_alloc.specs.Sequential.{opening}
@@ -10,11 +10,16 @@ use Rattle.ent_replay.specs.declared.trace.check_error.CheckError.{CheckError}
 use Rattle.ent_replay.specs.declared.trace.check_error.CheckError.TheVariants as error
 use Rattle.ent_replay.specs.declared.trace.checker.Checker.{Checker}
 use Rattle.ent_replay.specs.declared.trace.difference.Difference.{Difference}
-use Rattle.ent_replay.specs.Checker.{AgreesWith, AllFollow, Checked, Follows, OnDiffers, NoneFollows}
+use Rattle.ent_replay.specs.Checker.{AgreesWith, AllFollow, Checked, Follows}
 use Rattle.ent_replay.specs.Checker.{opened}
 use Rattle.ent_replay.specs.Trace.{Agrees}
-use Rattle.ent_replay.specs.Recording.{Closes, Compares, Finishes, Takes, TakesAll}
+use Rattle.ent_replay.specs.Recording.{Compares, Finishes, Takes, TakesAll}
 use Rattle.ent_replay.specs.Recording.{numbered, numbered_after, one_more}
+
+ok_or_err : {X E : Type 0} (r : Result X E)
+    → ((x : X) × (r ≡ Ok x)) ⊎ ((e : E) × (r ≡ Err e))
+ok_or_err (Ok x) = inl (x, refl)
+ok_or_err (Err e) = inr (e, refl)
 
 -- one that has stopped stays as it is
 stopped-all : (lines : List Call) (old new : Checker) (e : CheckError) → old.comparer ≡ Err e
@@ -29,18 +34,11 @@ stopped-all (l ∷ lines) old new e is (next, takes, more) =
 compared : (old next : Checker) (l : Call) (c : Checked) (r : Result Checked CheckError)
     → old.comparer ≡ Ok c → next.comparer ≡ r → Takes old l next
     → Compares c next.calls (numbered next.calls l) r
-compared old next l c r is next_is takes =
-    subst (λ (x : Result Checked CheckError). Compares c next.calls (numbered next.calls l) x)
-    next_is
-    (subst (λ (x : Result Checked CheckError).
-    IfOk x (λ from. Compares from next.calls (numbered next.calls l) next.comparer)) is
-    takes.compared)
+compared old next l c r is next_is takes = rw (is, next_is) at takes.compared
 
 counted : (old next : Checker) (l : Call) (c : Checked) → old.comparer ≡ Ok c → Takes old l next
     → next.calls ≡ one_more old.calls
-counted old next l c is takes =
-    subst (λ (x : Result Checked CheckError). OnOk x (next.calls ≡ one_more old.calls)) is
-    takes.counted
+counted old next l c is takes = rw is at takes.counted
 
 -- before and after a call, and then before and after others
 both_follow : (c m d : Checked) (l : Call) (lines : List Call) → Follows c l m → AllFollow m lines d
@@ -50,53 +48,11 @@ both_follow c m d l lines one all = record {
   complete = λ rest a. all.complete rest (one.complete (lines ++ rest) a);
 }
 
--- before and after one call and those after it, by what holds of these
-follow_from : (lines : List Call) (old next new : Checker) (c d : Checked) (l : Call)
-    (r : Result Checked CheckError) → old.comparer ≡ Ok c → next.comparer ≡ r
-    → new.comparer ≡ Ok d → Takes old l next → TakesAll next lines new
-    → ((m : Checked) → next.comparer ≡ Ok m → AllFollow m (numbered_after next.calls lines) d)
-    → AllFollow c (numbered_after old.calls (l ∷ lines)) d
-follow_from lines old next new c d l (Err e) is next_is new_is takes more later =
-    let same = ap (λ (x : Checker). x.comparer) (stopped-all lines next new e next_is more) in
-    absurd cc
-follow_from lines old next new c d l (Ok m) is next_is new_is takes more later =
-    subst (λ n. AllFollow c (numbered n l ∷ numbered_after n lines) d)
-    (counted old next l c is takes)
-    (both_follow c m d (numbered next.calls l) (numbered_after next.calls lines)
-    (compared old next l c (Ok m) is next_is takes).follows (later m next_is))
-
 pub all_follow : (lines : List Call) (old new : Checker) (c d : Checked) → old.comparer ≡ Ok c
     → new.comparer ≡ Ok d → TakesAll old lines new
     → AllFollow c (numbered_after old.calls lines) d
-all_follow [] old new c d is new_is same =
-    let kept_by = ap (λ (x : Checker). x.comparer) same in
-    let kept : c ≡ d = cc in
-    subst (AllFollow c []) kept (record { sound = λ rest a. a; complete = λ rest a. a })
-all_follow (l ∷ lines) old new c d is new_is (next, takes, more) =
-    follow_from lines old next new c d l next.comparer is refl new_is takes more
-    (λ m next_is. all_follow lines next new m d next_is new_is more)
-
-differs_from : (lines : List Call) (old next new : Checker) (c : Checked) (d : Difference)
-    (l : Call) (r : Result Checked CheckError) → old.comparer ≡ Ok c → next.comparer ≡ r
-    → new.comparer ≡ Err (error.Differs d) → Takes old l next → TakesAll next lines new
-    → (rest : List Call)
-    → ((m : Checked) → next.comparer ≡ Ok m
-    → AgreesWith m (numbered_after next.calls lines ++ rest) → ⊥)
-    → AgreesWith c (numbered_after old.calls (l ∷ lines) ++ rest) → ⊥
-differs_from lines old next new c d l (Ok m) is next_is new_is takes more rest later agrees =
-    let here = subst (λ n. AgreesWith c (numbered n l ∷ (numbered_after n lines ++ rest)))
-    (sym (counted old next l c is takes)) agrees in
-    later m next_is
-    ((compared old next l c (Ok m) is next_is takes).follows.complete
-    (numbered_after next.calls lines ++ rest) here)
-differs_from lines old next new c d l (Err e) is next_is new_is takes more rest later agrees =
-    let same = ap (λ (x : Checker). x.comparer) (stopped-all lines next new e next_is more) in
-    let named : e ≡ error.Differs d = cc in
-    let here = subst (λ n. AgreesWith c (numbered n l ∷ (numbered_after n lines ++ rest)))
-    (sym (counted old next l c is takes)) agrees in
-    subst (λ (x : CheckError). OnDiffers x (λ _. NoneFollows c (numbered next.calls l))) named
-    (compared old next l c (Err e) is next_is takes).none
-    (numbered_after next.calls lines ++ rest) here
+all_follow [] old new c d is new_is same = let kept_by = ap (λ (x : Checker). x.comparer) same in let kept : c ≡ d = cc in rw (← kept) (record { sound = λ rest a. a; complete = λ rest a. a })
+all_follow (l ∷ lines) old new c d is new_is (next, takes, more) = elim (ok_or_err next.comparer) [ | inl ok ↦ rw (← counted old next l c is takes) (both_follow c ok.0 d (numbered next.calls l) (numbered_after next.calls lines) (compared old next l c (Ok ok.0) is ok.1 takes).follows (all_follow lines next new ok.0 d ok.1 new_is more)) | inr bad ↦ let same = ap (λ (x : Checker). x.comparer) (stopped-all lines next new bad.0 bad.1 more) in absurd cc ]
 
 -- it has stopped for a difference: no trace that begins so agrees
 pub taken-differs : (lines : List Call) (old new : Checker) (c : Checked) (d : Difference)
@@ -104,49 +60,12 @@ pub taken-differs : (lines : List Call) (old new : Checker) (c : Checked) (d : D
     → (rest : List Call) → AgreesWith c (numbered_after old.calls lines ++ rest) → ⊥
 taken-differs [] old new c d is new_is same rest agrees =
     let kept = ap (λ (x : Checker). x.comparer) same in absurd cc
-taken-differs (l ∷ lines) old new c d is new_is (next, takes, more) rest agrees =
-    differs_from lines old next new c d l next.comparer is refl new_is takes more rest
-    (λ m next_is. taken-differs lines next new m d next_is new_is more rest) agrees
+taken-differs (l ∷ lines) old new c d is new_is (next, takes, more) rest agrees = let here = rw (← counted old next l c is takes) at agrees in elim (ok_or_err next.comparer) [ | inl ok ↦ taken-differs lines next new ok.0 d ok.1 new_is more rest ((compared old next l c (Ok ok.0) is ok.1 takes).follows.complete (numbered_after next.calls lines ++ rest) here) | inr bad ↦ let same = ap (λ (x : Checker). x.comparer) (stopped-all lines next new bad.0 bad.1 more) in let named : bad.0 ≡ error.Differs d = cc in (rw named at (compared old next l c (Err bad.0) is bad.1 takes).none) (numbered_after next.calls lines ++ rest) here ]
 
 -- ---- from the first call on
 
-module _ {A : Type 0} (limits : Limits) (start taken : Checker) (lines : List Call)
-    (answer : Result A CheckError) (opens : start.comparer ≡ Ok (opened limits))
-    (all : TakesAll start lines taken) (closes : IfOk taken.comparer (λ c. Closes c answer))
-    (stopped : IfErr taken.comparer (λ e. answer ≡ Err e)) where
-  closed : (c : Checked) → taken.comparer ≡ Ok c → Closes c answer
-  closed c is = subst (λ (r : Result Checked CheckError). IfOk r (λ x. Closes x answer)) is closes
-
-  same_error : (e : CheckError) → taken.comparer ≡ Err e → answer ≡ Err e
-  same_error e is =
-      subst (λ (r : Result Checked CheckError). IfErr r (λ x. answer ≡ Err x)) is stopped
-
-  agrees_by : (r : Result Checked CheckError) → taken.comparer ≡ r → IsOk answer
-      → Agrees (opening limits) (numbered_after start.calls lines)
-  agrees_by (Ok c) is ok =
-      subst (Agrees (opening limits)) (append-nil (numbered_after start.calls lines))
-      ((all_follow lines start taken (opened limits) c opens is all).sound []
-      (given answer (AgreesWith c []) ok (closed c is).agrees))
-    where
-      given : (r : Result A CheckError) (P : Type 0) → IsOk r → OnOk r P → P
-      given (Ok x) P ok h = h
-      given (Err e) P ok h = absurd cc
-  agrees_by (Err e) is ok = let failed : IsOk {T = A} (Err e) = subst IsOk (same_error e is) ok in absurd cc
-
-  differs_by : (r : Result Checked CheckError) (d : Difference) → taken.comparer ≡ r
-      → answer ≡ Err (error.Differs d)
-      → Agrees (opening limits) (numbered_after start.calls lines) → ⊥
-  differs_by (Ok c) d is named agrees =
-      subst (λ (r : Result A CheckError).
-      IfErr r (λ e. OnDiffers e (λ _. AgreesWith c [] → ⊥))) named (closed c is).none
-      ((all_follow lines start taken (opened limits) c opens is all).complete []
-      (subst (Agrees (opening limits)) (sym (append-nil (numbered_after start.calls lines))) agrees))
-  differs_by (Err e) d is named agrees =
-      let kept = same_error e is in
-      let same : e ≡ error.Differs d = cc in
-      taken-differs lines start taken (opened limits) d opens
-      (is ∙ ap (λ (x : CheckError). Err x) same) all []
-      (subst (Agrees (opening limits)) (sym (append-nil (numbered_after start.calls lines))) agrees)
+given_ok : {T E : Type 0} (r : Result T E) (P : Type 0) → IsOk r → OnOk r P → P
+given_ok it P ok h = search rules
 
 -- No call fails, and neither does the end: the trace agrees.
 pub finished-agrees : {A : Type 0} (limits : Limits) (start : Checker) (lines : List Call)
@@ -154,13 +73,18 @@ pub finished-agrees : {A : Type 0} (limits : Limits) (start : Checker) (lines : 
     → Finishes start lines answer → IsOk answer
     → Agrees (opening limits) (numbered_after start.calls lines)
 finished-agrees limits start lines answer opens (taken, all, closes, stopped) ok =
-    agrees_by limits start taken lines answer opens all closes stopped taken.comparer refl ok
+    elim (ok_or_err taken.comparer) [
+      | inl c ↦ rw append-nil at ((all_follow lines start taken (opened limits) c.0 opens c.1 all).sound
+          [] (given_ok answer (AgreesWith c.0 []) ok (rw c.1 at closes).agrees))
+      | inr e ↦
+          let same : answer ≡ Err e.0 = rw e.1 at stopped in
+          let failed = rw same at ok in
+          absurd cc
+    ]
 
 -- It ends with a difference: the trace doesn't agree.
 pub finished-differs : {A : Type 0} (limits : Limits) (start : Checker) (lines : List Call)
     (answer : Result A CheckError) (d : Difference) → start.comparer ≡ Ok (opened limits)
     → Finishes start lines answer → answer ≡ Err (error.Differs d)
     → Agrees (opening limits) (numbered_after start.calls lines) → ⊥
-finished-differs limits start lines answer d opens (taken, all, closes, stopped) named agrees =
-    differs_by limits start taken lines answer opens all closes stopped taken.comparer d refl named
-    agrees
+finished-differs limits start lines answer d opens (taken, all, closes, stopped) named agrees = let whole = rw (← append-nil (numbered_after start.calls lines)) at agrees in elim (ok_or_err taken.comparer) [ | inl c ↦ (rw named at (rw c.1 at closes).none) ((all_follow lines start taken (opened limits) c.0 opens c.1 all).complete [] whole) | inr e ↦ let kept : answer ≡ Err e.0 = rw e.1 at stopped in let same : e.0 ≡ error.Differs d = cc in taken-differs lines start taken (opened limits) d opens (e.1 ∙ ap (λ (x : CheckError). Err x) same) all [] whole ]

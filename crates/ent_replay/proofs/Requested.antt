@@ -1,6 +1,6 @@
 -- What the lines that were taken request.
 use Rattle.std.proofs.Common.{rules, ◌≡◌, ℕ, ◌+◌, Bool, true, false, if◌then◌else◌, nat_lt, arith}
-use Rattle.std.proofs.Common.{List, [], ◌∷◌, ◌++◌, Option, ap, sym, subst, ◌∙◌, refl}
+use Rattle.std.proofs.Common.{List, [], ◌∷◌, ◌++◌, Option, ap, sym, ◌∙◌, refl}
 use Rattle.std.proofs.lemmas.List.Sums.{sum_by-cons, sum_by_push}
 use Rattle.std.specs.List.{AllByRecursion}
 use Rattle.std.specs.FinSet as set
@@ -35,45 +35,27 @@ asks-run (r ∷ run) = search (rules, sum_by-cons, asks-run run)
 asks-middle : (before after : List Call) (l : Call) → asks_in (before ++ l ∷ after)
     ≡ asks_line l + asks_in (before ++ after)
 asks-middle [] after l = refl
-asks-middle (b ∷ before) after l = let more = asks-middle before after l in omega arith
+asks-middle (b ∷ before) after l = omega (arith, asks-middle before after l)
 
 asks-ordered : (order lines : List Call) → IsOrderOf lines order → asks_in order ≡ asks_in lines
 asks-ordered [] lines is = ap asks_in (sym is)
-asks-ordered (l ∷ order) lines (before, after, parts, passes, more) =
-    ap (λ n. asks_line l + n) (asks-ordered order (before ++ after) more)
-    ∙ sym (asks-middle before after l) ∙ ap asks_in (sym parts)
+asks-ordered (l ∷ order) lines (before, after, parts, passes, more) = cc (asks-ordered order (before ++ after) more, asks-middle before after l, parts)
 
 pub reserves-ordered : (order lines : List Call) → IsOrderOf lines order → AllByRecursion IsReserve lines
     → AllByRecursion IsReserve order
 reserves-ordered [] lines is all = tt
-reserves-ordered (l ∷ order) lines (before, after, parts, passes, more) all =
-    let here = subst (AllByRecursion IsReserve) parts all in (
-      all_at IsReserve before after l here,
-      reserves-ordered order (before ++ after) more (all_without IsReserve before after l here),
-    )
+reserves-ordered (l ∷ order) lines (before, after, parts, passes, more) all = let here = rw parts at all in (all_at IsReserve before after l here, reserves-ordered order (before ++ after) more (all_without IsReserve before after l here))
 
 asked-reserves : (order : List Call) (s : Allocator) → AllByRecursion IsReserve order
     → (after_lines s order).asked ≡ s.asked + asks_in order
 asked-reserves [] s all = omega arith
-asked-reserves (line.Reserve r ∷ order) s all =
-    let here = asked-after_take s r.requested in
-    let more = asked-reserves order (after_line s (line.Reserve r)) all.1 in
-    omega arith
-asked-reserves (line.Alloc told ∷ order) s all = absurd all.0
-asked-reserves (line.Free h told ∷ order) s all = absurd all.0
-asked-reserves (line.Flush told ∷ order) s all = absurd all.0
-asked-reserves (line.State h told ∷ order) s all = absurd all.0
-asked-reserves (line.Len told ∷ order) s all = absurd all.0
+asked-reserves (line.Reserve r ∷ order) s all = omega (arith, asked-after_take s r.requested, asked-reserves order (after_line s (line.Reserve r)) all.1)
+asked-reserves (l ∷ order) s all = absurd all.0
 
 -- the state after a run has asked for what the run requests
 pub asked-settled : (c : Checked) (at : Allocator) → IsSettled c at → at.asked
     ≡ c.allocator.asked + requested_in c.run
-asked-settled c at settled =
-    ap (λ (s : Allocator). s.asked) settled.after_is
-    ∙ asked-reserves settled.order c.allocator
-    (reserves-ordered settled.order (reserve_lines c.run) settled.is_order (all_reserve c.run))
-    ∙ ap (λ n. c.allocator.asked + n)
-    (asks-ordered settled.order (reserve_lines c.run) settled.is_order ∙ asks-run c.run)
+asked-settled c at settled = cc (settled.after_is, asked-reserves settled.order c.allocator (reserves-ordered settled.order (reserve_lines c.run) settled.is_order (all_reserve c.run)), asks-ordered settled.order (reserve_lines c.run) settled.is_order, asks-run c.run)
 
 -- ---- after one more line
 
@@ -110,10 +92,7 @@ module _ (old new : Checked) where
   kept : (at : Allocator) (l : Call) → IsSettled old at
       → new ≡ record { allocator = after_line at l; run = [] }
       → (after_line at l).asked ≡ at.asked → requested_by new ≡ requested_by old
-  kept at l settled is stays =
-      let one : requested_by new ≡ (after_line at l).asked + 0 = ap requested_by is in
-      let before = asked-settled old at settled in
-      omega arith
+  kept at l settled is stays = let one : requested_by new ≡ (after_line at l).asked + 0 = ap requested_by is in omega (arith, asked-settled)
 
   pub requested-alloc : (told : Option AllocReply) → Reaches old (line.Alloc told) new
       → requested_by new ≡ requested_by old
@@ -137,7 +116,6 @@ module _ (old new : Checked) where
 -- one line after the others
 pub ReachesAll-next : (old middle new : Checked) (lines : List Call) (l : Call)
     → ReachesAll old lines middle → Reaches middle l new → ReachesAll old (lines ++ l ∷ []) new
-ReachesAll-next old middle new [] l is next =
-    (new, subst (λ c. Reaches c l new) is next, refl)
+ReachesAll-next old middle new [] l is next = (new, rw (← is) next, refl)
 ReachesAll-next old middle new (x ∷ lines) l (second, first, more) next =
     (second, first, ReachesAll-next second middle new lines l more next)

@@ -1,6 +1,6 @@
 -- An event is read from its own text and from no other.
 use Rattle.std.proofs.Common.{rules, ◌≡◌, ℕ, ◌^◌, ◌<◌, Bool, true, false, not, cond, eqb, List}
-use Rattle.std.proofs.Common.{[], ◌∷◌, ◌++◌, All, Result, Ok, Err, refl, sym, ap, subst, ◌∙◌}
+use Rattle.std.proofs.Common.{[], ◌∷◌, ◌++◌, All, Result, Ok, refl, sym, ap, ◌∙◌}
 use Rattle.std.proofs.Common.{append_assoc, arith}
 use Rattle.std.proofs.lemmas.Grind.{common_steps}
 use Rattle.std.specs.Prelude.{codes}
@@ -47,9 +47,6 @@ two_ok : (words : List (List ℕ)) (pair : List ℕ × List ℕ) → two words �
     ∷ pair.1 ∷ []
 two_ok more pair h = search (rules, ok_is)
 
-abbrev text_fault : {A : Type 0} → TextFault → Result A TextFault
-text_fault f = Err f
-
 number_is_small : (word : List ℕ) (n : ℕ) → number_of word ≡ Ok n → n < 2 ^ 32
 number_is_small word n e = grind (arith, common_steps)
 
@@ -63,10 +60,10 @@ handle_ok : (word : List ℕ) (h : Handle) → handle_word word ≡ Ok h → IsH
 handle_ok word h e = handle_found word (Ok h) (sym (or_cause_ok cause.Handle (handle_of word) h e))
 
 number_again : (n : ℕ) → n < 2 ^ 32 → number_word (decimal n) ≡ Ok n
-number_again n small = ap (or_cause cause.Number) (number_of-decimal n small)
+number_again n small = simp number_of-decimal
 
 handle_again : (h : Handle) → IsHandle h → handle_word (handle_text h) ≡ Ok h
-handle_again h is = ap (or_cause cause.Handle) (handle_of_text h is)
+handle_again h is = simp handle_of_text
 
 -- ---- bytes that a text lacks
 
@@ -148,23 +145,7 @@ caller_found make keyword fits text word others e is h = search (rules, bind_ok,
 begin_found : (word : List ℕ) (others : List (List ℕ)) (e : Event) → word ≡ codes "begin"
     → begin_of others ≡ Ok e → IsRead (word ∷ others) e
 unfolding begin_of
-begin_found word others e is h =
-    let a = bind_ok (two others) (λ pair. number_word pair.0 >>= λ caller. number_word pair.1 >>=
-    λ n. Ok (Begin caller n)) e h in
-    let b = bind_ok (number_word a.0.0) (λ caller. number_word a.0.1 >>= λ n. Ok (Begin caller n)) e
-    a.2 in
-    let c = bind_ok (number_word a.0.1) (λ n. Ok (Begin b.0 n)) e b.2 in
-    let p = number_ok a.0.0 b.0 b.1 in
-    let q = number_ok a.0.1 c.0 c.1 in
-    subst (λ (x : Event). IsRead (word ∷ others) x) (ok_is (Begin b.0 c.0) e c.2) (
-      (p.0, q.0),
-      ap (λ (ws : List (List ℕ)). joined (word ∷ ws)) (two_ok others a.0 a.1)
-          ∙ ap (λ (w : List ℕ). w ++ 32 ∷ (a.0.0 ++ 32 ∷ a.0.1)) is
-          ∙ ap (λ (w : List ℕ). codes "begin " ++ (w ++ 32 ∷ a.0.1)) p.1
-          ∙ ap (λ (w : List ℕ). codes "begin " ++ (decimal b.0 ++ 32 ∷ w)) q.1
-          ∙ ap (λ (w : List ℕ). codes "begin " ++ w)
-          (sym (append_assoc (decimal b.0) (codes " ") (decimal c.0))),
-    )
+begin_found word others e is h = let a = bind_ok (two others) (λ pair. number_word pair.0 >>= λ caller. number_word pair.1 >>= λ n. Ok (Begin caller n)) e h in let b = bind_ok (number_word a.0.0) (λ caller. number_word a.0.1 >>= λ n. Ok (Begin caller n)) e a.2 in let c = bind_ok (number_word a.0.1) (λ n. Ok (Begin b.0 n)) e b.2 in let p = number_ok a.0.0 b.0 b.1 in let q = number_ok a.0.1 c.0 c.1 in rw (← ok_is (Begin b.0 c.0) e c.2) ((p.0, q.0), ap (λ (ws : List (List ℕ)). joined (word ∷ ws)) (two_ok others a.0 a.1) ∙ ap (λ (w : List ℕ). w ++ 32 ∷ (a.0.0 ++ 32 ∷ a.0.1)) is ∙ ap (λ (w : List ℕ). codes "begin " ++ (w ++ 32 ∷ a.0.1)) p.1 ∙ ap (λ (w : List ℕ). codes "begin " ++ (decimal b.0 ++ 32 ∷ w)) q.1 ∙ ap (λ (w : List ℕ). codes "begin " ++ w) (sym (append_assoc (decimal b.0) (codes " ") (decimal c.0))))
 
 -- one test of the first word
 tested : (word : List ℕ) (others : List (List ℕ)) (e : Event) (keyword : List ℕ)
@@ -198,16 +179,7 @@ event_again (Free h) is = rw (
   handle_again h is,
 ) refl
 event_again Flush is = refl
-event_again (Begin caller n) is =
-    let words : words_of (event_text (Begin caller n)) ≡ codes "begin" ∷ decimal caller ∷ decimal n
-    ∷ [] =
-    ap (λ (bs : List ℕ). codes "begin" ∷ words_of bs) (append_assoc (decimal caller) (codes " ")
-    (decimal n))
-    ∙ ap (λ (ws : List (List ℕ)). codes "begin" ∷ ws) (split_at_lacking 32 (decimal caller)
-    (decimal n) refl (decimal_lacks 32 caller refl (omega (arith, is.0))))
-    ∙ ap (λ (ws : List (List ℕ)). codes "begin" ∷ decimal caller ∷ ws)
-    (split_lacking 32 (decimal n) (decimal_lacks 32 n refl (omega (arith, is.1)))) in
-    ap event_of words ∙ rw (number_again caller is.0, number_again n is.1) refl
+event_again (Begin caller n) is = let words : words_of (event_text (Begin caller n)) ≡ codes "begin" ∷ decimal caller ∷ decimal n ∷ [] = cc (append_assoc (decimal caller) (codes " ") (decimal n), split_at_lacking 32 (decimal caller) (decimal n) refl (decimal_lacks 32 caller refl (omega (arith, is.0))), split_lacking 32 (decimal n) (decimal_lacks 32 n refl (omega (arith, is.1)))) in ap event_of words ∙ rw (number_again caller is.0, number_again n is.1) refl
 event_again (Step caller) is =
     rw (
       split_lacking 32 (decimal caller) (decimal_lacks 32 caller refl (omega (arith, is))),

@@ -9,8 +9,7 @@ use Rattle.std.proofs.lemmas.Bool.{cases_Bool}
 use Rattle.std.proofs.lemmas.List.Folds.{flat_map-map}
 use Rattle.std.proofs.lemmas.List.Splits.{join_with_byte-slice_split}
 use Rattle.ent_replay.specs.declared.event.Event.{Event}
-use Rattle.ent_replay.specs.declared.event.Event.TheVariants.{Alloc, Free, Flush, Begin, Step}
-use Rattle.ent_replay.specs.declared.event.Event.TheVariants.{Answer}
+use Rattle.ent_replay.specs.declared.event.Event.TheVariants.{Alloc}
 use Rattle.ent_replay.specs.declared.read_fault.Cause.{Cause}
 use Rattle.ent_replay.specs.declared.read_fault.ReadFault.{ReadFault}
 use Rattle.ent_replay.specs.declared.read_fault.ReadFault.TheVariants.{Line}
@@ -22,9 +21,6 @@ use Rattle.ent_replay.proofs.ScheduleEvents.{event_again}
 use Rattle.ent_replay.proofs.ScheduleWords.{parts_nonempty, without_empty_end-cons}
 
 -- ---- lines of events
-
-abbrev read_events : List Event → Result (List Event) ReadFault
-read_events events = Ok events
 
 abbrev read_fault : ReadFault → Result (List Event) ReadFault
 read_fault fault = Err fault
@@ -63,40 +59,13 @@ record FaultAt (number : ℕ) (lines : List (List ℕ)) (fault : ReadFault) : Ty
 fault_after : (number : ℕ) (line : List ℕ) (event : Event) (lines : List (List ℕ))
     (fault : ReadFault) → event_of (words_of line) ≡ Ok event → FaultAt (number + 1) lines fault
     → FaultAt number (line ∷ lines) fault
-fault_after number line event lines fault named f =
-    let first = event_found (words_of line) event named in
-    let text : line ≡ event_text event = sym (join_with_byte-slice_split 32 line) ∙ first.1 in
-    let later : length f.before + (number + 1) ≡ length (event ∷ f.before) + number = omega arith in
-    record {
-      before = event ∷ f.before;
-      refused = f.refused;
-      following = f.following;
-      c = f.c;
-      parts = search rules;
-      numbered = f.numbered ∙ ap (λ (n : ℕ). Line n f.c) later;
-      fits = (first.0, f.fits);
-      why = f.why;
-    }
+fault_after number line event lines fault named f = let first = event_found (words_of line) event named in let text : line ≡ event_text event = sym (join_with_byte-slice_split 32 line) ∙ first.1 in let later : length f.before + (number + 1) ≡ length (event ∷ f.before) + number = omega arith in record { before = event ∷ f.before; refused = f.refused; following = f.following; c = f.c; parts = search rules; numbered = cc (f.numbered, later); fits = (first.0, f.fits); why = f.why }
 
 by_line : (number : ℕ) (line : List ℕ) (lines : List (List ℕ)) (fault : ReadFault)
     (r : Result Event Cause) (others : Result (List Event) ReadFault)
     → event_of (words_of line) ≡ r → (others ≡ Err fault → FaultAt (number + 1) lines fault)
     → goes_on number r others ≡ Err fault → FaultAt number (line ∷ lines) fault
-by_line number line lines fault (Err k) others named later e =
-    let is : read_fault (Line number k) ≡ read_fault fault = e in
-    let zero_more : number ≡ length {A = Event} [] + number = omega arith in
-    let is_line : Line number k ≡ fault = cc in
-    record {
-      before = [];
-      refused = line;
-      following = lines;
-      c = k;
-      parts = refl;
-      numbered = sym is_line
-          ∙ ap (λ (n : ℕ). Line n k) zero_more;
-      fits = tt;
-      why = named;
-    }
+by_line number line lines fault (Err k) others named later e = let is : read_fault (Line number k) ≡ read_fault fault = e in let zero_more : number ≡ length {A = Event} [] + number = omega arith in let is_line : Line number k ≡ fault = cc in record { before = []; refused = line; following = lines; c = k; parts = refl; numbered = cc (is_line, zero_more); fits = tt; why = named }
 by_line number line lines fault (Ok event) (Ok events) named later e = absurd cc
 by_line number line lines fault (Ok event) (Err other) named later e = fault_after number line event
     lines fault named (later e)
@@ -149,12 +118,7 @@ spells_from_lines text events e = search (rules, ended_events, text_ended)
 lines_of_schedule : (events : List Event) → AreEvents events → lines_of (schedule_text events)
     ≡ map event_text events
 lines_of_schedule [] fits = refl
-lines_of_schedule (event ∷ events) fits =
-    ap lines_of (append_assoc (event_text event) (10 ∷ []) (schedule_text events))
-    ∙ ap without_empty_end (split_at_lacking 10 (event_text event) (schedule_text events) refl
-    (event_lacks event fits.0))
-    ∙ without_empty_end-cons (event_text event) _ (parts_nonempty 10 (schedule_text events))
-    ∙ ap (λ (ls : List (List ℕ)). event_text event ∷ ls) (lines_of_schedule events fits.1)
+lines_of_schedule (event ∷ events) fits = cc (append_assoc (event_text event) (10 ∷ []) (schedule_text events), split_at_lacking 10 (event_text event) (schedule_text events) refl (event_lacks event fits.0), without_empty_end-cons (event_text event) _ (parts_nonempty 10 (schedule_text events)), lines_of_schedule events fits.1)
 
 abbrev is_end : ℕ → Bool
 is_end byte = eqb byte 10
@@ -186,23 +150,14 @@ without_empty_end-events : (events : List Event) → without_empty_end (map even
     ≡ map event_text events
 without_empty_end-events [] = refl
 without_empty_end-events (Alloc ∷ []) = last_line _ _
-without_empty_end-events (Free h ∷ []) = last_line _ _
-without_empty_end-events (Flush ∷ []) = last_line _ _
-without_empty_end-events (Begin caller n ∷ []) = last_line _ _
-without_empty_end-events (Step caller ∷ []) = last_line _ _
-without_empty_end-events (Answer caller ∷ []) = last_line _ _
+without_empty_end-events (event ∷ []) = last_line _ _
 without_empty_end-events (event ∷ next ∷ events) = search
     (rules, without_empty_end-events (next ∷ events))
 
 lines_from_spelling : (text : List ℕ) (events : List Event) → AreEvents events → Spells events text
     → lines_of text ≡ map event_text events
-lines_from_spelling text events fits (inl e) = ap lines_of e ∙ lines_of_schedule events fits
-lines_from_spelling text events fits (inr e) =
-    let parts : slice_split is_end text ≡ map event_text events =
-    sym (without_empty_end-ended (slice_split is_end text))
-    ∙ ap without_empty_end (sym (split_ended text)) ∙ ap lines_of e
-    ∙ lines_of_schedule events fits in
-    ap without_empty_end parts ∙ without_empty_end-events events
+lines_from_spelling text events fits (inl e) = simp (e, lines_of_schedule)
+lines_from_spelling text events fits (inr e) = let parts : slice_split is_end text ≡ map event_text events = cc (without_empty_end-ended (slice_split is_end text), split_ended text, e, lines_of_schedule events fits) in simp (parts, without_empty_end-events)
 
 -- ---- schedules
 
@@ -214,8 +169,7 @@ schedule_found text events e =
 
 pub schedule_again : (text : List ℕ) (events : List Event) → AreEvents events → Spells events text
     → schedule_of text ≡ Ok events
-schedule_again text events fits spelled = ap (events_of 1) (lines_from_spelling text events fits
-    spelled) ∙ events_again 1 events fits
+schedule_again text events fits spelled = cc (lines_from_spelling text events fits spelled, events_again 1 events fits)
 
 first_fault : (text : List ℕ) (fault : ReadFault) → FaultAt 1 (lines_of text) fault
     → ExplainsFault text fault

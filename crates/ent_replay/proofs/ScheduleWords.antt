@@ -1,7 +1,7 @@
 -- Lines and words: what stands before the first separator, and then the parts of what stands after
 -- it.
 use Rattle.std.proofs.Common.{rules, ◌≡◌, ◌≢◌, ℕ, ◌<◌, false, eqb, List, [], ◌∷◌, ◌++◌, length, All}
-use Rattle.std.proofs.Common.{Err, ap, ◌∙◌, arith}
+use Rattle.std.proofs.Common.{Err, arith}
 use Rattle.std.specs.List.{slice_split}
 use Rattle.std.proofs.lemmas.Bool.{eq-eqb, ne_eqb}
 use Rattle.std.proofs.lemmas.List.Splits.{slice_split_none, slice_split_at, length-slice_split}
@@ -44,8 +44,7 @@ lines_whole text long h = search (rules, parts_whole 10 text h, not_empty (lengt
 
 pub lines_first : (text line others : List ℕ) → text ≡ line ++ 10 ∷ others → IsWithout 10 line
     → lines_of text ≡ line ∷ lines_of others
-lines_first text line others e h = ap without_empty_end (parts_first 10 text line others e h)
-    ∙ without_empty_end-cons line _ (parts_nonempty 10 others)
+lines_first text line others e h = cc (parts_first 10 text line others e h, without_empty_end-cons line _ (parts_nonempty 10 others))
 
 -- ---- words
 

@@ -1,7 +1,6 @@
 -- The sorted run is lined up: all of it is placed, or no order of the run is answered so.
-use Rattle.std.proofs.Common.{◌≡◌, ◌≢◌, ℕ, ◌++◌, ◌≤◌, List, [], ◌∷◌, filter, sym, ap, subst, ◌∙◌}
+use Rattle.std.proofs.Common.{◌≡◌, ◌≢◌, ℕ, ◌++◌, ◌≤◌, List, [], ◌∷◌, filter, sym, ◌∙◌}
 use Rattle.std.proofs.lemmas.List.{append-nil}
-use Rattle.std.specs.List.{AllByRecursion}
 use Rattle.ent_alloc.specs.Sequential.{Allocator, available}
 use Rattle.ent_alloc.specs.Sound.{IsSound}
 use Rattle.ent_replay.specs.declared.trace.call.Call.{Call}
@@ -24,22 +23,7 @@ use Rattle.ent_replay.proofs.Stuck.{lineup-Shows}
 sorted-placed : (sorted run : List Placed) → IsRising sorted → TieAlike sorted run → AreSteady run
     → IsPlacedOrder run sorted
 sorted-placed [] run up alike steady = nothing_left run alike
-sorted-placed (h ∷ sorted) run up alike steady =
-    let s = split (tie h) h (filter (tie h) sorted) run (begins h sorted run alike) in
-    let low = least h sorted run up.0 alike in
-    let alike_here = subst (TieAlike (h ∷ sorted)) s.is alike in
-    let low_here = subst (AllByRecursion (λ (p : Placed). h.key ≤ p.key)) s.is low in
-    let steady_here = subst AreSteady s.is steady in (
-      s.before,
-      s.after,
-      s.is,
-      others_of h s.before (passes h s.before s.none
-          (all_left (λ (p : Placed). h.key ≤ p.key) s.before (h ∷ s.after) low_here)
-          (steady_before s.before s.after h steady_here)),
-      sorted-placed sorted (s.before ++ s.after) up.1
-          (alike_rest h sorted s.before s.after s.none alike_here)
-          (steady_without s.before s.after h steady_here),
-    )
+sorted-placed (h ∷ sorted) run up alike steady = let s = split (tie h) h (filter (tie h) sorted) run (begins h sorted run alike) in let low = least h sorted run up.0 alike in let alike_here = rw s.is at alike in let low_here = rw s.is at low in let steady_here = rw s.is at steady in (s.before, s.after, s.is, others_of h s.before (passes h s.before s.none (all_left (λ (p : Placed). h.key ≤ p.key) s.before (h ∷ s.after) low_here) (steady_before s.before s.after h steady_here)), sorted-placed sorted (s.before ++ s.after) up.1 (alike_rest h sorted s.before s.after s.none alike_here) (steady_without s.before s.after h steady_here))
 
 module _ (s : Allocator) (run sorted : List Placed) (l : Lineup) (sound : IsSound s)
     (keyed : AreKeyed (available s) (λ _. 0) run) (steady : AreSteady run) (up : IsRising sorted)
@@ -58,19 +42,7 @@ module _ (s : Allocator) (run sorted : List Placed) (l : Lineup) (sound : IsSoun
   pub all-settled : l.rest.items ≡ [] → (at : Allocator)
       → at ≡ after_lines s (lines_of l.placed.items)
       → IsSettled (record { allocator = s; run = reservations_of run }) at
-  all-settled none at at_is =
-      let whole : all_of l ≡ l.placed.items =
-      ap (λ (ps : List Placed). l.placed.items ++ ps) none ∙ append-nil l.placed.items in
-      let is_order = keeps-IsOrderOf l.placed.items run (subst (KeepsCallers run) whole kept) in
-      record {
-        order = lines_of l.placed.items;
-        is_order = is_order;
-        answered = lined.answered;
-        after_is = at_is;
-        only = λ other is all.
-            (best other is all).1 ∙ sym (best (lines_of l.placed.items) is_order lined.answered).1
-            ∙ sym at_is;
-      }
+  all-settled none at at_is = let whole : all_of l ≡ l.placed.items = simp (none, append-nil) in let is_order = keeps-IsOrderOf l.placed.items run (rw (← whole) kept) in record { order = lines_of l.placed.items; is_order = is_order; answered = lined.answered; after_is = at_is; only = λ other is all. (best other is all).1 ∙ sym (best (lines_of l.placed.items) is_order lined.answered).1 ∙ sym at_is }
 
   pub some-none : l.rest.items ≢ [] → (AreAnswered s (lines_of sorted) → l.rest.items ≡ [])
       → HasNoOrder (record { allocator = s; run = reservations_of run })

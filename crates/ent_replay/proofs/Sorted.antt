@@ -1,22 +1,24 @@
 -- A sorted run is in an order that its reservations may have come in: a stable sort by keys that don't
 -- fall along a caller keeps each caller's order.
 use Rattle.std.proofs.Common.{rules, ◌≡◌, ℕ, suc, ◌≤◌, Bool, true, false, not, ◌&&◌, cond, nat_lt}
-use Rattle.std.proofs.Common.{List, [], ◌∷◌, ◌++◌, filter, All, refl, sym, ap, subst, ◌∙◌, arith}
+use Rattle.std.proofs.Common.{List, [], ◌∷◌, ◌++◌, filter, All, refl, sym, ◌∙◌, arith}
 use Rattle.std.proofs.Common.{true≢false}
 use Rattle.std.proofs.lemmas.Grind.{common_steps}
 use Rattle.std.specs.List.{AllByRecursion}
 use Rattle.std.specs.List.Sorted.{ties, IsNonDecreasingBy}
 use Rattle.std.specs.Ordering.{nat_cmp, is_lt}
-use Rattle.std.specs.declared.cmp.Ordering.TheVariants.{Less, Equal, Greater}
 use Rattle.std.proofs.lemmas.Bool.{le-ltb}
-use Rattle.std.proofs.lemmas.List.Elements.{All-head, All-tail, All-cons, All-filter, filter-append}
+use Rattle.std.proofs.lemmas.List.Elements.{All-head, All-tail, All-cons, All-filter}
 use Rattle.std.proofs.lemmas.List.Elements.{All-from_recursion, recursion_from_All}
 use Rattle.ent_replay.specs.declared.trace.call.Call.{Call}
 use Rattle.ent_replay.specs.declared.trace.call.Call.TheVariants as line
 use Rattle.ent_replay.specs.declared.trace.placed.Placed.{Placed}
 use Rattle.ent_replay.specs.Trace.{MayPass}
 use Rattle.ent_replay.specs.Checker.{reservations_of, reserve_lines, ComesAfter, AreSteady}
-use Rattle.ent_replay.proofs.Lists.{all_at, all_without}
+use Rattle.ent_replay.proofs.Lists.{all_at, all_without, all_weaker, none_kept, kept_forward}
+use Rattle.ent_replay.proofs.Lists.{kept_rest}
+use Rattle.std.proofs.lemmas.Bool.{cases_Bool}
+use Rattle.std.proofs.Common.{inl, inr}
 
 abbrev pub lines : List Placed → List Call
 lines run = reserve_lines (reservations_of run)
@@ -28,13 +30,6 @@ key p = p.key
 
 abbrev pub tie : Placed → Placed → Bool
 tie = ties (λ x y. is_lt (nat_cmp (key x) (key y)))
-
-not_less : (b : Bool) → is_lt (cond b Equal Greater) ≡ false
-not_less b = search rules
-
-less_if : (a b : Bool) → is_lt (cond a Less (cond b Equal Greater)) ≡ a
-less_if true b = refl
-less_if false b = not_less b
 
 tie_is : (p q : Placed) → tie p q ≡ (not (nat_lt p.key q.key) && not (nat_lt q.key p.key))
 tie_is p q = search rules
@@ -75,12 +70,7 @@ module _ (Q : Placed → Type 0) where
   pub whole : (run : List Placed) → ((x : Placed) → All Q (filter (tie x) run)) → AllByRecursion Q
       run
   whole [] each = tt
-  whole (d ∷ run) each = (
-    All-head Q d (filter (tie d) run)
-        (subst (λ b. All Q (cond b (d ∷ filter (tie d) run) (filter (tie d) run)))
-        (tie_from d d refl) (each d)),
-    whole run (λ x. rest_of d x run (tie x d) (each x)),
-  )
+  whole (d ∷ run) each = (All-head Q d (filter (tie d) run) ((rw (tie_from d d refl) at (each d))), whole run (λ x. rest_of d x run (tie x d) (each x)))
 
 -- the second list has what ties with any one in the same order
 abbrev pub TieAlike : List Placed → List Placed → Type 0
@@ -89,10 +79,7 @@ TieAlike sorted run = (x : Placed) → filter (tie x) sorted ≡ filter (tie x) 
 pub least : (h : Placed) (sorted run : List Placed)
     → AllByRecursion (λ (p : Placed). h.key ≤ p.key) sorted → TieAlike (h ∷ sorted) run
     → AllByRecursion (λ (p : Placed). h.key ≤ p.key) run
-least h sorted run up alike =
-    let Q : Placed → Type 0 = λ (p : Placed). h.key ≤ p.key in
-    whole Q run (λ x. subst (All Q) (alike x) (All-filter (tie x) Q (h ∷ sorted)
-    (All-cons Q h sorted (omega arith) (All-from_recursion Q sorted up))))
+least h sorted run up alike = let Q : Placed → Type 0 = λ (p : Placed). h.key ≤ p.key in whole Q run (λ x. rw (← alike x) (All-filter (tie x) Q (h ∷ sorted) (All-cons Q h sorted (omega arith) (All-from_recursion Q sorted up))))
 
 -- ---- steady callers
 
@@ -129,34 +116,19 @@ lines_append (x ∷ xs) ys = search (rules, lines_append xs ys)
 
 none_tie : (x h : Placed) (before : List Placed) → x.key ≡ h.key
     → AllByRecursion (λ b. tie h b ≡ false) before → filter (tie x) before ≡ []
-none_tie x h [] same none = refl
-none_tie x h (b ∷ before) same none = go (none_tie x h before same none.1) (tie x b) refl
-  where
-    go : filter (tie x) before ≡ [] → (v : Bool) → tie x b ≡ v
-        → cond v (b ∷ filter (tie x) before) (filter (tie x) before) ≡ []
-    go rest true is =
-        let equal : x.key ≡ b.key = tie_key x b is in
-        absurd (true≢false (sym (tie_from h b (sym same ∙ equal)) ∙ none.0))
-    go rest false is = rest
+none_tie x h before same none =
+    none_kept (tie x) before (all_weaker (λ b. tie h b ≡ false) (λ b. tie x b ≡ false) (λ b apart.
+    elim (cases_Bool (tie x b)) [
+      | inl own ↦ absurd (true≢false (sym (tie_from h b (sym same ∙ tie_key x b own)) ∙ apart))
+      | inr other ↦ other
+    ]) before none)
 
 pub alike_rest : (h : Placed) (sorted before after : List Placed)
     → AllByRecursion (λ b. tie h b ≡ false) before → TieAlike (h ∷ sorted) (before ++ h ∷ after)
     → TieAlike sorted (before ++ after)
 alike_rest h sorted before after none alike x =
-    go (tie x h) refl (alike x ∙ filter-append (tie x) before (h ∷ after))
-    ∙ sym (filter-append (tie x) before after)
-  where
-    go : (v : Bool) → tie x h ≡ v
-        → cond v (h ∷ filter (tie x) sorted) (filter (tie x) sorted)
-        ≡ filter (tie x) before ++ cond v (h ∷ filter (tie x) after) (filter (tie x) after)
-        → filter (tie x) sorted ≡ filter (tie x) before ++ filter (tie x) after
-    go true is e =
-        let empty : filter (tie x) before ≡ [] = none_tie x h before (tie_key x h is) none in
-        let both : h ∷ filter (tie x) sorted ≡ h ∷ filter (tie x) after =
-        e ∙ ap (λ (ps : List Placed). ps ++ h ∷ filter (tie x) after) empty in
-        let same : filter (tie x) sorted ≡ filter (tie x) after = cc in
-        same ∙ ap (λ (ps : List Placed). ps ++ filter (tie x) after) (sym empty)
-    go false is e = e
+    kept_rest (tie x) sorted (before ++ after) h (alike x ∙ sym (kept_forward (tie x) before after h
+    (λ own. none_tie x h before (tie_key x h own) none)))
 
 pub begins : (h : Placed) (sorted run : List Placed) → TieAlike (h ∷ sorted) run
     → filter (tie h) run ≡ h ∷ filter (tie h) sorted

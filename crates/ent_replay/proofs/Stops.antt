@@ -14,9 +14,5 @@ module _ {X E : Type 0} where
       → OnOk r F → IfOk r P → IfOk r Q
   on_both it F P Q each f h = search rules
 
-  pub on_some : (r : Result X E) (P : X → Type 0) (Q : Type 0) → ((x : X) → P x → Q) → IfOk r P
-      → OnOk r Q
-  on_some it P Q each h = search rules
-
   pub on_err : (r : Result X E) (P Q : E → Type 0) → ((e : E) → P e → Q e) → IfErr r P → IfErr r Q
   on_err it P Q each h = search rules

@@ -11,7 +11,7 @@ use Rattle.std.specs.FinMap as finite
 use Rattle.ent_replay.specs.declared.trace.placed.Placed.{Placed}
 use Rattle.ent_replay.specs.Lineup.{IsFirstAt, is_of}
 use Rattle.ent_replay.proofs.Maps.{get-inserted, get-insert_other}
-use Rattle.ent_replay.proofs.Callers.{left_other}
+use Rattle.ent_replay.proofs.Callers.{other}
 
 one_up : (n : ℕ) → suc n ≡ n + 1
 one_up n = omega arith
@@ -23,24 +23,12 @@ AreSeen seen rest index = (q : ℕ) → finite.get seen q ≡ None → filter (i
 module _ (seen : finite.FinMap nat_cmp ℕ) (rest : List Placed) (index : ℕ) (p : Placed)
     (within : index < length rest) (at : p ≡ get_or rest index p) (h : AreSeen seen rest index) where
   more : take (index + 1) rest ≡ take index rest ++ p ∷ []
-  more = take_more rest index p within ∙ ap (λ x. take index rest ++ x ∷ []) (sym at)
+  more = cc (take_more rest index p within, at)
 
   others : (q : ℕ) → q ≢ p.reservation.caller → finite.get seen q ≡ None
       → filter (is_of q) (take (index + 1) rest) ≡ []
   others q apart is =
-      ap (filter (is_of q)) more ∙ filter-append (is_of q) (take index rest) (p ∷ [])
-      ∙ ap (λ (ps : List Placed). filter (is_of q) (take index rest) ++ ps)
-      (left_other p q [] (λ e. apart (sym e)))
-      ∙ append-nil (filter (is_of q) (take index rest)) ∙ h q is
-
-  pub AreSeen-again : (v : ℕ) → finite.get seen p.reservation.caller ≡ Some v
-      → AreSeen seen rest (index + 1)
-  AreSeen-again v found q is = elim (cases_eq q p.reservation.caller) [
-    | inl same ↦
-        let no : Some v ≡ None = sym found ∙ ap (finite.get seen) (sym same) ∙ is in
-        absurd cc
-    | inr apart ↦ others q apart is
-  ]
+      rw more (simp (filter-append, other p q (λ e. apart (sym e)), append-nil) (h q is))
 
   pub AreSeen-next : (key : ℕ) → AreSeen (finite.insert seen p.reservation.caller key) rest (index + 1)
   AreSeen-next key q is = elim (cases_eq q p.reservation.caller) [
@@ -53,17 +41,7 @@ module _ (seen : finite.FinMap nat_cmp ℕ) (rest : List Placed) (index : ℕ) (
   ]
 
   pub IsFirstAt-unseen : finite.get seen p.reservation.caller ≡ None → IsFirstAt rest index
-  IsFirstAt-unseen none = record {
-    before = take index rest;
-    named = p;
-    after = drop (index + 1) rest;
-    is = sym (take-append-drop index rest)
-        ∙ ap (λ (ps : List Placed). take index rest ++ ps)
-        (drop-cons rest index p within ∙ ap (λ n. get_or rest index p ∷ drop n rest) (one_up index)
-        ∙ ap (λ (x : Placed). x ∷ drop (index + 1) rest) (sym at));
-    index_is = let a = length-take index rest in omega arith;
-    first = h p.reservation.caller none;
-  }
+  IsFirstAt-unseen none = record { before = take index rest; named = p; after = drop (index + 1) rest; is = cc (take-append-drop index rest, drop-cons rest index p within, one_up index, at); index_is = omega (arith, length-take index rest); first = h p.reservation.caller none }
 
 pub IsFirstAt-head : (rest : List Placed) → rest ≢ [] → IsFirstAt rest 0
 IsFirstAt-head [] some = absurd (some refl)

@@ -1,12 +1,12 @@
 -- Tables with a place for each number: what the map of their values has, and how many there are.
-use Rattle.std.proofs.Common.{◌≡◌, ◌≢◌, refl, sym, ap, ◌∙◌, subst, inl, inr, ℕ, zero, suc, ◌+◌, ◌<◌, ◌≤◌}
+use Rattle.std.proofs.Common.{◌≡◌, refl, sym, ap, ◌∙◌, inl, inr, ℕ, zero, suc, ◌+◌, ◌<◌, ◌≤◌}
 use Rattle.std.proofs.Common.{cond, List, [], ◌∷◌, ◌++◌, length, get_or, set, take, replicate}
 use Rattle.std.proofs.Common.{Option, Some, None, IsSome, rules, arith}
 use Rattle.std.proofs.Math.ListN.{get_or-eq_default}
 use Rattle.std.proofs.lemmas.Bool.{cases_eq}
 use Rattle.std.proofs.lemmas.Grind.{get_or-set_at}
 use Rattle.std.proofs.lemmas.List.{get_or-set_other, take_all}
-use Rattle.std.proofs.lemmas.List.Sums.{sum_by-cons, sum_by-append}
+use Rattle.std.proofs.lemmas.List.Sums.{sum_by-cons}
 use Rattle.std.specs.Ordering.{nat_cmp, eq_by_cmp}
 use Rattle.std.specs.Cmp.{nat_cmp_total}
 use Rattle.std.specs.FinMap as finite
@@ -21,9 +21,7 @@ find_before : {X : Type 0} (n : ℕ) (places : List (Option X)) (q : ℕ) → q 
     → find nat_cmp q (numbered n places) ≡ None
 find_before n [] q lt = refl
 find_before n (None ∷ places) q lt = find_before (n + 1) places q (omega (arith, lt))
-find_before n (Some x ∷ places) q lt =
-    ap (λ b. cond b (Some x) (find nat_cmp q (numbered (n + 1) places)))
-    (apart q n (omega (arith, lt))) ∙ find_before (n + 1) places q (omega (arith, lt))
+find_before n (Some x ∷ places) q lt = cc (apart q n (omega (arith, lt)), find_before (n + 1) places q (omega (arith, lt)))
 
 find_numbered : {X : Type 0} (n : ℕ) (places : List (Option X)) (q k : ℕ) → k ≡ n + q
     → find nat_cmp k (numbered n places) ≡ get_or places q None
@@ -35,9 +33,7 @@ find_numbered n (Some x ∷ places) zero k is =
     ap (λ j. cond (eq_by_cmp nat_cmp j n) (Some x) (find nat_cmp j (numbered (n + 1) places)))
     (omega (arith, is)) ∙ ap (λ b. cond b (Some x) (find nat_cmp n (numbered (n + 1) places)))
     (itself n)
-find_numbered n (Some x ∷ places) (suc q) k is =
-    ap (λ b. cond b (Some x) (find nat_cmp k (numbered (n + 1) places)))
-    (apart k n (omega (arith, is))) ∙ find_numbered (n + 1) places q k (omega (arith, is))
+find_numbered n (Some x ∷ places) (suc q) k is = cc (apart k n (omega (arith, is)), find_numbered (n + 1) places q k (omega (arith, is)))
 
 pub get_by_place : {X : Type 0} (places : List (Option X)) (q : ℕ)
     → finite.get (by_place places) q ≡ get_or places q None
@@ -46,45 +42,21 @@ get_by_place places q = get-from_entries nat_cmp_total (numbered 0 places) q
 
 pub get_past : {X : Type 0} (places : List (Option X)) (q : ℕ) → length places ≤ q
     → finite.get (by_place places) q ≡ None
-get_past places q past = get_by_place places q ∙ get_or-eq_default places None past
+get_past places q past = simp (get_by_place, get_or-eq_default)
 
 -- ---- one place is written
 
 pub by_place-set : {X : Type 0} (places : List (Option X)) (k : ℕ) (v : X) → k < length places
     → by_place (set places k (Some v)) ≡ finite.insert (by_place places) k v
-by_place-set places k v lt =
-    maps_alike (by_place (set places k (Some v))) (finite.insert (by_place places) k v) (λ q.
-    get_by_place (set places k (Some v)) q
-    ∙ elim (cases_eq q k) [
-      | inl here ↦ get_or-set_at places k q (Some v) None here lt
-          ∙ sym (ap (finite.get (finite.insert (by_place places) k v)) here
-          ∙ get-inserted (by_place places) k v)
-      | inr other ↦ get_or-set_other places k q (Some v) None other
-          ∙ sym (get-insert_other (by_place places) k v q other ∙ get_by_place places q)
-    ])
+by_place-set places k v lt = maps_alike (by_place (set places k (Some v))) (finite.insert (by_place places) k v) (λ q. get_by_place (set places k (Some v)) q ∙ elim (cases_eq q k) [ | inl here ↦ simp (get_or-set_at, here, get-inserted) | inr other ↦ simp (get_or-set_other, get-insert_other, get_by_place) ])
 
 pub by_place-emptied : {X : Type 0} (places : List (Option X)) (k : ℕ) → k < length places
     → by_place (set places k None) ≡ finite.remove (by_place places) k
-by_place-emptied places k lt =
-    maps_alike (by_place (set places k None)) (finite.remove (by_place places) k) (λ q.
-    get_by_place (set places k None) q
-    ∙ elim (cases_eq q k) [
-      | inl here ↦ get_or-set_at places k q None None here lt
-          ∙ sym (ap (finite.get (finite.remove (by_place places) k)) here
-          ∙ get-removed (by_place places) k)
-      | inr other ↦ get_or-set_other places k q None None other
-          ∙ sym (get-remove_other (by_place places) k q other ∙ get_by_place places q)
-    ])
+by_place-emptied places k lt = maps_alike (by_place (set places k None)) (finite.remove (by_place places) k) (λ q. get_by_place (set places k None) q ∙ elim (cases_eq q k) [ | inl here ↦ simp (get_or-set_at, here, get-removed) | inr other ↦ simp (get_or-set_other, get-remove_other, get_by_place) ])
 
 by_place-absent : {X : Type 0} (places : List (Option X)) (k : ℕ)
     → finite.get (by_place places) k ≡ None → by_place places ≡ finite.remove (by_place places) k
-by_place-absent places k absent =
-    maps_alike (by_place places) (finite.remove (by_place places) k) (λ q. elim (cases_eq q k) [
-      | inl here ↦ ap (finite.get (by_place places)) here ∙ absent
-          ∙ sym (ap (finite.get (finite.remove (by_place places) k)) here
-          ∙ get-removed (by_place places) k)
-      | inr other ↦ sym (get-remove_other (by_place places) k q other)
-    ])
+by_place-absent places k absent = maps_alike (by_place places) (finite.remove (by_place places) k) (λ q. elim (cases_eq q k) [ | inl here ↦ simp (here, absent, get-removed) | inr other ↦ sym (get-remove_other (by_place places) k q other) ])
 
 pub by_place-past : {X : Type 0} (places : List (Option X)) (k : ℕ) → length places ≤ k
     → by_place places ≡ finite.remove (by_place places) k
@@ -110,28 +82,9 @@ by_place-padded places n = maps_alike (by_place (places ++ replicate n None)) (b
     get_by_place (places ++ replicate n None) q ∙ get_or-padded places n q
     ∙ sym (get_by_place places q))
 
-values_in_none : (X : Type 0) (n : ℕ) → values_in {X = X} (replicate n None) ≡ 0
-values_in_none X zero = refl
-values_in_none X (suc n) = values_in_none X n
-
-values_in-padded : {X : Type 0} (places : List (Option X)) (n : ℕ)
-    → values_in (places ++ replicate n None) ≡ values_in places
-values_in-padded {X = X} places n =
-    let none = values_in_none X n in
-    let both = sum_by-append one_if_some places (replicate n None) in
-    omega (arith, none, both)
-
 pub by_place-resized : {X : Type 0} (places : List (Option X)) (n m : ℕ) → length places ≤ n
     → by_place (take n places ++ replicate m None) ≡ by_place places
-by_place-resized places n m fits =
-    ap (λ kept. by_place (kept ++ replicate m None)) (take_all n places fits)
-    ∙ by_place-padded places m
-
-pub values_in-resized : {X : Type 0} (places : List (Option X)) (n m : ℕ) → length places ≤ n
-    → values_in (take n places ++ replicate m None) ≡ values_in places
-values_in-resized places n m fits =
-    ap (λ kept. values_in (kept ++ replicate m None)) (take_all n places fits)
-    ∙ values_in-padded places m
+by_place-resized places n m fits = simp (take_all, by_place-padded)
 
 -- ---- how many there are
 
@@ -191,4 +144,4 @@ in_list (place ∷ places) (suc k) is = omega (arith, in_list places k is)
 -- a caller that has a value has a place
 pub in_table : {X : Type 0} (places : List (Option X)) (k : ℕ)
     → IsSome (finite.get (by_place places) k) → k < length places
-in_table places k is = in_list places k (subst IsSome (get_by_place places k) is)
+in_table places k is = in_list places k (rw (← get_by_place places k) is)

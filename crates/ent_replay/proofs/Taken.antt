@@ -1,6 +1,6 @@
 -- What a checker takes, one call after the other.
 use Rattle.std.proofs.Common.{◌≡◌, ℕ, ◌+◌, ◌<◌, ◌≤◌, List, [], ◌∷◌, ◌++◌, map, length, get_or, set}
-use Rattle.std.proofs.Common.{take, drop, refl, sym, ap, subst, ◌∙◌, arith, drop-cons}
+use Rattle.std.proofs.Common.{take, drop, refl, ap, ◌∙◌, arith, drop-cons}
 use Rattle.std.specs.Prelude.{suc, reverse}
 use Rattle.std.proofs.Math.Numerals.{add-one}
 use Rattle.std.proofs.lemmas.List.{append-nil, drop-set-lt, drop_all, reverse-append}
@@ -15,8 +15,7 @@ use Rattle.ent_replay.specs.Recording.{Takes, TakesAll, lines_in, lines_in_all}
 
 pub TakesAll-append : (first second : List Call) (old middle new : Checker)
     → TakesAll old first middle → TakesAll middle second new → TakesAll old (first ++ second) new
-TakesAll-append [] second old middle new same more =
-    subst (λ (c : Checker). TakesAll c second new) same more
+TakesAll-append [] second old middle new same more = rw (← same) more
 TakesAll-append (l ∷ first) second old middle new (next, takes, others) more =
     (next, takes, TakesAll-append first second next middle new others more)
 
@@ -44,17 +43,13 @@ reverse-push rs r = reverse-append rs (r ∷ [])
 
 pub Leads-reversed : (c : Checker) (rs turned : List Reservation) → turned ≡ reverse rs
     → Leads c (reserve_lines rs) c (reserve_lines (reverse turned))
-Leads-reversed c rs turned is =
-    subst (λ (x : List Reservation). Leads c (reserve_lines rs) c (reserve_lines x))
-    (sym (ap reverse is ∙ reverse-reverse rs)) (λ final takes. takes)
+Leads-reversed c rs turned is = rw (ap reverse is ∙ reverse-reverse rs) (λ final takes. takes)
 
 pub Leads-popped : (old now next : Checker) (all : List Call) (before after : List Reservation)
     (r : Reservation) → before ≡ after ++ r ∷ []
     → Leads old all now (reserve_lines (reverse before)) → Takes now (line.Reserve r) next
     → Leads old all next (reserve_lines (reverse after))
-Leads-popped old now next all before after r is leads takes final more =
-    leads final (subst (λ (x : List Reservation). TakesAll now (reserve_lines x) final)
-    (sym (ap reverse is ∙ reverse-push after r)) (next, takes, more))
+Leads-popped old now next all before after r is leads takes final more = leads final (rw (ap reverse is ∙ reverse-push after r) (next, takes, more))
 
 -- ---- logs
 
@@ -62,26 +57,15 @@ pub Leads-joined : (old now next : Checker) (all : List Call) (logs : List Log) 
     (log changed : Log) → i < length logs → log ≡ get_or logs i log
     → Leads old all now (lines_in_all (drop i logs)) → TakesAll now (lines_in log) next
     → Leads old all next (lines_in_all (drop (i + 1) (set logs i changed)))
-Leads-joined old now next all logs i log changed within here leads takes final more =
-    let later : drop (i + 1) (set logs i changed) ≡ drop (suc i) logs =
-    drop-set-lt (i + 1) logs i changed (omega arith) ∙ ap (λ n. drop n logs) (add-one i) in
-    let front : drop i logs ≡ log ∷ drop (suc i) logs = drop-cons logs i log within
-    ∙ ap (λ (x : Log). x ∷ drop (suc i) logs) (sym here) in
-    leads final (subst (λ (x : List Log). TakesAll now (lines_in_all x) final) (sym front)
-    (TakesAll-append (lines_in log) (lines_in_all (drop (suc i) logs)) now next final takes
-    (subst (λ (x : List Log). TakesAll next (lines_in_all x) final) later more)))
+Leads-joined old now next all logs i log changed within here leads takes final more = let later : drop (i + 1) (set logs i changed) ≡ drop (suc i) logs = cc (drop-set-lt (i + 1) logs i changed (omega arith), add-one i) in let front : drop i logs ≡ log ∷ drop (suc i) logs = cc (drop-cons logs i log within, here) in leads final (rw front (TakesAll-append (lines_in log) (lines_in_all (drop (suc i) logs)) now next final takes (rw (← later) more)))
 
 pub new_logs-next : (n : ℕ) (logs : List Log) → logs ≡ new_logs n
     → logs ++ record { caller = n; reservations = [] } ∷ [] ≡ new_logs (n + 1)
-new_logs-next n logs is =
-    ap (λ (x : List Log). x ++ record { caller = n; reservations = [] } ∷ []) is
-    ∙ sym (ap new_logs (add-one n))
+new_logs-next n logs is = cc (is, add-one n)
 
 pub Leads-end : (old now : Checker) (all : List Call) (logs : List Log) (i : ℕ) → length logs ≤ i
     → Leads old all now (lines_in_all (drop i logs)) → TakesAll old all now
-Leads-end old now all logs i over leads =
-    Leads-all old now all (subst (λ (x : List Log). Leads old all now (lines_in_all x))
-    (drop_all i logs over) leads)
+Leads-end old now all logs i over leads = Leads-all old now all ((rw (drop_all i logs over) at leads))
 
 pub emptied-end : (logs now : List Log) (i : ℕ) → length logs ≤ i
     → now ≡ map emptied (take i logs) ++ drop i logs → now ≡ map emptied logs

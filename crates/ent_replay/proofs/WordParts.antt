@@ -1,6 +1,6 @@
 -- Words: what stands before a comment, blanks that part words, and the front of a text's words.
 use Rattle.std.proofs.Common.{rules, ◌≡◌, ◌≢◌, ℕ, ◌<◌, Bool, true, false, not, eqb, List, []}
-use Rattle.std.proofs.Common.{◌∷◌, ◌++◌, length, take, All, refl, ap, ◌∙◌, arith, suc}
+use Rattle.std.proofs.Common.{◌∷◌, ◌++◌, length, take, All, refl, ◌∙◌, arith, suc}
 use Rattle.std.proofs.lemmas.Grind.{common_steps}
 use Rattle.std.specs.List.{before_first, filter}
 use Rattle.std.proofs.lemmas.Bool.{ne_eqb}
@@ -24,16 +24,12 @@ cut p x xs fails = search (rules)
 pub before_first_at : (p : ℕ → Bool) (xs : List ℕ) (y : ℕ) (ys : List ℕ)
     → All (λ x. p x ≡ false) xs → p y ≡ true → before_first p (xs ++ y ∷ ys) ≡ xs
 before_first_at p [] y ys none passes = search rules
-before_first_at p (x ∷ xs) y ys none passes =
-    cut p x (xs ++ y ∷ ys) (first_of (λ x. p x ≡ false) x xs none) ∙ ap (λ (zs : List ℕ). x ∷ zs)
-    (before_first_at p xs y ys (rest_of (λ x. p x ≡ false) x xs none) passes)
+before_first_at p (x ∷ xs) y ys none passes = cc (cut p x (xs ++ y ∷ ys) (first_of (λ x. p x ≡ false) x xs none), before_first_at p xs y ys (rest_of (λ x. p x ≡ false) x xs none) passes)
 
 pub before_first_none : (p : ℕ → Bool) (xs : List ℕ) → All (λ x. p x ≡ false) xs
     → before_first p xs ≡ xs
 before_first_none p [] none = refl
-before_first_none p (x ∷ xs) none =
-    cut p x xs (first_of (λ x. p x ≡ false) x xs none)
-    ∙ ap (λ (zs : List ℕ). x ∷ zs) (before_first_none p xs (rest_of (λ x. p x ≡ false) x xs none))
+before_first_none p (x ∷ xs) none = cc (cut p x xs (first_of (λ x. p x ≡ false) x xs none), before_first_none p xs (rest_of (λ x. p x ≡ false) x xs none))
 
 fails_at : (y : ℕ) (xs : List ℕ) → All (λ x. x ≢ y) xs → All (λ x. eqb x y ≡ false) xs
 fails_at y xs none k d lt = ne_eqb _ y (none k d lt)
@@ -80,7 +76,7 @@ words_in-word word y ys all long passes = search (rules, slice_split_at, kept, w
 
 word_first : (word rest : List ℕ) → AreNoBlank word → AreBlank (take 1 rest)
     → 0 < length word → words_in (word ++ rest) ≡ word ∷ words_in rest
-word_first word [] all next long = ap words_in (append-nil word) ∙ words_in-last word all long
+word_first word [] all next long = simp (append-nil, words_in-last)
 word_first word (y ∷ ys) all next long = words_in-word word y ys all long (next 0 y (omega arith))
 
 -- a text that begins with no blank has a word at its front
