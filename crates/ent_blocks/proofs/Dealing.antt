@@ -9,7 +9,7 @@ use Rattle.std.proofs.lemmas.List.{drop_more, drop-drop}
 use Rattle.ent_handle.specs.Handle.{Handle}
 use Rattle.ent_alloc.specs.Sequential.{Allocator}
 use Rattle.ent_alloc.specs.Portions as portions
-use Rattle.ent_alloc.specs.Portions.{left_of, size_of, count_of, made_for, after_portions, AreUsed}
+use Rattle.ent_alloc.specs.Portions.{left_of, size_of, count_of, after_portions, AreUsed}
 use Rattle.ent_alloc.proofs.Portioned.{first_used, others_used, length-used, take_of_take}
 use Rattle.ent_blocks.specs.Blocks.{Block, used_of, rest_of, dealt, lesser, blocks_from, portion_of}
 use Rattle.ent_blocks.specs.Blocks.{portions_of, after_blocks, unused, AreLaid}

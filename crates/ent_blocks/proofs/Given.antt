@@ -1,7 +1,7 @@
 -- What was used of the blocks: no handle twice, none that was alive, and a flush brings to life just
 -- these.
 use Rattle.std.proofs.Common.{rules}
-use Rattle.std.proofs.Common.{◌≡◌, ◌≢◌, ◌⊎◌, ◌↔◌, inl, inr, ap, subst, ◌≤◌, List}
+use Rattle.std.proofs.Common.{◌≡◌, ◌≢◌, ◌⊎◌, ◌↔◌, inl, inr, ap, ◌≤◌, List}
 use Rattle.std.proofs.Common.{◌++◌, length, get_or, map, All, AllPairs, Contains}
 use Rattle.std.specs.List.{flat_map}
 use Rattle.ent_handle.specs.Handle.{Handle}

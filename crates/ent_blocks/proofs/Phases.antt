@@ -1,6 +1,6 @@
 -- What a phase says of a reserver's block, and of all blocks as they come back.
 use Rattle.std.proofs.Common.{rules}
-use Rattle.std.proofs.Common.{◌≡◌, sym, ap, ◌∙◌, subst, ℕ, ◌+◌, ◌^◌, ◌<◌, ◌≤◌}
+use Rattle.std.proofs.Common.{◌≡◌, sym, subst, ℕ, ◌+◌, ◌^◌, ◌<◌, ◌≤◌}
 use Rattle.std.proofs.Common.{List, length, map, arith}
 use Rattle.ent_alloc.specs.Sequential.{Allocator}
 use Rattle.ent_blocks.specs.Blocks.{Block, Blocks, dealt, unused, IsOf, AreLaid, AreDealt, accounted}

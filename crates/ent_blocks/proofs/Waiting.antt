@@ -1,8 +1,7 @@
 -- How many slots wait after a close: those that waited before, or no more than were dealt.
 use Rattle.std.proofs.Common.{rules}
 use Rattle.std.proofs.Common.{◌≡◌, ◌≢◌, ◌⊎◌, inl, inr, sym, ap, ◌∙◌, subst, ◌-◌, ◌≤◌, max}
-use Rattle.std.proofs.Common.{List, length, take, drop, map, arith, length-append, length-drop, length-take-le}
-use Rattle.std.specs.List.Sorted.{IsPermutation}
+use Rattle.std.proofs.Common.{List, length, take, map, arith, length-append, length-drop, length-take-le}
 use Rattle.std.proofs.lemmas.List.Sorted.{length_permutation}
 use Rattle.std.proofs.lemmas.Bool.{cases_eq}
 use Rattle.std.proofs.lemmas.Grind.{common_steps}

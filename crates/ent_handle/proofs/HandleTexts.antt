@@ -8,7 +8,6 @@ use Rattle.std.proofs.Common.{arith}
 use Rattle.std.specs.Fmt.{decimal}
 use Rattle.std.specs.List.{join_with_byte, slice_split, before_first, after_first, position_or_len}
 use Rattle.std.specs.Option.{ok_or}
-use Rattle.std.specs.Str.Parse.{digits_value}
 use Rattle.std.proofs.lemmas.Bool.{cases_Bool, cases_lt, false_from_ne_true, false≢true, cond-true}
 use Rattle.std.proofs.lemmas.Bool.{cond-false, eqb-true, eqb-false, ne_eqb, and_parts, and_from}
 use Rattle.std.proofs.lemmas.Bool.{and_left, and_right, lt-ltb, le-leb, ltb-true, leb-true}

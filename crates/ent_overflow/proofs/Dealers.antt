@@ -1,6 +1,6 @@
 -- The dealer's one reservation, and the reservers that come after it.
 use Rattle.std.proofs.Common.{rules, ◌≡◌, refl, sym, ap, ◌∙◌, subst, ℕ, zero, suc, ◌+◌, ◌^◌, ◌<◌}
-use Rattle.std.proofs.Common.{◌≤ℤ◌, List, [], ◌∷◌, ◌++◌, length, take, drop, get_or, arith, Contains, All, map}
+use Rattle.std.proofs.Common.{◌≤ℤ◌, List, [], ◌∷◌, ◌++◌, length, take, drop, get_or, arith, Contains, All}
 use Rattle.std.specs.Prelude.{Result}
 use Rattle.std.proofs.lemmas.List.{drop_more, get_or_default, map-append, take_more}
 use Rattle.std.proofs.lemmas.List.Elements.{All-nil, All-head, All-tail}
@@ -12,7 +12,7 @@ use Rattle.ent_alloc.specs.Sound.{IsSound}
 use Rattle.ent_alloc.specs.declared.refused.Refused.{Refused}
 use Rattle.ent_blocks.specs.Blocks.{Block, dealt, unused, blocks_from, AreLaid, AreDealt}
 use Rattle.ent_shared.specs.declared.record.RecordEntry.{RecordEntry}
-use Rattle.ent_shared.specs.declared.record.RecordEntry.TheVariants.{Own, Met}
+use Rattle.ent_shared.specs.declared.record.RecordEntry.TheVariants.{Met}
 use Rattle.ent_shared.specs.declared.record.Reservation.{Reservation}
 use Rattle.ent_shared.specs.declared.record.Record.{Record}
 use Rattle.ent_shared.specs.Record.{reservation_at, after_reservation}
@@ -20,7 +20,7 @@ use Rattle.ent_shared.specs.Record.{own_reservations, known_reservations}
 use Rattle.ent_shared.specs.Moves.{after_meeting}
 use Rattle.ent_shared.specs.Phase.{Shared, Reserver, IsOf as IsReserverOf}
 use Rattle.ent_shared.specs.Replies.{Reserves}
-use Rattle.ent_shared.specs.Order.{as_call, own_of_all, by_falling_high}
+use Rattle.ent_shared.specs.Order.{own_of_all}
 use Rattle.ent_alloc.proofs.ListLaws.{All-left, All-right}
 use Rattle.ent_blocks.proofs.Openings.{none_used, are_dealt, length-from}
 use Rattle.ent_overflow.specs.Overflow.{Phase, Caller, IsOf, IsFresh, IsPhase, HasDealt, IsDealer}

@@ -1,6 +1,6 @@
 -- The end of a phase, in the numbers of its code.
 use Rattle.std.proofs.Common.{rules}
-use Rattle.std.proofs.Common.{◌≡◌, refl, sym, ap, ◌∙◌, subst, ℕ, zero, suc, ◌+◌, ◌≤◌}
+use Rattle.std.proofs.Common.{◌≡◌, refl, ap, ◌∙◌, subst, ℕ, zero, suc, ◌+◌, ◌≤◌}
 use Rattle.std.proofs.Common.{List, [], ◌∷◌, ◌++◌, map, All, AllPairs, Contains, ◌↔◌, arith}
 use Rattle.std.proofs.Common.{length, take, drop, sum, IsPermutation, length-append, inl, inr}
 use Rattle.std.proofs.lemmas.Grind.{common_steps}

@@ -1,18 +1,16 @@
 -- What a reservation leaves of a caller: from its block, and past it.
 use Rattle.std.proofs.Common.{rules}
 use Rattle.std.proofs.lemmas.Grind.{common_steps}
-use Rattle.std.proofs.Common.{◌≡◌, sym, ap, subst, ℕ, ◌+◌, ◌^◌, ◌<◌, ◌≤◌, ◌≤ℤ◌, List}
-use Rattle.std.proofs.Common.{length, All, arith, inl, inr}
+use Rattle.std.proofs.Common.{◌≡◌, ap, ℕ, ◌+◌, ◌^◌, ◌<◌, ◌≤◌, ◌≤ℤ◌, List}
+use Rattle.std.proofs.Common.{length, All, arith}
 use Rattle.std.specs.Prelude.{Result}
 use Rattle.std.proofs.lemmas.Bool.{cases_lt}
-use Rattle.std.proofs.lemmas.Int.{ints}
 use Rattle.std.proofs.lemmas.List.Elements.{All-push}
 use Rattle.ent_handle.specs.Handle.{Handle}
 use Rattle.ent_alloc.specs.declared.refused.Refused.{Refused}
 use Rattle.ent_blocks.specs.Blocks.{after_use}
 use Rattle.ent_blocks.proofs.Dealing.{of_phase}
 use Rattle.ent_shared.specs.declared.record.Reservation.{Reservation}
-use Rattle.ent_shared.specs.declared.record.Record.{Record}
 use Rattle.ent_shared.specs.Record.{own_reservations, reservation_at, after_reservation}
 use Rattle.ent_shared.specs.Phase.{Reserver, IsOf as IsReserverOf}
 use Rattle.ent_shared.specs.Replies.{Reserves}

@@ -1,9 +1,7 @@
 -- The dealer's reservation is the first one of all, and the others are a history of their own.
 use Rattle.std.proofs.Common.{rules}
-use Rattle.std.proofs.Common.{◌≡◌, ◌≢◌, refl, sym, ap, ◌∙◌, subst, ℕ, zero, suc, ◌≤ℤ◌, ◌<ℤ◌, ℤ}
-use Rattle.std.proofs.Common.{List, [], ◌∷◌, ◌++◌, map, All, AllPairs, arith}
-use Rattle.std.proofs.lemmas.Grind.{common_steps}
-use Rattle.std.proofs.lemmas.Int.{ints}
+use Rattle.std.proofs.Common.{◌≡◌, ◌≢◌, refl, ap, ◌∙◌, subst, ℕ, zero, suc, ◌≤ℤ◌, ◌<ℤ◌, ℤ}
+use Rattle.std.proofs.Common.{List, [], ◌∷◌, ◌++◌, map, All, AllPairs}
 use Rattle.std.proofs.lemmas.List.Elements.{All-nil, All-head, All-tail, All-append, All-weaker}
 use Rattle.ent_alloc.specs.Sequential.{Allocator, after_take}
 use Rattle.ent_alloc.specs.History as history
@@ -14,7 +12,7 @@ use Rattle.ent_shared.specs.declared.record.Reservation.{Reservation}
 use Rattle.ent_shared.specs.declared.record.Record.{Record}
 use Rattle.ent_shared.specs.Record.{own_reservations}
 use Rattle.ent_shared.specs.Order.{as_call, insert_reservation, by_falling_high, own_of_all}
-use Rattle.ent_shared.specs.Order.{reservations_of, history_of, reservations_by, Respects}
+use Rattle.ent_shared.specs.Order.{reservations_of, history_of, Respects}
 use Rattle.ent_shared.proofs.Sorting.{all_sorted}
 use Rattle.ent_overflow.specs.Overflow.{IsDealer, HasDealt, IsInOrder}
 

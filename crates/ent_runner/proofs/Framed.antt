@@ -1,7 +1,7 @@
 -- What a crew did whose jobs are the systems of a frame, and the history of its reservers, are a frame.
 use Rattle.std.proofs.lemmas.Grind.{common_steps}
 use Rattle.std.proofs.Common.{rules, ◌≡◌, ℕ, zero, suc, ◌+◌, ◌<◌, List, [], ◌∷◌, ◌++◌, length, map}
-use Rattle.std.proofs.Common.{get_or, refl, ap, ◌∙◌, arith, subst, Some, inl, inr, ◌⊎◌, ⊎_elim, ◌-◌}
+use Rattle.std.proofs.Common.{get_or, refl, ap, ◌∙◌, arith, subst, Some, inl, inr, ◌⊎◌, ◌-◌}
 use Rattle.std.proofs.Common.{Result}
 use Rattle.std.specs.Prelude.{slice_get}
 use Rattle.std.specs.List.{All, AllPairs, flat_map, range_with_len}

@@ -1,9 +1,9 @@
 -- Workers who have nothing to do, and a frame without systems.
 use Rattle.std.proofs.lemmas.Grind.{common_steps}
-use Rattle.std.proofs.Common.{rules, ◌≡◌, ℕ, zero, suc, ◌<◌, List, [], ◌∷◌, length, refl, sym, subst}
-use Rattle.std.proofs.Common.{ap, arith, Result, Ok, Err, Some}
+use Rattle.std.proofs.Common.{rules, ◌≡◌, ℕ, zero, suc, ◌<◌, List, [], ◌∷◌, length, refl}
+use Rattle.std.proofs.Common.{arith, Result, Ok, Err, Some}
 use Rattle.std.specs.Prelude.{replicate, slice_get, IsErrOf, IsOk}
-use Rattle.std.specs.List.{All, AllPairs, flat_map, range_with_len}
+use Rattle.std.specs.List.{All, AllPairs, flat_map}
 use Rattle.std.specs.List.Sorted.{IsPermutation}
 use Rattle.std.proofs.lemmas.List.{length-replicate}
 use Rattle.std.proofs.lemmas.List.Elements.{All-nil, All-replicate}
@@ -15,12 +15,12 @@ use Rattle.ent_handle.specs.Handle.{Handle}
 use Rattle.ent_queue.specs.Command.{Command}
 use Rattle.ent_world.specs.World.{World, IsWorld}
 use Rattle.ent_world.specs.OpenWorld.{View}
-use Rattle.ent_world.specs.Sync.{sync, IsStop, IfStopped, stops_in}
+use Rattle.ent_world.specs.Sync.{sync, IsStop, IfStopped}
 use Rattle.ent_world.specs.declared.fault.Fault.{Fault}
 use Rattle.ent_world.specs.declared.fault.SyncFault.{SyncFault}
 use Rattle.ent_world.specs.declared.fault.SyncFault.TheVariants as stop
 use Rattle.ent_world.specs.declared.fault.SyncReport.{SyncReport}
-use Rattle.ent_runner.specs.Frame.{IsFrame, IsWork, Ends, EndsInOrder}
+use Rattle.ent_runner.specs.Frame.{IsFrame, Ends}
 use Rattle.ent_runner.proofs.Lists.{each_of_all}
 
 abbrev pub no_jobs : List ℕ

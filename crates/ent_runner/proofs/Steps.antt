@@ -1,8 +1,8 @@
 -- Each step keeps the rule over the claim word and the records.
 use Rattle.std.proofs.lemmas.Grind.{common_steps}
 use Rattle.std.proofs.Common.{rules, ◌≡◌, ℕ, zero, suc, ◌+◌, ◌%◌, ◌^◌, ◌<◌, ◌≤◌, List, [], ◌∷◌}
-use Rattle.std.proofs.Common.{◌++◌, length, replicate, set, get_or, sym, refl, ap, ◌∙◌, arith}
-use Rattle.std.proofs.Common.{⊎_elim, lt-ltb, le-ltb}
+use Rattle.std.proofs.Common.{◌++◌, length, replicate, set, get_or, refl, ap, ◌∙◌, arith}
+use Rattle.std.proofs.Common.{lt-ltb, le-ltb}
 use Rattle.std.proofs.Math.Nat.{mod-eq_of_lt}
 use Rattle.std.specs.Prelude.{true, false, cond}
 use Rattle.std.specs.List.{sum_by, All, range_with_len}

@@ -6,7 +6,7 @@ use Rattle.std.proofs.lemmas.Fn.{FoldsTo-push}
 use Rattle.std.proofs.lemmas.List.{map-append}
 use Rattle.ent_runner.specs.declared.record.ClaimRecord.{ClaimRecord as Claimed}
 use Rattle.ent_runner.specs.declared.worker.Done.{Done}
-use Rattle.ent_runner.specs.Worker.{numbers_of, DoesKept, HaveEnded, HasStoppedAt}
+use Rattle.ent_runner.specs.Worker.{numbers_of, HaveEnded, HasStoppedAt}
 
 module _ {O : Type 0} where
   pub numbers_more : (done next : List (Done O)) (d : Done O) (claims more : List ℕ) → next

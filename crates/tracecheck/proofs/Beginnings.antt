@@ -11,7 +11,7 @@ use Rattle.clap.specs.Faults.{is_simple_and_free}
 use Rattle.clap.specs.Facts.{Entry}
 use Rattle.clap.specs.Kinds.{HasKind, Kinds, or_else}
 use Rattle.clap.specs.Matches.{first_value, matched_of}
-use Rattle.clap.specs.Simple.{App, HasMatchesOf, is_simple, matches_of}
+use Rattle.clap.specs.Simple.{App, HasMatchesOf, matches_of}
 use Rattle.clap.specs.Walk.{Row, Text, first_of, row_of, rows_of}
 use Rattle.clap.specs.Words.{fault_of, takes}
 use Rattle.clap.specs.declared.error.Error.{Error}

@@ -1,6 +1,6 @@
 -- The calls of lines that follow others, and what follows after them.
 use Rattle.std.proofs.Common.{rules, ◌≡◌, ℕ, ◌+◌, List, [], ◌∷◌, ◌++◌, length, Option, Some, None}
-use Rattle.std.proofs.Common.{Result, Ok, Err, sym, ap, ◌∙◌, arith}
+use Rattle.std.proofs.Common.{Result, Ok, Err, ap, ◌∙◌, arith}
 use Rattle.std.proofs.lemmas.Grind.{common_steps}
 use Rattle.ent_replay.specs.Checker.{AllFollow, Checked, Follows}
 use Rattle.ent_replay.specs.Text.{line_of, words_of}

@@ -1,13 +1,13 @@
 -- One more line is taken, or shows what is to be said of the trace.
 use Rattle.std.proofs.lemmas.Bool.{cases_lt}
-use Rattle.std.proofs.Common.{rules, ◌≡◌, ℕ, ◌+◌, ◌^◌, ◌<◌, ◌≤◌, inl, inr, List, [], ◌∷◌, ◌++◌, length, Option, Some, None}
+use Rattle.std.proofs.Common.{rules, ◌≡◌, ℕ, ◌+◌, ◌^◌, ◌<◌, ◌≤◌, List, [], ◌∷◌, ◌++◌, length, Option, Some, None}
 use Rattle.std.proofs.Common.{Result, Ok, Err, refl, sym, ap, subst, ◌∙◌, arith, length-append}
 use Rattle.std.proofs.lemmas.Grind.{common_steps}
 use Rattle.std.proofs.lemmas.List.{append-nil}
 use Rattle.std.proofs.lemmas.List.Sums.{sum_by_push}
 use Rattle.ent_alloc.specs.Sequential.{Allocator}
 use Rattle.ent_replay.specs.Checker.{AgreesWith, Checked, Follows, IsTooMany, NoneFollows, Reaches}
-use Rattle.ent_replay.specs.Checker.{AllFollow, ReachesAll, Shows, requested_in}
+use Rattle.ent_replay.specs.Checker.{AllFollow, Shows}
 use Rattle.tracecheck.specs.Beginning.{begun}
 use Rattle.ent_replay.proofs.Requested.{ReachesAll-next, requested_by, requested-reserve}
 use Rattle.ent_replay.proofs.Requested.{requested-flush, requested-alloc, requested-free}

@@ -1,10 +1,5 @@
 use Rattle.std.proofs.Common.{rules}
-use Rattle.std.proofs.Common.{◌≡◌, sym, ap, ◌∙◌, ◌+◌, arith, drop}
-use Rattle.ent_blocks.specs.Blocks.{Reserver, is_same, are_among, blocks_of}
 use Rattle.ent_blocks.proofs.Accounts.{among_same, among_other, among_none, one_left}
-use Rattle.ent_blocks.proofs.accounting.missing.Goals.{then-next-reservers+then-is_same}
-use Rattle.ent_blocks.proofs.accounting.missing.Goals.{then-next-reservers+else-is_same}
-use Rattle.ent_blocks.proofs.accounting.missing.Goals.{else-next-reservers}
 use Rattle.ent_blocks.proofs.accounting.missing.Goals as goal
 
 pub loop-part-preserved : goal.loop-part-preserved

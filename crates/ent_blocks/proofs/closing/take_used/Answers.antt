@@ -1,6 +1,4 @@
 use Rattle.std.proofs.Common.{rules}
-use Rattle.std.proofs.Common.{ap, ◌∙◌, arith}
-use Rattle.ent_alloc.specs.Portions.{size_of, after_portions}
 use Rattle.ent_blocks.proofs.Dealing.{closed_is, portions_within}
 use Rattle.ent_blocks.proofs.closing.take_used.Goals as goal
 

@@ -1,10 +1,8 @@
 use Rattle.std.proofs.Common.{rules}
-use Rattle.std.proofs.Common.{◌∙◌, ◌<◌, ◌^◌, sym, ap, subst, arith, List, [], ◌∷◌, length}
+use Rattle.std.proofs.Common.{◌∙◌, ◌<◌, ◌^◌, sym, ap, subst, List}
 use Rattle.std.proofs.lemmas.List.{length-append}
 use Rattle.ent_blocks.specs.Blocks.{Block, dealt}
 use Rattle.ent_blocks.proofs.Openings.{length-from}
-use Rattle.ent_shared.specs.Phase.{Reserver}
-use Rattle.ent_overflow.specs.Overflow.{IsPhase}
 use Rattle.ent_overflow.proofs.Dealers.{opened, all_fresh, others_fresh}
 use Rattle.ent_overflow.proofs.opening.open_with_overflow.Goals as goal
 

@@ -1,5 +1,4 @@
 use Rattle.std.proofs.Common.{rules}
-use Rattle.std.proofs.Common.{arith}
 use Rattle.ent_runner.proofs.ByNumber.{collected_on}
 use Rattle.ent_runner.proofs.collecting.collect.Goals as goal
 

@@ -1,11 +1,10 @@
-use Rattle.std.proofs.Common.{rules, ◌≡◌, ◌∙◌, ◌++◌, ap, length, take, drop}
+use Rattle.std.proofs.Common.{rules, ◌≡◌, ◌++◌, length, take, drop}
 use Rattle.std.proofs.lemmas.List.{length-map}
-use Rattle.ent_shared.specs.Phase.{Reserver, records_of}
+use Rattle.ent_shared.specs.Phase.{records_of}
 use Rattle.ent_shared.specs.Record.{opened_records}
 use Rattle.ent_world.specs.OpenWorld.{world_at_start}
 use Rattle.ent_runner.proofs.Alone.{ends_in_order, ends}
 use Rattle.ent_runner.proofs.Conducting.{written_back, none_weaker, some_weaker}
-use Rattle.ent_runner.proofs.Framed.{Issues}
 use Rattle.ent_runner.proofs.Lending.{done_seen, broken_off_seen}
 use Rattle.ent_runner.proofs.NoSystems.{ends_none}
 use Rattle.ent_runner.proofs.Lost.{ClosedAgain, closed_again, lost_again, broken_again, view_is}

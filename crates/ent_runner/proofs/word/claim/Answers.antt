@@ -1,4 +1,4 @@
-use Rattle.std.proofs.Common.{rules, ◌≡◌, [], ◌∷◌, refl}
+use Rattle.std.proofs.Common.{rules, ◌≡◌, [], ◌∷◌}
 use Rattle.ent_runner.specs.Record.{claims_of}
 use Rattle.ent_runner.specs.Rule.{AfterClaim}
 use Rattle.ent_runner.proofs.Steps.{claims_at}

@@ -1,11 +1,8 @@
 use Rattle.std.proofs.Common.{rules}
 use Rattle.std.proofs.Common.{arith}
 use Rattle.std.proofs.lemmas.Grind.{common_steps}
-use Rattle.std.proofs.Common.{◌≡◌, ◌∙◌, List, ℕ, true, ap, map, subst}
-use Rattle.std.specs.Prelude.{IfOk}
-use Rattle.clap.specs.Words.{App, takes}
+use Rattle.std.proofs.Common.{List, ℕ, map}
 use Rattle.cli.proofs.Faults.{only_memory}
-use Rattle.tracecheck.specs.CommandLine.{HasBeginning, is_taken}
 use Rattle.tracecheck.proofs.Beginnings.{both_not_taken, clap_fault, faultless, faultless_of_one}
 use Rattle.tracecheck.proofs.Beginnings.{faulty_of_both, is_taken-takes, rows_asked}
 use Rattle.tracecheck.proofs.OptionsGiven.{generations-given, slots-given}

@@ -1,7 +1,4 @@
 use Rattle.std.proofs.Common.{rules}
-use Rattle.std.proofs.Common.{◌∙◌, ap}
-use Rattle.clap.specs.Words.{found_of}
-use Rattle.tracecheck.specs.CommandLine.{is_of_words}
 use Rattle.tracecheck.proofs.Beginnings.{source-rows}
 use Rattle.tracecheck.proofs.command_line.is_written.Goals as goal
 

@@ -1,7 +1,5 @@
-use Rattle.std.proofs.Common.{rules, ◌≡◌, refl, sym, ap, ◌∙◌, subst, arith, List, length, map, true, IfOk}
+use Rattle.std.proofs.Common.{rules}
 use Rattle.std.proofs.lemmas.List.{length-map}
-use Rattle.ent_blocks.specs.Blocks.{Block, Phase, Reserver, unused, accounted, are_among, blocks_of}
-use Rattle.ent_blocks.specs.Blocks.{after_blocks}
 use Rattle.ent_blocks.proofs.Accounts.{all_accounted}
 use Rattle.ent_blocks.proofs.blocks.Blocks.close.Goals as goal
 

@@ -1,11 +1,9 @@
 use Rattle.std.proofs.Common.{rules}
-use Rattle.std.proofs.Common.{◌≡◌, ◌≢◌, ◌⊎◌, ◌↔◌, sym, ap, ◌∙◌, subst, arith, List}
-use Rattle.std.proofs.Common.{map, All, AllPairs, Contains, max, ◌≤◌}
-use Rattle.ent_handle.specs.Handle.{Handle}
-use Rattle.ent_alloc.specs.Sequential.{Allocator, after_flush, top}
-use Rattle.ent_alloc.specs.Sound.{IsLive}
+use Rattle.std.proofs.Common.{◌≡◌, ◌≢◌, sym, ap, ◌∙◌, subst, arith, List}
+use Rattle.std.proofs.Common.{AllPairs}
+use Rattle.ent_alloc.specs.Sequential.{Allocator}
 use Rattle.ent_alloc.specs.Portions.{AreUsed}
-use Rattle.ent_blocks.specs.Blocks.{Block, Phase, dealt, unused, AreLaid, portions_of, after_blocks}
+use Rattle.ent_blocks.specs.Blocks.{Block, Phase, dealt, portions_of, after_blocks}
 use Rattle.ent_blocks.specs.Blocks.{accounted, blocks_of}
 use Rattle.ent_blocks.proofs.Accounts.{unused_accounted}
 use Rattle.ent_blocks.proofs.Dealing.{dealt-unused}

@@ -1,6 +1,4 @@
 use Rattle.std.proofs.Common.{rules}
-use Rattle.std.proofs.Common.{◌≡◌, sym, subst, List, All}
-use Rattle.ent_blocks.specs.Blocks.{Block}
 use Rattle.ent_blocks.proofs.Openings.{none_used}
 use Rattle.ent_blocks.proofs.opening.Deal.numbered.Goals as goal
 

@@ -1,10 +1,8 @@
-use Rattle.std.proofs.Common.{rules, ◌≡◌, ◌⊎◌, false, sym, ◌∙◌, inl, inr}
+use Rattle.std.proofs.Common.{rules, ◌≡◌, ◌⊎◌, false, sym, ◌∙◌}
 use Rattle.ent_handle.specs.Text.{is_decimal}
 use Rattle.ent_handle.proofs.HandleTexts.{handle_of_whole, read_parts, shapeless_parts}
 use Rattle.ent_handle.proofs.HandleTexts.{handle_found, handle_only, handle_shape, handle_range}
 use Rattle.ent_handle.proofs.handle.Handle.read_text.Goals as goal
-use Rattle.ent_handle.proofs.handle.Handle.read_text.Goals.{then-not-is_decimal-via-then-not-is_decimal}
-use Rattle.ent_handle.proofs.handle.Handle.read_text.Goals.{then-not-is_decimal-via-else-not-is_decimal+then-not-is_decimal-2}
 
 pub returns-in_default : goal.returns-in_default
 returns-in_default c =

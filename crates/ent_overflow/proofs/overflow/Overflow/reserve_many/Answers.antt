@@ -1,8 +1,5 @@
 use Rattle.std.proofs.Common.{rules}
-use Rattle.std.proofs.Common.{ap, subst, sym, arith, length}
-use Rattle.ent_alloc.specs.Sequential.{Allocator}
-use Rattle.ent_blocks.specs.Blocks.{Block}
-use Rattle.ent_overflow.specs.Overflow.{Phase, Caller, IsOf}
+use Rattle.ent_overflow.specs.Overflow.{Caller}
 use Rattle.ent_overflow.proofs.Going.{here, lies_within, lies_few, used_on, gone_past}
 use Rattle.ent_overflow.proofs.overflow.Overflow.reserve_many.Goals as goal
 

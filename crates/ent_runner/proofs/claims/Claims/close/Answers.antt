@@ -1,4 +1,4 @@
-use Rattle.std.proofs.Common.{◌<◌, sym, ◌∙◌, rules}
+use Rattle.std.proofs.Common.{◌<◌, rules}
 use Rattle.ent_runner.specs.Rule.{AreClaimsClosed}
 use Rattle.ent_shared.proofs.HandedIn.{items_all}
 use Rattle.ent_runner.proofs.Steps.{goes_by_records}

@@ -1,8 +1,8 @@
 use Rattle.std.proofs.Common.{rules}
-use Rattle.std.proofs.Common.{◌≡◌, ◌∙◌, ap, length, arith, take, drop, ◌++◌, inl, All}
+use Rattle.std.proofs.Common.{◌≡◌, ap, length, take, drop, ◌++◌, All}
 use Rattle.std.proofs.lemmas.List.{length-replicate}
 use Rattle.ent_runner.specs.Crew.{Crew}
-use Rattle.ent_runner.specs.Worker.{HaveDoneFirst, HasClaimed, all_done}
+use Rattle.ent_runner.specs.Worker.{HaveDoneFirst, HasClaimed}
 use Rattle.ent_runner.proofs.Conducting.{written_back, outputs_back, all_claimed, numbers_below}
 use Rattle.ent_runner.proofs.Conducting.{claimers_own, first_closed, stay, are_broken_off, done_of}
 use Rattle.ent_runner.proofs.Conducting.{lost_of, some_jobs, any_stopped, none_stopped, claimers_are}
