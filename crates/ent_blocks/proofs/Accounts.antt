@@ -119,10 +119,6 @@ module _ (bs : List Block) (rs : List Reserver) (i k : ℕ) (b : Block) (here : 
         ≡ record b { used = b.size } ∷ accounted (drop (i + 1) bs) (drop k (blocks_of rs))
     accounted_other other = search (rules, more, next)
 
-    pub used_within : is_same b r.block ≡ true → r.block.used ≤ r.block.size
-        → r.block.used ≤ b.size
-    used_within same le = omega (arith, same_size b r.block same)
-
   module _ (past : length rs ≤ k) where
     none : drop k (blocks_of rs) ≡ []
     none = search (rules, drop_all, length-map)

@@ -51,12 +51,6 @@ module _ (s : Allocator) (sound : IsSound s) (flushed : s.asked ≡ 0) (position
       → (h : Handle) → reply ≡ Ok h → slice_get s.pool position ≡ Some h
   one_there reply below replies h is = let x = get_or s.pool position h in let rest : drop position s.pool ≡ x ∷ drop (position + 1) s.pool = drop_more s.pool position h below in let given : reply_from s.made (drop position s.pool) 1 ≡ Ok (listed s.made (take 1 (drop position s.pool))) = search (rules, le-leb) in let front : take 1 (drop position s.pool) ≡ x ∷ [] = ap (take 1) rest in let same = sym (ap listed_alone is) ∙ replies ∙ ap (λ pool. reply_from s.made pool 1) pool_there ∙ given ∙ ap (λ hs. Ok (listed s.made hs)) front ∙ ap Ok (single s.made x) in let here : x ≡ h = grind (arith, common_steps) in slice_get_read s.pool (length s.pool) position h refl below (sym here)
 
-  -- no refusal
-  pub no_refusal : (reply : Result Handle Space) → position < length s.pool
-      → listed_alone reply ≡ reply_from s.made (pool_at s high) 1
-      → (why : Space) → reply ≢ Err why
-  no_refusal reply below replies why is = search (rules, length-drop, le-leb, pool_there)
-
 -- ---- a block
 
 pub take_of_take : {X : Type 0} (n m : ℕ) (xs : List X) → n ≤ m → take n (take m xs) ≡ take n xs

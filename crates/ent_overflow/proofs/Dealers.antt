@@ -26,11 +26,6 @@ use Rattle.ent_blocks.proofs.Openings.{none_used, are_dealt, length-from}
 use Rattle.ent_overflow.specs.Overflow.{Phase, Caller, IsOf, IsFresh, IsPhase, HasDealt, IsDealer}
 use Rattle.ent_overflow.specs.Overflow.{past_records, past_history, blocks_of}
 
--- one block more
-pub dealt_more : (bs : List Block) (k : ℕ) (b : Block) → k < length bs
-    → dealt (drop k bs) ≡ (get_or bs k b).size + dealt (drop (k + 1) bs)
-dealt_more bs k b lt = ap dealt (drop_more bs k b lt)
-
 -- a reserver that has done nothing has its whole quota
 pub whole_quota : (s : Shared) (r : Reserver) → IsReserverOf s r → r.own.entries ≡ [] → r.own.left ≡ quota
 whole_quota s r of nothing = let adds = of.quota in search (rules, nothing)

@@ -20,12 +20,6 @@ use Rattle.ent_queue.specs.Drawing.{IsDrawn, IsDrawnBy, AreDrawnBy, Draws, left_
 use Rattle.ent_queue.specs.Drawing.{after_commands}
 use Rattle.ent_queue.specs.InBlocks.{Issuing, ExtendsInBlocks}
 
--- a reply with one handle lists the first one, and that is the first one
-pub one_listed : (made : ℕ) (rest : List Handle) (h : Handle)
-    → reply_from made rest 1 ≡ Ok (h ∷ []) → h ∷ [] ≡ listed made (take 1 rest)
-one_listed made [] h is = absurd (cc)
-one_listed made (x ∷ rest) h is = grind (arith, common_steps)
-
 single : (made : ℕ) (x : Handle) → listed made (x ∷ []) ≡ x ∷ []
 single made x = grind (arith, common_steps)
 
@@ -33,25 +27,6 @@ first_listed : (made : ℕ) (rest : List Handle) (h : Handle)
     → h ∷ [] ≡ listed made (take 1 rest) → h ∷ [] ≡ take 1 rest
 first_listed made [] h is = is
 first_listed made (x ∷ rest) h is = is ∙ single made x
-
--- a request that is served, and one that is not
-pub drawn_given : (phase : Phase) (before after : Reserver) (n : ℕ) (hs : List Handle)
-    → hs ≡ listed phase.phase.start.made (take n (rest_of phase.phase.start.pool before.block))
-    → length hs ≡ n → after ≡ record before { block = after_use before.block n }
-    → IsDrawn phase before after n (Ok hs)
-drawn_given phase before after n hs given number used =
-    record { given = given; number = number; used = used; refused = tt; unchanged = tt }
-
-pub drawn_refused : (phase : Phase) (before after : Reserver) (n left : ℕ)
-    → left ≡ left_of before.block → left < n → after ≡ before
-    → IsDrawn phase before after n (Err (Space n left))
-drawn_refused phase before after n left is less same = record {
-  given = tt;
-  number = tt;
-  used = tt;
-  refused = (ap (Space n) is, omega (arith, is));
-  unchanged = same;
-}
 
 -- of commands one by one
 pub draws_nothing : (s : Allocator) (b : Block) → Draws s b [] b

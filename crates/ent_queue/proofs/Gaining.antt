@@ -95,18 +95,6 @@ module _ (shared : Shared) (before after : Reserver) (n : ℕ) where
   ]
   refused_gains (Quota left) replied = search (rules, cases_lt, gains_none)
 
--- what one reservation of a single handle says
-pub replies_alone : (shared : Shared) (before after : Reserver) (result : Result Handle Refusal)
-    → (before.own.left ≡ 0 → (result ≡ Err (Quota 0)) × (after ≡ before))
-    → (0 < before.own.left → Reserves shared before after 1 (listed_alone result))
-    → IsReturned shared before after 1 (listed_alone result)
-replies_alone shared before after result quota gains = search (rules)
-
--- a refusal by the pool says how many handles were requested
-pub says_wanted : (shared : Shared) (before after : Reserver) (n : ℕ) (why : Refusal)
-    → IsReturned shared before after n (Err why) → SaysWanted n why
-says_wanted shared before after n it replied = grind (arith, common_steps)
-
 pub is_refusal : (n : ℕ) (why : Refusal) → SaysWanted n why → HasRange why → IsRefusal n why
 is_refusal n (Space wanted left) says range = (says, range)
 is_refusal n (Quota left) says range = range

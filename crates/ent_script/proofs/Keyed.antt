@@ -170,11 +170,6 @@ module _ (k l : List ℕ) (allowed : List (List ℕ)) (ms : Members) (f g : Opti
 
 -- ---- what its fields mean
 
-name-cut : (o : Option Data) → option_and_then as_name (option_map (cut 1) o)
-    ≡ option_and_then as_name o
-name-cut None = refl
-name-cut (Some d) = as_name-cut 1 d
-
 pub lent : (r : Option (Bor Part)) → option_map (λ (v : Bor Part). data_of v.now) r
     ≡ option_map data_of (option_copied r)
 lent None = refl
@@ -230,9 +225,6 @@ module _ (components bound : List (List ℕ)) (before : Option ℕ) (f : Fields)
     target_under (codes "on") f.on at.on,
   )
   of_fields-means kinds.Despawn = rw (target_under (codes "despawn") f.despawn at.despawn)
-
-  pub name_under : option_and_then as_name (option_map data_of f.binds) ≡ bound_name (object ms)
-  name_under = ap (option_and_then as_name) at.binds ∙ name-cut (get_member (codes "as") ms)
 
 -- what is no object is no operation
 pub no_operation : (components bound : List (List ℕ)) (before : Option ℕ) (d : Data)
