@@ -7,6 +7,7 @@ use Rattle.std.specs.Prelude.{nat_eq}
 use Rattle.std.specs.List.{starts_with}
 use Rattle.std.proofs.lemmas.Bool.{eq-eqb, ne_eqb, le-leb, lt-leb, leb-true, ltb-true, lt-ltb}
 use Rattle.std.proofs.lemmas.Bool.{cases_eq, cases_lt, and_from, and_parts, false≢true, le-ltb}
+use Rattle.std.proofs.Math.Bool.{or-true}
 use Rattle.std.proofs.lemmas.Bool.Decides.{Decides-eqb}
 use Rattle.std.proofs.lemmas.Slice.Eq.{starts_is}
 use Rattle.std.proofs.lemmas.List.{length-append, drop_at}
@@ -139,13 +140,9 @@ counts_false h over = search (rules, is_false, and_parts, leb-true)
 abbrev given : Header → ℕ
 given h = h.waiting + (h.slots - h.made)
 
-or_true_right : (b : Bool) → (b || true) ≡ true
-or_true_right true = refl
-or_true_right false = refl
-
 all_given : (asked reserved available : ℕ) → (asked ≤ available → reserved ≡ asked)
     → (ltb available asked || eqb reserved asked) ≡ true
-all_given asked reserved available all = search (rules, cases_lt, lt-ltb, eq-eqb, or_true_right)
+all_given asked reserved available all = search (rules, cases_lt, lt-ltb, eq-eqb, or-true)
 
 given_all : (asked reserved available : ℕ)
     → (ltb available asked || eqb reserved asked) ≡ true → asked ≤ available → reserved ≡ asked
