@@ -1,7 +1,7 @@
 -- What the tests of the first forty bytes answer.
 use Rattle.std.proofs.lemmas.Grind.{common_steps}
 use Rattle.std.proofs.Common.{◌≡◌, ◌≢◌, refl, sym, ap, ◌∙◌, ℕ, ◌+◌, ◌-◌, ◌*◌, ◌^◌, ◌<◌, ◌≤◌, ◌⊎◌}
-use Rattle.std.proofs.Common.{Bool, true, false, ◌&&◌, ◌||◌, eqb, leb, ltb, List, [], ◌∷◌, ◌++◌}
+use Rattle.std.proofs.Common.{Bool, true, false, ◌||◌, eqb, ltb, List, [], ◌∷◌, ◌++◌}
 use Rattle.std.proofs.Common.{length, drop, Option, None, Some, arith, rules}
 use Rattle.std.specs.Prelude.{nat_eq}
 use Rattle.std.specs.List.{starts_with}
@@ -34,12 +34,6 @@ is_false true not = absurd (not refl)
 is_false false not = refl
 
 -- ---- the letters, the length and the version
-
-abbrev magic_test : List ℕ → Test
-magic_test bytes = (starts_with nat_eq bytes magic, Magic)
-
-abbrev length_test : List ℕ → Test
-length_test bytes = (leb 40 (length bytes), Length 40)
 
 abbrev version_test : List ℕ → Test
 version_test bytes = (eqb (word_at bytes 8) version, Version (word_at bytes 8))

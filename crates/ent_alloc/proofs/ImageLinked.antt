@@ -12,7 +12,7 @@ use Rattle.ent_handle.specs.Handle.{Handle}
 use Rattle.ent_alloc.specs.Limits.{Limits, AreLimits}
 use Rattle.ent_alloc.specs.Roster.{Roster}
 use Rattle.ent_alloc.specs.Slots.{is_alive, row_of, record_at, handle_at, roster_of, AreLinked}
-use Rattle.ent_alloc.specs.Image.{occupied, slot, slot_bytes, slots_bytes, AreSlots, number_of}
+use Rattle.ent_alloc.specs.Image.{occupied, slot, slots_bytes, AreSlots, number_of}
 use Rattle.ent_alloc.specs.ImageRecords.{record_bytes, kept}
 use Rattle.ent_alloc.specs.declared.slot_record.SlotRecord.{SlotRecord}
 use Rattle.ent_alloc.specs.declared.slot_record.Occupancy.{Occupancy}

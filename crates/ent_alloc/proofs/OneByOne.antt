@@ -1,7 +1,7 @@
 -- Handles that come to life at once leave what single calls of `alloc` leave.
 use Rattle.std.proofs.Common.{rules, ◌≡◌, sym, ap, ◌∙◌, subst, refl, ℕ, suc, zero, ◌+◌, ◌-◌, ◌<◌, ◌≤◌}
 use Rattle.std.proofs.Common.{List, [], ◌∷◌, ◌++◌, length, take, drop, reverse, Some, slice_get, arith}
-use Rattle.std.proofs.Common.{◌⊎◌, inl, inr, slice_index_or, ◌||◌, Bool, true, false}
+use Rattle.std.proofs.Common.{◌⊎◌, inl, inr, slice_index_or, ◌||◌, Bool, false}
 use Rattle.std.specs.Ordering.{eq_by_cmp}
 use Rattle.std.specs.FinSet as sets
 use Rattle.std.proofs.lemmas.Grind.{common_steps}
