@@ -50,14 +50,7 @@ module _ (c : After-len-index) where
 
 -- all were read
 read_all : (c : After-deref) → length c.loop-slot.records.items ≡ c.args.made
-read_all c = omega (
-  arith,
-  c.loop-slot.invariant.made,
-  pieces c.args.bytes.now c.args.made c.requires.long,
-  c.as_chunks.ensures.front_len,
-  c.loop-slot-test.false,
-  c.loop-slot.auto.slot-index-end,
-)
+read_all c = omega (arith, pieces c.args.bytes.now c.args.made c.requires.long)
 
 pub returns-in_default-clause-refused : goal.returns-in_default-clause-refused
 returns-in_default-clause-refused c not_memory r are limits made waiting same =

@@ -88,8 +88,7 @@ returns-then-is_err-clause-not_alive c = search (rules, living, lives, false≢t
 pub pending-requires-clause-few : goal.pending-requires-clause-few
 pending-requires-clause-few c =
     let some = some_live (goal.at.pending-requires-clause-few c).Else-not-is_occupied_by in
-    let linked = c.self.invariant in
-    omega (arith, linked.each_once, linked.few, linked.limited)
+    omega arith
 
 pub invariant_of-self-2 : goal.invariant_of-self-2
 invariant_of-self-2 c =
