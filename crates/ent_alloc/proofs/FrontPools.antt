@@ -150,38 +150,36 @@ module _ (r : Roster) (hs : List Handle) (sound : IsSound (allocator_of r 0 0))
   as_many none = search (rules, fresh-none, append-nil)
 
   pub same_waits : IsPermutation (drop (length wide - length hs) wide) hs
-  same_waits = by_count (cases_lt (length r.pending) (length hs))
-    where
-      by_count : (length r.pending < length hs) ⊎ (length hs ≤ length r.pending)
-          → IsPermutation (drop (length wide - length hs) wide) hs
-      by_count (inl over) =
-          let none : length wide - length hs ≡ 0 = omega (arith, wide_long) in
-          let front : take (length hs) (idle r) ≡ reverse r.pending ++ fresh r.made more =
-          take_joined r.made (r.limits.slots - r.made) (reverse r.pending) below (length hs)
-          (omega (arith, length-idle r, length-reverse r.pending))
-          ∙ ap (λ k. take (length hs) (reverse r.pending) ++ fresh r.made (length hs - k))
-          (length-reverse r.pending) ∙ ap (◌++ fresh r.made more)
-          (take_all (length hs) (reverse r.pending) (omega (arith, length-reverse r.pending))) in
-          subst (λ k. IsPermutation (drop k wide) hs) (sym none)
-          (IsPermutation-trans wide (reverse r.pending ++ fresh r.made more) hs
-          (IsPermutation-append_left (fresh r.made more) r.pending (reverse r.pending)
-          (IsPermutation-reverse r.pending))
-          (subst (λ xs. IsPermutation xs hs) front same))
-      by_count (inr within) =
-          let none : more ≡ 0 = omega arith in
-          let whole = as_many none in
-          let last = drop (length r.pending - length hs) r.pending in
-          let front : take (length hs) (idle r) ≡ reverse last =
-          take_joined r.made (r.limits.slots - r.made) (reverse r.pending) below (length hs)
-          (omega (arith, length-idle r, length-reverse r.pending))
-          ∙ ap (λ k. take (length hs) (reverse r.pending) ++ fresh r.made k)
-          (omega (arith, length-reverse r.pending))
-          ∙ ap (take (length hs) (reverse r.pending) ++◌) (fresh-none r.made)
-          ∙ append-nil (take (length hs) (reverse r.pending))
-          ∙ take-reverse (length hs) r.pending in
-          subst (λ xs. IsPermutation (drop (length xs - length hs) xs) hs) (sym whole)
-          (IsPermutation-trans last (reverse last) hs (IsPermutation-reverse last)
-          (subst (λ xs. IsPermutation xs hs) front same))
+  same_waits = elim (cases_lt (length r.pending) (length hs)) [
+    | inl over ↦
+        let none : length wide - length hs ≡ 0 = omega (arith, wide_long) in
+        let front : take (length hs) (idle r) ≡ reverse r.pending ++ fresh r.made more =
+        take_joined r.made (r.limits.slots - r.made) (reverse r.pending) below (length hs)
+        (omega (arith, length-idle r, length-reverse r.pending))
+        ∙ ap (λ k. take (length hs) (reverse r.pending) ++ fresh r.made (length hs - k))
+        (length-reverse r.pending) ∙ ap (◌++ fresh r.made more)
+        (take_all (length hs) (reverse r.pending) (omega (arith, length-reverse r.pending))) in
+        subst (λ k. IsPermutation (drop k wide) hs) (sym none)
+        (IsPermutation-trans wide (reverse r.pending ++ fresh r.made more) hs
+        (IsPermutation-append_left (fresh r.made more) r.pending (reverse r.pending)
+        (IsPermutation-reverse r.pending))
+        (subst (λ xs. IsPermutation xs hs) front same))
+    | inr within ↦
+        let none : more ≡ 0 = omega arith in
+        let whole = as_many none in
+        let last = drop (length r.pending - length hs) r.pending in
+        let front : take (length hs) (idle r) ≡ reverse last =
+        take_joined r.made (r.limits.slots - r.made) (reverse r.pending) below (length hs)
+        (omega (arith, length-idle r, length-reverse r.pending))
+        ∙ ap (λ k. take (length hs) (reverse r.pending) ++ fresh r.made k)
+        (omega (arith, length-reverse r.pending))
+        ∙ ap (take (length hs) (reverse r.pending) ++◌) (fresh-none r.made)
+        ∙ append-nil (take (length hs) (reverse r.pending))
+        ∙ take-reverse (length hs) r.pending in
+        subst (λ xs. IsPermutation (drop (length xs - length hs) xs) hs) (sym whole)
+        (IsPermutation-trans last (reverse last) hs (IsPermutation-reverse last)
+        (subst (λ xs. IsPermutation xs hs) front same))
+  ]
 
   kept_is : take (length wide - length hs) wide ≡ take (length r.pending - length hs) r.pending
   kept_is = search (rules, cases_lt, wide_long, as_many)
@@ -189,12 +187,24 @@ module _ (r : Roster) (hs : List Handle) (sound : IsSound (allocator_of r 0 0))
   pub front_view : allocator_of (turned (grown r more) hs) 0 0 ≡ with_front (allocator_of r 0 0) hs
   front_view = let tops : top (allocator_of r 0 0) ≡ length r.pending = top_is r 0 0 (omega arith) sound in let kept = take (length r.pending - length hs) r.pending in let back : reverse (take (length wide - length hs) wide ++ reverse hs) ≡ hs ++ reverse kept = ap (λ xs. reverse (xs ++ reverse hs)) kept_is ∙ reverse-append kept (reverse hs) ∙ ap (◌++ reverse kept) (reverse-reverse hs) in let rest : drop (length hs) (idle r) ≡ reverse kept ++ fresh (r.made + more) (r.limits.slots - (r.made + more)) = search (rules, drop_joined, below, length-reverse, drop-reverse) in let pool : reverse (take (length wide - length hs) wide ++ reverse hs) ++ fresh (r.made + more) (r.limits.slots - (r.made + more)) ≡ hs ++ drop (length hs) (idle r) = ap (◌++ fresh (r.made + more) (r.limits.slots - (r.made + more))) back ∙ append_assoc hs (reverse kept) (fresh (r.made + more) (r.limits.slots - (r.made + more))) ∙ ap (hs ++◌) (sym rest) in let made : r.made + more ≡ r.made + (length hs - top (allocator_of r 0 0)) = ap (λ k. r.made + (length hs - k)) (sym tops) in λ i. record { limits = r.limits; live = r.live; pool = pool i; taken = []; aside = []; made = made i; asked = 0 }
 
--- ---- where the call begins and ends
+-- ---- where a call begins and ends that has the slots of the handles
 
-module _ (r : Roster) (requests : Requests) (s : Allocator) (hs : List Handle)
+module _ (r : Roster) (requests : Requests) (s : Allocator) (is : List ℕ)
     (reserved : AreReserved r requests.asked requests.served)
     (view : allocator_of r requests.asked requests.served ≡ s) (flushed : s.asked ≡ 0)
-    (few : length hs ≤ length s.pool) (same : IsPermutation (take (length hs) s.pool) hs) where
+    (few : length is ≤ length s.pool) (order : AreSlotsOf (take (length is) s.pool) is) where
+  abbrev hs : List Handle
+  hs = order.front
+
+  as_long : length is ≡ length hs
+  as_long = search (rules, length-map)
+
+  few_front : length hs ≤ length s.pool
+  few_front = omega (arith, as_long)
+
+  same_front : IsPermutation (take (length hs) s.pool) hs
+  same_front = search (rules, as_long)
+
   view_at_rest : allocator_of r 0 0 ≡ s
   view_at_rest = search (rules, rest_is)
 
@@ -208,57 +218,41 @@ module _ (r : Roster) (requests : Requests) (s : Allocator) (hs : List Handle)
   pool_at_rest = ap (λ (s : Allocator). s.pool) view_at_rest
 
   few_at_rest : length hs ≤ length (idle r)
-  few_at_rest = search (rules, pool_at_rest)
+  few_at_rest = subst (λ pool. length hs ≤ length pool) (sym pool_at_rest) few_front
 
   same_at_rest : IsPermutation (take (length hs) (idle r)) hs
-  same_at_rest = search (rules, pool_at_rest)
-
-  pub few_in : length hs ≤ length r.pending + (r.limits.slots - r.made)
-  few_in = omega (arith, length-idle r, few_at_rest)
-
-  pub room_in : r.made + (length hs - length r.pending) ≤ r.limits.slots
-  room_in = room_is r hs sound_at_rest few_at_rest same_at_rest
-
-  module _ (r' : Roster) (grown_is : r' ≡ grown r (length hs - length r.pending)) where
-    pub enough_in : length hs ≤ length r'.pending
-    enough_in = search (rules, enough_wait, sound_at_rest, few_at_rest, same_at_rest)
-
-    pub waits_in : IsPermutation (drop (length r'.pending - length hs) r'.pending) hs
-    waits_in = search (rules, same_waits, sound_at_rest, few_at_rest, same_at_rest)
-
-    pub front_stands : (r'' : Roster) → r'' ≡ turned r' hs → StandFor r'' requests (with_front s hs)
-    front_stands r'' is = search (rules, closed, none_is, front_view, sound_at_rest, few_at_rest, same_at_rest, view_at_rest, with_front-sound, sound_in)
-
--- ---- the same of the slots of these handles
-
-module _ (r : Roster) (requests : Requests) (s : Allocator) (is : List ℕ)
-    (reserved : AreReserved r requests.asked requests.served)
-    (view : allocator_of r requests.asked requests.served ≡ s) (flushed : s.asked ≡ 0)
-    (few : length is ≤ length s.pool) (order : AreSlotsOf (take (length is) s.pool) is) where
-  as_long : length is ≡ length order.front
-  as_long = search (rules, length-map)
-
-  few_front : length order.front ≤ length s.pool
-  few_front = omega (arith, as_long)
-
-  same_front : IsPermutation (take (length order.front) s.pool) order.front
-  same_front = search (rules, as_long)
+  same_at_rest = subst (λ pool. IsPermutation (take (length hs) pool) hs) (sym pool_at_rest) same_front
 
   pub few_of : length is ≤ length r.pending + (r.limits.slots - r.made)
-  few_of = omega (arith, as_long, few_in r requests s order.front reserved view flushed few_front same_front)
+  few_of = omega (arith, as_long, length-idle r, few_at_rest)
 
   pub room_of : r.made + (length is - length r.pending) ≤ r.limits.slots
-  room_of = omega (arith, as_long, room_in r requests s order.front reserved view flushed few_front same_front)
+  room_of = omega (arith, as_long, room_is r hs sound_at_rest few_at_rest same_at_rest)
 
   module _ (r' : Roster) (grown_is : r' ≡ grown r (length is - length r.pending)) where
-    grown_front : r' ≡ grown r (length order.front - length r.pending)
+    grown_front : r' ≡ grown r (length hs - length r.pending)
     grown_front = grown_is ∙ ap (λ n. grown r (n - length r.pending)) as_long
 
     pub enough_of : length is ≤ length r'.pending
-    enough_of = search (rules, as_long, enough_in, few_front, same_front, grown_front)
+    enough_of = subst (λ (q : Roster). length is ≤ length q.pending) (sym grown_front)
+        (omega (arith, as_long, enough_wait r hs sound_at_rest few_at_rest same_at_rest))
 
     pub waits_of : AreSlotsOf (drop (length r'.pending - length is) r'.pending) is
-    waits_of = search (rules, as_long, waits_in, few_front, same_front, grown_front)
+    waits_of = record {
+      front = hs;
+      same = subst (λ n. IsPermutation (drop (length r'.pending - n) r'.pending) hs) (sym as_long)
+          (subst (λ (q : Roster). IsPermutation (drop (length q.pending - length hs) q.pending) hs)
+          (sym grown_front) (same_waits r hs sound_at_rest few_at_rest same_at_rest));
+      slots = order.slots;
+    }
+
+    front_view_in : allocator_of (turned r' hs) 0 0 ≡ with_front s hs
+    front_view_in = ap (λ q. allocator_of (turned q hs) 0 0) grown_front
+        ∙ front_view r hs sound_at_rest few_at_rest same_at_rest
+        ∙ ap (λ s. with_front s hs) view_at_rest
+
+    front_stands : (r'' : Roster) → r'' ≡ turned r' hs → StandFor r'' requests (with_front s hs)
+    front_stands r'' is = search (rules, closed, none_is, front_view_in, with_front-sound, sound_in, few_front, same_front)
 
     pub stands_of : (r'' : Roster)
         → ((slots : AreSlotsOf (drop (length r'.pending - length is) r'.pending) is)
@@ -266,12 +260,9 @@ module _ (r : Roster) (requests : Requests) (s : Allocator) (is : List ℕ)
           pending = take (length r'.pending - length is) r'.pending ++ reverse slots.front;
         }) → StandFor r'' requests (with_front s order.front)
     unfolding waits_of
-    stands_of r'' each =
-        front_stands r requests s order.front reserved view flushed few_front same_front r' grown_front
-        r''
-        (each waits_of ∙ ap (λ n. record r' {
-          pending = take (length r'.pending - n) r'.pending ++ reverse order.front;
-        }) as_long)
+    stands_of r'' each = front_stands r'' (each waits_of ∙ ap (λ n. record r' {
+      pending = take (length r'.pending - n) r'.pending ++ reverse hs;
+    }) as_long)
 
 -- ---- the slot at a position
 
@@ -323,28 +314,26 @@ module _ (records : List SlotRecord) where
 -- some of a list from its other end
 pub turned_part : (xs ys : List ℕ) (from n : ℕ) → n ≤ length xs - from
     → reverse (take n (drop (length xs - from - n) xs)) ≡ take n (drop from (reverse xs ++ ys))
-turned_part xs ys from n few = by_from (cases_lt (length xs) from)
-  where
-    by_from : (length xs < from) ⊎ (from ≤ length xs)
-        → reverse (take n (drop (length xs - from - n) xs)) ≡ take n (drop from (reverse xs ++ ys))
-    by_from (inl past) =
-        let none : n ≡ 0 = omega (arith, few) in
-        ap (λ n. reverse (take n (drop (length xs - from - n) xs))) none
-        ∙ sym (ap (λ n. take n (drop from (reverse xs ++ ys))) none)
-    by_from (inr within) =
-        let end = length xs - from in
-        let zs = take end xs in
-        let long : length zs ≡ end = length-take-le end xs (omega arith) in
-        let sum : end ≡ (end - n) + n = omega (arith, few) in
-        let start : length zs - n ≡ end - n = omega (arith, long) in
-        sym (ap (take n) (drop-append-le from (reverse xs) ys (omega (arith, length-reverse xs)))
-        ∙ take-append-le n (drop from (reverse xs)) ys
-        (omega (arith, few, length-drop from (reverse xs), length-reverse xs))
-        ∙ ap (take n) (drop-reverse from xs)
-        ∙ take-reverse n zs
-        ∙ ap (λ k. reverse (drop k zs)) start
-        ∙ ap (λ k. reverse (drop (end - n) (take k xs))) sum
-        ∙ ap reverse (drop-take (end - n) n xs))
+turned_part xs ys from n few = elim (cases_lt (length xs) from) [
+  | inl past ↦
+      let none : n ≡ 0 = omega (arith, few) in
+      ap (λ n. reverse (take n (drop (length xs - from - n) xs))) none
+      ∙ sym (ap (λ n. take n (drop from (reverse xs ++ ys))) none)
+  | inr within ↦
+      let end = length xs - from in
+      let zs = take end xs in
+      let long : length zs ≡ end = length-take-le end xs (omega arith) in
+      let sum : end ≡ (end - n) + n = omega (arith, few) in
+      let start : length zs - n ≡ end - n = omega (arith, long) in
+      sym (ap (take n) (drop-append-le from (reverse xs) ys (omega (arith, length-reverse xs)))
+      ∙ take-append-le n (drop from (reverse xs)) ys
+      (omega (arith, few, length-drop from (reverse xs), length-reverse xs))
+      ∙ ap (take n) (drop-reverse from xs)
+      ∙ take-reverse n zs
+      ∙ ap (λ k. reverse (drop k zs)) start
+      ∙ ap (λ k. reverse (drop (end - n) (take k xs))) sum
+      ∙ ap reverse (drop-take (end - n) n xs))
+]
 
 pub waiting_long : (limits : Limits) (records : List SlotRecord) (pending : List ℕ) (r : Roster)
     → roster_of limits records pending ≡ r → length r.pending ≡ length pending

@@ -34,28 +34,25 @@ length-placed pending top [] = refl
 length-placed pending top (i ∷ is) =
     length-placed (set pending (top - 1) i) (top - 1) is ∙ length-set pending (top - 1) i
 
--- nothing changes from the top on
-pub placed-above : (pending : List ℕ) (top at : ℕ) (hs : List Handle) → length hs ≤ top → top ≤ at
+-- at any other position nothing changes
+pub placed-other : (pending : List ℕ) (top at : ℕ) (hs : List Handle)
+    → ((k : ℕ) → k < length hs → top - 1 - k ≢ at)
     → get_or (placed pending top (slots_of hs)) at 0 ≡ get_or pending at 0
-placed-above pending top at [] few above = refl
-placed-above pending top at (h ∷ hs) few above =
-    placed-above (set pending (top - 1) h.index) (top - 1) at hs (omega arith) (omega arith)
-    ∙ get_or-set_other pending (top - 1) at h.index 0 (omega arith)
-
--- nor below them
-pub placed-below : (pending : List ℕ) (top at : ℕ) (hs : List Handle) → length hs ≤ top → at < top
-    - length hs → get_or (placed pending top (slots_of hs)) at 0 ≡ get_or pending at 0
-placed-below pending top at [] few below = refl
-placed-below pending top at (h ∷ hs) few below =
-    placed-below (set pending (top - 1) h.index) (top - 1) at hs (omega arith) (omega arith)
-    ∙ get_or-set_other pending (top - 1) at h.index 0 (omega arith)
+placed-other pending top at [] outside = refl
+placed-other pending top at (h ∷ hs) outside =
+    placed-other (set pending (top - 1) h.index) (top - 1) at hs
+    (λ k lt e. outside (suc k) (omega arith) (omega arith))
+    ∙ get_or-set_other pending (top - 1) at h.index 0 (λ e. outside 0 (omega arith) (omega arith))
 
 pub placed-at : (pending : List ℕ) (top k : ℕ) (hs : List Handle) (d : Handle) → length hs ≤ top
     → top ≤ length pending → k < length hs → get_or (placed pending top (slots_of hs)) (top - 1 - k) 0
     ≡ (get_or hs k d).index
 placed-at pending top k [] d few within below = absurd (omega arith)
 placed-at pending top zero (h ∷ hs) d few within below =
-    search (rules, placed-above, get_or-set_same)
+    let at : top - 1 - 0 ≡ top - 1 = omega arith in
+    ap (λ n. get_or (placed pending top (slots_of (h ∷ hs))) n 0) at
+    ∙ placed-other (set pending (top - 1) h.index) (top - 1) (top - 1) hs (λ k lt e. omega arith)
+    ∙ get_or-set_same pending (top - 1) h.index 0 (omega arith)
 placed-at pending top (suc k) (h ∷ hs) d few within below =
     let next = placed-at (set pending (top - 1) h.index) (top - 1) k hs d (omega arith)
     (omega (arith, length-set pending (top - 1) h.index)) (omega arith) in
@@ -134,29 +131,20 @@ vacant-set : (records : List SlotRecord) (index at : ℕ) (w : SlotRecord) → I
     → IsVacant (record_at records at) → IsVacant (record_at (set records index w) at)
 vacant-set records index at w new old = grind (arith, common_steps)
 
-pub occupants-moved : (records : List SlotRecord) (top : ℕ) (hs : List Handle)
+-- what does not change where one vacant slot waits does not change where many do
+kept-moved : {T : Type 0} (f : List SlotRecord → T)
+    → ((records : List SlotRecord) (index : ℕ) (w : SlotRecord) → IsVacant w
+    → IsVacant (record_at records index) → f (set records index w) ≡ f records)
+    → (records : List SlotRecord) (top : ℕ) (hs : List Handle)
     → All (λ h. IsVacant (record_at records h.index)) hs
-    → occupants 0 (moved records top (slots_of hs)) ≡ occupants 0 records
-occupants-moved records top [] vacant = refl
-occupants-moved records top (h ∷ hs) vacant =
+    → f (moved records top (slots_of hs)) ≡ f records
+kept-moved f keeps records top [] vacant = refl
+kept-moved f keeps records top (h ∷ hs) vacant =
     let w = waiting_at (record_at records h.index).generation (top - 1) in
-    let here = vacant 0 h (omega arith) in
     let empty : IsVacant w = record { dead = refl; bare = refl } in
-    occupants-moved (set records h.index w) (top - 1) hs
+    kept-moved f keeps (set records h.index w) (top - 1) hs
     (λ k d lt. vacant-set records h.index (get_or hs k d).index w empty (vacant (suc k) d (omega arith)))
-    ∙ occupants-set 0 records h.index w refl here.dead
-
-pub rows-moved : (records : List SlotRecord) (top : ℕ) (hs : List Handle)
-    → All (λ h. IsVacant (record_at records h.index)) hs
-    → rows_from 0 (moved records top (slots_of hs)) ≡ rows_from 0 records
-rows-moved records top [] vacant = refl
-rows-moved records top (h ∷ hs) vacant =
-    let w = waiting_at (record_at records h.index).generation (top - 1) in
-    let here = vacant 0 h (omega arith) in
-    let empty : IsVacant w = record { dead = refl; bare = refl } in
-    rows-moved (set records h.index w) (top - 1) hs
-    (λ k d lt. vacant-set records h.index (get_or hs k d).index w empty (vacant (suc k) d (omega arith)))
-    ∙ rows_from-set 0 records h.index w refl here.bare
+    ∙ keeps records h.index w empty (vacant 0 h (omega arith))
 
 -- ---- links
 
@@ -165,16 +153,13 @@ among : (index : ℕ) (hs : List Handle)
     → ((k : ℕ) × (k < length hs) × ((d : Handle) → (get_or hs k d).index ≡ index))
     ⊎ All (λ h. h.index ≢ index) hs
 among index [] = inr (λ k d lt. absurd (omega arith))
-among index (h ∷ hs) = by_first (cases_eq h.index index) (among index hs)
-  where
-    by_first : (h.index ≡ index) ⊎ (h.index ≢ index)
-        → ((k : ℕ) × (k < length hs) × ((d : Handle) → (get_or hs k d).index ≡ index))
-        ⊎ All (λ h. h.index ≢ index) hs
-        → ((k : ℕ) × (k < length (h ∷ hs)) × ((d : Handle) → (get_or (h ∷ hs) k d).index ≡ index))
-        ⊎ All (λ h. h.index ≢ index) (h ∷ hs)
-    by_first (inl same) rest = inl (0, omega arith, λ d. same)
-    by_first (inr other) (inl found) = inl (suc found.0, omega (arith, found.1), found.2)
-    by_first (inr other) (inr none) = inr (All-cons (λ h. h.index ≢ index) h hs other none)
+among index (h ∷ hs) = elim (cases_eq h.index index) [
+  | inl same ↦ inl (0, omega arith, λ d. same)
+  | inr other ↦ elim (among index hs) [
+    | inl found ↦ inl (suc found.0, omega (arith, found.1), found.2)
+    | inr none ↦ inr (All-cons (λ h. h.index ≢ index) h hs other none)
+  ]
+]
 
 module _ (limits : Limits) (records : List SlotRecord) (pending : List ℕ) (live : ℕ)
     (hs : List Handle) (linked : AreLinked limits records pending live)
@@ -226,49 +211,58 @@ module _ (limits : Limits) (records : List SlotRecord) (pending : List ℕ) (liv
         (λ later late within e.
         grind (arith, common_steps))
 
+    order_long : length order ≡ length pending
+    order_long = length-placed pending (length pending) (slots_of hs)
+
+    after_long : length after ≡ length records
+    after_long = length-moved records (length pending) (slots_of hs)
+
+    generation_after : (index : ℕ) → (record_at after index).generation
+        ≡ (record_at records index).generation
+    generation_after index = generation-moved records (length pending) index hs made_slots
+
+    -- the early positions have the slots that they had, and the late ones those of the handles
+    early_is : (position : ℕ) → position < from → get_or order position 0 ≡ get_or pending position 0
+    early_is position early =
+        placed-other pending (length pending) position hs (λ k lt e. omega arith)
+
+    late_is : (position : ℕ) (d : Handle) → from ≤ position → position < length pending
+        → get_or order position 0 ≡ (get_or hs (length pending - 1 - position) d).index
+    late_is position d late within =
+        let k = length pending - 1 - position in
+        let at : length pending - 1 - k ≡ position = omega arith in
+        sym (ap (λ n. get_or order n 0) at)
+        ∙ placed-at pending (length pending) k hs d few (omega arith) (omega arith)
+
     made_after : (position : ℕ) → position < length order → get_or order position 0 < length after
-    made_after position within =
-        let long = length-placed pending (length pending) (slots_of hs) in
-        let longer = length-moved records (length pending) (slots_of hs) in
-        by_place (cases_lt position from)
-      where
-        by_place : (position < from) ⊎ (from ≤ position) → get_or order position 0 < length after
-        by_place (inl early) =
-            let long = length-placed pending (length pending) (slots_of hs) in
-            let longer = length-moved records (length pending) (slots_of hs) in
-            let stays = placed-below pending (length pending) position hs few early in
-            omega arith
-        by_place (inr late) =
-            let long = length-placed pending (length pending) (slots_of hs) in
-            let longer = length-moved records (length pending) (slots_of hs) in
-            let k = length pending - 1 - position in
-            let at : length pending - 1 - k ≡ position = omega arith in
-            let d = handle_at records 0 in
-            let is = placed-at pending (length pending) k hs d few (omega arith) (omega arith) in
-            let below = made_slots k d (omega arith) in
-            omega (arith, ap (λ n. get_or order n 0) at)
+    made_after position within = elim (cases_lt position from) [
+      | inl early ↦
+          let below = linked.made position (omega (arith, order_long)) in
+          omega (arith, early_is position early, after_long)
+      | inr late ↦
+          let d = handle_at records 0 in
+          let is = late_is position d late (omega (arith, order_long)) in
+          let below = made_slots (length pending - 1 - position) d (omega (arith, order_long)) in
+          omega (arith, after_long)
+    ]
 
     forward_after : (position : ℕ) → position < length order
         → (record_at after (get_or order position 0)).occupancy ≡ Pending position
-    forward_after position within = by_place (cases_lt position from)
-      where
-        by_place : (position < from) ⊎ (from ≤ position)
-            → (record_at after (get_or order position 0)).occupancy ≡ Pending position
-        by_place (inl early) =
-            let stays = placed-below pending (length pending) position hs few early in
-            ap (λ i. (record_at after i).occupancy) stays
-            ∙ ap (λ (r : SlotRecord). r.occupancy)
-            (moved-other records (length pending) (get_or pending position 0) hs
-            (early_other position early)) ∙ linked.forward position (omega arith)
-        by_place (inr late) =
-            let long = length-placed pending (length pending) (slots_of hs) in
-            let k = length pending - 1 - position in
-            let at : length pending - 1 - k ≡ position = omega arith in
-            let d = handle_at records 0 in
-            let is = placed-at pending (length pending) k hs d few (omega arith) (omega arith) in
-            ap (λ i. (record_at after i).occupancy) (sym (ap (λ n. get_or order n 0) at) ∙ is)
-            ∙ moved-at records (length pending) k hs d made_slots apart (omega arith)
-            ∙ ap (λ n. Pending n) at
+    forward_after position within = elim (cases_lt position from) [
+      | inl early ↦
+          ap (λ i. (record_at after i).occupancy) (early_is position early)
+          ∙ ap (λ (r : SlotRecord). r.occupancy)
+          (moved-other records (length pending) (get_or pending position 0) hs
+          (early_other position early)) ∙ linked.forward position (omega (arith, order_long))
+      | inr late ↦
+          let long = order_long in
+          let k = length pending - 1 - position in
+          let at : length pending - 1 - k ≡ position = omega arith in
+          let d = handle_at records 0 in
+          ap (λ i. (record_at after i).occupancy) (late_is position d late (omega arith))
+          ∙ moved-at records (length pending) k hs d made_slots apart (omega arith)
+          ∙ ap (λ n. Pending n) at
+    ]
 
     record Is (index position : ℕ) : Type 0 where
       listed : position < length order
@@ -276,42 +270,30 @@ module _ (limits : Limits) (records : List SlotRecord) (pending : List ℕ) (liv
 
     back_after : (index position : ℕ) → index < length after
         → (record_at after index).occupancy ≡ Pending position → Is index position
-    back_after index position made is = by_slot (among index hs)
-      where
-        by_slot : ((k : ℕ) × (k < length hs) × ((d : Handle) → (get_or hs k d).index ≡ index))
-            ⊎ All (λ h. h.index ≢ index) hs → Is index position
-        by_slot (inl found) =
-            let long = length-placed pending (length pending) (slots_of hs) in
-            let k = found.0 in
-            let lt : k < length hs = found.1 in
-            let d = handle_at records 0 in
-            let slot : (get_or hs k d).index ≡ index = found.2 d in
-            let there = moved-at records (length pending) k hs d made_slots apart lt in
-            let at : length pending - 1 - k ≡ position = grind (arith, common_steps) in
-            record {
-              listed = omega arith;
-              back = sym (ap (λ n. get_or order n 0) at)
-                  ∙ placed-at pending (length pending) k hs d few (omega arith) lt ∙ slot;
-            }
-        by_slot (inr none) =
-            let long = length-placed pending (length pending) (slots_of hs) in
-            let longer = length-moved records (length pending) (slots_of hs) in
-            let was : (record_at records index).occupancy ≡ Pending position =
-            sym (ap (λ (r : SlotRecord). r.occupancy)
-            (moved-other records (length pending) index hs none)) ∙ is in
-            let listed = linked.listed index position (omega arith) was in
-            let back = linked.back index position (omega arith) was in
-            by_place (cases_lt position from) listed back
-          where
-            by_place : (position < from) ⊎ (from ≤ position) → position < length pending
-                → get_or pending position 0 ≡ index → Is index position
-            by_place (inl early) listed back =
-                let long = length-placed pending (length pending) (slots_of hs) in
-                record {
-                  listed = omega arith;
-                  back = placed-below pending (length pending) position hs few early ∙ back;
-                }
-            by_place (inr late) listed back =
+    back_after index position made is = elim (among index hs) [
+      | inl found ↦
+          let long = order_long in
+          let k = found.0 in
+          let lt : k < length hs = found.1 in
+          let d = handle_at records 0 in
+          let slot : (get_or hs k d).index ≡ index = found.2 d in
+          let there = moved-at records (length pending) k hs d made_slots apart lt in
+          let at : length pending - 1 - k ≡ position = grind (arith, common_steps) in
+          record {
+            listed = omega arith;
+            back = sym (ap (λ n. get_or order n 0) at)
+                ∙ placed-at pending (length pending) k hs d few (omega arith) lt ∙ slot;
+          }
+      | inr none ↦
+          let was : (record_at records index).occupancy ≡ Pending position =
+          sym (ap (λ (r : SlotRecord). r.occupancy)
+          (moved-other records (length pending) index hs none)) ∙ is in
+          let listed = linked.listed index position (omega (arith, after_long)) was in
+          let back = linked.back index position (omega (arith, after_long)) was in
+          elim (cases_lt position from) [
+            | inl early ↦
+                record { listed = omega (arith, order_long); back = early_is position early ∙ back }
+            | inr late ↦
                 let h = handle_at records (get_or pending position 0) in
                 let long = long_waited in
                 let has = Contains-permutation waited hs h same (
@@ -321,102 +303,99 @@ module _ (limits : Limits) (records : List SlotRecord) (pending : List ℕ) (liv
                       ∙ ap (λ n. handle_at records (get_or pending n 0)) (omega arith),
                 ) in
                 absurd (none has.0 h has.1 (ap (λ (g : Handle). g.index) has.2 ∙ back))
+          ]
+    ]
+
+    same_living : occupants 0 after ≡ occupants 0 records
+    same_living = kept-moved (occupants 0)
+        (λ rs i w new old. occupants-set 0 rs i w new.dead old.dead) records (length pending) hs
+        all_vacant
+
+    same_rows : rows_from 0 after ≡ rows_from 0 records
+    same_rows = kept-moved (rows_from 0)
+        (λ rs i w new old. rows_from-set 0 rs i w new.bare old.bare) records (length pending) hs
+        all_vacant
 
     pub front_keeps_links : AreLinked limits after order live
     front_keeps_links =
-        let long = length-placed pending (length pending) (slots_of hs) in
-        let longer = length-moved records (length pending) (slots_of hs) in
-        let living = occupants-moved records (length pending) hs all_vacant in
-        let generation : (index : ℕ) → (record_at after index).generation
-        ≡ (record_at records index).generation =
-        λ index. generation-moved records (length pending) index hs made_slots in
+        let long = order_long in
+        let longer = after_long in
         record {
           limited = linked.limited;
           few = omega (arith, linked.few);
-          counted = linked.counted ∙ ap length (sym living);
+          counted = linked.counted ∙ ap length (sym same_living);
           each_once = omega (arith, linked.each_once);
-          least = λ index lt. let was = linked.least index (omega arith) in omega (arith, generation index);
+          least = λ index lt.
+              let was = linked.least index (omega arith) in omega (arith, generation_after index);
           greatest = λ index lt.
-              let was = linked.greatest index (omega arith) in omega (arith, generation index);
+              let was = linked.greatest index (omega arith) in omega (arith, generation_after index);
           made = made_after;
           forward = forward_after;
           listed = λ index position lt is. (back_after index position lt is).listed;
           back = λ index position lt is. (back_after index position lt is).back;
         }
 
-    all_named : All (λ h. handle_at records h.index ≡ h) hs
-    all_named = each (λ h. handle_at records h.index ≡ h) (λ position late within. refl)
+    abbrev kept : List Handle
+    kept = take from (map (handle_at records) pending)
 
-    short : length (take from (map (handle_at records) pending)) ≡ from
+    short : length kept ≡ from
     short = length-take-le from (map (handle_at records) pending)
         (omega (arith, length-map pending (handle_at records)))
 
+    all_named : All (λ h. handle_at after h.index ≡ h) hs
+    all_named = each (λ h. handle_at after h.index ≡ h) (λ position late within i. record {
+      index = get_or pending position 0;
+      generation = generation_after (get_or pending position 0) i;
+    })
+
     waits_after : (k : ℕ) (d : Handle) → k < length (map (handle_at after) order)
-        → get_or (map (handle_at after) order) k d
-        ≡ get_or (take from (map (handle_at records) pending) ++ reverse hs) k d
+        → get_or (map (handle_at after) order) k d ≡ get_or (kept ++ reverse hs) k d
     waits_after k d lt =
-        let long = length-placed pending (length pending) (slots_of hs) in
+        let long = order_long in
         let all = length-map order (handle_at after) in
-        get_or-map (handle_at after) order k 0 d (omega arith) ∙ by_place (cases_lt k from)
-      where
-        by_place : (k < from) ⊎ (from ≤ k) → handle_at after (get_or order k 0)
-            ≡ get_or (take from (map (handle_at records) pending) ++ reverse hs) k d
-        by_place (inl early) =
-            let all = length-map pending (handle_at records) in
-            let slot = placed-below pending (length pending) k hs few early in
-            let stays = generation-moved records (length pending) (get_or pending k 0) hs made_slots in
-            ap (handle_at after) slot
-            ∙ (λ i. record { index = get_or pending k 0; generation = stays i })
-            ∙ sym (get_or-map (handle_at records) pending k 0 d (omega arith))
-            ∙ sym (get_or-take from (map (handle_at records) pending) k d early)
-            ∙ sym (get_or_append_left (take from (map (handle_at records) pending)) (reverse hs) d k
-            (omega (arith, short)))
-        by_place (inr late) =
-            let long = length-placed pending (length pending) (slots_of hs) in
-            let all = length-map order (handle_at after) in
-            let j = length pending - 1 - k in
-            let at : length pending - 1 - j ≡ k = omega arith in
-            let slot : get_or order k 0 ≡ (get_or hs j d).index =
-            sym (ap (λ n. get_or order n 0) at)
-            ∙ placed-at pending (length pending) j hs d few (omega arith) (omega arith) in
-            let stays =
-            generation-moved records (length pending) (get_or hs j d).index hs made_slots in
-            let first = short in
-            let back : length hs - 1 - (k - from) ≡ j = omega arith in
-            let there : length (take from (map (handle_at records) pending)) + (k - from) ≡ k =
-            omega arith in
-            ap (handle_at after) slot
-            ∙ (λ i. record { index = (get_or hs j d).index; generation = stays i })
-            ∙ all_named j d (omega arith)
-            ∙ sym (ap (λ n. get_or hs n d) back)
-            ∙ sym (get_or-reverse hs (k - from) d (omega arith))
-            ∙ sym (get_or-append-add (take from (map (handle_at records) pending)) (reverse hs)
-            (k - from) d)
-            ∙ ap (λ n. get_or (take from (map (handle_at records) pending) ++ reverse hs) n d) there
+        let first = short in
+        get_or-map (handle_at after) order k 0 d (omega arith) ∙ elim (cases_lt k from) [
+          | inl early ↦
+              let longer = length-map pending (handle_at records) in
+              ap (handle_at after) (early_is k early)
+              ∙ (λ i. record {
+                index = get_or pending k 0;
+                generation = generation_after (get_or pending k 0) i;
+              })
+              ∙ sym (get_or-map (handle_at records) pending k 0 d (omega arith))
+              ∙ sym (get_or-take from (map (handle_at records) pending) k d early)
+              ∙ sym (get_or_append_left kept (reverse hs) d k (omega arith))
+          | inr late ↦
+              let j = length pending - 1 - k in
+              let back : length hs - 1 - (k - from) ≡ j = omega arith in
+              let there : length kept + (k - from) ≡ k = omega arith in
+              ap (handle_at after) (late_is k d late (omega arith))
+              ∙ all_named j d (omega arith)
+              ∙ sym (ap (λ n. get_or hs n d) back)
+              ∙ sym (get_or-reverse hs (k - from) d (omega arith))
+              ∙ sym (get_or-append-add kept (reverse hs) (k - from) d)
+              ∙ ap (λ n. get_or (kept ++ reverse hs) n d) there
+        ]
 
     pub roster_of-front : roster_of limits after order ≡ record (roster_of limits records pending) {
       pending = take from (roster_of limits records pending).pending ++ reverse hs;
     }
     roster_of-front =
-        let waits : map (handle_at after) order
-        ≡ take from (map (handle_at records) pending) ++ reverse hs =
+        let waits : map (handle_at after) order ≡ kept ++ reverse hs =
         same_lists _ _ (omega (
           arith,
-          length-placed pending (length pending) (slots_of hs),
+          order_long,
           length-map order (handle_at after),
-          length-append (take from (map (handle_at records) pending)) (reverse hs),
+          length-append kept (reverse hs),
           length-reverse hs,
           short,
         )) waits_after in
-        let living = occupants-moved records (length pending) hs all_vacant in
-        let rows = rows-moved records (length pending) hs all_vacant in
-        let made = length-moved records (length pending) (slots_of hs) in
         λ i. record {
           limits = limits;
-          live = sets.from_list (living i);
-          rows = maps.from_entries (rows i);
+          live = sets.from_list (same_living i);
+          rows = maps.from_entries (same_rows i);
           pending = waits i;
-          made = made i;
+          made = after_long i;
         }
 
 -- the same of a roster that the vectors stand for, and of the slots of the handles

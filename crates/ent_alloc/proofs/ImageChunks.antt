@@ -6,7 +6,7 @@ use Rattle.std.proofs.lemmas.List.{drop-drop, take-append-drop, length-take-le, 
 use Rattle.std.proofs.lemmas.Nat.{div-mul-add}
 use Rattle.ent_alloc.specs.Limits.{Limits}
 use Rattle.ent_alloc.specs.Image.{slot_bytes}
-use Rattle.ent_alloc.specs.ImageRecords.{record_bytes, IsWritten}
+use Rattle.ent_alloc.specs.ImageRecords.{IsWritten}
 use Rattle.ent_alloc.specs.declared.slot_record.SlotRecord.{SlotRecord}
 use Rattle.ent_alloc.proofs.ImageWords.{same_parts, length-slot_bytes}
 
@@ -44,12 +44,7 @@ module _ (bytes : List ℕ) (made : ℕ) (chunks : List (List ℕ)) (index : ℕ
       ∙ ap (λ rest. get_or chunks index d ++ rest) (drop-drop 12 (12 * index) bytes
       ∙ ap (λ n. drop n bytes) next)
 
-  -- the piece is a slot
-  pub slot_cut : (s : SlotRecord) → get_or chunks index d ≡ record_bytes s
-      → drop (12 * index) bytes ≡ record_bytes s ++ drop (12 * (index + 1)) bytes
-  slot_cut s is = search (rules, cut)
-
-  -- or none
+  -- where the piece is no slot, the bytes begin with none
   pub none_cut : (limits : Limits)
       → ((s : SlotRecord) → IsWritten limits s.generation s.occupancy
       → get_or chunks index d ≢ slot_bytes s)

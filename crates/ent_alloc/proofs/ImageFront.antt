@@ -1,12 +1,13 @@
 -- What the tests of the first forty bytes answer.
 use Rattle.std.proofs.lemmas.Grind.{common_steps}
 use Rattle.std.proofs.Common.{◌≡◌, ◌≢◌, refl, sym, ap, ◌∙◌, ℕ, ◌+◌, ◌-◌, ◌*◌, ◌^◌, ◌<◌, ◌≤◌, ◌⊎◌}
-use Rattle.std.proofs.Common.{Bool, true, false, ◌&&◌, ◌||◌, eqb, leb, ltb, List, [], ◌∷◌, ◌++◌}
+use Rattle.std.proofs.Common.{Bool, true, false, ◌||◌, eqb, ltb, List, [], ◌∷◌, ◌++◌}
 use Rattle.std.proofs.Common.{length, drop, Option, None, Some, arith, rules}
 use Rattle.std.specs.Prelude.{nat_eq}
 use Rattle.std.specs.List.{starts_with}
 use Rattle.std.proofs.lemmas.Bool.{eq-eqb, ne_eqb, le-leb, lt-leb, leb-true, ltb-true, lt-ltb}
 use Rattle.std.proofs.lemmas.Bool.{cases_eq, cases_lt, and_from, and_parts, false≢true, le-ltb}
+use Rattle.std.proofs.Math.Bool.{or-true}
 use Rattle.std.proofs.lemmas.Bool.Decides.{Decides-eqb}
 use Rattle.std.proofs.lemmas.Slice.Eq.{starts_is}
 use Rattle.std.proofs.lemmas.List.{length-append, drop_at}
@@ -33,12 +34,6 @@ is_false true not = absurd (not refl)
 is_false false not = refl
 
 -- ---- the letters, the length and the version
-
-abbrev magic_test : List ℕ → Test
-magic_test bytes = (starts_with nat_eq bytes magic, Magic)
-
-abbrev length_test : List ℕ → Test
-length_test bytes = (leb 40 (length bytes), Length 40)
 
 abbrev version_test : List ℕ → Test
 version_test bytes = (eqb (word_at bytes 8) version, Version (word_at bytes 8))
@@ -139,13 +134,9 @@ counts_false h over = search (rules, is_false, and_parts, leb-true)
 abbrev given : Header → ℕ
 given h = h.waiting + (h.slots - h.made)
 
-or_true_right : (b : Bool) → (b || true) ≡ true
-or_true_right true = refl
-or_true_right false = refl
-
 all_given : (asked reserved available : ℕ) → (asked ≤ available → reserved ≡ asked)
     → (ltb available asked || eqb reserved asked) ≡ true
-all_given asked reserved available all = search (rules, cases_lt, lt-ltb, eq-eqb, or_true_right)
+all_given asked reserved available all = search (rules, cases_lt, lt-ltb, eq-eqb, or-true)
 
 given_all : (asked reserved available : ℕ)
     → (ltb available asked || eqb reserved asked) ≡ true → asked ≤ available → reserved ≡ asked

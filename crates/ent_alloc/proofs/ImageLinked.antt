@@ -12,7 +12,7 @@ use Rattle.ent_handle.specs.Handle.{Handle}
 use Rattle.ent_alloc.specs.Limits.{Limits, AreLimits}
 use Rattle.ent_alloc.specs.Roster.{Roster}
 use Rattle.ent_alloc.specs.Slots.{is_alive, row_of, record_at, handle_at, roster_of, AreLinked}
-use Rattle.ent_alloc.specs.Image.{occupied, slot, slot_bytes, slots_bytes, AreSlots, number_of}
+use Rattle.ent_alloc.specs.Image.{occupied, slot, slots_bytes, AreSlots, number_of}
 use Rattle.ent_alloc.specs.ImageRecords.{record_bytes, kept}
 use Rattle.ent_alloc.specs.declared.slot_record.SlotRecord.{SlotRecord}
 use Rattle.ent_alloc.specs.declared.slot_record.Occupancy.{Occupancy}
@@ -63,12 +63,9 @@ no_row : (r : SlotRecord) (generation : ℕ)
     → cond (eqb r.generation generation) (row_of r.occupancy) None ≡ None
 no_row r generation not_both = grind (arith, common_steps)
 
-none_past : (t : Option ℕ) (row : ℕ) → t ≡ None → t ≡ Some row → ⊥
-none_past t row none is = grind (arith, common_steps)
-
 row_made : (records : List SlotRecord) (index row : ℕ)
     → row_of (record_at records index).occupancy ≡ Some row → index < length records
-row_made records index row is = grind (arith, common_steps, cases_lt, none_past, get_or_past)
+row_made records index row is = grind (arith, common_steps, cases_lt, get_or_past)
 
 pieces_of : (g : SlotRecord → List ℕ) (f : ℕ → List ℕ) (from : ℕ) (records : List SlotRecord)
     → ((k : ℕ) → k < length records → f (from + k) ≡ g (record_at records k))

@@ -1,10 +1,10 @@
 -- Slots read one by one: the records and the positions so far point at each other, and where a slot
 -- is refused no allocator has the bytes for its image.
 use Rattle.std.proofs.Common.{◌≡◌, ◌≢◌, refl, sym, ap, ◌∙◌, ℕ, ◌+◌, ◌^◌, ◌<◌, rules, ◌≤◌, ◌⊎◌, inl}
-use Rattle.std.proofs.Common.{inr, Bool, true, false, List, [], ◌∷◌, ◌++◌, length, get_or, set}
+use Rattle.std.proofs.Common.{inr, List, [], ◌∷◌, ◌++◌, length, get_or, set}
 use Rattle.std.proofs.Common.{take, drop, arith}
 use Rattle.std.proofs.lemmas.Grind.{common_steps}
-use Rattle.std.proofs.lemmas.Bool.{cases_lt, cases_eq, false≢true}
+use Rattle.std.proofs.lemmas.Bool.{cases_lt, cases_eq}
 use Rattle.std.proofs.lemmas.List.{length-append, length_push, get_or_push, get_or_append_left}
 use Rattle.std.proofs.lemmas.List.{get_or-set_same, get_or-set_other, length-set, drop_all}
 use Rattle.std.proofs.lemmas.List.{take_all, append-nil}
@@ -39,24 +39,6 @@ old_stays records s index lt = get_or_append_left records (s ∷ []) no_slot ind
 
 new_is : (records : List SlotRecord) (s : SlotRecord) → record_at (records ++ s ∷ []) (length records) ≡ s
 new_is records s = get_or_push records s no_slot (length records) refl
-
-waits : Occupancy → Bool
-waits Alive = false
-waits (AliveWithRow row) = false
-waits (Pending position) = true
-waits Retired = false
-
-alive_waits_not : (position : ℕ) → Alive ≡ Pending position → ⊥
-unfolding waits
-alive_waits_not position is = false≢true (ap waits is)
-
-row_waits_not : (row position : ℕ) → AliveWithRow row ≡ Pending position → ⊥
-unfolding waits
-row_waits_not row position is = false≢true (ap waits is)
-
-retired_waits_not : (position : ℕ) → Retired ≡ Pending position → ⊥
-unfolding waits
-retired_waits_not position is = false≢true (ap waits is)
 
 module _ (limits : Limits) (records : List SlotRecord) (pending : List ℕ) (live : ℕ)
     (read : AreRead limits records pending live) where
@@ -133,13 +115,13 @@ module _ (limits : Limits) (records : List SlotRecord) (pending : List ℕ) (liv
           → AreRead limits (records ++ record { generation = g; occupancy = t } ∷ [])
           (with_waiting pending t (length records)) (live + one (is_alive t))
       by_occupancy g Alive within number can = read_other (record { generation = g; occupancy = Alive })
-          within number (λ position is. absurd (alive_waits_not position is))
+          within number (λ position is. cc)
       by_occupancy g (AliveWithRow row) within number can =
           read_other (record { generation = g; occupancy = AliveWithRow row }) within number
-          (λ position is. absurd (row_waits_not row position is))
+          (λ position is. cc)
       by_occupancy g Retired within number can =
           read_other (record { generation = g; occupancy = Retired }) within number
-          (λ position is. absurd (retired_waits_not position is))
+          (λ position is. cc)
       by_occupancy g (Pending position) within number can =
           read_waiting g position within number can.0 can.1 few
 

@@ -1,6 +1,6 @@
 -- The rows that the records keep with their occupants.
-use Rattle.std.proofs.Common.{rules, ◌≡◌, ℕ, ◌+◌, ◌-◌, ◌<◌, Bool, cond, ◌&&◌, eqb, leb, List, []}
-use Rattle.std.proofs.Common.{◌∷◌, ◌++◌, length, get_or, set, refl, suc, zero, replicate, Option}
+use Rattle.std.proofs.Common.{rules, ◌≡◌, ℕ, ◌+◌, ◌-◌, Bool, cond, ◌&&◌, eqb, leb, List, []}
+use Rattle.std.proofs.Common.{◌∷◌, ◌++◌, get_or, set, refl, suc, zero, replicate, Option}
 use Rattle.std.proofs.Common.{None}
 use Rattle.std.specs.Ordering.{eq_by_cmp}
 use Rattle.std.specs.FinMap as maps
@@ -60,12 +60,6 @@ pub get_rows : (records : List SlotRecord) (q : Handle)
 get_rows records q = search (rules, maps.get-from_entries, handle_cmp_total, find-rows_from, le-leb)
 
 -- ---- one record set
-
--- the map sees one record set at its index alone
-pub row_at-set : (records : List SlotRecord) (index : ℕ) (r : SlotRecord) (q : Handle) → index
-    < length records → row_at (set records index r) q
-    ≡ cond (eqb q.index index) (row_in r q.generation) (row_at records q)
-row_at-set records index r q = search rules
 
 -- a record without a row instead of another one leaves the rows
 pub rows_from-set : (from : ℕ) (records : List SlotRecord) (index : ℕ) (r : SlotRecord)

@@ -163,7 +163,8 @@ get_or-swapped {X} xs a b k d la lb =
 module _ {X : Type 0} (R : X → X → Type 0) (both : (x y : X) → R x y → R y x) where
   -- of each two positions
   AtPositions : List X → Type 0
-  AtPositions xs = search rules
+  AtPositions xs = (i j : ℕ) (d : X) → i ≢ j → i < length xs → j < length xs
+      → R (get_or xs i d) (get_or xs j d)
 
   -- the earlier of two positions may come second
   positions_from_pairs : (xs : List X) → AllPairs R xs → AtPositions xs

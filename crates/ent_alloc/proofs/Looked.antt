@@ -125,10 +125,6 @@ module _ (limits : Limits) (records : List SlotRecord) (pending : List ℕ) (liv
   generations : (at : ℕ) → (record_at relabelled at).generation ≡ (record_at records at).generation
   generations at = search (rules, cases_eq, itself, others)
 
-  alive_there : (at position : ℕ) → (record_at records at).occupancy ≡ Pending position → at
-      ≢ h.index
-  alive_there at position waits e = search (rules, false≢true, occupant_alive)
-
   waited : (at position : ℕ) → (record_at relabelled at).occupancy ≡ Pending position
       → (record_at records at).occupancy ≡ Pending position
   waited at position is = search (rules, cases_eq, itself, others)

@@ -1,9 +1,10 @@
 -- Handles that come to life at once leave what single calls of `alloc` leave.
 use Rattle.std.proofs.Common.{rules, ◌≡◌, sym, ap, ◌∙◌, subst, refl, ℕ, suc, zero, ◌+◌, ◌-◌, ◌<◌, ◌≤◌}
 use Rattle.std.proofs.Common.{List, [], ◌∷◌, ◌++◌, length, take, drop, reverse, Some, slice_get, arith}
-use Rattle.std.proofs.Common.{◌⊎◌, inl, inr, slice_index_or, ◌||◌, Bool, true, false}
+use Rattle.std.proofs.Common.{◌⊎◌, inl, inr, slice_index_or, ◌||◌, Bool, false}
 use Rattle.std.specs.Ordering.{eq_by_cmp}
 use Rattle.std.specs.FinSet as sets
+use Rattle.std.proofs.lemmas.Grind.{common_steps}
 use Rattle.std.proofs.lemmas.Bool.{cases_lt}
 use Rattle.std.proofs.lemmas.List.{take_all, take-take, take_more, drop-append-le, length-take-le}
 use Rattle.std.proofs.lemmas.List.{nil_from_length, drop_all}
@@ -31,18 +32,10 @@ use Rattle.ent_alloc.proofs.GivenMany.{many_given}
 
 -- which of two comes first doesn't count
 or_last : (a h c d : Bool) → (((a || h) || c) || d) ≡ ((a || c) || (d || h))
-or_last true h c d = refl
-or_last false true true d = refl
-or_last false true false true = refl
-or_last false true false false = refl
-or_last false false true d = refl
-or_last false false false true = refl
-or_last false false false false = refl
+or_last a h c d = grind (arith, common_steps)
 
 or_first : (a e n : Bool) → (((a || (e || false)) || n) || false) ≡ ((a || (e || n)) || false)
-or_first true e n = refl
-or_first false true n = refl
-or_first false false n = refl
+or_first a e n = grind (arith, common_steps)
 
 -- two lists that come to life
 both_in : (live : sets.FinSet handle_cmp) (one two : List Handle) (q : Handle)

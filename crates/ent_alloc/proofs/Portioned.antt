@@ -43,22 +43,12 @@ none_or_some (suc n) = inr (omega arith)
 pub count_within : (ps : List Portion) → AreUsed ps → count_of ps ≤ reach_of ps
 count_within [] fits = omega arith
 count_within (p ∷ ps) fits =
-    by_rest (none_or_some (reach_of ps)) (count_within ps (others_used p ps fits))
-  where
-    by_rest : (reach_of ps ≡ 0) ⊎ (0 < reach_of ps) → count_of ps ≤ reach_of ps
-        → count_of (p ∷ ps) ≤ reach_of (p ∷ ps)
-    by_rest (inl none) rest = omega (arith, reach-none p ps none)
-    by_rest (inr some) rest = omega (arith, reach-some p ps some, first_used p ps fits)
+    grind (arith, common_steps, first_used p ps fits, count_within ps (others_used p ps fits))
 
 pub reach_within : (ps : List Portion) → AreUsed ps → reach_of ps ≤ size_of ps
 reach_within [] fits = omega arith
 reach_within (p ∷ ps) fits =
-    by_rest (none_or_some (reach_of ps)) (reach_within ps (others_used p ps fits))
-  where
-    by_rest : (reach_of ps ≡ 0) ⊎ (0 < reach_of ps) → reach_of ps ≤ size_of ps
-        → reach_of (p ∷ ps) ≤ size_of (p ∷ ps)
-    by_rest (inl none) rest = omega (arith, reach-none p ps none, first_used p ps fits)
-    by_rest (inr some) rest = omega (arith, reach-some p ps some)
+    grind (arith, common_steps, first_used p ps fits, reach_within ps (others_used p ps fits))
 
 -- ---- what was used, and what is left
 
@@ -120,124 +110,105 @@ module _ {A : Type 0} where
       -- as many as there are of a rest, and then of others
       pub take_left : (more n : ℕ) (others : List A) → n ≡ min (p.size - p.used) more
           → take more (rest ++ others) ≡ take n (drop p.used pool) ++ take (more - n) others
-      take_left more n others least = by_size (cases_lt more (p.size - p.used))
-        where
-          by_size : (more < p.size - p.used) ⊎ (p.size - p.used ≤ more)
-              → take more (rest ++ others) ≡ take n (drop p.used pool) ++ take (more - n) others
-          by_size (inl less) =
-              let n_is : n ≡ more = least ∙ min-eq_right (omega arith) in
-              let none : more - n ≡ 0 = omega arith in
-              take-append-le more rest others (omega (arith, length-rest)) ∙ ap (take more) rest_is
-              ∙ take_of_take more (p.size - p.used) (drop p.used pool) (omega arith)
-              ∙ ap (λ n. take n (drop p.used pool)) (sym n_is)
-              ∙ sym (append-nil (take n (drop p.used pool)))
-              ∙ ap (λ m. take n (drop p.used pool) ++ take m others) (sym none)
-          by_size (inr all) =
-              let n_is : n ≡ p.size - p.used = least ∙ min-eq_left all in
-              let sum : more ≡ length rest + (more - n) = omega (arith, length-rest) in
-              ap (λ m. take m (rest ++ others)) sum ∙ take-append-add rest others (more - n)
-              ∙ ap (◌++ take (more - n) others)
-              (rest_is ∙ ap (λ n. take n (drop p.used pool)) (sym n_is))
+      take_left more n others least = elim (cases_lt more (p.size - p.used)) [
+        | inl less ↦
+            let n_is : n ≡ more = least ∙ min-eq_right (omega arith) in
+            let none : more - n ≡ 0 = omega arith in
+            take-append-le more rest others (omega (arith, length-rest)) ∙ ap (take more) rest_is
+            ∙ take_of_take more (p.size - p.used) (drop p.used pool) (omega arith)
+            ∙ ap (λ n. take n (drop p.used pool)) (sym n_is)
+            ∙ sym (append-nil (take n (drop p.used pool)))
+            ∙ ap (λ m. take n (drop p.used pool) ++ take m others) (sym none)
+        | inr all ↦
+            let n_is : n ≡ p.size - p.used = least ∙ min-eq_left all in
+            let sum : more ≡ length rest + (more - n) = omega (arith, length-rest) in
+            ap (λ m. take m (rest ++ others)) sum ∙ take-append-add rest others (more - n)
+            ∙ ap (◌++ take (more - n) others)
+            (rest_is ∙ ap (λ n. take n (drop p.used pool)) (sym n_is))
+      ]
 
   -- behind the last one that was used nothing has moved
   pub behind_reach : (pool : List A) (ps : List Portion) → AreUsed ps → size_of ps ≤ length pool
       → drop (reach_of ps - count_of ps) (left_of pool ps) ≡ drop (reach_of ps) pool
   behind_reach pool [] fits within = refl
   behind_reach pool (p ∷ ps) fits within =
-      by_rest (none_or_some (reach_of ps)) (behind_reach (drop p.size pool) ps
-      (others_used p ps fits) (omega (arith, length-drop p.size pool)))
-    where
-      here : p.used ≤ p.size
-      here = first_used p ps fits
+      let here = first_used p ps fits in
+      let few = count_within ps (others_used p ps fits) in
+      let others = behind_reach (drop p.size pool) ps (others_used p ps fits)
+      (omega (arith, length-drop p.size pool)) in
+      elim (none_or_some (reach_of ps)) [
+        | inl none ↦
+            let reach = reach-none p ps none in
+            let none_used : count_of ps ≡ 0 = omega (arith, few) in
+            let start : reach_of (p ∷ ps) - count_of (p ∷ ps) ≡ 0 = omega arith in
+            ap (λ n. drop n (left_of pool (p ∷ ps))) start
+            ∙ ap (rest p pool here (omega arith) ++◌) (left_none (drop p.size pool) ps none_used)
+            ∙ rest_and_behind p pool here (omega arith) ∙ ap (λ n. drop n pool) (sym reach)
+        | inr some ↦
+            let reach = reach-some p ps some in
+            let long = length-rest p pool here (omega arith) in
+            let start : reach_of (p ∷ ps) - count_of (p ∷ ps)
+            ≡ length (rest p pool here (omega arith)) + (reach_of ps - count_of ps) =
+            omega (arith, few, here) in
+            ap (λ n. drop n (left_of pool (p ∷ ps))) start
+            ∙ drop-append-add (rest p pool here (omega arith)) (left_of (drop p.size pool) ps)
+            (reach_of ps - count_of ps) ∙ others ∙ drop-drop (reach_of ps) p.size pool
+            ∙ ap (λ n. drop n pool) (sym reach)
+      ]
 
-      few : count_of ps ≤ reach_of ps
-      few = count_within ps (others_used p ps fits)
-
-      by_rest : (reach_of ps ≡ 0) ⊎ (0 < reach_of ps)
-          → drop (reach_of ps - count_of ps) (left_of (drop p.size pool) ps)
-          ≡ drop (reach_of ps) (drop p.size pool)
-          → drop (reach_of (p ∷ ps) - count_of (p ∷ ps)) (left_of pool (p ∷ ps))
-          ≡ drop (reach_of (p ∷ ps)) pool
-      by_rest (inl none) others =
-          let reach = reach-none p ps none in
-          let none_used : count_of ps ≡ 0 = omega (arith, few) in
-          let start : reach_of (p ∷ ps) - count_of (p ∷ ps) ≡ 0 = omega arith in
-          ap (λ n. drop n (left_of pool (p ∷ ps))) start
-          ∙ ap (rest p pool here (omega arith) ++◌) (left_none (drop p.size pool) ps none_used)
-          ∙ rest_and_behind p pool here (omega arith) ∙ ap (λ n. drop n pool) (sym reach)
-      by_rest (inr some) others =
-          let reach = reach-some p ps some in
-          let long = length-rest p pool here (omega arith) in
-          let start : reach_of (p ∷ ps) - count_of (p ∷ ps)
-          ≡ length (rest p pool here (omega arith)) + (reach_of ps - count_of ps) =
-          omega (arith, few, here) in
-          ap (λ n. drop n (left_of pool (p ∷ ps))) start
-          ∙ drop-append-add (rest p pool here (omega arith)) (left_of (drop p.size pool) ps)
-          (reach_of ps - count_of ps) ∙ others ∙ drop-drop (reach_of ps) p.size pool
-          ∙ ap (λ n. drop n pool) (sym reach)
+  -- the middle ones of four lists in the other order
+  swap_middle : (u r us rs : List A) → IsPermutation ((u ++ r) ++ (us ++ rs)) ((u ++ us) ++ (r ++ rs))
+  swap_middle u r us rs =
+      let swapped : IsPermutation (u ++ ((r ++ us) ++ rs)) (u ++ ((us ++ r) ++ rs)) =
+      IsPermutation-append_right u ((r ++ us) ++ rs) ((us ++ r) ++ rs)
+      (IsPermutation-append_left rs (r ++ us) (us ++ r) (IsPermutation-append_comm r us)) in
+      simp append_assoc (simp append_assoc at swapped)
 
   -- they are what the list begins with, in another order
   pub front_same : (pool : List A) (ps : List Portion) → AreUsed ps → size_of ps ≤ length pool
       → IsPermutation (take (reach_of ps) pool) (front_of pool ps)
   front_same pool [] fits within = IsPermutation-refl []
   front_same pool (p ∷ ps) fits within =
-      by_rest (none_or_some (reach_of ps)) (front_same (drop p.size pool) ps
-      (others_used p ps fits) (omega (arith, length-drop p.size pool)))
-    where
-      here : p.used ≤ p.size
-      here = first_used p ps fits
-
-      few : count_of ps ≤ reach_of ps
-      few = count_within ps (others_used p ps fits)
-
-      by_rest : (reach_of ps ≡ 0) ⊎ (0 < reach_of ps)
-          → IsPermutation (take (reach_of ps) (drop p.size pool)) (front_of (drop p.size pool) ps)
-          → IsPermutation (take (reach_of (p ∷ ps)) pool) (front_of pool (p ∷ ps))
-      by_rest (inl none) others =
-          let none_used : count_of ps ≡ 0 = omega (arith, few) in
-          let start : reach_of (p ∷ ps) - count_of (p ∷ ps) ≡ 0 =
-          omega (arith, reach-none p ps none) in
-          let us : used_of (drop p.size pool) ps ≡ [] = used_none (drop p.size pool) ps none_used in
-          let all : front_of pool (p ∷ ps) ≡ take (reach_of (p ∷ ps)) pool =
-          (λ i. (take p.used pool ++ us i) ++ take (start i) (left_of pool (p ∷ ps)))
-          ∙ append-nil (take p.used pool ++ []) ∙ append-nil (take p.used pool)
-          ∙ ap (λ n. take n pool) (sym (reach-none p ps none)) in
-          subst (IsPermutation (take (reach_of (p ∷ ps)) pool)) (sym all)
-          (IsPermutation-refl (take (reach_of (p ∷ ps)) pool))
-      by_rest (inr some) others =
-          let r = rest p pool here (omega arith) in
-          let u = take p.used pool in
-          let pool' = drop p.size pool in
-          let us = used_of pool' ps in
-          let rs = take (reach_of ps - count_of ps) (left_of pool' ps) in
-          let reach = reach-some p ps some in
-          let start : reach_of (p ∷ ps) - count_of (p ∷ ps)
-          ≡ length r + (reach_of ps - count_of ps) =
-          omega (arith, few, here, length-rest p pool here (omega arith)) in
-          let lefts : take (reach_of (p ∷ ps) - count_of (p ∷ ps)) (left_of pool (p ∷ ps)) ≡ r ++ rs =
-          ap (λ n. take n (left_of pool (p ∷ ps))) start
-          ∙ take-append-add r (left_of pool' ps) (reach_of ps - count_of ps) in
-          let front : take (reach_of (p ∷ ps)) pool ≡ (u ++ r) ++ take (reach_of ps) pool' =
-          ap (λ n. take n pool) reach ∙ take-add p.size (reach_of ps) pool
-          ∙ ap (◌++ take (reach_of ps) pool') (sym (front_and_rest p pool here (omega arith))) in
-          let first : IsPermutation ((u ++ r) ++ take (reach_of ps) pool') ((u ++ r) ++ (us ++ rs)) =
-          IsPermutation-append_right (u ++ r) (take (reach_of ps) pool') (us ++ rs) others in
-          let middle : IsPermutation ((r ++ us) ++ rs) ((us ++ r) ++ rs) =
-          IsPermutation-append_left rs (r ++ us) (us ++ r) (IsPermutation-append_comm r us) in
-          let second : IsPermutation (u ++ ((r ++ us) ++ rs)) (u ++ ((us ++ r) ++ rs)) =
-          IsPermutation-append_right u ((r ++ us) ++ rs) ((us ++ r) ++ rs) middle in
-          let from : (u ++ r) ++ (us ++ rs) ≡ u ++ ((r ++ us) ++ rs) =
-          append_assoc u r (us ++ rs) ∙ ap (u ++◌) (sym (append_assoc r us rs)) in
-          let to : u ++ ((us ++ r) ++ rs) ≡ (u ++ us) ++ (r ++ rs) =
-          ap (u ++◌) (append_assoc us r rs) ∙ sym (append_assoc u us (r ++ rs)) in
-          let whole : (u ++ us) ++ (r ++ rs) ≡ front_of pool (p ∷ ps) =
-          ap ((u ++ us) ++◌) (sym lefts) in
-          subst (λ xs. IsPermutation xs (front_of pool (p ∷ ps))) (sym front)
-          (subst (IsPermutation ((u ++ r) ++ take (reach_of ps) pool')) whole
-          (IsPermutation-trans ((u ++ r) ++ take (reach_of ps) pool') ((u ++ r) ++ (us ++ rs))
-          ((u ++ us) ++ (r ++ rs)) first
-          (subst (λ xs. IsPermutation xs ((u ++ us) ++ (r ++ rs))) (sym from)
-          (subst (λ xs. IsPermutation (u ++ ((r ++ us) ++ rs)) xs) to second))))
+      let here = first_used p ps fits in
+      let few = count_within ps (others_used p ps fits) in
+      let others = front_same (drop p.size pool) ps (others_used p ps fits)
+      (omega (arith, length-drop p.size pool)) in
+      elim (none_or_some (reach_of ps)) [
+        | inl none ↦
+            let none_used : count_of ps ≡ 0 = omega (arith, few) in
+            let start : reach_of (p ∷ ps) - count_of (p ∷ ps) ≡ 0 =
+            omega (arith, reach-none p ps none) in
+            let us : used_of (drop p.size pool) ps ≡ [] = used_none (drop p.size pool) ps none_used in
+            let all : front_of pool (p ∷ ps) ≡ take (reach_of (p ∷ ps)) pool =
+            (λ i. (take p.used pool ++ us i) ++ take (start i) (left_of pool (p ∷ ps)))
+            ∙ append-nil (take p.used pool ++ []) ∙ append-nil (take p.used pool)
+            ∙ ap (λ n. take n pool) (sym (reach-none p ps none)) in
+            subst (IsPermutation (take (reach_of (p ∷ ps)) pool)) (sym all)
+            (IsPermutation-refl (take (reach_of (p ∷ ps)) pool))
+        | inr some ↦
+            let r = rest p pool here (omega arith) in
+            let u = take p.used pool in
+            let pool' = drop p.size pool in
+            let us = used_of pool' ps in
+            let rs = take (reach_of ps - count_of ps) (left_of pool' ps) in
+            let reach = reach-some p ps some in
+            let start : reach_of (p ∷ ps) - count_of (p ∷ ps)
+            ≡ length r + (reach_of ps - count_of ps) =
+            omega (arith, few, here, length-rest p pool here (omega arith)) in
+            let lefts : take (reach_of (p ∷ ps) - count_of (p ∷ ps)) (left_of pool (p ∷ ps)) ≡ r ++ rs =
+            ap (λ n. take n (left_of pool (p ∷ ps))) start
+            ∙ take-append-add r (left_of pool' ps) (reach_of ps - count_of ps) in
+            let front : take (reach_of (p ∷ ps)) pool ≡ (u ++ r) ++ take (reach_of ps) pool' =
+            ap (λ n. take n pool) reach ∙ take-add p.size (reach_of ps) pool
+            ∙ ap (◌++ take (reach_of ps) pool') (sym (front_and_rest p pool here (omega arith))) in
+            let first : IsPermutation ((u ++ r) ++ take (reach_of ps) pool') ((u ++ r) ++ (us ++ rs)) =
+            IsPermutation-append_right (u ++ r) (take (reach_of ps) pool') (us ++ rs) others in
+            let whole : (u ++ us) ++ (r ++ rs) ≡ front_of pool (p ∷ ps) =
+            ap ((u ++ us) ++◌) (sym lefts) in
+            subst (λ xs. IsPermutation xs (front_of pool (p ∷ ps))) (sym front)
+            (subst (IsPermutation ((u ++ r) ++ take (reach_of ps) pool')) whole
+            (IsPermutation-trans _ _ _ first (swap_middle u r us rs)))
+      ]
 
   -- if nothing is left before the last one that was used, they are what the list begins with
   pub used_is_front : (pool : List A) (ps : List Portion) → AreUsed ps
@@ -245,31 +216,24 @@ module _ {A : Type 0} where
       → used_of pool ps ≡ take (count_of ps) pool
   used_is_front pool [] fits all within = refl
   used_is_front pool (p ∷ ps) fits all within =
-      by_rest (none_or_some (reach_of ps))
-      (λ whole. used_is_front (drop p.size pool) ps (others_used p ps fits) whole
-      (omega (arith, length-drop p.size pool)))
-    where
-      here : p.used ≤ p.size
-      here = first_used p ps fits
-
-      few : count_of ps ≤ reach_of ps
-      few = count_within ps (others_used p ps fits)
-
-      by_rest : (reach_of ps ≡ 0) ⊎ (0 < reach_of ps)
-          → (count_of ps ≡ reach_of ps
-          → used_of (drop p.size pool) ps ≡ take (count_of ps) (drop p.size pool))
-          → used_of pool (p ∷ ps) ≡ take (count_of (p ∷ ps)) pool
-      by_rest (inl none) others =
-          let none_used : count_of ps ≡ 0 = omega (arith, few) in
-          let sum : p.used ≡ p.used + count_of ps = omega arith in
-          ap (take p.used pool ++◌) (used_none (drop p.size pool) ps none_used)
-          ∙ append-nil (take p.used pool) ∙ ap (λ n. take n pool) sum
-      by_rest (inr some) others =
-          let reach = reach-some p ps some in
-          let full : p.used ≡ p.size = omega (arith, few, here) in
-          let sum : p.size + count_of ps ≡ p.used + count_of ps = omega arith in
-          (λ i. take (full i) pool ++ others (omega (arith, few, here)) i)
-          ∙ sym (take-add p.size (count_of ps) pool) ∙ ap (λ n. take n pool) sum
+      let here = first_used p ps fits in
+      let few = count_within ps (others_used p ps fits) in
+      let others = λ (whole : count_of ps ≡ reach_of ps).
+      used_is_front (drop p.size pool) ps (others_used p ps fits) whole
+      (omega (arith, length-drop p.size pool)) in
+      elim (none_or_some (reach_of ps)) [
+        | inl none ↦
+            let none_used : count_of ps ≡ 0 = omega (arith, few) in
+            let sum : p.used ≡ p.used + count_of ps = omega arith in
+            ap (take p.used pool ++◌) (used_none (drop p.size pool) ps none_used)
+            ∙ append-nil (take p.used pool) ∙ ap (λ n. take n pool) sum
+        | inr some ↦
+            let reach = reach-some p ps some in
+            let full : p.used ≡ p.size = omega (arith, few, here) in
+            let sum : p.size + count_of ps ≡ p.used + count_of ps = omega arith in
+            (λ i. take (full i) pool ++ others (omega (arith, few, here)) i)
+            ∙ sym (take-add p.size (count_of ps) pool) ∙ ap (λ n. take n pool) sum
+      ]
 
   pub left_is_behind : (pool : List A) (ps : List Portion) → AreUsed ps
       → count_of ps ≡ reach_of ps → size_of ps ≤ length pool

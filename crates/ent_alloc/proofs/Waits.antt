@@ -1,6 +1,6 @@
 -- Slots that are made, and wait after all others: the vectors stay linked, and the roster has their
 -- first occupants.
-use Rattle.std.proofs.Common.{rules, ◌≡◌, ◌⊎◌, inl, inr, ℕ, zero, suc, ◌+◌, ◌-◌, ◌<◌, ◌≤◌, refl, sym, ap}
+use Rattle.std.proofs.Common.{rules, ◌≡◌, inl, inr, ℕ, zero, suc, ◌+◌, ◌-◌, ◌<◌, ◌≤◌, refl, sym, ap}
 use Rattle.std.proofs.Common.{◌∙◌, List, [], ◌∷◌, ◌++◌, length, get_or, map, arith}
 use Rattle.std.specs.List.{range_with_len}
 use Rattle.std.specs.FinSet as sets
@@ -35,56 +35,23 @@ get_or-new_waiting position (suc count) (suc k) d below =
 -- one more
 pub new_waiting-push : (position count : ℕ) → new_waiting position (count + 1)
     ≡ new_waiting position count ++ waiting_at 1 (position + count) ∷ []
-new_waiting-push position count = same_lists _ _ (omega (
-  arith,
-  length-new_waiting position (count + 1),
-  length-new_waiting position count,
-  length-append (new_waiting position count) (waiting_at 1 (position + count) ∷ []),
-)) (λ k d lt. by_place k d (let long = length-new_waiting position (count + 1) in omega arith)
-    (cases_lt k count))
-  where
-    by_place : (k : ℕ) (d : SlotRecord) → k < count + 1 → (k < count) ⊎ (count ≤ k)
-        → get_or (new_waiting position (count + 1)) k d
-        ≡ get_or (new_waiting position count ++ waiting_at 1 (position + count) ∷ []) k d
-    by_place k d lt (inl early) =
-        get_or-new_waiting position (count + 1) k d lt
-        ∙ sym (get_or-new_waiting position count k d early)
-        ∙ sym (get_or_append_left (new_waiting position count)
-        (waiting_at 1 (position + count) ∷ []) d k
-        (omega (arith, length-new_waiting position count)))
-    by_place k d lt (inr late) =
-        let at : length (new_waiting position count) + 0 ≡ k =
-        omega (arith, length-new_waiting position count) in
-        get_or-new_waiting position (count + 1) k d lt ∙ ap (waiting_at 1) (omega arith)
-        ∙ sym (get_or-append-add (new_waiting position count)
-        (waiting_at 1 (position + count) ∷ []) 0 d)
-        ∙ ap (λ n. get_or (new_waiting position count ++ waiting_at 1 (position + count) ∷ []) n d)
-        at
+new_waiting-push position zero =
+    let at : position ≡ position + 0 = omega arith in ap (λ n. waiting_at 1 n ∷ []) at
+new_waiting-push position (suc count) =
+    let next : suc count + 1 ≡ suc (count + 1) = omega arith in
+    let at : position + 1 + count ≡ position + suc count = omega arith in
+    ap (new_waiting position) next
+    ∙ ap (waiting_at 1 position ∷◌) (new_waiting-push (position + 1) count)
+    ∙ ap (λ n. new_waiting position (suc count) ++ waiting_at 1 n ∷ []) at
 
 pub range-push : (from count : ℕ) → range_with_len from (count + 1) ≡ range_with_len from count
     ++ (from + count) ∷ []
-range-push from count = same_lists _ _ (omega (
-  arith,
-  length-range_with_len from (count + 1),
-  length-range_with_len from count,
-  length-append (range_with_len from count) ((from + count) ∷ []),
-)) (λ k d lt. by_place k d (let long = length-range_with_len from (count + 1) in omega arith)
-    (cases_lt k count))
-  where
-    by_place : (k d : ℕ) → k < count + 1 → (k < count) ⊎ (count ≤ k)
-        → get_or (range_with_len from (count + 1)) k d
-        ≡ get_or (range_with_len from count ++ (from + count) ∷ []) k d
-    by_place k d lt (inl early) =
-        get_or-range_with_len from (count + 1) k d lt
-        ∙ sym (get_or-range_with_len from count k d early)
-        ∙ sym (get_or_append_left (range_with_len from count) ((from + count) ∷ []) d k
-        (omega (arith, length-range_with_len from count)))
-    by_place k d lt (inr late) =
-        let at : length (range_with_len from count) + 0 ≡ k =
-        omega (arith, length-range_with_len from count) in
-        get_or-range_with_len from (count + 1) k d lt ∙ (omega arith)
-        ∙ sym (get_or-append-add (range_with_len from count) ((from + count) ∷ []) 0 d)
-        ∙ ap (λ n. get_or (range_with_len from count ++ (from + count) ∷ []) n d) at
+range-push from zero = let at : from ≡ from + 0 = omega arith in ap (λ n. n ∷ []) at
+range-push from (suc count) =
+    let next : suc count + 1 ≡ suc (count + 1) = omega arith in
+    let at : from + 1 + count ≡ from + suc count = omega arith in
+    ap (range_with_len from) next ∙ ap (from ∷◌) (range-push (from + 1) count)
+    ∙ ap (λ n. range_with_len from (suc count) ++ n ∷ []) at
 
 occupants-waiting : (from position count : ℕ) → occupants from (new_waiting position count) ≡ []
 occupants-waiting from position zero = refl
@@ -150,27 +117,26 @@ module _ (limits : Limits) (records : List SlotRecord) (pending : List ℕ) (liv
 
     tied : (index position : ℕ) → index < length grown
         → (record_at grown index).occupancy ≡ Pending position → IsTied index position
-    tied index position made is = by_slot (cases_lt index (length records))
-      where
-        by_slot : (index < length records) ⊎ (length records ≤ index) → IsTied index position
-        by_slot (inl old) =
-            let was : (record_at records index).occupancy ≡ Pending position =
-            sym (ap (λ (r : SlotRecord). r.occupancy) (old_stays index old)) ∙ is in
-            let below = linked.listed index position old was in
-            record {
-              within = omega (arith, order_long);
-              back = old_place position below ∙ linked.back index position old was;
-            }
-        by_slot (inr new) =
-            let within : index < length records + count = omega (arith, grown_long) in
-            let here : Pending (length pending + (index - length records)) ≡ Pending position =
-            sym (ap (λ (r : SlotRecord). r.occupancy) (new_is index new within)) ∙ is in
-            let at : length pending + (index - length records) ≡ position =
-            grind (arith, common_steps) in
-            record {
-              within = omega (arith, order_long);
-              back = new_place position (omega arith) (omega arith) ∙ (omega arith);
-            }
+    tied index position made is = elim (cases_lt index (length records)) [
+      | inl old ↦
+          let was : (record_at records index).occupancy ≡ Pending position =
+          sym (ap (λ (r : SlotRecord). r.occupancy) (old_stays index old)) ∙ is in
+          let below = linked.listed index position old was in
+          record {
+            within = omega (arith, order_long);
+            back = old_place position below ∙ linked.back index position old was;
+          }
+      | inr new ↦
+          let within : index < length records + count = omega (arith, grown_long) in
+          let here : Pending (length pending + (index - length records)) ≡ Pending position =
+          sym (ap (λ (r : SlotRecord). r.occupancy) (new_is index new within)) ∙ is in
+          let at : length pending + (index - length records) ≡ position =
+          grind (arith, common_steps) in
+          record {
+            within = omega (arith, order_long);
+            back = new_place position (omega arith) (omega arith) ∙ (omega arith);
+          }
+    ]
 
     made_in : (position : ℕ) → position < length order → get_or order position 0 < length grown
     made_in position within = search (rules, cases_lt, old_place, grown_long, order_long, new_place)
@@ -195,41 +161,33 @@ module _ (limits : Limits) (records : List SlotRecord) (pending : List ℕ) (liv
       back = λ index position lt is. (tied index position lt is).back;
     }
 
+    abbrev waited : List Handle
+    waited = map (handle_at records) pending
+
     waits_after : (k : ℕ) (d : Handle) → k < length (map (handle_at grown) order)
         → get_or (map (handle_at grown) order) k d
-        ≡ get_or (map (handle_at records) pending ++ fresh (length records) count) k d
+        ≡ get_or (waited ++ fresh (length records) count) k d
     waits_after k d lt =
         let long = order_long in
         let all = length-map order (handle_at grown) in
-        get_or-map (handle_at grown) order k 0 d (omega arith)
-        ∙ by_place (cases_lt k (length pending))
-      where
-        by_place : (k < length pending) ⊎ (length pending ≤ k) → handle_at grown (get_or order k 0)
-            ≡ get_or (map (handle_at records) pending ++ fresh (length records) count) k d
-        by_place (inl old) =
-            let all = length-map pending (handle_at records) in
-            let stays = old_stays (get_or pending k 0) (linked.made k old) in
-            ap (handle_at grown) (old_place k old)
-            ∙ (λ i. record { index = get_or pending k 0; generation = (stays i).generation })
-            ∙ sym (get_or-map (handle_at records) pending k 0 d old)
-            ∙ sym (get_or_append_left (map (handle_at records) pending)
-            (fresh (length records) count) d k (omega arith))
-        by_place (inr new) =
-            let long = order_long in
-            let all = length-map order (handle_at grown) in
-            let first = length-map pending (handle_at records) in
-            let within : k < length pending + count = omega arith in
-            let index = length records + (k - length pending) in
-            let stays = new_is index (omega arith) (omega arith) in
-            let there : length (map (handle_at records) pending) + (k - length pending) ≡ k =
-            omega arith in
-            ap (handle_at grown) (new_place k new within)
-            ∙ (λ i. record { index = index; generation = (stays i).generation })
-            ∙ sym (get_or-fresh (length records) count (k - length pending) d (omega arith))
-            ∙ sym (get_or-append-add (map (handle_at records) pending)
-            (fresh (length records) count) (k - length pending) d)
-            ∙ ap (λ n. get_or (map (handle_at records) pending ++ fresh (length records) count) n d)
-            there
+        let first = length-map pending (handle_at records) in
+        get_or-map (handle_at grown) order k 0 d (omega arith) ∙ elim (cases_lt k (length pending)) [
+          | inl old ↦
+              let stays = old_stays (get_or pending k 0) (linked.made k old) in
+              ap (handle_at grown) (old_place k old)
+              ∙ (λ i. record { index = get_or pending k 0; generation = (stays i).generation })
+              ∙ sym (get_or-map (handle_at records) pending k 0 d old)
+              ∙ sym (get_or_append_left waited (fresh (length records) count) d k (omega arith))
+          | inr new ↦
+              let index = length records + (k - length pending) in
+              let stays = new_is index (omega arith) (omega arith) in
+              let there : length waited + (k - length pending) ≡ k = omega arith in
+              ap (handle_at grown) (new_place k new (omega arith))
+              ∙ (λ i. record { index = index; generation = (stays i).generation })
+              ∙ sym (get_or-fresh (length records) count (k - length pending) d (omega arith))
+              ∙ sym (get_or-append-add waited (fresh (length records) count) (k - length pending) d)
+              ∙ ap (λ n. get_or (waited ++ fresh (length records) count) n d) there
+        ]
 
     pub roster_of-waiting : roster_of limits grown order ≡ record (roster_of limits records pending) {
       pending = (roster_of limits records pending).pending
@@ -237,14 +195,13 @@ module _ (limits : Limits) (records : List SlotRecord) (pending : List ℕ) (liv
       made = (roster_of limits records pending).made + count;
     }
     roster_of-waiting =
-        let waits : map (handle_at grown) order ≡ map (handle_at records) pending
-        ++ fresh (length records) count =
+        let waits : map (handle_at grown) order ≡ waited ++ fresh (length records) count =
         same_lists _ _ (omega (
           arith,
           order_long,
           length-map order (handle_at grown),
           length-map pending (handle_at records),
-          length-append (map (handle_at records) pending) (fresh (length records) count),
+          length-append waited (fresh (length records) count),
           length-fresh (length records) count,
         )) waits_after in
         let rows = rows-made 0 (length pending) count records in

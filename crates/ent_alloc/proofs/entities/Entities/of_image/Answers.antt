@@ -1,12 +1,12 @@
 use Rattle.std.proofs.Common.{rules}
 use Rattle.std.proofs.lemmas.Grind.{common_steps}
-use Rattle.std.proofs.Common.{◌≡◌, ◌+◌, ◌-◌, ◌*◌, ◌++◌, length, sym}
+use Rattle.std.proofs.Common.{◌≡◌, ◌+◌, ◌-◌, ◌*◌, length, sym}
 use Rattle.std.proofs.Common.{ap, ◌∙◌, subst, arith, inl, inr, refl}
 use Rattle.std.proofs.lemmas.List.{length-append}
 use Rattle.std.proofs.lemmas.Bool.{false≢true}
-use Rattle.ent_alloc.specs.Limits.{Limits, AreLimits}
+use Rattle.ent_alloc.specs.Limits.{Limits}
 use Rattle.ent_alloc.specs.Entities.{Entities}
-use Rattle.ent_alloc.specs.Image.{header, header_bytes, image, HasImage, slots_bytes, roster}
+use Rattle.ent_alloc.specs.Image.{header, image, HasImage, slots_bytes, roster}
 use Rattle.ent_alloc.specs.ImageRecords.{AreServed}
 use Rattle.ent_alloc.specs.declared.image.Header.{Header}
 use Rattle.ent_alloc.proofs.ImageSound.{roster_slots}
@@ -17,7 +17,7 @@ use Rattle.ent_alloc.proofs.ImageHeader.{length-header_bytes}
 use Rattle.ent_alloc.proofs.ImageFront.{front_fault, to_numbers, later_tests, limits_fault}
 use Rattle.ent_alloc.proofs.ImageFront.{header_passes, no_header_fault}
 use Rattle.ent_alloc.proofs.ImageFront.{counts_fault, requests_fault, whole_length_fault, to_slots}
-use Rattle.ent_alloc.proofs.entities.Entities.of_image.Goals.{In_ok-header, In_ok-slots}
+use Rattle.ent_alloc.proofs.entities.Entities.of_image.Goals.{In_ok-header, In-Some-requests_of, In_ok-slots}
 use Rattle.ent_alloc.proofs.entities.Entities.of_image.Goals as goal
 
 -- what the bytes tell of an allocator whose image they are
@@ -76,8 +76,24 @@ to_later : (c : In_ok-header) → first_fault c.args.bytes.now
     c.in_ok-header.slots.now)
 to_later c = search (rules, to_numbers)
 
-long_is : (c : In_ok-header) → length c.args.bytes.now ≡ 40 + length c.in_ok-header.slots.now
+-- where the requests may have been made: the length, and what is left if it is that of the slots
+long_is : (c : In-Some-requests_of) → length c.args.bytes.now ≡ 40 + length c.in_ok-header.slots.now
 long_is c = search (rules, length-append, length-header_bytes)
+
+to_slots_of : (c : In-Some-requests_of)
+    → length c.in_ok-header.slots.now ≡ 12 * c.in_ok-header.header.made
+    → first_fault c.args.bytes.now ≡ first_failing (slots_tests c.in-Some.limits.generations
+    c.in_ok-header.header.made c.in_ok-header.header.waiting c.in_ok-header.slots.now)
+to_slots_of c whole =
+    let h = c.in_ok-header.header in
+    let slots = c.in_ok-header.slots.now in
+    let limits : c.in-Some.limits ≡ limits_in h = c.in-Some.ensures.value in
+    to_numbers c.args.bytes.now h slots c.in_ok-header.ensures.fits c.in_ok-header.ensures.found
+    c.in_ok-header.ensures.faultless
+    ∙ to_slots h (length c.args.bytes.now) slots (c.in-Some.ensures.in_range.0 refl) (omega arith)
+    (omega arith) c.in-Some-requests_of.ensures.some (omega (arith, long_is c))
+    ∙ ap (λ (l : Limits). first_failing (slots_tests l.generations h.made h.waiting slots))
+    (sym limits)
 
 pub returns-in_err-header-clause-fault : goal.returns-in_err-header-clause-fault
 returns-in_err-header-clause-fault c = grind (arith, common_steps, handed_on, front_fault)
@@ -104,41 +120,25 @@ returns-in_default-requests_of-clause-fault c not_memory =
 
 pub returns-then-slots-header-clause-fault : goal.returns-then-slots-header-clause-fault
 returns-then-slots-header-clause-fault c not_memory =
-    let long = long_is (goal.at.returns-then-slots-header-clause-fault c).In_ok-header in
-    to_later (goal.at.returns-then-slots-header-clause-fault c).In_ok-header
+    let at = goal.at.returns-then-slots-header-clause-fault c in
+    to_later at.In_ok-header
     ∙ whole_length_fault c.in_ok-header.header (length c.args.bytes.now) c.in_ok-header.slots.now
     (c.in-Some.ensures.in_range.0 refl) (omega arith) (omega arith)
     c.in-Some-requests_of.ensures.some
-    (λ same. let other = c.if-slots-header.true in omega (arith, same, long))
+    (λ same. c.if-slots-header.true (omega (arith, long_is at.In-Some-requests_of)))
 
 -- and those of the slots
 pub returns-in_err-slots-clause-fault : goal.returns-in_err-slots-clause-fault
 returns-in_err-slots-clause-fault c =
-    let long = long_is (goal.at.returns-in_err-slots-clause-fault c).In_ok-header in
-    let h = c.in_ok-header.header in
-    let slots = c.in_ok-header.slots.now in
-    let limits : c.in-Some.limits ≡ limits_in h = c.in-Some.ensures.value in
     handed_on c.from_residual-in_err-slots.result c.in_err-slots.field-0.0 _
     c.from_residual-in_err-slots.ensures.1 (λ not_memory.
-    to_later (goal.at.returns-in_err-slots-clause-fault c).In_ok-header
-    ∙ to_slots h (length c.args.bytes.now) slots (c.in-Some.ensures.in_range.0 refl) (omega arith)
-    (omega arith) c.in-Some-requests_of.ensures.some
-    (let whole = c.if-slots-header.false in omega (arith, long))
-    ∙ ap (λ (l : Limits). first_failing (slots_tests l.generations h.made h.waiting slots))
-    (sym limits) ∙ c.in_err-slots.ensures.fault not_memory)
+    to_slots_of (goal.at.returns-in_err-slots-clause-fault c).In-Some-requests_of
+    c.if-slots-header.false ∙ c.in_err-slots.ensures.fault not_memory)
 
 pub returns-clause-faultless : goal.returns-clause-faultless
 returns-clause-faultless c =
-    let long = long_is (goal.at.returns-clause-faultless c).In_ok-header in
-    let h = c.in_ok-header.header in
-    let slots = c.in_ok-header.slots.now in
-    let limits : c.in-Some.limits ≡ limits_in h = c.in-Some.ensures.value in
-    to_later (goal.at.returns-clause-faultless c).In_ok-header
-    ∙ to_slots h (length c.args.bytes.now) slots (c.in-Some.ensures.in_range.0 refl) (omega arith)
-    (omega arith) c.in-Some-requests_of.ensures.some
-    (let whole = c.if-slots-header.false in omega (arith, long))
-    ∙ ap (λ (l : Limits). first_failing (slots_tests l.generations h.made h.waiting slots))
-    (sym limits) ∙ c.in_ok-slots.ensures.faultless
+    to_slots_of (goal.at.returns-clause-faultless c).In-Some-requests_of c.if-slots-header.false
+    ∙ c.in_ok-slots.ensures.faultless
 
 -- ---- memory
 
@@ -150,22 +150,20 @@ returns-in_err-header-clause-slots c = search (rules, handed_on)
 
 pub returns-in_err-slots-clause-memory : goal.returns-in_err-slots-clause-memory
 returns-in_err-slots-clause-memory c =
-    let bytes = c.args.bytes.now in
     let h = c.in_ok-header.header in
     let slots = c.in_ok-header.slots.now in
     let header = c.in_ok-header.ensures in
-    let long = long_is (goal.at.returns-in_err-slots-clause-memory c).In_ok-header in
+    let long = long_is (goal.at.returns-in_err-slots-clause-memory c).In-Some-requests_of in
     handed_on c.from_residual-in_err-slots.result c.in_err-slots.field-0.0 _
     c.from_residual-in_err-slots.ensures.1 (λ _.
-    no_header_fault bytes h slots header.fits header.found header.faultless
-    (header_passes h (length bytes) slots (c.in-Some.ensures.in_range.0 refl) (omega arith)
-    (omega arith) c.in-Some-requests_of.ensures.some
-    (let whole = c.if-slots-header.false in omega (arith, long))))
+    no_header_fault c.args.bytes.now h slots header.fits header.found header.faultless
+    (header_passes h (length c.args.bytes.now) slots (c.in-Some.ensures.in_range.0 refl)
+    (omega arith) (omega arith) c.in-Some-requests_of.ensures.some
+    (omega (arith, long, c.if-slots-header.false))))
 
 pub returns-in_err-slots-clause-slots : goal.returns-in_err-slots-clause-slots
 returns-in_err-slots-clause-slots c =
-    let long = long_is (goal.at.returns-in_err-slots-clause-slots c).In_ok-header in
-    let whole = c.if-slots-header.false in
+    let long = long_is (goal.at.returns-in_err-slots-clause-slots c).In-Some-requests_of in
     handed_on c.from_residual-in_err-slots.result c.in_err-slots.field-0.0 _
     c.from_residual-in_err-slots.ensures.1
-    (λ is. omega (arith, c.in_err-slots.ensures.memory is, long, whole))
+    (λ is. omega (arith, c.in_err-slots.ensures.memory is, long, c.if-slots-header.false))

@@ -26,8 +26,7 @@ loop-portion-preserved c =
     let slots = slots_of (idle c.args.self.now) in
     let before = c.loop-portion.before in
     let all = length-map (idle c.args.self.now) (λ (h : Handle). h.index) in
-    let within : before + p.size ≤ length slots =
-    omega (arith, size, all, c.loop-portion.invariant.at, c.requires.within) in
+    let within : before + p.size ≤ length slots = omega arith in
     let n = c.lesser-count.result in
     let more = left_more ps k p lt is slots before c.loop-portion.more n c.lesser-count.ensures fits
     within in
@@ -40,23 +39,9 @@ loop-portion-preserved c =
     record {
       items = ap (◌++ others) c.append_slots.ensures.items ∙ append_assoc order given others
           ∙ ap (order ++◌) (sym more) ∙ c.loop-portion.invariant.items;
-      at = omega (arith, size, c.loop-portion.invariant.at);
-      enough = omega (
-        arith,
-        size,
-        count,
-        rest,
-        fits,
-        c.lesser-count.ensures,
-        c.loop-portion.invariant.enough,
-      );
-      room = omega (
-        arith,
-        c.lesser-count.ensures,
-        c.append_slots.ensures.len,
-        c.append_slots.ensures.capacity,
-        c.loop-portion.invariant.room,
-      );
+      at = omega arith;
+      enough = omega arith;
+      room = omega arith;
     }
 
 pub returns : goal.returns

@@ -1,4 +1,4 @@
-use Rattle.std.proofs.Common.{rules, ◌≡◌, ◌≢◌, true, length, arith, ◌∙◌, sym}
+use Rattle.std.proofs.Common.{rules, ◌≡◌, ◌≢◌, ◌≤◌, true, length, arith, ◌∙◌, sym}
 use Rattle.std.proofs.lemmas.Bool.{false≢true}
 use Rattle.std.specs.FinSet as sets
 use Rattle.ent_alloc.proofs.Occupants.{is_occupant, contains_occupants}
@@ -22,6 +22,11 @@ living c = search (rules, contains_occupants, c.self.view_is)
 lives : (c : Else-not-is_occupied_by) → is_occupant c.self.inside.records.items c.args.handle ≡ true
 lives c = search (rules, found)
 
+some_live : (c : Else-not-is_occupied_by) → 1 ≤ c.self.inside.live
+some_live c =
+    let e = c.self.inside in
+    one_lives e.limits e.records.items e.pending.items e.live c.args.handle c.self.invariant (lives c)
+
 -- it is not of the last generation
 not_last : (c : Else-generation-generations) → c.args.handle.generation
     ≢ c.self.inside.limits.generations
@@ -35,16 +40,10 @@ pub returns-then-not-is_occupied_by-clause-not_alive :
 returns-then-not-is_occupied_by-clause-not_alive c = search (rules, found, living)
 
 pub overflow_sub-self : goal.overflow_sub-self
-overflow_sub-self c =
-    let records = c.self.inside.records.items in
-    one_lives c.self.inside.limits records c.self.inside.pending.items c.self.inside.live
-    c.args.handle c.self.invariant (lives (goal.at.overflow_sub-self c).Else-not-is_occupied_by)
+overflow_sub-self c = some_live (goal.at.overflow_sub-self c).Else-not-is_occupied_by
 
 pub overflow_sub-self-2 : goal.overflow_sub-self-2
-overflow_sub-self-2 c =
-    let records = c.self.inside.records.items in
-    one_lives c.self.inside.limits records c.self.inside.pending.items c.self.inside.live
-    c.args.handle c.self.invariant (lives (goal.at.overflow_sub-self-2 c).Else-not-is_occupied_by)
+overflow_sub-self-2 c = some_live (goal.at.overflow_sub-self-2 c).Else-not-is_occupied_by
 
 pub invariant_of-self-then-generation-generations :
     goal.invariant_of-self-then-generation-generations
@@ -88,17 +87,8 @@ returns-then-is_err-clause-not_alive c = search (rules, living, lives, false≢t
 
 pub pending-requires-clause-few : goal.pending-requires-clause-few
 pending-requires-clause-few c =
-    let e = c.self.inside in
-    let is = lives (goal.at.pending-requires-clause-few c).Else-not-is_occupied_by in
-    let some = one_lives e.limits e.records.items e.pending.items e.live c.args.handle
-    c.self.invariant is in
-    omega (
-      arith,
-      some,
-      c.self.invariant.each_once,
-      c.self.invariant.few,
-      c.self.invariant.limited,
-    )
+    let some = some_live (goal.at.pending-requires-clause-few c).Else-not-is_occupied_by in
+    omega arith
 
 pub invariant_of-self-2 : goal.invariant_of-self-2
 invariant_of-self-2 c =

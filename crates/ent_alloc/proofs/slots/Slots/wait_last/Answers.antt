@@ -1,4 +1,4 @@
-use Rattle.std.proofs.Common.{rules, sym, ap, ◌∙◌, subst, ◌≡◌, ℕ, List, ◌<◌, length, All}
+use Rattle.std.proofs.Common.{rules, sym, subst, ◌≡◌, ℕ, List, ◌<◌, length, All}
 use Rattle.std.proofs.lemmas.List.{with_items_is}
 use Rattle.ent_alloc.specs.declared.slot_record.SlotRecord.{SlotRecord}
 use Rattle.ent_alloc.specs.Front.{placed, moved}
@@ -16,23 +16,24 @@ wait_last-requires-clause-made c =
 
 -- what is written
 record AreWritten (records new_records : List SlotRecord) (pending new_pending : List ℕ)
-    (is : List ℕ) : Type 0 where
+    (is : List ℕ) (made waiting : ℕ) : Type 0 where
   records_are : new_records ≡ moved records (length pending) is
   pending_are : new_pending ≡ placed pending (length pending) is
+  made_are : length new_records ≡ made
+  waiting_are : length new_pending ≡ waiting
 
 written : (c : After-wait_last) → AreWritten c.self.inside.records.items c.wait_last.new.records
     c.self.inside.pending.items c.wait_last.new.pending c.args.order.now
-written c = search rules
+    c.self.inside.records.len c.self.inside.pending.len
+written c = search (rules, length-moved, length-placed)
 
 pub invariant_of-self : goal.invariant_of-self
 invariant_of-self c =
     let e = c.self.inside in
     let is = c.args.order.now in
     let all = written (goal.at.invariant_of-self c).After-wait_last in
-    let records = with_items_is e.records c.wait_last.new.records
-    (ap length all.records_are ∙ length-moved e.records.items (length e.pending.items) is ∙ (search rules)) in
-    let pending = with_items_is e.pending c.wait_last.new.pending
-    (ap length all.pending_are ∙ length-placed e.pending.items (length e.pending.items) is ∙ (search rules)) in
+    let records = with_items_is e.records c.wait_last.new.records all.made_are in
+    let pending = with_items_is e.pending c.wait_last.new.pending all.waiting_are in
     rw (records, pending, all.records_are, all.pending_are)
     (links_in e.limits e.records.items e.pending.items e.live is c.args.self.now
     c.self.invariant c.self.view_is c.requires.few c.requires.same)
@@ -42,10 +43,8 @@ returns c slots =
     let e = c.self.inside in
     let is = c.args.order.now in
     let all = written (goal.at.returns c).After-wait_last in
-    let records = with_items_is e.records c.wait_last.new.records
-    (ap length all.records_are ∙ length-moved e.records.items (length e.pending.items) is ∙ (search rules)) in
-    let pending = with_items_is e.pending c.wait_last.new.pending
-    (ap length all.pending_are ∙ length-placed e.pending.items (length e.pending.items) is ∙ (search rules)) in
+    let records = with_items_is e.records c.wait_last.new.records all.made_are in
+    let pending = with_items_is e.pending c.wait_last.new.pending all.waiting_are in
     rw (records, pending, all.records_are, all.pending_are)
     (roster_in e.limits e.records.items e.pending.items e.live is c.args.self.now
     c.self.invariant c.self.view_is c.requires.few slots)
