@@ -1,3 +1,4 @@
+use Rattle.std.proofs.Common.{rules}
 use Rattle.std.proofs.Common.{◌≡◌, w64, to_z, of_z, [], ◌∷◌, arith, ap, ◌∙◌}
 use Rattle.std.proofs.lemmas.Grind.{common_steps}
 use Rattle.std.proofs.lemmas.Int.{ints}
@@ -40,8 +41,7 @@ loop-reserver-preserved c =
     }
 
 pub close-requires : goal.close-requires
-close-requires c =
-    record { word = (c.requires.word.0, c.requires.word.1, c.loop-reserver.invariant.seat) }
+close-requires c = search rules
 
 pub returns-clause-cursor : goal.returns-clause-cursor
 returns-clause-cursor c = grind (arith, common_steps)

@@ -97,9 +97,4 @@ returns-clause-not_live c =
     search (rules, left, l.none_live)
 
 pub returns-clause-brings_to_life : goal.returns-clause-brings_to_life
-returns-clause-brings_to_life c h =
-    let l = known (goal.at.returns-clause-brings_to_life c).After-max-end in
-    let left = c.settle.ensures.settled ∙ l.after in
-    let lost = after_loss c.args.self.start l.asked in
-    rw left
-    (live-after_flush lost h, ⊎_elim (live-stays lost h) (taken-lives lost h))
+returns-clause-brings_to_life c h = search (rules, known, lost, live-after_flush, live-stays, taken-lives)

@@ -3,7 +3,4 @@ use Rattle.ent_alloc.proofs.Settled.{length-all}
 use Rattle.ent_shared.proofs.shared.Shared.pool.Goals as goal
 
 pub returns : goal.returns
-returns c =
-    let all = length-all c.self.inside.entities.allocator c.self.invariant.sound
-    c.self.invariant.begins.flushed in
-    search rules
+returns c = search (rules, length-all)

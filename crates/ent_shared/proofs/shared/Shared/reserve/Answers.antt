@@ -12,7 +12,7 @@ use Rattle.ent_shared.proofs.shared.Shared.reserve.Goals.{After-reply_one}
 
 -- the reserver is of this allocator
 started : (c : After-reply_one) → c.args.reserver.now.own.start ≡ c.self.inside.entities.allocator
-started c = c.requires.start ∙ sym (ap (λ (s : Shared). s.start) c.self.view_is)
+started c = search rules
 
 -- the reply is the allocator's at the cursor that the step found
 replied : (c : After-reply_one) → (k : ℕ) → c.reserve-high.result -ℤ pos 1 ≡ c.reserve-high.result

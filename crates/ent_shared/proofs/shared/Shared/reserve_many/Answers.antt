@@ -25,18 +25,11 @@ returns-then-n-eq0-clause-nothing c = λ n.
     search (rules, c.in-Ok.is, c.in-Ok.nothing)
 
 pub reply-requires-2 : goal.reply-requires-2
-reply-requires-2 c =
-    let fits = c.reserve.type_inv in
-    let least = c.reserve.ensures.least in
-    let start = ap (λ (r : Reserver). r.own.start) c.reserver.view_is
-    ∙ (c.requires.start ∙ sym (ap (λ (s : Shared). s.start) c.self.view_is)) in
-    let below : c.reserve.result ≤ℤ cursor c.self.inside.entities.allocator =
-    rw (sym start) c.reserve.ensures.greatest in
-    c.new-span.ensures.valid c.self.inside.entities.allocator (omega (arith, ints))
+reply-requires-2 c = search rules
 
 -- the reserver is of this allocator
 started : (c : After-reply-2) → c.args.reserver.now.own.start ≡ c.self.inside.entities.allocator
-started c = c.requires.start ∙ sym (ap (λ (s : Shared). s.start) c.self.view_is)
+started c = search rules
 
 -- the span is the request's, at the cursor that the step found
 spanned : (c : After-reply-2) → c.new-span.result
@@ -88,13 +81,7 @@ pub returns-clause-length : goal.returns-clause-length
 returns-clause-length c = search (rules, length-served)
 
 pub returns-clause-enough : goal.returns-clause-enough
-returns-clause-enough c =
-    let at = (goal.at.returns-clause-enough c).After-reply-2 in
-    let start = ap (λ (s : Shared). s.start) c.self.view_is in
-    rw (← start) (enough_at_first c.self.inside.entities.allocator c.reserve.result
-    c.in_ok-handles.handles c.args.n
-    c.self.invariant.sound c.self.invariant.begins.flushed
-    (search (rules, spanned at, c.reply-2.ensures, c.in_ok-handles.was)))
+returns-clause-enough c = search (rules, enough_at_first, spanned)
 
 pub returns-in_err-handles-clause-stays : goal.returns-in_err-handles-clause-stays
 returns-in_err-handles-clause-stays c =
