@@ -117,7 +117,7 @@ one_gets c a (suc many) handles given from below =
 
 -- what a history gave to one caller
 given_to : List Call → ℕ → List Handle
-given_to history caller = grind (arith, common_steps)
+given_to history caller = given_in (filter (λ (call : Call). call.caller == caller) history)
 
 abbrev no_handles : ℕ → List Handle
 no_handles k = []
