@@ -1,7 +1,7 @@
 -- What a request in one call is given, by the pool that it found.
-use Rattle.std.proofs.Common.{◌≡◌, sym, ap, ◌∙◌, ℕ, ◌<◌, ◌≤◌, ℤ, pos, ◌-ℤ◌, rules}
+use Rattle.std.proofs.Common.{◌≡◌, ap, ◌∙◌, ℕ, ◌<◌, ◌≤◌, ℤ, pos, ◌-ℤ◌, rules}
 use Rattle.std.proofs.Common.{List, [], ◌∷◌, length, take, Result, Ok, Err, arith, slice_get, Some}
-use Rattle.std.proofs.Common.{◌⊎◌, inl, inr, All, subst}
+use Rattle.std.proofs.Common.{◌⊎◌, All, subst}
 use Rattle.std.specs.Result.{IsErrAnd, IsErrOf, IfErr}
 use Rattle.std.proofs.lemmas.Bool.Decides.{nat_tests}
 use Rattle.std.proofs.lemmas.Grind.{common_steps}

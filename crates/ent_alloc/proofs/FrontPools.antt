@@ -1,7 +1,7 @@
 -- A pool whose front comes in another order: the allocator stays sound, and the roster stands for
 -- it.
 use Rattle.std.proofs.lemmas.Grind.{common_steps}
-use Rattle.std.proofs.Common.{◌≡◌, ◌⊎◌, inl, inr, sym, ap, ◌∙◌, subst, ℕ, ◌+◌, ◌-◌, ◌<◌, ◌≤◌, rules}
+use Rattle.std.proofs.Common.{◌≡◌, inl, inr, sym, ap, ◌∙◌, subst, ℕ, ◌+◌, ◌-◌, ◌<◌, ◌≤◌, rules}
 use Rattle.std.proofs.Common.{List, [], ◌++◌, length, take, drop, reverse, All, AllPairs, arith}
 use Rattle.std.proofs.Common.{IsPermutation, refl, get_or, slice_get, Some}
 use Rattle.std.proofs.lemmas.List.{length-map, get_or-map, get_or_append_left, get_or-append-add}

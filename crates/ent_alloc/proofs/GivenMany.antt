@@ -1,5 +1,5 @@
 -- Many handles that come to life at once: as if they were requested and flushed.
-use Rattle.std.proofs.Common.{rules, ◌≡◌, sym, ap, ◌∙◌, subst, refl, ℕ, ◌+◌, ◌-◌, ◌≤◌, length, take}
+use Rattle.std.proofs.Common.{rules, ◌≡◌, ap, ◌∙◌, refl, ℕ, ◌+◌, ◌-◌, ◌≤◌, length, take}
 use Rattle.std.proofs.Common.{drop, reverse, ◌++◌, All, None, arith, List, slice_index_or}
 use Rattle.std.specs.FinMap as maps
 use Rattle.std.proofs.lemmas.List.{length-append, length-reverse, take_at, drop_at}

@@ -1,5 +1,5 @@
 -- Which handles a set or a list of handles has after a change.
-use Rattle.std.proofs.Common.{arith, rules, ◌≡◌, ◌≢◌, ap, ◌∙◌, Bool, true, ◌&&◌, ◌||◌, List}
+use Rattle.std.proofs.Common.{arith, rules, ◌≡◌, ◌≢◌, Bool, true, ◌&&◌, ◌||◌, List}
 use Rattle.std.proofs.Common.{IsTrue, ◌⊎◌, Contains, All, AllPairs}
 use Rattle.std.proofs.lemmas.Grind.{common_steps}
 use Rattle.std.specs.FinSet as set

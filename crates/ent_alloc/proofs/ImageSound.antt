@@ -1,6 +1,6 @@
 -- Sound slots are those of a sound allocator, and a sound allocator has sound slots.
 use Rattle.std.proofs.Common.{◌≡◌, refl, sym, ap, ◌∙◌, ℕ, ◌+◌, ◌-◌, rules}
-use Rattle.std.proofs.Common.{◌<◌, ◌≤◌, List, ◌++◌, length}
+use Rattle.std.proofs.Common.{◌<◌, ◌≤◌, List, length}
 use Rattle.std.proofs.Common.{take, drop, reverse, filter, arith, All, AllPairs}
 use Rattle.std.specs.FinSet as sets
 use Rattle.std.proofs.lemmas.List.{length-map, reverse-reverse, get_or-reverse, length-reverse}
@@ -9,7 +9,7 @@ use Rattle.std.proofs.lemmas.List.Kept.{AllPairs-filter}
 use Rattle.ent_handle.specs.Handle.{Handle}
 use Rattle.ent_alloc.specs.Limits.{Limits}
 use Rattle.ent_alloc.specs.Roster.{Roster}
-use Rattle.ent_alloc.specs.Sequential.{Allocator, available, is_old, fresh}
+use Rattle.ent_alloc.specs.Sequential.{Allocator, available, is_old}
 use Rattle.ent_alloc.specs.Sound.{IsSound, IsWithin, AreApart}
 use Rattle.ent_alloc.specs.Entities.{Entities, idle, allocator_of, entities_of, AreReserved}
 use Rattle.ent_alloc.specs.Slots.{occupants, roster_of, AreLinked, handle_at}

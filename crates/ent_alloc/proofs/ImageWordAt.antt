@@ -2,8 +2,7 @@
 use Rattle.std.proofs.Common.{rules}
 use Rattle.std.proofs.lemmas.Grind.{common_steps}
 use Rattle.std.proofs.Common.{◌≡◌, ap, ◌∙◌, sym, ℕ, ◌+◌, ◌^◌, ◌<◌, ◌≤◌, List, ◌++◌, length}
-use Rattle.std.proofs.Common.{take, drop, arith}
-use Rattle.std.specs.Int.{w32, w64, from_le_bytes}
+use Rattle.std.proofs.Common.{drop, arith}
 use Rattle.std.proofs.lemmas.List.{take_at, drop_at, drop-drop, drop-append-le}
 use Rattle.std.proofs.lemmas.List.{take-append-le, length-drop}
 use Rattle.ent_alloc.specs.Image.{word, long}

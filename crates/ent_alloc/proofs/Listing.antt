@@ -1,6 +1,6 @@
 -- What a reply that borrows the slots lists, one handle after the other.
 use Rattle.std.proofs.Common.{rules, ◌≡◌, ℕ, ◌+◌, ◌-◌, ◌<◌, ◌≤◌, List, [], ◌∷◌, ◌++◌, length, drop}
-use Rattle.std.proofs.Common.{replicate, slice_get, Some, refl, arith, suc, zero, add-zero, subst}
+use Rattle.std.proofs.Common.{replicate, slice_get, Some, refl, arith, suc, zero, add-zero}
 use Rattle.std.proofs.lemmas.Grind.{common_steps}
 use Rattle.std.proofs.lemmas.List.{length-append, drop_more, length-map}
 use Rattle.std.proofs.lemmas.List.Elements.{All-tail}

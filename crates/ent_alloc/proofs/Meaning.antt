@@ -2,7 +2,7 @@
 -- begins and ends.
 use Rattle.std.proofs.Common.{rules, ◌≡◌, ℕ, ℤ, pos, negsuc, ◌-ℤ◌, ◌≤ℤ◌, ◌+◌, ◌-◌, ◌<◌, ◌≤◌, Bool}
 use Rattle.std.proofs.Common.{false, List, [], ◌∷◌, ◌++◌, length, take, drop, reverse, filter, refl}
-use Rattle.std.proofs.Common.{ap, ◌∙◌, arith, suc, zero, subst, All, IsTrue, ◌↔◌, append_assoc}
+use Rattle.std.proofs.Common.{ap, arith, suc, zero, subst, All, IsTrue, ◌↔◌, append_assoc}
 use Rattle.std.proofs.lemmas.Grind.{common_steps}
 use Rattle.std.specs.FinSet as sets
 use Rattle.std.specs.FinMap as maps

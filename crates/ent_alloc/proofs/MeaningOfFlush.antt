@@ -1,7 +1,7 @@
 -- A flush of the roster is the allocator's flush.
 use Rattle.std.proofs.lemmas.Grind.{common_steps}
 use Rattle.std.proofs.Common.{rules, ◌≡◌, ℕ, ◌+◌, ◌-◌, ◌<◌, ◌≤◌, ◌||◌, List, ◌++◌, length, take}
-use Rattle.std.proofs.Common.{drop, reverse, filter, sym, ap, ◌∙◌, arith, All}
+use Rattle.std.proofs.Common.{drop, reverse, filter, ap, ◌∙◌, arith, All}
 use Rattle.std.specs.FinSet as sets
 use Rattle.std.proofs.lemmas.List.{length-reverse, reverse-reverse}
 use Rattle.std.proofs.lemmas.List.Folds.{list_any-append}

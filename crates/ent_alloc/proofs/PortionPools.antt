@@ -1,7 +1,7 @@
 -- Portions of a pool: the allocator whose pool begins with what was used, and what a request for it
 -- leaves.
-use Rattle.std.proofs.Common.{◌≡◌, ◌⊎◌, inl, inr, sym, ap, ◌∙◌, subst, ℕ, ◌+◌, ◌-◌, ◌≤◌, rules}
-use Rattle.std.proofs.Common.{List, [], ◌++◌, length, take, drop, arith, IsPermutation, append_assoc}
+use Rattle.std.proofs.Common.{◌≡◌, ◌⊎◌, inl, inr, sym, ◌∙◌, subst, ℕ, ◌-◌, ◌≤◌, rules}
+use Rattle.std.proofs.Common.{List, [], length, take, arith, IsPermutation, append_assoc}
 use Rattle.std.specs.Prelude.{◌≢◌}
 use Rattle.std.proofs.lemmas.Grind.{common_steps}
 use Rattle.std.proofs.lemmas.Bool.{cases_eq}
@@ -10,13 +10,13 @@ use Rattle.std.proofs.lemmas.List.{take-append-drop}
 use Rattle.std.proofs.lemmas.List.Sorted.{length_permutation}
 use Rattle.ent_handle.specs.Handle.{Handle}
 use Rattle.ent_alloc.specs.Roster.{Roster}
-use Rattle.ent_alloc.specs.Sequential.{Allocator, top, after_take}
+use Rattle.ent_alloc.specs.Sequential.{Allocator, after_take}
 use Rattle.ent_alloc.specs.Entities.{idle, allocator_of, AreReserved}
 use Rattle.ent_alloc.specs.Front.{with_front, slots_of, AreSlotsOf}
 use Rattle.ent_alloc.specs.declared.portion.Portion.{Portion}
 use Rattle.ent_alloc.specs.declared.requests.Requests.{Requests}
-use Rattle.ent_alloc.specs.Portions.{used_of, left_of, size_of, count_of, reach_of, AreUsed}
-use Rattle.ent_alloc.specs.Portions.{front_of, made_for, after_portions, arranged}
+use Rattle.ent_alloc.specs.Portions.{used_of, size_of, count_of, reach_of, AreUsed}
+use Rattle.ent_alloc.specs.Portions.{front_of, after_portions, arranged}
 use Rattle.ent_alloc.proofs.Meaning.{rest_is}
 use Rattle.ent_alloc.specs.Sound.{IsSound}
 use Rattle.ent_alloc.proofs.FrontPools.{with_front-sound}

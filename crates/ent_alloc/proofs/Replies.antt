@@ -1,7 +1,7 @@
 -- What a served reply lists: handles of different slots, none of them alive, all of them taken, and
 -- none twice in two replies.
-use Rattle.std.proofs.Common.{rules, ◌≡◌, ◌≢◌, refl, sym, ap, subst, ℕ, ◌<◌, ◌≤◌, true, false, not}
-use Rattle.std.proofs.Common.{nat_le, List, ◌++◌, length, take, reverse, filter, All, AllPairs}
+use Rattle.std.proofs.Common.{rules, ◌≡◌, ◌≢◌, refl, sym, ap, subst, ℕ, ◌<◌, ◌≤◌, not}
+use Rattle.std.proofs.Common.{List, ◌++◌, length, take, reverse, filter, All, AllPairs}
 use Rattle.std.proofs.Common.{Contains, IsPermutation, Ok, Err, arith, le-leb}
 use Rattle.std.proofs.lemmas.Grind.{common_steps}
 use Rattle.std.proofs.lemmas.Bool.{lt-leb}

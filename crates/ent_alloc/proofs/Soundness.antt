@@ -1,6 +1,6 @@
 -- Every step of the sequential allocator leads from a sound state to a sound state.
 use Rattle.std.proofs.Common.{rules, ◌≡◌, refl, sym, ap, ◌∙◌, subst, ℕ, zero, suc, ◌+◌, ◌-◌, ◌<◌}
-use Rattle.std.proofs.Common.{◌≤◌, true, false, true≢false, List, [], ◌∷◌, ◌++◌, length, get_or}
+use Rattle.std.proofs.Common.{◌≤◌, true≢false, List, [], ◌∷◌, ◌++◌, length, get_or}
 use Rattle.std.proofs.Common.{take, drop, All, AllPairs, arith, append-nil, lt-ltb, le-ltb, ◌≢◌}
 use Rattle.std.proofs.Common.{inl, inr, Some, None, Option}
 use Rattle.std.proofs.lemmas.Grind.{common_steps}

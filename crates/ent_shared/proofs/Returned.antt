@@ -11,8 +11,7 @@ use Rattle.ent_alloc.specs.declared.space.Space.{Space}
 use Rattle.ent_alloc.specs.declared.span.Span.{Span}
 use Rattle.ent_shared.specs.declared.record.Record.{Record}
 use Rattle.ent_shared.specs.Record.{reservation_at, after_reservation}
-use Rattle.ent_alloc.specs.Sequential.{Allocator, pool_at, reply_from, listed, asked_at, top}
-use Rattle.ent_alloc.specs.Sequential.{available}
+use Rattle.ent_alloc.specs.Sequential.{Allocator, pool_at, reply_from, listed, top}
 use Rattle.ent_alloc.specs.Sound.{IsSound}
 use Rattle.ent_alloc.proofs.Taken.{length-pool}
 

@@ -5,14 +5,14 @@ use Rattle.std.proofs.Common.{◌∷◌, ◌++◌, length, map, take, refl, sym,
 use Rattle.std.proofs.Common.{le-leb, length-append}
 use Rattle.std.proofs.lemmas.Grind.{common_steps}
 use Rattle.std.specs.Prelude.{Bool, true, false, cond, nat_le}
-use Rattle.std.specs.List.{All, filter, flat_map}
+use Rattle.std.specs.List.{All, flat_map}
 use Rattle.std.specs.Int.{int_min}
 use Rattle.std.proofs.lemmas.Bool.{cases_lt, lt-leb}
 use Rattle.std.proofs.lemmas.List.{length-take-le}
 use Rattle.std.proofs.lemmas.List.Elements.{All-head, All-tail}
 use Rattle.std.proofs.lemmas.Int.{ints}
 use Rattle.ent_handle.specs.Handle.{Handle}
-use Rattle.ent_alloc.specs.Sequential.{Allocator, available, cursor, top, is_old, pool_at}
+use Rattle.ent_alloc.specs.Sequential.{Allocator, available, cursor, top, pool_at}
 use Rattle.ent_alloc.specs.Sequential.{reply_from, after_take}
 use Rattle.ent_alloc.specs.Sound.{IsSound}
 use Rattle.ent_alloc.specs.History as history

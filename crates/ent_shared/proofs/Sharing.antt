@@ -1,6 +1,6 @@
 -- The reservers of a phase, as they are made one by one.
 use Rattle.std.proofs.Common.{rules, ◌≡◌, ℕ, zero, suc, ◌+◌, ◌-◌, ◌<◌, ◌≤◌, ℤ, List, [], ◌∷◌, ◌++◌}
-use Rattle.std.proofs.Common.{map, take, drop, refl, ap, ◌∙◌, arith}
+use Rattle.std.proofs.Common.{map, take, drop, refl, ap, arith}
 use Rattle.std.specs.FinMap as maps
 use Rattle.std.specs.List.{All}
 use Rattle.std.proofs.lemmas.List.{map-append}

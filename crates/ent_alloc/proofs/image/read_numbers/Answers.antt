@@ -1,6 +1,4 @@
 use Rattle.std.proofs.Common.{rules}
-use Rattle.std.proofs.Common.{◌++◌, ◌∙◌, ap, sym}
-use Rattle.ent_alloc.specs.Image.{word}
 use Rattle.ent_alloc.proofs.ImageHeader.{numbers_then}
 use Rattle.ent_alloc.proofs.image.read_numbers.Goals as goal
 

@@ -1,6 +1,5 @@
 use Rattle.std.proofs.Common.{rules}
-use Rattle.std.proofs.Common.{◌++◌, ◌∙◌, ap, sym}
-use Rattle.ent_alloc.specs.Image.{word, long, version, numbers_bytes}
+use Rattle.ent_alloc.specs.Image.{numbers_bytes}
 use Rattle.ent_alloc.proofs.ImageHeader.{header_is, letters, appended_8}
 use Rattle.ent_alloc.proofs.image.write_header.Goals as goal
 

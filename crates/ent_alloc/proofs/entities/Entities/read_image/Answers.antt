@@ -1,6 +1,5 @@
 use Rattle.std.proofs.Common.{rules}
 use Rattle.ent_alloc.proofs.ImageOf.{exact, kept_by_image, bounded}
-use Rattle.ent_alloc.specs.Spent.{AreSpent}
 use Rattle.ent_alloc.proofs.entities.Entities.read_image.Goals as goal
 
 pub returns-clause-exact : goal.returns-clause-exact

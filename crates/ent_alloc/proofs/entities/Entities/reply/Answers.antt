@@ -1,7 +1,6 @@
 use Rattle.std.proofs.Common.{rules, ◌≡◌, ◌+◌, pos, ◌-ℤ◌, nat_abs, ap, ◌∙◌, Ok, arith, to_z, of_z}
 use Rattle.std.proofs.Common.{w64, ℕ}
 use Rattle.std.proofs.lemmas.Int.{ints}
-use Rattle.ent_alloc.specs.Limits.{Limits}
 use Rattle.ent_alloc.specs.Sequential.{pool_at, reply_from}
 use Rattle.ent_alloc.proofs.FreshHandles.{fresh-none}
 use Rattle.ent_alloc.proofs.Meaning.{allocator_is}

@@ -1,6 +1,5 @@
 use Rattle.std.proofs.Common.{rules}
-use Rattle.std.proofs.Common.{◌≡◌, ◌<◌, ◌∙◌, ap, sym, arith, ◌^◌, to_z, of_z, w64}
-use Rattle.std.proofs.lemmas.Int.{ints}
+use Rattle.std.proofs.Common.{◌≡◌}
 use Rattle.ent_alloc.specs.Sequential.{listed_alone, reply_to}
 use Rattle.ent_alloc.proofs.Asked.{told_one, IsFront, of_front, of_refused, none_left, space_is}
 use Rattle.ent_alloc.proofs.entities.Entities.request_any.Goals.{After-reply_one, In_ok-reply_one}

@@ -1,10 +1,9 @@
-use Rattle.std.proofs.Common.{rules, ◌≡◌, ◌∙◌, sym, subst, All}
+use Rattle.std.proofs.Common.{rules, ◌≡◌, ◌∙◌, sym}
 use Rattle.ent_alloc.specs.Sequential.{reply_to}
-use Rattle.ent_alloc.specs.Sound.{IsSound, IsWithin}
+use Rattle.ent_alloc.specs.Sound.{IsSound}
 use Rattle.ent_alloc.proofs.Meaning.{allocator_is}
 use Rattle.ent_alloc.proofs.Asked.{told, of_served, of_refused, space_of_three}
-use Rattle.ent_alloc.proofs.entities.Entities.request_into.Goals.{After-reply, In_ok-reply}
-use Rattle.ent_alloc.proofs.entities.Entities.request_into.Goals.{In_err-reply}
+use Rattle.ent_alloc.proofs.entities.Entities.request_into.Goals.{After-reply}
 use Rattle.ent_alloc.proofs.entities.Entities.request_into.Goals as goal
 
 sound : (c : After-reply) → IsSound c.args.self.now.allocator

@@ -1,8 +1,7 @@
 use Rattle.std.proofs.Common.{rules}
-use Rattle.std.proofs.Common.{◌≡◌, ◌+◌, ◌-◌, ◌<◌, ◌^◌, pos, ◌≤ℤ◌, subst, sym, ap, ◌∙◌, refl}
+use Rattle.std.proofs.Common.{◌≡◌, ◌+◌, ◌-◌, ◌<◌, ◌^◌, pos, ◌≤ℤ◌, subst, sym, ap, refl}
 use Rattle.std.proofs.Common.{arith, length, Ok}
 use Rattle.std.proofs.lemmas.Int.{ints}
-use Rattle.ent_alloc.specs.declared.requests.Requests.{Requests}
 use Rattle.ent_alloc.specs.Sequential.{Allocator, after_take, cursor, top}
 use Rattle.ent_alloc.specs.Sound.{IsSound}
 use Rattle.ent_alloc.specs.Entities.{allocator_of, AreReserved}

@@ -1,4 +1,4 @@
-use Rattle.std.proofs.Common.{rules, ◌≡◌, ◌-◌, ap, ◌∙◌, arith, length, take}
+use Rattle.std.proofs.Common.{rules, ◌≡◌, ◌-◌, length, take}
 use Rattle.ent_alloc.specs.Front.{with_front, AreSlotsOf}
 use Rattle.ent_alloc.proofs.Meaning.{allocator_is, StandFor}
 use Rattle.ent_alloc.proofs.FrontPools.{few_of, room_of, enough_of, waits_of, stands_of, grown}

@@ -1,6 +1,4 @@
 use Rattle.std.proofs.Common.{rules}
-use Rattle.std.proofs.Common.{ap, ◌∙◌, arith}
-use Rattle.ent_alloc.specs.Sequential.{after_take}
 use Rattle.ent_alloc.proofs.LaidOut.{flushed-laid_out}
 use Rattle.ent_alloc.proofs.Portioned.{count_size}
 use Rattle.ent_alloc.proofs.PortionPools.{portions_taken, arranged_asked}

@@ -1,7 +1,5 @@
 use Rattle.std.proofs.Common.{rules}
-use Rattle.std.proofs.Common.{◌≡◌, ◌++◌, ap, ◌∙◌, sym}
 use Rattle.std.proofs.lemmas.List.{append_assoc}
-use Rattle.ent_alloc.specs.Image.{header, header_bytes, slots_bytes, roster}
 use Rattle.ent_alloc.proofs.ImageSound.{roster_is}
 use Rattle.ent_alloc.proofs.entities.Entities.write_image.Goals as goal
 

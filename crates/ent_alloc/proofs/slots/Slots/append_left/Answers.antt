@@ -1,5 +1,5 @@
 use Rattle.std.proofs.Common.{rules}
-use Rattle.std.proofs.Common.{◌≡◌, sym, ap, ◌∙◌, ◌+◌, ◌-◌, ◌≤◌, ◌++◌, [], length, get_or, take}
+use Rattle.std.proofs.Common.{sym, ap, ◌∙◌, ◌+◌, ◌-◌, ◌≤◌, ◌++◌, length, get_or, take}
 use Rattle.std.proofs.Common.{drop, arith, append_assoc}
 use Rattle.std.proofs.Math.ListN.{drop_of_length-le}
 use Rattle.std.proofs.lemmas.List.{length-map, append-nil}
@@ -8,7 +8,7 @@ use Rattle.ent_handle.specs.Handle.{Handle}
 use Rattle.ent_alloc.specs.declared.portion.Portion.{Portion}
 use Rattle.ent_alloc.specs.Entities.{idle}
 use Rattle.ent_alloc.specs.Front.{slots_of}
-use Rattle.ent_alloc.specs.Portions.{left_of, size_of, count_of}
+use Rattle.ent_alloc.specs.Portions.{left_of}
 use Rattle.ent_alloc.proofs.Portioned.{size_more, count_more, left_more, used_at, count_size}
 use Rattle.ent_alloc.proofs.Portioned.{no_portion, portion_is}
 use Rattle.ent_alloc.proofs.slots.Slots.append_left.Goals as goal

@@ -1,8 +1,5 @@
-use Rattle.std.proofs.Common.{rules, append_assoc, ◌+◌, ◌<◌, length, arith}
+use Rattle.std.proofs.Common.{rules, append_assoc}
 use Rattle.std.proofs.lemmas.List.{length-map}
-use Rattle.ent_handle.specs.Handle.{Handle}
-use Rattle.ent_alloc.specs.Entities.{idle}
-use Rattle.ent_alloc.specs.Front.{slots_of}
 use Rattle.ent_alloc.proofs.Portioned.{list_more}
 use Rattle.ent_alloc.proofs.slots.Slots.append_slots.Goals as goal
 

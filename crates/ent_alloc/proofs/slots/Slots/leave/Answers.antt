@@ -6,7 +6,7 @@ use Rattle.ent_alloc.proofs.LivingOccupant.{occupant_generation}
 use Rattle.ent_alloc.proofs.Released.{one_lives, release_keeps_links, roster_of-release}
 use Rattle.ent_alloc.proofs.Released.{retire_keeps_links, roster_of-retire}
 use Rattle.ent_alloc.proofs.slots.Slots.leave.Goals.{Else-not-is_occupied_by, After-is_occupied_by}
-use Rattle.ent_alloc.proofs.slots.Slots.leave.Goals.{Else-generation-generations, In_default}
+use Rattle.ent_alloc.proofs.slots.Slots.leave.Goals.{Else-generation-generations}
 use Rattle.ent_alloc.proofs.slots.Slots.leave.Goals as goal
 
 -- the look-up tells whether the handle is that of an occupant

@@ -1,10 +1,6 @@
 use Rattle.std.proofs.Common.{rules}
-use Rattle.std.proofs.Common.{◌++◌, ap, ◌∙◌, subst, sym, List, ℕ, ◌<◌, ◌^◌, length}
-use Rattle.std.specs.List.{flat_map}
-use Rattle.ent_alloc.specs.declared.slot_record.SlotRecord.{SlotRecord}
-use Rattle.ent_alloc.specs.Slots.{record_at}
-use Rattle.ent_alloc.specs.ImageRecords.{record_bytes}
-use Rattle.ent_alloc.specs.Image.{slots_bytes, AreSlots, number_of}
+use Rattle.std.proofs.Common.{subst}
+use Rattle.ent_alloc.specs.Image.{AreSlots}
 use Rattle.ent_alloc.proofs.ImageLinked.{AreTied, tied, are_slots, slots_bytes_are}
 use Rattle.ent_alloc.proofs.slots.Slots.write_image.Goals.{After-write_slots}
 use Rattle.ent_alloc.proofs.slots.Slots.write_image.Goals as goal

@@ -1,10 +1,8 @@
 use Rattle.std.proofs.Common.{rules}
-use Rattle.std.proofs.Common.{◌++◌, ap, ◌∙◌, subst}
-use Rattle.std.specs.List.{flat_map}
+use Rattle.std.proofs.Common.{subst}
 use Rattle.std.specs.FinMap as maps
 use Rattle.ent_alloc.specs.Roster.{Roster}
-use Rattle.ent_alloc.specs.ImageRecords.{rowless_bytes}
-use Rattle.ent_alloc.specs.Image.{slots_bytes, AreSlots}
+use Rattle.ent_alloc.specs.Image.{AreSlots}
 use Rattle.ent_alloc.proofs.ImageRowless.{rowless_slots, rowless_bytes_are}
 use Rattle.ent_alloc.proofs.slots.Slots.write_image_without_rows.Goals as goal
 

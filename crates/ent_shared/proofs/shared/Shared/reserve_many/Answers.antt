@@ -1,9 +1,9 @@
-use Rattle.std.proofs.Common.{rules, ◌-ℤ◌, ◌≤ℤ◌, pos, sym, arith, to_z, of_z, w64, ◌++◌}
+use Rattle.std.proofs.Common.{rules, ◌-ℤ◌, pos, arith, to_z, of_z, w64, ◌++◌}
 use Rattle.std.proofs.Common.{append-nil, ◌≡◌, ap, ◌∙◌}
 use Rattle.ent_alloc.specs.History.{handles_in}
 use Rattle.ent_shared.specs.Order.{handles_given}
 use Rattle.std.proofs.lemmas.Int.{ints}
-use Rattle.ent_shared.specs.Phase.{Shared, Reserver, own_of}
+use Rattle.ent_shared.specs.Phase.{Reserver, own_of}
 use Rattle.ent_shared.proofs.Seating.{seated_reservation, of_stepped, given_now}
 use Rattle.ent_shared.proofs.Returned.{served_floor, refused_floor, span_at, nothing_at}
 use Rattle.ent_shared.proofs.Returned.{length-served, enough_at_first}
