@@ -54,8 +54,7 @@ among-headed allowed (m ∷ ms) = search (rules, among-headed allowed ms)
 
 among-heads : (allowed : List (List ℕ)) (ms : Members) → keys_among allowed (pairs_of (heads ms)) ≡
     keys_among allowed (pairs_of ms)
-among-heads allowed ms =
-    ap (keys_among allowed) (pairs_of-heads ms) ∙ among-headed allowed (pairs_of ms)
+among-heads allowed ms = search (rules, pairs_of-heads, among-headed)
 
 get_member-heads_at : (o : Ordering) (q k : List ℕ) (d : Data) (x y : Option Data)
     → slice_cmp nat_cmp q k ≡ o → bytes_eq q (codes "components") ≡ false → x ≡ option_map (cut 0) y
@@ -82,12 +81,7 @@ part-heads absent low high q ms other = search (rules, get_member-heads, whole-c
 
 pub heading_of-heads : (ms : Members) → heading_of (object (heads ms)) ≡ heading_of (object ms)
 unfolding heading_of
-heading_of-heads ms = rw (
-  among-heads,
-  part-heads 1 1 2 (codes "format") ms refl,
-  part-heads 4294967295 1 4294967295 (codes "slots") ms refl,
-  part-heads 2147483647 1 2147483647 (codes "generations") ms refl,
-) refl
+heading_of-heads ms = search (rules, among-heads, part-heads)
 
 -- what is no object has no heading
 pub no_heading : (d : Data) → as_object d ≡ None → heading_of null ≡ heading_of d
@@ -104,6 +98,4 @@ pub read_there : {P : Data → List Token → Type 0} (o : Option (Data × List 
     (after : List Token) → left o ≡ Some after
     → ((d : Data) (rest : List Token) → o ≡ Some (d, rest) → P d rest)
     → (d : Data) × (o ≡ Some (d, after)) × P d after
-read_there o after over known =
-    let d = left_some o after over in
-    (d.0, d.1, known d.0 after d.1)
+read_there o after over known = search (rules, left_some)
