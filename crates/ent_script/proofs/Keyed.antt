@@ -53,10 +53,7 @@ among-put_at : (o : Ordering) (allowed : List (List ℕ)) (k l : List ℕ) (d e 
     (member l e (put k d ms))))
     ≡ (one_of allowed k && (one_of allowed l && keys_among allowed (pairs_of ms)))
 among-put_at Less allowed k l d e ms is later = refl
-among-put_at Equal allowed k l d e ms is later =
-    let same : k ≡ l = (bytes_eq-Decides k l).0 (sym (is_eq-slice_cmp k l) ∙ ap is_eq is) in
-    twice (one_of allowed l) (keys_among allowed (pairs_of ms))
-    ∙ ap (λ x. one_of allowed x && (one_of allowed l && keys_among allowed (pairs_of ms))) (sym same)
+among-put_at Equal allowed k l d e ms is later = let same : k ≡ l = (bytes_eq-Decides k l).0 (sym (is_eq-slice_cmp k l) ∙ ap is_eq is) in search (rules, twice)
 among-put_at Greater allowed k l d e ms is later = search (rules, swapped)
 
 pub among-put : (allowed : List (List ℕ)) (k : List ℕ) (d : Data) (ms : Members)

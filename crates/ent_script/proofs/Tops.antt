@@ -26,9 +26,7 @@ heads-put_at : (o : Ordering) (k l : List ℕ) (d e : Data) (ms : Members) → s
     ≡ match_ordering o (member k (head k d) (member l (head l e) (heads ms)))
     (member l (head k d) (heads ms)) (member l (head l e) (put k (head k d) (heads ms)))
 heads-put_at Less k l d e ms is later = refl
-heads-put_at Equal k l d e ms is later =
-    let same : k ≡ l = (bytes_eq-Decides k l).0 (sym (is_eq-slice_cmp k l) ∙ ap is_eq is) in
-    ap (λ (x : List ℕ). member l (head x d) (heads ms)) (sym same)
+heads-put_at Equal k l d e ms is later = let same : k ≡ l = (bytes_eq-Decides k l).0 (sym (is_eq-slice_cmp k l) ∙ ap is_eq is) in search rules
 heads-put_at Greater k l d e ms is later = ap (member l (head l e)) later
 
 pub heads-put : (k : List ℕ) (d : Data) (ms : Members) → heads (put k d ms) ≡ put k (head k d)
@@ -60,10 +58,7 @@ get_member-heads_at : (o : Ordering) (q k : List ℕ) (d : Data) (x y : Option D
     → slice_cmp nat_cmp q k ≡ o → bytes_eq q (codes "components") ≡ false → x ≡ option_map (cut 0) y
     → match_ordering o x (Some (head k d)) x ≡ option_map (cut 0) (match_ordering o y (Some d) y)
 get_member-heads_at Less q k d x y is other later = later
-get_member-heads_at Equal q k d x y is other later =
-    let same : q ≡ k = (bytes_eq-Decides q k).0 (sym (is_eq-slice_cmp q k) ∙ ap is_eq is) in
-    ap (λ b. Some (cond b null (cut 0 d)))
-    (ap (λ x. bytes_eq x (codes "components")) (sym same) ∙ other)
+get_member-heads_at Equal q k d x y is other later = let same : q ≡ k = (bytes_eq-Decides q k).0 (sym (is_eq-slice_cmp q k) ∙ ap is_eq is) in search rules
 get_member-heads_at Greater q k d x y is other later = later
 
 get_member-heads : (q : List ℕ) (ms : Members) → bytes_eq q (codes "components") ≡ false
