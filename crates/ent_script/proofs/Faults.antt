@@ -12,7 +12,7 @@ passes_on it part whole h follows = search rules
 pub returned : {A : Type 0} (e : ReadFault) (result : Result A ReadFault)
     (whole : Result A ReadFault)
     → result ≡ Err e → ReadsAs {A = A} (Err e) whole → ReadsAs result whole
-returned {A} e result whole is h = subst (λ (r : Result A ReadFault). ReadsAs r whole) (sym is) h
+returned {A} e result whole is h = search rules
 
 -- the fault of a part that is a list, in a vector, is the fault of the whole
 pub passes_from_list : {A B : Type 0} (e : ReadFault) (part : Result (List A) ReadFault)

@@ -29,12 +29,9 @@ module _ (p : Parse json.Json) where
       × (converted of_json (p ts) ≡ Some (d, r)) ×
       (converted of_items (items p (n - 1) r) ≡ Some (later, rest))
   unfolding items
-  next_by None n ts rest ds first going e = impossible (ds, rest)
-      (sym (item_refused p n ts going first) ∙ e)
+  next_by None n ts rest ds first going e = search (rules, impossible, item_refused)
   next_by (Some q) zero ts rest ds first going e = impossible (ds, rest) e
-  next_by (Some q) (suc n) ts rest ds first going e =
-      let turn = item_read p (suc n) ts q.1 q.0 (omega arith) going first in
-      search (rules, mapped, turn)
+  next_by (Some q) (suc n) ts rest ds first going e = search (rules, item_read, mapped)
 
   pub next_item : (n : ℕ) (ts rest : List Token) (ds : Items) → after_end_array ts ≡ None
       → converted of_items (items p n ts) ≡ Some (ds, rest)
@@ -72,7 +69,7 @@ module _ (p : Parse json.Json) where
 
   pub no_key : (n : ℕ) (ts rest : List Token) (old ms : Members) {P : Type 0} → read_key ts ≡ None
       → converted (λ ms. of_members ms old) (members p n ts) ≡ Some (ms, rest) → P
-  no_key n ts rest old ms none e = impossible (ms, rest) (sym (key_refused p old n ts none) ∙ e)
+  no_key n ts rest old ms none e = search (rules, impossible, key_refused)
 
 -- ---- a value that does not begin with the bracket of an array is none
 
@@ -88,7 +85,7 @@ no_object_at depth t ts r d other e = search (rules, mapped, converted-array, im
 -- after no token there is no value
 pub no_token : (depth : ℕ) (r : List Token) (d : Data) {P : Type 0} → converted of_json
     (value depth []) ≡ Some (d, r) → P
-no_token depth r d e = impossible (d, r) (sym (ap (converted of_json) (value_is depth [])) ∙ e)
+no_token depth r d e = search (rules, impossible, value_is)
 
 -- what was passed over
 pub passed : {A : Type 0} (o : Option (A × List Token)) (left r : List Token) (a : A) → option_map

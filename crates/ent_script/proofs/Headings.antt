@@ -28,7 +28,7 @@ pub found : (o : Option Data) (heading : Heading) → headed o ≡ Ok heading
 found it heading h = search rules
 
 pub json_is : (text : List ℕ) → IsUtf8 text → json_of text ≡ read text
-json_is text utf8 = ap (λ (b : Bool). cond b (read text) None) (is_utf8-from_IsUtf8 text utf8)
+json_is text utf8 = search (rules, is_utf8-from_IsUtf8)
 
 abbrev last : Option (json.Json × List Token) → Option Data
 last o = option_and_then of_json (option_and_then (λ p. json.if_last p.0 p.1) o)

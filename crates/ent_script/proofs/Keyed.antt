@@ -1,4 +1,5 @@
 -- The keys of an operation as they are put in, and what it is by them.
+use Rattle.std.proofs.Common.{rules}
 use Rattle.std.proofs.Common.{◌≡◌, ◌∙◌, ℕ, List, [], ◌∷◌, Bool, true, false, ◌&&◌, Option}
 use Rattle.std.proofs.Common.{Some, None, option_map, is_some, Ordering, Less, Equal, Greater}
 use Rattle.std.proofs.Common.{nat_cmp, is_eq, bytes_eq, refl, sym, ap, Bor}
@@ -52,13 +53,8 @@ among-put_at : (o : Ordering) (allowed : List (List ℕ)) (k l : List ℕ) (d e 
     (member l e (put k d ms))))
     ≡ (one_of allowed k && (one_of allowed l && keys_among allowed (pairs_of ms)))
 among-put_at Less allowed k l d e ms is later = refl
-among-put_at Equal allowed k l d e ms is later =
-    let same : k ≡ l = (bytes_eq-Decides k l).0 (sym (is_eq-slice_cmp k l) ∙ ap is_eq is) in
-    twice (one_of allowed l) (keys_among allowed (pairs_of ms))
-    ∙ ap (λ x. one_of allowed x && (one_of allowed l && keys_among allowed (pairs_of ms))) (sym same)
-among-put_at Greater allowed k l d e ms is later =
-    ap (λ b. one_of allowed l && b) later
-    ∙ swapped (one_of allowed l) (one_of allowed k) (keys_among allowed (pairs_of ms))
+among-put_at Equal allowed k l d e ms is later = let same : k ≡ l = (bytes_eq-Decides k l).0 (sym (is_eq-slice_cmp k l) ∙ ap is_eq is) in search (rules, twice)
+among-put_at Greater allowed k l d e ms is later = search (rules, swapped)
 
 pub among-put : (allowed : List (List ℕ)) (k : List ℕ) (d : Data) (ms : Members)
     → keys_among allowed (pairs_of (put k d ms))
@@ -81,9 +77,7 @@ swap false false = refl
 pub with_key : (allowed : List (List ℕ)) (k : List ℕ) (d : Data) (ms : Members) (are one : Bool)
     → AreAmong allowed are ms → AreAmong allowed one (put k d no_members)
     → AreAmong allowed (are && one) (put k d ms)
-with_key allowed k d ms are one a o =
-    swap are one ∙ ap (λ b. b && are) (o ∙ sym (right (one_of allowed k)))
-    ∙ ap (λ b. one_of allowed k && b) a ∙ sym (among-put allowed k d ms)
+with_key allowed k d ms are one a o = search (rules, swap, right, among-put)
 
 -- a key that is one of one, two or three
 pub one_key : (a : Bool) → a ≡ ((a || false) && true)
@@ -105,19 +99,16 @@ three_keys false false false = refl
 
 pub under_here : (name k : List ℕ) (d : Data) (ms : Members) (v : Part) → data_of v ≡ cut 1 d
     → bytes_eq k name ≡ true → IsUnder name (Some v) (put k d ms)
-under_here name k d ms v seen e =
-    ap Some seen ∙ ap (option_map (cut 1)) (sym (found_here name k d ms e))
+under_here name k d ms v seen e = search (rules, found_here)
 
 pub under_before : (name k : List ℕ) (d : Data) (ms : Members) (f : Option Part)
     → IsUnder name f ms → bytes_eq k name ≡ false → IsUnder name f (put k d ms)
-under_before name k d ms f under e =
-    under ∙ ap (option_map (cut 1)) (sym (found_before name k d ms e))
+under_before name k d ms f under e = search (rules, found_before)
 
 -- a key is one name, and so no other
 pub apart : (name other k : List ℕ) → bytes_eq k name ≡ true → bytes_eq name other ≡ false
     → bytes_eq k other ≡ false
-apart name other k e differ =
-    ap (λ x. bytes_eq x other) ((bytes_eq-Decides k name).0 e) ∙ differ
+apart name other k e differ = search (rules, bytes_eq-Decides)
 
 there : (f : Option Part) (o : Option Data) → option_map data_of f ≡ option_map (cut 1) o
     → is_some f ≡ is_some o
@@ -132,41 +123,27 @@ module _ (k : List ℕ) (allowed : List (List ℕ)) (ms : Members) (f : Option P
     (under : IsUnder k f ms) (are : AreAmong allowed among ms) where
   pub one_there : is_some f ≡ true → among ≡ has_keys (k ∷ []) allowed (object ms)
   unfolding has_keys
-  one_there is =
-      are ∙ ap (λ b. (b && true) && keys_among allowed (pairs_of ms))
-      (sym is ∙ there f (get_member k ms) under)
+  one_there is = search (rules, there)
 
   pub one_absent : is_some f ≡ false → false ≡ has_keys (k ∷ []) allowed (object ms)
   unfolding has_keys
-  one_absent is =
-      ap (λ b. (b && true) && keys_among allowed (pairs_of ms))
-      (sym is ∙ there f (get_member k ms) under)
+  one_absent is = search (rules, there)
 
 module _ (k l : List ℕ) (allowed : List (List ℕ)) (ms : Members) (f g : Option Part) (among : Bool)
     (under : IsUnder k f ms) (beside : IsUnder l g ms) (are : AreAmong allowed among ms) where
   pub two_there : is_some f ≡ true → is_some g ≡ true
       → among ≡ has_keys (k ∷ l ∷ []) allowed (object ms)
   unfolding has_keys
-  two_there is too =
-      are ∙ ap (λ b. (b && (true && true)) && keys_among allowed (pairs_of ms))
-      (sym is ∙ there f (get_member k ms) under)
-      ∙ ap (λ b. (is_some (get_member k ms) && (b && true)) && keys_among allowed (pairs_of ms))
-      (sym too ∙ there g (get_member l ms) beside)
+  two_there is too = search (rules, there)
 
   pub two_first : is_some f ≡ false → false ≡ has_keys (k ∷ l ∷ []) allowed (object ms)
   unfolding has_keys
-  two_first is =
-      ap (λ b. (b && (is_some (get_member l ms) && true)) && keys_among allowed (pairs_of ms))
-      (sym is ∙ there f (get_member k ms) under)
+  two_first is = search (rules, there)
 
   pub two_second : is_some f ≡ true → is_some g ≡ false
       → false ≡ has_keys (k ∷ l ∷ []) allowed (object ms)
   unfolding has_keys
-  two_second is too =
-      ap (λ b. (b && (false && true)) && keys_among allowed (pairs_of ms))
-      (sym is ∙ there f (get_member k ms) under)
-      ∙ ap (λ b. (is_some (get_member k ms) && (b && true)) && keys_among allowed (pairs_of ms))
-      (sym too ∙ there g (get_member l ms) beside)
+  two_second is too = search (rules, there)
 
 -- ---- what its fields mean
 
@@ -179,11 +156,11 @@ module _ (components bound : List (List ℕ)) (before : Option ℕ) (f : Fields)
     (at : AreFields f ms) where
   bundle_under : (k : List ℕ) (o : Option Part) → IsUnder k o ms
       → read_bundle components (option_map data_of o) ≡ read_bundle components (get_member k ms)
-  bundle_under k o e = ap (read_bundle components) e ∙ bundle-cut 0 components (get_member k ms)
+  bundle_under k o e = search (rules, bundle-cut)
 
   with_under : (k : List ℕ) (o : Option Part) → IsUnder k o ms
       → with_of components (option_map data_of o) ≡ with_of components (get_member k ms)
-  with_under k o e = ap (with_of components) e ∙ with-cut 0 components (get_member k ms)
+  with_under k o e = search (rules, with-cut)
 
   count_under : (k : List ℕ) (o : Option Part) → IsUnder k o ms
       → count_of (option_map data_of o) ≡ count_of (get_member k ms)
@@ -191,39 +168,24 @@ module _ (components bound : List (List ℕ)) (before : Option ℕ) (f : Fields)
 
   binding_under : (k : List ℕ) (o : Option Part) → IsUnder k o ms
       → binding_of bound (option_map data_of o) ≡ binding_of bound (get_member k ms)
-  binding_under k o e = ap (binding_of bound) e ∙ binding-cut 1 bound (get_member k ms)
+  binding_under k o e = search (rules, binding-cut)
 
   removed_under : (k : List ℕ) (o : Option Part) → IsUnder k o ms
       → removed_of components (option_map data_of o) ≡ removed_of components (get_member k ms)
-  removed_under k o e = ap (removed_of components) e ∙ removed-cut 1 components (get_member k ms)
+  removed_under k o e = search (rules, removed-cut)
 
   target_under : (k : List ℕ) (o : Option Part) → IsUnder k o ms
       → target_of components bound before (option_map data_of o)
       ≡ target_of components bound before (get_member k ms)
-  target_under k o e =
-      ap (target_of components bound before) e
-      ∙ target-cut 0 components bound before (get_member k ms)
+  target_under k o e = search (rules, target-cut)
 
   pub of_fields-means : (kind : Kind) → of_fields components bound before f kind
       ≡ of_kind components bound before (object ms) kind
   unfolding of_kind of_fields
-  of_fields-means kinds.Spawn = rw (
-    bundle_under (codes "spawn") f.spawn at.spawn,
-    binding_under (codes "as") f.binds at.binds,
-  )
-  of_fields-means kinds.SpawnMany = rw (
-    count_under (codes "spawn_many") f.spawn_many at.spawn_many,
-    with_under (codes "with") f.«with» at.«with»,
-    binding_under (codes "as") f.binds at.binds,
-  )
-  of_fields-means kinds.Insert = rw (
-    bundle_under (codes "insert") f.insert at.insert,
-    target_under (codes "on") f.on at.on,
-  )
-  of_fields-means kinds.Remove = rw (
-    removed_under (codes "remove") f.remove at.remove,
-    target_under (codes "on") f.on at.on,
-  )
+  of_fields-means kinds.Spawn = search (rules, bundle_under, binding_under)
+  of_fields-means kinds.SpawnMany = search (rules, count_under, with_under, binding_under)
+  of_fields-means kinds.Insert = search (rules, bundle_under, target_under)
+  of_fields-means kinds.Remove = search (rules, removed_under, target_under)
   of_fields-means kinds.Despawn = rw (target_under (codes "despawn") f.despawn at.despawn)
 
 -- what is no object is no operation

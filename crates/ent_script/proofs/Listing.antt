@@ -87,14 +87,7 @@ module _ {A : Type 0} (p : Parse json.Json) (f : ℕ → Data → Result A ReadF
       → ((n : ℕ) (later : Items) (r : List Token) → converted of_items (items p n left) ≡ Some
       (later, r) → FaultOfArray room e limit found after later r)
       → (listed most f limit (list_of ds) ≡ Err found) × (after ≡ rest)
-  at_fault most room limit e found done number now left after ds rest at going more other reads
-      faults =
-      let next = next_item p at.0 now rest at.1 going at.2 in
-      let is = streams_fault e left (f number next.0) next.1 other (reads next.0 next.1 next.4) in
-      let fault = faults (at.0 - 1) next.2 rest (rw is.1 next.5) in
-      let means : numbered f 0 (list_of ds) ≡ Err e = search (rules, onto) in
-      let longer : length (list_of at.1) ≡ length (list_of next.2) + 1 = search (rules, add-one) in
-      (search (rules, le-leb, lt-leb, fault.few, fault.many), fault.passed)
+  at_fault most room limit e found done number now left after ds rest at going more other reads faults = let next = next_item p at.0 now rest at.1 going at.2 in let is = streams_fault e left (f number next.0) next.1 other (reads next.0 next.1 next.4) in let fault = faults (at.0 - 1) next.2 rest (rw is.1 next.5) in let means : numbered f 0 (list_of ds) ≡ Err e = search (rules, onto) in (search (rules, le-leb, lt-leb, fault.few, fault.many), fault.passed)
 
 pub streamed_list : {A : Type 0} (r : Result (Vec A) ReadFault) (left : List Token)
     (read : Result (List A) ReadFault) (rest : List Token)

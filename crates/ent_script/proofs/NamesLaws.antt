@@ -86,4 +86,4 @@ new_name_is names d t h = found_by (as_name d) t names h
 
 pub with_new : (names : List (List ℕ)) (t : List ℕ) → number_among t names ≡ None
     → with_name names t ≡ names ++ t ∷ []
-with_new names t h = ap (λ (o : Option ℕ). cond (is_some o) names (names ++ t ∷ [])) h
+with_new names t h = search rules

@@ -20,10 +20,10 @@ module _ (depth : ℕ) (b : Bool) (ts : List Token) (d : Data) (rest : List Toke
     (begins : BeginsArray depth (Ok b) ts d rest) where
   pub array_begun : b ≡ true → (ds : Items) × (d ≡ array ds)
       × (converted of_items (items (value (depth - 1)) (length ts) ts) ≡ Some (ds, rest))
-  array_begun is = subst (λ (x : Bool). BeginsArray depth (Ok x) ts d rest) is begins
+  array_begun is = search rules
 
   pub no_array_begun : b ≡ false → (as_array d ≡ None) × (ts ≡ rest)
-  no_array_begun is = subst (λ (x : Bool). BeginsArray depth (Ok x) ts d rest) is begins
+  no_array_begun is = search rules
 
 -- whether the value was an object
 module _ (depth : ℕ) (b : Bool) (ts : List Token) (d : Data) (rest : List Token)
@@ -31,16 +31,16 @@ module _ (depth : ℕ) (b : Bool) (ts : List Token) (d : Data) (rest : List Toke
   pub object_begun : b ≡ true → (ms : Members) × (d ≡ object ms)
       × (converted (λ ms. of_members ms no_members) (members (value (depth - 1)) (length ts) ts)
       ≡ Some (ms, rest))
-  object_begun is = subst (λ (x : Bool). BeginsObject depth (Ok x) ts d rest) is begins
+  object_begun is = search rules
 
   pub no_object_begun : b ≡ false → (as_object d ≡ None) × (ts ≡ rest)
-  no_object_begun is = subst (λ (x : Bool). BeginsObject depth (Ok x) ts d rest) is begins
+  no_object_begun is = search rules
 
 -- whether the text is an object
 module _ (text : List ℕ) (d : Data) (read_as : read text ≡ Some d) (all : List Token)
     (of_text : all ≡ tokens text) where
   whole : converted of_json (value 127 all) ≡ Some (d, [])
-  whole = ap (λ ts. converted of_json (value 127 ts)) of_text ∙ whole_text text d read_as
+  whole = search (rules, whole_text)
 
   pub text_object : (ts : List Token) → all ≡ Token.begin_object ∷ ts
       → (ms : Members) × (d ≡ object ms)

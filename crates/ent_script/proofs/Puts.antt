@@ -35,10 +35,7 @@ get_member-put_other_at : (o : Ordering) (q k l : List ℕ) (d e : Data) (ms : M
     → get_member q (match_ordering o (member k d (member l e ms)) (member l d ms)
     (member l e (put k d ms))) ≡ get_member q (member l e ms)
 get_member-put_other_at Less q k l d e ms is other later = skips q k d (member l e ms) other
-get_member-put_other_at Equal q k l d e ms is other later =
-    let same : k ≡ l = (bytes_eq-Decides k l).0 (sym (is_eq-slice_cmp k l) ∙ ap is_eq is) in
-    let apart = λ (h : q ≡ l). other (h ∙ sym same) in
-    skips q l d ms apart ∙ sym (skips q l e ms apart)
+get_member-put_other_at Equal q k l d e ms is other later = let same : k ≡ l = (bytes_eq-Decides k l).0 (sym (is_eq-slice_cmp k l) ∙ ap is_eq is) in let apart = λ (h : q ≡ l). other (h ∙ sym same) in search (rules, skips)
 get_member-put_other_at Greater q k l d e ms is other later = search (rules)
 
 -- the other names keep their values

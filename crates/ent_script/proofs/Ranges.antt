@@ -71,12 +71,7 @@ HasLimits heading = AreLimits heading.limits
 limits_in2 : (slots generations : ℕ) → Between 1 4294967295 slots
     → Between 1 2147483647 generations
     → AreLimits (record { slots = slots; generations = generations })
-limits_in2 slots generations s g = record {
-  some_slot = s.0;
-  slots = omega (arith, s.1);
-  some_generation = g.0;
-  generations = omega (arith, g.1);
-}
+limits_in2 slots generations s g = search rules
 
 after_slots : (f : Format) (slots generations : Option ℕ) → IfSome slots (Between 1 4294967295)
     → IfSome generations (Between 1 2147483647) → IfOk (ok_or slots script_cause.Slots >>=
@@ -88,11 +83,7 @@ after_slots f it us s g = search (rules, limits_in2)
 
 heading_in : (d : Data) → IfOk (heading_of d) HasLimits
 unfolding heading_of
-heading_in d =
-    let s = absent_in 4294967295 1 4294967295 (lit≤ tt, lit≤ tt) (get (codes "slots") d) in
-    let g = absent_in 2147483647 1 2147483647 (lit≤ tt, lit≤ tt) (get (codes "generations") d) in
-    let after = λ (f : Format). after_slots f _ _ s g in
-    search (rules, then_any, after)
+heading_in d = search (rules, absent_in, after_slots, then_any)
 
 -- what a value means is a script
 pub script_in : (d : Data) → IfOk (script_of d) IsScript

@@ -26,9 +26,7 @@ heads-put_at : (o : Ordering) (k l : List ℕ) (d e : Data) (ms : Members) → s
     ≡ match_ordering o (member k (head k d) (member l (head l e) (heads ms)))
     (member l (head k d) (heads ms)) (member l (head l e) (put k (head k d) (heads ms)))
 heads-put_at Less k l d e ms is later = refl
-heads-put_at Equal k l d e ms is later =
-    let same : k ≡ l = (bytes_eq-Decides k l).0 (sym (is_eq-slice_cmp k l) ∙ ap is_eq is) in
-    ap (λ (x : List ℕ). member l (head x d) (heads ms)) (sym same)
+heads-put_at Equal k l d e ms is later = let same : k ≡ l = (bytes_eq-Decides k l).0 (sym (is_eq-slice_cmp k l) ∙ ap is_eq is) in search rules
 heads-put_at Greater k l d e ms is later = ap (member l (head l e)) later
 
 pub heads-put : (k : List ℕ) (d : Data) (ms : Members) → heads (put k d ms) ≡ put k (head k d)
@@ -54,17 +52,13 @@ among-headed allowed (m ∷ ms) = search (rules, among-headed allowed ms)
 
 among-heads : (allowed : List (List ℕ)) (ms : Members) → keys_among allowed (pairs_of (heads ms)) ≡
     keys_among allowed (pairs_of ms)
-among-heads allowed ms =
-    ap (keys_among allowed) (pairs_of-heads ms) ∙ among-headed allowed (pairs_of ms)
+among-heads allowed ms = search (rules, pairs_of-heads, among-headed)
 
 get_member-heads_at : (o : Ordering) (q k : List ℕ) (d : Data) (x y : Option Data)
     → slice_cmp nat_cmp q k ≡ o → bytes_eq q (codes "components") ≡ false → x ≡ option_map (cut 0) y
     → match_ordering o x (Some (head k d)) x ≡ option_map (cut 0) (match_ordering o y (Some d) y)
 get_member-heads_at Less q k d x y is other later = later
-get_member-heads_at Equal q k d x y is other later =
-    let same : q ≡ k = (bytes_eq-Decides q k).0 (sym (is_eq-slice_cmp q k) ∙ ap is_eq is) in
-    ap (λ b. Some (cond b null (cut 0 d)))
-    (ap (λ x. bytes_eq x (codes "components")) (sym same) ∙ other)
+get_member-heads_at Equal q k d x y is other later = let same : q ≡ k = (bytes_eq-Decides q k).0 (sym (is_eq-slice_cmp q k) ∙ ap is_eq is) in search rules
 get_member-heads_at Greater q k d x y is other later = later
 
 get_member-heads : (q : List ℕ) (ms : Members) → bytes_eq q (codes "components") ≡ false
@@ -82,12 +76,7 @@ part-heads absent low high q ms other = search (rules, get_member-heads, whole-c
 
 pub heading_of-heads : (ms : Members) → heading_of (object (heads ms)) ≡ heading_of (object ms)
 unfolding heading_of
-heading_of-heads ms = rw (
-  among-heads,
-  part-heads 1 1 2 (codes "format") ms refl,
-  part-heads 4294967295 1 4294967295 (codes "slots") ms refl,
-  part-heads 2147483647 1 2147483647 (codes "generations") ms refl,
-) refl
+heading_of-heads ms = search (rules, among-heads, part-heads)
 
 -- what is no object has no heading
 pub no_heading : (d : Data) → as_object d ≡ None → heading_of null ≡ heading_of d
@@ -104,6 +93,4 @@ pub read_there : {P : Data → List Token → Type 0} (o : Option (Data × List 
     (after : List Token) → left o ≡ Some after
     → ((d : Data) (rest : List Token) → o ≡ Some (d, rest) → P d rest)
     → (d : Data) × (o ≡ Some (d, after)) × P d after
-read_there o after over known =
-    let d = left_some o after over in
-    (d.0, d.1, known d.0 after d.1)
+read_there o after over known = search (rules, left_some)

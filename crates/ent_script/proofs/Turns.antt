@@ -54,8 +54,7 @@ module _ (p : Parse json.Json) where
       (p ts) ≡ None → converted of_items (items p n ts) ≡ None
   unfolding items
   item_refused zero ts going e = refl
-  item_refused (suc n) ts going e = ap
-      (λ o. converted of_items (items_step p (items p n) ts o)) going ∙ no_item (items p n) (p ts) e
+  item_refused (suc n) ts going e = search (rules, no_item)
 
   pub items_over : (n : ℕ) (ts r : List Token) → length ts ≤ n → after_end_array ts ≡ Some r →
       converted of_items (items p n ts) ≡ Some (no_items, r)
@@ -84,4 +83,4 @@ module _ (p : Parse json.Json) where
 
     pub key_refused : (n : ℕ) (ts : List Token) → read_key ts ≡ None → converted
         (λ ms. of_members ms old) (members p n ts) ≡ None
-    key_refused n ts e = ap (converted (λ ms. of_members ms old)) (members_no_key p n ts e)
+    key_refused n ts e = search (rules, members_no_key)

@@ -73,4 +73,4 @@ names_refused d heading e a b = search rules
 pub heading_refused : (d : Data) (e : ReadFault) → in_script (heading_of d) ≡ Err e
     → script_of d ≡ Err e
 unfolding script_of
-heading_refused d e a = ap (λ (r : Result Heading ReadFault). r >>= after_heading d) a
+heading_refused d e a = search rules

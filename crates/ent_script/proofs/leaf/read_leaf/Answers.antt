@@ -12,20 +12,16 @@ pub returns-in_err-token-clause-refused : goal.returns-in_err-token-clause-refus
 returns-in_err-token-clause-refused c = search (rules, value_is)
 
 pub returns-in-String-clause-ok : goal.returns-in-String-clause-ok
-returns-in-String-clause-ok c =
-    (string c.in-String.text.now, search (rules, value_is), refl)
+returns-in-String-clause-ok c = search (rules, value_is)
 
 pub returns-in-Bool-clause-ok : goal.returns-in-Bool-clause-ok
-returns-in-Bool-clause-ok c =
-    (boolean c.in-Bool.b, search (rules, value_is), refl)
+returns-in-Bool-clause-ok c = search (rules, value_is)
 
 pub returns-in-Null-clause-ok : goal.returns-in-Null-clause-ok
-returns-in-Null-clause-ok c =
-    (null, search (rules, value_is), refl)
+returns-in-Null-clause-ok c = search (rules, value_is)
 
 pub returns-in-Some-clause-ok : goal.returns-in-Some-clause-ok
-returns-in-Some-clause-ok c =
-    (number (number_view c.in-Some.number), search (rules, value_is), refl)
+returns-in-Some-clause-ok c = search (rules, value_is)
 
 pub returns-in-None-clause-refused : goal.returns-in-None-clause-refused
 returns-in-None-clause-refused c = search (rules, value_is)

@@ -29,16 +29,13 @@ returns-in-String-clause-ok c =
     (string c.in-String.text.now, search (rules, value_is), refl)
 
 pub returns-in-Bool-clause-ok : goal.returns-in-Bool-clause-ok
-returns-in-Bool-clause-ok c =
-    (boolean c.in-Bool.b, search (rules, value_is), refl)
+returns-in-Bool-clause-ok c = search (rules, value_is)
 
 pub returns-in-Null-clause-ok : goal.returns-in-Null-clause-ok
-returns-in-Null-clause-ok c =
-    (null, search (rules, value_is), refl)
+returns-in-Null-clause-ok c = search (rules, value_is)
 
 pub returns-in-Some-clause-ok : goal.returns-in-Some-clause-ok
-returns-in-Some-clause-ok c =
-    (number (number_view c.in-Some.number), search (rules, value_is), refl)
+returns-in-Some-clause-ok c = search (rules, value_is)
 
 pub returns-in-None-clause-json : goal.returns-in-None-clause-json
 returns-in-None-clause-json c refused = search (rules, value_is)

@@ -23,29 +23,10 @@ unfolding value
 returns-then-depth-eq0-clause-json c never = grind (arith, common_steps)
 
 pub returns-in-BeginObject-clause-ok : goal.returns-in-BeginObject-clause-ok
-returns-in-BeginObject-clause-ok c =
-    let is : c.args.reader.now ≡ Token.begin_object ∷ c.next.new.self = grind arith in
-    if_ok c.read_members.result c.read_members.ensures.ok
-    (λ top ms. (
-      object ms.0,
-      search (rules, is, ms.1, value-begin_object, converted-object),
-      ap heading_of ms.2 ∙ heading_of-heads ms.0,
-      ms.3,
-    ))
+returns-in-BeginObject-clause-ok c = search (rules, if_ok, value-begin_object, converted-object, heading_of-heads)
 
 pub returns-in-BeginObject-clause-json : goal.returns-in-BeginObject-clause-json
-returns-in-BeginObject-clause-json c refused =
-    let none = c.read_members.ensures.json refused in
-    search (rules, none, value-begin_object, converted-object)
+returns-in-BeginObject-clause-json c refused = search (rules, value-begin_object, converted-object)
 
 pub returns-clause-ok : goal.returns-clause-ok
-returns-clause-ok c =
-    let d = passed_nested c.args.depth (token_of c.in_ok-token.token) (token_of c.in_ok-token.token)
-    c.args.reader.now c.next.new.self c.pass_rest.new.reader (grind arith) refl
-    c.in_ok-pass_rest.ensures.value in
-    let other : as_object d.0 ≡ None = search (rules, no_object_at, d) in (
-      d.0,
-      d.1,
-      search (rules, the_lemmas, no_heading d.0 other),
-      rw (no_member d.0 (codes "components") other) refl,
-    )
+returns-clause-ok c = search (rules, passed_nested, no_object_at, no_heading, no_member)
