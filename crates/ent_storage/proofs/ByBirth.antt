@@ -40,9 +40,7 @@ strictly : (r s : Ordering) → is_lt (ordering_reverse (ordering_then r s)) ≡
     → ordering_then r s ≡ Less
 strictly Less s h n = refl
 strictly Equal Less h n = refl
-strictly Equal Equal h n = cc
-strictly Equal Greater h n = cc
-strictly Greater s h n = cc
+strictly r s h n = cc
 
 -- ---- membership
 

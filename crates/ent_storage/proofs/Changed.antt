@@ -26,9 +26,8 @@ as_set (e ∷ living) (suc i) d change l = ap (λ es. e ∷ es) (as_set living i
 
 length_changed : (living : List LivingEntity) (i : ℕ) (change : Components → Components)
     → length (change_at living i change) ≡ length living
-length_changed [] i change = refl
-length_changed (e ∷ living) zero change = refl
 length_changed (e ∷ living) (suc i) change = ap suc (length_changed living i change)
+length_changed living i change = refl
 
 -- the store in which the components of one entity are changed
 pub record IsChanged (s : Store) (h : Handle) (change : Components → Components)

@@ -3,6 +3,7 @@
 use Rattle.std.proofs.Common.{rules, ◌≡◌, ℕ, suc, ◌+◌, List, [], ◌∷◌, length, map}
 use Rattle.std.proofs.Common.{refl, ap, ◌∙◌, sym}
 use Rattle.std.proofs.lemmas.List.{length-map}
+use Rattle.std.proofs.lemmas.List.Elements.{length_all_zip}
 use Rattle.std.specs.List.{AllZip}
 use Rattle.std.specs.FinMap as finite
 use Rattle.ent_handle.specs.Handle.{Handle}
@@ -15,34 +16,21 @@ module _ {X : Type 0} (is_clone : X → X → Type 0) where
   keys_from : (index : ℕ) (old new : List (Slot X)) → AreSlotClones is_clone old new
       → map (λ e. e.0) (entries_from index new) ≡ map (λ e. e.0) (entries_from index old)
   keys_from index [] [] all = refl
-  keys_from index [] (s ∷ new) all = absurd all
-  keys_from index (s ∷ old) [] all = absurd all
   keys_from index (Vacant ∷ old) (Vacant ∷ new) all = keys_from (index + 1) old new all.1
-  keys_from index (Vacant ∷ old) (Occupied other w ∷ new) all =
-      absurd all.0
-  keys_from index (Occupied generation v ∷ old) (Vacant ∷ new) all =
-      absurd all.0
   keys_from index (Occupied generation v ∷ old) (Occupied other w ∷ new) all =
       search (rules, all.0.0, keys_from (index + 1) old new all.1)
+  keys_from index old new all = search rules
 
   values_from : (index : ℕ) (old new : List (Slot X)) → AreSlotClones is_clone old new
       → AllZip is_clone (map (λ e. e.1) (entries_from index old)) (map (λ e. e.1) (entries_from index new))
   values_from index [] [] all = tt
-  values_from index [] (s ∷ new) all = absurd all
-  values_from index (s ∷ old) [] all = absurd all
   values_from index (Vacant ∷ old) (Vacant ∷ new) all = values_from (index + 1) old new all.1
-  values_from index (Vacant ∷ old) (Occupied other w ∷ new) all =
-      absurd all.0
-  values_from index (Occupied generation v ∷ old) (Vacant ∷ new) all =
-      absurd all.0
   values_from index (Occupied generation v ∷ old) (Occupied other w ∷ new) all =
       (all.0.1, values_from (index + 1) old new all.1)
+  values_from index old new all = search rules
 
   pub length_from : (old new : List (Slot X)) → AreSlotClones is_clone old new → length new ≡ length old
-  length_from [] [] all = refl
-  length_from [] (s ∷ new) all = absurd all
-  length_from (s ∷ old) [] all = absurd all
-  length_from (s ∷ old) (r ∷ new) all = ap suc (length_from old new all.1)
+  length_from old new all = sym (length_all_zip _ old new all)
 
   count_from : (index : ℕ) (old new : List (Slot X)) → AreSlotClones is_clone old new
       → length (entries_from index new) ≡ length (entries_from index old)

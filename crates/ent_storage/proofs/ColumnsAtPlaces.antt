@@ -16,9 +16,9 @@ use Rattle.ent_handle.specs.Component.{component_cmp, component_cmp_total as tot
 use Rattle.ent_handle.specs.Component.{component_cmp-IsAntisymmetric as same}
 use Rattle.ent_storage.specs.SparseSet.{Column, no_column, HasRoomAt, IsMovedDown}
 use Rattle.ent_storage.specs.Living.{column_at, value_at, with_value, items_from, components_at}
-use Rattle.ent_storage.proofs.Rising.{both, remove_absent}
+use Rattle.ent_storage.proofs.Rising.{both}
 use Rattle.ent_storage.proofs.Keys.{tied, apart, same_or_apart, get-insert_same, get-insert_other}
-use Rattle.ent_storage.proofs.Keys.{get-remove_same, get-remove_other}
+use Rattle.ent_storage.proofs.Keys.{get-remove_same, get-remove_other, remove_absent}
 
 id_of : ℕ → ComponentId
 id_of n = record { 0 = n }

@@ -10,11 +10,10 @@ use Rattle.std.specs.Cmp.{nat_cmp_total as total}
 use Rattle.std.specs.FinMap as map
 use Rattle.std.specs.FinMap.{nat_cmp-IsAntisymmetric as same}
 use Rattle.ent_storage.specs.SparseSet.{Values, IsDense, IsMovedDown}
-use Rattle.ent_storage.proofs.Rising.{remove_absent}
 use Rattle.ent_storage.proofs.Keys.{same_or_apart, get-insert_other, get-remove_same}
-use Rattle.ent_storage.proofs.Keys.{get-remove_other, insert_tells, remove_tells}
+use Rattle.ent_storage.proofs.Keys.{get-remove_other, insert_tells, remove_tells, remove_absent}
 use Rattle.ent_storage.proofs.ElementsAt.{at_set_same, at_set_other, at_push_before, at_push_end}
-use Rattle.ent_storage.proofs.ElementsAt.{same_option, find_at, find_gives, IsFilled}
+use Rattle.ent_storage.proofs.ElementsAt.{same_option, find_at, find_gives, IsFilled, left_was, was_left}
 
 -- ---- what the vectors stand for
 
@@ -105,24 +104,12 @@ module _ (D : List (ℕ × ℤ)) (S : List ℕ) (dense : IsDense D S) where
   -- ---- a pair is taken out, and the last one moves to its position
   module _ (i p : ℕ) (u : ℤ) (here : slice_get D i ≡ Some (p, u)) (L : List (ℕ × ℤ))
       (rest : IsFilled D i L) where
-    -- a pair that is left was there, and its place is another one
-    left_was : (k q : ℕ) (w : ℤ) → (k ≡ i) ⊎ (k ≢ i) → slice_get L k ≡ Some (q, w) → (j : ℕ)
-        × (slice_get D j ≡ Some (q, w)) × (j ≢ i)
-    left_was k q w (inl e) found = search (rules, slice_get_within)
-    left_was k q w (inr n) found = search (rules, slice_get_within)
-
-    -- a pair of another place is left
-    was_left : (k q : ℕ) (w : ℤ) → (k < length L) ⊎ (length L ≤ k) → k ≢ i → slice_get D k
-        ≡ Some (q, w) → (j : ℕ) × (slice_get L j ≡ Some (q, w))
-    was_left k q w (inl l) n found = (k, rest.others k n l ∙ found)
-    was_left k q w (inr g) n found = search (rules, slice_get_within)
-
     module _ (S2 : List ℕ) (dense2 : IsDense L S2) where
       removed_there : (q : ℕ) (w : ℤ) → map.get (map.from_entries {R = nat_cmp} L) q ≡ Some w
           → map.get (map.remove (map.from_entries {R = nat_cmp} D) p) q ≡ Some w
       removed_there q w found =
           let h = at L S2 dense2 q w found in
-          let was = left_was h.0 q w (cases_eq h.0 i) h.1 in
+          let was = left_was D L i rest h.0 (q, w) h.1 in
           let held = has D S dense was.0 q w was.1 in
           grind (arith, remove_tells total same)
 
@@ -133,7 +120,7 @@ module _ (D : List (ℕ × ℤ)) (S : List ℕ) (dense : IsDense D S) where
       removed_back q w (inr n) found =
           let h = at D S dense q w
           (sym (get-remove_other total same (map.from_entries {R = nat_cmp} D) p q n) ∙ found) in
-          search (rules, some_pair_parts, was_left, cases_lt, has)
+          search (rules, some_pair_parts, was_left D L i rest (slice_get_within D i (p, u) here), has)
 
       pub removed_values : map.from_entries {R = nat_cmp} L
           ≡ map.remove (map.from_entries {R = nat_cmp} D) p

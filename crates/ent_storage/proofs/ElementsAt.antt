@@ -2,11 +2,11 @@
 use Rattle.std.proofs.Common.{rules, ◌≡◌, ◌≢◌, ℕ, Ordering, zero, suc, ◌<◌, ◌≤◌, cond, ◌⊎◌, inl, inr, List}
 use Rattle.std.proofs.Common.{[], ◌∷◌, ◌++◌, length, set, Option, Some, None, slice_get, refl, sym}
 use Rattle.std.proofs.Common.{ap, ◌∙◌, arith, get_or, ◌+◌, ◌-◌}
-use Rattle.std.proofs.lemmas.Option.{same_Some, none-some, slice_get-get_or, slice_get_past}
+use Rattle.std.proofs.lemmas.Option.{same_Some, none-some, slice_get-get_or, slice_get_past, slice_get_within}
 use Rattle.std.specs.Cmp.{IsTotalOrder}
 use Rattle.std.specs.FinMap.{find, IsAntisymmetric}
 use Rattle.ent_storage.proofs.Keys.{apart, same_or_apart, tied}
-use Rattle.std.proofs.lemmas.Bool.{cases_lt}
+use Rattle.std.proofs.lemmas.Bool.{cases_lt, cases_eq}
 use Rattle.std.proofs.lemmas.List.{get_or-set_same, get_or-set_other, length-set}
 use Rattle.std.proofs.lemmas.List.{get_or_append_left, get_or_push, length_push}
 
@@ -46,9 +46,8 @@ at_pushed xs y =
 pub same_option : {X : Type 0} (a b : Option X) → ((v : X) → a ≡ Some v → b ≡ Some v)
     → ((v : X) → b ≡ Some v → a ≡ Some v) → a ≡ b
 same_option None None f g = refl
-same_option None (Some y) f g = g y refl
 same_option (Some x) None f g = sym (f x refl)
-same_option (Some x) (Some y) f g = g y refl
+same_option a (Some y) f g = g y refl
 
 -- ---- an element is taken out, and the last one moves to its position
 
@@ -57,6 +56,23 @@ pub record IsFilled {X : Type 0} (D : List X) (i : ℕ) (L : List X) : Type 0 wh
   pub one_less : length L + 1 ≡ length D
   pub others : (k : ℕ) → k ≢ i → k < length L → slice_get L k ≡ slice_get D k
   pub moved : i < length L → slice_get L i ≡ slice_get D (length L)
+
+module _ {X : Type 0} (D L : List X) (i : ℕ) (rest : IsFilled D i L) where
+  -- an element that is left was there, at another position
+  pub left_was : (k : ℕ) (x : X) → slice_get L k ≡ Some x
+      → (j : ℕ) × (slice_get D j ≡ Some x) × (j ≢ i)
+  left_was k x found = elim (cases_eq k i) [
+    | inl e ↦ search (rules, slice_get_within)
+    | inr n ↦ search (rules, slice_get_within)
+  ]
+
+  -- an element at another position is left
+  pub was_left : i < length D → (k : ℕ) (x : X) → k ≢ i → slice_get D k ≡ Some x
+      → (j : ℕ) × (slice_get L j ≡ Some x)
+  was_left inside k x n found = elim (cases_lt k (length L)) [
+    | inl l ↦ (k, rest.others k n l ∙ found)
+    | inr g ↦ (i, search (rules, slice_get_within, rest.moved))
+  ]
 
 -- what a vector's removal by swapping gives
 pub filled : {X : Type 0} (D L : List X) (i n m : ℕ) (d : X) → n ≡ length D → m ≡ length L

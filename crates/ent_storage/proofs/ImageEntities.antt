@@ -2,7 +2,7 @@
 use Rattle.std.proofs.Common.{rules, ◌≡◌, ◌≢◌, refl, sym, ap, ◌∙◌, subst, ℕ, zero, suc, ℤ, ◌+◌, ◌*◌}
 use Rattle.std.proofs.Common.{◌<◌, ◌≤◌, Bool, true, false, IsTrue, List, [], ◌∷◌, ◌++◌, length, arith}
 use Rattle.std.proofs.Common.{Option, None, Some, IsSomeAnd, is_some, Contains, ◌||◌}
-use Rattle.std.proofs.Common.{get_or}
+use Rattle.std.proofs.Common.{◌⊎◌, inl, inr}
 use Rattle.std.specs.Prelude.{if◌then◌else◌}
 use Rattle.std.specs.List.{flat_map, list_any}
 use Rattle.std.specs.Option.{option_map, option_map_or}
@@ -166,11 +166,11 @@ pub entities_least : (m : EntityMap) (hs : List Handle) → AreStored m hs
     → 4 + 16 * length hs ≤ length (entities_bytes m hs)
 entities_least m hs stored = search (rules, listed_least, length-append, length-word)
 
-one_of : (n : ℕ) (a b : EntityMap) (h : Handle) (hs : List Handle) → IsAlike n a b h
-    → ((g : Handle) → Contains hs g → IsAlike n a b g) → (g : Handle) (k : ℕ) → k < length (h ∷ hs)
-    → get_or (h ∷ hs) k g ≡ g → IsAlike n a b g
-one_of n a b h hs here rest g zero lt at = subst (IsAlike n a b) at here
-one_of n a b h hs here rest g (suc k) lt at = rest g (k, omega arith, at)
+-- the first handle, or a later one
+cases_in : (g : Handle) (hs : List Handle) (h : Handle) → Contains (g ∷ hs) h
+    → (g ≡ h) ⊎ Contains hs h
+cases_in g hs h (zero, lt, at) = inl at
+cases_in g hs h (suc k, lt, at) = inr (k, omega (arith, lt), at)
 
 pub same_listed : (n : ℕ) (a b : EntityMap) (hs : List Handle) (xs ys : List ℕ)
     → ((h : Handle) → Contains hs h → IsStored a h) → ((h : Handle) → Contains hs h → IsStored b h)
@@ -185,7 +185,10 @@ same_listed n a b (h ∷ hs) xs ys in_a in_b same =
     ∙ append_assoc (entity_bytes n b h) rest_b ys) in
     let rest = same_listed n a b hs xs ys (λ g is. in_a g (later_in h g hs is))
     (λ g is. in_b g (later_in h g hs is)) one.1 in
-    ((λ g is. one_of n a b h hs one.0 rest.0 g is.0 is.1 is.2), rest.1)
+    ((λ g is. elim (cases_in h hs g is) [
+      | inl e ↦ subst (IsAlike n a b) e one.0
+      | inr later ↦ rest.0 g later
+    ]), rest.1)
 
 -- ---- the width
 
@@ -217,20 +220,17 @@ or_false : (a b : Bool) → a || b ≡ false → (a ≡ false) × (b ≡ false)
 or_false true b is = absurd (false≢true (sym is))
 or_false false b is = (refl, is)
 
-fails_at : (p : Handle → Bool) (g : Handle) (hs : List Handle) → p g ≡ false
-    → ((h : Handle) → Contains hs h → p h ≡ false) → (h : Handle) (k : ℕ) → k < length (g ∷ hs)
-    → get_or (g ∷ hs) k h ≡ h → p h ≡ false
-fails_at p g hs here rest h zero lt at = ap p (sym at) ∙ here
-fails_at p g hs here rest h (suc k) lt at = rest h (k, omega arith, at)
-
 any_false : (p : Handle → Bool) (hs : List Handle) → list_any p hs ≡ false → (h : Handle)
     → Contains hs h → p h ≡ false
 any_false p [] none h is = absurd (omega (arith, is.1))
 any_false p (g ∷ hs) none h is =
     let both = or_false (p g) (list_any p hs) none in
-    fails_at p g hs both.0 (any_false p hs both.1) h is.0 is.1 is.2
+    elim (cases_in g hs h is) [
+      | inl e ↦ ap p (sym e) ∙ both.0
+      | inr later ↦ any_false p hs both.1 h later
+    ]
 
-none_from : (o : Option ℤ) → ((v : ℤ) → o ≡ Some v → ⊥) → o ≡ None
+pub none_from : {X : Type 0} (o : Option X) → ((v : X) → o ≡ Some v → ⊥) → o ≡ None
 none_from None never = refl
 none_from (Some v) never = absurd (never v refl)
 

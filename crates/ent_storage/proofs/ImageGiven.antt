@@ -1,4 +1,5 @@
 -- An entity that was given a component.
+use Rattle.std.proofs.Common.{rules}
 use Rattle.std.proofs.Common.{◌≡◌, ◌≢◌, refl, sym, ap, ◌∙◌, ℤ, true, [], ◌∷◌, Option, None, Some}
 use Rattle.std.proofs.Common.{is_some}
 use Rattle.std.specs.Option.{option_map, option_map_or}
@@ -59,6 +60,4 @@ module _ (m : EntityMap) (h : Handle) (id : ComponentId) (v : ℤ) where
         ∙ sym (ap (option_and_then (λ (e : Entity). map.get e.components other)) entity.1)
 
     pub given_birth : birth_of given h ≡ birth_of m h
-    given_birth =
-        ap (option_map (λ (e : Entity). e.birth)) (get_here entity.0 entity.1)
-        ∙ sym (ap (option_map (λ (e : Entity). e.birth)) entity.1)
+    given_birth = search (rules, get_here)

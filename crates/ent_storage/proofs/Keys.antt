@@ -1,6 +1,6 @@
 -- Keys of a map that are the same or apart, and what a map has at them after a change.
 use Rattle.std.proofs.Common.{◌≡◌, ◌≢◌, Bool, true, false, T, ◌⊎◌, inl, inr, Some, None, Ordering}
-use Rattle.std.proofs.Common.{refl, sym, ap, subst, ◌∙◌, rules}
+use Rattle.std.proofs.Common.{refl, sym, ap, subst, ◌∙◌, rules, arith}
 use Rattle.std.specs.Ordering.{is_eq, eq_by_cmp}
 use Rattle.std.specs.Cmp.{IsTotalOrder, tied_itself}
 use Rattle.ent_storage.proofs.Rising.{equal}
@@ -43,3 +43,7 @@ module _ {K : Type 0} {R : K → K → Ordering} (o : IsTotalOrder R) (same : Is
     pub remove_tells : (q : K) → ((q ≡ k) × (map.get (map.remove m k) q ≡ None))
         ⊎ ((q ≢ k) × (map.get (map.remove m k) q ≡ map.get m q))
     remove_tells q = search (rules, same_or_apart q k, get-remove_same, get-remove_other)
+
+    -- what is not there stays out
+    pub remove_absent : map.get m k ≡ None → map.remove m k ≡ m
+    remove_absent none = map.same_map o same _ _ (λ q. grind (arith, remove_tells q))

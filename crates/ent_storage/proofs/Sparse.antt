@@ -22,8 +22,8 @@ use Rattle.ent_storage.specs.declared.handle_map.error.Uninserted.{Uninserted}
 use Rattle.ent_storage.specs.SparseMap.{values_of, IsPositioned, IsFree, AreEntries, IsEntryClone}
 use Rattle.ent_storage.specs.SparseMap.{IsClonedOption, AreCloned}
 use Rattle.ent_storage.proofs.ElementsAt.{at_set_same, at_set_other, at_push_before, at_push_end}
-use Rattle.ent_storage.proofs.ElementsAt.{same_option, find_at, find_gives, at_pushed, IsFilled}
-use Rattle.ent_storage.proofs.Entries.{ties_apart, get-without}
+use Rattle.ent_storage.proofs.ElementsAt.{same_option, find_at, find_gives, at_pushed, IsFilled, left_was, was_left}
+use Rattle.ent_storage.proofs.Entries.{IsAlone, is_put, is_written, is_taken}
 use Rattle.ent_storage.proofs.Keys.{same_or_apart, tied, apart}
 
 module _ {X : Type 0} where
@@ -156,25 +156,12 @@ module _ {X : Type 0} where
 
     pub over_values : values_of (set D i (h, v))
         ≡ finite.insert (without_slot (values_of D) h.index) h v
-    over_values = finite.same_map total same _ _ (λ q.
-        let put = finite.get-insert total (without_slot (values_of D) h.index) h v q in
-        let less = get-without (values_of D) h q in
-        elim (cases_eq q.index h.index) [
-          | inl e ↦ let now = over_here q e in grind (arith, nat_tests)
-          | inr ne ↦ let tie = ties_apart q h ne in let now = over_other q ne in grind (arith, nat_tests)
-        ])
+    over_values = is_put _ _ h over_other v over_here
 
     -- the same handle
     pub written_values : p ≡ h → values_of (set D i (h, v)) ≡ finite.insert (values_of D) h v
-    written_values eq = finite.same_map total same _ _ (λ q.
-        let put = finite.get-insert total (values_of D) h v q in
-        elim (cases_eq q.index h.index) [
-          | inl e ↦
-              let now = over_here q e in
-              let was = got D S is i p u here q (e ∙ sym slot) in
-              grind (arith, nat_tests)
-          | inr ne ↦ let tie = ties_apart q h ne in let now = over_other q ne in grind (arith, nat_tests)
-        ])
+    written_values eq = is_written _ _ h over_other u v
+        (subst (λ q. IsAlone (values_of D) q u) eq (got D S is i p u here)) over_here
 
   -- ---- a slot without an entry gets one
 
@@ -196,64 +183,32 @@ module _ {X : Type 0} where
 
     pub pushed_values : values_of (D ++ (h, v) ∷ [])
         ≡ finite.insert (without_slot (values_of D) h.index) h v
-    pushed_values = finite.same_map total same _ _ (λ q.
-        let put = finite.get-insert total (without_slot (values_of D) h.index) h v q in
-        let less = get-without (values_of D) h q in
-        elim (cases_eq q.index h.index) [
-          | inl e ↦
-              let now = got (D ++ (h, v) ∷ []) (set S h.index (length D)) pushed_positioned (length D) h v
-              (at_pushed D (h, v)) q e in
-              grind (arith, nat_tests)
-          | inr ne ↦
-              let now = same_at (D ++ (h, v) ∷ []) D (set S h.index (length D)) S pushed_positioned is q
-              (λ k w e. not_pushed q ne k w (cases_lt k (length D)) e)
-              (λ k w e. (k, at_push_before D (h, v) k (slice_get_within D k (q, w) e) ∙ e)) in
-              grind (arith, nat_tests)
-        ])
+    pushed_values = is_put _ _ h
+        (λ q ne. same_at (D ++ (h, v) ∷ []) D (set S h.index (length D)) S pushed_positioned is q
+        (λ k w e. not_pushed q ne k w (cases_lt k (length D)) e)
+        (λ k w e. (k, at_push_before D (h, v) k (slice_get_within D k (q, w) e) ∙ e)))
+        v (got _ _ pushed_positioned (length D) h v (at_pushed D (h, v)))
 
   -- ---- an entry is taken out, and the last one moves to its position
 
   module _ (D : List (Handle × X)) (S : List ℕ) (is : IsPositioned D S) (i : ℕ) (h : Handle) (u : X)
       (here : slice_get D i ≡ Some (h, u)) (L : List (Handle × X)) (rest : IsFilled D i L) where
-    -- an entry that is left was there, at another position
-    left_was : (k : ℕ) (q : Handle) (w : X) → (k ≡ i) ⊎ (k ≢ i) → slice_get L k ≡ Some (q, w)
-        → (j : ℕ) × (slice_get D j ≡ Some (q, w)) × (j ≢ i)
-    left_was k q w (inl e) found = search (rules, slice_get_within)
-    left_was k q w (inr n) found = search (rules, slice_get_within)
-
-    -- an entry at another position is left
-    was_left : (k : ℕ) (q : Handle) (w : X) → (k < length L) ⊎ (length L ≤ k) → k ≢ i
-        → slice_get D k ≡ Some (q, w) → (j : ℕ) × (slice_get L j ≡ Some (q, w))
-    was_left k q w (inl l) n found = (k, rest.others k n l ∙ found)
-    was_left k q w (inr g) n found = search (rules, slice_get_within)
-
     module _ (U : List ℕ) (to : IsPositioned L U) where
       taken_none : (q : Handle) → q.index ≡ h.index → finite.get (values_of L) q ≡ None
       taken_none q e = nowhere L q (λ k w found.
-          let was = left_was k q w (cases_eq k i) found in
+          let was = left_was D L i rest k (q, w) found in
           was.2 (one_slot D S is was.0 i q h w u was.1 here e))
 
       taken_other : (q : Handle) → q.index ≢ h.index
           → finite.get (values_of L) q ≡ finite.get (values_of D) q
       taken_other q ne =
           same_at L D U S to is q
-          (λ k w e. let was = left_was k q w (cases_eq k i) e in (was.0, was.1))
-          (λ k w e. was_left k q w (cases_lt k (length L))
-          (λ eq. ne (ap (λ (x : Handle × X). x.0.index)
+          (λ k w e. let was = left_was D L i rest k (q, w) e in (was.0, was.1))
+          (λ k w e. was_left D L i rest (slice_get_within D i (h, u) here) k (q, w) (λ eq. ne (ap (λ (x : Handle × X). x.0.index)
           (same_Some _ _ (sym e ∙ ap (slice_get D) eq ∙ here)))) e)
 
       pub taken_values : values_of L ≡ finite.remove (values_of D) h
-      taken_values = finite.same_map total same _ _ (λ q.
-          let put = finite.get-remove total (values_of D) h q in
-          elim (cases_eq q.index h.index) [
-            | inl e ↦
-                let now = taken_none q e in
-                let was = got D S is i h u here q e in
-                grind (arith, nat_tests)
-            | inr ne ↦
-                let now = taken_other q ne in
-                grind (arith, nat_tests)
-          ])
+      taken_values = is_taken _ _ h taken_other u (got D S is i h u here) taken_none
 
     -- the last entry itself was taken out
     pub popped_positioned : length L ≤ i → IsPositioned L S

@@ -1,4 +1,5 @@
 -- A map after a write to the value of a handle.
+use Rattle.std.proofs.Common.{rules}
 use Rattle.std.proofs.Common.{◌≡◌, Bool, true, false, cond, Some, IsSome, refl, sym, ap, ◌∙◌}
 use mathlib.Core.Bool.{Bool-set}
 use Rattle.std.specs.Ordering.{eq_by_cmp}
@@ -58,13 +59,7 @@ module _ {T : Type 0} where
   -- a filled map, once the value is written over
   pub filled_over : (m n : HandleMap T) (h : Handle) (v w : T) → IsFilled m h v n
       → IsFilled m h w (with_written n h w)
-  filled_over m n h v w is = record {
-    values = ap (λ (values : HandleValues T). map.insert values h w) is.values
-        ∙ insert_twice (without_slot m.values h.index) h v w;
-    slots = is.slots;
-    room = is.room;
-    limit = is.limit;
-  }
+  filled_over m n h v w is = search (rules, insert_twice)
 
   -- ---- the same of a sparse map
 
@@ -89,10 +84,4 @@ module _ {T : Type 0} where
 
   pub filled_over_in : (m n : SparseMap T) (h : Handle) (v w : T) → in_sparse.IsFilled m h v n
       → in_sparse.IsFilled m h w (with_written_in n h w)
-  filled_over_in m n h v w is = record {
-    values = ap (λ (values : HandleValues T). map.insert values h w) is.values
-        ∙ insert_twice (without_slot m.values h.index) h v w;
-    slots = is.slots;
-    room = is.room;
-    limit = is.limit;
-  }
+  filled_over_in m n h v w is = search (rules, insert_twice)
