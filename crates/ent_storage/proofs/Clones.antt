@@ -1,6 +1,6 @@
 -- Slots that are clones of others, one by one: their maps have the same handles, and each value is a
 -- clone of the other's.
-use Rattle.std.proofs.Common.{rules, ◌≡◌, ℕ, suc, ◌+◌, List, [], ◌∷◌, length, map}
+use Rattle.std.proofs.Common.{rules, ◌≡◌, ℕ, ◌+◌, List, [], ◌∷◌, length, map}
 use Rattle.std.proofs.Common.{refl, ap, ◌∙◌, sym}
 use Rattle.std.proofs.lemmas.List.{length-map}
 use Rattle.std.proofs.lemmas.List.Elements.{length_all_zip}

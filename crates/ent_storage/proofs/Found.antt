@@ -1,6 +1,6 @@
 -- The slot of a handle that has a value.
-use Rattle.std.proofs.Common.{rules, ◌≡◌, ℕ, ◌+◌, ◌-◌, ◌<◌, ◌≤◌, ◌^◌, Bool, true, false, List, []}
-use Rattle.std.proofs.Common.{◌∷◌, length, get_or, set, Some, is_some, refl, ap, arith, true≢false}
+use Rattle.std.proofs.Common.{rules, ◌≡◌, ℕ, ◌+◌, ◌-◌, ◌<◌, ◌≤◌, ◌^◌, true, false, List}
+use Rattle.std.proofs.Common.{[], ◌∷◌, length, get_or, set, Some, is_some, refl, ap, arith, true≢false}
 use Rattle.std.proofs.Common.{length-set}
 use Rattle.std.proofs.lemmas.Bool.{cases_lt, eq-eqb}
 use Rattle.std.proofs.lemmas.List.{get_or_past, length-append, length-replicate, get_or_default}

@@ -7,7 +7,7 @@ use Rattle.std.specs.FinMap as map
 use Rattle.ent_handle.specs.Handle.{Handle, handle_cmp, handle_cmp_total}
 use Rattle.ent_handle.specs.Handle.{handle_cmp-IsAntisymmetric}
 use Rattle.ent_storage.specs.HandleMap.{HandleMap, HandleValues, with_written, same_handle}
-use Rattle.ent_storage.specs.HandleMap.{some_written, without_slot}
+use Rattle.ent_storage.specs.HandleMap.{some_written}
 use Rattle.ent_storage.specs.Entry.{with_value, IsFilled}
 use Rattle.ent_storage.specs.SparseEntry as in_sparse
 use Rattle.ent_storage.specs.SparseMap as some_written_in

@@ -109,9 +109,3 @@ returns-else-place-len-clause-places c =
 
 pub returns-else-place-len-clause-moved : goal.returns-else-place-len-clause-moved
 returns-else-place-len-clause-moved c = search (rules, last, slice_get_past, length-map)
-
-pub returns-then-place-len-clause-spare : goal.returns-then-place-len-clause-spare
-returns-then-place-len-clause-spare c = search (rules)
-
-pub returns-else-place-len-clause-spare : goal.returns-else-place-len-clause-spare
-returns-else-place-len-clause-spare c = search (rules)
