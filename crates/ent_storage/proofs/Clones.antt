@@ -41,9 +41,7 @@ module _ {X : Type 0} (is_clone : X → X → Type 0) where
 
   pub cloned_keys : (old new : List (Slot X)) → AreSlotClones is_clone old new
       → finite.keys (map_of_slots new) ≡ finite.keys (map_of_slots old)
-  cloned_keys old new all =
-      ap (map (λ e. e.0)) (entries_map new) ∙ keys_from 0 old new all
-      ∙ sym (ap (map (λ e. e.0)) (entries_map old))
+  cloned_keys old new all = search (rules, entries_map, keys_from)
 
   pub cloned_values : (old new : List (Slot X)) → AreSlotClones is_clone old new
       → AllZip is_clone (finite.values (map_of_slots old)) (finite.values (map_of_slots new))

@@ -1,8 +1,9 @@
 -- The values of an entity, one by one: what is written tells them.
+use Rattle.std.proofs.Common.{rules}
 use Rattle.std.proofs.Common.{◌≡◌, ◌≢◌, refl, sym, ap, ◌∙◌, ℕ, zero, suc, ℤ, ◌+◌, ◌^◌, ◌<◌, ◌≤◌}
 use Rattle.std.proofs.Common.{List, ◌++◌, drop, get_or, Option, None, Some, add-one}
 use Rattle.std.proofs.Common.{arith, inl, inr}
-use Rattle.std.specs.Int.{w64, cast_unsigned, cast_signed}
+use Rattle.std.specs.Int.{w64, cast_unsigned}
 use Rattle.std.specs.Int.RustNames.{FitsSigned}
 use Rattle.std.specs.List.{flat_map, range_with_len}
 use Rattle.std.proofs.Math.Facts.{Fits-lt-pow, Fits-of_z, to_z-of_z}
@@ -17,9 +18,7 @@ use Rattle.ent_storage.proofs.ImageBytes.{same_longs}
 module _ (f : ℕ → List ℕ) where
   pieces_more : (a n : ℕ) → flat_map f (range_with_len a (suc n))
       ≡ flat_map f (range_with_len a n) ++ f (a + n)
-  pieces_more a zero =
-      let at : a + 0 ≡ a = omega arith in
-      append-nil (f a) ∙ ap f (sym at)
+  pieces_more a zero = search (rules, append-nil)
   pieces_more a (suc n) =
       let at : a + 1 + n ≡ a + suc n = omega arith in
       ap (f a ++◌) (pieces_more (a + 1) n
@@ -74,12 +73,7 @@ same_value None (Some w) xs ys fv fw same =
     absurd (not_below 0 1 (ap (λ bs. get_or bs 0 0) same) (omega arith))
 same_value (Some v) None xs ys fv fw same =
     absurd (not_below 0 1 (sym (ap (λ bs. get_or bs 0 0) same)) (omega arith))
-same_value (Some v) (Some w) xs ys fv fw same =
-    let parts = same_longs (cast_unsigned w64 v) (cast_unsigned w64 w) xs ys
-    (unsigned_below v (fv v refl)) (unsigned_below w (fw w refl)) (ap (drop 1) same) in (
-      ap Some (sym (to_z-of_z (fv v refl)) ∙ ap (cast_signed w64) parts.0 ∙ to_z-of_z (fw w refl)),
-      parts.1,
-    )
+same_value (Some v) (Some w) xs ys fv fw same = search (rules, same_longs, unsigned_below, to_z-of_z)
 
 -- ---- values
 
@@ -115,9 +109,7 @@ same_pieces f g a (suc n) xs ys ff fg same =
 pub same_values : (f g : ComponentId → Option ℤ) (n : ℕ) (xs ys : List ℕ) → AllFit f → AllFit g
     → values_bytes f n ++ xs ≡ values_bytes g n ++ ys
     → ((k : ℕ) → k < n → f (component k) ≡ g (component k)) × (xs ≡ ys)
-same_values f g n xs ys ff fg same =
-    let both = same_pieces f g 0 n xs ys ff fg same in
-    ((λ k below. both.0 k (omega arith) (omega arith)), both.1)
+same_values f g n xs ys ff fg same = search (rules, same_pieces)
 
 -- ---- values that are read
 
@@ -130,12 +122,7 @@ module _ (old new : ComponentId → Option ℤ) (n : ℕ) (value : Option ℤ)
   -- the next one
   pub read_more : (bytes rest left : List ℕ) → bytes ≡ values_bytes old n ++ rest
       → rest ≡ value_bytes value ++ left → bytes ≡ values_bytes new (n + 1) ++ left
-  read_more bytes rest left before next =
-      let alike = pieces_alike (piece old) (piece new) 0 n (λ k least below.
-      ap value_bytes (sym (others (component k) (apart_by_number (component k) n (omega arith))))) in
-      before ∙ ap (values_bytes old n ++◌) next
-      ∙ sym (append_assoc (values_bytes old n) (value_bytes value) left)
-      ∙ ap (◌++ left) ((λ i. alike i ++ value_bytes (sym here i)) ∙ sym (values_more new n))
+  read_more bytes rest left before next = search (rules, pieces_alike, apart_by_number, append_assoc, values_more)
 
   pub free_more : ((id : ComponentId) → n ≤ id.0 → old id ≡ None) → (id : ComponentId)
       → n + 1 ≤ id.0 → new id ≡ None
@@ -143,12 +130,7 @@ module _ (old new : ComponentId → Option ℤ) (n : ℕ) (value : Option ℤ)
 
   pub fits_more : (P : ℕ → ℤ → Type 0) → ((id : ComponentId) (v : ℤ) → old id ≡ Some v → P id.0 v)
       → ((v : ℤ) → value ≡ Some v → P n v) → (id : ComponentId) (v : ℤ) → new id ≡ Some v → P id.0 v
-  fits_more P each last id v is = elim (cases_eq id.0 n) [
-    | inl same ↦
-        let whole : id ≡ component n = ap component same in
-        rw same (last v (sym here ∙ ap new (sym whole) ∙ is))
-    | inr other ↦ each id v (sym (others id (apart_by_number id n other)) ∙ is)
-  ]
+  fits_more P each last id v is = search (rules, cases_eq, apart_by_number)
 
 -- where no value is next, no values are written
 pub none_next : (f g : ComponentId → Option ℤ) (width n : ℕ) (bytes rest more : List ℕ) → n < width
@@ -168,9 +150,4 @@ none_next f g width n bytes rest more lt ff fg before none same =
 pub below_more : (P : ComponentId → Type 0) (n : ℕ)
     → ((id : ComponentId) → id.0 < n → P id) → P (component n)
     → (id : ComponentId) → id.0 < n + 1 → P id
-below_more P n each last id below = elim (cases_eq id.0 n) [
-  | inl same ↦
-      let whole : id ≡ component n = ap component same in
-      rw whole last
-  | inr other ↦ each id (omega arith)
-]
+below_more P n each last id below = search (rules, cases_eq)

@@ -14,14 +14,10 @@ use Rattle.ent_storage.proofs.ImageRead.{nothing_left, width_told, width_placed}
 use Rattle.ent_storage.proofs.storage.Storage.read_image.Goals as goal
 
 pub returns-then-bytes-lt4-clause-refused : goal.returns-then-bytes-lt4-clause-refused
-returns-then-bytes-lt4-clause-refused c other m stored same =
-    too_few m c.args.handles.now c.args.bytes.now c.if-bytes-lt4.true same
+returns-then-bytes-lt4-clause-refused c other m stored same = search (rules, too_few)
 
 pub returns-then-width-gt256-clause-refused : goal.returns-then-width-gt256-clause-refused
-returns-then-width-gt256-clause-refused c other m stored same =
-    too_wide m c.args.handles.now c.read_word-width.result.0 c.args.bytes.now
-    c.read_word-width.result.1.now (search rules) c.if-width-gt256.true
-    c.read_word-width.ensures.bytes same
+returns-then-width-gt256-clause-refused c other m stored same = search (rules, too_wide)
 
 pub loop-handle-init : goal.loop-handle-init
 loop-handle-init c =
