@@ -1,4 +1,5 @@
 -- Entities, one by one: what is written of them tells them.
+use Rattle.std.proofs.lemmas.Grind.{common_steps}
 use Rattle.std.proofs.Common.{rules, ◌≡◌, ◌≢◌, refl, sym, ap, ◌∙◌, subst, ℕ, zero, suc, ℤ, ◌+◌, ◌*◌}
 use Rattle.std.proofs.Common.{◌<◌, ◌≤◌, Bool, true, false, IsTrue, List, [], ◌∷◌, ◌++◌, length, arith}
 use Rattle.std.proofs.Common.{Option, None, Some, IsSomeAnd, is_some, Contains, ◌||◌}
@@ -223,12 +224,7 @@ or_false false b is = (refl, is)
 any_false : (p : Handle → Bool) (hs : List Handle) → list_any p hs ≡ false → (h : Handle)
     → Contains hs h → p h ≡ false
 any_false p [] none h is = absurd (omega (arith, is.1))
-any_false p (g ∷ hs) none h is =
-    let both = or_false (p g) (list_any p hs) none in
-    elim (cases_in g hs h is) [
-      | inl e ↦ ap p (sym e) ∙ both.0
-      | inr later ↦ any_false p hs both.1 h later
-    ]
+any_false p (g ∷ hs) none h is = grind (arith, common_steps, or_false, cases_in)
 
 pub none_from : {X : Type 0} (o : Option X) → ((v : X) → o ≡ Some v → ⊥) → o ≡ None
 none_from None never = refl
