@@ -83,8 +83,7 @@ module _ (living : List LivingEntity) (index : FinMap handle_cmp ℕ)
 
   pub all_there : All (λ entity. finite.get (map_of living) entity.handle
       ≡ Some (entity_of entity)) living
-  all_there k d l = get_placed living index indexed (get_or living k d).handle k d
-      (indexed.each_entity k l d)
+  all_there k d l = search (rules, get_placed)
 
   -- the births are those of the entities that pass, each once
   module _ (births : List (Birth × Handle)) (all_born : All IsBorn births)
@@ -97,7 +96,7 @@ module _ (living : List LivingEntity) (index : FinMap handle_cmp ℕ)
     sorted = ordered.sorted
 
     all_sorted : All IsBorn sorted
-    all_sorted = All-permutation IsBorn births sorted ordered.permutation all_born
+    all_sorted = search (rules, All-permutation)
 
     sorted_apart : IsDistinct alike sorted
     sorted_apart =
@@ -156,9 +155,7 @@ module _ (living : List LivingEntity) (index : FinMap handle_cmp ℕ)
         → IsSomeAnd o (λ e. IsTrue (passes e))
         → Contains (map (λ (born : Birth × Handle). born.1) sorted) h
     to_list h None found pass = absurd pass
-    to_list h (Some e) found pass =
-        let place = placed_from_get living index indexed h e found in
-        of_entity h e place.0 found place.1 pass
+    to_list h (Some e) found pass = search (rules, placed_from_get, of_entity)
 
     pub lists_of : ListsByBirth passes (map_of living) handles
     lists_of = subst (ListsByBirth passes (map_of living)) (sym ordered.are) (record {

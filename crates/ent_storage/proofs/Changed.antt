@@ -1,4 +1,5 @@
 -- The components of the entity at a place are changed.
+use Rattle.std.proofs.Common.{rules}
 use Rattle.std.proofs.Common.{◌≡◌, ℕ, zero, suc, ◌-◌, ◌<◌, List, [], ◌∷◌, length, get_or, set, Some}
 use Rattle.std.proofs.Common.{min, refl, sym, ap, subst, ◌∙◌, arith}
 use Rattle.std.proofs.lemmas.List.{get_or_default}
@@ -50,7 +51,7 @@ module _ (living : List LivingEntity) (index : FinMap handle_cmp ℕ) (room othe
   inside = (kept.indexed.each_place h i placed).0
 
   read : was ≡ get_or living i was
-  read = get_or_default living i (some_entity h) (get_or living i (some_entity h)) inside
+  read = search (rules, get_or_default, some_entity, inside)
 
   pub changed : (change : Components → Components) (after : List LivingEntity) (now : ℕ) → after
       ≡ change_at living i change → now ≡ room → IsChanged s h change after index (min now others)

@@ -45,7 +45,7 @@ module _ {X : Type 0} (is_clone : X → X → Type 0) where
 
   pub cloned_values : (old new : List (Slot X)) → AreSlotClones is_clone old new
       → AllZip is_clone (finite.values (map_of_slots old)) (finite.values (map_of_slots new))
-  cloned_values old new all = rw (entries_map old, entries_map new) (values_from 0 old new all)
+  cloned_values old new all = search (rules, entries_map, values_from)
 
   pub cloned_counted : (old new : List (Slot X)) (count : ℕ) → AreSlotClones is_clone old new
       → AreCounted 0 old count → AreCounted 0 new count

@@ -130,7 +130,7 @@ same_id a b e = λ i. record { 0 = e i }
 module _ (old new : List Column) (place : ℕ) (id : ComponentId) (others : (n : ℕ) → n ≢ id.0
     → column_at new n ≡ column_at old n) where
   value_apart : (p : ℕ) (q : ComponentId) → q ≢ id → value_at new p q ≡ value_at old p q
-  value_apart p q n = ap (λ (c : Column). map.get c.values p) (others q.0 (λ e. n (same_id q id e)))
+  value_apart p q n = search (rules, same_id)
 
   -- a value is set at the place
   module _ (v : ℤ) (set_to : (column_at new id.0).values ≡ map.insert (column_at old id.0).values

@@ -1,4 +1,5 @@
 -- Copies of columns, and the entities that they stand for.
+use Rattle.std.proofs.Common.{rules}
 use Rattle.std.proofs.Common.{◌≡◌, ℕ, ℤ, zero, suc, ◌≤◌, List, [], ◌∷◌, length, refl, ap, sym, ◌∙◌}
 use Rattle.std.proofs.Common.{arith, inr, suc-ne-zero}
 use Rattle.std.proofs.lemmas.Option.{none-some}
@@ -33,17 +34,14 @@ copy_at old new all number = absurd all
 
 module _ (old new : List Column) (all : AllZip IsCopy old new) where
   value_copied : (p : ℕ) (id : ComponentId) → value_at new p id ≡ value_at old p id
-  value_copied p id = ap (λ (m : Values). map.get m p) (copy_at old new all id.0).values
+  value_copied p id = search (rules, copy_at)
 
   pub entities_copied : (residents : List Resident)
       → entities_from 0 residents new ≡ entities_from 0 residents old
-  entities_copied residents = same_from 0 residents old new (λ p id from below. value_copied p id)
+  entities_copied residents = search (rules, same_from, value_copied)
 
   pub columns_copied : (count : ℕ) → AreColumnsOf count old → AreColumnsOf count new
-  columns_copied count are = record {
-    none_beyond = λ place id beyond. value_copied place id ∙ are.none_beyond place id beyond;
-    numbered = rw (copies_length old new all) are.numbered;
-  }
+  columns_copied count are = search (rules, value_copied, copies_length)
 
   pub in_use_copied : (used : List ℕ) → AreInUse used old → AreInUse used new
   in_use_copied used =

@@ -32,7 +32,7 @@ use Rattle.ent_storage.proofs.TakenOut.{indexed_moved, indexed_popped}
 pub stands : (living : List LivingEntity) (q : Handle) (i : ℕ) → has_handle_at living q (Some i)
     ≡ true → (i < length living) × ((d : LivingEntity) → (get_or living i d).handle ≡ q)
 stands [] q i e = absurd (false≢true e)
-stands (x ∷ living) q zero e = (omega arith, λ d. same x.handle q (equal _ (subst T (sym e) tt)))
+stands (x ∷ living) q zero e = search (rules, equal)
 stands (x ∷ living) q (suc i) e = search (rules, stands living q i e)
 
 pub stands_from : (living : List LivingEntity) (q : Handle) (i : ℕ) (d : LivingEntity) → i
@@ -103,10 +103,7 @@ kept_none index room = search (rules, indexed_counted, indexed_none, some_not_no
 pub kept_copied : (living : List LivingEntity) (old new : FinMap handle_cmp ℕ) (room more : ℕ)
     → IsKeptIndex living old room → HasAll (counted living old) new → length living ≤ more
     → IsKeptIndex living new more
-kept_copied living old new room more kept all fits = record {
-  indexed = indexed_counted living new (counted living old) kept.indexed all;
-  fits = fits;
-}
+kept_copied living old new room more kept all fits = search (rules, indexed_counted)
 
 module _ (living : List LivingEntity) (index : FinMap handle_cmp ℕ) (room : ℕ)
     (kept : IsKeptIndex living index room) where

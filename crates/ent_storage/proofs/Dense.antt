@@ -20,7 +20,7 @@ use Rattle.ent_storage.proofs.ElementsAt.{same_option, find_at, find_gives, IsFi
 module _ (D : List (ℕ × ℤ)) (S : List ℕ) (dense : IsDense D S) where
   pub once : (j k p : ℕ) (v w : ℤ) → slice_get D j ≡ Some (p, v) → slice_get D k ≡ Some (p, w) → j
       ≡ k
-  once j k p v w a b = same_Some _ _ (sym (dense.entry j p v a) ∙ dense.entry k p w b)
+  once j k p v w a b = search (rules, same_Some)
 
   pub has : (k p : ℕ) (v : ℤ) → slice_get D k ≡ Some (p, v)
       → map.get (map.from_entries {R = nat_cmp} D) p ≡ Some v
@@ -54,7 +54,7 @@ module _ (D : List (ℕ × ℤ)) (S : List ℕ) (dense : IsDense D S) where
     over_dense_at k q w (inr n) found = search (rules, at_set_other)
 
     pub over_dense : IsDense (set D i (p, v)) S
-    over_dense = record { entry = λ k q w. over_dense_at k q w (cases_eq k i) }
+    over_dense = search (rules, over_dense_at, cases_eq)
 
     over_there : (q : ℕ) (w : ℤ) → (q ≡ p) ⊎ (q ≢ p)
         → map.get (map.from_entries {R = nat_cmp} (set D i (p, v))) q ≡ Some w
@@ -94,7 +94,7 @@ module _ (D : List (ℕ × ℤ)) (S : List ℕ) (dense : IsDense D S) where
     pushed_at k q w (inr l) found = search (rules, at_push_end, at_set_same)
 
     pub pushed_dense : IsDense (D ++ (p, v) ∷ []) (set S p (length D))
-    pushed_dense = record { entry = λ k q w. pushed_at k q w (cases_lt k (length D)) }
+    pushed_dense = search (rules, pushed_at, cases_lt)
 
     pub pushed_values : map.from_entries {R = nat_cmp} (D ++ (p, v) ∷ [])
         ≡ map.insert (map.from_entries {R = nat_cmp} D) p v
@@ -137,7 +137,7 @@ module _ (D : List (ℕ × ℤ)) (S : List ℕ) (dense : IsDense D S) where
       last_was = sym (rest.moved (slice_get_within L i (m, x) read)) ∙ read
 
       pub in_sparse : m < length S
-      in_sparse = slice_get_within S m (length L) (dense.entry (length L) m x last_was)
+      in_sparse = search (rules, slice_get_within, last_was)
 
       refilled_at : (k q : ℕ) (w : ℤ) → (k ≡ i) ⊎ (k ≢ i) → slice_get L k ≡ Some (q, w)
           → slice_get (set S m i) q ≡ Some k
@@ -146,7 +146,7 @@ module _ (D : List (ℕ × ℤ)) (S : List ℕ) (dense : IsDense D S) where
           search (rules, slice_get_within, once, last_was, at_set_other)
 
       pub refilled_dense : IsDense L (set S m i)
-      refilled_dense = record { entry = λ k q w. refilled_at k q w (cases_eq k i) }
+      refilled_dense = search (rules, refilled_at, cases_eq)
 
   -- ---- a value gets another place
   module _ (i p t : ℕ) (u : ℤ) (here : slice_get D i ≡ Some (p, u))
@@ -166,9 +166,7 @@ module _ (D : List (ℕ × ℤ)) (S : List ℕ) (dense : IsDense D S) where
     renamed_there : (q : ℕ) (w : ℤ) → q ≢ t
         → map.get (map.from_entries {R = nat_cmp} (set D i (t, u))) q ≡ Some w
         → (map.get (map.from_entries {R = nat_cmp} D) q ≡ Some w) × (q ≢ p)
-    renamed_there q w n found =
-        let h = at (set D i (t, u)) (set S t i) renamed_dense q w found in
-        search (rules, some_pair_parts, at_set_same, slice_get_within, at_set_other, has, once)
+    renamed_there q w n found = search (rules, at, renamed_dense, some_pair_parts, at_set_same, slice_get_within, at_set_other, has, once)
 
     renamed_back : (q : ℕ) (w : ℤ) → q ≢ p → map.get (map.from_entries {R = nat_cmp} D) q ≡ Some w
         → map.get (map.from_entries {R = nat_cmp} (set D i (t, u))) q ≡ Some w

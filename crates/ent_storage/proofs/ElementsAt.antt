@@ -61,18 +61,12 @@ module _ {X : Type 0} (D L : List X) (i : ℕ) (rest : IsFilled D i L) where
   -- an element that is left was there, at another position
   pub left_was : (k : ℕ) (x : X) → slice_get L k ≡ Some x
       → (j : ℕ) × (slice_get D j ≡ Some x) × (j ≢ i)
-  left_was k x found = elim (cases_eq k i) [
-    | inl e ↦ search (rules, slice_get_within)
-    | inr n ↦ search (rules, slice_get_within)
-  ]
+  left_was k x found = search (rules, cases_eq, slice_get_within)
 
   -- an element at another position is left
   pub was_left : i < length D → (k : ℕ) (x : X) → k ≢ i → slice_get D k ≡ Some x
       → (j : ℕ) × (slice_get L j ≡ Some x)
-  was_left inside k x n found = elim (cases_lt k (length L)) [
-    | inl l ↦ (k, rest.others k n l ∙ found)
-    | inr g ↦ (i, search (rules, slice_get_within, rest.moved))
-  ]
+  was_left inside k x n found = search (rules, cases_lt, slice_get_within)
 
 -- what a vector's removal by swapping gives
 pub filled : {X : Type 0} (D L : List X) (i n m : ℕ) (d : X) → n ≡ length D → m ≡ length L
@@ -109,10 +103,7 @@ module _ {K X : Type 0} {R : K → K → Ordering} (total : IsTotalOrder R) (sam
   find_gives_first : (x : K × X) (D : List (K × X)) (p : K) (v : X)
       → (find R p D ≡ Some v → (k : ℕ) × (slice_get D k ≡ Some (p, v))) → (p ≡ x.0) ⊎ (p ≢ x.0)
       → find R p (x ∷ D) ≡ Some v → (k : ℕ) × (slice_get (x ∷ D) k ≡ Some (p, v))
-  find_gives_first x D p v rest (inl q) e =
-      let is : x.1 ≡ v = same_Some _ _
-      (sym (ap (λ t. cond t (Some x.1) (find R p D)) (tied total same p x.0 q)) ∙ e) in
-      (0, λ i. Some (sym q i, is i))
+  find_gives_first x D p v rest (inl q) e = search (rules, same_Some, tied)
   find_gives_first x D p v rest (inr n) e =
       let later = rest
       (sym (ap (λ t. cond t (Some x.1) (find R p D)) (apart total same p x.0 n)) ∙ e) in

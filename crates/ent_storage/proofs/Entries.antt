@@ -201,8 +201,7 @@ module _ {X : Type 0} where
   pub map-put : (slots : List (Slot X)) (h : Handle) (value : X) → h.index < length slots
       → map_of_slots (set slots h.index (Occupied h.generation value))
       ≡ map.insert (without_slot (map_of_slots slots) h.index) h value
-  map-put slots h value within =
-      is_put _ _ h (set_elsewhere slots h _) value (alone_set slots h value within)
+  map-put slots h value within = search (rules, is_put, set_elsewhere, alone_set)
 
   pub map-write : (slots : List (Slot X)) (h : Handle) (old value : X) → h.index < length slots
       → HasValue slots h old → map_of_slots (set slots h.index (Occupied h.generation value))

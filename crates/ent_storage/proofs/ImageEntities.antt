@@ -29,9 +29,7 @@ length-birth_bytes b = search (rules, length-append, length-long, length-word)
 
 birth_then : (b : Birth) (rest : List ℕ) → birth_bytes b ++ rest
     ≡ long b.frame ++ (word b.system ++ (word b.ordinal ++ rest))
-birth_then b rest =
-    append_assoc (long b.frame) (word b.system ++ word b.ordinal) rest
-    ∙ ap (long b.frame ++◌) (append_assoc (word b.system) (word b.ordinal) rest)
+birth_then b rest = search (rules, append_assoc)
 
 same_births : (a b : Birth) (xs ys : List ℕ) → IsBirth a → IsBirth b → birth_bytes a ++ xs
     ≡ birth_bytes b ++ ys → (a ≡ b) × (xs ≡ ys)
@@ -52,21 +50,18 @@ pub entity_is : (n : ℕ) (m : EntityMap) (h : Handle) (b : Birth) (rest : List 
     → birth_of m h ≡ Some b
     → entity_bytes n m h ++ rest ≡ birth_bytes b ++ (values_bytes (value_of m h) n ++ rest)
 unfolding entity_bytes
-entity_is n m h b rest is =
-    ap (λ o. (option_map_or birth_bytes o [] ++ values_bytes (value_of m h) n) ++ rest) is
-    ∙ append_assoc (birth_bytes b) (values_bytes (value_of m h) n) rest
+entity_is n m h b rest is = search (rules, append_assoc)
 
 pub entity_alone : (n : ℕ) (m : EntityMap) (h : Handle) (b : Birth) → birth_of m h ≡ Some b
     → entity_bytes n m h ≡ birth_bytes b ++ values_bytes (value_of m h) n
 unfolding entity_bytes
-entity_alone n m h b is = ap (λ o. option_map_or birth_bytes o [] ++ values_bytes (value_of m h) n) is
+entity_alone n m h b is = search rules
 
 -- an entity that was read
 pub entity_read : (n : ℕ) (m : EntityMap) (h : Handle) (b : Birth) (bytes left rest : List ℕ)
     → birth_of m h ≡ Some b → bytes ≡ birth_bytes b ++ left
     → left ≡ values_bytes (value_of m h) n ++ rest → bytes ≡ entity_bytes n m h ++ rest
-entity_read n m h b bytes left rest is first second =
-    first ∙ ap (birth_bytes b ++◌) second ∙ sym (entity_is n m h b rest is)
+entity_read n m h b bytes left rest is first second = search (rules, entity_is)
 
 -- no entity has fewer than 16 bytes
 pub entity_short : (n : ℕ) (m : EntityMap) (h : Handle) (bytes rest : List ℕ) → length bytes < 16
@@ -128,9 +123,7 @@ entity_least n m h is =
 pub written_alike : (n : ℕ) (a b : EntityMap) (h : Handle) → map.get a h ≡ map.get b h
     → entity_bytes n a h ≡ entity_bytes n b h
 unfolding entity_bytes
-written_alike n a b h same = ap (λ (o : Option Entity).
-    option_map_or birth_bytes (option_map (λ e. e.birth) o) []
-    ++ values_bytes (λ id. option_and_then (λ e. map.get e.components id) o) n) same
+written_alike n a b h same = search rules
 
 pub stored_alike : (a b : EntityMap) (h : Handle) → map.get a h ≡ map.get b h → IsStored a h
     → IsStored b h
@@ -250,8 +243,7 @@ inside : (m : EntityMap) (h : Handle) (o : Option Entity) → map.get m h ≡ o 
 inside m h o is e some = ap is_some (is ∙ some)
 
 pub never_stored : (m : EntityMap) (h : Handle) → map.get m h ≡ None → IsStored m h → ⊥
-never_stored m h none is =
-    subst (λ (o : Option Entity). IsSomeAnd (option_map (λ e. e.birth) o) IsBirth) none is.birth
+never_stored m h none is = search rules
 
 module _ (a b : EntityMap) (hs : List Handle) (in_a : AreStored a hs) (in_b : AreStored b hs)
     (n : ℕ) (beyond_a : (h : Handle) → Contains hs h → (id : ComponentId) → n ≤ id.0
@@ -265,10 +257,8 @@ module _ (a b : EntityMap) (hs : List Handle) (in_a : AreStored a hs) (in_b : Ar
   same_at : (h : Handle) (o p : Option Entity) → map.get a h ≡ o → map.get b h ≡ p → o ≡ p
   unfolding unwrapped
   same_at h None None is_a is_b = refl
-  same_at h None (Some f) is_a is_b =
-      absurd (never_stored a h is_a (in_a.each h (in_b.only h (inside b h (Some f) is_b f refl))))
-  same_at h (Some e) None is_a is_b =
-      absurd (never_stored b h is_b (in_b.each h (in_a.only h (inside a h (Some e) is_a e refl))))
+  same_at h None (Some f) is_a is_b = search (rules, never_stored, inside)
+  same_at h (Some e) None is_a is_b = search (rules, never_stored, inside)
   same_at h (Some e) (Some f) is_a is_b =
       let listed = in_a.only h (inside a h (Some e) is_a e refl) in
       let births : e.birth ≡ f.birth = ap (λ o. unwrapped o e.birth)

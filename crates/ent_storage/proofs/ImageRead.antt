@@ -1,4 +1,6 @@
 -- Entities that are read one by one, and where bytes are those of no entities.
+use Rattle.std.proofs.Common.{rules}
+use Rattle.std.proofs.lemmas.Grind.{common_steps}
 use Rattle.std.proofs.Common.{◌≡◌, ◌≢◌, sym, ap, ◌∙◌, subst, ℕ, ◌+◌, ◌^◌, ◌<◌, ◌≤◌}
 use Rattle.std.proofs.Common.{List, [], ◌∷◌, ◌++◌, length, take, drop, get_or, Contains, IsTrue, None}
 use Rattle.std.proofs.Common.{arith, inl, inr, is_some, AllPairs}
@@ -23,19 +25,12 @@ use Rattle.ent_storage.proofs.ImageEntities.{value_beyond, width_few, none_from,
 
 pub too_few : (m : EntityMap) (hs : List Handle) (bytes : List ℕ) → length bytes < 4
     → entities_bytes m hs ≢ bytes
-too_few m hs bytes short same =
-    let all = ap length same in
-    let whole = length-append (word (width m hs)) (flat_map (entity_bytes (width m hs) m) hs) in
-    omega (arith, length-word (width m hs))
+too_few m hs bytes short same = search (rules, length-append, length-word)
 
 pub told : (m : EntityMap) (hs : List Handle) (n : ℕ) (bytes rest : List ℕ) → n < 2 ^ 32
     → bytes ≡ word n ++ rest → entities_bytes m hs ≡ bytes
     → (width m hs ≡ n) × (flat_map (entity_bytes n m) hs ≡ rest)
-told m hs n bytes rest lt is same =
-    let few = width_few m hs in
-    let parts = same_words (width m hs) n (flat_map (entity_bytes (width m hs) m) hs) rest
-    (omega arith) lt (same ∙ is) in
-    (parts.0, ap (λ k. flat_map (entity_bytes k m) hs) (sym parts.0) ∙ parts.1)
+told m hs n bytes rest lt is same = search (rules, width_few, same_words)
 
 pub too_wide : (m : EntityMap) (hs : List Handle) (n : ℕ) (bytes rest : List ℕ) → n < 2 ^ 32
     → 256 < n → bytes ≡ word n ++ rest → entities_bytes m hs ≢ bytes
@@ -87,25 +82,17 @@ module _ {n : ℕ} {old : EntityMap} {bytes rest : List ℕ} (hs : List Handle) 
   module _ (apart : AllPairs (λ a b. a ≢ b) hs) (new : EntityMap)
       (kept : (g : Handle) → g ≢ h → map.get new g ≡ map.get old g) where
     free : map.get old h ≡ None
-    free = none_from (map.get old h) (λ e at.
-        let was = read.only h (ap is_some at) in
-        let short = length-take i hs in
-        apart was.0 i h (omega (arith, was.1)) lt
-        (sym (get_or-take i hs was.0 h (omega (arith, was.1))) ∙ was.2 ∙ is))
+    free = search (rules, none_from, length-take, get_or-take)
 
     same_at : (g : Handle) → Contains before g → map.get old g ≡ map.get new g
-    same_at g at =
-        sym (kept g (λ e. never_stored old h free (subst (IsStored old) e (read.each g at))))
+    same_at g at = search (rules, never_stored, free)
 
     -- what holds of each entity so far, and of this one
     each_more : (P : EntityMap → Handle → Type 0)
         → ((g : Handle) → map.get old g ≡ map.get new g → P old g → P new g)
         → ((g : Handle) → Contains before g → P old g) → P new h
         → (g : Handle) → Contains (before ++ h ∷ []) g → P new g
-    each_more P alike so_far last g at = elim (Contains-push_cases before h g at) [
-      | inl earlier ↦ alike g (same_at g earlier) (so_far g earlier)
-      | inr same ↦ subst (P new) same last
-    ]
+    each_more P alike so_far last g at = grind (arith, common_steps, Contains-push_cases, same_at)
 
     pub read_more : (left : List ℕ) → rest ≡ entity_bytes n new h ++ left → IsStored new h
         → ((id : ComponentId) → n ≤ id.0 → value_of new h id ≡ None)
@@ -143,8 +130,7 @@ first_read {n} {s} {bytes} {rest} hs k few read = record {
 
 pub all_read : {n : ℕ} {s : EntityMap} {bytes rest : List ℕ} (hs : List Handle) (i : ℕ)
     → length hs ≤ i → AreRead n s (take i hs) bytes rest → AreRead n s hs bytes rest
-all_read {n} {s} {bytes} {rest} hs i all read =
-    subst (λ xs. AreRead n s xs bytes rest) (take_all i hs all) read
+all_read {n} {s} {bytes} {rest} hs i all read = search (rules, take_all)
 
 pub width_placed : (s : EntityMap) {places : List Handle} (hs : List Handle) (i : ℕ) → length hs ≤ i
     → places ≡ take i hs → width s places ≡ width s hs

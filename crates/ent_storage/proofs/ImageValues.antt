@@ -69,10 +69,8 @@ not_below m n is lt = omega arith
 same_value : (v w : Option ℤ) (xs ys : List ℕ) → Fits v → Fits w → value_bytes v ++ xs
     ≡ value_bytes w ++ ys → (v ≡ w) × (xs ≡ ys)
 same_value None None xs ys fv fw same = (refl, ap (drop 1) same)
-same_value None (Some w) xs ys fv fw same =
-    absurd (not_below 0 1 (ap (λ bs. get_or bs 0 0) same) (omega arith))
-same_value (Some v) None xs ys fv fw same =
-    absurd (not_below 0 1 (sym (ap (λ bs. get_or bs 0 0) same)) (omega arith))
+same_value None (Some w) xs ys fv fw same = search (rules, not_below)
+same_value (Some v) None xs ys fv fw same = search (rules, not_below)
 same_value (Some v) (Some w) xs ys fv fw same = search (rules, same_longs, unsigned_below, to_z-of_z)
 
 -- ---- values
@@ -126,7 +124,7 @@ module _ (old new : ComponentId → Option ℤ) (n : ℕ) (value : Option ℤ)
 
   pub free_more : ((id : ComponentId) → n ≤ id.0 → old id ≡ None) → (id : ComponentId)
       → n + 1 ≤ id.0 → new id ≡ None
-  free_more free id least = others id (apart_by_number id n (omega arith)) ∙ free id (omega arith)
+  free_more free id least = search (rules, apart_by_number)
 
   pub fits_more : (P : ℕ → ℤ → Type 0) → ((id : ComponentId) (v : ℤ) → old id ≡ Some v → P id.0 v)
       → ((v : ℤ) → value ≡ Some v → P n v) → (id : ComponentId) (v : ℤ) → new id ≡ Some v → P id.0 v

@@ -10,10 +10,10 @@ use Rattle.std.specs.FinMap.{FinMap, IsAntisymmetric}
 
 module _ {K : Type 0} {R : K → K → Ordering} (o : IsTotalOrder R) (same : IsAntisymmetric R) where
   pub tied : (a b : K) → a ≡ b → eq_by_cmp R a b ≡ true
-  tied a b e = ap (λ x. eq_by_cmp R a x) (sym e) ∙ ap is_eq (tied_itself o a)
+  tied a b e = search rules
 
   pub apart : (a b : K) → a ≢ b → eq_by_cmp R a b ≡ false
-  apart a b n = false_from_ne_true _ (λ e. n (same a b (equal _ (subst T (sym e) tt))))
+  apart a b n = search (rules, false_from_ne_true, equal)
 
   by_test : (a b : K) (t : Bool) → eq_by_cmp R a b ≡ t → (a ≡ b) ⊎ (a ≢ b)
   by_test a b true e = inl (same a b (equal _ (subst T (sym e) tt)))

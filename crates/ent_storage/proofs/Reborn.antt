@@ -55,10 +55,10 @@ module _ (living : List LivingEntity) (index : FinMap handle_cmp ℕ) (room : �
   inside = (kept.indexed.each_place h i placed).0
 
   read : was ≡ get_or living i was
-  read = get_or_default living i (some_entity h) (get_or living i (some_entity h)) inside
+  read = search (rules, get_or_default, some_entity, inside)
 
   its_handle : was.handle ≡ h
-  its_handle = read_handle living (counted living index) kept.indexed h i placed was read
+  its_handle = search (rules, read_handle, read)
 
   at : finite.get (counted living index) changed.handle ≡ Some i
   at = ap (finite.get (counted living index)) its_handle ∙ placed
@@ -73,5 +73,4 @@ module _ (living : List LivingEntity) (index : FinMap handle_cmp ℕ) (room : �
   reborn_handles = search (rules, is_set, handles_set, get_or_default, some_entity)
 
   pub reborn_kept : IsKeptIndex (with_birth_at living i birth) index room
-  reborn_kept = subst (λ es. IsKeptIndex es index room) (sym is_set)
-      (kept_set living index room kept i changed at)
+  reborn_kept = search (rules, is_set, kept_set, at)

@@ -39,8 +39,7 @@ module _ {X : Type 0} where
   module _ (D : List (Handle × X)) (S : List ℕ) (is : IsPositioned D S) where
     pub one_slot : (j k : ℕ) (p q : Handle) (v w : X) → slice_get D j ≡ Some (p, v)
         → slice_get D k ≡ Some (q, w) → p.index ≡ q.index → j ≡ k
-    one_slot j k p q v w a b e =
-        same_Some _ _ (sym (is.entry j p v a) ∙ ap (slice_get S) e ∙ is.entry k q w b)
+    one_slot j k p q v w a b e = search (rules, same_Some)
 
     pub has : (k : ℕ) (h : Handle) (v : X) → slice_get D k ≡ Some (h, v)
         → finite.get (values_of D) h ≡ Some v
@@ -140,7 +139,7 @@ module _ {X : Type 0} where
     over_at k q w (inr n) found = search (rules, at_set_other)
 
     pub over_positioned : IsPositioned (set D i (h, v)) S
-    over_positioned = record { few = is.few; entry = λ k q w. over_at k q w (cases_eq k i) }
+    over_positioned = search (rules, over_at, cases_eq)
 
     pub over_other : (q : Handle) → q.index ≢ h.index
         → finite.get (values_of (set D i (h, v))) q ≡ finite.get (values_of D) q
@@ -220,7 +219,7 @@ module _ {X : Type 0} where
       last_was = sym (rest.moved (slice_get_within L i (m, x) read)) ∙ read
 
       pub in_positions : m.index < length S
-      in_positions = slice_get_within S m.index (length L) (is.entry (length L) m x last_was)
+      in_positions = search (rules, slice_get_within, last_was)
 
       refilled_at : (k : ℕ) (q : Handle) (w : X) → (k ≡ i) ⊎ (k ≢ i) → slice_get L k ≡ Some (q, w)
           → slice_get (set S m.index i) q.index ≡ Some k
@@ -243,9 +242,7 @@ pub is_handle : (a b : Handle) → handle_eq a b ≡ true → a ≡ b
 is_handle a b e = search (rules, nat_tests)
 
 pub not_handle : (a b : Handle) → handle_eq a b ≡ false → a ≢ b
-not_handle a b e eq =
-    let itself : handle_eq a a ≡ true = grind (arith, nat_tests) in
-    false≢true (sym e ∙ sym (ap (handle_eq a) eq) ∙ itself)
+not_handle a b e eq = search (rules, false≢true)
 
 -- the entry of a handle, at a position
 pub record IsStanding {X : Type 0} (D : List (Handle × X)) (h : Handle) (p : ℕ) : Type 0 where
@@ -268,19 +265,11 @@ module _ {X : Type 0} (D : List (Handle × X)) (S : List ℕ) (is : IsPositioned
         (ap (λ (m : HandleValues X). is_some (finite.get m h)) view ∙ some)
 
     pub in_slots : h.index < length S
-    in_slots =
-        let v = has_value in
-        let k = at D h v.0 v.1 in
-        slice_get_within S h.index k.0 (is.entry k.0 h v.0 k.1)
+    in_slots = search (rules, has_value, at, slice_get_within)
 
     -- its entry is where the position of its slot says
     pub standing : (slot p : ℕ) → slot ≡ h.index → p ≡ get_or S slot p → IsStanding D h p
-    standing slot p same read =
-        let v = has_value in
-        let k = at D h v.0 v.1 in
-        let k_is : p ≡ k.0 = read ∙ ap (λ n. get_or S n p) same
-        ∙ get_or_from_slice_get S h.index k.0 p (is.entry k.0 h v.0 k.1) in
-        record { v = v.0; has = v.1; entry = ap (slice_get D) k_is ∙ k.1 }
+    standing slot p same read = search (rules, has_value, at, get_or_from_slice_get, has)
 
   -- all entries are those of the map
   pub are_entries : (E : List (Handle × X)) → E ≡ D → (values : HandleValues X) → values_of D ≡ values
@@ -321,8 +310,7 @@ module _ {X : Type 0} (D : List (Handle × X)) (S : List ℕ) (is : IsPositioned
         search (rules, nowhere, one_slot, at, same_Some, false≢true)
 
   pub free_no_later : (h : Handle) → IsFree D h.index → HasLater (values_of D) h → ⊥
-  free_no_later h free (g, l, some) =
-      false≢true (sym (ap is_some (none_free D S is (record { index = h.index; generation = g }) free)) ∙ some)
+  free_no_later h free (g, l, some) = search (rules, false≢true, none_free)
 
 pub some_slot : {X : Type 0} (D : List (Handle × X)) (S : List ℕ) → IsPositioned D S → 0 < length D
     → 0 < length S
@@ -365,9 +353,7 @@ module _ {X : Type 0} (is_clone : X → X → Type 0) where
 
     pub cloned : (values : HandleValues X) → values_of D ≡ values
         → AreCloned is_clone values (values_of E)
-    cloned values view h =
-        subst (λ (m : HandleValues X). IsClonedOption is_clone (finite.get m h) (finite.get (values_of E) h))
-        view (cloned_option h _ _ refl refl)
+    cloned values view h = search (rules, cloned_option)
 
 -- ---- results
 

@@ -27,7 +27,7 @@ pub record IsIndexWithout (index : FinMap handle_cmp ℕ) (living : List LivingE
   pub missing : (q : Handle) → finite.get index q ≡ None → finite.get left q ≡ None
 
 not_last : (k n : ℕ) → k < n → (k + 1 < n) ⊎ (k + 1 ≡ n)
-not_last k n l = elim (cases_lt (k + 1) n) [ inl below ↦ inl below | inr above ↦ inr (omega arith) ]
+not_last k n l = search (rules, cases_lt)
 
 module _ (living : List LivingEntity) (index : FinMap handle_cmp ℕ)
     (indexed : IsIndexed living index) (h : Handle) (i : ℕ) (placed : finite.get index h ≡ Some i)

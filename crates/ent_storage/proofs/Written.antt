@@ -32,8 +32,7 @@ module _ {T : Type 0} where
 
   pub written_twice : (m : HandleMap T) (h : Handle) (v w : T)
       → with_written (with_written m h v) h w ≡ with_written m h w
-  written_twice m h v w =
-      ap (λ (values : HandleValues T). record m { values = values }) (insert_twice m.values h v w)
+  written_twice m h v w = search (rules, insert_twice)
 
   -- what was written is there
   pub got_inserted : (m : HandleValues T) (h : Handle) (v : T) → map.get (map.insert m h v) h ≡ Some v
@@ -65,8 +64,7 @@ module _ {T : Type 0} where
 
   pub written_twice_in : (m : SparseMap T) (h : Handle) (v w : T)
       → with_written_in (with_written_in m h v) h w ≡ with_written_in m h w
-  written_twice_in m h v w =
-      ap (λ (values : HandleValues T). record m { values = values }) (insert_twice m.values h v w)
+  written_twice_in m h v w = search (rules, insert_twice)
 
   pub occupied_written_in : (o : sparse.OccupiedEntry T) (v : T)
       (p : IsSome (map.get (with_written_in o.map.now o.handle v).values o.handle))
