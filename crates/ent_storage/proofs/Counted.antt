@@ -178,28 +178,10 @@ module _ (living : List LivingEntity) (pairs : List (Handle × ℕ))
   -- no two of them have the same place
   apart_places : (i j : ℕ) (d : ℕ) → i < j → j < length (map (λ e. e.1) left)
       → eqb (get_or (map (λ e. e.1) left) i d) (get_or (map (λ e. e.1) left) j d) ≡ false
-  apart_places i j d l k =
-      let unused : Handle × ℕ = (record { index = 0; generation = 0 }, d) in
-      let inside : j < length left = omega (arith, length-map left (λ (e : Handle × ℕ). e.1), k) in
-      let at_i = get_or-map (λ (e : Handle × ℕ). e.1) left i unused d (omega arith) in
-      let at_j = get_or-map (λ (e : Handle × ℕ). e.1) left j unused d inside in
-      let resident_i = (stands living (get_or left i unused).0 (get_or left i unused).1
-      (filter_passes (counts living) pairs i unused (omega arith))).1 (some_entity unused.0) in
-      let resident_j = (stands living (get_or left j unused).0 (get_or left j unused).1
-      (filter_passes (counts living) pairs j unused inside)).1 (some_entity unused.0) in
-      let less = rising_at total left i j unused (is_sorted-filter total same (counts living)
-      pairs rising) l inside in
-      let equals = tied_itself total (get_or left i unused).0 in
-      false_from_ne_true _ (λ e.
-      let one : get_or (map (λ e. e.1) left) i d ≡ get_or (map (λ e. e.1) left) j d =
-      eqb-true _ _ e in cc)
+  apart_places i j d l k = let unused : Handle × ℕ = (record { index = 0; generation = 0 }, d) in let inside : j < length left = omega (arith, length-map left (λ (e : Handle × ℕ). e.1), k) in let at_i = get_or-map (λ (e : Handle × ℕ). e.1) left i unused d (omega arith) in let at_j = get_or-map (λ (e : Handle × ℕ). e.1) left j unused d inside in let resident_i = (stands living (get_or left i unused).0 (get_or left i unused).1 (filter_passes (counts living) pairs i unused (omega arith))).1 (some_entity unused.0) in let resident_j = (stands living (get_or left j unused).0 (get_or left j unused).1 (filter_passes (counts living) pairs j unused inside)).1 (some_entity unused.0) in let less = rising_at total left i j unused (is_sorted-filter total same (counts living) pairs rising) l inside in let equals = tied_itself total (get_or left i unused).0 in search (rules, false_from_ne_true, eqb-true)
 
   place_below : (q : ℕ) → Contains (map (λ e. e.1) left) q → q < length living
-  place_below q at =
-      let unused : Handle × ℕ = (record { index = 0; generation = 0 }, q) in
-      let inside : at.0 < length left = search (rules, length-map) in
-      let resident = stands living _ _ (filter_passes (counts living) pairs at.0 unused inside) in
-      search (rules, get_or-map, resident)
+  place_below q at = let unused : Handle × ℕ = search rules in let inside : at.0 < length left = search (rules, length-map) in let resident = stands living _ _ (filter_passes (counts living) pairs at.0 unused inside) in search (rules, get_or-map, resident)
 
   -- so there are no more of them than residents
   pub left_fits : length (filter (counts living) pairs) ≤ length living

@@ -100,13 +100,7 @@ module _ {X : Type 0} where
     | inl e ↦ search (rules, find_before, first_one)
     | inr ne ↦ search (rules, later, find_from q (index + 1) slots (omega (arith, ne)))
   ]
-  find_from q index (Occupied generation value ∷ slots) l =
-      let here : Handle = record { index = index; generation = generation } in
-      elim (cases_eq q.index index) [
-        | inl e ↦ search (rules, ties_here, here, find_before, eqb_sym, first_one)
-        | inr ne ↦
-            search (rules, ties_apart, here, later, find_from q (index + 1) slots (omega (arith, ne)))
-      ]
+  find_from q index (Occupied generation value ∷ slots) l = let here : Handle = search rules in elim (cases_eq q.index index) [ | inl e ↦ search (rules, ties_here, here, find_before, eqb_sym, first_one) | inr ne ↦ search (rules, ties_apart, here, later, find_from q (index + 1) slots (omega (arith, ne))) ]
 
   -- what the map has at a handle
   pub get_map : (slots : List (Slot X)) (q : Handle) → map.get (map_of_slots slots) q ≡ value_in

@@ -81,11 +81,7 @@ pub entity_refused : (n : ℕ) (m : EntityMap) (h : Handle) (b : Birth) (bytes l
     → ((value : ComponentId → Option ℤ) (more : List ℕ) → AllFit value
     → left ≢ values_bytes value n ++ more)
     → IsStored m h → bytes ≢ entity_bytes n m h ++ rest
-entity_refused n m h b bytes left rest fits first none is same =
-    let birth = birth_known m h is in
-    let parts = same_births b birth.0 left (values_bytes (value_of m h) n ++ rest) fits birth.1.1
-    (sym first ∙ same ∙ entity_is n m h birth.0 rest birth.1.0) in
-    none (value_of m h) rest (fit_all m h is) parts.1
+entity_refused n m h b bytes left rest fits first none is same = let birth = birth_known m h is in let parts = same_births b birth.0 left (values_bytes (value_of m h) n ++ rest) fits birth.1.1 (sym first ∙ same ∙ entity_is n m h birth.0 rest birth.1.0) in search (rules, fit_all)
 
 -- the two maps have the same birth under the handle, and the same first values
 pub record IsAlike (n : ℕ) (a b : EntityMap) (h : Handle) : Type 0 where
@@ -94,21 +90,7 @@ pub record IsAlike (n : ℕ) (a b : EntityMap) (h : Handle) : Type 0 where
 
 same_entity : (n : ℕ) (a b : EntityMap) (h : Handle) (xs ys : List ℕ) → IsStored a h → IsStored b h
     → entity_bytes n a h ++ xs ≡ entity_bytes n b h ++ ys → IsAlike n a b h × (xs ≡ ys)
-same_entity n a b h xs ys is_a is_b same =
-    let birth_a = birth_known a h is_a in
-    let birth_b = birth_known b h is_b in
-    let births = same_births birth_a.0 birth_b.0 (values_bytes (value_of a h) n ++ xs)
-    (values_bytes (value_of b h) n ++ ys) birth_a.1.1 birth_b.1.1
-    (sym (entity_is n a h birth_a.0 xs birth_a.1.0) ∙ same
-    ∙ entity_is n b h birth_b.0 ys birth_b.1.0) in
-    let values = same_values (value_of a h) (value_of b h) n xs ys (fit_all a h is_a)
-    (fit_all b h is_b) births.1 in (
-      record {
-        birth = birth_a.1.0 ∙ ap Some births.0 ∙ sym birth_b.1.0;
-        values = values.0;
-      },
-      values.1,
-    )
+same_entity n a b h xs ys is_a is_b same = let birth_a = birth_known a h is_a in let birth_b = birth_known b h is_b in let births = same_births birth_a.0 birth_b.0 (values_bytes (value_of a h) n ++ xs) (values_bytes (value_of b h) n ++ ys) birth_a.1.1 birth_b.1.1 (sym (entity_is n a h birth_a.0 xs birth_a.1.0) ∙ same ∙ entity_is n b h birth_b.0 ys birth_b.1.0) in let values = same_values (value_of a h) (value_of b h) n xs ys (fit_all a h is_a) (fit_all b h is_b) births.1 in search rules
 
 -- it has at least 16 bytes
 entity_least : (n : ℕ) (m : EntityMap) (h : Handle) → IsStored m h
@@ -171,18 +153,7 @@ pub same_listed : (n : ℕ) (a b : EntityMap) (hs : List Handle) (xs ys : List �
     → flat_map (entity_bytes n a) hs ++ xs ≡ flat_map (entity_bytes n b) hs ++ ys
     → ((h : Handle) → Contains hs h → IsAlike n a b h) × (xs ≡ ys)
 same_listed n a b [] xs ys in_a in_b same = ((λ h is. absurd (omega (arith, is.1))), same)
-same_listed n a b (h ∷ hs) xs ys in_a in_b same =
-    let rest_a = flat_map (entity_bytes n a) hs in
-    let rest_b = flat_map (entity_bytes n b) hs in
-    let one = same_entity n a b h (rest_a ++ xs) (rest_b ++ ys) (in_a h (first_in h hs))
-    (in_b h (first_in h hs)) (sym (append_assoc (entity_bytes n a h) rest_a xs) ∙ same
-    ∙ append_assoc (entity_bytes n b h) rest_b ys) in
-    let rest = same_listed n a b hs xs ys (λ g is. in_a g (later_in h g hs is))
-    (λ g is. in_b g (later_in h g hs is)) one.1 in
-    ((λ g is. elim (cases_in h hs g is) [
-      | inl e ↦ subst (IsAlike n a b) e one.0
-      | inr later ↦ rest.0 g later
-    ]), rest.1)
+same_listed n a b (h ∷ hs) xs ys in_a in_b same = let rest_a = flat_map (entity_bytes n a) hs in let rest_b = flat_map (entity_bytes n b) hs in let one = same_entity n a b h (rest_a ++ xs) (rest_b ++ ys) (in_a h (first_in h hs)) (in_b h (first_in h hs)) (sym (append_assoc (entity_bytes n a h) rest_a xs) ∙ same ∙ append_assoc (entity_bytes n b h) rest_b ys) in let rest = same_listed n a b hs xs ys (λ g is. in_a g (later_in h g hs is)) (λ g is. in_b g (later_in h g hs is)) one.1 in search (rules, cases_in)
 
 -- ---- the width
 
@@ -259,17 +230,7 @@ module _ (a b : EntityMap) (hs : List Handle) (in_a : AreStored a hs) (in_b : Ar
   same_at h None None is_a is_b = refl
   same_at h None (Some f) is_a is_b = search (rules, never_stored, inside)
   same_at h (Some e) None is_a is_b = search (rules, never_stored, inside)
-  same_at h (Some e) (Some f) is_a is_b =
-      let listed = in_a.only h (inside a h (Some e) is_a e refl) in
-      let births : e.birth ≡ f.birth = ap (λ o. unwrapped o e.birth)
-      (sym (ap (option_map (λ (x : Entity). x.birth)) is_a) ∙ (alike h listed).birth
-      ∙ ap (option_map (λ (x : Entity). x.birth)) is_b) in
-      let components : e.components ≡ f.components =
-      map.same_map component_cmp_total component_cmp-IsAntisymmetric e.components f.components (λ id.
-      sym (ap (option_and_then (λ (x : Entity). map.get x.components id)) is_a)
-      ∙ same_values_of h listed id
-      ∙ ap (option_and_then (λ (x : Entity). map.get x.components id)) is_b) in
-      λ i. Some (record { birth = births i; components = components i })
+  same_at h (Some e) (Some f) is_a is_b = let listed = in_a.only h (inside a h (Some e) is_a e refl) in let births : e.birth ≡ f.birth = search (rules, unwrapped) in let components : e.components ≡ f.components = map.same_map component_cmp_total component_cmp-IsAntisymmetric e.components f.components (λ id. sym (ap (option_and_then (λ (x : Entity). map.get x.components id)) is_a) ∙ same_values_of h listed id ∙ ap (option_and_then (λ (x : Entity). map.get x.components id)) is_b) in λ i. Some (record { birth = births i; components = components i })
 
   pub same_all : a ≡ b
   same_all = map.same_map handle_cmp_total handle_cmp-IsAntisymmetric a b (λ h.

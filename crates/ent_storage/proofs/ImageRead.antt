@@ -58,18 +58,7 @@ module _ {n : ℕ} {old : EntityMap} {bytes rest : List ℕ} (hs : List Handle) 
   pub damaged : (m : EntityMap) → n < 2 ^ 32
       → ((a : EntityMap) (more : List ℕ) → IsStored a h → rest ≢ entity_bytes n a h ++ more)
       → AreStored m hs → entities_bytes m hs ≢ bytes
-  damaged m fits none stored same =
-      let f = entity_bytes n m in
-      let parts = told m hs n bytes (flat_map (entity_bytes n old) before ++ rest) fits read.spelled
-      same in
-      let more = flat_map f (drop (i + 1) hs) in
-      let split = sym (ap (flat_map f) (take-append-drop i hs))
-      ∙ flat_map-append f before (drop i hs) ∙ ap (λ xs. flat_map f before ++ flat_map f xs)
-      (drop_more hs i h lt ∙ ap (◌∷ drop (i + 1) hs) (sym is)) in
-      let both = same_listed n old m before rest (f h ++ more) read.each (λ g at. stored.each g
-      (subst (λ xs. Contains xs g) (take-append-drop i hs) (Contains-append_left before _ g at)))
-      (sym parts.1 ∙ split) in
-      none m more (stored.each h (i, lt, sym is)) both.1
+  damaged m fits none stored same = let f = entity_bytes n m in let parts = told m hs n bytes (flat_map (entity_bytes n old) before ++ rest) fits read.spelled same in let more = flat_map f (drop (i + 1) hs) in let split = sym (ap (flat_map f) (take-append-drop i hs)) ∙ flat_map-append f before (drop i hs) ∙ ap (λ xs. flat_map f before ++ flat_map f xs) (drop_more hs i h lt ∙ ap (◌∷ drop (i + 1) hs) (sym is)) in let both = same_listed n old m before rest (f h ++ more) read.each (λ g at. stored.each g (subst (λ xs. Contains xs g) (take-append-drop i hs) (Contains-append_left before _ g at))) (sym parts.1 ∙ split) in search rules
 
   next : take (i + 1) hs ≡ before ++ h ∷ []
   next = take_more hs i h lt ∙ ap (λ g. before ++ g ∷ []) (sym is)
@@ -97,21 +86,7 @@ module _ {n : ℕ} {old : EntityMap} {bytes rest : List ℕ} (hs : List Handle) 
     pub read_more : (left : List ℕ) → rest ≡ entity_bytes n new h ++ left → IsStored new h
         → ((id : ComponentId) → n ≤ id.0 → value_of new h id ≡ None)
         → AreRead n new (take (i + 1) hs) bytes left
-    read_more left first stored beyond = subst (λ xs. AreRead n new xs bytes left) (sym next) (record {
-      spelled = read.spelled ∙ ap (word n ++◌)
-          ((λ j. all_alike n old new before same_at j ++ first j)
-          ∙ sym (append_assoc (flat_map (entity_bytes n new) before) (entity_bytes n new h) left)
-          ∙ ap (◌++ left) (flat_map_more (entity_bytes n new) [] before h));
-      each = each_more IsStored (stored_alike old new) read.each stored;
-      beyond = each_more (λ m g. (id : ComponentId) → n ≤ id.0 → value_of m g id ≡ None)
-          (λ g same was id past. sym (ap (option_and_then (λ (e : Entity).
-          map.get e.components id)) same) ∙ was id past) read.beyond beyond;
-      only = λ g there. elim (same_or_apart handle_cmp_total handle_cmp-IsAntisymmetric g h) [
-        | inl same ↦ subst (Contains (before ++ h ∷ [])) (sym same) (Contains-push before h)
-        | inr other ↦ Contains-append_left before (h ∷ []) g
-            (read.only g (ap (λ o. is_some o) (sym (kept g other)) ∙ there))
-      ];
-    })
+    read_more left first stored beyond = subst (λ xs. AreRead n new xs bytes left) (sym next) (record { spelled = read.spelled ∙ ap (word n ++◌) ((λ j. all_alike n old new before same_at j ++ first j) ∙ sym (append_assoc (flat_map (entity_bytes n new) before) (entity_bytes n new h) left) ∙ ap (◌++ left) (flat_map_more (entity_bytes n new) [] before h)); each = each_more IsStored (stored_alike old new) read.each stored; beyond = search (rules, each_more); only = λ g there. elim (same_or_apart handle_cmp_total handle_cmp-IsAntisymmetric g h) [ | inl same ↦ subst (Contains (before ++ h ∷ [])) (sym same) (Contains-push before h) | inr other ↦ Contains-append_left before (h ∷ []) g (read.only g (ap (λ o. is_some o) (sym (kept g other)) ∙ there)) ] })
 
 -- the entities are the first of the bytes
 abbrev pub first_read : {n : ℕ} {s : EntityMap} {bytes rest : List ℕ} (hs : List Handle) (k : ℕ)

@@ -33,14 +33,7 @@ module _ (f : ℕ → List ℕ) where
       let at : a ≡ a + 0 = omega arith in
       let rest = flat_map f (range_with_len (a + 1) n) in
       (rest, ap (λ k. f k ++ rest) at)
-  pieces_split a (suc n) (suc k) lt =
-      let inner = pieces_split (a + 1) n k (omega arith) in
-      let at : a + 1 + k ≡ a + suc k = omega arith in
-      let before = flat_map f (range_with_len (a + 1) k) in (
-        inner.0,
-        ap (f a ++◌) (inner.1 ∙ ap (λ j. before ++ (f j ++ inner.0)) at)
-            ∙ sym (append_assoc (f a) before (f (a + suc k) ++ inner.0)),
-      )
+  pieces_split a (suc n) (suc k) lt = let inner = pieces_split (a + 1) n k (omega arith) in let at : a + 1 + k ≡ a + suc k = omega arith in let before = flat_map f (range_with_len (a + 1) k) in search (rules, append_assoc)
 
 -- pieces that are alike one by one
 pieces_alike : (f g : ℕ → List ℕ) (a n : ℕ) → ((k : ℕ) → a ≤ k → k < a + n → f k ≡ g k)
@@ -89,19 +82,7 @@ same_pieces : (f g : ComponentId → Option ℤ) (a n : ℕ) (xs ys : List ℕ) 
     → flat_map (piece f) (range_with_len a n) ++ xs ≡ flat_map (piece g) (range_with_len a n) ++ ys
     → ((k : ℕ) → a ≤ k → k < a + n → f (component k) ≡ g (component k)) × (xs ≡ ys)
 same_pieces f g a zero xs ys ff fg same = ((λ k least below. absurd (omega arith)), same)
-same_pieces f g a (suc n) xs ys ff fg same =
-    let rest_f = flat_map (piece f) (range_with_len (a + 1) n) in
-    let rest_g = flat_map (piece g) (range_with_len (a + 1) n) in
-    let one = same_value (f (component a)) (g (component a)) (rest_f ++ xs) (rest_g ++ ys)
-    (ff (component a)) (fg (component a)) (sym (append_assoc (piece f a) rest_f xs) ∙ same
-    ∙ append_assoc (piece g a) rest_g ys) in
-    let rest = same_pieces f g (a + 1) n xs ys ff fg one.1 in (
-      λ k least below. elim (cases_eq k a) [
-        | inl is ↦ rw is one.0
-        | inr other ↦ rest.0 k (omega arith) (omega arith)
-      ],
-      rest.1,
-    )
+same_pieces f g a (suc n) xs ys ff fg same = let rest_f = flat_map (piece f) (range_with_len (a + 1) n) in let rest_g = flat_map (piece g) (range_with_len (a + 1) n) in let one = same_value (f (component a)) (g (component a)) (rest_f ++ xs) (rest_g ++ ys) (ff (component a)) (fg (component a)) (sym (append_assoc (piece f a) rest_f xs) ∙ same ∙ append_assoc (piece g a) rest_g ys) in let rest = same_pieces f g (a + 1) n xs ys ff fg one.1 in search (rules, cases_eq)
 
 -- values that are written alike are the same
 pub same_values : (f g : ComponentId → Option ℤ) (n : ℕ) (xs ys : List ℕ) → AllFit f → AllFit g
@@ -135,15 +116,7 @@ pub none_next : (f g : ComponentId → Option ℤ) (width n : ℕ) (bytes rest m
     → AllFit f → AllFit g → bytes ≡ values_bytes f n ++ rest
     → ((value : Option ℤ) (left : List ℕ) → rest ≢ value_bytes value ++ left)
     → bytes ≢ values_bytes g width ++ more
-none_next f g width n bytes rest more lt ff fg before none same =
-    let split = pieces_split (piece g) 0 width n lt in
-    let whole : values_bytes f n ++ rest ≡ values_bytes g n
-    ++ (piece g (0 + n) ++ (split.0 ++ more)) =
-    sym before ∙ same ∙ ap (◌++ more) split.1
-    ∙ append_assoc (values_bytes g n) (piece g (0 + n) ++ split.0) more
-    ∙ ap (values_bytes g n ++◌) (append_assoc (piece g (0 + n)) split.0 more) in
-    let parts = same_values f g n rest (piece g (0 + n) ++ (split.0 ++ more)) ff fg whole in
-    none (g (component (0 + n))) (split.0 ++ more) parts.1
+none_next f g width n bytes rest more lt ff fg before none same = let split = pieces_split (piece g) 0 width n lt in let whole : values_bytes f n ++ rest ≡ values_bytes g n ++ (piece g (0 + n) ++ (split.0 ++ more)) = search (rules, append_assoc) in let parts = same_values f g n rest (piece g (0 + n) ++ (split.0 ++ more)) ff fg whole in none (g (component (0 + n))) (split.0 ++ more) parts.1
 
 pub below_more : (P : ComponentId → Type 0) (n : ℕ)
     → ((id : ComponentId) → id.0 < n → P id) → P (component n)

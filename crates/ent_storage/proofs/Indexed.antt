@@ -107,12 +107,7 @@ module _ (living : List LivingEntity) (index : FinMap handle_cmp ℕ)
     each_place_pushed q i (inl e) at =
         let put = get-insert_same total same index entity.handle (length living) q e in
         search (rules, length_push, get_or_push)
-    each_place_pushed q i (inr n) at =
-        let old = indexed.each_place q i
-        (sym (get-insert_other total same index entity.handle (length living) q n) ∙ at) in (
-          omega (arith, length_push living entity, old.0),
-          grind (arith, common_steps),
-        )
+    each_place_pushed q i (inr n) at = let old = indexed.each_place q i (sym (get-insert_other total same index entity.handle (length living) q n) ∙ at) in grind (arith, common_steps, length_push)
 
     pub indexed_push : IsIndexed (living ++ entity ∷ []) (finite.insert index entity.handle
         (length living))

@@ -296,13 +296,7 @@ module _ {X : Type 0} (D : List (Handle × X)) (S : List ℕ) (is : IsPositioned
         ∙ ap (λ b. cond b (Some x.1) None) (apart total same h x.0 (λ e. ne (sym e)))
 
     pub has_later : x.0.index ≡ h.index → h.generation < x.0.generation → HasLater (values_of D) h
-    has_later slot l =
-        let q : Handle = record { index = h.index; generation = x.0.generation } in
-        let is_q : x.0 ≡ q = λ i. record { index = slot i; generation = x.0.generation } in (
-          x.0.generation,
-          l,
-          ap is_some (has D S is k q x.1 (here ∙ (λ i. Some (is_q i, x.1)))),
-        )
+    has_later slot l = let q : Handle = record { index = h.index; generation = x.0.generation } in let is_q : x.0 ≡ q = search rules in (x.0.generation, l, ap is_some (has D S is k q x.1 (here ∙ (λ i. Some (is_q i, x.1)))))
 
     pub has_no_later : x.0.index ≡ h.index → x.0.generation ≤ h.generation
         → HasLater (values_of D) h → ⊥
