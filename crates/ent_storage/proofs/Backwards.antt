@@ -1,6 +1,6 @@
 -- The last of some slots, from which a walk goes backwards.
-use Rattle.std.proofs.Common.{◌≡◌, ℕ, ◌+◌, ◌-◌, ◌≤◌, List, [], ◌∷◌, ◌++◌, length, sym, ap}
-use Rattle.std.proofs.Common.{◌∙◌, arith}
+use Rattle.std.proofs.Common.{rules}
+use Rattle.std.proofs.Common.{◌≡◌, ℕ, ◌+◌, ◌-◌, ◌≤◌, List, [], ◌∷◌, ◌++◌, length}
 use Rattle.std.proofs.lemmas.List.{append-nil, length_push}
 use Rattle.ent_handle.specs.Handle.{Handle}
 use Rattle.ent_storage.specs.Slots.{entries_from, AreCounted}
@@ -23,29 +23,11 @@ module _ {X : Type 0} where
       → AreCounted index slots left × (entries_from index slots ≡ all)
       → LastGone index left front (record { index = index + length front; generation = generation }, value)
       all
-  last_occupied slots front index left generation value all split kept =
-      let last : Slot X = Occupied generation value in
-      let entries : all ≡ entries_from index front ++ entries_from (index + length front) (last ∷ []) =
-      sym kept.1 ∙ ap (entries_from index) split ∙ entries-append index front (last ∷ []) in
-      let longer = ap length entries ∙ length_push (entries_from index front) (record { index = index + length front; generation = generation }, value) in
-      let counted = kept.0.counted ∙ ap length kept.1 in
-      let shrunk = ap length split ∙ length_push front last in
-      record {
-        one = omega arith;
-        counted = record { few = omega (arith, kept.0.few); counted = omega arith };
-        entries = entries;
-        fewer = omega arith;
-      }
+  last_occupied slots front index left generation value all split kept = search (rules, entries-append, length_push)
 
   -- it is vacant
   pub last_vacant : (slots front : List (Slot X)) (index left : ℕ) (all : List (Handle × X))
       → slots ≡ front ++ Vacant ∷ []
       → AreCounted index slots left × (entries_from index slots ≡ all)
       → AreCounted index front left × (entries_from index front ≡ all)
-  last_vacant slots front index left all split kept =
-      let same : entries_from index slots ≡ entries_from index front =
-      ap (entries_from index) split ∙ entries-append index front (Vacant ∷ []) ∙ append-nil _ in
-      let shrunk = ap length split ∙ length_push front Vacant in (
-        record { few = omega (arith, kept.0.few); counted = kept.0.counted ∙ ap length same },
-        sym same ∙ kept.1,
-      )
+  last_vacant slots front index left all split kept = search (rules, entries-append, append-nil, length_push)

@@ -20,8 +20,7 @@ module _ (id : ComponentId) (value : ℤ) where
 
   all_put : id.0 < 2 ^ 8 → FitsSigned w64 value → (items : Bundle) → All IsItem items
       → All IsItem (put component_cmp id value items)
-  all_put small fits [] all = All-cons IsItem (id, value) [] (record { id = small; value = fits })
-      (All-nil IsItem)
+  all_put small fits [] all = search (rules, All-cons, All-nil)
   all_put small fits (item ∷ items) all =
       let first = All-head IsItem item items all in
       let others = All-tail IsItem item items all in

@@ -1,10 +1,10 @@
 -- The handles of the living entities that pass, by birth and then by handle.
-use Rattle.std.proofs.Common.{rules, ◌≡◌, ◌≢◌, ℕ, zero, suc, ◌<◌, Bool, true, false, cond, List, []}
-use Rattle.std.proofs.Common.{◌∷◌, map, length, get_or, Option, Some, None, Contains, IsSomeAnd}
+use Rattle.std.proofs.Common.{rules, ◌≡◌, ◌≢◌, ℕ, zero, suc, ◌<◌, Bool, true, false, cond, List}
+use Rattle.std.proofs.Common.{[], ◌∷◌, map, length, get_or, Option, Some, None, Contains, IsSomeAnd}
 use Rattle.std.proofs.Common.{IsTrue, refl, sym, ap, subst, ◌∙◌, arith}
 use Rattle.std.proofs.lemmas.Grind.{common_steps}
 use Rattle.std.specs.declared.cmp.Ordering.{Ordering}
-use Rattle.std.specs.declared.cmp.Ordering.TheVariants.{Less, Equal, Greater}
+use Rattle.std.specs.declared.cmp.Ordering.TheVariants.{Less, Equal}
 use Rattle.std.specs.Ordering.{is_lt, is_eq, eq_by_cmp, ordering_then, ordering_reverse}
 use Rattle.std.specs.Cmp.{IsTotalOrder, then_total, on_total, eq_by_cmp_equiv}
 use Rattle.std.specs.List.{All, AllPairs, filter, IsDistinct}
@@ -40,9 +40,7 @@ strictly : (r s : Ordering) → is_lt (ordering_reverse (ordering_then r s)) ≡
     → ordering_then r s ≡ Less
 strictly Less s h n = refl
 strictly Equal Less h n = refl
-strictly Equal Equal h n = cc
-strictly Equal Greater h n = cc
-strictly Greater s h n = cc
+strictly r s h n = cc
 
 -- ---- membership
 
@@ -85,8 +83,7 @@ module _ (living : List LivingEntity) (index : FinMap handle_cmp ℕ)
 
   pub all_there : All (λ entity. finite.get (map_of living) entity.handle
       ≡ Some (entity_of entity)) living
-  all_there k d l = get_placed living index indexed (get_or living k d).handle k d
-      (indexed.each_entity k l d)
+  all_there k d l = search (rules, get_placed)
 
   -- the births are those of the entities that pass, each once
   module _ (births : List (Birth × Handle)) (all_born : All IsBorn births)
@@ -99,7 +96,7 @@ module _ (living : List LivingEntity) (index : FinMap handle_cmp ℕ)
     sorted = ordered.sorted
 
     all_sorted : All IsBorn sorted
-    all_sorted = All-permutation IsBorn births sorted ordered.permutation all_born
+    all_sorted = search (rules, All-permutation)
 
     sorted_apart : IsDistinct alike sorted
     sorted_apart =
@@ -108,59 +105,26 @@ module _ (living : List LivingEntity) (index : FinMap handle_cmp ℕ)
 
     in_order : (i j : ℕ) (b : Birth × Handle) → i < j → j < length sorted
         → birth_order (map_of living) (get_or sorted i b).1 (get_or sorted j b).1 ≡ Less
-    in_order i j b l k =
-        let x = get_or sorted i b in
-        let y = get_or sorted j b in
-        let born_x : IsBorn (get_or sorted i b) = all_sorted i b (omega arith) in
-        let born_y : IsBorn (get_or sorted j b) = all_sorted j b k in
-        let unturned = sorted_far (λ (p q : Birth × Handle). is_lt (pair_cmp p q))
-        (ranks_by pair_cmp_total (λ p. p)) sorted ordered.in_order i j b (omega arith) k in
-        let turned = ap is_lt (sym (pair_cmp_total.antisymm y x)) ∙ unturned in
-        let differ = apart_from_distinct alike sorted i j b sorted_apart l k in
-        rw (born_x.there, born_y.there, born_x.birth, born_y.birth)
-        (strictly (birth_cmp x.0 y.0) (handle_cmp x.1 y.1) turned differ)
+    in_order i j b l k = let x = get_or sorted i b in let y = get_or sorted j b in let born_x : IsBorn (get_or sorted i b) = all_sorted i b (omega arith) in let born_y : IsBorn (get_or sorted j b) = all_sorted j b k in let unturned = sorted_far (λ (p q : Birth × Handle). is_lt (pair_cmp p q)) (ranks_by pair_cmp_total (λ p. p)) sorted ordered.in_order i j b (omega arith) k in let turned = ap is_lt (sym (pair_cmp_total.antisymm y x)) ∙ unturned in let differ = apart_from_distinct alike sorted i j b sorted_apart l k in search (rules, strictly)
 
     rising : AllPairs (λ a b. birth_order (map_of living) a b ≡ Less)
         (map (λ (born : Birth × Handle). born.1) sorted)
-    rising i j d l k =
-        let b : Birth × Handle = (record { frame = 0; system = 0; ordinal = 0 }, d) in
-        let below : j < length sorted =
-        omega (arith, length-map {B = Handle} sorted (λ born. born.1)) in
-        let at_i = get_or-map (λ (born : Birth × Handle). born.1) sorted i b d (omega arith) in
-        let at_j = get_or-map (λ (born : Birth × Handle). born.1) sorted j b d below in
-        rw (at_i, at_j) (in_order i j b l below)
+    rising i j d l k = let b : Birth × Handle = search rules in let below : j < length sorted = omega (arith, length-map {B = Handle} sorted (λ born. born.1)) in let at_i = get_or-map (λ (born : Birth × Handle). born.1) sorted i b d (omega arith) in let at_j = get_or-map (λ (born : Birth × Handle). born.1) sorted j b d below in rw (at_i, at_j) (in_order i j b l below)
 
     from_list : (h : Handle) → Contains (map (λ (born : Birth × Handle). born.1) sorted) h
         → IsSomeAnd (finite.get (map_of living) h) (λ e. IsTrue (passes e))
-    from_list h at =
-        let b : Birth × Handle = (record { frame = 0; system = 0; ordinal = 0 }, h) in
-        let below : at.0 < length sorted =
-        omega (arith, length-map {B = Handle} sorted (λ born. born.1), at.1) in
-        let is = get_or-map (λ (born : Birth × Handle). born.1) sorted at.0 b h below in
-        let born : IsBorn (get_or sorted at.0 b) = all_sorted at.0 b below in
-        search (rules, is, at.2, born.there, born.pass)
+    from_list h at = let b : Birth × Handle = search rules in let below : at.0 < length sorted = omega (arith, length-map {B = Handle} sorted (λ born. born.1), at.1) in let is = get_or-map (λ (born : Birth × Handle). born.1) sorted at.0 b h below in let born : IsBorn (get_or sorted at.0 b) = all_sorted at.0 b below in search (rules, is, at.2, born.there, born.pass)
 
     of_entity : (h : Handle) (e : Entity) (i : ℕ) → finite.get (map_of living) h ≡ Some e
         → finite.get index h ≡ Some i → passes e ≡ true
         → Contains (map (λ (born : Birth × Handle). born.1) sorted) h
-    of_entity h e i found placed pass =
-        let r : LivingEntity = some_entity h in
-        let at = indexed.each_place h i placed in
-        let here = get_placed living index indexed h i r placed in
-        let entity : LivingEntity = get_or living i r in
-        let is : entity_of entity ≡ e = cc in
-        let listed = Contains-permutation births sorted (born_of entity) ordered.permutation
-        (complete i r at.0 (ap passes is ∙ pass)) in
-        rw (sym (at.1 r))
-        (contains_map (λ (born : Birth × Handle). born.1) sorted (born_of entity) listed)
+    of_entity h e i found placed pass = let r : LivingEntity = some_entity h in let at = indexed.each_place h i placed in let here = get_placed living index indexed h i r placed in let entity : LivingEntity = get_or living i r in let is : entity_of entity ≡ e = cc in let listed = Contains-permutation births sorted (born_of entity) ordered.permutation (complete i r at.0 (ap passes is ∙ pass)) in grind (arith, common_steps, contains_map)
 
     to_list : (h : Handle) (o : Option Entity) → finite.get (map_of living) h ≡ o
         → IsSomeAnd o (λ e. IsTrue (passes e))
         → Contains (map (λ (born : Birth × Handle). born.1) sorted) h
     to_list h None found pass = absurd pass
-    to_list h (Some e) found pass =
-        let place = placed_from_get living index indexed h e found in
-        of_entity h e place.0 found place.1 pass
+    to_list h (Some e) found pass = search (rules, placed_from_get, of_entity)
 
     pub lists_of : ListsByBirth passes (map_of living) handles
     lists_of = subst (ListsByBirth passes (map_of living)) (sym ordered.are) (record {
@@ -177,18 +141,7 @@ module _ (living : List LivingEntity) (index : FinMap handle_cmp ℕ)
   births = map born_of chosen
 
   all_born : All IsBorn births
-  all_born k d l =
-      let r : LivingEntity = some_entity d.1 in
-      let below : k < length chosen = omega (arith, length-map {B = Birth × Handle} chosen born_of)
-      in
-      rw (get_or-map born_of chosen k r d below) (record {
-        entity = entity_of (get_or chosen k r);
-        there = All-filter (λ entity. passes (entity_of entity))
-            (λ entity. finite.get (map_of living) entity.handle ≡ Some (entity_of entity))
-            living all_there k r below;
-        birth = refl;
-        pass = filter_passes (λ entity. passes (entity_of entity)) living k r below;
-      })
+  all_born k d l = let r : LivingEntity = some_entity d.1 in let below : k < length chosen = omega (arith, length-map {B = Birth × Handle} chosen born_of) in rw (get_or-map born_of chosen k r d below) (record { entity = entity_of (get_or chosen k r); there = All-filter (λ entity. passes (entity_of entity)) (λ entity. finite.get (map_of living) entity.handle ≡ Some (entity_of entity)) living all_there k r below; birth = refl; pass = search (rules, filter_passes) })
 
   births_apart : IsDistinct alike births
   births_apart = IsDistinct-from_apart alike births (λ i j d l k.

@@ -1,4 +1,5 @@
 -- The components of the entity at a place are changed.
+use Rattle.std.proofs.Common.{rules}
 use Rattle.std.proofs.Common.{◌≡◌, ℕ, zero, suc, ◌-◌, ◌<◌, List, [], ◌∷◌, length, get_or, set, Some}
 use Rattle.std.proofs.Common.{min, refl, sym, ap, subst, ◌∙◌, arith}
 use Rattle.std.proofs.lemmas.List.{get_or_default}
@@ -26,9 +27,8 @@ as_set (e ∷ living) (suc i) d change l = ap (λ es. e ∷ es) (as_set living i
 
 length_changed : (living : List LivingEntity) (i : ℕ) (change : Components → Components)
     → length (change_at living i change) ≡ length living
-length_changed [] i change = refl
-length_changed (e ∷ living) zero change = refl
 length_changed (e ∷ living) (suc i) change = ap suc (length_changed living i change)
+length_changed living i change = refl
 
 -- the store in which the components of one entity are changed
 pub record IsChanged (s : Store) (h : Handle) (change : Components → Components)
@@ -51,7 +51,7 @@ module _ (living : List LivingEntity) (index : FinMap handle_cmp ℕ) (room othe
   inside = (kept.indexed.each_place h i placed).0
 
   read : was ≡ get_or living i was
-  read = get_or_default living i (some_entity h) (get_or living i (some_entity h)) inside
+  read = search (rules, get_or_default, some_entity, inside)
 
   pub changed : (change : Components → Components) (after : List LivingEntity) (now : ℕ) → after
       ≡ change_at living i change → now ≡ room → IsChanged s h change after index (min now others)

@@ -1,8 +1,9 @@
 -- Slots that are clones of others, one by one: their maps have the same handles, and each value is a
 -- clone of the other's.
-use Rattle.std.proofs.Common.{rules, ◌≡◌, ℕ, suc, ◌+◌, List, [], ◌∷◌, length, map}
+use Rattle.std.proofs.Common.{rules, ◌≡◌, ℕ, ◌+◌, List, [], ◌∷◌, length, map}
 use Rattle.std.proofs.Common.{refl, ap, ◌∙◌, sym}
 use Rattle.std.proofs.lemmas.List.{length-map}
+use Rattle.std.proofs.lemmas.List.Elements.{length_all_zip}
 use Rattle.std.specs.List.{AllZip}
 use Rattle.std.specs.FinMap as finite
 use Rattle.ent_handle.specs.Handle.{Handle}
@@ -15,34 +16,21 @@ module _ {X : Type 0} (is_clone : X → X → Type 0) where
   keys_from : (index : ℕ) (old new : List (Slot X)) → AreSlotClones is_clone old new
       → map (λ e. e.0) (entries_from index new) ≡ map (λ e. e.0) (entries_from index old)
   keys_from index [] [] all = refl
-  keys_from index [] (s ∷ new) all = absurd all
-  keys_from index (s ∷ old) [] all = absurd all
   keys_from index (Vacant ∷ old) (Vacant ∷ new) all = keys_from (index + 1) old new all.1
-  keys_from index (Vacant ∷ old) (Occupied other w ∷ new) all =
-      absurd all.0
-  keys_from index (Occupied generation v ∷ old) (Vacant ∷ new) all =
-      absurd all.0
   keys_from index (Occupied generation v ∷ old) (Occupied other w ∷ new) all =
       search (rules, all.0.0, keys_from (index + 1) old new all.1)
+  keys_from index old new all = search rules
 
   values_from : (index : ℕ) (old new : List (Slot X)) → AreSlotClones is_clone old new
       → AllZip is_clone (map (λ e. e.1) (entries_from index old)) (map (λ e. e.1) (entries_from index new))
   values_from index [] [] all = tt
-  values_from index [] (s ∷ new) all = absurd all
-  values_from index (s ∷ old) [] all = absurd all
   values_from index (Vacant ∷ old) (Vacant ∷ new) all = values_from (index + 1) old new all.1
-  values_from index (Vacant ∷ old) (Occupied other w ∷ new) all =
-      absurd all.0
-  values_from index (Occupied generation v ∷ old) (Vacant ∷ new) all =
-      absurd all.0
   values_from index (Occupied generation v ∷ old) (Occupied other w ∷ new) all =
       (all.0.1, values_from (index + 1) old new all.1)
+  values_from index old new all = search rules
 
   pub length_from : (old new : List (Slot X)) → AreSlotClones is_clone old new → length new ≡ length old
-  length_from [] [] all = refl
-  length_from [] (s ∷ new) all = absurd all
-  length_from (s ∷ old) [] all = absurd all
-  length_from (s ∷ old) (r ∷ new) all = ap suc (length_from old new all.1)
+  length_from old new all = sym (length_all_zip _ old new all)
 
   count_from : (index : ℕ) (old new : List (Slot X)) → AreSlotClones is_clone old new
       → length (entries_from index new) ≡ length (entries_from index old)
@@ -53,13 +41,11 @@ module _ {X : Type 0} (is_clone : X → X → Type 0) where
 
   pub cloned_keys : (old new : List (Slot X)) → AreSlotClones is_clone old new
       → finite.keys (map_of_slots new) ≡ finite.keys (map_of_slots old)
-  cloned_keys old new all =
-      ap (map (λ e. e.0)) (entries_map new) ∙ keys_from 0 old new all
-      ∙ sym (ap (map (λ e. e.0)) (entries_map old))
+  cloned_keys old new all = search (rules, entries_map, keys_from)
 
   pub cloned_values : (old new : List (Slot X)) → AreSlotClones is_clone old new
       → AllZip is_clone (finite.values (map_of_slots old)) (finite.values (map_of_slots new))
-  cloned_values old new all = rw (entries_map old, entries_map new) (values_from 0 old new all)
+  cloned_values old new all = search (rules, entries_map, values_from)
 
   pub cloned_counted : (old new : List (Slot X)) (count : ℕ) → AreSlotClones is_clone old new
       → AreCounted 0 old count → AreCounted 0 new count

@@ -16,9 +16,9 @@ use Rattle.ent_handle.specs.Component.{component_cmp, component_cmp_total as tot
 use Rattle.ent_handle.specs.Component.{component_cmp-IsAntisymmetric as same}
 use Rattle.ent_storage.specs.SparseSet.{Column, no_column, HasRoomAt, IsMovedDown}
 use Rattle.ent_storage.specs.Living.{column_at, value_at, with_value, items_from, components_at}
-use Rattle.ent_storage.proofs.Rising.{both, remove_absent}
+use Rattle.ent_storage.proofs.Rising.{both}
 use Rattle.ent_storage.proofs.Keys.{tied, apart, same_or_apart, get-insert_same, get-insert_other}
-use Rattle.ent_storage.proofs.Keys.{get-remove_same, get-remove_other}
+use Rattle.ent_storage.proofs.Keys.{get-remove_same, get-remove_other, remove_absent}
 
 id_of : ℕ → ComponentId
 id_of n = record { 0 = n }
@@ -130,7 +130,7 @@ same_id a b e = λ i. record { 0 = e i }
 module _ (old new : List Column) (place : ℕ) (id : ComponentId) (others : (n : ℕ) → n ≢ id.0
     → column_at new n ≡ column_at old n) where
   value_apart : (p : ℕ) (q : ComponentId) → q ≢ id → value_at new p q ≡ value_at old p q
-  value_apart p q n = ap (λ (c : Column). map.get c.values p) (others q.0 (λ e. n (same_id q id e)))
+  value_apart p q n = search (rules, same_id)
 
   -- a value is set at the place
   module _ (v : ℤ) (set_to : (column_at new id.0).values ≡ map.insert (column_at old id.0).values

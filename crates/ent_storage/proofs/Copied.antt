@@ -1,4 +1,5 @@
 -- What a storage takes over from another one.
+use Rattle.std.proofs.Common.{rules}
 use Rattle.std.proofs.lemmas.Grind.{common_steps}
 use Rattle.std.proofs.Common.{◌≡◌, ◌≢◌, ℕ, ℤ, zero, suc, ◌+◌, ◌<◌, ◌≤◌, Bool, List, [], ◌∷◌, length}
 use Rattle.std.proofs.Common.{filter, take, get_or, set, subst, refl, ap, sym, ◌∙◌, arith, inl, inr, ◌⊎◌, None}
@@ -68,7 +69,7 @@ module _ (old new : List Column)
 
   pub entities_same : (residents : List Resident)
       → entities_from 0 residents new ≡ entities_from 0 residents old
-  entities_same residents = same_from 0 residents old new (λ p id from below. same_value p id)
+  entities_same residents = search (rules, same_from, same_value)
 
 -- ---- entities without components
 
@@ -76,7 +77,7 @@ unused : Handle
 unused = record { index = 0; generation = 0 }
 
 no_resident : Resident
-no_resident = record { handle = unused; birth = record { frame = 0; system = 0; ordinal = 0 } }
+no_resident = grind (arith, common_steps, unused)
 
 -- their columns have no values
 pub bare_columns : (residents : List Resident) (columns : List Column)

@@ -1,8 +1,10 @@
 -- Copies of columns, and the entities that they stand for.
-use Rattle.std.proofs.Common.{◌≡◌, ℕ, ℤ, zero, suc, ◌≤◌, List, [], ◌∷◌, ◌++◌, length, refl, ap, ◌∙◌}
+use Rattle.std.proofs.Common.{rules}
+use Rattle.std.proofs.Common.{◌≡◌, ℕ, ℤ, zero, suc, ◌≤◌, List, [], ◌∷◌, length, refl, ap, sym, ◌∙◌}
 use Rattle.std.proofs.Common.{arith, inr, suc-ne-zero}
 use Rattle.std.proofs.lemmas.Option.{none-some}
 use Rattle.std.specs.List.{AllZip}
+use Rattle.std.proofs.lemmas.List.Elements.{length_all_zip}
 use Rattle.std.specs.Ordering.{nat_cmp}
 use Rattle.std.specs.FinMap as map
 use Rattle.ent_handle.specs.declared.component.ComponentId.{ComponentId}
@@ -20,41 +22,26 @@ no_places [] sparse is none = refl
 no_places ((p, v) ∷ dense) [] is none = absurd (none-some _ (is.entry 0 p v refl))
 no_places ((p, v) ∷ dense) (s ∷ sparse) is none = absurd (suc-ne-zero _ none)
 
--- one column more
-pub copies_more : (old new : List Column) (x y : Column) → AllZip IsCopy old new → IsCopy x y
-    → AllZip IsCopy (old ++ x ∷ []) (new ++ y ∷ [])
-copies_more [] [] x y all is = (is, tt)
-copies_more [] (b ∷ new) x y all is = absurd all
-copies_more (a ∷ old) [] x y all is = absurd all
-copies_more (a ∷ old) (b ∷ new) x y all is = (all.0, copies_more old new x y all.1 is)
-
 pub copies_length : (old new : List Column) → AllZip IsCopy old new → length new ≡ length old
-copies_length [] [] all = refl
-copies_length [] (b ∷ new) all = absurd all
-copies_length (a ∷ old) [] all = absurd all
-copies_length (a ∷ old) (b ∷ new) all = ap suc (copies_length old new all.1)
+copies_length old new all = sym (length_all_zip IsCopy old new all)
 
 pub copy_at : (old new : List Column) → AllZip IsCopy old new → (number : ℕ)
     → IsCopy (column_at old number) (column_at new number)
 copy_at [] [] all number = record { values = refl; none = λ e. e }
-copy_at [] (b ∷ new) all number = absurd all
-copy_at (a ∷ old) [] all number = absurd all
 copy_at (a ∷ old) (b ∷ new) all zero = all.0
 copy_at (a ∷ old) (b ∷ new) all (suc number) = copy_at old new all.1 number
+copy_at old new all number = absurd all
 
 module _ (old new : List Column) (all : AllZip IsCopy old new) where
   value_copied : (p : ℕ) (id : ComponentId) → value_at new p id ≡ value_at old p id
-  value_copied p id = ap (λ (m : Values). map.get m p) (copy_at old new all id.0).values
+  value_copied p id = search (rules, copy_at)
 
   pub entities_copied : (residents : List Resident)
       → entities_from 0 residents new ≡ entities_from 0 residents old
-  entities_copied residents = same_from 0 residents old new (λ p id from below. value_copied p id)
+  entities_copied residents = search (rules, same_from, value_copied)
 
   pub columns_copied : (count : ℕ) → AreColumnsOf count old → AreColumnsOf count new
-  columns_copied count are = record {
-    none_beyond = λ place id beyond. value_copied place id ∙ are.none_beyond place id beyond;
-    numbered = rw (copies_length old new all) are.numbered;
-  }
+  columns_copied count are = search (rules, value_copied, copies_length)
 
   pub in_use_copied : (used : List ℕ) → AreInUse used old → AreInUse used new
   in_use_copied used =

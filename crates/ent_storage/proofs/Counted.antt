@@ -32,7 +32,7 @@ use Rattle.ent_storage.proofs.TakenOut.{indexed_moved, indexed_popped}
 pub stands : (living : List LivingEntity) (q : Handle) (i : ℕ) → has_handle_at living q (Some i)
     ≡ true → (i < length living) × ((d : LivingEntity) → (get_or living i d).handle ≡ q)
 stands [] q i e = absurd (false≢true e)
-stands (x ∷ living) q zero e = (omega arith, λ d. same x.handle q (equal _ (subst T (sym e) tt)))
+stands (x ∷ living) q zero e = search (rules, equal)
 stands (x ∷ living) q (suc i) e = search (rules, stands living q i e)
 
 pub stands_from : (living : List LivingEntity) (q : Handle) (i : ℕ) (d : LivingEntity) → i
@@ -103,10 +103,7 @@ kept_none index room = search (rules, indexed_counted, indexed_none, some_not_no
 pub kept_copied : (living : List LivingEntity) (old new : FinMap handle_cmp ℕ) (room more : ℕ)
     → IsKeptIndex living old room → HasAll (counted living old) new → length living ≤ more
     → IsKeptIndex living new more
-kept_copied living old new room more kept all fits = record {
-  indexed = indexed_counted living new (counted living old) kept.indexed all;
-  fits = fits;
-}
+kept_copied living old new room more kept all fits = search (rules, indexed_counted)
 
 module _ (living : List LivingEntity) (index : FinMap handle_cmp ℕ) (room : ℕ)
     (kept : IsKeptIndex living index room) where
@@ -181,28 +178,10 @@ module _ (living : List LivingEntity) (pairs : List (Handle × ℕ))
   -- no two of them have the same place
   apart_places : (i j : ℕ) (d : ℕ) → i < j → j < length (map (λ e. e.1) left)
       → eqb (get_or (map (λ e. e.1) left) i d) (get_or (map (λ e. e.1) left) j d) ≡ false
-  apart_places i j d l k =
-      let unused : Handle × ℕ = (record { index = 0; generation = 0 }, d) in
-      let inside : j < length left = omega (arith, length-map left (λ (e : Handle × ℕ). e.1), k) in
-      let at_i = get_or-map (λ (e : Handle × ℕ). e.1) left i unused d (omega arith) in
-      let at_j = get_or-map (λ (e : Handle × ℕ). e.1) left j unused d inside in
-      let resident_i = (stands living (get_or left i unused).0 (get_or left i unused).1
-      (filter_passes (counts living) pairs i unused (omega arith))).1 (some_entity unused.0) in
-      let resident_j = (stands living (get_or left j unused).0 (get_or left j unused).1
-      (filter_passes (counts living) pairs j unused inside)).1 (some_entity unused.0) in
-      let less = rising_at total left i j unused (is_sorted-filter total same (counts living)
-      pairs rising) l inside in
-      let equals = tied_itself total (get_or left i unused).0 in
-      false_from_ne_true _ (λ e.
-      let one : get_or (map (λ e. e.1) left) i d ≡ get_or (map (λ e. e.1) left) j d =
-      eqb-true _ _ e in cc)
+  apart_places i j d l k = let unused : Handle × ℕ = (record { index = 0; generation = 0 }, d) in let inside : j < length left = omega (arith, length-map left (λ (e : Handle × ℕ). e.1), k) in let at_i = get_or-map (λ (e : Handle × ℕ). e.1) left i unused d (omega arith) in let at_j = get_or-map (λ (e : Handle × ℕ). e.1) left j unused d inside in let resident_i = (stands living (get_or left i unused).0 (get_or left i unused).1 (filter_passes (counts living) pairs i unused (omega arith))).1 (some_entity unused.0) in let resident_j = (stands living (get_or left j unused).0 (get_or left j unused).1 (filter_passes (counts living) pairs j unused inside)).1 (some_entity unused.0) in let less = rising_at total left i j unused (is_sorted-filter total same (counts living) pairs rising) l inside in let equals = tied_itself total (get_or left i unused).0 in search (rules, false_from_ne_true, eqb-true)
 
   place_below : (q : ℕ) → Contains (map (λ e. e.1) left) q → q < length living
-  place_below q at =
-      let unused : Handle × ℕ = (record { index = 0; generation = 0 }, q) in
-      let inside : at.0 < length left = search (rules, length-map) in
-      let resident = stands living _ _ (filter_passes (counts living) pairs at.0 unused inside) in
-      search (rules, get_or-map, resident)
+  place_below q at = let unused : Handle × ℕ = search rules in let inside : at.0 < length left = search (rules, length-map) in let resident = stands living _ _ (filter_passes (counts living) pairs at.0 unused inside) in search (rules, get_or-map, resident)
 
   -- so there are no more of them than residents
   pub left_fits : length (filter (counts living) pairs) ≤ length living

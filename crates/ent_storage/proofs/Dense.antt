@@ -10,18 +10,17 @@ use Rattle.std.specs.Cmp.{nat_cmp_total as total}
 use Rattle.std.specs.FinMap as map
 use Rattle.std.specs.FinMap.{nat_cmp-IsAntisymmetric as same}
 use Rattle.ent_storage.specs.SparseSet.{Values, IsDense, IsMovedDown}
-use Rattle.ent_storage.proofs.Rising.{remove_absent}
 use Rattle.ent_storage.proofs.Keys.{same_or_apart, get-insert_other, get-remove_same}
-use Rattle.ent_storage.proofs.Keys.{get-remove_other, insert_tells, remove_tells}
+use Rattle.ent_storage.proofs.Keys.{get-remove_other, insert_tells, remove_tells, remove_absent}
 use Rattle.ent_storage.proofs.ElementsAt.{at_set_same, at_set_other, at_push_before, at_push_end}
-use Rattle.ent_storage.proofs.ElementsAt.{same_option, find_at, find_gives, IsFilled}
+use Rattle.ent_storage.proofs.ElementsAt.{same_option, find_at, find_gives, IsFilled, left_was, was_left}
 
 -- ---- what the vectors stand for
 
 module _ (D : List (ℕ × ℤ)) (S : List ℕ) (dense : IsDense D S) where
   pub once : (j k p : ℕ) (v w : ℤ) → slice_get D j ≡ Some (p, v) → slice_get D k ≡ Some (p, w) → j
       ≡ k
-  once j k p v w a b = same_Some _ _ (sym (dense.entry j p v a) ∙ dense.entry k p w b)
+  once j k p v w a b = search (rules, same_Some)
 
   pub has : (k p : ℕ) (v : ℤ) → slice_get D k ≡ Some (p, v)
       → map.get (map.from_entries {R = nat_cmp} D) p ≡ Some v
@@ -55,7 +54,7 @@ module _ (D : List (ℕ × ℤ)) (S : List ℕ) (dense : IsDense D S) where
     over_dense_at k q w (inr n) found = search (rules, at_set_other)
 
     pub over_dense : IsDense (set D i (p, v)) S
-    over_dense = record { entry = λ k q w. over_dense_at k q w (cases_eq k i) }
+    over_dense = search (rules, over_dense_at, cases_eq)
 
     over_there : (q : ℕ) (w : ℤ) → (q ≡ p) ⊎ (q ≢ p)
         → map.get (map.from_entries {R = nat_cmp} (set D i (p, v))) q ≡ Some w
@@ -95,7 +94,7 @@ module _ (D : List (ℕ × ℤ)) (S : List ℕ) (dense : IsDense D S) where
     pushed_at k q w (inr l) found = search (rules, at_push_end, at_set_same)
 
     pub pushed_dense : IsDense (D ++ (p, v) ∷ []) (set S p (length D))
-    pushed_dense = record { entry = λ k q w. pushed_at k q w (cases_lt k (length D)) }
+    pushed_dense = search (rules, pushed_at, cases_lt)
 
     pub pushed_values : map.from_entries {R = nat_cmp} (D ++ (p, v) ∷ [])
         ≡ map.insert (map.from_entries {R = nat_cmp} D) p v
@@ -105,24 +104,12 @@ module _ (D : List (ℕ × ℤ)) (S : List ℕ) (dense : IsDense D S) where
   -- ---- a pair is taken out, and the last one moves to its position
   module _ (i p : ℕ) (u : ℤ) (here : slice_get D i ≡ Some (p, u)) (L : List (ℕ × ℤ))
       (rest : IsFilled D i L) where
-    -- a pair that is left was there, and its place is another one
-    left_was : (k q : ℕ) (w : ℤ) → (k ≡ i) ⊎ (k ≢ i) → slice_get L k ≡ Some (q, w) → (j : ℕ)
-        × (slice_get D j ≡ Some (q, w)) × (j ≢ i)
-    left_was k q w (inl e) found = search (rules, slice_get_within)
-    left_was k q w (inr n) found = search (rules, slice_get_within)
-
-    -- a pair of another place is left
-    was_left : (k q : ℕ) (w : ℤ) → (k < length L) ⊎ (length L ≤ k) → k ≢ i → slice_get D k
-        ≡ Some (q, w) → (j : ℕ) × (slice_get L j ≡ Some (q, w))
-    was_left k q w (inl l) n found = (k, rest.others k n l ∙ found)
-    was_left k q w (inr g) n found = search (rules, slice_get_within)
-
     module _ (S2 : List ℕ) (dense2 : IsDense L S2) where
       removed_there : (q : ℕ) (w : ℤ) → map.get (map.from_entries {R = nat_cmp} L) q ≡ Some w
           → map.get (map.remove (map.from_entries {R = nat_cmp} D) p) q ≡ Some w
       removed_there q w found =
           let h = at L S2 dense2 q w found in
-          let was = left_was h.0 q w (cases_eq h.0 i) h.1 in
+          let was = left_was D L i rest h.0 (q, w) h.1 in
           let held = has D S dense was.0 q w was.1 in
           grind (arith, remove_tells total same)
 
@@ -133,7 +120,7 @@ module _ (D : List (ℕ × ℤ)) (S : List ℕ) (dense : IsDense D S) where
       removed_back q w (inr n) found =
           let h = at D S dense q w
           (sym (get-remove_other total same (map.from_entries {R = nat_cmp} D) p q n) ∙ found) in
-          search (rules, some_pair_parts, was_left, cases_lt, has)
+          search (rules, some_pair_parts, was_left D L i rest (slice_get_within D i (p, u) here), has)
 
       pub removed_values : map.from_entries {R = nat_cmp} L
           ≡ map.remove (map.from_entries {R = nat_cmp} D) p
@@ -150,7 +137,7 @@ module _ (D : List (ℕ × ℤ)) (S : List ℕ) (dense : IsDense D S) where
       last_was = sym (rest.moved (slice_get_within L i (m, x) read)) ∙ read
 
       pub in_sparse : m < length S
-      in_sparse = slice_get_within S m (length L) (dense.entry (length L) m x last_was)
+      in_sparse = search (rules, slice_get_within, last_was)
 
       refilled_at : (k q : ℕ) (w : ℤ) → (k ≡ i) ⊎ (k ≢ i) → slice_get L k ≡ Some (q, w)
           → slice_get (set S m i) q ≡ Some k
@@ -159,7 +146,7 @@ module _ (D : List (ℕ × ℤ)) (S : List ℕ) (dense : IsDense D S) where
           search (rules, slice_get_within, once, last_was, at_set_other)
 
       pub refilled_dense : IsDense L (set S m i)
-      refilled_dense = record { entry = λ k q w. refilled_at k q w (cases_eq k i) }
+      refilled_dense = search (rules, refilled_at, cases_eq)
 
   -- ---- a value gets another place
   module _ (i p t : ℕ) (u : ℤ) (here : slice_get D i ≡ Some (p, u))
@@ -179,9 +166,7 @@ module _ (D : List (ℕ × ℤ)) (S : List ℕ) (dense : IsDense D S) where
     renamed_there : (q : ℕ) (w : ℤ) → q ≢ t
         → map.get (map.from_entries {R = nat_cmp} (set D i (t, u))) q ≡ Some w
         → (map.get (map.from_entries {R = nat_cmp} D) q ≡ Some w) × (q ≢ p)
-    renamed_there q w n found =
-        let h = at (set D i (t, u)) (set S t i) renamed_dense q w found in
-        search (rules, some_pair_parts, at_set_same, slice_get_within, at_set_other, has, once)
+    renamed_there q w n found = search (rules, at, renamed_dense, some_pair_parts, at_set_same, slice_get_within, at_set_other, has, once)
 
     renamed_back : (q : ℕ) (w : ℤ) → q ≢ p → map.get (map.from_entries {R = nat_cmp} D) q ≡ Some w
         → map.get (map.from_entries {R = nat_cmp} (set D i (t, u))) q ≡ Some w

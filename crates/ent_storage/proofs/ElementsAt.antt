@@ -2,11 +2,11 @@
 use Rattle.std.proofs.Common.{rules, ◌≡◌, ◌≢◌, ℕ, Ordering, zero, suc, ◌<◌, ◌≤◌, cond, ◌⊎◌, inl, inr, List}
 use Rattle.std.proofs.Common.{[], ◌∷◌, ◌++◌, length, set, Option, Some, None, slice_get, refl, sym}
 use Rattle.std.proofs.Common.{ap, ◌∙◌, arith, get_or, ◌+◌, ◌-◌}
-use Rattle.std.proofs.lemmas.Option.{same_Some, none-some, slice_get-get_or, slice_get_past}
+use Rattle.std.proofs.lemmas.Option.{same_Some, none-some, slice_get-get_or, slice_get_past, slice_get_within}
 use Rattle.std.specs.Cmp.{IsTotalOrder}
 use Rattle.std.specs.FinMap.{find, IsAntisymmetric}
 use Rattle.ent_storage.proofs.Keys.{apart, same_or_apart, tied}
-use Rattle.std.proofs.lemmas.Bool.{cases_lt}
+use Rattle.std.proofs.lemmas.Bool.{cases_lt, cases_eq}
 use Rattle.std.proofs.lemmas.List.{get_or-set_same, get_or-set_other, length-set}
 use Rattle.std.proofs.lemmas.List.{get_or_append_left, get_or_push, length_push}
 
@@ -46,9 +46,8 @@ at_pushed xs y =
 pub same_option : {X : Type 0} (a b : Option X) → ((v : X) → a ≡ Some v → b ≡ Some v)
     → ((v : X) → b ≡ Some v → a ≡ Some v) → a ≡ b
 same_option None None f g = refl
-same_option None (Some y) f g = g y refl
 same_option (Some x) None f g = sym (f x refl)
-same_option (Some x) (Some y) f g = g y refl
+same_option a (Some y) f g = g y refl
 
 -- ---- an element is taken out, and the last one moves to its position
 
@@ -57,6 +56,17 @@ pub record IsFilled {X : Type 0} (D : List X) (i : ℕ) (L : List X) : Type 0 wh
   pub one_less : length L + 1 ≡ length D
   pub others : (k : ℕ) → k ≢ i → k < length L → slice_get L k ≡ slice_get D k
   pub moved : i < length L → slice_get L i ≡ slice_get D (length L)
+
+module _ {X : Type 0} (D L : List X) (i : ℕ) (rest : IsFilled D i L) where
+  -- an element that is left was there, at another position
+  pub left_was : (k : ℕ) (x : X) → slice_get L k ≡ Some x
+      → (j : ℕ) × (slice_get D j ≡ Some x) × (j ≢ i)
+  left_was k x found = search (rules, cases_eq, slice_get_within)
+
+  -- an element at another position is left
+  pub was_left : i < length D → (k : ℕ) (x : X) → k ≢ i → slice_get D k ≡ Some x
+      → (j : ℕ) × (slice_get L j ≡ Some x)
+  was_left inside k x n found = search (rules, cases_lt, slice_get_within)
 
 -- what a vector's removal by swapping gives
 pub filled : {X : Type 0} (D L : List X) (i n m : ℕ) (d : X) → n ≡ length D → m ≡ length L
@@ -93,10 +103,7 @@ module _ {K X : Type 0} {R : K → K → Ordering} (total : IsTotalOrder R) (sam
   find_gives_first : (x : K × X) (D : List (K × X)) (p : K) (v : X)
       → (find R p D ≡ Some v → (k : ℕ) × (slice_get D k ≡ Some (p, v))) → (p ≡ x.0) ⊎ (p ≢ x.0)
       → find R p (x ∷ D) ≡ Some v → (k : ℕ) × (slice_get (x ∷ D) k ≡ Some (p, v))
-  find_gives_first x D p v rest (inl q) e =
-      let is : x.1 ≡ v = same_Some _ _
-      (sym (ap (λ t. cond t (Some x.1) (find R p D)) (tied total same p x.0 q)) ∙ e) in
-      (0, λ i. Some (sym q i, is i))
+  find_gives_first x D p v rest (inl q) e = search (rules, same_Some, tied)
   find_gives_first x D p v rest (inr n) e =
       let later = rest
       (sym (ap (λ t. cond t (Some x.1) (find R p D)) (apart total same p x.0 n)) ∙ e) in

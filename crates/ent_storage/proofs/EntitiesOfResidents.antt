@@ -95,7 +95,7 @@ module _ (residents left : List Resident) (i n m : ℕ) (whole : n ≡ length re
     (old new : List Column) (down : (number : ℕ)
     → IsMovedDown i (n - 1) (column_at old number).values (column_at new number).values) where
   components_moved : i + 1 < n → components_at new i ≡ components_at old (n - 1)
-  components_moved room = same_components old new (n - 1) i (λ id. (down id.0).moved (omega arith))
+  components_moved room = search (rules, same_components)
 
   components_others : (k : ℕ) → k ≢ i → k + 1 < n → components_at new k ≡ components_at old k
   components_others k far room = search (rules, same_components)
@@ -190,9 +190,7 @@ test_at residents columns i resident h at =
 
 pub test_past : (residents : List Resident) (columns : List Column) (i : ℕ) (h : Handle)
     → length residents ≤ i → has_handle_at (entities_from 0 residents columns) h (Some i) ≡ false
-test_past residents columns i h l =
-    let test = test_of (slice_get (entities_from 0 residents columns) i) h in
-    search (rules, test, handle_get, slice_get_past)
+test_past residents columns i h l = search (rules, test_of, handle_get, slice_get_past)
 
 -- the birth and the handle of each resident
 pub births_from : (n : ℕ) (residents : List Resident) (columns : List Column)

@@ -100,13 +100,7 @@ module _ {X : Type 0} where
     | inl e ↦ search (rules, find_before, first_one)
     | inr ne ↦ search (rules, later, find_from q (index + 1) slots (omega (arith, ne)))
   ]
-  find_from q index (Occupied generation value ∷ slots) l =
-      let here : Handle = record { index = index; generation = generation } in
-      elim (cases_eq q.index index) [
-        | inl e ↦ search (rules, ties_here, here, find_before, eqb_sym, first_one)
-        | inr ne ↦
-            search (rules, ties_apart, here, later, find_from q (index + 1) slots (omega (arith, ne)))
-      ]
+  find_from q index (Occupied generation value ∷ slots) l = let here : Handle = search rules in elim (cases_eq q.index index) [ | inl e ↦ search (rules, ties_here, here, find_before, eqb_sym, first_one) | inr ne ↦ search (rules, ties_apart, here, later, find_from q (index + 1) slots (omega (arith, ne))) ]
 
   -- what the map has at a handle
   pub get_map : (slots : List (Slot X)) (q : Handle) → map.get (map_of_slots slots) q ≡ value_in
@@ -135,10 +129,15 @@ module _ {X : Type 0} where
 
   -- ---- count_at slot set
 
-  slot-set : (slots : List (Slot X)) (index : ℕ) (slot : Slot X) (at : ℕ) → index < length slots
-      → (at ≡ index → slot_at (set slots index slot) at ≡ slot)
-      × (at ≢ index → slot_at (set slots index slot) at ≡ slot_at slots at)
-  slot-set slots index slot at within = search (rules, get_or-set_same, get_or-set_other)
+  set_here : (slots : List (Slot X)) (h : Handle) (slot : Slot X) → h.index < length slots
+      → (q : Handle) → q.index ≡ h.index
+      → map.get (map_of_slots (set slots h.index slot)) q ≡ value_under slot q.generation
+  set_here slots h slot within q e = search (rules, get_map, get_or-set_same)
+
+  set_elsewhere : (slots : List (Slot X)) (h : Handle) (slot : Slot X) (q : Handle)
+      → q.index ≢ h.index
+      → map.get (map_of_slots (set slots h.index slot)) q ≡ map.get (map_of_slots slots) q
+  set_elsewhere slots h slot q ne = search (rules, get_map, get_or-set_other)
 
   -- a slot that has nothing of the slot's handles but the value of one
   here_alone : (h q : Handle) (value : X) → q.index ≡ h.index
@@ -146,68 +145,71 @@ module _ {X : Type 0} where
       ≡ cond (eq_by_cmp handle_cmp q h) (Some value) None
   here_alone h q value e = search (rules, eqb_sym, ties_here)
 
-  pub get-without : (m : HandleValues X) (h q : Handle) → map.get (without_slot m h.index) q
+  get-without : (m : HandleValues X) (h q : Handle) → map.get (without_slot m h.index) q
       ≡ cond (not (eqb q.index h.index)) (map.get m q) None
   get-without m h q = map.get-retain_keys m (λ x. not (eqb x.index h.index)) q (alike h q)
 
-  -- a value is put into a slot
-  pub map-put : (slots : List (Slot X)) (h : Handle) (value : X) → h.index < length slots
-      → map_of_slots (set slots h.index (Occupied h.generation value))
-      ≡ map.insert (without_slot (map_of_slots slots) h.index) h value
-  map-put slots h value within =
-      map.same_map handle_cmp_total handle_cmp-IsAntisymmetric _ _ (λ q.
-      let slot : Slot X = Occupied h.generation value in
-      let now = get_map (set slots h.index slot) q in
-      let was = get_map slots q in
-      let put = map.get-insert handle_cmp_total (without_slot (map_of_slots slots) h.index) h value
-      q in
-      let less = get-without (map_of_slots slots) h q in
-      let is = slot-set slots h.index slot q.index within in
-      elim (cases_eq q.index h.index) [
-        | inl e ↦ let alone = here_alone h q value e in grind (arith, nat_tests)
-        | inr ne ↦ let tie = ties_apart q h ne in grind (arith, nat_tests)
-      ])
+  -- in the slot of h, the map has but the value of h
+  abbrev pub IsAlone : HandleValues X → Handle → X → Type 0
+  IsAlone m h v = (q : Handle) → q.index ≡ h.index
+      → map.get m q ≡ cond (eq_by_cmp handle_cmp q h) (Some v) None
+
+  -- two maps that differ in the slot of h alone
+  module _ (m n : HandleValues X) (h : Handle)
+      (elsewhere : (q : Handle) → q.index ≢ h.index → map.get n q ≡ map.get m q) where
+    -- a value is put into the slot
+    pub is_put : (v : X) → IsAlone n h v → n ≡ map.insert (without_slot m h.index) h v
+    is_put v here = map.same_map handle_cmp_total handle_cmp-IsAntisymmetric _ _ (λ q.
+        let put = map.get-insert handle_cmp_total (without_slot m h.index) h v q in
+        let less = get-without m h q in
+        let tie = ties_apart q h in
+        grind (arith, nat_tests, here q, elsewhere q))
+
+    -- the value of h is written over
+    pub is_written : (u v : X) → IsAlone m h u → IsAlone n h v → n ≡ map.insert m h v
+    is_written u v was here = map.same_map handle_cmp_total handle_cmp-IsAntisymmetric _ _ (λ q.
+        let put = map.get-insert handle_cmp_total m h v q in
+        let tie = ties_apart q h in
+        grind (arith, nat_tests, was q, here q, elsewhere q))
+
+    -- it is taken out
+    pub is_taken : (u : X) → IsAlone m h u
+        → ((q : Handle) → q.index ≡ h.index → map.get n q ≡ None) → n ≡ map.remove m h
+    is_taken u was none = map.same_map handle_cmp_total handle_cmp-IsAntisymmetric _ _ (λ q.
+        let put = map.get-remove handle_cmp_total m h q in
+        let tie = ties_apart q h in
+        grind (arith, nat_tests, was q, none q, elsewhere q))
 
   -- a slot has the value of the handle
   abbrev pub HasValue : List (Slot X) → Handle → X → Type 0
   HasValue slots h value = slot_at slots h.index ≡ Occupied h.generation value
 
-  other_generation : (slots : List (Slot X)) (h q : Handle) (value : X) → HasValue slots h value
-      → q.index ≡ h.index → value_in slots q ≡ cond (eq_by_cmp handle_cmp q h) (Some value) None
-  other_generation slots h q value has e = search (rules, here_alone)
+  alone : (slots : List (Slot X)) (h : Handle) (value : X) → HasValue slots h value
+      → IsAlone (map_of_slots slots) h value
+  alone slots h value has q e = search (rules, get_map, here_alone)
 
-  -- the value of a handle is written
+  alone_set : (slots : List (Slot X)) (h : Handle) (value : X) → h.index < length slots
+      → IsAlone (map_of_slots (set slots h.index (Occupied h.generation value))) h value
+  alone_set slots h value within q e = search (rules, set_here, here_alone)
+
+  pub map-put : (slots : List (Slot X)) (h : Handle) (value : X) → h.index < length slots
+      → map_of_slots (set slots h.index (Occupied h.generation value))
+      ≡ map.insert (without_slot (map_of_slots slots) h.index) h value
+  map-put slots h value within = search (rules, is_put, set_elsewhere, alone_set)
+
   pub map-write : (slots : List (Slot X)) (h : Handle) (old value : X) → h.index < length slots
       → HasValue slots h old → map_of_slots (set slots h.index (Occupied h.generation value))
       ≡ map.insert (map_of_slots slots) h value
   map-write slots h old value within has =
-      map.same_map handle_cmp_total handle_cmp-IsAntisymmetric _ _ (λ q.
-      let slot : Slot X = Occupied h.generation value in
-      let now = get_map (set slots h.index slot) q in
-      let was = get_map slots q in
-      let put = map.get-insert handle_cmp_total (map_of_slots slots) h value q in
-      let is = slot-set slots h.index slot q.index within in
-      elim (cases_eq q.index h.index) [
-        | inl e ↦
-            let other = other_generation slots h q old has e in
-            grind (arith, nat_tests)
-        | inr ne ↦ let tie = ties_apart q h ne in grind (arith, nat_tests)
-      ])
+      is_written _ _ h (set_elsewhere slots h _) old value (alone slots h old has)
+      (alone_set slots h value within)
 
-  -- the value of a handle is taken out
   pub map-take : (slots : List (Slot X)) (h : Handle) (value : X) → h.index < length slots
       → HasValue slots h value → map_of_slots (set slots h.index Vacant) ≡ map.remove
       (map_of_slots slots) h
   map-take slots h value within has =
-      map.same_map handle_cmp_total handle_cmp-IsAntisymmetric _ _ (λ q.
-      let now = get_map (set slots h.index Vacant) q in
-      let was = get_map slots q in
-      let put = map.get-remove handle_cmp_total (map_of_slots slots) h q in
-      let is = slot-set slots h.index Vacant q.index within in
-      elim (cases_eq q.index h.index) [
-        | inl e ↦ let other = other_generation slots h q value has e in grind (arith, nat_tests)
-        | inr ne ↦ let tie = ties_apart q h ne in grind (arith, nat_tests)
-      ])
+      is_taken _ _ h (set_elsewhere slots h _) value (alone slots h value has)
+      (set_here slots h Vacant within)
 
   one_more : (index : ℕ) (slot : Slot X) (slots : List (Slot X))
       → length (entries_from index (slot ∷ slots)) ≡ count_at slot + length

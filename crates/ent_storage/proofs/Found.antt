@@ -1,13 +1,11 @@
 -- The slot of a handle that has a value.
-use Rattle.std.proofs.Common.{rules, ◌≡◌, ℕ, ◌+◌, ◌-◌, ◌<◌, ◌≤◌, ◌^◌, Bool, true, false, List, []}
-use Rattle.std.proofs.Common.{◌∷◌, length, get_or, set, Some, is_some, refl, ap, arith, true≢false}
+use Rattle.std.proofs.Common.{rules, ◌≡◌, ℕ, ◌+◌, ◌-◌, ◌<◌, ◌≤◌, ◌^◌, true, false, List}
+use Rattle.std.proofs.Common.{[], ◌∷◌, length, get_or, set, Some, is_some, refl, ap, arith, true≢false}
 use Rattle.std.proofs.Common.{length-set}
 use Rattle.std.proofs.lemmas.Bool.{cases_lt, eq-eqb}
 use Rattle.std.proofs.lemmas.List.{get_or_past, length-append, length-replicate, get_or_default}
 use Rattle.std.specs.FinMap as map
-use Rattle.std.specs.Ordering.{eq_by_cmp}
-use Rattle.std.specs.Cmp.{Equal-is}
-use Rattle.ent_handle.specs.Handle.{Handle, handle_cmp, handle_cmp_total}
+use Rattle.ent_handle.specs.Handle.{Handle, handle_cmp_total}
 use Rattle.ent_handle.specs.Handle.{handle_cmp-IsAntisymmetric}
 use Rattle.ent_storage.specs.HandleMap.{HandleValues, without_slot, HasLater}
 use Rattle.ent_storage.specs.Slots.{value_under, slot_at, entries_from, map_of_slots, count_at}
@@ -16,21 +14,14 @@ use Rattle.ent_storage.specs.declared.handle_map.slot.Slot.{Slot}
 use Rattle.ent_storage.specs.declared.handle_map.slot.Slot.TheVariants.{Vacant, Occupied}
 use Rattle.ent_storage.proofs.Entries.{HasValue, get_map, length-set_slot, map_padded, map-put}
 use Rattle.ent_storage.proofs.Entries.{entries_padded}
+use Rattle.ent_storage.proofs.Keys.{remove_tells}
 
 module _ {X : Type 0} where
   -- a handle without a value
   pub remove_absent : (m : HandleValues X) (h : Handle) → is_some (map.get m h) ≡ false
       → map.remove m h ≡ m
-  remove_absent m h none =
-      map.same_map handle_cmp_total handle_cmp-IsAntisymmetric _ _
-      (λ q. by q (eq_by_cmp handle_cmp q h) refl)
-    where
-      by : (q : Handle) (b : Bool) → eq_by_cmp handle_cmp q h ≡ b
-          → map.get (map.remove m h) q ≡ map.get m q
-      by q b e =
-          let left = map.get-remove handle_cmp_total m h q in
-          let equal = (Equal-is (handle_cmp q h)).0 in
-          grind arith
+  remove_absent m h none = map.same_map handle_cmp_total handle_cmp-IsAntisymmetric _ _ (λ q.
+      grind (arith, remove_tells handle_cmp_total handle_cmp-IsAntisymmetric m h q))
 
   -- the slot of a handle that the map has
   pub found : (slots : List (Slot X)) (values : HandleValues X) (h : Handle) → map_of_slots slots ≡

@@ -1,8 +1,9 @@
 -- Entities, one by one: what is written of them tells them.
+use Rattle.std.proofs.lemmas.Grind.{common_steps}
 use Rattle.std.proofs.Common.{rules, ◌≡◌, ◌≢◌, refl, sym, ap, ◌∙◌, subst, ℕ, zero, suc, ℤ, ◌+◌, ◌*◌}
 use Rattle.std.proofs.Common.{◌<◌, ◌≤◌, Bool, true, false, IsTrue, List, [], ◌∷◌, ◌++◌, length, arith}
 use Rattle.std.proofs.Common.{Option, None, Some, IsSomeAnd, is_some, Contains, ◌||◌}
-use Rattle.std.proofs.Common.{get_or}
+use Rattle.std.proofs.Common.{◌⊎◌, inl, inr}
 use Rattle.std.specs.Prelude.{if◌then◌else◌}
 use Rattle.std.specs.List.{flat_map, list_any}
 use Rattle.std.specs.Option.{option_map, option_map_or}
@@ -28,9 +29,7 @@ length-birth_bytes b = search (rules, length-append, length-long, length-word)
 
 birth_then : (b : Birth) (rest : List ℕ) → birth_bytes b ++ rest
     ≡ long b.frame ++ (word b.system ++ (word b.ordinal ++ rest))
-birth_then b rest =
-    append_assoc (long b.frame) (word b.system ++ word b.ordinal) rest
-    ∙ ap (long b.frame ++◌) (append_assoc (word b.system) (word b.ordinal) rest)
+birth_then b rest = search (rules, append_assoc)
 
 same_births : (a b : Birth) (xs ys : List ℕ) → IsBirth a → IsBirth b → birth_bytes a ++ xs
     ≡ birth_bytes b ++ ys → (a ≡ b) × (xs ≡ ys)
@@ -51,21 +50,18 @@ pub entity_is : (n : ℕ) (m : EntityMap) (h : Handle) (b : Birth) (rest : List 
     → birth_of m h ≡ Some b
     → entity_bytes n m h ++ rest ≡ birth_bytes b ++ (values_bytes (value_of m h) n ++ rest)
 unfolding entity_bytes
-entity_is n m h b rest is =
-    ap (λ o. (option_map_or birth_bytes o [] ++ values_bytes (value_of m h) n) ++ rest) is
-    ∙ append_assoc (birth_bytes b) (values_bytes (value_of m h) n) rest
+entity_is n m h b rest is = search (rules, append_assoc)
 
 pub entity_alone : (n : ℕ) (m : EntityMap) (h : Handle) (b : Birth) → birth_of m h ≡ Some b
     → entity_bytes n m h ≡ birth_bytes b ++ values_bytes (value_of m h) n
 unfolding entity_bytes
-entity_alone n m h b is = ap (λ o. option_map_or birth_bytes o [] ++ values_bytes (value_of m h) n) is
+entity_alone n m h b is = search rules
 
 -- an entity that was read
 pub entity_read : (n : ℕ) (m : EntityMap) (h : Handle) (b : Birth) (bytes left rest : List ℕ)
     → birth_of m h ≡ Some b → bytes ≡ birth_bytes b ++ left
     → left ≡ values_bytes (value_of m h) n ++ rest → bytes ≡ entity_bytes n m h ++ rest
-entity_read n m h b bytes left rest is first second =
-    first ∙ ap (birth_bytes b ++◌) second ∙ sym (entity_is n m h b rest is)
+entity_read n m h b bytes left rest is first second = search (rules, entity_is)
 
 -- no entity has fewer than 16 bytes
 pub entity_short : (n : ℕ) (m : EntityMap) (h : Handle) (bytes rest : List ℕ) → length bytes < 16
@@ -85,11 +81,7 @@ pub entity_refused : (n : ℕ) (m : EntityMap) (h : Handle) (b : Birth) (bytes l
     → ((value : ComponentId → Option ℤ) (more : List ℕ) → AllFit value
     → left ≢ values_bytes value n ++ more)
     → IsStored m h → bytes ≢ entity_bytes n m h ++ rest
-entity_refused n m h b bytes left rest fits first none is same =
-    let birth = birth_known m h is in
-    let parts = same_births b birth.0 left (values_bytes (value_of m h) n ++ rest) fits birth.1.1
-    (sym first ∙ same ∙ entity_is n m h birth.0 rest birth.1.0) in
-    none (value_of m h) rest (fit_all m h is) parts.1
+entity_refused n m h b bytes left rest fits first none is same = let birth = birth_known m h is in let parts = same_births b birth.0 left (values_bytes (value_of m h) n ++ rest) fits birth.1.1 (sym first ∙ same ∙ entity_is n m h birth.0 rest birth.1.0) in search (rules, fit_all)
 
 -- the two maps have the same birth under the handle, and the same first values
 pub record IsAlike (n : ℕ) (a b : EntityMap) (h : Handle) : Type 0 where
@@ -98,21 +90,7 @@ pub record IsAlike (n : ℕ) (a b : EntityMap) (h : Handle) : Type 0 where
 
 same_entity : (n : ℕ) (a b : EntityMap) (h : Handle) (xs ys : List ℕ) → IsStored a h → IsStored b h
     → entity_bytes n a h ++ xs ≡ entity_bytes n b h ++ ys → IsAlike n a b h × (xs ≡ ys)
-same_entity n a b h xs ys is_a is_b same =
-    let birth_a = birth_known a h is_a in
-    let birth_b = birth_known b h is_b in
-    let births = same_births birth_a.0 birth_b.0 (values_bytes (value_of a h) n ++ xs)
-    (values_bytes (value_of b h) n ++ ys) birth_a.1.1 birth_b.1.1
-    (sym (entity_is n a h birth_a.0 xs birth_a.1.0) ∙ same
-    ∙ entity_is n b h birth_b.0 ys birth_b.1.0) in
-    let values = same_values (value_of a h) (value_of b h) n xs ys (fit_all a h is_a)
-    (fit_all b h is_b) births.1 in (
-      record {
-        birth = birth_a.1.0 ∙ ap Some births.0 ∙ sym birth_b.1.0;
-        values = values.0;
-      },
-      values.1,
-    )
+same_entity n a b h xs ys is_a is_b same = let birth_a = birth_known a h is_a in let birth_b = birth_known b h is_b in let births = same_births birth_a.0 birth_b.0 (values_bytes (value_of a h) n ++ xs) (values_bytes (value_of b h) n ++ ys) birth_a.1.1 birth_b.1.1 (sym (entity_is n a h birth_a.0 xs birth_a.1.0) ∙ same ∙ entity_is n b h birth_b.0 ys birth_b.1.0) in let values = same_values (value_of a h) (value_of b h) n xs ys (fit_all a h is_a) (fit_all b h is_b) births.1 in search rules
 
 -- it has at least 16 bytes
 entity_least : (n : ℕ) (m : EntityMap) (h : Handle) → IsStored m h
@@ -127,9 +105,7 @@ entity_least n m h is =
 pub written_alike : (n : ℕ) (a b : EntityMap) (h : Handle) → map.get a h ≡ map.get b h
     → entity_bytes n a h ≡ entity_bytes n b h
 unfolding entity_bytes
-written_alike n a b h same = ap (λ (o : Option Entity).
-    option_map_or birth_bytes (option_map (λ e. e.birth) o) []
-    ++ values_bytes (λ id. option_and_then (λ e. map.get e.components id) o) n) same
+written_alike n a b h same = search rules
 
 pub stored_alike : (a b : EntityMap) (h : Handle) → map.get a h ≡ map.get b h → IsStored a h
     → IsStored b h
@@ -166,26 +142,18 @@ pub entities_least : (m : EntityMap) (hs : List Handle) → AreStored m hs
     → 4 + 16 * length hs ≤ length (entities_bytes m hs)
 entities_least m hs stored = search (rules, listed_least, length-append, length-word)
 
-one_of : (n : ℕ) (a b : EntityMap) (h : Handle) (hs : List Handle) → IsAlike n a b h
-    → ((g : Handle) → Contains hs g → IsAlike n a b g) → (g : Handle) (k : ℕ) → k < length (h ∷ hs)
-    → get_or (h ∷ hs) k g ≡ g → IsAlike n a b g
-one_of n a b h hs here rest g zero lt at = subst (IsAlike n a b) at here
-one_of n a b h hs here rest g (suc k) lt at = rest g (k, omega arith, at)
+-- the first handle, or a later one
+cases_in : (g : Handle) (hs : List Handle) (h : Handle) → Contains (g ∷ hs) h
+    → (g ≡ h) ⊎ Contains hs h
+cases_in g hs h (zero, lt, at) = inl at
+cases_in g hs h (suc k, lt, at) = inr (k, omega (arith, lt), at)
 
 pub same_listed : (n : ℕ) (a b : EntityMap) (hs : List Handle) (xs ys : List ℕ)
     → ((h : Handle) → Contains hs h → IsStored a h) → ((h : Handle) → Contains hs h → IsStored b h)
     → flat_map (entity_bytes n a) hs ++ xs ≡ flat_map (entity_bytes n b) hs ++ ys
     → ((h : Handle) → Contains hs h → IsAlike n a b h) × (xs ≡ ys)
 same_listed n a b [] xs ys in_a in_b same = ((λ h is. absurd (omega (arith, is.1))), same)
-same_listed n a b (h ∷ hs) xs ys in_a in_b same =
-    let rest_a = flat_map (entity_bytes n a) hs in
-    let rest_b = flat_map (entity_bytes n b) hs in
-    let one = same_entity n a b h (rest_a ++ xs) (rest_b ++ ys) (in_a h (first_in h hs))
-    (in_b h (first_in h hs)) (sym (append_assoc (entity_bytes n a h) rest_a xs) ∙ same
-    ∙ append_assoc (entity_bytes n b h) rest_b ys) in
-    let rest = same_listed n a b hs xs ys (λ g is. in_a g (later_in h g hs is))
-    (λ g is. in_b g (later_in h g hs is)) one.1 in
-    ((λ g is. one_of n a b h hs one.0 rest.0 g is.0 is.1 is.2), rest.1)
+same_listed n a b (h ∷ hs) xs ys in_a in_b same = let rest_a = flat_map (entity_bytes n a) hs in let rest_b = flat_map (entity_bytes n b) hs in let one = same_entity n a b h (rest_a ++ xs) (rest_b ++ ys) (in_a h (first_in h hs)) (in_b h (first_in h hs)) (sym (append_assoc (entity_bytes n a h) rest_a xs) ∙ same ∙ append_assoc (entity_bytes n b h) rest_b ys) in let rest = same_listed n a b hs xs ys (λ g is. in_a g (later_in h g hs is)) (λ g is. in_b g (later_in h g hs is)) one.1 in search (rules, cases_in)
 
 -- ---- the width
 
@@ -217,20 +185,12 @@ or_false : (a b : Bool) → a || b ≡ false → (a ≡ false) × (b ≡ false)
 or_false true b is = absurd (false≢true (sym is))
 or_false false b is = (refl, is)
 
-fails_at : (p : Handle → Bool) (g : Handle) (hs : List Handle) → p g ≡ false
-    → ((h : Handle) → Contains hs h → p h ≡ false) → (h : Handle) (k : ℕ) → k < length (g ∷ hs)
-    → get_or (g ∷ hs) k h ≡ h → p h ≡ false
-fails_at p g hs here rest h zero lt at = ap p (sym at) ∙ here
-fails_at p g hs here rest h (suc k) lt at = rest h (k, omega arith, at)
-
 any_false : (p : Handle → Bool) (hs : List Handle) → list_any p hs ≡ false → (h : Handle)
     → Contains hs h → p h ≡ false
 any_false p [] none h is = absurd (omega (arith, is.1))
-any_false p (g ∷ hs) none h is =
-    let both = or_false (p g) (list_any p hs) none in
-    fails_at p g hs both.0 (any_false p hs both.1) h is.0 is.1 is.2
+any_false p (g ∷ hs) none h is = grind (arith, common_steps, or_false, cases_in)
 
-none_from : (o : Option ℤ) → ((v : ℤ) → o ≡ Some v → ⊥) → o ≡ None
+pub none_from : {X : Type 0} (o : Option X) → ((v : X) → o ≡ Some v → ⊥) → o ≡ None
 none_from None never = refl
 none_from (Some v) never = absurd (never v refl)
 
@@ -254,8 +214,7 @@ inside : (m : EntityMap) (h : Handle) (o : Option Entity) → map.get m h ≡ o 
 inside m h o is e some = ap is_some (is ∙ some)
 
 pub never_stored : (m : EntityMap) (h : Handle) → map.get m h ≡ None → IsStored m h → ⊥
-never_stored m h none is =
-    subst (λ (o : Option Entity). IsSomeAnd (option_map (λ e. e.birth) o) IsBirth) none is.birth
+never_stored m h none is = search rules
 
 module _ (a b : EntityMap) (hs : List Handle) (in_a : AreStored a hs) (in_b : AreStored b hs)
     (n : ℕ) (beyond_a : (h : Handle) → Contains hs h → (id : ComponentId) → n ≤ id.0
@@ -269,21 +228,9 @@ module _ (a b : EntityMap) (hs : List Handle) (in_a : AreStored a hs) (in_b : Ar
   same_at : (h : Handle) (o p : Option Entity) → map.get a h ≡ o → map.get b h ≡ p → o ≡ p
   unfolding unwrapped
   same_at h None None is_a is_b = refl
-  same_at h None (Some f) is_a is_b =
-      absurd (never_stored a h is_a (in_a.each h (in_b.only h (inside b h (Some f) is_b f refl))))
-  same_at h (Some e) None is_a is_b =
-      absurd (never_stored b h is_b (in_b.each h (in_a.only h (inside a h (Some e) is_a e refl))))
-  same_at h (Some e) (Some f) is_a is_b =
-      let listed = in_a.only h (inside a h (Some e) is_a e refl) in
-      let births : e.birth ≡ f.birth = ap (λ o. unwrapped o e.birth)
-      (sym (ap (option_map (λ (x : Entity). x.birth)) is_a) ∙ (alike h listed).birth
-      ∙ ap (option_map (λ (x : Entity). x.birth)) is_b) in
-      let components : e.components ≡ f.components =
-      map.same_map component_cmp_total component_cmp-IsAntisymmetric e.components f.components (λ id.
-      sym (ap (option_and_then (λ (x : Entity). map.get x.components id)) is_a)
-      ∙ same_values_of h listed id
-      ∙ ap (option_and_then (λ (x : Entity). map.get x.components id)) is_b) in
-      λ i. Some (record { birth = births i; components = components i })
+  same_at h None (Some f) is_a is_b = search (rules, never_stored, inside)
+  same_at h (Some e) None is_a is_b = search (rules, never_stored, inside)
+  same_at h (Some e) (Some f) is_a is_b = let listed = in_a.only h (inside a h (Some e) is_a e refl) in let births : e.birth ≡ f.birth = search (rules, unwrapped) in let components : e.components ≡ f.components = map.same_map component_cmp_total component_cmp-IsAntisymmetric e.components f.components (λ id. sym (ap (option_and_then (λ (x : Entity). map.get x.components id)) is_a) ∙ same_values_of h listed id ∙ ap (option_and_then (λ (x : Entity). map.get x.components id)) is_b) in λ i. Some (record { birth = births i; components = components i })
 
   pub same_all : a ≡ b
   same_all = map.same_map handle_cmp_total handle_cmp-IsAntisymmetric a b (λ h.

@@ -1,4 +1,5 @@
 -- An entity that was given a component.
+use Rattle.std.proofs.Common.{rules}
 use Rattle.std.proofs.Common.{◌≡◌, ◌≢◌, refl, sym, ap, ◌∙◌, ℤ, true, [], ◌∷◌, Option, None, Some}
 use Rattle.std.proofs.Common.{is_some}
 use Rattle.std.specs.Option.{option_map, option_map_or}
@@ -20,7 +21,7 @@ module _ (m : EntityMap) (h : Handle) (id : ComponentId) (v : ℤ) where
   with_one e = record { birth = e.birth; components = map.insert e.components id v }
 
   given_is : (e : Entity) → map.get m h ≡ Some e → given ≡ map.insert m h (with_one e)
-  given_is e at = ap (λ o. option_map_or (λ x. map.insert m h (with_one x)) o m) at
+  given_is e at = search rules
 
   get_here : (e : Entity) → map.get m h ≡ Some e → map.get given h ≡ Some (with_one e)
   get_here e at = ap (λ x. map.get x h) (given_is e at)
@@ -28,8 +29,7 @@ module _ (m : EntityMap) (h : Handle) (id : ComponentId) (v : ℤ) where
 
   other_at : (q : Handle) → q ≢ h → (o : Option Entity) → map.get m h ≡ o
       → map.get given q ≡ map.get m q
-  other_at q other None at =
-      ap (λ o. map.get (option_map_or (λ x. map.insert m h (with_one x)) o m) q) at
+  other_at q other None at = search rules
   other_at q other (Some e) at = ap (λ x. map.get x q) (given_is e at)
       ∙ get-insert_other handle_cmp_total handle_cmp-IsAntisymmetric m h (with_one e) q other
 
@@ -38,8 +38,7 @@ module _ (m : EntityMap) (h : Handle) (id : ComponentId) (v : ℤ) where
 
   module _ (there : is_some (birth_of m h) ≡ true) where
     there_at : (o : Option Entity) → map.get m h ≡ o → (e : Entity) × (map.get m h ≡ Some e)
-    there_at None at = absurd (false≢true (sym (ap (λ (o : Option Entity).
-        is_some (option_map (λ e. e.birth) o)) at) ∙ there))
+    there_at None at = search (rules, false≢true)
     there_at (Some e) at = (e, at)
 
     entity : (e : Entity) × (map.get m h ≡ Some e)
@@ -59,6 +58,4 @@ module _ (m : EntityMap) (h : Handle) (id : ComponentId) (v : ℤ) where
         ∙ sym (ap (option_and_then (λ (e : Entity). map.get e.components other)) entity.1)
 
     pub given_birth : birth_of given h ≡ birth_of m h
-    given_birth =
-        ap (option_map (λ (e : Entity). e.birth)) (get_here entity.0 entity.1)
-        ∙ sym (ap (option_map (λ (e : Entity). e.birth)) entity.1)
+    given_birth = search (rules, get_here)

@@ -1,8 +1,9 @@
 -- The values of an entity, one by one: what is written tells them.
+use Rattle.std.proofs.Common.{rules}
 use Rattle.std.proofs.Common.{◌≡◌, ◌≢◌, refl, sym, ap, ◌∙◌, ℕ, zero, suc, ℤ, ◌+◌, ◌^◌, ◌<◌, ◌≤◌}
 use Rattle.std.proofs.Common.{List, ◌++◌, drop, get_or, Option, None, Some, add-one}
 use Rattle.std.proofs.Common.{arith, inl, inr}
-use Rattle.std.specs.Int.{w64, cast_unsigned, cast_signed}
+use Rattle.std.specs.Int.{w64, cast_unsigned}
 use Rattle.std.specs.Int.RustNames.{FitsSigned}
 use Rattle.std.specs.List.{flat_map, range_with_len}
 use Rattle.std.proofs.Math.Facts.{Fits-lt-pow, Fits-of_z, to_z-of_z}
@@ -17,9 +18,7 @@ use Rattle.ent_storage.proofs.ImageBytes.{same_longs}
 module _ (f : ℕ → List ℕ) where
   pieces_more : (a n : ℕ) → flat_map f (range_with_len a (suc n))
       ≡ flat_map f (range_with_len a n) ++ f (a + n)
-  pieces_more a zero =
-      let at : a + 0 ≡ a = omega arith in
-      append-nil (f a) ∙ ap f (sym at)
+  pieces_more a zero = search (rules, append-nil)
   pieces_more a (suc n) =
       let at : a + 1 + n ≡ a + suc n = omega arith in
       ap (f a ++◌) (pieces_more (a + 1) n
@@ -34,14 +33,7 @@ module _ (f : ℕ → List ℕ) where
       let at : a ≡ a + 0 = omega arith in
       let rest = flat_map f (range_with_len (a + 1) n) in
       (rest, ap (λ k. f k ++ rest) at)
-  pieces_split a (suc n) (suc k) lt =
-      let inner = pieces_split (a + 1) n k (omega arith) in
-      let at : a + 1 + k ≡ a + suc k = omega arith in
-      let before = flat_map f (range_with_len (a + 1) k) in (
-        inner.0,
-        ap (f a ++◌) (inner.1 ∙ ap (λ j. before ++ (f j ++ inner.0)) at)
-            ∙ sym (append_assoc (f a) before (f (a + suc k) ++ inner.0)),
-      )
+  pieces_split a (suc n) (suc k) lt = let inner = pieces_split (a + 1) n k (omega arith) in let at : a + 1 + k ≡ a + suc k = omega arith in let before = flat_map f (range_with_len (a + 1) k) in search (rules, append_assoc)
 
 -- pieces that are alike one by one
 pieces_alike : (f g : ℕ → List ℕ) (a n : ℕ) → ((k : ℕ) → a ≤ k → k < a + n → f k ≡ g k)
@@ -70,16 +62,9 @@ not_below m n is lt = omega arith
 same_value : (v w : Option ℤ) (xs ys : List ℕ) → Fits v → Fits w → value_bytes v ++ xs
     ≡ value_bytes w ++ ys → (v ≡ w) × (xs ≡ ys)
 same_value None None xs ys fv fw same = (refl, ap (drop 1) same)
-same_value None (Some w) xs ys fv fw same =
-    absurd (not_below 0 1 (ap (λ bs. get_or bs 0 0) same) (omega arith))
-same_value (Some v) None xs ys fv fw same =
-    absurd (not_below 0 1 (sym (ap (λ bs. get_or bs 0 0) same)) (omega arith))
-same_value (Some v) (Some w) xs ys fv fw same =
-    let parts = same_longs (cast_unsigned w64 v) (cast_unsigned w64 w) xs ys
-    (unsigned_below v (fv v refl)) (unsigned_below w (fw w refl)) (ap (drop 1) same) in (
-      ap Some (sym (to_z-of_z (fv v refl)) ∙ ap (cast_signed w64) parts.0 ∙ to_z-of_z (fw w refl)),
-      parts.1,
-    )
+same_value None (Some w) xs ys fv fw same = search (rules, not_below)
+same_value (Some v) None xs ys fv fw same = search (rules, not_below)
+same_value (Some v) (Some w) xs ys fv fw same = search (rules, same_longs, unsigned_below, to_z-of_z)
 
 -- ---- values
 
@@ -97,27 +82,13 @@ same_pieces : (f g : ComponentId → Option ℤ) (a n : ℕ) (xs ys : List ℕ) 
     → flat_map (piece f) (range_with_len a n) ++ xs ≡ flat_map (piece g) (range_with_len a n) ++ ys
     → ((k : ℕ) → a ≤ k → k < a + n → f (component k) ≡ g (component k)) × (xs ≡ ys)
 same_pieces f g a zero xs ys ff fg same = ((λ k least below. absurd (omega arith)), same)
-same_pieces f g a (suc n) xs ys ff fg same =
-    let rest_f = flat_map (piece f) (range_with_len (a + 1) n) in
-    let rest_g = flat_map (piece g) (range_with_len (a + 1) n) in
-    let one = same_value (f (component a)) (g (component a)) (rest_f ++ xs) (rest_g ++ ys)
-    (ff (component a)) (fg (component a)) (sym (append_assoc (piece f a) rest_f xs) ∙ same
-    ∙ append_assoc (piece g a) rest_g ys) in
-    let rest = same_pieces f g (a + 1) n xs ys ff fg one.1 in (
-      λ k least below. elim (cases_eq k a) [
-        | inl is ↦ rw is one.0
-        | inr other ↦ rest.0 k (omega arith) (omega arith)
-      ],
-      rest.1,
-    )
+same_pieces f g a (suc n) xs ys ff fg same = let rest_f = flat_map (piece f) (range_with_len (a + 1) n) in let rest_g = flat_map (piece g) (range_with_len (a + 1) n) in let one = same_value (f (component a)) (g (component a)) (rest_f ++ xs) (rest_g ++ ys) (ff (component a)) (fg (component a)) (sym (append_assoc (piece f a) rest_f xs) ∙ same ∙ append_assoc (piece g a) rest_g ys) in let rest = same_pieces f g (a + 1) n xs ys ff fg one.1 in search (rules, cases_eq)
 
 -- values that are written alike are the same
 pub same_values : (f g : ComponentId → Option ℤ) (n : ℕ) (xs ys : List ℕ) → AllFit f → AllFit g
     → values_bytes f n ++ xs ≡ values_bytes g n ++ ys
     → ((k : ℕ) → k < n → f (component k) ≡ g (component k)) × (xs ≡ ys)
-same_values f g n xs ys ff fg same =
-    let both = same_pieces f g 0 n xs ys ff fg same in
-    ((λ k below. both.0 k (omega arith) (omega arith)), both.1)
+same_values f g n xs ys ff fg same = search (rules, same_pieces)
 
 -- ---- values that are read
 
@@ -130,47 +101,24 @@ module _ (old new : ComponentId → Option ℤ) (n : ℕ) (value : Option ℤ)
   -- the next one
   pub read_more : (bytes rest left : List ℕ) → bytes ≡ values_bytes old n ++ rest
       → rest ≡ value_bytes value ++ left → bytes ≡ values_bytes new (n + 1) ++ left
-  read_more bytes rest left before next =
-      let alike = pieces_alike (piece old) (piece new) 0 n (λ k least below.
-      ap value_bytes (sym (others (component k) (apart_by_number (component k) n (omega arith))))) in
-      before ∙ ap (values_bytes old n ++◌) next
-      ∙ sym (append_assoc (values_bytes old n) (value_bytes value) left)
-      ∙ ap (◌++ left) ((λ i. alike i ++ value_bytes (sym here i)) ∙ sym (values_more new n))
+  read_more bytes rest left before next = search (rules, pieces_alike, apart_by_number, append_assoc, values_more)
 
   pub free_more : ((id : ComponentId) → n ≤ id.0 → old id ≡ None) → (id : ComponentId)
       → n + 1 ≤ id.0 → new id ≡ None
-  free_more free id least = others id (apart_by_number id n (omega arith)) ∙ free id (omega arith)
+  free_more free id least = search (rules, apart_by_number)
 
   pub fits_more : (P : ℕ → ℤ → Type 0) → ((id : ComponentId) (v : ℤ) → old id ≡ Some v → P id.0 v)
       → ((v : ℤ) → value ≡ Some v → P n v) → (id : ComponentId) (v : ℤ) → new id ≡ Some v → P id.0 v
-  fits_more P each last id v is = elim (cases_eq id.0 n) [
-    | inl same ↦
-        let whole : id ≡ component n = ap component same in
-        rw same (last v (sym here ∙ ap new (sym whole) ∙ is))
-    | inr other ↦ each id v (sym (others id (apart_by_number id n other)) ∙ is)
-  ]
+  fits_more P each last id v is = search (rules, cases_eq, apart_by_number)
 
 -- where no value is next, no values are written
 pub none_next : (f g : ComponentId → Option ℤ) (width n : ℕ) (bytes rest more : List ℕ) → n < width
     → AllFit f → AllFit g → bytes ≡ values_bytes f n ++ rest
     → ((value : Option ℤ) (left : List ℕ) → rest ≢ value_bytes value ++ left)
     → bytes ≢ values_bytes g width ++ more
-none_next f g width n bytes rest more lt ff fg before none same =
-    let split = pieces_split (piece g) 0 width n lt in
-    let whole : values_bytes f n ++ rest ≡ values_bytes g n
-    ++ (piece g (0 + n) ++ (split.0 ++ more)) =
-    sym before ∙ same ∙ ap (◌++ more) split.1
-    ∙ append_assoc (values_bytes g n) (piece g (0 + n) ++ split.0) more
-    ∙ ap (values_bytes g n ++◌) (append_assoc (piece g (0 + n)) split.0 more) in
-    let parts = same_values f g n rest (piece g (0 + n) ++ (split.0 ++ more)) ff fg whole in
-    none (g (component (0 + n))) (split.0 ++ more) parts.1
+none_next f g width n bytes rest more lt ff fg before none same = let split = pieces_split (piece g) 0 width n lt in let whole : values_bytes f n ++ rest ≡ values_bytes g n ++ (piece g (0 + n) ++ (split.0 ++ more)) = search (rules, append_assoc) in let parts = same_values f g n rest (piece g (0 + n) ++ (split.0 ++ more)) ff fg whole in none (g (component (0 + n))) (split.0 ++ more) parts.1
 
 pub below_more : (P : ComponentId → Type 0) (n : ℕ)
     → ((id : ComponentId) → id.0 < n → P id) → P (component n)
     → (id : ComponentId) → id.0 < n + 1 → P id
-below_more P n each last id below = elim (cases_eq id.0 n) [
-  | inl same ↦
-      let whole : id ≡ component n = ap component same in
-      rw whole last
-  | inr other ↦ each id (omega arith)
-]
+below_more P n each last id below = search (rules, cases_eq)

@@ -41,7 +41,7 @@ find_entity (entity ∷ living) q (suc i) d l at first =
     search (rules, far, rest)
 
 below_or_at : (i n : ℕ) → i < n + 1 → (i < n) ⊎ (i ≡ n)
-below_or_at i n l = elim (cases_lt i n) [ inl below ↦ inl below | inr above ↦ inr (omega arith) ]
+below_or_at i n l = search (rules, cases_lt)
 
 pub same_number : (i j : ℕ) → (i ≡ j) ⊎ (i ≢ j)
 same_number i j = elim (cases_eq i j) [ inl e ↦ inl e | inr n ↦ inr n ]
@@ -107,12 +107,7 @@ module _ (living : List LivingEntity) (index : FinMap handle_cmp ℕ)
     each_place_pushed q i (inl e) at =
         let put = get-insert_same total same index entity.handle (length living) q e in
         search (rules, length_push, get_or_push)
-    each_place_pushed q i (inr n) at =
-        let old = indexed.each_place q i
-        (sym (get-insert_other total same index entity.handle (length living) q n) ∙ at) in (
-          omega (arith, length_push living entity, old.0),
-          grind (arith, common_steps),
-        )
+    each_place_pushed q i (inr n) at = let old = indexed.each_place q i (sym (get-insert_other total same index entity.handle (length living) q n) ∙ at) in grind (arith, common_steps, length_push)
 
     pub indexed_push : IsIndexed (living ++ entity ∷ []) (finite.insert index entity.handle
         (length living))
@@ -164,7 +159,7 @@ module _ (living : List LivingEntity) (index : FinMap handle_cmp ℕ)
     (indexed : IsIndexed living index) (h : Handle) (i : ℕ) (placed : finite.get index h ≡ Some i)
     (entity : LivingEntity) (read : entity ≡ get_or living i entity) where
   pub read_handle : entity.handle ≡ h
-  read_handle = ap (λ (r : LivingEntity). r.handle) read ∙ (indexed.each_place h i placed).1 entity
+  read_handle = search rules
 
   pub get_read : finite.get (map_of living) h ≡ Some (entity_of entity)
   get_read = search (rules, get_placed)

@@ -1,4 +1,5 @@
 -- How a walk over the slots keeps some of their values.
+use Rattle.std.proofs.lemmas.Grind.{common_steps}
 use Rattle.std.proofs.Common.{rules, ◌≡◌, ℕ, ◌+◌, ◌<◌, ◌≤◌, Bool, true, false, MutBor, List}
 use Rattle.std.proofs.Common.{[], ◌∷◌, ◌++◌, length, get_or, set, take, drop, Some}
 use Rattle.std.proofs.Common.{arith, length-set}
@@ -90,10 +91,7 @@ module _ {X F : Type 0} (step : F → Handle → MutBor X → Bool → MutBor X 
       (slot new : Slot X) → index < length now → slot ≡ get_or now index slot
       → RetainsSlot step f index slot new next → RetainedBelow first old f now index
       → RetainedBelow first old next (set now index new) (index + 1)
-  retained-more first old now f next index slot new within read kept below =
-      let head : drop index now ≡ slot ∷ drop (index + 1) now = search (rules, drop_more, read) in
-      let other = drop_more old index slot (omega (arith, below.long)) in
-      search (rules, length-set, drop-set-lt, append_assoc, entries-upto, in_front)
+  retained-more first old now f next index slot new within read kept below = grind (arith, common_steps, drop_more, read, length-set, drop-set-lt, append_assoc, entries-upto, in_front)
 
   pub retained-done : (first : F) (old now : List (Slot X)) (f : F) (index : ℕ) → length old ≤ index
       → RetainedBelow first old f now index

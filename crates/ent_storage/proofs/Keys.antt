@@ -1,6 +1,6 @@
 -- Keys of a map that are the same or apart, and what a map has at them after a change.
 use Rattle.std.proofs.Common.{◌≡◌, ◌≢◌, Bool, true, false, T, ◌⊎◌, inl, inr, Some, None, Ordering}
-use Rattle.std.proofs.Common.{refl, sym, ap, subst, ◌∙◌, rules}
+use Rattle.std.proofs.Common.{refl, sym, ap, subst, ◌∙◌, rules, arith}
 use Rattle.std.specs.Ordering.{is_eq, eq_by_cmp}
 use Rattle.std.specs.Cmp.{IsTotalOrder, tied_itself}
 use Rattle.ent_storage.proofs.Rising.{equal}
@@ -10,10 +10,10 @@ use Rattle.std.specs.FinMap.{FinMap, IsAntisymmetric}
 
 module _ {K : Type 0} {R : K → K → Ordering} (o : IsTotalOrder R) (same : IsAntisymmetric R) where
   pub tied : (a b : K) → a ≡ b → eq_by_cmp R a b ≡ true
-  tied a b e = ap (λ x. eq_by_cmp R a x) (sym e) ∙ ap is_eq (tied_itself o a)
+  tied a b e = search rules
 
   pub apart : (a b : K) → a ≢ b → eq_by_cmp R a b ≡ false
-  apart a b n = false_from_ne_true _ (λ e. n (same a b (equal _ (subst T (sym e) tt))))
+  apart a b n = search (rules, false_from_ne_true, equal)
 
   by_test : (a b : K) (t : Bool) → eq_by_cmp R a b ≡ t → (a ≡ b) ⊎ (a ≢ b)
   by_test a b true e = inl (same a b (equal _ (subst T (sym e) tt)))
@@ -43,3 +43,7 @@ module _ {K : Type 0} {R : K → K → Ordering} (o : IsTotalOrder R) (same : Is
     pub remove_tells : (q : K) → ((q ≡ k) × (map.get (map.remove m k) q ≡ None))
         ⊎ ((q ≢ k) × (map.get (map.remove m k) q ≡ map.get m q))
     remove_tells q = search (rules, same_or_apart q k, get-remove_same, get-remove_other)
+
+    -- what is not there stays out
+    pub remove_absent : map.get m k ≡ None → map.remove m k ≡ m
+    remove_absent none = map.same_map o same _ _ (λ q. grind (arith, remove_tells q))

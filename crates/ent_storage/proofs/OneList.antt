@@ -82,4 +82,4 @@ one_list_of_all m hs ks a b = one_list (λ _. true) m hs ks a b
 -- and those that have a component
 pub one_list_with : (id : ComponentId) (m : EntityMap) (hs ks : List Handle) → ListsWith id m hs
     → ListsWith id m ks → hs ≡ ks
-one_list_with id m hs ks a b = one_list (λ e. finite.contains_key e.components id) m hs ks a b
+one_list_with id m hs ks a b = search (rules, one_list)

@@ -94,9 +94,7 @@ module _ {K X : Type 0} {R : K → K → Ordering} (o : IsTotalOrder R) (same : 
     find_below : (x q : K) (es : List (K × X)) → R x q ≡ Equal → T (below_all R x es) → find R q es
         ≡ None
     find_below x q [] e h = refl
-    find_below x q (d ∷ es) e h =
-        let here : R q d.0 ≡ Less = sym (o.congr x q d.0 e) ∙ less _ (first _ _ h) in
-        ap (λ r. cond (is_eq r) (Some d.1) (find R q es)) here ∙ find_below x q es e (second _ _ h)
+    find_below x q (d ∷ es) e h = let here : R q d.0 ≡ Less = search (rules, less, first) in ap (λ r. cond (is_eq r) (Some d.1) (find R q es)) here ∙ find_below x q es e (second _ _ h)
 
     -- what the test leaves of a key's value
     abbrev pub passed : K → Option X → Option X

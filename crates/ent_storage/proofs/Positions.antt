@@ -1,6 +1,6 @@
 -- Pairs whose keys strictly rise, and what a binary search finds among them.
-use Rattle.std.proofs.Common.{rules, ◌≡◌, ℕ, zero, suc, ◌<◌, Bool, true, false, ◌&&◌, T, List, []}
-use Rattle.std.proofs.Common.{◌∷◌, length, get_or, Result, IfOk, IfErr, Ordering, ap, ◌∙◌, arith}
+use Rattle.std.proofs.Common.{rules, ◌≡◌, ℕ, zero, suc, ◌<◌, Bool, true, false, ◌&&◌, T, List}
+use Rattle.std.proofs.Common.{[], ◌∷◌, length, get_or, Result, IfOk, IfErr, Ordering, ap, ◌∙◌, arith}
 use Rattle.std.specs.declared.cmp.Ordering.TheVariants.{Less}
 use Rattle.std.specs.Ordering.{is_lt, ordering_reverse}
 use Rattle.std.specs.Cmp.{IsTotalOrder}
@@ -37,11 +37,10 @@ module _ {K X : Type 0} {R : K → K → Ordering} (o : IsTotalOrder R) where
   -- an earlier key is below a later one
   pub rising_at : (es : List (K × X)) (i j : ℕ) (d : K × X) → T (is_sorted R es) → i < j → j
       < length es → R (get_or es i d).0 (get_or es j d).0 ≡ Less
-  rising_at [] i j d h l k = absurd (omega arith)
-  rising_at (e ∷ es) i zero d h l k = absurd (omega arith)
   rising_at (e ∷ es) zero (suc j) d h l k = below_at e.0 es j d (first _ _ h) (omega arith)
   rising_at (e ∷ es) (suc i) (suc j) d h l k = rising_at es i j d (second _ _ h) (omega arith)
       (omega arith)
+  rising_at es i j d h l k = absurd (omega arith)
 
   -- a binary search by key ends at the key, or at the gap for it
   pub searched : (es : List (K × X)) (k : K) → T (is_sorted R es) → (r : Result ℕ ℕ)

@@ -15,7 +15,7 @@ module _ {K X : Type 0} {R : K → K → Ordering} (o : IsTotalOrder R) where
   abbrev putting : K → X → K × X → List (K × X) → Ordering → List (K × X)
   putting k v e es r = by_order r ((k, v) ∷ e ∷ es) ((e.0, v) ∷ es) (e ∷ put R k v es)
 
-  above_head : (k : K) (e : K × X) (es : List (K × X)) (i : ℕ) (d : K × X)
+  pub above_head : (k : K) (e : K × X) (es : List (K × X)) (i : ℕ) (d : K × X)
       → T (is_sorted R (e ∷ es)) → i < length es → R (get_or es i d).0 k ≡ Equal → R k e.0 ≡ Greater
   above_head k e es i d h l t = search (rules, turn, below_at, first)
 

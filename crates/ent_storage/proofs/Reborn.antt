@@ -28,9 +28,8 @@ reborn_from n (r ∷ residents) columns (suc i) birth resident l read =
 
 pub length_reborn : (living : List LivingEntity) (i : ℕ) (birth : Birth)
     → length (with_birth_at living i birth) ≡ length living
-length_reborn [] i birth = refl
-length_reborn (e ∷ living) zero birth = refl
 length_reborn (e ∷ living) (suc i) birth = ap suc (length_reborn living i birth)
+length_reborn living i birth = refl
 
 as_set : (living : List LivingEntity) (i : ℕ) (d : LivingEntity) (birth : Birth) → i < length living
     → with_birth_at living i birth
@@ -56,10 +55,10 @@ module _ (living : List LivingEntity) (index : FinMap handle_cmp ℕ) (room : �
   inside = (kept.indexed.each_place h i placed).0
 
   read : was ≡ get_or living i was
-  read = get_or_default living i (some_entity h) (get_or living i (some_entity h)) inside
+  read = search (rules, get_or_default, some_entity, inside)
 
   its_handle : was.handle ≡ h
-  its_handle = read_handle living (counted living index) kept.indexed h i placed was read
+  its_handle = search (rules, read_handle, read)
 
   at : finite.get (counted living index) changed.handle ≡ Some i
   at = ap (finite.get (counted living index)) its_handle ∙ placed
@@ -71,10 +70,7 @@ module _ (living : List LivingEntity) (index : FinMap handle_cmp ℕ) (room : �
   reborn_entities = search (rules, is_set, entities_set, at, its_handle, get_read, read)
 
   pub reborn_handles : handles_by_place (with_birth_at living i birth) ≡ handles_by_place living
-  reborn_handles = ap handles_by_place is_set
-      ∙ handles_set living i changed (λ d l. ap (λ (r : LivingEntity). r.handle)
-      (get_or_default living i (some_entity h) d l))
+  reborn_handles = search (rules, is_set, handles_set, get_or_default, some_entity)
 
   pub reborn_kept : IsKeptIndex (with_birth_at living i birth) index room
-  reborn_kept = subst (λ es. IsKeptIndex es index room) (sym is_set)
-      (kept_set living index room kept i changed at)
+  reborn_kept = search (rules, is_set, kept_set, at)

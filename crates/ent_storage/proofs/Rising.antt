@@ -4,7 +4,7 @@ use Rattle.std.proofs.Common.{rules, ◌≡◌, ℕ, zero, suc, ◌+◌, ◌-◌
 use Rattle.std.proofs.Common.{false, cond, T, ◌&&◌, List, [], ◌∷◌, length, get_or, set, Some, None}
 use Rattle.std.proofs.Common.{Ordering, refl, sym, ap, subst, ◌∙◌, arith}
 use Rattle.std.specs.declared.cmp.Ordering.TheVariants.{Less, Equal, Greater}
-use Rattle.std.specs.Ordering.{is_eq, eq_by_cmp}
+use Rattle.std.specs.Ordering.{is_eq}
 use Rattle.std.specs.Cmp.{IsTotalOrder}
 use Rattle.std.specs.List.{insert, HoldsAt}
 use Rattle.std.proofs.lemmas.Bool.{cases_lt}
@@ -12,30 +12,25 @@ use Rattle.std.specs.FinMap as map
 use Rattle.std.specs.FinMap.{IsAntisymmetric, find, put, is_sorted}
 use Rattle.std.specs.FinMap.Entries.{is_sorted-put}
 use Rattle.ent_storage.specs.Position.{IsAt, IsGapFor}
-use Rattle.ent_storage.proofs.Positions.{first, second, turn, below_at, rising_at}
-use Rattle.ent_storage.proofs.Putting.{find_in_gap, inserted, written}
+use Rattle.ent_storage.proofs.Positions.{second, turn, rising_at}
+use Rattle.ent_storage.proofs.Putting.{above_head, find_in_gap, inserted, written}
 
 pub both : (a b : Bool) → T a → T b → T (a && b)
 both true b x y = y
 both false b x y = absurd x
 
 pub equal : (r : Ordering) → T (is_eq r) → r ≡ Equal
-equal Less h = absurd h
 equal Equal h = refl
-equal Greater h = absurd h
+equal r h = absurd h
 
 module _ {K X : Type 0} {R : K → K → Ordering} (o : IsTotalOrder R) where
-  above_head : (k : K) (e : K × X) (es : List (K × X)) (i : ℕ) (d : K × X)
-      → T (is_sorted R (e ∷ es)) → i < length es → R (get_or es i d).0 k ≡ Equal → R k e.0 ≡ Greater
-  above_head k e es i d h l t = search (rules, turn, below_at, first)
-
   -- a key that ties at a position is found there
   pub find_at : (es : List (K × X)) (k : K) (i : ℕ) (d : K × X) → T (is_sorted R es) → i < length es
       → R (get_or es i d).0 k ≡ Equal → find R k es ≡ Some (get_or es i d).1
   find_at [] k i d h l t = absurd (omega arith)
   find_at (e ∷ es) k zero d h l t = grind (arith, common_steps, turn)
   find_at (e ∷ es) k (suc i) d h l t =
-      ap (λ r. cond (is_eq r) (Some e.1) (find R k es)) (above_head k e es i d h (omega arith) t)
+      ap (λ r. cond (is_eq r) (Some e.1) (find R k es)) (above_head o k e es i d h (omega arith) t)
       ∙ find_at es k i d (second _ _ h) (omega arith) t
 
   -- the maps of the edited lists
@@ -72,17 +67,6 @@ pub from_sorted-nil : {K X : Type 0} (R : K → K → Ordering) → map.from_sor
     ≡ map.empty
 from_sorted-nil R = map.empty_of_len _ (map.len-entries _
     ∙ ap length (map.entries-from_sorted R [] tt))
-
--- what is not there stays out
-pub remove_absent : {K X : Type 0} {R : K → K → Ordering} (o : IsTotalOrder R) → IsAntisymmetric R
-    → (m : map.FinMap R X) (k : K) → map.get m k ≡ None → map.remove m k ≡ m
-remove_absent {K = K} {R = R} o same m k none =
-    map.same_map o same _ _ (λ q. by q (eq_by_cmp R q k) refl)
-  where
-    by : (q : K) (b : Bool) → eq_by_cmp R q k ≡ b → map.get (map.remove m k) q ≡ map.get m q
-    by q true e = search
-        (rules, map.get-remove o m k q, map.get_tied o m q k (equal _ (subst T (sym e) tt)))
-    by q false e = search (rules, map.get-remove o m k q)
 
 -- what an edit leaves, if the pairs stand for a map
 module _ {K X : Type 0} {R : K → K → Ordering} (o : IsTotalOrder R) (same : IsAntisymmetric R)

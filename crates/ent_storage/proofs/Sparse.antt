@@ -22,8 +22,8 @@ use Rattle.ent_storage.specs.declared.handle_map.error.Uninserted.{Uninserted}
 use Rattle.ent_storage.specs.SparseMap.{values_of, IsPositioned, IsFree, AreEntries, IsEntryClone}
 use Rattle.ent_storage.specs.SparseMap.{IsClonedOption, AreCloned}
 use Rattle.ent_storage.proofs.ElementsAt.{at_set_same, at_set_other, at_push_before, at_push_end}
-use Rattle.ent_storage.proofs.ElementsAt.{same_option, find_at, find_gives, at_pushed, IsFilled}
-use Rattle.ent_storage.proofs.Entries.{ties_apart, get-without}
+use Rattle.ent_storage.proofs.ElementsAt.{same_option, find_at, find_gives, at_pushed, IsFilled, left_was, was_left}
+use Rattle.ent_storage.proofs.Entries.{IsAlone, is_put, is_written, is_taken}
 use Rattle.ent_storage.proofs.Keys.{same_or_apart, tied, apart}
 
 module _ {X : Type 0} where
@@ -39,8 +39,7 @@ module _ {X : Type 0} where
   module _ (D : List (Handle × X)) (S : List ℕ) (is : IsPositioned D S) where
     pub one_slot : (j k : ℕ) (p q : Handle) (v w : X) → slice_get D j ≡ Some (p, v)
         → slice_get D k ≡ Some (q, w) → p.index ≡ q.index → j ≡ k
-    one_slot j k p q v w a b e =
-        same_Some _ _ (sym (is.entry j p v a) ∙ ap (slice_get S) e ∙ is.entry k q w b)
+    one_slot j k p q v w a b e = search (rules, same_Some)
 
     pub has : (k : ℕ) (h : Handle) (v : X) → slice_get D k ≡ Some (h, v)
         → finite.get (values_of D) h ≡ Some v
@@ -140,7 +139,7 @@ module _ {X : Type 0} where
     over_at k q w (inr n) found = search (rules, at_set_other)
 
     pub over_positioned : IsPositioned (set D i (h, v)) S
-    over_positioned = record { few = is.few; entry = λ k q w. over_at k q w (cases_eq k i) }
+    over_positioned = search (rules, over_at, cases_eq)
 
     pub over_other : (q : Handle) → q.index ≢ h.index
         → finite.get (values_of (set D i (h, v))) q ≡ finite.get (values_of D) q
@@ -156,25 +155,12 @@ module _ {X : Type 0} where
 
     pub over_values : values_of (set D i (h, v))
         ≡ finite.insert (without_slot (values_of D) h.index) h v
-    over_values = finite.same_map total same _ _ (λ q.
-        let put = finite.get-insert total (without_slot (values_of D) h.index) h v q in
-        let less = get-without (values_of D) h q in
-        elim (cases_eq q.index h.index) [
-          | inl e ↦ let now = over_here q e in grind (arith, nat_tests)
-          | inr ne ↦ let tie = ties_apart q h ne in let now = over_other q ne in grind (arith, nat_tests)
-        ])
+    over_values = is_put _ _ h over_other v over_here
 
     -- the same handle
     pub written_values : p ≡ h → values_of (set D i (h, v)) ≡ finite.insert (values_of D) h v
-    written_values eq = finite.same_map total same _ _ (λ q.
-        let put = finite.get-insert total (values_of D) h v q in
-        elim (cases_eq q.index h.index) [
-          | inl e ↦
-              let now = over_here q e in
-              let was = got D S is i p u here q (e ∙ sym slot) in
-              grind (arith, nat_tests)
-          | inr ne ↦ let tie = ties_apart q h ne in let now = over_other q ne in grind (arith, nat_tests)
-        ])
+    written_values eq = is_written _ _ h over_other u v
+        (subst (λ q. IsAlone (values_of D) q u) eq (got D S is i p u here)) over_here
 
   -- ---- a slot without an entry gets one
 
@@ -196,64 +182,32 @@ module _ {X : Type 0} where
 
     pub pushed_values : values_of (D ++ (h, v) ∷ [])
         ≡ finite.insert (without_slot (values_of D) h.index) h v
-    pushed_values = finite.same_map total same _ _ (λ q.
-        let put = finite.get-insert total (without_slot (values_of D) h.index) h v q in
-        let less = get-without (values_of D) h q in
-        elim (cases_eq q.index h.index) [
-          | inl e ↦
-              let now = got (D ++ (h, v) ∷ []) (set S h.index (length D)) pushed_positioned (length D) h v
-              (at_pushed D (h, v)) q e in
-              grind (arith, nat_tests)
-          | inr ne ↦
-              let now = same_at (D ++ (h, v) ∷ []) D (set S h.index (length D)) S pushed_positioned is q
-              (λ k w e. not_pushed q ne k w (cases_lt k (length D)) e)
-              (λ k w e. (k, at_push_before D (h, v) k (slice_get_within D k (q, w) e) ∙ e)) in
-              grind (arith, nat_tests)
-        ])
+    pushed_values = is_put _ _ h
+        (λ q ne. same_at (D ++ (h, v) ∷ []) D (set S h.index (length D)) S pushed_positioned is q
+        (λ k w e. not_pushed q ne k w (cases_lt k (length D)) e)
+        (λ k w e. (k, at_push_before D (h, v) k (slice_get_within D k (q, w) e) ∙ e)))
+        v (got _ _ pushed_positioned (length D) h v (at_pushed D (h, v)))
 
   -- ---- an entry is taken out, and the last one moves to its position
 
   module _ (D : List (Handle × X)) (S : List ℕ) (is : IsPositioned D S) (i : ℕ) (h : Handle) (u : X)
       (here : slice_get D i ≡ Some (h, u)) (L : List (Handle × X)) (rest : IsFilled D i L) where
-    -- an entry that is left was there, at another position
-    left_was : (k : ℕ) (q : Handle) (w : X) → (k ≡ i) ⊎ (k ≢ i) → slice_get L k ≡ Some (q, w)
-        → (j : ℕ) × (slice_get D j ≡ Some (q, w)) × (j ≢ i)
-    left_was k q w (inl e) found = search (rules, slice_get_within)
-    left_was k q w (inr n) found = search (rules, slice_get_within)
-
-    -- an entry at another position is left
-    was_left : (k : ℕ) (q : Handle) (w : X) → (k < length L) ⊎ (length L ≤ k) → k ≢ i
-        → slice_get D k ≡ Some (q, w) → (j : ℕ) × (slice_get L j ≡ Some (q, w))
-    was_left k q w (inl l) n found = (k, rest.others k n l ∙ found)
-    was_left k q w (inr g) n found = search (rules, slice_get_within)
-
     module _ (U : List ℕ) (to : IsPositioned L U) where
       taken_none : (q : Handle) → q.index ≡ h.index → finite.get (values_of L) q ≡ None
       taken_none q e = nowhere L q (λ k w found.
-          let was = left_was k q w (cases_eq k i) found in
+          let was = left_was D L i rest k (q, w) found in
           was.2 (one_slot D S is was.0 i q h w u was.1 here e))
 
       taken_other : (q : Handle) → q.index ≢ h.index
           → finite.get (values_of L) q ≡ finite.get (values_of D) q
       taken_other q ne =
           same_at L D U S to is q
-          (λ k w e. let was = left_was k q w (cases_eq k i) e in (was.0, was.1))
-          (λ k w e. was_left k q w (cases_lt k (length L))
-          (λ eq. ne (ap (λ (x : Handle × X). x.0.index)
+          (λ k w e. let was = left_was D L i rest k (q, w) e in (was.0, was.1))
+          (λ k w e. was_left D L i rest (slice_get_within D i (h, u) here) k (q, w) (λ eq. ne (ap (λ (x : Handle × X). x.0.index)
           (same_Some _ _ (sym e ∙ ap (slice_get D) eq ∙ here)))) e)
 
       pub taken_values : values_of L ≡ finite.remove (values_of D) h
-      taken_values = finite.same_map total same _ _ (λ q.
-          let put = finite.get-remove total (values_of D) h q in
-          elim (cases_eq q.index h.index) [
-            | inl e ↦
-                let now = taken_none q e in
-                let was = got D S is i h u here q e in
-                grind (arith, nat_tests)
-            | inr ne ↦
-                let now = taken_other q ne in
-                grind (arith, nat_tests)
-          ])
+      taken_values = is_taken _ _ h taken_other u (got D S is i h u here) taken_none
 
     -- the last entry itself was taken out
     pub popped_positioned : length L ≤ i → IsPositioned L S
@@ -265,7 +219,7 @@ module _ {X : Type 0} where
       last_was = sym (rest.moved (slice_get_within L i (m, x) read)) ∙ read
 
       pub in_positions : m.index < length S
-      in_positions = slice_get_within S m.index (length L) (is.entry (length L) m x last_was)
+      in_positions = search (rules, slice_get_within, last_was)
 
       refilled_at : (k : ℕ) (q : Handle) (w : X) → (k ≡ i) ⊎ (k ≢ i) → slice_get L k ≡ Some (q, w)
           → slice_get (set S m.index i) q.index ≡ Some k
@@ -288,9 +242,7 @@ pub is_handle : (a b : Handle) → handle_eq a b ≡ true → a ≡ b
 is_handle a b e = search (rules, nat_tests)
 
 pub not_handle : (a b : Handle) → handle_eq a b ≡ false → a ≢ b
-not_handle a b e eq =
-    let itself : handle_eq a a ≡ true = grind (arith, nat_tests) in
-    false≢true (sym e ∙ sym (ap (handle_eq a) eq) ∙ itself)
+not_handle a b e eq = search (rules, false≢true)
 
 -- the entry of a handle, at a position
 pub record IsStanding {X : Type 0} (D : List (Handle × X)) (h : Handle) (p : ℕ) : Type 0 where
@@ -313,19 +265,11 @@ module _ {X : Type 0} (D : List (Handle × X)) (S : List ℕ) (is : IsPositioned
         (ap (λ (m : HandleValues X). is_some (finite.get m h)) view ∙ some)
 
     pub in_slots : h.index < length S
-    in_slots =
-        let v = has_value in
-        let k = at D h v.0 v.1 in
-        slice_get_within S h.index k.0 (is.entry k.0 h v.0 k.1)
+    in_slots = search (rules, has_value, at, slice_get_within)
 
     -- its entry is where the position of its slot says
     pub standing : (slot p : ℕ) → slot ≡ h.index → p ≡ get_or S slot p → IsStanding D h p
-    standing slot p same read =
-        let v = has_value in
-        let k = at D h v.0 v.1 in
-        let k_is : p ≡ k.0 = read ∙ ap (λ n. get_or S n p) same
-        ∙ get_or_from_slice_get S h.index k.0 p (is.entry k.0 h v.0 k.1) in
-        record { v = v.0; has = v.1; entry = ap (slice_get D) k_is ∙ k.1 }
+    standing slot p same read = search (rules, has_value, at, get_or_from_slice_get, has)
 
   -- all entries are those of the map
   pub are_entries : (E : List (Handle × X)) → E ≡ D → (values : HandleValues X) → values_of D ≡ values
@@ -352,13 +296,7 @@ module _ {X : Type 0} (D : List (Handle × X)) (S : List ℕ) (is : IsPositioned
         ∙ ap (λ b. cond b (Some x.1) None) (apart total same h x.0 (λ e. ne (sym e)))
 
     pub has_later : x.0.index ≡ h.index → h.generation < x.0.generation → HasLater (values_of D) h
-    has_later slot l =
-        let q : Handle = record { index = h.index; generation = x.0.generation } in
-        let is_q : x.0 ≡ q = λ i. record { index = slot i; generation = x.0.generation } in (
-          x.0.generation,
-          l,
-          ap is_some (has D S is k q x.1 (here ∙ (λ i. Some (is_q i, x.1)))),
-        )
+    has_later slot l = let q : Handle = record { index = h.index; generation = x.0.generation } in let is_q : x.0 ≡ q = search rules in (x.0.generation, l, ap is_some (has D S is k q x.1 (here ∙ (λ i. Some (is_q i, x.1)))))
 
     pub has_no_later : x.0.index ≡ h.index → x.0.generation ≤ h.generation
         → HasLater (values_of D) h → ⊥
@@ -366,8 +304,7 @@ module _ {X : Type 0} (D : List (Handle × X)) (S : List ℕ) (is : IsPositioned
         search (rules, nowhere, one_slot, at, same_Some, false≢true)
 
   pub free_no_later : (h : Handle) → IsFree D h.index → HasLater (values_of D) h → ⊥
-  free_no_later h free (g, l, some) =
-      false≢true (sym (ap is_some (none_free D S is (record { index = h.index; generation = g }) free)) ∙ some)
+  free_no_later h free (g, l, some) = search (rules, false≢true, none_free)
 
 pub some_slot : {X : Type 0} (D : List (Handle × X)) (S : List ℕ) → IsPositioned D S → 0 < length D
     → 0 < length S
@@ -410,9 +347,7 @@ module _ {X : Type 0} (is_clone : X → X → Type 0) where
 
     pub cloned : (values : HandleValues X) → values_of D ≡ values
         → AreCloned is_clone values (values_of E)
-    cloned values view h =
-        subst (λ (m : HandleValues X). IsClonedOption is_clone (finite.get m h) (finite.get (values_of E) h))
-        view (cloned_option h _ _ refl refl)
+    cloned values view h = search (rules, cloned_option)
 
 -- ---- results
 

@@ -27,7 +27,7 @@ pub record IsIndexWithout (index : FinMap handle_cmp ℕ) (living : List LivingE
   pub missing : (q : Handle) → finite.get index q ≡ None → finite.get left q ≡ None
 
 not_last : (k n : ℕ) → k < n → (k + 1 < n) ⊎ (k + 1 ≡ n)
-not_last k n l = elim (cases_lt (k + 1) n) [ inl below ↦ inl below | inr above ↦ inr (omega arith) ]
+not_last k n l = search (rules, cases_lt)
 
 module _ (living : List LivingEntity) (index : FinMap handle_cmp ℕ)
     (indexed : IsIndexed living index) (h : Handle) (i : ℕ) (placed : finite.get index h ≡ Some i)
@@ -58,14 +58,7 @@ module _ (living : List LivingEntity) (index : FinMap handle_cmp ℕ)
           → finite.get index q ≡ Some j → (j + 1 < length living) ⊎ (j + 1 ≡ length living)
           → (k < length left) × ((d : LivingEntity) → (get_or left k d).handle ≡ q)
       placed_left q k j n at old (inl room) = search (rules, same_place, elsewhere)
-      placed_left q k j n at old (inr last) =
-          let here = there in
-          let room : i + 1 < length living = omega (arith, elsewhere q j (some_entity h) n old) in
-          let k_is : k ≡ i = same_place k i (sym at ∙ now.move q j n room last old) in
-          let j_is : length living - 1 ≡ j = omega arith in
-          let is = λ (d : LivingEntity). ap (λ (r : LivingEntity). r.handle) (rest.moved d room)
-          ∙ ap (λ (m : ℕ). (get_or living m d).handle) j_is ∙ (indexed.each_place q j old).1 d in
-          rw k_is (omega (arith, rest.one_less), is)
+      placed_left q k j n at old (inr last) = let here = there in let room : i + 1 < length living = omega (arith, elsewhere q j (some_entity h) n old) in let k_is : k ≡ i = same_place k i (sym at ∙ now.move q j n room last old) in let j_is : length living - 1 ≡ j = omega arith in let is = λ (d : LivingEntity). ap (λ (r : LivingEntity). r.handle) (rest.moved d room) ∙ ap (λ (m : ℕ). (get_or living m d).handle) j_is ∙ (indexed.each_place q j old).1 d in search rules
 
       each_place_left : (q : Handle) (k : ℕ) → finite.get without q ≡ Some k → (q ≡ h) ⊎ (q ≢ h)
           → (o : Option ℕ) → finite.get index q ≡ o → (k < length left)

@@ -123,15 +123,7 @@ module _ (living : List LivingEntity) (index : FinMap handle_cmp ℕ)
 
   complete : (i : ℕ) (r : LivingEntity) → i < length living → passes (entity_of (get_or living i r))
       ≡ true → Contains births (born_of (get_or living i r))
-  complete i r l pass =
-      let value = some_value _ pass in
-      let one = slice_get-get_or living i r l in
-      let at = all i value.0 (search (rules, one, value.1)) in
-      let born = born_pair at.0 (i, value.0) at.1 in (
-        at.0,
-        omega (arith, as_many living births pairs are, at.1),
-        search (rules, get_or_from_slice_get, born, at.2, one),
-      )
+  complete i r l pass = let value = some_value _ pass in let one = slice_get-get_or living i r l in let at = all i value.0 (search (rules, one, value.1)) in let born = born_pair at.0 (i, value.0) at.1 in search (rules, as_many, get_or_from_slice_get)
 
   pub lists_with : (handles : List Handle) → IsInOrder births handles
       → ListsWith id (map_of living) handles

@@ -1,4 +1,5 @@
 -- A map after a write to the value of a handle.
+use Rattle.std.proofs.Common.{rules}
 use Rattle.std.proofs.Common.{◌≡◌, Bool, true, false, cond, Some, IsSome, refl, sym, ap, ◌∙◌}
 use mathlib.Core.Bool.{Bool-set}
 use Rattle.std.specs.Ordering.{eq_by_cmp}
@@ -6,7 +7,7 @@ use Rattle.std.specs.FinMap as map
 use Rattle.ent_handle.specs.Handle.{Handle, handle_cmp, handle_cmp_total}
 use Rattle.ent_handle.specs.Handle.{handle_cmp-IsAntisymmetric}
 use Rattle.ent_storage.specs.HandleMap.{HandleMap, HandleValues, with_written, same_handle}
-use Rattle.ent_storage.specs.HandleMap.{some_written, without_slot}
+use Rattle.ent_storage.specs.HandleMap.{some_written}
 use Rattle.ent_storage.specs.Entry.{with_value, IsFilled}
 use Rattle.ent_storage.specs.SparseEntry as in_sparse
 use Rattle.ent_storage.specs.SparseMap as some_written_in
@@ -31,8 +32,7 @@ module _ {T : Type 0} where
 
   pub written_twice : (m : HandleMap T) (h : Handle) (v w : T)
       → with_written (with_written m h v) h w ≡ with_written m h w
-  written_twice m h v w =
-      ap (λ (values : HandleValues T). record m { values = values }) (insert_twice m.values h v w)
+  written_twice m h v w = search (rules, insert_twice)
 
   -- what was written is there
   pub got_inserted : (m : HandleValues T) (h : Handle) (v : T) → map.get (map.insert m h v) h ≡ Some v
@@ -58,20 +58,13 @@ module _ {T : Type 0} where
   -- a filled map, once the value is written over
   pub filled_over : (m n : HandleMap T) (h : Handle) (v w : T) → IsFilled m h v n
       → IsFilled m h w (with_written n h w)
-  filled_over m n h v w is = record {
-    values = ap (λ (values : HandleValues T). map.insert values h w) is.values
-        ∙ insert_twice (without_slot m.values h.index) h v w;
-    slots = is.slots;
-    room = is.room;
-    limit = is.limit;
-  }
+  filled_over m n h v w is = search (rules, insert_twice)
 
   -- ---- the same of a sparse map
 
   pub written_twice_in : (m : SparseMap T) (h : Handle) (v w : T)
       → with_written_in (with_written_in m h v) h w ≡ with_written_in m h w
-  written_twice_in m h v w =
-      ap (λ (values : HandleValues T). record m { values = values }) (insert_twice m.values h v w)
+  written_twice_in m h v w = search (rules, insert_twice)
 
   pub occupied_written_in : (o : sparse.OccupiedEntry T) (v : T)
       (p : IsSome (map.get (with_written_in o.map.now o.handle v).values o.handle))
@@ -89,10 +82,4 @@ module _ {T : Type 0} where
 
   pub filled_over_in : (m n : SparseMap T) (h : Handle) (v w : T) → in_sparse.IsFilled m h v n
       → in_sparse.IsFilled m h w (with_written_in n h w)
-  filled_over_in m n h v w is = record {
-    values = ap (λ (values : HandleValues T). map.insert values h w) is.values
-        ∙ insert_twice (without_slot m.values h.index) h v w;
-    slots = is.slots;
-    room = is.room;
-    limit = is.limit;
-  }
+  filled_over_in m n h v w is = search (rules, insert_twice)

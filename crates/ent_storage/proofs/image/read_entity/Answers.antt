@@ -10,6 +10,7 @@ use Rattle.ent_storage.specs.EntityMap.{Entity, EntityMap, newborn, birth_of}
 use Rattle.ent_storage.specs.Image.{IsBirth}
 use Rattle.ent_storage.proofs.Keys.{get-insert_same, get-insert_other}
 use Rattle.ent_storage.proofs.ImageEntities.{entity_short, entity_read, entity_refused}
+use Rattle.ent_storage.proofs.image.read_entity.Goals.{In-Ok}
 use Rattle.ent_storage.proofs.image.read_entity.Goals as goal
 
 -- what goes to the end of a list is at its length
@@ -17,17 +18,19 @@ at_end : (xs : List Handle) (h : Handle) → slice_get (xs ++ h ∷ []) (length 
 at_end [] h = refl
 at_end (x ∷ xs) h = at_end xs h
 
-newborn_birth : (m new : EntityMap) (h : Handle) (b : Birth) → new ≡ map.insert m h (newborn b)
-    → birth_of new h ≡ Some b
-newborn_birth m new h b is =
-    ap (λ (n : EntityMap). birth_of n h) is ∙ ap (option_map (λ (e : Entity). e.birth))
-    (get-insert_same handle_cmp_total handle_cmp-IsAntisymmetric m h (newborn b) h refl)
+-- the entity was born
+born : (c : In-Ok) → birth_of c.born_within.new.self.entities c.args.handle
+    ≡ Some c.read_birth.result.0
+born c = ap (λ (n : EntityMap). birth_of n c.args.handle) c.in-Ok.ensures.ok
+    ∙ ap (option_map (λ (e : Entity). e.birth)) (get-insert_same handle_cmp_total
+    handle_cmp-IsAntisymmetric c.args.storage.now.entities c.args.handle
+    (newborn c.read_birth.result.0) c.args.handle refl)
 
-newborn_rest : (m new : EntityMap) (h : Handle) (b : Birth) → new ≡ map.insert m h (newborn b)
-    → (q : Handle) → q ≢ h → map.get new q ≡ map.get m q
-newborn_rest m new h b is q apart =
-    ap (λ (n : EntityMap). map.get n q) is
-    ∙ get-insert_other handle_cmp_total handle_cmp-IsAntisymmetric m h (newborn b) q apart
+others : (c : In-Ok) (q : Handle) → q ≢ c.args.handle
+    → map.get c.born_within.new.self.entities q ≡ map.get c.args.storage.now.entities q
+others c q apart = ap (λ (n : EntityMap). map.get n q) c.in-Ok.ensures.ok
+    ∙ get-insert_other handle_cmp_total handle_cmp-IsAntisymmetric c.args.storage.now.entities
+    c.args.handle (newborn c.read_birth.result.0) q apart
 
 pub returns-then-bytes-lt16-clause-none : goal.returns-then-bytes-lt16-clause-none
 returns-then-bytes-lt16-clause-none c m rest is =
@@ -49,14 +52,11 @@ read_values-requires-clause-free c id =
 
 pub read_values-requires-clause-there : goal.read_values-requires-clause-there
 read_values-requires-clause-there c =
-    ap is_some (newborn_birth c.args.storage.now.entities c.born_within.new.self.entities
-    c.args.handle c.read_birth.result.0 c.in-Ok.ensures.ok)
+    ap is_some (born (goal.at.read_values-requires-clause-there c).In-Ok)
 
 pub returns-in_err-rest-clause-rest : goal.returns-in_err-rest-clause-rest
-returns-in_err-rest-clause-rest c h apart =
-    c.in_err-rest.ensures.rest h apart
-    ∙ newborn_rest c.args.storage.now.entities c.born_within.new.self.entities c.args.handle
-    c.read_birth.result.0 c.in-Ok.ensures.ok h apart
+returns-in_err-rest-clause-rest c h apart = c.in_err-rest.ensures.rest h apart
+    ∙ others (goal.at.returns-in_err-rest-clause-rest c).In-Ok h apart
 
 pub returns-in_default-2-clause-none : goal.returns-in_default-2-clause-none
 returns-in_default-2-clause-none c m rest is same =
@@ -65,16 +65,12 @@ returns-in_default-2-clause-none c m rest is same =
     c.read_birth.result.1.now rest c.read_birth.ensures.fits c.read_birth.ensures.bytes none is same
 
 pub returns-in_default-2-clause-rest : goal.returns-in_default-2-clause-rest
-returns-in_default-2-clause-rest c h apart =
-    c.in_ok-rest.ensures.rest h apart
-    ∙ newborn_rest c.args.storage.now.entities c.born_within.new.self.entities c.args.handle
-    c.read_birth.result.0 c.in-Ok.ensures.ok h apart
+returns-in_default-2-clause-rest c h apart = c.in_ok-rest.ensures.rest h apart
+    ∙ others (goal.at.returns-in_default-2-clause-rest c).In-Ok h apart
 
 pub returns-clause-found : goal.returns-clause-found
 returns-clause-found c =
-    let birth = c.in_ok-rest.ensures.birth
-    ∙ newborn_birth c.args.storage.now.entities c.born_within.new.self.entities c.args.handle
-    c.read_birth.result.0 c.in-Ok.ensures.ok in
+    let birth = c.in_ok-rest.ensures.birth ∙ born (goal.at.returns-clause-found c).In-Ok in
     let values = rw c.in-Some.is at c.in_ok-rest.ensures.found in
     entity_read c.args.width c.read_values.new.storage.entities c.args.handle c.read_birth.result.0
     c.args.bytes.now c.read_birth.result.1.now c.in-Some.rest.now birth c.read_birth.ensures.bytes
@@ -82,9 +78,7 @@ returns-clause-found c =
 
 pub returns-clause-stored : goal.returns-clause-stored
 returns-clause-stored c =
-    let birth = c.in_ok-rest.ensures.birth
-    ∙ newborn_birth c.args.storage.now.entities c.born_within.new.self.entities c.args.handle
-    c.read_birth.result.0 c.in-Ok.ensures.ok in
+    let birth = c.in_ok-rest.ensures.birth ∙ born (goal.at.returns-clause-stored c).In-Ok in
     record {
       birth = subst (λ (o : Option Birth). IsSomeAnd o IsBirth) (sym birth)
           c.read_birth.ensures.fits;
@@ -93,7 +87,5 @@ returns-clause-stored c =
     }
 
 pub returns-clause-rest : goal.returns-clause-rest
-returns-clause-rest c h apart =
-    c.in_ok-rest.ensures.rest h apart
-    ∙ newborn_rest c.args.storage.now.entities c.born_within.new.self.entities c.args.handle
-    c.read_birth.result.0 c.in-Ok.ensures.ok h apart
+returns-clause-rest c h apart = c.in_ok-rest.ensures.rest h apart
+    ∙ others (goal.at.returns-clause-rest c).In-Ok h apart

@@ -44,18 +44,14 @@ swap_remove-value-requires g c =
 pub index_mut-requires : goal.index_mut-requires
 index_mut-requires g c =
     let at = goal.at.index_mut-requires g c in
-    let was = here g at.After-index-position in
-    let rest = rest g at.After-swap_remove-value in
-    let read = read g at.After-index-then-position-len in
-    search (rules, in_positions, was, rest, read)
+    search (rules, in_positions, here g at.After-index-position, rest g at.After-swap_remove-value,
+        read g at.After-index-then-position-len)
 
 pub returns-then-position-len-clause-positioned : goal.returns-then-position-len-clause-positioned
 returns-then-position-len-clause-positioned g c =
     let at = goal.at.returns-then-position-len-clause-positioned g c in
-    let was = here g at.After-index-position in
-    let rest = rest g at.After-swap_remove-value in
-    let read = read g at.After-index-then-position-len in
-    search (rules, refilled_positioned, was, rest, read)
+    search (rules, refilled_positioned, here g at.After-index-position,
+        rest g at.After-swap_remove-value, read g at.After-index-then-position-len)
 
 pub returns-then-position-len-clause-value : goal.returns-then-position-len-clause-value
 returns-then-position-len-clause-value g c =
@@ -74,10 +70,8 @@ returns-then-position-len-clause-values g c =
 pub returns-else-position-len-clause-positioned : goal.returns-else-position-len-clause-positioned
 returns-else-position-len-clause-positioned g c =
     let at = goal.at.returns-else-position-len-clause-positioned g c in
-    let was = here g at.After-index-position in
-    let rest = rest g at.After-swap_remove-value in
-    let last = last g at.Else-position-len in
-    search (rules, popped_positioned, was, rest, last)
+    search (rules, popped_positioned, here g at.After-index-position,
+        rest g at.After-swap_remove-value, last g at.Else-position-len)
 
 pub returns-else-position-len-clause-value : goal.returns-else-position-len-clause-value
 returns-else-position-len-clause-value g c =
@@ -87,7 +81,5 @@ returns-else-position-len-clause-value g c =
 pub returns-else-position-len-clause-values : goal.returns-else-position-len-clause-values
 returns-else-position-len-clause-values g c =
     let at = goal.at.returns-else-position-len-clause-values g c in
-    let was = here g at.After-index-position in
-    let rest = rest g at.After-swap_remove-value in
-    let last = last g at.Else-position-len in
-    search (rules, taken_values, popped_positioned, was, rest, last)
+    search (rules, taken_values, popped_positioned, here g at.After-index-position,
+        rest g at.After-swap_remove-value, last g at.Else-position-len)

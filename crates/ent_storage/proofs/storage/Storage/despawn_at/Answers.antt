@@ -1,5 +1,5 @@
 use Rattle.std.proofs.Common.{rules, ◌≡◌, ℕ, ◌<◌, ◌≤◌, List, length, get_or, min, Some, slice_get}
-use Rattle.std.proofs.Common.{ap, sym, ◌∙◌, arith}
+use Rattle.std.proofs.Common.{ap, ◌∙◌, arith}
 use Rattle.std.proofs.lemmas.Grind.{common_steps}
 use Rattle.std.specs.FinMap as map
 use Rattle.std.proofs.lemmas.List.{length-map}
@@ -67,12 +67,7 @@ invariant_of-self c =
     c.args.place (placed at.After-self) _ c.swap_remove.ensures.entities moved.room _ moved.read)
 
 pub returns-then-place-len-clause-entities : goal.returns-then-place-len-clause-entities
-returns-then-place-len-clause-entities c =
-    let at = goal.at.returns-then-place-len-clause-entities c in
-    let moved = moved at.After-handle-moved in
-    entities_moved c.self.inside.living.entities _ c.self.invariant.indexed c.args.handle
-    c.args.place (placed at.After-self) _ c.swap_remove.ensures.entities moved.room _ moved.read
-    ∙ ap (λ (s : Store). map.remove s.entities c.args.handle) c.self.view_is
+returns-then-place-len-clause-entities c = search (rules, entities_moved, placed, moved)
 
 pub returns-then-place-len-clause-places : goal.returns-then-place-len-clause-places
 returns-then-place-len-clause-places c =
@@ -83,10 +78,7 @@ returns-then-place-len-clause-places c =
     c.swap_remove.ensures.entities)
 
 pub returns-then-place-len-clause-moved : goal.returns-then-place-len-clause-moved
-returns-then-place-len-clause-moved c =
-    let moved = moved (goal.at.returns-then-place-len-clause-moved c).After-handle-moved in
-    ap Some moved.is ∙ sym (from_place c.swap_remove.new.self.entities c.args.place
-    (some_entity c.args.handle) moved.room)
+returns-then-place-len-clause-moved c = search (rules, moved, from_place)
 
 pub invariant_of-self-else-place-len : goal.invariant_of-self-else-place-len
 invariant_of-self-else-place-len c =
@@ -109,9 +101,3 @@ returns-else-place-len-clause-places c =
 
 pub returns-else-place-len-clause-moved : goal.returns-else-place-len-clause-moved
 returns-else-place-len-clause-moved c = search (rules, last, slice_get_past, length-map)
-
-pub returns-then-place-len-clause-spare : goal.returns-then-place-len-clause-spare
-returns-then-place-len-clause-spare c = search (rules)
-
-pub returns-else-place-len-clause-spare : goal.returns-else-place-len-clause-spare
-returns-else-place-len-clause-spare c = search (rules)

@@ -1,17 +1,13 @@
-use Rattle.std.proofs.Common.{◌≡◌, refl, sym, ap, subst, ◌∙◌}
-use Rattle.std.specs.Map.Calls.{MayWrite, ModifiesValue}
+use Rattle.std.proofs.Common.{refl, sym, ap, subst, ◌∙◌}
+use Rattle.std.specs.Map.Calls.{MayWrite}
 use Rattle.ent_storage.specs.SparseEntry.{entry_value, Gives}
 use Rattle.ent_storage.proofs.Written.{written_twice_in}
 use Rattle.ent_storage.proofs.sparse_map.entry.Entry.and_modify.Goals as goal
 
-at_both : {X : Type 0} (P : X → X → Type 0) (p q a b : X) → p ≡ a → q ≡ b → P a b → P p q
-at_both P p q a b x y h = subst (λ r. P r q) (sym x) (subst (P a) (sym y) h)
-
 pub returns-in-Occupied-clause-value : goal.returns-in-Occupied-clause-value
 returns-in-Occupied-clause-value g c =
-    let u = c.change.new.arg2 in
     let old = ap entry_value c.in-Occupied.is ∙ c.get_mut.ensures.value in
-    let did : MayWrite g.F.FnOnce c.args.change c.get_mut.result.now u = record {
+    let did : MayWrite g.F.FnOnce c.args.change c.get_mut.result.now c.change.new.arg2 = record {
       lent = c.get_mut.result;
       result = c.change.result;
       left = _;
@@ -19,8 +15,7 @@ returns-in-Occupied-clause-value g c =
       met = c.change.ensures;
       after = refl;
     } in
-    at_both (ModifiesValue g.F.FnOnce c.args.change) _ _ _ _ old
-    (c.get_mut.ensures.written u).written did
+    rw (old, (c.get_mut.ensures.written c.change.new.arg2).written) did
 
 pub returns-in-Occupied-clause-gives : goal.returns-in-Occupied-clause-gives
 returns-in-Occupied-clause-gives g c w m is =
@@ -29,5 +24,4 @@ returns-in-Occupied-clause-gives g c w m is =
     (is ∙ written_twice_in o.map.now o.handle c.change.new.arg2 w)
 
 pub returns-in-Vacant-clause-value : goal.returns-in-Vacant-clause-value
-returns-in-Vacant-clause-value g c =
-    at_both (ModifiesValue g.F.FnOnce c.args.change) _ _ _ _ (ap entry_value c.in-Vacant.is) refl refl
+returns-in-Vacant-clause-value g c = rw (ap entry_value c.in-Vacant.is) refl
