@@ -1,5 +1,5 @@
 -- What is returned instead of a value.
-use Rattle.std.proofs.Common.{rules, ◌≡◌, List, Result, Err, sym, subst}
+use Rattle.std.proofs.Common.{rules, ◌≡◌, List, Result, Err}
 use Rattle.ent_script.specs.declared.read_fault.ReadFault.{ReadFault}
 use Rattle.ent_script.specs.Reading.{ReadsAs, ReadsList}
 

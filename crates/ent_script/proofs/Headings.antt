@@ -1,6 +1,6 @@
 -- What the first pass over a text finds: whether it is JSON, and its heading.
 use Rattle.std.proofs.Common.{rules, ◌≡◌, ℕ, List, [], ◌∷◌, Option, Some, None, is_some}
-use Rattle.std.proofs.Common.{option_and_then, ok_or, Result, Ok, Err, Bool, false, cond, ap}
+use Rattle.std.proofs.Common.{option_and_then, ok_or, Result, Ok, Err, false}
 use Rattle.std.proofs.Common.{MatchOption}
 use Rattle.std.specs.Str.{IsUtf8}
 use Rattle.std.proofs.lemmas.Str.{is_utf8-from_IsUtf8}

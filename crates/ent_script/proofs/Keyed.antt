@@ -3,7 +3,7 @@ use Rattle.std.proofs.Common.{rules}
 use Rattle.std.proofs.Common.{◌≡◌, ◌∙◌, ℕ, List, [], ◌∷◌, Bool, true, false, ◌&&◌, Option}
 use Rattle.std.proofs.Common.{Some, None, option_map, is_some, Ordering, Less, Equal, Greater}
 use Rattle.std.proofs.Common.{nat_cmp, is_eq, bytes_eq, refl, sym, ap, Bor}
-use Rattle.std.proofs.Common.{option_and_then, codes, Err, ◌||◌}
+use Rattle.std.proofs.Common.{codes, Err, ◌||◌}
 use Rattle.std.specs.Prelude.{option_copied}
 use Rattle.std.proofs.lemmas.Map.Text.{is_eq-slice_cmp}
 use Rattle.std.proofs.lemmas.Slice.Eq.{bytes_eq-Decides}
@@ -19,15 +19,14 @@ use Rattle.ent_script.specs.Cut.{cut}
 use Rattle.ent_script.specs.Fields.{IsUnder, AreAmong, AreFields, of_fields}
 use Rattle.ent_script.specs.Json.{keys_among, pairs_of}
 use Rattle.ent_script.specs.Reading.{has_keys, is_spawn, is_spawn_many, is_insert, is_remove}
-use Rattle.ent_script.specs.Reading.{is_despawn, of_kind, operation_of, bound_name, read_bundle}
+use Rattle.ent_script.specs.Reading.{is_despawn, of_kind, operation_of, read_bundle}
 use Rattle.ent_script.specs.Reading.{with_of, count_of, binding_of, removed_of, target_of}
-use Rattle.ent_script.specs.Names.{as_name}
 use Rattle.ent_script.specs.declared.cause.Cause.TheVariants as cause
 use Rattle.ent_script.specs.declared.fields.Fields.{Fields}
 use Rattle.ent_script.specs.declared.kind.Kind.{Kind}
 use Rattle.ent_script.specs.declared.kind.Kind.TheVariants as kinds
 use Rattle.ent_script.proofs.CutMeanings.{bundle-cut, with-cut, count-cut, binding-cut, removed-cut}
-use Rattle.ent_script.proofs.CutMeanings.{target-cut, as_name-cut}
+use Rattle.ent_script.proofs.CutMeanings.{target-cut}
 use Rattle.ent_script.proofs.Puts.{found_here, found_before}
 
 -- ---- whether each key is one of some

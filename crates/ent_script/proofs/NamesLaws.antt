@@ -2,7 +2,7 @@
 use Rattle.std.proofs.lemmas.List.{length-map, map-append}
 use Rattle.std.proofs.Common.{rules, ◌≡◌, ℕ, ◌+◌, ◌<◌, Bool, true, false, List, [], ◌∷◌, ◌++◌}
 use Rattle.std.proofs.Common.{length, map, Option, Some, None, option_map, is_some, IfSome, cond}
-use Rattle.std.proofs.Common.{refl, sym, ap, ◌∙◌, arith, bytes_eq, true≢false, suc, add-one, Bor}
+use Rattle.std.proofs.Common.{refl, sym, ◌∙◌, arith, bytes_eq, true≢false, suc, add-one, Bor}
 use Rattle.std.proofs.Common.{BTreeMap, option_and_then}
 use Rattle.std.proofs.lemmas.Grind.{common_steps}
 use Rattle.std.specs.BTreeMap.{get_by, Updates}

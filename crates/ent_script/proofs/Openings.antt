@@ -1,6 +1,6 @@
 -- What stands behind the bracket that a reader took, and behind a value that it passed over.
 use Rattle.std.proofs.Common.{rules, ◌≡◌, ◌-◌, ℕ, [], ◌∷◌, List, length, Some, None, Bool, true}
-use Rattle.std.proofs.Common.{false, subst, ap, ◌∙◌}
+use Rattle.std.proofs.Common.{false}
 use Rattle.std.specs.Prelude.{Ok}
 use Rattle.json.specs.Lex.{tokens}
 use Rattle.json.specs.Token.{Token}

@@ -1,6 +1,6 @@
 -- A script that is read is in its ranges: its systems, its frames and the whole.
 use Rattle.std.proofs.Common.{rules, ℕ, ◌+◌, ◌≤◌, List, [], ◌∷◌, length, take, Option, ok_or}
-use Rattle.std.proofs.Common.{Result, Ok, Err, IfSome, codes, arith, lit≤}
+use Rattle.std.proofs.Common.{Result, Ok, Err, IfSome, codes, arith}
 use Rattle.ent_script.specs.Reading.{◌>>=◌, numbered, or_absent, at_operation, operation_at}
 use Rattle.ent_script.specs.Reading.{bound_name, system_of, frame_of, component_at, component_names}
 use Rattle.ent_script.specs.Reading.{heading_of, script_of, ReadsAs}

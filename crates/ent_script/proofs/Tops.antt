@@ -1,5 +1,5 @@
 -- What is kept of the top of a text means the same heading.
-use Rattle.std.proofs.Common.{rules, ◌≡◌, ◌∙◌, ℕ, List, [], ◌∷◌, map, refl, sym, ap, cond, false}
+use Rattle.std.proofs.Common.{rules, ◌≡◌, ◌∙◌, ℕ, List, [], ◌∷◌, map, refl, sym, ap, false}
 use Rattle.std.proofs.Common.{Option, Some, None, option_map, codes, bytes_eq, nat_cmp, is_eq}
 use Rattle.std.proofs.Common.{Ordering, Less, Equal, Greater}
 use Rattle.std.proofs.lemmas.Map.Text.{is_eq-slice_cmp}

@@ -1,6 +1,6 @@
 -- A script, of the parts that are read one after another.
 use Rattle.std.proofs.Common.{rules, ◌≡◌, ℕ, List, map, Option, Some, None, option_map}
-use Rattle.std.proofs.Common.{option_and_then, ok_or, codes, Result, ap}
+use Rattle.std.proofs.Common.{option_and_then, ok_or, codes, Result}
 use Rattle.std.specs.Prelude.{Ok, Err}
 use Rattle.serde_json.specs.Data.{Data}
 use Rattle.serde_json.specs.Find.{get}
@@ -47,14 +47,6 @@ after_frames : (heading : Heading) (names : Names) (o : Option (List Data))
     → after_these heading names o ≡ ((ok_or o (fault.Script script_cause.Frames) >>=
     λ ds. numbered (frame_of heading.format names) 0 ds) >>= λ frames. all_of heading names frames)
 after_frames heading names it = search rules
-
-abbrev after_names : Data → Heading → Names → Result Script ReadFault
-after_names d heading names =
-    after_these heading names (option_and_then (at_most 1000) (get (codes "frames") d))
-
-abbrev after_heading : Data → Heading → Result Script ReadFault
-after_heading d heading =
-    in_script (component_names (get (codes "components") d)) >>= after_names d heading
 
 pub script_is : (d : Data) (heading : Heading) (names : Names)
     → in_script (heading_of d) ≡ Ok heading

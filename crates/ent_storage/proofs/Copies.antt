@@ -1,6 +1,6 @@
 -- Copies of columns, and the entities that they stand for.
 use Rattle.std.proofs.Common.{rules}
-use Rattle.std.proofs.Common.{◌≡◌, ℕ, ℤ, zero, suc, ◌≤◌, List, [], ◌∷◌, length, refl, ap, sym, ◌∙◌}
+use Rattle.std.proofs.Common.{◌≡◌, ℕ, ℤ, zero, suc, ◌≤◌, List, [], ◌∷◌, length, refl, sym}
 use Rattle.std.proofs.Common.{arith, inr, suc-ne-zero}
 use Rattle.std.proofs.lemmas.Option.{none-some}
 use Rattle.std.specs.List.{AllZip}
@@ -9,7 +9,7 @@ use Rattle.std.specs.Ordering.{nat_cmp}
 use Rattle.std.specs.FinMap as map
 use Rattle.ent_handle.specs.declared.component.ComponentId.{ComponentId}
 use Rattle.ent_storage.specs.declared.living.Resident.{Resident}
-use Rattle.ent_storage.specs.SparseSet.{Column, Values, IsDense}
+use Rattle.ent_storage.specs.SparseSet.{Column, IsDense}
 use Rattle.ent_storage.specs.Copies.{IsCopy}
 use Rattle.ent_storage.specs.Living.{column_at, value_at, entities_from, AreColumnsOf, AreInUse}
 use Rattle.ent_storage.proofs.EntitiesOfResidents.{same_from}

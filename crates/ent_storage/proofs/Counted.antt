@@ -1,7 +1,7 @@
 -- The places of an index that count.
 use Rattle.std.proofs.Common.{rules, ◌≡◌, ◌≢◌, ℕ, zero, suc, ◌<◌, ◌≤◌, Bool, true, false, cond, T}
 use Rattle.std.proofs.Common.{List, [], ◌∷◌, ◌+◌, map, ◌++◌, length, get_or, set, filter, Option}
-use Rattle.std.proofs.Common.{Some, None, is_some, Contains, refl, sym, ap, subst, ◌∙◌, arith, eqb}
+use Rattle.std.proofs.Common.{Some, None, is_some, Contains, refl, sym, ap, ◌∙◌, arith, eqb}
 use Rattle.std.proofs.Common.{eqb-true}
 use Rattle.std.specs.declared.cmp.Ordering.TheVariants.{Less, Greater}
 use Rattle.std.specs.Cmp.{tied_itself}

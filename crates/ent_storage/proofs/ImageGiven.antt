@@ -2,7 +2,6 @@
 use Rattle.std.proofs.Common.{rules}
 use Rattle.std.proofs.Common.{◌≡◌, ◌≢◌, refl, sym, ap, ◌∙◌, ℤ, true, [], ◌∷◌, Option, None, Some}
 use Rattle.std.proofs.Common.{is_some}
-use Rattle.std.specs.Option.{option_map, option_map_or}
 use Rattle.std.specs.Prelude.{option_and_then}
 use Rattle.std.specs.FinMap as map
 use Rattle.std.proofs.lemmas.Bool.{false≢true}

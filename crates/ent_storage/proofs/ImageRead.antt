@@ -5,7 +5,6 @@ use Rattle.std.proofs.Common.{◌≡◌, ◌≢◌, sym, ap, ◌∙◌, subst, �
 use Rattle.std.proofs.Common.{List, [], ◌∷◌, ◌++◌, length, take, drop, get_or, Contains, IsTrue, None}
 use Rattle.std.proofs.Common.{arith, inl, inr, is_some, AllPairs}
 use Rattle.std.specs.List.{flat_map}
-use Rattle.std.specs.Prelude.{option_and_then}
 use Rattle.std.specs.FinMap as map
 use Rattle.std.proofs.lemmas.List.{append_assoc, append-nil, length-append, flat_map_more, take_all}
 use Rattle.std.proofs.lemmas.List.{take-append-drop, drop_more, take_more, length-take, get_or-take}
@@ -13,7 +12,7 @@ use Rattle.std.proofs.lemmas.List.Concat.{flat_map-append}
 use Rattle.std.proofs.lemmas.List.Elements.{Contains-append_left, Contains-push, Contains-push_cases}
 use Rattle.ent_handle.specs.declared.component.ComponentId.{ComponentId}
 use Rattle.ent_handle.specs.Handle.{Handle, handle_cmp_total, handle_cmp-IsAntisymmetric}
-use Rattle.ent_storage.specs.EntityMap.{Entity, EntityMap, value_of}
+use Rattle.ent_storage.specs.EntityMap.{EntityMap, value_of}
 use Rattle.ent_storage.specs.Image.{word, entity_bytes, entities_bytes, width, IsStored, AreStored}
 use Rattle.ent_storage.specs.FirstFault.{AreFirst}
 use Rattle.ent_storage.proofs.Keys.{same_or_apart}

@@ -1,8 +1,8 @@
 -- The values of an entity, one by one: what is written tells them.
 use Rattle.std.proofs.Common.{rules}
 use Rattle.std.proofs.Common.{◌≡◌, ◌≢◌, refl, sym, ap, ◌∙◌, ℕ, zero, suc, ℤ, ◌+◌, ◌^◌, ◌<◌, ◌≤◌}
-use Rattle.std.proofs.Common.{List, ◌++◌, drop, get_or, Option, None, Some, add-one}
-use Rattle.std.proofs.Common.{arith, inl, inr}
+use Rattle.std.proofs.Common.{List, ◌++◌, drop, Option, None, Some, add-one}
+use Rattle.std.proofs.Common.{arith}
 use Rattle.std.specs.Int.{w64, cast_unsigned}
 use Rattle.std.specs.Int.RustNames.{FitsSigned}
 use Rattle.std.specs.List.{flat_map, range_with_len}

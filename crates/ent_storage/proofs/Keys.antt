@@ -1,8 +1,8 @@
 -- Keys of a map that are the same or apart, and what a map has at them after a change.
 use Rattle.std.proofs.Common.{◌≡◌, ◌≢◌, Bool, true, false, T, ◌⊎◌, inl, inr, Some, None, Ordering}
-use Rattle.std.proofs.Common.{refl, sym, ap, subst, ◌∙◌, rules, arith}
-use Rattle.std.specs.Ordering.{is_eq, eq_by_cmp}
-use Rattle.std.specs.Cmp.{IsTotalOrder, tied_itself}
+use Rattle.std.proofs.Common.{refl, sym, subst, ◌∙◌, rules, arith}
+use Rattle.std.specs.Ordering.{eq_by_cmp}
+use Rattle.std.specs.Cmp.{IsTotalOrder}
 use Rattle.ent_storage.proofs.Rising.{equal}
 use Rattle.std.proofs.lemmas.Bool.{false_from_ne_true}
 use Rattle.std.specs.FinMap as map

@@ -7,7 +7,6 @@ use Rattle.std.specs.declared.cmp.Ordering.TheVariants.{Less}
 use Rattle.std.specs.Cmp.{IsTotalOrder, then_total, on_total}
 use Rattle.std.specs.Cmp.Lexicographic.{options_total}
 use Rattle.std.specs.List.{AllPairs}
-use Rattle.std.specs.FinMap as finite
 use Rattle.ent_handle.specs.declared.component.ComponentId.{ComponentId}
 use Rattle.ent_handle.specs.Birth.{birth_cmp_total}
 use Rattle.ent_handle.specs.Handle.{Handle, handle_cmp_total}

@@ -1,6 +1,4 @@
 use Rattle.std.proofs.Common.{rules}
-use Rattle.serde_json.specs.Find.{as_object}
-use Rattle.serde_json.specs.View.{view}
 use Rattle.ent_script.proofs.Values.{members_seen}
 use Rattle.ent_script.proofs.elements.members.Goals as goal
 

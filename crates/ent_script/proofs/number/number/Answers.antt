@@ -1,6 +1,5 @@
 use Rattle.std.proofs.lemmas.Grind.{common_steps}
-use Rattle.std.proofs.Common.{rules, ◌≡◌, drop, ap, ◌∙◌, arith, take_all, length-drop}
-use Rattle.fast_float.specs.Text.{scan}
+use Rattle.std.proofs.Common.{rules, arith, length-drop}
 use Rattle.serde_json.specs.Read.{number_of}
 use Rattle.ent_script.proofs.number.number.Goals as goal
 

@@ -4,8 +4,7 @@ use Rattle.std.proofs.Common.{◌≡◌, ◌∷◌, refl, ap, arith, rules}
 use Rattle.json.specs.Token.{Token}
 use Rattle.json.specs.Json.{value}
 use Rattle.json.specs.Reads.{token_of}
-use Rattle.serde_json.specs.Data.{null, boolean, number, string, object}
-use Rattle.serde_json.specs.View.{number_view}
+use Rattle.serde_json.specs.Data.{string, object}
 use Rattle.ent_script.proofs.Turns.{converted-object}
 use Rattle.ent_script.proofs.Cuts.{opened_array}
 use Rattle.ent_script.proofs.Openings.{passed_nested}

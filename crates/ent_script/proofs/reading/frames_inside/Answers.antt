@@ -1,8 +1,6 @@
 use Rattle.std.proofs.Common.{rules}
-use Rattle.std.proofs.Common.{◌≡◌, ◌-◌, Some, None, codes, sym, ◌∙◌, refl, arith}
-use Rattle.json.specs.Json.{read_key, value}
-use Rattle.serde_json.specs.Data.{no_members, put}
-use Rattle.ent_script.specs.Streaming.{frames_of}
+use Rattle.std.proofs.Common.{◌-◌, refl}
+use Rattle.serde_json.specs.Data.{no_members}
 use Rattle.ent_script.proofs.Finding.{next_member, last_member, no_key}
 use Rattle.ent_script.proofs.PassedOver.{member_over, member_not_over}
 use Rattle.ent_script.proofs.Listing.{streamed_list}

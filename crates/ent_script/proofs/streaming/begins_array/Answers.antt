@@ -1,6 +1,6 @@
 use Rattle.std.proofs.lemmas.Grind.{common_steps}
 use Rattle.json.proofs.Grammar.{left-parse_map, value_is, value-begin_array}
-use Rattle.std.proofs.Common.{rules, ◌≡◌, [], arith}
+use Rattle.std.proofs.Common.{rules, arith}
 use Rattle.json.specs.Json.{value}
 use Rattle.ent_script.proofs.Turns.{converted-array}
 use Rattle.ent_script.proofs.Cuts.{opened_array}

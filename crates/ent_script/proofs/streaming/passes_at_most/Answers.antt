@@ -1,6 +1,4 @@
-use Rattle.std.proofs.Common.{rules, ◌≡◌, ℕ, ◌+◌, ◌<◌, List, length, Bool, true, false, refl, []}
-use Rattle.std.proofs.Common.{None}
-use Rattle.json.specs.Json.{after_end_array, value}
+use Rattle.std.proofs.Common.{rules, ◌≡◌, ℕ, ◌+◌, ◌<◌, List, length, Bool, true, false, refl}
 use Rattle.std.proofs.Common.{arith}
 use Rattle.std.specs.Prelude.{Ok}
 use Rattle.json.specs.Token.{Token}
