@@ -77,7 +77,7 @@ unused : Handle
 unused = record { index = 0; generation = 0 }
 
 no_resident : Resident
-no_resident = grind (arith, common_steps, unused)
+no_resident = record { handle = unused; birth = record { frame = 0; system = 0; ordinal = 0 } }
 
 -- their columns have no values
 pub bare_columns : (residents : List Resident) (columns : List Column)
