@@ -1,7 +1,5 @@
 -- What a request in one call is given, by the pool that it found.
-use Rattle.std.proofs.Common.{◌≡◌, ap, ◌∙◌, ℕ, ◌<◌, ◌≤◌, ℤ, pos, ◌-ℤ◌, rules}
-use Rattle.std.proofs.Common.{List, [], ◌∷◌, length, take, Result, Ok, Err, arith, slice_get, Some}
-use Rattle.std.proofs.Common.{◌⊎◌, All, subst}
+use Rattle.std.proofs.Common.{◌≡◌, ap, ◌∙◌, ℕ, ◌<◌, ◌≤◌, ℤ, pos, ◌-ℤ◌, rules, List, [], ◌∷◌, length, take, Result, Ok, Err, arith, slice_get, Some, ◌⊎◌, All, subst}
 use Rattle.std.specs.Result.{IsErrAnd, IsErrOf, IfErr}
 use Rattle.std.proofs.lemmas.Bool.Decides.{nat_tests}
 use Rattle.std.proofs.lemmas.Grind.{common_steps}
@@ -16,29 +14,27 @@ use Rattle.ent_alloc.specs.declared.refused.Refused.{Refused}
 use Rattle.ent_alloc.specs.declared.refused.Refused.TheVariants as refused
 use Rattle.ent_alloc.specs.declared.reserve_error.ReserveError.{ReserveError}
 use Rattle.ent_alloc.specs.declared.reserve_error.ReserveError.TheVariants as failed
-use Rattle.ent_alloc.specs.Sequential.{Allocator, after_take, cursor, listed, reply_from, reply_to}
-use Rattle.ent_alloc.specs.Sequential.{pool_at, listed_alone}
+use Rattle.ent_alloc.specs.Sequential.{Allocator, after_take, cursor, listed, reply_from, reply_to, pool_at, listed_alone}
 use Rattle.ent_alloc.specs.Sound.{IsSound, IsWithin}
 use Rattle.ent_alloc.proofs.PoolLaw.{reply-later}
 use Rattle.ent_alloc.proofs.Replies.{served_from, reply-IsPermutation, of_pool, of_reply}
 
 -- the reply that is looked up after the step is the reply to the request
 pub told : (s : Allocator) (t : Allocator) (n : ℕ) (span : Span) → IsSound s
-    → span ≡ record { high = cursor s; low = cursor s -ℤ pos n } → t ≡ after_take s n
-    → (r : Result (List Handle) Space)
-    → ((m : ℕ) → span.low ≡ span.high -ℤ pos m
-    → r ≡ reply_from t.made (pool_at t span.high) m)
-    → r ≡ reply_to s n
-told s t n span sound is step r tells = let high : span.high ≡ cursor s = ap (λ (x : Span). x.high) is in let low : span.low ≡ span.high -ℤ pos n = search rules in tells n low ∙ ap (λ z. reply_from t.made (pool_at t z) n) high ∙ ap (λ (x : Allocator). reply_from x.made (pool_at x (cursor s)) n) step ∙ reply-later s (n ∷ []) n sound
+    → span ≡ record { high = cursor s; low = cursor s -ℤ pos n } → t ≡ after_take s n → (r : Result (List Handle) Space)
+    → ((m : ℕ) → span.low ≡ span.high -ℤ pos m → r ≡ reply_from t.made (pool_at t span.high) m) → r ≡ reply_to s n
+told s t n span sound is step r tells =
+    let high : span.high ≡ cursor s = ap (λ (x : Span). x.high) is in
+    let low : span.low ≡ span.high -ℤ pos n = search rules in
+    tells n low ∙ ap (λ z. reply_from t.made (pool_at t z) n) high
+    ∙ ap (λ (x : Allocator). reply_from x.made (pool_at x (cursor s)) n) step ∙ reply-later s (n ∷ []) n sound
 
 -- what is left is within the limits
 pub front_within : (s : Allocator) (n : ℕ) → IsSound s → All (IsWithin s.limits) (take n s.pool)
 front_within s n sound = search (rules, All-take, of_pool)
 
-pub first_within : (s : Allocator) (h : Handle) → IsSound s → slice_get s.pool 0 ≡ Some h
-    → IsWithin s.limits h
-first_within s h sound first =
-    subst (IsWithin s.limits) (get_or_from_slice_get s.pool 0 h h first)
+pub first_within : (s : Allocator) (h : Handle) → IsSound s → slice_get s.pool 0 ≡ Some h → IsWithin s.limits h
+first_within s h sound first = subst (IsWithin s.limits) (get_or_from_slice_get s.pool 0 h h first)
     (of_pool (IsWithin s.limits) s sound.within 0 h (slice_get_within s.pool 0 h first))
 
 -- what a request is given that is served
@@ -48,9 +44,16 @@ pub record IsServed (s : Allocator) (n : ℕ) (given : List Handle) : Type 0 whe
   pub long : length given ≡ n
   pub within : All (IsWithin s.limits) given
 
-pub of_served : (s : Allocator) (n : ℕ) (given : List Handle) → IsSound s
-    → reply_to s n ≡ Ok given → IsServed s n given
-of_served s n given sound is = let from = served_from s n given is in record { enough = from.0; lists = from.1; long = length_permutation (take n s.pool) given (reply-IsPermutation s n given is) ∙ length-take-le n s.pool from.0; within = search (rules, of_reply, of_pool) }
+pub of_served : (s : Allocator) (n : ℕ) (given : List Handle) → IsSound s → reply_to s n ≡ Ok given → IsServed s n given
+of_served s n given sound is =
+    let from = served_from s n given is in
+    record {
+      enough = from.0;
+      lists = from.1;
+      long = length_permutation (take n s.pool) given (reply-IsPermutation s n given is)
+          ∙ length-take-le n s.pool from.0;
+      within = search (rules, of_reply, of_pool);
+    }
 
 -- and one that is refused
 pub record IsShort (s : Allocator) (n : ℕ) (space : Space) : Type 0 where
@@ -58,19 +61,16 @@ pub record IsShort (s : Allocator) (n : ℕ) (space : Space) : Type 0 where
   pub wanted : space.wanted ≡ n
   pub left : space.left ≡ length s.pool
 
-pub of_refused : (s : Allocator) (n : ℕ) (space : Space) → reply_to s n ≡ Err space
-    → IsShort s n space
+pub of_refused : (s : Allocator) (n : ℕ) (space : Space) → reply_to s n ≡ Err space → IsShort s n space
 of_refused s n space is = search (rules, common_steps)
 
 -- ---- one handle
 
 -- the reply that is looked up after the step is the reply to the request
-pub told_one : (s : Allocator) (t : Allocator) (high : ℤ) → IsSound s → high ≡ cursor s
-    → t ≡ after_take s 1 → (r : Result Handle Space)
-    → listed_alone r ≡ reply_from t.made (pool_at t high) 1 → listed_alone r ≡ reply_to s 1
+pub told_one : (s : Allocator) (t : Allocator) (high : ℤ) → IsSound s → high ≡ cursor s → t ≡ after_take s 1
+    → (r : Result Handle Space) → listed_alone r ≡ reply_from t.made (pool_at t high) 1 → listed_alone r ≡ reply_to s 1
 told_one s t high sound found step r is = is ∙ ap (λ z. reply_from t.made (pool_at t z) 1) found
-    ∙ ap (λ (x : Allocator). reply_from x.made (pool_at x (cursor s)) 1) step
-    ∙ reply-later s (1 ∷ []) 1 sound
+    ∙ ap (λ (x : Allocator). reply_from x.made (pool_at x (cursor s)) 1) step ∙ reply-later s (1 ∷ []) 1 sound
 
 -- the handle that one is given
 pub record IsFront (s : Allocator) (h : Handle) : Type 0 where
@@ -82,8 +82,8 @@ pub record IsFront (s : Allocator) (h : Handle) : Type 0 where
 single : (made : ℕ) (x : Handle) → listed made (x ∷ []) ≡ x ∷ []
 single made x = grind (arith, nat_tests, common_steps)
 
-first : (made : ℕ) (pool : List Handle) (h : Handle) → 1 ≤ length pool
-    → h ∷ [] ≡ listed made (take 1 pool) → slice_get pool 0 ≡ Some h
+first : (made : ℕ) (pool : List Handle) (h : Handle) → 1 ≤ length pool → h ∷ [] ≡ listed made (take 1 pool)
+    → slice_get pool 0 ≡ Some h
 first made [] h some is = absurd (omega arith)
 first made (x ∷ pool) h some is = search (rules, single)
 
@@ -93,8 +93,8 @@ of_front s h sound is =
     record {
       front = first s.made s.pool h from.0 from.1;
       reply = is;
-      within = of_reply s 1 (h ∷ []) is (IsWithin s.limits)
-          (of_pool (IsWithin s.limits) s sound.within) 0 h (omega arith);
+      within = of_reply s 1 (h ∷ []) is (IsWithin s.limits) (of_pool (IsWithin s.limits) s sound.within) 0 h
+          (omega arith);
       some = λ none. absurd (grind (arith, common_steps));
     }
 
@@ -106,13 +106,11 @@ none_left s n space one short = search (rules, nil_from_length)
 -- it is one of the three that a call has
 pub space_of_three : {A : Type 0} (r : Result A ReserveError) (wanted left n pool quota : ℕ)
     → IsErrAnd r (λ why. why ≡ failed.Space wanted left) → wanted ≡ n → left ≡ pool
-    → IfErr r (λ why. (why ≡ failed.Memory)
-    ⊎ ((why ≡ failed.Space n pool) ⊎ (why ≡ failed.Quota quota)))
+    → IfErr r (λ why. (why ≡ failed.Memory) ⊎ ((why ≡ failed.Space n pool) ⊎ (why ≡ failed.Quota quota)))
 space_of_three (Ok x) wanted left n pool quota is wanted_is left_is = tt
 space_of_three (Err why) wanted left n pool quota is wanted_is left_is = search rules
 
 pub space_is : {A : Type 0} (r : Result A Refused) (wanted left n pool : ℕ)
-    → IsErrAnd r (λ why. why ≡ refused.Space wanted left) → wanted ≡ n → left ≡ pool
-    → IsErrOf r (refused.Space n pool)
+    → IsErrAnd r (λ why. why ≡ refused.Space wanted left) → wanted ≡ n → left ≡ pool → IsErrOf r (refused.Space n pool)
 space_is (Ok x) wanted left n pool is wanted_is left_is = absurd is
 space_is (Err why) wanted left n pool is wanted_is left_is = search rules

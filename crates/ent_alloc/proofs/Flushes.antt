@@ -1,11 +1,7 @@
 -- What a flush brings to life: exactly what was taken.
-use Rattle.std.proofs.Common.{rules, ◌++◌, get_or, reverse, filter, All, AllPairs, Contains}
-use Rattle.std.proofs.Common.{IsPermutation, ◌⊎◌}
+use Rattle.std.proofs.Common.{rules, ◌++◌, get_or, reverse, filter, All, AllPairs, Contains, IsPermutation, ◌⊎◌}
 use Rattle.std.proofs.lemmas.List.Elements.{All-contains_itself}
-use Rattle.std.proofs.lemmas.List.Sorted.{IsPermutation-refl, IsPermutation-trans}
-use Rattle.std.proofs.lemmas.List.Sorted.{IsPermutation-append, IsPermutation-append_comm}
-use Rattle.std.proofs.lemmas.List.Sorted.{IsPermutation-reverse, IsPermutation-filter_both}
-use Rattle.std.proofs.lemmas.List.Sorted.{All-permutation}
+use Rattle.std.proofs.lemmas.List.Sorted.{IsPermutation-refl, IsPermutation-trans, IsPermutation-append, IsPermutation-append_comm, IsPermutation-reverse, IsPermutation-filter_both, All-permutation}
 use Rattle.ent_handle.specs.Handle.{Handle}
 use Rattle.ent_alloc.specs.Sequential.{Allocator, after_flush, born, is_old, is_fresh}
 use Rattle.ent_alloc.specs.Sound.{IsSound, AreApart, IsLive}
@@ -14,8 +10,7 @@ use Rattle.ent_alloc.proofs.HandleSets.{in_union_list, union_list_keeps, union_l
 use Rattle.ent_alloc.proofs.Replies.{fresh_is_not_old, apart_both, not_apart}
 
 -- who is alive after a flush was alive or was taken
-pub live-after_flush : (s : Allocator) (x : Handle) → IsLive (after_flush s) x → IsLive s x
-    ⊎ Contains s.taken x
+pub live-after_flush : (s : Allocator) (x : Handle) → IsLive (after_flush s) x → IsLive s x ⊎ Contains s.taken x
 live-after_flush s x alive = in_union_list s.live s.taken x alive
 
 -- who was alive stays so
@@ -33,8 +28,7 @@ born-IsPermutation s =
     let new = filter (is_fresh s.made) s.taken in
     IsPermutation-trans s.taken (old ++ new) (new ++ reverse old)
     (IsPermutation-filter_both (is_old s.made) (is_fresh s.made) (fresh_is_not_old s.made) s.taken)
-    (IsPermutation-trans (old ++ new) (new ++ old) (new ++ reverse old)
-    (IsPermutation-append_comm old new)
+    (IsPermutation-trans (old ++ new) (new ++ old) (new ++ reverse old) (IsPermutation-append_comm old new)
     (search (rules, IsPermutation-append, IsPermutation-refl, IsPermutation-reverse)))
 
 -- each that is born is alive then
@@ -51,5 +45,5 @@ module _ (s : Allocator) (h : IsSound s) where
   -- none was alive
   pub born-not_live : All (λ x. ¬ (IsLive s x)) (born s)
   born-not_live = All-permutation (λ x. ¬ (IsLive s x)) s.taken (born s) (born-IsPermutation s)
-      (λ k d lt alive. not_apart (get_or s.taken k d) (All-left (AreApart (get_or s.taken k d))
-      s.taken (s.aside ++ s.pool) (h.live (get_or s.taken k d) alive).apart k d lt))
+      (λ k d lt alive. not_apart (get_or s.taken k d) (All-left (AreApart (get_or s.taken k d)) s.taken
+      (s.aside ++ s.pool) (h.live (get_or s.taken k d) alive).apart k d lt))

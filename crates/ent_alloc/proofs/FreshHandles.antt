@@ -1,8 +1,6 @@
 -- Laws of `fresh`, the first occupants of slots that were never made. Nothing here computes it at a
 -- number.
-use Rattle.std.proofs.Common.{rules, ◌≡◌, refl, ap, ℕ, zero, suc, ◌+◌, ◌-◌, ◌<◌, ◌≤◌, true, false}
-use Rattle.std.proofs.Common.{List, [], ◌∷◌, ◌++◌, length, get_or, take, drop, filter, All}
-use Rattle.std.proofs.Common.{AllPairs, arith, lt-ltb, le-ltb, le-leb, append-nil}
+use Rattle.std.proofs.Common.{rules, ◌≡◌, refl, ap, ℕ, zero, suc, ◌+◌, ◌-◌, ◌<◌, ◌≤◌, true, false, List, [], ◌∷◌, ◌++◌, length, get_or, take, drop, filter, All, AllPairs, arith, lt-ltb, le-ltb, le-leb, append-nil}
 use Rattle.std.proofs.lemmas.Bool.{lt-leb}
 use Rattle.std.proofs.lemmas.List.Elements.{All-weaker, filter-append}
 use Rattle.ent_handle.specs.Handle.{Handle}
@@ -21,8 +19,7 @@ length-fresh index zero = refl
 length-fresh index (suc slots) = ap (λ n. suc n) (length-fresh (index + 1) slots)
 
 -- the next of them, and the rest
-pub fresh-next : (index slots : ℕ) → fresh index (suc slots) ≡ first_of_slot index
-    ∷ fresh (index + 1) slots
+pub fresh-next : (index slots : ℕ) → fresh index (suc slots) ≡ first_of_slot index ∷ fresh (index + 1) slots
 unfolding fresh
 fresh-next index slots = refl
 
@@ -32,8 +29,8 @@ unfolding fresh
 fresh-none index = refl
 
 -- the one at a position
-pub get_or-fresh : (index slots k : ℕ) (d : Handle) → k < slots → get_or (fresh index slots) k d
-    ≡ first_of_slot (index + k)
+pub get_or-fresh : (index slots k : ℕ) (d : Handle) → k < slots → get_or (fresh index slots) k d ≡ first_of_slot (index
+    + k)
 unfolding fresh
 get_or-fresh index zero k d lt = absurd (omega arith)
 get_or-fresh index (suc slots) zero d lt = ap first_of_slot (omega arith)
@@ -53,12 +50,11 @@ pub take-fresh : (k index slots : ℕ) → k ≤ slots → take k (fresh index s
 unfolding fresh
 take-fresh zero index slots le = refl
 take-fresh (suc k) index zero le = absurd (omega arith)
-take-fresh (suc k) index (suc slots) le = ap (first_of_slot index ∷◌)
-    (take-fresh k (index + 1) slots (omega arith))
+take-fresh (suc k) index (suc slots) le = ap (first_of_slot index ∷◌) (take-fresh k (index + 1) slots (omega arith))
 
 -- each is of a slot in the range, and its first occupant
-pub All-fresh : (P : Handle → Type 0) (index slots : ℕ)
-    → ((k : ℕ) → k < slots → P (first_of_slot (index + k))) → All P (fresh index slots)
+pub All-fresh : (P : Handle → Type 0) (index slots : ℕ) → ((k : ℕ) → k < slots → P (first_of_slot (index + k)))
+    → All P (fresh index slots)
 All-fresh P index slots each k d lt = search (rules, length-fresh, get_or-fresh, each)
 
 -- their indexes rise
@@ -70,31 +66,26 @@ pub fresh_apart : (index slots : ℕ) → AllPairs AreApart (fresh index slots)
 fresh_apart index slots i j d lt within same = search (rules, AllPairs-fresh)
 
 -- none of them is old where they begin
-pub no_fresh_is_old : (made index slots : ℕ) → made ≤ index
-    → filter (is_old made) (fresh index slots) ≡ []
-no_fresh_is_old made index slots le =
-    filter_none (is_old made) (fresh index slots) (All-fresh (λ h. is_old made h ≡ false) index
-    slots (λ k lt. le-ltb _ _ (omega arith)))
+pub no_fresh_is_old : (made index slots : ℕ) → made ≤ index → filter (is_old made) (fresh index slots) ≡ []
+no_fresh_is_old made index slots le = filter_none (is_old made) (fresh index slots)
+    (All-fresh (λ h. is_old made h ≡ false) index slots (λ k lt. le-ltb _ _ (omega arith)))
 
 -- each of them is fresh where they begin
-pub each_fresh_is_fresh : (made index slots : ℕ) → made ≤ index → All (λ h. is_fresh made h ≡ true)
-    (fresh index slots)
+pub each_fresh_is_fresh : (made index slots : ℕ) → made ≤ index → All (λ h. is_fresh made h ≡ true) (fresh index slots)
 each_fresh_is_fresh made index slots le = All-fresh (λ h. is_fresh made h ≡ true) index slots
     (λ k lt. le-leb _ _ (omega arith))
 
 -- so a filter of the fresh keeps all
-pub all_fresh_are_fresh : (made index slots : ℕ) → made ≤ index
-    → filter (is_fresh made) (fresh index slots) ≡ fresh index slots
+pub all_fresh_are_fresh : (made index slots : ℕ) → made ≤ index → filter (is_fresh made) (fresh index slots) ≡ fresh
+    index slots
 all_fresh_are_fresh made index slots le = search (rules, filter_all, each_fresh_is_fresh)
 
 -- old handles are no fresh ones
-pub no_old_is_fresh : (made : ℕ) (old : List Handle) → All (λ h. h.index < made) old
-    → filter (is_fresh made) old ≡ []
+pub no_old_is_fresh : (made : ℕ) (old : List Handle) → All (λ h. h.index < made) old → filter (is_fresh made) old ≡ []
 no_old_is_fresh made old below = search (rules, filter_none, All-weaker, lt-leb)
 
 -- a filter of the old keeps all old handles
-pub all_old_are_old : (made : ℕ) (old : List Handle) → All (λ h. h.index < made) old
-    → filter (is_old made) old ≡ old
+pub all_old_are_old : (made : ℕ) (old : List Handle) → All (λ h. h.index < made) old → filter (is_old made) old ≡ old
 all_old_are_old made old below = search (rules, filter_all, All-weaker, lt-ltb)
 
 -- old handles and then fresh ones: a filter takes them apart again

@@ -1,6 +1,5 @@
 -- Many handles that come to life at once: as if they were requested and flushed.
-use Rattle.std.proofs.Common.{rules, ◌≡◌, ap, ◌∙◌, refl, ℕ, ◌+◌, ◌-◌, ◌≤◌, length, take}
-use Rattle.std.proofs.Common.{drop, reverse, ◌++◌, All, None, arith, List, slice_index_or}
+use Rattle.std.proofs.Common.{rules, ◌≡◌, ap, ◌∙◌, refl, ℕ, ◌+◌, ◌-◌, ◌≤◌, length, take, drop, reverse, ◌++◌, All, None, arith, List, slice_index_or}
 use Rattle.std.specs.FinMap as maps
 use Rattle.std.proofs.lemmas.List.{length-append, length-reverse, take_at, drop_at}
 use Rattle.std.proofs.lemmas.List.Elements.{All-take}
@@ -25,17 +24,16 @@ not_live s sound k d lt alive = search (rules, not_apart)
 -- so it has no row
 pub front_no_row : (e : Entities) (n : ℕ) → IsSound e.allocator → HasRowsOfLiving e
     → All (λ h. maps.get e.rows h ≡ None) (take n e.allocator.pool)
-front_no_row e n sound kept k d lt =
-    kept (slice_index_or (take n e.allocator.pool) k d)
-    (All-take (λ x. ¬ (IsLive e.allocator x)) n e.allocator.pool
-    (of_pool (λ x. ¬ (IsLive e.allocator x)) e.allocator (not_live e.allocator sound)) k d lt)
+front_no_row e n sound kept k d lt = kept (slice_index_or (take n e.allocator.pool) k d)
+    (All-take (λ x. ¬ (IsLive e.allocator x)) n e.allocator.pool (of_pool (λ x. ¬ (IsLive e.allocator x)) e.allocator
+    (not_live e.allocator sound)) k d lt)
 
 -- a list that has the fresh handles first, once its two parts are in the order of single calls
-pub ordered : (news olds items handles : List Handle) (many len : ℕ) → items ≡ news ++ olds
-    → many ≡ length news → handles ≡ reverse (drop many items) ++ take many items
-    → len ≡ length items → take len (handles ++ drop (length handles) items) ≡ reverse olds ++ news
-ordered news olds items handles many len items_are many_is handles_are len_is =
-    search (rules, drop_at, take_at, length-append, length-reverse)
+pub ordered : (news olds items handles : List Handle) (many len : ℕ) → items ≡ news ++ olds → many ≡ length news
+    → handles ≡ reverse (drop many items) ++ take many items → len ≡ length items
+    → take len (handles ++ drop (length handles) items) ≡ reverse olds ++ news
+ordered news olds items handles many len items_are many_is handles_are len_is = search
+    (rules, drop_at, take_at, length-append, length-reverse)
 
 module _ (r : Roster) (requests : Requests) (s : Allocator) (rest : IsAtRest r requests s) (n : ℕ)
     (enough : n ≤ length r.pending + (r.limits.slots - r.made)) where
@@ -60,10 +58,7 @@ module _ (r : Roster) (requests : Requests) (s : Allocator) (rest : IsAtRest r r
   -- the slots that are left stand for the allocator
   pub many_given : (new : Roster) → new ≡ flushed_roster r waits news
       → StandFor new requests (after_flush (after_take s n))
-  many_given new is =
-      closed new (flushed_roster r waits news) requests (after_flush (after_take s n)) is
-      rest.requests_is
-      (flush_is r n n (omega arith) enough sound ∙ ap after_flush requested)
+  many_given new is = closed new (flushed_roster r waits news) requests (after_flush (after_take s n)) is
+      rest.requests_is (flush_is r n n (omega arith) enough sound ∙ ap after_flush requested)
       (after_flush-sound (after_take s n) (after_take-sound s n rest.sound))
-      (rows-joined _ (drop waits r.pending) r.rows
-      (rows-joined r.live (fresh r.made news) r.rows rest.rows))
+      (rows-joined _ (drop waits r.pending) r.rows (rows-joined r.live (fresh r.made news) r.rows rest.rows))

@@ -1,7 +1,5 @@
 -- What records and pending indexes stand for has an image, which is that of the records in order.
-use Rattle.std.proofs.Common.{◌≡◌, refl, sym, ap, ◌∙◌, ℕ, suc, ◌+◌, ◌^◌, ◌<◌, ◌≤◌, rules, true}
-use Rattle.std.proofs.Common.{cond, eqb, IsTrue, List, [], ◌∷◌, ◌++◌, length, get_or, arith, Option}
-use Rattle.std.proofs.Common.{None, Some}
+use Rattle.std.proofs.Common.{◌≡◌, refl, sym, ap, ◌∙◌, ℕ, suc, ◌+◌, ◌^◌, ◌<◌, ◌≤◌, rules, true, cond, eqb, IsTrue, List, [], ◌∷◌, ◌++◌, length, get_or, arith, Option, None, Some}
 use Rattle.std.specs.List.{flat_map, range_with_len}
 use Rattle.std.specs.FinSet as sets
 use Rattle.std.specs.FinMap as maps
@@ -16,13 +14,11 @@ use Rattle.ent_alloc.specs.Image.{occupied, slot, slots_bytes, AreSlots, number_
 use Rattle.ent_alloc.specs.ImageRecords.{record_bytes, kept}
 use Rattle.ent_alloc.specs.declared.slot_record.SlotRecord.{SlotRecord}
 use Rattle.ent_alloc.specs.declared.slot_record.Occupancy.{Occupancy}
-use Rattle.ent_alloc.specs.declared.slot_record.Occupancy.TheVariants.{Alive, AliveWithRow, Pending}
-use Rattle.ent_alloc.specs.declared.slot_record.Occupancy.TheVariants.{Retired}
+use Rattle.ent_alloc.specs.declared.slot_record.Occupancy.TheVariants.{Alive, AliveWithRow, Pending, Retired}
 use Rattle.ent_alloc.proofs.Occupants.{is_occupant, contains_occupants}
 use Rattle.ent_alloc.proofs.KeptRows.{row_at, get_rows}
 use Rattle.ent_alloc.proofs.LivingOccupant.{occupant_made, occupant_alive, occupant_generation}
-use Rattle.ent_alloc.proofs.ImageSlots.{Lives, Waits, Gone, became, slot_lives, slot_waits, waiter}
-use Rattle.ent_alloc.proofs.ImageSlots.{no_handle, pending_slot}
+use Rattle.ent_alloc.proofs.ImageSlots.{Lives, Waits, Gone, became, slot_lives, slot_waits, waiter, no_handle, pending_slot}
 
 -- Records and pending indexes that point at each other.
 pub record AreTied (limits : Limits) (records : List SlotRecord) (pending : List ℕ) : Type 0 where
@@ -54,17 +50,16 @@ row_alive (AliveWithRow other) row is = grind (arith, common_steps)
 row_alive (Pending position) row is = absurd (grind (arith, common_steps))
 row_alive Retired row is = absurd (grind (arith, common_steps))
 
-kept_row : (r : SlotRecord) (generation row : ℕ) → cond (eqb r.generation generation)
-    (row_of r.occupancy) None ≡ Some row → row_of r.occupancy ≡ Some row
+kept_row : (r : SlotRecord) (generation row : ℕ) → cond (eqb r.generation generation) (row_of r.occupancy) None
+    ≡ Some row → row_of r.occupancy ≡ Some row
 kept_row r generation row is = grind (arith, common_steps)
 
-no_row : (r : SlotRecord) (generation : ℕ)
-    → ((is_alive r.occupancy ≡ true) → eqb r.generation generation ≡ true → ⊥)
+no_row : (r : SlotRecord) (generation : ℕ) → ((is_alive r.occupancy ≡ true) → eqb r.generation generation ≡ true → ⊥)
     → cond (eqb r.generation generation) (row_of r.occupancy) None ≡ None
 no_row r generation not_both = grind (arith, common_steps)
 
-row_made : (records : List SlotRecord) (index row : ℕ)
-    → row_of (record_at records index).occupancy ≡ Some row → index < length records
+row_made : (records : List SlotRecord) (index row : ℕ) → row_of (record_at records index).occupancy ≡ Some row
+    → index < length records
 row_made records index row is = grind (arith, common_steps, cases_lt, get_or_past)
 
 pieces_of : (g : SlotRecord → List ℕ) (f : ℕ → List ℕ) (from : ℕ) (records : List SlotRecord)
@@ -74,28 +69,26 @@ pieces_of g f from [] each = refl
 pieces_of g f from (r ∷ records) each =
     let at : from + 0 ≡ from = omega arith in
     let here : f from ≡ g r = ap f (sym at) ∙ each 0 (omega arith) in
-    let rest = pieces_of g f (from + 1) records (λ k lt.
-    let next : from + 1 + k ≡ from + suc k = omega arith in
-    ap f next ∙ each (suc k) (omega arith)) in
+    let rest = pieces_of g f (from + 1) records (λ k lt. let next : from + 1 + k ≡ from
+    + suc k = omega arith in ap f next ∙ each (suc k) (omega arith)) in
     λ i. here i ++ rest i
 
-module _ (limits : Limits) (records : List SlotRecord) (pending : List ℕ)
-    (tied : AreTied limits records pending) where
+module _ (limits : Limits) (records : List SlotRecord) (pending : List ℕ) (tied : AreTied limits records pending) where
   abbrev stands : Roster
   stands = roster_of limits records pending
 
   long : length stands.pending ≡ length pending
   long = length-map pending (handle_at records)
 
-  at : (position : ℕ) (d : Handle) → position < length pending
-      → get_or stands.pending position d ≡ handle_at records (get_or pending position 0)
+  at : (position : ℕ) (d : Handle) → position < length pending → get_or stands.pending position d ≡ handle_at records
+      (get_or pending position 0)
   at position d lt = get_or-map (handle_at records) pending position 0 d lt
 
   occupant : (h : Handle) → IsTrue (sets.contains stands.live h) → is_occupant records h ≡ true
   occupant h lives = sym (contains_occupants records h) ∙ lives
 
-  generation_of : (h : Handle) → IsTrue (sets.contains stands.live h) → h.generation
-      ≡ (record_at records h.index).generation
+  generation_of : (h : Handle) → IsTrue (sets.contains stands.live h)
+      → h.generation ≡ (record_at records h.index).generation
   generation_of h lives = sym (occupant_generation records h (occupant h lives))
 
   made_of : (h : Handle) → IsTrue (sets.contains stands.live h) → h.index < length records
@@ -103,14 +96,27 @@ module _ (limits : Limits) (records : List SlotRecord) (pending : List ℕ)
 
   not_pending : (h : Handle) (position : ℕ) → IsTrue (sets.contains stands.live h)
       → (record_at records h.index).occupancy ≡ Pending position → ⊥
-  not_pending h position lives is =
-      false≢true (ap is_alive (sym is) ∙ occupant_alive records h (occupant h lives))
+  not_pending h position lives is = false≢true (ap is_alive (sym is) ∙ occupant_alive records h (occupant h lives))
 
   row_is : (h : Handle) → maps.get stands.rows h ≡ row_at records h
   row_is h = get_rows records h
 
   pub are_slots : AreSlots stands
-  are_slots = search (rules, generation_of, made_of, long, at, not_pending, row_is, no_row, contains_occupants, and_from, kept_row, row_made, row_alive)
+  are_slots = search (
+    rules,
+    generation_of,
+    made_of,
+    long,
+    at,
+    not_pending,
+    row_is,
+    no_row,
+    contains_occupants,
+    and_from,
+    kept_row,
+    row_made,
+    row_alive,
+  )
 
   -- ---- what is written of each
 
@@ -122,13 +128,11 @@ module _ (limits : Limits) (records : List SlotRecord) (pending : List ℕ)
       ≡ row_of (record_at records index).occupancy
   row_kept_at index = grind (arith, common_steps, eq-eqb, row_is)
 
-  waits_at : (index position : ℕ) → index < length records → (record_at records index).occupancy
-      ≡ Pending position → (position < length pending)
-      × (waiter stands position ≡ handle_at records index)
+  waits_at : (index position : ℕ) → index < length records → (record_at records index).occupancy ≡ Pending position
+      → (position < length pending) × (waiter stands position ≡ handle_at records index)
   waits_at index position made is = search (rules, at, no_handle)
 
-  pub slot_is : (index : ℕ) → index < length records → slot stands index
-      ≡ kept (record_at records index)
+  pub slot_is : (index : ℕ) → index < length records → slot stands index ≡ kept (record_at records index)
   slot_is index made = by_occupancy (record_at records index).occupancy refl
     where
       alive_slot : (row : Option ℕ) → is_alive (record_at records index).occupancy ≡ true
@@ -141,24 +145,21 @@ module _ (limits : Limits) (records : List SlotRecord) (pending : List ℕ)
       by_occupancy : (t : Occupancy) → (record_at records index).occupancy ≡ t
           → slot stands index ≡ kept (record_at records index)
       by_occupancy Alive is = rw is (alive_slot None (ap is_alive is) (ap row_of is))
-      by_occupancy (AliveWithRow row) is =
-          rw is (alive_slot (Some row) (ap is_alive is) (ap row_of is))
+      by_occupancy (AliveWithRow row) is = rw is (alive_slot (Some row) (ap is_alive is) (ap row_of is))
       by_occupancy (Pending position) is =
           let waits = waits_at index position made is in
           let slot_there = slot_waits stands are_slots position (omega (arith, long, waits.0)) in
           rw is (ap (λ (h : Handle). slot stands h.index) (sym waits.1) ∙ slot_there
           ∙ ap (λ h. pending_slot h position) waits.1)
       by_occupancy Retired is = rw is (elim (became stands index) [
-        | Lives h alive same tells ↦ absurd (false≢true
-            (ap is_alive (sym is) ∙ ap (λ i. is_alive (record_at records i).occupancy) (sym same)
+        | Lives h alive same tells ↦ absurd (false≢true (ap is_alive (sym is)
+            ∙ ap (λ i. is_alive (record_at records i).occupancy) (sym same)
             ∙ occupant_alive records h (occupant h alive)))
-        | Waits position lt same tells ↦
-            let within : position < length pending = omega (arith, long) in
-            let index_is : get_or pending position 0 ≡ index =
-            sym (ap (λ (h : Handle). h.index) (at position no_handle within)) ∙ same in
-            let wrong : Pending position ≡ Retired = sym (tied.forward position within)
-            ∙ ap (λ i. (record_at records i).occupancy) index_is ∙ is in
-            absurd cc
+        | Waits position lt same tells ↦ let within : position
+            < length pending = omega (arith, long) in let index_is : get_or pending position 0
+            ≡ index = sym (ap (λ (h : Handle). h.index) (at position no_handle within))
+            ∙ same in let wrong : Pending position ≡ Retired = sym (tied.forward position within)
+            ∙ ap (λ i. (record_at records i).occupancy) index_is ∙ is in absurd cc
         | Gone _ none tells ↦ tells
       ])
 

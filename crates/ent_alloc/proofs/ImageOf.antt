@@ -1,21 +1,15 @@
 -- The image of a sound allocator: its numbers fit, it tells the allocator, and that of what was read
 -- is what was read.
-use Rattle.std.proofs.Common.{rules}
-use Rattle.std.proofs.Common.{◌≡◌, ◌≢◌, refl, sym, ap, ◌∙◌, subst, ℕ, ◌+◌, ◌-◌, ◌*◌, ◌<◌, ◌≤◌, List}
-use Rattle.std.proofs.Common.{◌++◌, length, take, drop, filter, arith, Ok, Err, Result, IfOk, IfErr}
-use Rattle.std.proofs.Common.{IsErrAnd, ◌⊎◌, inl, inr}
+use Rattle.std.proofs.Common.{rules, ◌≡◌, ◌≢◌, refl, sym, ap, ◌∙◌, subst, ℕ, ◌+◌, ◌-◌, ◌*◌, ◌<◌, ◌≤◌, List, ◌++◌, length, take, drop, filter, arith, Ok, Err, Result, IfOk, IfErr, IsErrAnd, ◌⊎◌, inl, inr}
 use Rattle.ent_alloc.specs.declared.image_fault.ImageFault.{ImageFault}
-use Rattle.ent_alloc.specs.declared.image_fault.ImageFault.TheVariants.{Magic, Version, Limits}
-use Rattle.ent_alloc.specs.declared.image_fault.ImageFault.TheVariants.{Counts, Length, Requests}
-use Rattle.ent_alloc.specs.declared.image_fault.ImageFault.TheVariants.{Slot, Position, Memory}
+use Rattle.ent_alloc.specs.declared.image_fault.ImageFault.TheVariants.{Magic, Version, Limits, Counts, Length, Requests, Slot, Position, Memory}
 use Rattle.std.proofs.lemmas.Grind.{common_steps}
 use Rattle.std.proofs.lemmas.List.{length-append, length-reverse, length-drop, length-take-le}
 use Rattle.ent_alloc.specs.Roster.{Roster}
 use Rattle.ent_alloc.specs.Sequential.{Allocator, available, top, is_old}
 use Rattle.ent_alloc.specs.Sound.{IsSound}
 use Rattle.ent_alloc.specs.Entities.{Entities, allocator_of, entities_of, AreReserved}
-use Rattle.ent_alloc.specs.Image.{slot, slot_bytes, slots_bytes, AreSlots, HasImage, roster, header}
-use Rattle.ent_alloc.specs.Image.{header_bytes, image, kept_bytes}
+use Rattle.ent_alloc.specs.Image.{slot, slot_bytes, slots_bytes, AreSlots, HasImage, roster, header, header_bytes, image, kept_bytes}
 use Rattle.ent_alloc.specs.ImageRecords.{AreServed, AreNumbers}
 use Rattle.ent_alloc.specs.declared.image.Header.{Header}
 use Rattle.ent_alloc.proofs.PoolLaw.{length-taken}
@@ -33,22 +27,20 @@ pub length-slots_bytes : (r : Roster) → length (slots_bytes r) ≡ 12 * r.made
 unfolding slots_bytes
 length-slots_bytes r = search (rules, length-pieces, length-slot_bytes)
 
-slot_in : (r : Roster) (index : ℕ) → index < r.made
-    → take 12 (drop (12 * index) (slots_bytes r)) ≡ slot_bytes (slot r index)
+slot_in : (r : Roster) (index : ℕ) → index < r.made → take 12 (drop (12 * index) (slots_bytes r))
+    ≡ slot_bytes (slot r index)
 unfolding slots_bytes
 slot_in r index lt =
     let at : 0 + index ≡ index = omega arith in
-    piece (λ index. slot_bytes (slot r index)) 12 (λ index. length-slot_bytes (slot r index)) 0
-    r.made index lt ∙ ap (λ k. slot_bytes (slot r k)) at
+    piece (λ index. slot_bytes (slot r index)) 12 (λ index. length-slot_bytes (slot r index)) 0 r.made index lt
+    ∙ ap (λ k. slot_bytes (slot r k)) at
 
 -- slots with one image are the same
 same_slots : (r q : Roster) → AreSlots r → AreSlots q → r.limits ≡ q.limits → r.made ≡ q.made
     → length r.pending ≡ length q.pending → slots_bytes r ≡ slots_bytes q → r ≡ q
-same_slots r q is_r is_q limits made long same =
-    same_roster r q is_r is_q limits made long (λ index lt.
-    same_slot (slot r index) (slot q index) (small r is_r index) (small q is_q index)
-    (sym (slot_in r index lt) ∙ ap (λ bytes. take 12 (drop (12 * index) bytes)) same
-    ∙ slot_in q index (omega arith)))
+same_slots r q is_r is_q limits made long same = same_roster r q is_r is_q limits made long
+    (λ index lt. same_slot (slot r index) (slot q index) (small r is_r index) (small q is_q index)
+    (sym (slot_in r index lt) ∙ ap (λ bytes. take 12 (drop (12 * index) bytes)) same ∙ slot_in q index (omega arith)))
 
 -- ---- an allocator with its image
 
@@ -64,9 +56,7 @@ module _ (e : Entities) (has : HasImage e) where
 
   long_available : length (available s) ≡ top s + (s.limits.slots - s.made)
   long_available =
-      let idle_long = ap length (idle_is e has) in
-      let counted = length-idle (roster e) in
-      omega (arith, top_as)
+      let idle_long = ap length (idle_is e has) in let counted = length-idle (roster e) in omega (arith, top_as)
 
   -- how many were requested, and how many of them are reserved
   pub served : AreServed s.asked (length s.taken) (top s + (s.limits.slots - s.made))
@@ -76,13 +66,14 @@ module _ (e : Entities) (has : HasImage e) where
   numbers_fit = grind (arith, common_steps, served, few_wait)
 
 -- what the bytes begin with, if they are its image
-pub told : (e : Entities) (h : Header) (rest : List ℕ) → HasImage e → AreNumbers h
-    → image e ≡ header_bytes h ++ rest → (header e ≡ h) × (slots_bytes (roster e) ≡ rest)
+pub told : (e : Entities) (h : Header) (rest : List ℕ) → HasImage e → AreNumbers h → image e ≡ header_bytes h ++ rest
+    → (header e ≡ h) × (slots_bytes (roster e) ≡ rest)
 told e h rest has fits same = search (rules, same_header, numbers_fit)
 
 -- an image tells the allocator
 pub same_image : (d e : Entities) → HasImage d → HasImage e → image d ≡ image e → d ≡ e
-same_image d e is_d is_e same = search (rules, same_header, numbers_fit, same_slots, roster_slots, top_as, same_entities)
+same_image d e is_d is_e same = search
+    (rules, same_header, numbers_fit, same_slots, roster_slots, top_as, same_entities)
 
 -- ---- slots and requests that were read
 
@@ -104,8 +95,8 @@ module _ (r : Roster) (asked given : ℕ) (are : AreSlots r)
       let rest = slots_sound r are in
       let long = length-idle r in
       record {
-        sound = subst IsSound (sym (settled_is r asked given)) (settled-sound (allocator_of r 0 0)
-            rest refl given asked requests.least (λ enough. requests.all (omega arith)));
+        sound = subst IsSound (sym (settled_is r asked given)) (settled-sound (allocator_of r 0 0) rest refl given asked
+            requests.least (λ enough. requests.all (omega arith)));
         asked_in = requests.asked_in;
         given_in = requests.within;
         given_least = requests.least;
@@ -118,15 +109,14 @@ module _ (r : Roster) (asked given : ℕ) (are : AreSlots r) (reserved : AreRese
     pub has_image : HasImage (entities_of r asked given)
     has_image = grind (arith, common_steps)
 
-    pub image_is : image (entities_of r asked given)
-        ≡ header_bytes (numbers r asked given) ++ slots_bytes r
+    pub image_is : image (entities_of r asked given) ≡ header_bytes (numbers r asked given) ++ slots_bytes r
     image_is = grind (arith, common_steps, top_is, length-take-le, length-idle, roster_is)
 
 -- ---- what reading returns
 
 -- a fault that is handed on
-pub handed_on : {T : Type 0} (result : Result T ImageFault) (fault : ImageFault)
-    (P : ImageFault → Type 0) → IsErrAnd result (λ y. y ≡ fault) → P fault → IfErr result P
+pub handed_on : {T : Type 0} (result : Result T ImageFault) (fault : ImageFault) (P : ImageFault → Type 0)
+    → IsErrAnd result (λ y. y ≡ fault) → P fault → IfErr result P
 handed_on (Ok x) fault P is holds = tt
 handed_on (Err y) fault P is holds = subst P (sym is) holds
 
@@ -142,24 +132,21 @@ memory_or_not (Slot index) = inr (λ is. grind (arith, common_steps))
 memory_or_not (Position position) = inr (λ is. grind (arith, common_steps))
 
 -- what is read of an image is its allocator
-pub exact : (bytes : List ℕ) (result : Result Entities ImageFault)
-    → IfOk result (λ e. image e ≡ bytes) → IfOk result HasImage
-    → IfErr result (λ fault. fault ≢ Memory → (e : Entities) → HasImage e → image e ≢ bytes)
+pub exact : (bytes : List ℕ) (result : Result Entities ImageFault) → IfOk result (λ e. image e ≡ bytes)
+    → IfOk result HasImage → IfErr result (λ fault. fault ≢ Memory → (e : Entities) → HasImage e → image e ≢ bytes)
     → (e : Entities) → HasImage e → image e ≡ bytes → (result ≡ Ok e) ⊎ (result ≡ Err Memory)
-exact bytes (Ok d) found has refused e is same =
-    inl (ap Ok (same_image d e has is (found ∙ sym same)))
+exact bytes (Ok d) found has refused e is same = inl (ap Ok (same_image d e has is (found ∙ sym same)))
 exact bytes (Err fault) found has refused e is same = grind (arith, common_steps, memory_or_not)
 
 -- it has no more bytes than those of its slots
-pub bounded : (bytes : List ℕ) (result : Result Entities ImageFault)
-    → IfOk result (λ e. image e ≡ bytes) → IfOk result HasImage
-    → IfOk result (λ e. 40 + kept_bytes e.allocator ≤ length bytes)
+pub bounded : (bytes : List ℕ) (result : Result Entities ImageFault) → IfOk result (λ e. image e ≡ bytes)
+    → IfOk result HasImage → IfOk result (λ e. 40 + kept_bytes e.allocator ≤ length bytes)
 bounded bytes (Ok e) found has = search (rules, length-header_bytes, length-slots_bytes, length-append, few_wait)
 bounded bytes (Err fault) found has = tt
 
 -- and has what the allocator had
 pub kept_by_image : (P : Entities → Type 0) (bytes : List ℕ) (result : Result Entities ImageFault)
-    → IfOk result (λ e. image e ≡ bytes) → IfOk result HasImage
-    → (e : Entities) → HasImage e → image e ≡ bytes → P e → IfOk result P
+    → IfOk result (λ e. image e ≡ bytes) → IfOk result HasImage → (e : Entities) → HasImage e → image e ≡ bytes → P e
+    → IfOk result P
 kept_by_image P bytes (Ok d) found has e is same holds = search (rules, same_image)
 kept_by_image P bytes (Err fault) found has e is same holds = tt

@@ -1,21 +1,16 @@
 -- Slots read one by one: the records and the positions so far point at each other, and where a slot
 -- is refused no allocator has the bytes for its image.
-use Rattle.std.proofs.Common.{◌≡◌, ◌≢◌, refl, sym, ap, ◌∙◌, ℕ, ◌+◌, ◌^◌, ◌<◌, rules, ◌≤◌, ◌⊎◌, inl}
-use Rattle.std.proofs.Common.{inr, List, [], ◌∷◌, ◌++◌, length, get_or, set}
-use Rattle.std.proofs.Common.{take, drop, arith}
+use Rattle.std.proofs.Common.{◌≡◌, ◌≢◌, refl, sym, ap, ◌∙◌, ℕ, ◌+◌, ◌^◌, ◌<◌, rules, ◌≤◌, ◌⊎◌, inl, inr, List, [], ◌∷◌, ◌++◌, length, get_or, set, take, drop, arith}
 use Rattle.std.proofs.lemmas.Grind.{common_steps}
 use Rattle.std.proofs.lemmas.Bool.{cases_lt, cases_eq}
-use Rattle.std.proofs.lemmas.List.{length-append, length_push, get_or_push, get_or_append_left}
-use Rattle.std.proofs.lemmas.List.{get_or-set_same, get_or-set_other, length-set, drop_all}
-use Rattle.std.proofs.lemmas.List.{take_all, append-nil}
+use Rattle.std.proofs.lemmas.List.{length-append, length_push, get_or_push, get_or_append_left, get_or-set_same, get_or-set_other, length-set, drop_all, take_all, append-nil}
 use Rattle.ent_alloc.specs.Limits.{Limits, AreLimits}
 use Rattle.ent_alloc.specs.Slots.{is_alive, record_at, no_slot, occupants}
 use Rattle.ent_alloc.specs.Image.{number_of}
 use Rattle.ent_alloc.specs.ImageRecords.{IsGeneration, vacant, CanWait, with_waiting, AreRead}
 use Rattle.ent_alloc.specs.declared.slot_record.SlotRecord.{SlotRecord}
 use Rattle.ent_alloc.specs.declared.slot_record.Occupancy.{Occupancy}
-use Rattle.ent_alloc.specs.declared.slot_record.Occupancy.TheVariants.{Alive, AliveWithRow, Pending}
-use Rattle.ent_alloc.specs.declared.slot_record.Occupancy.TheVariants.{Retired}
+use Rattle.ent_alloc.specs.declared.slot_record.Occupancy.TheVariants.{Alive, AliveWithRow, Pending, Retired}
 use Rattle.ent_alloc.proofs.Occupants.{one, occupants-append}
 use Rattle.ent_alloc.proofs.ImageLinked.{AreTied}
 
@@ -23,14 +18,12 @@ use Rattle.ent_alloc.proofs.ImageLinked.{AreTied}
 
 -- what is so of each record, and of one more
 each_more : (P : ℕ → SlotRecord → Type 0) (records : List SlotRecord) (s : SlotRecord)
-    → ((index : ℕ) → index < length records → P index (record_at records index))
-    → P (length records) s → (index : ℕ) → index < length (records ++ s ∷ [])
-    → P index (record_at (records ++ s ∷ []) index)
-each_more P records s each last index lt =
-    search (rules, cases_lt, get_or_append_left, length_push, get_or_push)
+    → ((index : ℕ) → index < length records → P index (record_at records index)) → P (length records) s → (index : ℕ)
+    → index < length (records ++ s ∷ []) → P index (record_at (records ++ s ∷ []) index)
+each_more P records s each last index lt = search (rules, cases_lt, get_or_append_left, length_push, get_or_push)
 
-count_more : (records : List SlotRecord) (s : SlotRecord) → length (occupants 0 (records ++ s ∷ []))
-    ≡ length (occupants 0 records) + one (is_alive s.occupancy)
+count_more : (records : List SlotRecord) (s : SlotRecord) → length (occupants 0 (records ++ s ∷ [])) ≡ length (occupants
+    0 records) + one (is_alive s.occupancy)
 count_more records s = search (rules, occupants-append, length-append, common_steps)
 
 old_stays : (records : List SlotRecord) (s : SlotRecord) (index : ℕ) → index < length records
@@ -44,15 +37,24 @@ module _ (limits : Limits) (records : List SlotRecord) (pending : List ℕ) (liv
     (read : AreRead limits records pending live) where
   -- one that doesn't wait
   read_other : (s : SlotRecord) → IsGeneration limits s.generation → number_of s.occupancy < 2 ^ 32
-      → ((position : ℕ) → s.occupancy ≢ Pending position)
-      → AreRead limits (records ++ s ∷ []) pending (live + one (is_alive s.occupancy))
-  read_other s generation number not_waits = record { counted = ap (λ n. n + one (is_alive s.occupancy)) read.counted ∙ sym (count_more records s); generations = each_more (λ _ r. IsGeneration limits r.generation) records s read.generations generation; numbers = each_more (λ _ r. number_of r.occupancy < 2 ^ 32) records s read.numbers number; made = λ position lt taken. let was = read.made position lt taken in omega (arith, length_push records s); forward = λ position lt taken. rw (old_stays records s (get_or pending position 0) (read.made position lt taken)) (read.forward position lt taken); listed = λ index position lt. each_more (λ _ r. r.occupancy ≡ Pending position → position < length pending) records s (λ k below. read.listed k position below) (λ is. absurd (not_waits position is)) index lt; back = grind (arith, common_steps, each_more) }
+      → ((position : ℕ) → s.occupancy ≢ Pending position) → AreRead limits (records ++ s ∷ []) pending
+      (live + one (is_alive s.occupancy))
+  read_other s generation number not_waits = record {
+    counted = ap (λ n. n + one (is_alive s.occupancy)) read.counted ∙ sym (count_more records s);
+    generations = each_more (λ _ r. IsGeneration limits r.generation) records s read.generations generation;
+    numbers = each_more (λ _ r. number_of r.occupancy < 2 ^ 32) records s read.numbers number;
+    made = λ position lt taken. let was = read.made position lt taken in omega (arith, length_push records s);
+    forward = λ position lt taken. rw (old_stays records s (get_or pending position 0) (read.made position lt taken))
+        (read.forward position lt taken);
+    listed = λ index position lt. each_more (λ _ r. r.occupancy ≡ Pending position → position < length pending) records
+        s (λ k below. read.listed k position below) (λ is. absurd (not_waits position is)) index lt;
+    back = grind (arith, common_steps, each_more);
+  }
 
   -- what a position has after one was set
   abbrev Placed : ℕ → ℕ → Type 0
-  Placed position at = ((at ≡ position) × (get_or (set pending position (length records)) at 0
-      ≡ length records)) ⊎ ((at ≢ position)
-      × (get_or (set pending position (length records)) at 0 ≡ get_or pending at 0))
+  Placed position at = ((at ≡ position) × (get_or (set pending position (length records)) at 0 ≡ length records))
+      ⊎ ((at ≢ position) × (get_or (set pending position (length records)) at 0 ≡ get_or pending at 0))
 
   placed : (position at : ℕ) → position < length pending → Placed position at
   placed position at lt = search (rules, cases_eq, get_or-set_same, get_or-set_other)
@@ -68,45 +70,37 @@ module _ (limits : Limits) (records : List SlotRecord) (pending : List ℕ) (liv
       let here = get_or-set_same pending position (length records) 0 lt in
       record {
         counted = ap (λ n. n + 0) read.counted ∙ sym (count_more records s);
-        generations = each_more (λ _ r. IsGeneration limits r.generation) records s read.generations
-            is_generation;
+        generations = each_more (λ _ r. IsGeneration limits r.generation) records s read.generations is_generation;
         numbers = each_more (λ _ r. number_of r.occupancy < 2 ^ 32) records s read.numbers number;
         made = λ at below taken. elim (placed position at lt) [
           | inl new ↦ rw new.1 (omega (arith, length_push records s))
-          | inr old ↦
-              let was = read.made at (omega arith) (λ is. taken (old.1 ∙ is)) in
-              rw old.1 (omega (arith, length_push records s))
+          | inr old ↦ let was = read.made at
+              (omega arith) (λ is. taken (old.1 ∙ is)) in rw old.1 (omega (arith, length_push records s))
         ];
         forward = λ at below taken. elim (placed position at lt) [
           | inl new ↦ rw (new.1, new_is records s, new.0) refl
-          | inr old ↦
-              let not_vacant = λ (is : get_or pending at 0 ≡ vacant). taken (old.1 ∙ is) in
-              let within = read.made at (omega arith) not_vacant in
-              rw (old.1, old_stays records s (get_or pending at 0) within)
+          | inr old ↦ let not_vacant = λ (is : get_or pending at 0 ≡ vacant). taken (old.1 ∙ is) in let within =
+              read.made at (omega arith) not_vacant in rw (old.1, old_stays records s (get_or pending at 0) within)
               (read.forward at (omega arith) not_vacant)
         ];
-        listed = λ index at below.
-            each_more (λ _ r. r.occupancy ≡ Pending at → at < length (set pending position (length records)))
-            records s (λ k before is. let was = read.listed k at before is in omega arith)
+        listed = λ index at below. each_more (λ _ r. r.occupancy ≡ Pending at
+            → at < length (set pending position (length records))) records s
+            (λ k before is. let was = read.listed k at before is in omega arith)
             (λ is. let same : position ≡ at = cc in omega arith) index below;
-        back = λ index at below.
-            each_more (λ k r. r.occupancy ≡ Pending at → get_or (set pending position (length records)) at 0 ≡ k)
-            records s (λ k before is.
-            let was = read.back k at before is in
-            elim (placed position at lt) [
-              | inl new ↦
-                  let none : k ≡ vacant = sym was ∙ ap (λ p. get_or pending p 0) new.0 ∙ free in
-                  absurd (omega arith)
-              | inr old ↦ old.1 ∙ was
-            ])
-            (λ is. let same : position ≡ at = cc in rw (← same) here) index below;
+        back = λ index at below. each_more (λ k r. r.occupancy ≡ Pending at
+            → get_or (set pending position (length records)) at 0 ≡ k) records s (λ k before is. let was = read.back k
+            at before is in elim (placed position at lt) [
+              | inl new ↦ let none : k ≡ vacant = sym was
+                  ∙ ap (λ p. get_or pending p 0) new.0 ∙ free in absurd (omega arith)
+              | inr old ↦ old.1
+                  ∙ was
+            ]) (λ is. let same : position ≡ at = cc in rw (← same) here) index below;
       }
 
   -- the next slot
-  pub read_more : (s : SlotRecord) → IsGeneration limits s.generation
-      → number_of s.occupancy < 2 ^ 32 → CanWait pending s.occupancy
-      → length records < vacant → AreRead limits (records ++ s ∷ [])
-      (with_waiting pending s.occupancy (length records)) (live + one (is_alive s.occupancy))
+  pub read_more : (s : SlotRecord) → IsGeneration limits s.generation → number_of s.occupancy < 2 ^ 32
+      → CanWait pending s.occupancy → length records < vacant → AreRead limits (records ++ s ∷ []) (with_waiting pending
+      s.occupancy (length records)) (live + one (is_alive s.occupancy))
   read_more s generation number can few =
       by_occupancy s.generation s.occupancy generation number can
     where
@@ -129,8 +123,7 @@ module _ (limits : Limits) (records : List SlotRecord) (pending : List ℕ) (liv
 
 pub read_all : (limits : Limits) (records : List SlotRecord) (pending : List ℕ) (live : ℕ)
     → AreRead limits records pending live → AreLimits limits → length records ≤ limits.slots
-    → ((position : ℕ) → position < length pending → get_or pending position 0 ≢ vacant)
-    → AreTied limits records pending
+    → ((position : ℕ) → position < length pending → get_or pending position 0 ≢ vacant) → AreTied limits records pending
 read_all limits records pending live read limited few taken = search (rules)
 
 -- ---- positions that were lent and came back

@@ -1,7 +1,5 @@
 -- Sound slots are those of a sound allocator, and a sound allocator has sound slots.
-use Rattle.std.proofs.Common.{◌≡◌, refl, sym, ap, ◌∙◌, ℕ, ◌+◌, ◌-◌, rules}
-use Rattle.std.proofs.Common.{◌<◌, ◌≤◌, List, length}
-use Rattle.std.proofs.Common.{take, drop, reverse, filter, arith, All, AllPairs}
+use Rattle.std.proofs.Common.{◌≡◌, refl, sym, ap, ◌∙◌, ℕ, ◌+◌, ◌-◌, rules, ◌<◌, ◌≤◌, List, length, take, drop, reverse, filter, arith, All, AllPairs}
 use Rattle.std.specs.FinSet as sets
 use Rattle.std.proofs.lemmas.List.{length-map, reverse-reverse, get_or-reverse, length-reverse}
 use Rattle.std.proofs.lemmas.List.Elements.{All-filter}
@@ -25,8 +23,8 @@ use Rattle.ent_alloc.proofs.ImageLinked.{AreTied, are_slots}
 All-reverse : {X : Type 0} (P : X → Type 0) (xs : List X) → All P xs → All P (reverse xs)
 All-reverse P xs all k d lt = search (rules, get_or-reverse, length-reverse)
 
-AllPairs-reverse : {X : Type 0} (R : X → X → Type 0) (xs : List X)
-    → ((x y : X) → R x y → R y x) → AllPairs R xs → AllPairs R (reverse xs)
+AllPairs-reverse : {X : Type 0} (R : X → X → Type 0) (xs : List X) → ((x y : X) → R x y → R y x) → AllPairs R xs
+    → AllPairs R (reverse xs)
 AllPairs-reverse R xs turn all i j d before lt = search (rules, length-reverse, get_or-reverse)
 
 apart_turned : (g h : Handle) → AreApart g h → AreApart h g
@@ -35,7 +33,21 @@ apart_turned g h apart same = apart (sym same)
 -- ---- from slots to an allocator that nothing is reserved of
 
 pub slots_sound : (r : Roster) → AreSlots r → IsSound (allocator_of r 0 0)
-slots_sound r are = laid_out-sound (allocator_of r 0 0) (reverse r.pending) (record { limits = are.limits; made = are.made; taken = refl; aside = refl; asked = refl; pool = refl; within = All-reverse (IsWithin r.limits) r.pending are.within; below = search (rules, All-reverse); apart = AllPairs-reverse AreApart r.pending apart_turned are.apart; live_within = are.live_within; live_below = are.live_made; live_apart = λ h alive. All-reverse (AreApart h) r.pending (are.live_apart h alive); one_occupant = are.one_occupant })
+slots_sound r are = laid_out-sound (allocator_of r 0 0) (reverse r.pending) (record {
+  limits = are.limits;
+  made = are.made;
+  taken = refl;
+  aside = refl;
+  asked = refl;
+  pool = refl;
+  within = All-reverse (IsWithin r.limits) r.pending are.within;
+  below = search (rules, All-reverse);
+  apart = AllPairs-reverse AreApart r.pending apart_turned are.apart;
+  live_within = are.live_within;
+  live_below = are.live_made;
+  live_apart = λ h alive. All-reverse (AreApart h) r.pending (are.live_apart h alive);
+  one_occupant = are.one_occupant;
+})
 
 -- those that wait and those that live are no more than were made
 pub fewer : (r : Roster) → AreSlots r → sets.len r.live + length r.pending ≤ r.made
@@ -45,8 +57,7 @@ fewer r are =
 
 -- so records and positions that point at each other are linked
 pub linked : (limits : Limits) (records : List SlotRecord) (pending : List ℕ) (live : ℕ)
-    → AreTied limits records pending → live ≡ length (occupants 0 records)
-    → AreLinked limits records pending live
+    → AreTied limits records pending → live ≡ length (occupants 0 records) → AreLinked limits records pending live
 linked limits records pending live tied counted =
     let few = fewer (roster_of limits records pending) (are_slots limits records pending tied) in
     let count = len_occupants 0 records in
@@ -74,7 +85,21 @@ module _ (e : Entities) (has : HasImage e) where
   old = filter (is_old s.made) (available s)
 
   pub roster_slots : AreSlots (roster e)
-  roster_slots = record { limits = has.sound.limits; made = has.sound.made; live_within = λ h alive. (has.sound.live h alive).within; live_made = λ h alive. (has.sound.live h alive).made; live_apart = λ h alive. All-reverse (AreApart h) old (All-filter (is_old s.made) (AreApart h) (available s) (has.sound.live h alive).apart); one_occupant = has.sound.one_occupant; within = search (rules, All-reverse, All-filter); waiting_made = All-reverse (λ h. h.index < s.made) old (old_ones_below s); apart = AllPairs-reverse AreApart old apart_turned (AllPairs-filter AreApart (is_old s.made) (available s) has.sound.apart); rows_of_living = has.rows_of_living; rows = has.rows }
+  roster_slots = record {
+    limits = has.sound.limits;
+    made = has.sound.made;
+    live_within = λ h alive. (has.sound.live h alive).within;
+    live_made = λ h alive. (has.sound.live h alive).made;
+    live_apart = λ h alive. All-reverse (AreApart h) old (All-filter (is_old s.made) (AreApart h) (available s)
+        (has.sound.live h alive).apart);
+    one_occupant = has.sound.one_occupant;
+    within = search (rules, All-reverse, All-filter);
+    waiting_made = All-reverse (λ h. h.index < s.made) old (old_ones_below s);
+    apart = AllPairs-reverse AreApart old apart_turned (AllPairs-filter AreApart (is_old s.made) (available s)
+        has.sound.apart);
+    rows_of_living = has.rows_of_living;
+    rows = has.rows;
+  }
 
   -- what there is to give is what the slots give if nothing is reserved
   pub idle_is : idle (roster e) ≡ available s
@@ -96,10 +121,9 @@ module _ (e : Entities) (has : HasImage e) where
 -- ---- entities of the same slots and requests
 
 pub same_entities : (d e : Entities) → HasImage d → HasImage e → roster d ≡ roster e
-    → d.allocator.asked ≡ e.allocator.asked
-    → length d.allocator.taken ≡ length e.allocator.taken → d ≡ e
-same_entities d e is_d is_e slots asked taken = entities_are d is_d
-    ∙ (λ i. entities_of (slots i) (asked i) (taken i)) ∙ sym (entities_are e is_e)
+    → d.allocator.asked ≡ e.allocator.asked → length d.allocator.taken ≡ length e.allocator.taken → d ≡ e
+same_entities d e is_d is_e slots asked taken = entities_are d is_d ∙ (λ i. entities_of (slots i) (asked i) (taken i))
+    ∙ sym (entities_are e is_e)
 
 -- ---- what reserved entities are
 

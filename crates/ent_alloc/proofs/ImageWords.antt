@@ -1,6 +1,5 @@
 -- The words of an image, and its slots, byte by byte.
-use Rattle.std.proofs.Common.{rules, ◌≡◌, refl, sym, ap, ◌∙◌, ℕ, zero, suc, ◌+◌, ◌*◌, ◌^◌, ◌<◌}
-use Rattle.std.proofs.Common.{List, ◌++◌, length, take, drop, arith}
+use Rattle.std.proofs.Common.{rules, ◌≡◌, refl, sym, ap, ◌∙◌, ℕ, zero, suc, ◌+◌, ◌*◌, ◌^◌, ◌<◌, List, ◌++◌, length, take, drop, arith}
 use Rattle.std.specs.Int.{w32, from_le_bytes}
 use Rattle.std.specs.List.{flat_map, range_with_len}
 use Rattle.std.proofs.lemmas.Nat.{from_le_bytes-to_le_bytes_4}
@@ -8,8 +7,7 @@ use Rattle.std.proofs.lemmas.List.{length-append, take_at, drop_at, drop-drop}
 use Rattle.ent_alloc.specs.Image.{word, slot_bytes, kind_of, number_of}
 use Rattle.ent_alloc.specs.declared.slot_record.SlotRecord.{SlotRecord}
 use Rattle.ent_alloc.specs.declared.slot_record.Occupancy.{Occupancy}
-use Rattle.ent_alloc.specs.declared.slot_record.Occupancy.TheVariants.{Alive, AliveWithRow, Pending}
-use Rattle.ent_alloc.specs.declared.slot_record.Occupancy.TheVariants.{Retired}
+use Rattle.ent_alloc.specs.declared.slot_record.Occupancy.TheVariants.{Alive, AliveWithRow, Pending, Retired}
 
 pub length-word : (n : ℕ) → length (word n) ≡ 4
 unfolding word
@@ -24,8 +22,8 @@ pub same_word : (m n : ℕ) → m < 2 ^ 32 → n < 2 ^ 32 → word m ≡ word n 
 same_word m n hm hn same = sym (from_word m hm) ∙ ap (from_le_bytes w32) same ∙ from_word n hn
 
 -- parts of as many bytes
-pub same_parts : (n : ℕ) (xs ys us vs : List ℕ) → length xs ≡ n → length us ≡ n → xs ++ ys
-    ≡ us ++ vs → (xs ≡ us) × (ys ≡ vs)
+pub same_parts : (n : ℕ) (xs ys us vs : List ℕ) → length xs ≡ n → length us ≡ n → xs ++ ys ≡ us ++ vs
+    → (xs ≡ us) × (ys ≡ vs)
 same_parts n xs ys us vs long_x long_u same = (
   sym (take_at xs ys n long_x) ∙ ap (take n) same ∙ take_at us vs n long_u,
   sym (drop_at xs ys n long_x) ∙ ap (drop n) same ∙ drop_at us vs n long_u,
@@ -82,18 +80,16 @@ same_slot s t hs ht same = search (rules, same_words, kind_below, same_word, sam
 module _ (f : ℕ → List ℕ) (n : ℕ) (long : (i : ℕ) → length (f i) ≡ n) where
   pub length-pieces : (from count : ℕ) → length (flat_map f (range_with_len from count)) ≡ n * count
   length-pieces from zero = omega arith
-  length-pieces from (suc count) =
-      length-append (f from) _ ∙ omega (arith, long from, length-pieces (from + 1) count)
+  length-pieces from (suc count) = length-append (f from) _ ∙ omega (arith, long from, length-pieces (from + 1) count)
 
   -- the piece at a place, and what comes after it
-  pub piece : (from count k : ℕ) → k < count
-      → take n (drop (n * k) (flat_map f (range_with_len from count))) ≡ f (from + k)
+  pub piece : (from count k : ℕ) → k < count → take n (drop (n * k) (flat_map f (range_with_len from count)))
+      ≡ f (from + k)
   piece from zero k lt = absurd (omega arith)
   piece from (suc count) zero lt = search (rules, take_at)
   piece from (suc count) (suc k) lt =
       let more : n * suc k ≡ n + n * k = omega arith in
       let at : from + 1 + k ≡ from + suc k = omega arith in
       let cut = drop_at (f from) (flat_map f (range_with_len (from + 1) count)) n (long from) in
-      rw more (ap (take n) (sym (drop-drop (n * k) n
-      (f from ++ flat_map f (range_with_len (from + 1) count))) ∙ ap (drop (n * k)) cut)
-      ∙ piece (from + 1) count k (omega arith) ∙ ap f at)
+      rw more (ap (take n) (sym (drop-drop (n * k) n (f from ++ flat_map f (range_with_len (from + 1) count)))
+      ∙ ap (drop (n * k)) cut) ∙ piece (from + 1) count k (omega arith) ∙ ap f at)

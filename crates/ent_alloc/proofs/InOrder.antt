@@ -11,11 +11,11 @@ use Rattle.ent_alloc.specs.Slots.{occupants}
 occupants_after : (from index : ℕ) (records : List SlotRecord) → from ≤ index
     → All (λ h. from ≤ h.index) (occupants index records)
 occupants_after from index [] least = λ k d l. absurd (omega (arith, l))
-occupants_after from index (r ∷ records) least =
-    grind (arith, common_steps, occupants_after from (index + 1) records (omega arith))
+occupants_after from index (r ∷ records) least = grind
+    (arith, common_steps, occupants_after from (index + 1) records (omega arith))
 
-pub rising_occupants : (index : ℕ) (records : List SlotRecord)
-    → AllPairs (λ g h. g.index < h.index) (occupants index records)
+pub rising_occupants : (index : ℕ) (records : List SlotRecord) → AllPairs (λ g h. g.index < h.index) (occupants index
+    records)
 rising_occupants index [] = λ i j d l m. absurd (omega (arith, m))
-rising_occupants index (r ∷ records) =
-    search (rules, occupants_after, AllPairs-cons, rising_occupants (index + 1) records)
+rising_occupants index (r ∷ records) = search
+    (rules, occupants_after, AllPairs-cons, rising_occupants (index + 1) records)

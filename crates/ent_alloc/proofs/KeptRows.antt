@@ -1,7 +1,5 @@
 -- The rows that the records keep with their occupants.
-use Rattle.std.proofs.Common.{rules, ◌≡◌, ℕ, ◌+◌, ◌-◌, Bool, cond, ◌&&◌, eqb, leb, List, []}
-use Rattle.std.proofs.Common.{◌∷◌, ◌++◌, get_or, set, refl, suc, zero, replicate, Option}
-use Rattle.std.proofs.Common.{None}
+use Rattle.std.proofs.Common.{rules, ◌≡◌, ℕ, ◌+◌, ◌-◌, Bool, cond, ◌&&◌, eqb, leb, List, [], ◌∷◌, ◌++◌, get_or, set, refl, suc, zero, replicate, Option, None}
 use Rattle.std.specs.Ordering.{eq_by_cmp}
 use Rattle.std.specs.FinMap as maps
 use Rattle.std.proofs.lemmas.Bool.{le-leb}
@@ -24,8 +22,8 @@ row_at records h = row_in (record_at records h.index) h.generation
 -- ---- looking a row up
 
 abbrev row_from : ℕ → List SlotRecord → Handle → Option ℕ
-row_from index records q = cond (leb index q.index)
-    (row_in (get_or records (q.index - index) no_slot) q.generation) None
+row_from index records q = cond (leb index q.index) (row_in (get_or records (q.index - index) no_slot) q.generation)
+    None
 
 abbrev nothing : Option ℕ
 nothing = None
@@ -38,21 +36,19 @@ found : (h q : Handle) (row : Option ℕ) (entries : List (Handle × ℕ))
     (cond (is_some row) row (find handle_cmp q entries)) (find handle_cmp q entries)
 found h q row entries = search rules
 
-row_split : (g : Bool) (row : Option ℕ) → cond g (cond (is_some row) row None) None
-    ≡ cond g row None
+row_split : (g : Bool) (row : Option ℕ) → cond g (cond (is_some row) row None) None ≡ cond g row None
 row_split g row = search rules
 
 row_head : (index : ℕ) (r : SlotRecord) (records : List SlotRecord) (q : Handle)
-    → cond (eqb q.index index && eqb q.generation r.generation) (cond (is_some (row_of r.occupancy))
-    (row_of r.occupancy) (row_from (index + 1) records q)) (row_from (index + 1) records q)
-    ≡ row_from index (r ∷ records) q
+    → cond (eqb q.index index && eqb q.generation r.generation)
+    (cond (is_some (row_of r.occupancy)) (row_of r.occupancy) (row_from (index + 1) records q))
+    (row_from (index + 1) records q) ≡ row_from index (r ∷ records) q
 row_head index r records q = search (rules, tests_of, row_split, eqb_sym)
 
 find-rows_from : (index : ℕ) (records : List SlotRecord) (q : Handle)
     → find handle_cmp q (rows_from index records) ≡ row_from index records q
 find-rows_from index [] q = search (rules, cond-none)
-find-rows_from index (r ∷ records) q =
-    search (rules, found, ties, find-rows_from (index + 1) records, row_head)
+find-rows_from index (r ∷ records) q = search (rules, found, ties, find-rows_from (index + 1) records, row_head)
 
 -- the map of the rows returns with these
 pub get_rows : (records : List SlotRecord) (q : Handle)
@@ -62,13 +58,12 @@ get_rows records q = search (rules, maps.get-from_entries, handle_cmp_total, fin
 -- ---- one record set
 
 -- a record without a row instead of another one leaves the rows
-pub rows_from-set : (from : ℕ) (records : List SlotRecord) (index : ℕ) (r : SlotRecord)
-    → row_of r.occupancy ≡ None → row_of (record_at records index).occupancy ≡ None
-    → rows_from from (set records index r) ≡ rows_from from records
+pub rows_from-set : (from : ℕ) (records : List SlotRecord) (index : ℕ) (r : SlotRecord) → row_of r.occupancy ≡ None
+    → row_of (record_at records index).occupancy ≡ None → rows_from from (set records index r) ≡ rows_from from records
 rows_from-set from [] index r new old = refl
 rows_from-set from (x ∷ records) zero r new old = search (rules)
-rows_from-set from (x ∷ records) (suc index) r new old =
-    search (rules, rows_from-set (from + 1) records index r new old)
+rows_from-set from (x ∷ records) (suc index) r new old = search
+    (rules, rows_from-set (from + 1) records index r new old)
 
 -- ---- records put at the end
 

@@ -1,26 +1,18 @@
 -- Slots that get their next occupants, and slots that are made: the vectors stay linked, and the
 -- roster gains the occupants.
-use Rattle.std.proofs.Common.{rules, ◌≡◌, ℕ, ◌+◌, ◌-◌, ◌<◌, ◌≤◌, List, [], ◌∷◌, ◌++◌, length}
-use Rattle.std.proofs.Common.{get_or, set, take, drop, map, replicate, slice_get, refl, sym, ap}
-use Rattle.std.proofs.Common.{◌∙◌, arith, Some}
+use Rattle.std.proofs.Common.{rules, ◌≡◌, ℕ, ◌+◌, ◌-◌, ◌<◌, ◌≤◌, List, [], ◌∷◌, ◌++◌, length, get_or, set, take, drop, map, replicate, slice_get, refl, sym, ap, ◌∙◌, arith, Some}
 use Rattle.std.specs.FinSet as sets
 use Rattle.std.proofs.lemmas.Bool.{cases_lt}
 use Rattle.std.proofs.lemmas.Option.{slice_get_read}
-use Rattle.std.proofs.lemmas.List.{take_at, drop_at, get_or-map, length-map, get_or-take}
-use Rattle.std.proofs.lemmas.List.{get_or-drop, length-drop, length-append, length-replicate}
-use Rattle.std.proofs.lemmas.List.{length_push, drop-map, take-map, get_or_append_left}
-use Rattle.std.proofs.lemmas.List.{get_or-append_right, get_or-replicate, get_or_push}
+use Rattle.std.proofs.lemmas.List.{take_at, drop_at, get_or-map, length-map, get_or-take, get_or-drop, length-drop, length-append, length-replicate, length_push, drop-map, take-map, get_or_append_left, get_or-append_right, get_or-replicate, get_or_push}
 use Rattle.ent_alloc.specs.Limits.{Limits}
 use Rattle.ent_alloc.specs.Sequential.{fresh}
 use Rattle.ent_alloc.specs.declared.slot_record.SlotRecord.{SlotRecord}
 use Rattle.ent_alloc.specs.declared.slot_record.Occupancy.TheVariants.{Pending}
-use Rattle.ent_alloc.specs.Slots.{occupants, record_at, no_slot, new_record, handle_at, reuse}
-use Rattle.ent_alloc.specs.Slots.{reused, roster_of, AreLinked}
+use Rattle.ent_alloc.specs.Slots.{occupants, record_at, no_slot, new_record, handle_at, reuse, reused, roster_of, AreLinked}
 use Rattle.ent_alloc.proofs.FreshHandles.{length-fresh}
 use Rattle.ent_alloc.proofs.Occupants.{occupants-append, occupants-new, from_list-append}
-use Rattle.ent_alloc.proofs.Reused.{Wait, Alive≢Pending, length-reused, generation-reused}
-use Rattle.ent_alloc.proofs.Reused.{waiting-reused, waited-reused, length-occupants-reused}
-use Rattle.ent_alloc.proofs.Reused.{rows_from-reused, live-reused}
+use Rattle.ent_alloc.proofs.Reused.{Wait, Alive≢Pending, length-reused, generation-reused, waiting-reused, waited-reused, length-occupants-reused, rows_from-reused, live-reused}
 use Rattle.ent_alloc.proofs.ListLaws.{map_alike}
 use Rattle.ent_alloc.proofs.KeptRows.{rows_from-made}
 
@@ -34,29 +26,35 @@ module _ (limits : Limits) (records : List SlotRecord) (pending : List ℕ) (liv
   abbrev alive : List SlotRecord
   alive = reused records (drop from pending)
 
-  same_generation : (index : ℕ) → (record_at alive index).generation
-      ≡ (record_at records index).generation
+  same_generation : (index : ℕ) → (record_at alive index).generation ≡ (record_at records index).generation
   same_generation index = search (rules, generation-reused, Wait-drop)
 
-  position_below : (index position : ℕ) → index < length records → (record_at alive index).occupancy
-      ≡ Pending position → position < from
+  position_below : (index position : ℕ) → index < length records → (record_at alive index).occupancy ≡ Pending position
+      → position < from
   position_below index position made is =
       let still = waited-reused records from (drop from pending) index position Wait-drop is in
       let back = linked.back index position made still.before in
       let apart = still.apart (position - from) in
       search (rules, cases_lt, length-drop, get_or-drop, apart, back)
 
-  pub reuse_keeps_links : AreLinked limits alive (take from pending) (live
-      + (length pending - from))
-  reuse_keeps_links = let as_long : length alive ≡ length records = search (rules, length-reused) in let more = length-occupants-reused records from (drop from pending) Wait-drop in let rest = length-drop from pending in let waits = waiting-reused records from (drop from pending) in let waited = waited-reused records from (drop from pending) in search (rules, same_generation, position_below, get_or-take, waits, waited, Wait-drop)
+  pub reuse_keeps_links : AreLinked limits alive (take from pending) (live + (length pending - from))
+  reuse_keeps_links =
+      let as_long : length alive ≡ length records = search (rules, length-reused) in
+      let more = length-occupants-reused records from (drop from pending) Wait-drop in
+      let rest = length-drop from pending in
+      let waits = waiting-reused records from (drop from pending) in
+      let waited = waited-reused records from (drop from pending) in
+      search (rules, same_generation, position_below, get_or-take, waits, waited, Wait-drop)
 
-  pub roster_of-reuse : roster_of limits alive (take from pending)
-      ≡ record (roster_of limits records pending) {
-        live = sets.union (roster_of limits records pending).live
-            (sets.from_list (drop from (roster_of limits records pending).pending));
-        pending = take from (roster_of limits records pending).pending;
-      }
-  roster_of-reuse = search (rules, live-reused, Wait-drop, drop-map, rows_from-reused, same_generation, take-map, length-reused)
+  pub roster_of-reuse : roster_of limits alive (take from pending) ≡ record (roster_of limits records pending) {
+    live =
+        sets.union (roster_of limits records pending).live (sets.from_list
+        (drop from (roster_of limits records pending).pending));
+    pending = take from
+        (roster_of limits records pending).pending;
+  }
+  roster_of-reuse = search
+      (rules, live-reused, Wait-drop, drop-map, rows_from-reused, same_generation, take-map, length-reused)
 
 -- one slot, which waits last
 module _ (limits : Limits) (records : List SlotRecord) (pending rest : List ℕ) (live index : ℕ)
@@ -79,28 +77,33 @@ module _ (limits : Limits) (records : List SlotRecord) (pending rest : List ℕ)
   pub last_made : index < length records
   last_made = search (rules, long, get_or_push)
 
-  pub reuse_last_keeps_links : AreLinked limits
-      (set records index (reuse (record_at records index))) rest (live + 1)
-  reuse_last_keeps_links = rw (dropped, taken, one_less) at
-      (reuse_keeps_links limits records pending live
-      (length rest) linked within)
+  pub reuse_last_keeps_links : AreLinked limits (set records index (reuse (record_at records index))) rest (live + 1)
+  reuse_last_keeps_links = rw (dropped, taken, one_less) at (reuse_keeps_links limits records pending live (length rest)
+      linked within)
 
-  pub roster_of-reuse_last : roster_of limits (set records index (reuse (record_at records index)))
-      rest ≡ record (roster_of limits records pending) {
+  pub roster_of-reuse_last : roster_of limits (set records index (reuse (record_at records index))) rest
+      ≡ record (roster_of limits records pending) {
         live = sets.union (roster_of limits records pending).live
             (sets.from_list (handle_at records index ∷ []));
-        pending = take (length (roster_of limits records pending).pending - 1)
-            (roster_of limits records pending).pending;
+        pending = take (length (roster_of limits records pending).pending
+            - 1) (roster_of limits records pending).pending;
       }
   roster_of-reuse_last =
-      let at : length (map (handle_at records) pending) - 1 ≡ length rest =
-      omega (arith, long, length-map pending (handle_at records)) in
+      let at : length (map (handle_at records) pending) - 1
+      ≡ length rest = omega (arith, long, length-map pending (handle_at records)) in
       rw at (rw (drop-map (handle_at records) (length rest) pending, dropped, taken) at
       (roster_of-reuse limits records pending live (length rest) linked within))
 
-  pub last_handle : slice_get (map (handle_at records) pending)
-      (length (map (handle_at records) pending) - 1) ≡ Some (handle_at records index)
-  last_handle = let f = handle_at records in let n = length (map f pending) in let more = long in let same = length-map pending f in let at : get_or pending (n - 1) 0 ≡ index = search (rules, get_or_push) in slice_get_read (map f pending) n (n - 1) (f index) refl (omega arith) (sym (get_or-map f pending (n - 1) 0 (f index) (omega arith) ∙ ap f at))
+  pub last_handle : slice_get (map (handle_at records) pending) (length (map (handle_at records) pending) - 1)
+      ≡ Some (handle_at records index)
+  last_handle =
+      let f = handle_at records in
+      let n = length (map f pending) in
+      let more = long in
+      let same = length-map pending f in
+      let at : get_or pending (n - 1) 0 ≡ index = search (rules, get_or_push) in
+      slice_get_read (map f pending) n (n - 1) (f index) refl (omega arith)
+      (sym (get_or-map f pending (n - 1) 0 (f index) (omega arith) ∙ ap f at))
 
 -- ---- making
 
@@ -110,15 +113,11 @@ module _ (limits : Limits) (records : List SlotRecord) (pending : List ℕ) (liv
     abbrev grown : List SlotRecord
     grown = records ++ replicate count new_record
 
-    old_stays : (index : ℕ) → index < length records → record_at grown index
-        ≡ record_at records index
-    old_stays index made =
-        get_or_append_left records (replicate count new_record) no_slot index made
+    old_stays : (index : ℕ) → index < length records → record_at grown index ≡ record_at records index
+    old_stays index made = get_or_append_left records (replicate count new_record) no_slot index made
 
-    new_is : (index : ℕ) → length records ≤ index → index < length grown → record_at grown index
-        ≡ new_record
-    new_is index past within =
-        search (rules, length-append, length-replicate, get_or-append_right, get_or-replicate)
+    new_is : (index : ℕ) → length records ≤ index → index < length grown → record_at grown index ≡ new_record
+    new_is index past within = search (rules, length-append, length-replicate, get_or-append_right, get_or-replicate)
 
     grown_long : length grown ≡ length records + count
     grown_long = search (rules, length-append, length-replicate)
@@ -126,16 +125,16 @@ module _ (limits : Limits) (records : List SlotRecord) (pending : List ℕ) (liv
     pub make_keeps_links : AreLinked limits grown pending (live + count)
     make_keeps_links =
         let long = grown_long in
-        let more : length (occupants 0 grown) ≡ length (occupants 0 records) + count =
-        simp (occupants-append, occupants-new, length-append, length-fresh) in
+        let more : length (occupants 0 grown) ≡ length (occupants 0 records)
+        + count = simp (occupants-append, occupants-new, length-append, length-fresh) in
         search (rules, cases_lt, new_is, Alive≢Pending, old_stays)
 
-    pub roster_of-make : roster_of limits grown pending
-        ≡ record (roster_of limits records pending) {
-          live = sets.union (roster_of limits records pending).live
-              (sets.from_list (fresh (roster_of limits records pending).made count));
-          made = (roster_of limits records pending).made + count;
-        }
+    pub roster_of-make : roster_of limits grown pending ≡ record (roster_of limits records pending) {
+      live = sets.union (roster_of limits records pending).live
+          (sets.from_list (fresh (roster_of limits records pending).made count));
+      made =
+          (roster_of limits records pending).made + count;
+    }
     roster_of-make =
         let long = grown_long in
         let rows = rows_from-made 0 count records in

@@ -1,12 +1,8 @@
 -- Laws of lists: filters that keep all or nothing, parts of joined lists, pairs, and functions that
 -- agree on a list.
-use Rattle.std.proofs.Common.{rules, ◌≡◌, refl, ap, ℕ, zero, suc, ◌+◌, ◌-◌, ◌<◌, Bool, true, false}
-use Rattle.std.proofs.Common.{eqb, List, [], ◌∷◌, ◌++◌, length, get_or, take, drop, filter, All}
-use Rattle.std.proofs.Common.{AllPairs, Contains, arith, cond, ◌==◌, ◌≢◌, swap, IsPermutation, map}
-use Rattle.std.proofs.Common.{leb, ◌⊎◌}
+use Rattle.std.proofs.Common.{rules, ◌≡◌, refl, ap, ℕ, zero, suc, ◌+◌, ◌-◌, ◌<◌, Bool, true, false, eqb, List, [], ◌∷◌, ◌++◌, length, get_or, take, drop, filter, All, AllPairs, Contains, arith, cond, ◌==◌, ◌≢◌, swap, IsPermutation, map, leb, ◌⊎◌}
 use Rattle.std.proofs.lemmas.Grind.{common_steps}
-use Rattle.std.proofs.lemmas.List.{get_or-take, get_or-drop, get_or_append_left, length-append}
-use Rattle.std.proofs.lemmas.List.{length-take, length-drop, get_or_default, get_or-append-add}
+use Rattle.std.proofs.lemmas.List.{get_or-take, get_or-drop, get_or_append_left, length-append, length-take, length-drop, get_or_default, get_or-append-add}
 use Rattle.std.proofs.lemmas.Bool.{cases_lt}
 use Rattle.std.proofs.lemmas.Bool.Decides.{nat_tests}
 use Rattle.std.proofs.lemmas.List.Edits.{Swapped, length-swap, swapped_from_swap}
@@ -40,8 +36,7 @@ pub tests_of : (n index : ℕ) → IsAt n index ⊎ (IsBefore n index ⊎ IsAfte
 tests_of n index = grind (arith, common_steps)
 
 -- a filter that each element passes keeps the list
-pub filter_all : {X : Type 0} (p : X → Bool) (xs : List X) → All (λ x. p x ≡ true) xs → filter p xs
-    ≡ xs
+pub filter_all : {X : Type 0} (p : X → Bool) (xs : List X) → All (λ x. p x ≡ true) xs → filter p xs ≡ xs
 filter_all p [] h = refl
 filter_all p (x ∷ xs) h =
     let here : p x ≡ true = h 0 x (omega arith) in
@@ -49,12 +44,10 @@ filter_all p (x ∷ xs) h =
     rw here (ap (x ∷◌) rest)
 
 -- a filter that none passes leaves nothing
-pub filter_none : {X : Type 0} (p : X → Bool) (xs : List X) → All (λ x. p x ≡ false) xs
-    → filter p xs ≡ []
+pub filter_none : {X : Type 0} (p : X → Bool) (xs : List X) → All (λ x. p x ≡ false) xs → filter p xs ≡ []
 filter_none p [] h = refl
 filter_none p (x ∷ xs) h =
-    let here : p x ≡ false = h 0 x (omega arith) in
-    rw here (filter_none p xs (All-tail (λ x. p x ≡ false) x xs h))
+    let here : p x ≡ false = h 0 x (omega arith) in rw here (filter_none p xs (All-tail (λ x. p x ≡ false) x xs h))
 
 -- nothing is left of nothing
 pub drop-nil : {X : Type 0} (n : ℕ) → drop {A = X} n [] ≡ []
@@ -65,15 +58,13 @@ pub take-nil : {X : Type 0} (n : ℕ) → take {A = X} n [] ≡ []
 take-nil n = search (rules)
 
 -- what is left of two joined lists
-pub drop-append : {X : Type 0} (n : ℕ) (xs ys : List X) → drop n (xs ++ ys) ≡ drop n xs
-    ++ drop (n - length xs) ys
+pub drop-append : {X : Type 0} (n : ℕ) (xs ys : List X) → drop n (xs ++ ys) ≡ drop n xs ++ drop (n - length xs) ys
 drop-append n [] ys = search (rules, drop-nil)
 drop-append zero (x ∷ xs) ys = search rules
 drop-append (suc n) (x ∷ xs) ys = search (rules, drop-append n xs ys)
 
 -- the front of two joined lists
-pub take-append : {X : Type 0} (n : ℕ) (xs ys : List X) → take n (xs ++ ys) ≡ take n xs
-    ++ take (n - length xs) ys
+pub take-append : {X : Type 0} (n : ℕ) (xs ys : List X) → take n (xs ++ ys) ≡ take n xs ++ take (n - length xs) ys
 take-append n [] ys = search (rules, take-nil)
 take-append zero (x ∷ xs) ys = search rules
 take-append (suc n) (x ∷ xs) ys = search (rules, take-append n xs ys)
@@ -115,29 +106,27 @@ module _ {X : Type 0} (R : X → X → Type 0) where
   -- each element of the one list stands before each of the other
   pub AllPairs-across : (xs ys : List X) → AllPairs R (xs ++ ys) → All (λ x. All (R x) ys) xs
   AllPairs-across [] ys h = All-nil (λ x. All (R x) ys)
-  AllPairs-across (x ∷ xs) ys h =
-      All-cons (λ x. All (R x) ys) x xs (All-right (R x) xs ys (AllPairs-head x (xs ++ ys) h))
-      (AllPairs-across xs ys (AllPairs-tail x (xs ++ ys) h))
+  AllPairs-across (x ∷ xs) ys h = All-cons (λ x. All (R x) ys) x xs
+      (All-right (R x) xs ys (AllPairs-head x (xs ++ ys) h)) (AllPairs-across xs ys (AllPairs-tail x (xs ++ ys) h))
 
   -- two lists joined
-  pub AllPairs-append : (xs ys : List X) → AllPairs R xs → AllPairs R ys
-      → All (λ x. All (R x) ys) xs → AllPairs R (xs ++ ys)
+  pub AllPairs-append : (xs ys : List X) → AllPairs R xs → AllPairs R ys → All (λ x. All (R x) ys) xs
+      → AllPairs R (xs ++ ys)
   AllPairs-append [] ys h k across = k
-  AllPairs-append (x ∷ xs) ys h k across =
-      AllPairs-cons R x (xs ++ ys)
+  AllPairs-append (x ∷ xs) ys h k across = AllPairs-cons R x (xs ++ ys)
       (All-append (R x) xs ys (AllPairs-head x xs h) (All-head (λ x. All (R x) ys) x xs across))
       (AllPairs-append xs ys (AllPairs-tail x xs h) k (All-tail (λ x. All (R x) ys) x xs across))
 
   -- two elements at their positions
-  AllPairs-at : (xs : List X) (x y : X) (i j : ℕ) → AllPairs R xs → i < j → j < length xs
-      → get_or xs i x ≡ x → get_or xs j y ≡ y → R x y
+  AllPairs-at : (xs : List X) (x y : X) (i j : ℕ) → AllPairs R xs → i < j → j < length xs → get_or xs i x ≡ x
+      → get_or xs j y ≡ y → R x y
   AllPairs-at xs x y i j h lt within at_i at_j = search (rules, h i j x lt within, get_or_default)
 
   -- of two elements of which neither stands before the other in the relation, one is the other
-  pub same_from_AllPairs : (xs : List X) (x y : X) → AllPairs R xs → Contains xs x → Contains xs y
-      → ¬ (R x y) → ¬ (R y x) → x ≡ y
-  same_from_AllPairs xs x y h in_x in_y not_before not_behind =
-      search (rules, cases_lt in_x.0 in_y.0, cases_lt in_y.0 in_x.0, AllPairs-at, get_or_default)
+  pub same_from_AllPairs : (xs : List X) (x y : X) → AllPairs R xs → Contains xs x → Contains xs y → ¬ (R x y)
+      → ¬ (R y x) → x ≡ y
+  same_from_AllPairs xs x y h in_x in_y not_before not_behind = search
+      (rules, cases_lt in_x.0 in_y.0, cases_lt in_y.0 in_x.0, AllPairs-at, get_or_default)
 
 -- the position from which a swap of two positions brings the element at a position
 swapped_from : ℕ → ℕ → ℕ → ℕ
@@ -157,14 +146,12 @@ swapped_from_apart a b i j apart same = grind (arith, nat_tests)
 get_or-swapped : {X : Type 0} (xs : List X) (a b k : ℕ) (d : X) → a < length xs → b < length xs
     → get_or (swap xs a b) k d ≡ get_or xs (swapped_from a b k) d
 unfolding swapped_from
-get_or-swapped {X} xs a b k d la lb =
-    grind (arith, common_steps, Swapped, swapped_from_swap, nat_tests)
+get_or-swapped {X} xs a b k d la lb = grind (arith, common_steps, Swapped, swapped_from_swap, nat_tests)
 
 module _ {X : Type 0} (R : X → X → Type 0) (both : (x y : X) → R x y → R y x) where
   -- of each two positions
   AtPositions : List X → Type 0
-  AtPositions xs = (i j : ℕ) (d : X) → i ≢ j → i < length xs → j < length xs
-      → R (get_or xs i d) (get_or xs j d)
+  AtPositions xs = (i j : ℕ) (d : X) → i ≢ j → i < length xs → j < length xs → R (get_or xs i d) (get_or xs j d)
 
   -- the earlier of two positions may come second
   positions_from_pairs : (xs : List X) → AllPairs R xs → AtPositions xs
@@ -172,23 +159,20 @@ module _ {X : Type 0} (R : X → X → Type 0) (both : (x y : X) → R x y → R
   positions_from_pairs xs h i j d apart li lj = search (rules, cases_lt i j, both)
 
   -- a swap keeps it
-  swap_keeps : (xs : List X) (a b : ℕ) → a < length xs → b < length xs → AtPositions xs
-      → AtPositions (swap xs a b)
+  swap_keeps : (xs : List X) (a b : ℕ) → a < length xs → b < length xs → AtPositions xs → AtPositions (swap xs a b)
   unfolding AtPositions
-  swap_keeps xs a b la lb h i j d apart li lj =
-      search (rules, get_or-swapped, length-swap, swapped_from_apart, swapped_from_lt)
+  swap_keeps xs a b la lb h i j d apart li lj = search
+      (rules, get_or-swapped, length-swap, swapped_from_apart, swapped_from_lt)
 
   -- the same list in another order has the same pairs, where the relation goes both ways
-  pub AllPairs-IsPermutation : (xs ys : List X) → IsPermutation xs ys → AllPairs R xs
-      → AllPairs R ys
+  pub AllPairs-IsPermutation : (xs ys : List X) → IsPermutation xs ys → AllPairs R xs → AllPairs R ys
   unfolding AtPositions
-  AllPairs-IsPermutation xs ys moved h i j d lt within =
-      IsPermutation-keeps xs AtPositions (positions_from_pairs xs h) (λ l a b la lb k.
-      swap_keeps l a b la lb k) ys moved i j d (omega arith) (omega arith) within
+  AllPairs-IsPermutation xs ys moved h i j d lt within = IsPermutation-keeps xs AtPositions (positions_from_pairs xs h)
+      (λ l a b la lb k. swap_keeps l a b la lb k) ys moved i j d (omega arith) (omega arith) within
 
 -- two functions that agree at each element of a list
-pub map_alike : {X : Type 0} (f g : ℕ → X) (xs : List ℕ)
-    → ((k : ℕ) → k < length xs → f (get_or xs k 0) ≡ g (get_or xs k 0)) → map f xs ≡ map g xs
+pub map_alike : {X : Type 0} (f g : ℕ → X) (xs : List ℕ) → ((k : ℕ) → k < length xs → f (get_or xs k 0) ≡ g
+    (get_or xs k 0)) → map f xs ≡ map g xs
 map_alike f g [] alike = refl
-map_alike f g (x ∷ xs) alike = λ i. alike 0 (omega arith) i
-    ∷ map_alike f g xs (λ k below. alike (suc k) (omega arith)) i
+map_alike f g (x ∷ xs) alike = λ i. alike 0 (omega arith) i ∷ map_alike f g xs (λ k below. alike (suc k) (omega arith))
+    i

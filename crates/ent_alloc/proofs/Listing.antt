@@ -1,6 +1,5 @@
 -- What a reply that borrows the slots lists, one handle after the other.
-use Rattle.std.proofs.Common.{rules, ◌≡◌, ℕ, ◌+◌, ◌-◌, ◌<◌, ◌≤◌, List, [], ◌∷◌, ◌++◌, length, drop}
-use Rattle.std.proofs.Common.{replicate, slice_get, Some, refl, arith, suc, zero, add-zero}
+use Rattle.std.proofs.Common.{rules, ◌≡◌, ℕ, ◌+◌, ◌-◌, ◌<◌, ◌≤◌, List, [], ◌∷◌, ◌++◌, length, drop, replicate, slice_get, Some, refl, arith, suc, zero, add-zero}
 use Rattle.std.proofs.lemmas.Grind.{common_steps}
 use Rattle.std.proofs.lemmas.List.{length-append, drop_more, length-map}
 use Rattle.std.proofs.lemmas.List.Elements.{All-tail}
@@ -19,62 +18,65 @@ pub drop_at : (hs : List Handle) (k : ℕ) (h : Handle) → k < length hs → sl
 drop_at hs k h below at = search (rules, drop_more hs k h below, get_or_from_slice_get hs k h h)
 
 -- the handle that waits at the position comes first
-pub reserved_handles-pending : (r : Roster) (position end index index_end : ℕ) (h : Handle) → end
-    ≤ length r.pending → position < end → slice_get r.pending position ≡ Some h
-    → reserved_handles r position end index index_end ≡ h ∷ reserved_handles r (position + 1) end
-    index index_end
+pub reserved_handles-pending : (r : Roster) (position end index index_end : ℕ) (h : Handle) → end ≤ length r.pending
+    → position < end → slice_get r.pending position ≡ Some h → reserved_handles r position end index index_end ≡ h
+    ∷ reserved_handles r (position + 1) end index index_end
 reserved_handles-pending r position end index index_end h within below at = search (rules, drop_at)
 
 -- else the first fresh one
-pub reserved_handles-fresh : (r : Roster) (position end index index_end : ℕ) → end ≤ position
-    → index < index_end → reserved_handles r position end index index_end
-    ≡ record { index = index; generation = 1 } ∷ reserved_handles r position end (index + 1)
-    index_end
-reserved_handles-fresh r position end index index_end past below =
-    grind (arith, common_steps, fresh-next index (index_end - (index + 1)), r.pending)
+pub reserved_handles-fresh : (r : Roster) (position end index index_end : ℕ) → end ≤ position → index < index_end
+    → reserved_handles r position end index index_end ≡ record { index = index; generation = 1 }
+    ∷ reserved_handles r position end (index + 1) index_end
+reserved_handles-fresh r position end index index_end past below = grind
+    (arith, common_steps, fresh-next index (index_end - (index + 1)), r.pending)
 
 -- else none
-pub reserved_handles-none : (r : Roster) (position end index index_end : ℕ) → end ≤ position
-    → index_end ≤ index → reserved_handles r position end index index_end ≡ []
+pub reserved_handles-none : (r : Roster) (position end index index_end : ℕ) → end ≤ position → index_end ≤ index
+    → reserved_handles r position end index index_end ≡ []
 reserved_handles-none r position end index index_end past passed = search (rules, fresh-none)
 
 -- ---- the same of slices of records and slots
 
 pub length-handles_of : (records : List SlotRecord) (waiting : List ℕ) (index index_end left : ℕ)
-    → AreToList records waiting index index_end left
-    → length (handles_of records waiting index index_end) ≡ left
-length-handles_of records waiting index index_end left range =
-    search (rules, length-append, length-map, length-fresh)
+    → AreToList records waiting index index_end left → length (handles_of records waiting index index_end) ≡ left
+length-handles_of records waiting index index_end left range = search (rules, length-append, length-map, length-fresh)
 
 -- where no slot waits, the first fresh one comes first
-pub handles_of-fresh : (records : List SlotRecord) (waiting : List ℕ) (index index_end : ℕ)
-    → length waiting ≡ 0 → index < index_end → handles_of records waiting index index_end
-    ≡ record { index = index; generation = 1 } ∷ handles_of records waiting (index + 1) index_end
-handles_of-fresh records [] index index_end none below =
-    grind (arith, common_steps, fresh-next index (index_end - (index + 1)))
+pub handles_of-fresh : (records : List SlotRecord) (waiting : List ℕ) (index index_end : ℕ) → length waiting ≡ 0
+    → index < index_end → handles_of records waiting index index_end ≡ record { index = index; generation = 1 }
+    ∷ handles_of records waiting (index + 1) index_end
+handles_of-fresh records [] index index_end none below = grind
+    (arith, common_steps, fresh-next index (index_end - (index + 1)))
 handles_of-fresh records (at ∷ waiting) index index_end none below = absurd (omega arith)
 
 -- else none
-pub handles_of-none : (records : List SlotRecord) (waiting : List ℕ) (index index_end : ℕ)
-    → length waiting ≡ 0 → index_end ≤ index → handles_of records waiting index index_end ≡ []
+pub handles_of-none : (records : List SlotRecord) (waiting : List ℕ) (index index_end : ℕ) → length waiting ≡ 0
+    → index_end ≤ index → handles_of records waiting index index_end ≡ []
 handles_of-none records [] index index_end none passed = search (rules, fresh-none)
 handles_of-none records (at ∷ waiting) index index_end none passed = absurd (omega arith)
 
 -- what is left after the first
 pub rest_to_list : (records : List SlotRecord) (waiting : List ℕ) (index index_end left : ℕ)
-    → AreToList records waiting index index_end left → (at : ℕ) (rest : List ℕ)
-    → waiting ≡ at ∷ rest → AreToList records rest index index_end (left - 1)
-rest_to_list records waiting index index_end left range at rest is = let all : AreToList records (at ∷ rest) index index_end left = search rules in record { made = All-tail (λ x. x < length records) at rest all.made; handles = All-tail (λ x. IsHandle (handle_at records x)) at rest all.handles; indexes = all.indexes; last = all.last; count = let count = all.count in omega arith }
+    → AreToList records waiting index index_end left → (at : ℕ) (rest : List ℕ) → waiting ≡ at ∷ rest
+    → AreToList records rest index index_end (left - 1)
+rest_to_list records waiting index index_end left range at rest is =
+    let all : AreToList records (at ∷ rest) index index_end left = search rules in
+    record {
+      made = All-tail (λ x. x < length records) at rest all.made;
+      handles = All-tail (λ x. IsHandle (handle_at records x)) at rest all.handles;
+      indexes = all.indexes;
+      last = all.last;
+      count = let count = all.count in omega arith;
+    }
 
 -- ---- listing one after the other
 
-pub fresh-push : (index count : ℕ) → fresh index count
-    ++ record { index = index + count; generation = 1 } ∷ [] ≡ fresh index (count + 1)
+pub fresh-push : (index count : ℕ) → fresh index count ++ record { index = index + count; generation = 1 } ∷ []
+    ≡ fresh index (count + 1)
 unfolding fresh
 fresh-push index zero = search (rules, add-zero)
 fresh-push index (suc count) = search (rules, fresh-push (index + 1) count)
 
-pub replicate-push : {X : Type 0} (count : ℕ) (x : X) → replicate count x ++ x ∷ []
-    ≡ replicate (count + 1) x
+pub replicate-push : {X : Type 0} (count : ℕ) (x : X) → replicate count x ++ x ∷ [] ≡ replicate (count + 1) x
 replicate-push zero x = refl
 replicate-push (suc count) x = search (rules, replicate-push count x)

@@ -1,6 +1,5 @@
 -- What the record of a living occupant has.
-use Rattle.std.proofs.Common.{rules, ◌≡◌, ◌<◌, true, List, length, ℕ}
-use Rattle.std.proofs.Common.{arith}
+use Rattle.std.proofs.Common.{rules, ◌≡◌, ◌<◌, true, List, length, ℕ, arith}
 use Rattle.std.proofs.lemmas.Grind.{common_steps}
 use Rattle.std.specs.FinSet as sets
 use Rattle.std.proofs.lemmas.Bool.{and_parts}
@@ -12,14 +11,12 @@ use Rattle.ent_alloc.specs.Slots.{is_alive, record_at, roster_of}
 use Rattle.ent_alloc.proofs.Occupants.{is_occupant, contains_occupants}
 
 -- a handle that lives in the roster is that of an occupant
-pub lives_in : (limits : Limits) (records : List SlotRecord) (pending : List ℕ) (h : Handle)
-    {old : Roster} → roster_of limits records pending ≡ old → sets.contains old.live h ≡ true
-    → is_occupant records h ≡ true
+pub lives_in : (limits : Limits) (records : List SlotRecord) (pending : List ℕ) (h : Handle) {old : Roster}
+    → roster_of limits records pending ≡ old → sets.contains old.live h ≡ true → is_occupant records h ≡ true
 lives_in limits records pending h view lives = search (rules, contains_occupants)
 
 -- its slot was made, and its record is alive with this generation
-pub occupant_made : (records : List SlotRecord) (h : Handle) → is_occupant records h ≡ true
-    → h.index < length records
+pub occupant_made : (records : List SlotRecord) (h : Handle) → is_occupant records h ≡ true → h.index < length records
 occupant_made records h is = grind (arith, common_steps)
 
 pub occupant_alive : (records : List SlotRecord) (h : Handle) → is_occupant records h ≡ true

@@ -1,40 +1,30 @@
 -- What looking a handle up in the records tells of the pending list, of the fresh handles and of
 -- the rows.
 use Rattle.std.proofs.lemmas.Grind.{common_steps}
-use Rattle.std.proofs.Common.{rules, ◌≡◌, ◌≢◌, ℕ, ◌+◌, ◌-◌, ◌<◌, ◌≤◌, Bool, true, false, ◌&&◌, eqb}
-use Rattle.std.proofs.Common.{ltb, List, length, get_or, set, drop, map, refl, arith}
+use Rattle.std.proofs.Common.{rules, ◌≡◌, ◌≢◌, ℕ, ◌+◌, ◌-◌, ◌<◌, ◌≤◌, Bool, true, false, ◌&&◌, eqb, ltb, List, length, get_or, set, drop, map, refl, arith}
 use Rattle.std.specs.List.{Contains}
 use Rattle.std.specs.FinSet as sets
 use Rattle.std.specs.FinMap as maps
-use Rattle.std.proofs.lemmas.Bool.{cases_eq, false≢true, and_parts, and_from, eqb-true, leb-true}
-use Rattle.std.proofs.lemmas.Bool.{ltb-true, eq-eqb, le-leb, lt-ltb, false_from_ne_true}
-use Rattle.std.proofs.lemmas.List.{get_or-drop, get_or-map, length-drop, length-map, length-set}
-use Rattle.std.proofs.lemmas.List.{get_or-set_same, get_or-set_other}
-use Rattle.ent_handle.specs.Handle.{Handle, handle_cmp, handle_cmp_total}
-use Rattle.ent_handle.specs.Handle.{handle_cmp-IsAntisymmetric}
+use Rattle.std.proofs.lemmas.Bool.{cases_eq, false≢true, and_parts, and_from, eqb-true, leb-true, ltb-true, eq-eqb, le-leb, lt-ltb, false_from_ne_true}
+use Rattle.std.proofs.lemmas.List.{get_or-drop, get_or-map, length-drop, length-map, length-set, get_or-set_same, get_or-set_other}
+use Rattle.ent_handle.specs.Handle.{Handle, handle_cmp, handle_cmp_total, handle_cmp-IsAntisymmetric}
 use Rattle.ent_alloc.proofs.ListLaws.{map_alike}
 use Rattle.ent_alloc.specs.Limits.{Limits}
 use Rattle.ent_alloc.specs.Sequential.{fresh, stands_in}
 use Rattle.ent_alloc.specs.declared.slot_record.SlotRecord.{SlotRecord}
 use Rattle.ent_alloc.specs.declared.slot_record.Occupancy.{Occupancy}
-use Rattle.ent_alloc.specs.declared.slot_record.Occupancy.TheVariants.{Alive, AliveWithRow, Pending}
-use Rattle.ent_alloc.specs.declared.slot_record.Occupancy.TheVariants.{Retired}
-use Rattle.ent_alloc.specs.Slots.{occupants, occupancy_of, lives, row_kept, record_at, no_slot}
-use Rattle.ent_alloc.specs.Slots.{handle_at, rows_from, is_pending_from, waits_from, roster_of}
-use Rattle.ent_alloc.specs.Slots.{AreLinked}
+use Rattle.ent_alloc.specs.declared.slot_record.Occupancy.TheVariants.{Alive, AliveWithRow, Pending, Retired}
+use Rattle.ent_alloc.specs.Slots.{occupants, occupancy_of, lives, row_kept, record_at, no_slot, handle_at, rows_from, is_pending_from, waits_from, roster_of, AreLinked}
 use Rattle.ent_alloc.proofs.HandleSets.{Contains-from_stands_in, stands_in-from_Contains}
 use Rattle.ent_alloc.proofs.FreshHandles.{length-fresh, get_or-fresh}
-use Rattle.ent_alloc.proofs.Occupants.{is_occupant, contains_occupants, ties, one}
-use Rattle.ent_alloc.proofs.Occupants.{length-occupants-set}
+use Rattle.ent_alloc.proofs.Occupants.{is_occupant, contains_occupants, ties, one, length-occupants-set}
 use Rattle.ent_alloc.proofs.LivingOccupant.{occupant_made, occupant_alive}
 use Rattle.ent_alloc.proofs.KeptRows.{row_at, get_rows}
 
 -- the handle is the next one of a slot that waits at this position or after it
 abbrev pub waits_at : List SlotRecord → Handle → ℕ → Bool
-waits_at records h from =
-    ltb h.index (length records)
-    && (is_pending_from (record_at records h.index).occupancy from && eqb
-    (record_at records h.index).generation h.generation)
+waits_at records h from = ltb h.index (length records) && (is_pending_from (record_at records h.index).occupancy from
+    && eqb (record_at records h.index).generation h.generation)
 
 -- ---- one look-up tells all of a handle
 
@@ -45,15 +35,14 @@ module _ (records : List SlotRecord) (h : Handle) where
   pub row_at-occupancy : row_at records h ≡ row_kept (occupancy_of records h)
   row_at-occupancy = grind (arith, common_steps)
 
-  pub waits_at-occupancy : (from : ℕ) → waits_at records h from
-      ≡ waits_from (occupancy_of records h) from
+  pub waits_at-occupancy : (from : ℕ) → waits_at records h from ≡ waits_from (occupancy_of records h) from
   waits_at-occupancy from = grind (arith, common_steps)
 
 -- ---- who waits
 
 -- the position that a slot waits at
-waiting_position : (t : Occupancy) (from : ℕ) → is_pending_from t from ≡ true → (position : ℕ)
-    × (t ≡ Pending position) × (from ≤ position)
+waiting_position : (t : Occupancy) (from : ℕ) → is_pending_from t from ≡ true
+    → (position : ℕ) × (t ≡ Pending position) × (from ≤ position)
 waiting_position Alive from is = absurd (false≢true is)
 waiting_position (AliveWithRow row) from is = absurd (false≢true is)
 waiting_position Retired from is = absurd (false≢true is)
@@ -62,8 +51,7 @@ waiting_position (Pending position) from is = (position, refl, leb-true from pos
 module _ (limits : Limits) (records : List SlotRecord) (pending : List ℕ) (live : ℕ)
     (linked : AreLinked limits records pending live) where
   at_position : (from k : ℕ) (d : Handle) → from + k < length pending
-      → get_or (drop from (map (handle_at records) pending)) k d
-      ≡ handle_at records (get_or pending (from + k) 0)
+      → get_or (drop from (map (handle_at records) pending)) k d ≡ handle_at records (get_or pending (from + k) 0)
   at_position from k d within = search (rules, get_or-drop, get_or-map)
 
   long : (from : ℕ) → length (drop from (map (handle_at records) pending)) ≡ length pending - from
@@ -75,40 +63,40 @@ module _ (limits : Limits) (records : List SlotRecord) (pending : List ℕ) (liv
 
   waiting : (h : Handle) (from : ℕ) → waits_at records h from ≡ true
       → Contains (drop from (map (handle_at records) pending)) h
-  waiting h from is = let parts = and_parts (ltb h.index (length records)) _ is in let rest = and_parts (is_pending_from (record_at records h.index).occupancy from) _ parts.1 in let made = ltb-true h.index (length records) parts.0 in let position = waiting_position (record_at records h.index).occupancy from rest.0 in let listed = linked.listed h.index position.0 made position.1 in let back = linked.back h.index position.0 made position.1 in let there : from + (position.0 - from) ≡ position.0 = omega (arith, position.2) in let at = at_position from (position.0 - from) h in let same = eqb-true _ _ rest.1 in search (rules, long)
+  waiting h from is =
+      let parts = and_parts (ltb h.index (length records)) _ is in
+      let rest = and_parts (is_pending_from (record_at records h.index).occupancy from) _ parts.1 in
+      let made = ltb-true h.index (length records) parts.0 in
+      let position = waiting_position (record_at records h.index).occupancy from rest.0 in
+      let listed = linked.listed h.index position.0 made position.1 in
+      let back = linked.back h.index position.0 made position.1 in
+      let there : from + (position.0 - from) ≡ position.0 = omega (arith, position.2) in
+      let at = at_position from (position.0 - from) h in
+      let same = eqb-true _ _ rest.1 in
+      search (rules, long)
 
   -- who waits after a position is told by the record
   pub stands_in-pending : (h : Handle) (from : ℕ) → waits_at records h from
       ≡ stands_in (drop from (map (handle_at records) pending)) h
-  stands_in-pending h from =
-      grind (arith, common_steps, waiting h from, found h from, Contains-from_stands_in)
+  stands_in-pending h from = grind (arith, common_steps, waiting h from, found h from, Contains-from_stands_in)
 
 -- ---- fresh handles
 
-pub fresh_yes : (h : Handle) (made count : ℕ) → h.generation ≡ 1 → made ≤ h.index → h.index - made
-    < count → stands_in (fresh made count) h ≡ true
-fresh_yes h made count first after within =
-    stands_in-from_Contains (fresh made count) h (
-      h.index - made,
-      omega (arith, length-fresh made count),
-      search (rules, get_or-fresh),
-    )
+pub fresh_yes : (h : Handle) (made count : ℕ) → h.generation ≡ 1 → made ≤ h.index → h.index - made < count
+    → stands_in (fresh made count) h ≡ true
+fresh_yes h made count first after within = stands_in-from_Contains (fresh made count) h
+    (h.index - made, omega (arith, length-fresh made count), search (rules, get_or-fresh))
 
-pub fresh_no : (h : Handle) (made count : ℕ) → (h.generation ≡ 1 → made ≤ h.index → h.index - made
-    < count → ⊥) → stands_in (fresh made count) h ≡ false
-fresh_no h made count none =
-    search (rules, false_from_ne_true, Contains-from_stands_in, length-fresh, get_or-fresh)
+pub fresh_no : (h : Handle) (made count : ℕ) → (h.generation ≡ 1 → made ≤ h.index → h.index - made < count → ⊥)
+    → stands_in (fresh made count) h ≡ false
+fresh_no h made count none = search (rules, false_from_ne_true, Contains-from_stands_in, length-fresh, get_or-fresh)
 
 -- ---- rows
 
-module _ (limits : Limits) (records : List SlotRecord) (pending : List ℕ) (live : ℕ) (h : Handle)
-    (row : ℕ) (linked : AreLinked limits records pending live) (lives : is_occupant records h
-    ≡ true) where
+module _ (limits : Limits) (records : List SlotRecord) (pending : List ℕ) (live : ℕ) (h : Handle) (row : ℕ)
+    (linked : AreLinked limits records pending live) (lives : is_occupant records h ≡ true) where
   abbrev labelled : SlotRecord
-  labelled = record {
-    generation = (record_at records h.index).generation;
-    occupancy = AliveWithRow row;
-  }
+  labelled = record { generation = (record_at records h.index).generation; occupancy = AliveWithRow row }
 
   abbrev relabelled : List SlotRecord
   relabelled = set records h.index labelled
@@ -130,23 +118,21 @@ module _ (limits : Limits) (records : List SlotRecord) (pending : List ℕ) (liv
   waited at position is = search (rules, cases_eq, itself, others)
 
   pub set_row_keeps_links : AreLinked limits relabelled pending live
-  set_row_keeps_links =
-      search (rules, length-set, length-occupants-set, slot_made, one, occupant_alive, generations, others)
+  set_row_keeps_links = search
+      (rules, length-set, length-occupants-set, slot_made, one, occupant_alive, generations, others)
 
-  same_live : sets.from_list {R = handle_cmp} (occupants 0 relabelled)
-      ≡ sets.from_list (occupants 0 records)
-  same_live =
-      sets.same_set handle_cmp_total handle_cmp-IsAntisymmetric _ _ (λ q.
-      grind (arith, common_steps, contains_occupants relabelled q, contains_occupants records q))
+  same_live : sets.from_list {R = handle_cmp} (occupants 0 relabelled) ≡ sets.from_list (occupants 0 records)
+  same_live = sets.same_set handle_cmp_total handle_cmp-IsAntisymmetric _ _
+      (λ q. grind (arith, common_steps, contains_occupants relabelled q, contains_occupants records q))
 
   new_rows : maps.from_entries {R = handle_cmp} (rows_from 0 relabelled)
       ≡ maps.insert (maps.from_entries (rows_from 0 records)) h row
-  new_rows = maps.same_map handle_cmp_total handle_cmp-IsAntisymmetric _ _ (λ q.
-      let put =
-      maps.get-insert handle_cmp_total (maps.from_entries (rows_from 0 records)) h row q in
-      grind (arith, common_steps, ties q h, get_rows relabelled q, get_rows records q))
+  new_rows = maps.same_map handle_cmp_total handle_cmp-IsAntisymmetric _ _
+      (λ q. let put = maps.get-insert handle_cmp_total (maps.from_entries (rows_from 0 records)) h row q in grind
+      (arith, common_steps, ties q h, get_rows relabelled q, get_rows records q))
 
-  pub roster_of-set_row : roster_of limits relabelled pending
-      ≡ record (roster_of limits records pending)
-      { rows = maps.insert (roster_of limits records pending).rows h row }
+  pub roster_of-set_row : roster_of limits relabelled pending ≡ record (roster_of limits records pending) {
+    rows =
+        maps.insert (roster_of limits records pending).rows h row;
+  }
   roster_of-set_row = search (rules, map_alike, generations, same_live, new_rows, length-set)

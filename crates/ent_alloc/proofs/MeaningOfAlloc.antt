@@ -1,6 +1,5 @@
 -- What `alloc` and `free` make of the roster is the allocator's step.
-use Rattle.std.proofs.Common.{rules, ◌≡◌, ◌+◌, ◌-◌, ◌<◌, List, [], ◌∷◌, ◌++◌, length, take, reverse}
-use Rattle.std.proofs.Common.{sym, ap, ◌∙◌, arith, suc, slice_get, Some, None, refl}
+use Rattle.std.proofs.Common.{rules, ◌≡◌, ◌+◌, ◌-◌, ◌<◌, List, [], ◌∷◌, ◌++◌, length, take, reverse, sym, ap, ◌∙◌, arith, suc, slice_get, Some, None, refl}
 use Rattle.std.specs.FinSet as sets
 use Rattle.std.specs.FinMap as maps
 use Rattle.std.proofs.lemmas.Bool.{lt-ltb, le-ltb}
@@ -8,8 +7,7 @@ use Rattle.std.proofs.lemmas.List.{take_all, reverse-append, take_more, nil_from
 use Rattle.std.proofs.lemmas.List.Elements.{All-head}
 use Rattle.std.proofs.lemmas.Option.{get_or_from_slice_get, slice_get_within}
 use Rattle.std.proofs.Math.Bool.{or_comm, or-false}
-use Rattle.ent_handle.specs.Handle.{Handle, handle_cmp, handle_cmp_total}
-use Rattle.ent_handle.specs.Handle.{handle_cmp-IsAntisymmetric}
+use Rattle.ent_handle.specs.Handle.{Handle, handle_cmp, handle_cmp_total, handle_cmp-IsAntisymmetric}
 use Rattle.ent_alloc.specs.Roster.{Roster}
 use Rattle.ent_alloc.specs.declared.requests.Requests.{Requests}
 use Rattle.ent_alloc.specs.Sequential.{Allocator, fresh, after_alloc}
@@ -22,26 +20,24 @@ use Rattle.ent_alloc.proofs.Soundness.{after_alloc-sound}
 use Rattle.ent_alloc.proofs.Meaning.{pending_below, length-idle, IsAtRest, StandFor}
 
 -- one handle that comes to life
-pub union_one : (live : sets.FinSet handle_cmp) (h : Handle)
-    → sets.union live (sets.from_list (h ∷ [])) ≡ sets.insert live h
-union_one live h =
-    sets.same_set handle_cmp_total handle_cmp-IsAntisymmetric _ _ (λ q.
-    search (rules, contains-union_list, or_comm, or-false, sets.contains-insert, handle_cmp_total))
+pub union_one : (live : sets.FinSet handle_cmp) (h : Handle) → sets.union live (sets.from_list (h ∷ [])) ≡ sets.insert
+    live h
+union_one live h = sets.same_set handle_cmp_total handle_cmp-IsAntisymmetric _ _
+    (λ q. search (rules, contains-union_list, or_comm, or-false, sets.contains-insert, handle_cmp_total))
 
 -- ---- alloc
 
 -- the last that waits is the first to be given
-last_first : (pending : List Handle) (h : Handle) → 0 < length pending
-    → slice_get pending (length pending - 1) ≡ Some h → reverse pending ≡ h
-    ∷ reverse (take (length pending - 1) pending)
+last_first : (pending : List Handle) (h : Handle) → 0 < length pending → slice_get pending (length pending - 1) ≡ Some h
+    → reverse pending ≡ h ∷ reverse (take (length pending - 1) pending)
 last_first pending h some last =
     let all = take_all (length pending) pending (omega arith) in
     let more = take_more pending (length pending - 1) h (omega arith) in
     search (rules, all, more, get_or_from_slice_get, reverse-append)
 
 pub alloc_old_front : (r : Roster) (h : Handle) → 0 < length r.pending
-    → slice_get r.pending (length r.pending - 1) ≡ Some h → idle r ≡ h
-    ∷ (reverse (take (length r.pending - 1) r.pending) ++ fresh r.made (r.limits.slots - r.made))
+    → slice_get r.pending (length r.pending - 1) ≡ Some h
+    → idle r ≡ h ∷ (reverse (take (length r.pending - 1) r.pending) ++ fresh r.made (r.limits.slots - r.made))
 alloc_old_front r h some last = search (rules, last_first)
 
 -- the roster after the slot that waits last got its next occupant, and after one was made
@@ -52,27 +48,25 @@ reused_roster r h = record r {
 }
 
 abbrev pub made_roster : Roster → Handle → Roster
-made_roster r h =
-    record r { live = sets.union r.live (sets.from_list (h ∷ [])); made = r.made + 1 }
+made_roster r h = record r { live = sets.union r.live (sets.from_list (h ∷ [])); made = r.made + 1 }
 
 pub alloc_old_is : (r : Roster) (h : Handle) → IsSound (allocator_of r 0 0) → 0 < length r.pending
-    → slice_get r.pending (length r.pending - 1) ≡ Some h
-    → allocator_of (reused_roster r h) 0 0 ≡ after_alloc (allocator_of r 0 0) h
+    → slice_get r.pending (length r.pending - 1) ≡ Some h → allocator_of (reused_roster r h) 0 0 ≡ after_alloc
+    (allocator_of r 0 0) h
 alloc_old_is r h sound some last =
     let below : h.index < r.made = search (rules, pending_below r 0 0, last_first, All-head) in
     search (rules, lt-ltb, union_one, alloc_old_front)
 
-pub alloc_fresh_front : (r : Roster) → length r.pending ≡ 0 → r.made < r.limits.slots → idle r
-    ≡ record { index = r.made; generation = 1 } ∷ fresh (r.made + 1) (r.limits.slots - (r.made + 1))
+pub alloc_fresh_front : (r : Roster) → length r.pending ≡ 0 → r.made < r.limits.slots
+    → idle r ≡ record { index = r.made; generation = 1 } ∷ fresh (r.made + 1) (r.limits.slots - (r.made + 1))
 alloc_fresh_front r none room =
     let more : r.limits.slots - r.made ≡ suc (r.limits.slots - (r.made + 1)) = omega arith in
     search (rules, nil_from_length, fresh-next)
 
-pub alloc_fresh_is : (r : Roster) (h : Handle) → length r.pending ≡ 0 → r.made < r.limits.slots → h
-    ≡ record { index = r.made; generation = 1 }
-    → allocator_of (made_roster r h) 0 0 ≡ after_alloc (allocator_of r 0 0) h
-alloc_fresh_is r h none room first =
-    search (rules, le-ltb, union_one, nil_from_length, alloc_fresh_front)
+pub alloc_fresh_is : (r : Roster) (h : Handle) → length r.pending ≡ 0 → r.made < r.limits.slots
+    → h ≡ record { index = r.made; generation = 1 } → allocator_of (made_roster r h) 0 0
+    ≡ after_alloc (allocator_of r 0 0) h
+alloc_fresh_is r h none room first = search (rules, le-ltb, union_one, nil_from_length, alloc_fresh_front)
 
 -- a handle was given, and the vectors now stand for what the allocator is then
 pub record IsGiven (requests : Requests) (s : Allocator) (h : Handle) (new : Roster) : Type 0 where
@@ -89,27 +83,25 @@ module _ (r : Roster) (requests : Requests) (s : Allocator) (rest : IsAtRest r r
 
   -- the first handle of the pool is given, and the slots are left so
   given : (h : Handle) (left : Roster) (others : List Handle) → s.pool ≡ h ∷ others
-      → allocator_of left 0 0 ≡ after_alloc s h → left.rows ≡ r.rows
-      → HasRowsOfLiving (entities_of left 0 0) → (new : Roster) → new ≡ left
-      → IsGiven requests s h new
-  given h left others front is row rows new same =
-      search (rules, after_alloc-sound s h others rest.sound rest.asked front, pool_is)
+      → allocator_of left 0 0 ≡ after_alloc s h → left.rows ≡ r.rows → HasRowsOfLiving (entities_of left 0 0)
+      → (new : Roster) → new ≡ left → IsGiven requests s h new
+  given h left others front is row rows new same = search
+      (rules, after_alloc-sound s h others rest.sound rest.asked front, pool_is)
 
   -- the slot that waits last gets its next occupant
-  pub reused_given : (h : Handle) → slice_get r.pending (length r.pending - 1) ≡ Some h
-      → (new : Roster) → new ≡ reused_roster r h → IsGiven requests s h new
+  pub reused_given : (h : Handle) → slice_get r.pending (length r.pending - 1) ≡ Some h → (new : Roster)
+      → new ≡ reused_roster r h → IsGiven requests s h new
   reused_given h last =
       let within = slice_get_within r.pending (length r.pending - 1) h last in
       let some : 0 < length r.pending = omega arith in
-      given h (reused_roster r h) _ (sym pool_is ∙ alloc_old_front r h some last)
-      (search (rules, alloc_old_is)) refl (rows-joined r.live (h ∷ []) r.rows rest.rows)
+      given h (reused_roster r h) _ (sym pool_is ∙ alloc_old_front r h some last) (search (rules, alloc_old_is)) refl
+      (rows-joined r.live (h ∷ []) r.rows rest.rows)
 
   -- no slot waits, and one is made
   pub made_given : (h : Handle) → length r.pending ≡ 0 → r.made < r.limits.slots
       → h ≡ record { index = r.made; generation = 1 } → (new : Roster) → new ≡ made_roster r h
       → IsGiven requests s h new
-  made_given h none room first =
-      given h (made_roster r h) (fresh (r.made + 1) (r.limits.slots - (r.made + 1)))
+  made_given h none room first = given h (made_roster r h) (fresh (r.made + 1) (r.limits.slots - (r.made + 1)))
       (search (rules, pool_is, alloc_fresh_front)) (search (rules, alloc_fresh_is)) refl
       (rows-joined r.live (h ∷ []) r.rows rest.rows)
 

@@ -1,20 +1,16 @@
 -- A flush of the roster is the allocator's flush.
 use Rattle.std.proofs.lemmas.Grind.{common_steps}
-use Rattle.std.proofs.Common.{rules, ◌≡◌, ℕ, ◌+◌, ◌-◌, ◌<◌, ◌≤◌, ◌||◌, List, ◌++◌, length, take}
-use Rattle.std.proofs.Common.{drop, reverse, filter, ap, ◌∙◌, arith, All}
+use Rattle.std.proofs.Common.{rules, ◌≡◌, ℕ, ◌+◌, ◌-◌, ◌<◌, ◌≤◌, ◌||◌, List, ◌++◌, length, take, drop, reverse, filter, ap, ◌∙◌, arith, All}
 use Rattle.std.specs.FinSet as sets
 use Rattle.std.proofs.lemmas.List.{length-reverse, reverse-reverse}
 use Rattle.std.proofs.lemmas.List.Folds.{list_any-append}
 use Rattle.std.proofs.Math.Bool.{or_comm, or_assoc}
-use Rattle.ent_handle.specs.Handle.{Handle, handle_cmp, handle_cmp_total}
-use Rattle.ent_handle.specs.Handle.{handle_cmp-IsAntisymmetric}
+use Rattle.ent_handle.specs.Handle.{Handle, handle_cmp, handle_cmp_total, handle_cmp-IsAntisymmetric}
 use Rattle.ent_alloc.specs.Roster.{Roster}
-use Rattle.ent_alloc.specs.Sequential.{fresh, is_old, is_fresh, made_at_flush, after_flush, born}
-use Rattle.ent_alloc.specs.Sequential.{stands_in}
+use Rattle.ent_alloc.specs.Sequential.{fresh, is_old, is_fresh, made_at_flush, after_flush, born, stands_in}
 use Rattle.ent_alloc.specs.Sound.{IsSound}
 use Rattle.ent_alloc.specs.Entities.{idle, allocator_of}
-use Rattle.ent_alloc.proofs.FreshHandles.{length-fresh, take_joined, drop_joined, old_of_joined}
-use Rattle.ent_alloc.proofs.FreshHandles.{fresh_of_joined}
+use Rattle.ent_alloc.proofs.FreshHandles.{length-fresh, take_joined, drop_joined, old_of_joined, fresh_of_joined}
 use Rattle.ent_alloc.proofs.HandleSets.{contains-union_list}
 use Rattle.ent_alloc.proofs.Meaning.{drop_rest, pending_below}
 use Rattle.ent_alloc.proofs.Reversed.{drop-reverse, take-reverse, list_any-reverse}
@@ -23,20 +19,19 @@ use Rattle.ent_alloc.proofs.Reversed.{drop-reverse, take-reverse, list_any-rever
 live_after : (live : sets.FinSet handle_cmp) (news olds : List Handle)
     → sets.union (sets.union live (sets.from_list news)) (sets.from_list olds)
     ≡ sets.union live (sets.from_list (reverse olds ++ news))
-live_after live news olds = sets.same_set handle_cmp_total handle_cmp-IsAntisymmetric _ _ (λ q.
-    search (rules, contains-union_list, or_assoc, or_comm, list_any-reverse, list_any-append))
+live_after live news olds = sets.same_set handle_cmp_total handle_cmp-IsAntisymmetric _ _
+    (λ q. search (rules, contains-union_list, or_assoc, or_comm, list_any-reverse, list_any-append))
 
 -- the roster after so many new slots and with so many pending ones kept
 abbrev pub flushed_roster : Roster → ℕ → ℕ → Roster
 flushed_roster r kept news = record r {
-  live = sets.union (sets.union r.live (sets.from_list (fresh r.made news)))
-      (sets.from_list (drop kept r.pending));
+  live = sets.union (sets.union r.live (sets.from_list (fresh r.made news))) (sets.from_list (drop kept r.pending));
   pending = take kept r.pending;
   made = r.made + news;
 }
 
-module _ (r : Roster) (asked given : ℕ) (within : given ≤ asked) (enough : given ≤ length r.pending
-    + (r.limits.slots - r.made)) (sound : IsSound (allocator_of r asked given)) where
+module _ (r : Roster) (asked given : ℕ) (within : given ≤ asked)
+    (enough : given ≤ length r.pending + (r.limits.slots - r.made)) (sound : IsSound (allocator_of r asked given)) where
   abbrev pub kept : ℕ
   kept = length r.pending - given
 
@@ -63,14 +58,13 @@ module _ (r : Roster) (asked given : ℕ) (within : given ≤ asked) (enough : g
   made_at_flush_is = ap length taken_fresh ∙ length-fresh r.made news
 
   -- who is reserved
-  pub stands_in_taken : (h : Handle)
-      → (stands_in (drop kept r.pending) h || stands_in (fresh r.made news) h)
+  pub stands_in_taken : (h : Handle) → (stands_in (drop kept r.pending) h || stands_in (fresh r.made news) h)
       ≡ stands_in (take given (idle r)) h
   stands_in_taken h = search (rules, list_any-reverse, list_any-append, taken_is)
 
   pub born_is_listed : born (allocator_of r asked given) ≡ fresh r.made news ++ drop kept r.pending
   born_is_listed = search (rules, taken_fresh, taken_old, reverse-reverse)
 
-  pub flush_is : allocator_of (flushed_roster r kept news) 0 0 ≡ after_flush
-      (allocator_of r asked given)
-  flush_is = search (rules, live_after, taken_is, made_at_flush_is, drop-reverse, length-reverse, drop_joined, waits_below, drop_rest)
+  pub flush_is : allocator_of (flushed_roster r kept news) 0 0 ≡ after_flush (allocator_of r asked given)
+  flush_is = search
+      (rules, live_after, taken_is, made_at_flush_is, drop-reverse, length-reverse, drop_joined, waits_below, drop_rest)

@@ -1,7 +1,5 @@
 -- What the set of occupants holds, and how many they are.
-use Rattle.std.proofs.Common.{rules, ◌≡◌, ℕ, ◌+◌, ◌-◌, ◌<◌, Bool, false, cond, ◌&&◌, ◌||◌, eqb, leb}
-use Rattle.std.proofs.Common.{List, [], ◌∷◌, ◌++◌, length, get_or, set, refl, ap, arith, suc, zero}
-use Rattle.std.proofs.Common.{replicate}
+use Rattle.std.proofs.Common.{rules, ◌≡◌, ℕ, ◌+◌, ◌-◌, ◌<◌, Bool, false, cond, ◌&&◌, ◌||◌, eqb, leb, List, [], ◌∷◌, ◌++◌, length, get_or, set, refl, ap, arith, suc, zero, replicate}
 use Rattle.std.proofs.lemmas.Grind.{common_steps}
 use Rattle.std.specs.List.{list_any}
 use Rattle.std.specs.Ordering.{eq_by_cmp}
@@ -9,8 +7,7 @@ use Rattle.std.specs.FinSet as sets
 use Rattle.std.proofs.lemmas.Bool.{le-leb}
 use Rattle.std.proofs.Math.Bool.{and-false}
 use Rattle.std.proofs.lemmas.List.Folds.{list_any-append}
-use Rattle.ent_handle.specs.Handle.{Handle, handle_cmp, handle_cmp_total}
-use Rattle.ent_handle.specs.Handle.{handle_cmp-IsAntisymmetric}
+use Rattle.ent_handle.specs.Handle.{Handle, handle_cmp, handle_cmp_total, handle_cmp-IsAntisymmetric}
 use Rattle.ent_alloc.proofs.ListLaws.{tests_of}
 use Rattle.ent_alloc.specs.declared.slot_record.SlotRecord.{SlotRecord}
 use Rattle.ent_alloc.specs.Slots.{occupants, record_at, no_slot, is_alive, new_record}
@@ -27,56 +24,48 @@ abbrev pub is_occupant : List SlotRecord → Handle → Bool
 is_occupant records h = has_occupant (record_at records h.index) h.generation
 
 -- two handles tie where both numbers are equal
-pub ties : (a b : Handle) → eq_by_cmp handle_cmp a b
-    ≡ (eqb a.index b.index && eqb a.generation b.generation)
+pub ties : (a b : Handle) → eq_by_cmp handle_cmp a b ≡ (eqb a.index b.index && eqb a.generation b.generation)
 ties a b = grind (arith, common_steps)
 
 -- what stands in the list of the occupants from an index on
 abbrev at_from : ℕ → List SlotRecord → Handle → Bool
-at_from index records q = leb index q.index && has_occupant
-    (get_or records (q.index - index) no_slot) q.generation
+at_from index records q = leb index q.index && has_occupant (get_or records (q.index - index) no_slot) q.generation
 
 at_head : (index : ℕ) (r : SlotRecord) (records : List SlotRecord) (q : Handle)
-    → ((is_alive r.occupancy && (eqb q.index index && eqb q.generation r.generation)) || at_from
-    (index + 1) records q) ≡ at_from index (r ∷ records) q
+    → ((is_alive r.occupancy && (eqb q.index index && eqb q.generation r.generation)) || at_from (index + 1) records q)
+    ≡ at_from index (r ∷ records) q
 at_head index r records q = grind (arith, common_steps, tests_of q.index index)
 
 list_any-occupants : (index : ℕ) (records : List SlotRecord) (q : Handle)
     → list_any (eq_by_cmp handle_cmp q) (occupants index records) ≡ at_from index records q
 list_any-occupants index [] q = search (rules, and-false)
-list_any-occupants index (r ∷ records) q =
-    search (rules, ties, list_any-occupants (index + 1) records, at_head)
+list_any-occupants index (r ∷ records) q = search (rules, ties, list_any-occupants (index + 1) records, at_head)
 
 -- the set of the occupants holds just these
-pub contains_occupants : (records : List SlotRecord) (q : Handle) → sets.contains {R = handle_cmp}
-    (sets.from_list (occupants 0 records)) q ≡ is_occupant records q
-contains_occupants records q =
-    search (rules, sets.contains-from_list, handle_cmp_total, list_any-occupants, le-leb)
+pub contains_occupants : (records : List SlotRecord) (q : Handle) → sets.contains {R = handle_cmp} (sets.from_list
+    (occupants 0 records)) q ≡ is_occupant records q
+contains_occupants records q = search (rules, sets.contains-from_list, handle_cmp_total, list_any-occupants, le-leb)
 
-absent_below : (index : ℕ) (records : List SlotRecord) (generation : ℕ)
-    → sets.contains {R = handle_cmp} (sets.from_list (occupants (index + 1) records))
-    (record { index = index; generation = generation }) ≡ false
-absent_below index records generation =
-    search (rules, sets.contains-from_list, handle_cmp_total, list_any-occupants)
+absent_below : (index : ℕ) (records : List SlotRecord) (generation : ℕ) → sets.contains {R = handle_cmp} (sets.from_list
+    (occupants (index + 1) records)) (record { index = index; generation = generation }) ≡ false
+absent_below index records generation = search (rules, sets.contains-from_list, handle_cmp_total, list_any-occupants)
 
 -- and no occupant twice, so it has as many as the list
 pub len_occupants : (index : ℕ) (records : List SlotRecord)
-    → sets.len {R = handle_cmp} (sets.from_list (occupants index records))
-    ≡ length (occupants index records)
+    → sets.len {R = handle_cmp} (sets.from_list (occupants index records)) ≡ length (occupants index records)
 len_occupants index [] = sets.len-empty handle_cmp
 len_occupants index (r ∷ records) =
     let h : Handle = record { index = index; generation = r.generation } in
-    let long =
-    sets.len-insert handle_cmp_total (sets.from_list (occupants (index + 1) records)) h in
+    let long = sets.len-insert handle_cmp_total (sets.from_list (occupants (index + 1) records)) h in
     let none = absent_below index records r.generation in
     grind (arith, common_steps, none, len_occupants (index + 1) records)
 
 -- ---- one record set
 
 -- so does the set
-pub is_occupant-set : (records : List SlotRecord) (index : ℕ) (r : SlotRecord) (q : Handle) → index
-    < length records → is_occupant (set records index r) q
-    ≡ cond (eqb q.index index) (has_occupant r q.generation) (is_occupant records q)
+pub is_occupant-set : (records : List SlotRecord) (index : ℕ) (r : SlotRecord) (q : Handle) → index < length records
+    → is_occupant (set records index r) q ≡ cond (eqb q.index index) (has_occupant r q.generation)
+    (is_occupant records q)
 is_occupant-set records index r q = search rules
 
 -- a test as a number
@@ -84,33 +73,28 @@ abbrev pub one : Bool → ℕ
 one b = cond b 1 0
 
 -- how many occupants there are after one record is set
-pub length-occupants-set : (from : ℕ) (records : List SlotRecord) (index : ℕ) (r : SlotRecord)
-    → index < length records → length (occupants from (set records index r))
-    + one (is_alive (record_at records index).occupancy) ≡ length (occupants from records)
-    + one (is_alive r.occupancy)
+pub length-occupants-set : (from : ℕ) (records : List SlotRecord) (index : ℕ) (r : SlotRecord) → index < length records
+    → length (occupants from (set records index r)) + one (is_alive (record_at records index).occupancy)
+    ≡ length (occupants from records) + one (is_alive r.occupancy)
 length-occupants-set from [] index r within = absurd (omega arith)
 length-occupants-set from (x ∷ records) zero r within = grind (arith, common_steps)
-length-occupants-set from (x ∷ records) (suc index) r within =
-    grind (arith, common_steps, length-occupants-set (from + 1) records index r)
+length-occupants-set from (x ∷ records) (suc index) r within = grind
+    (arith, common_steps, length-occupants-set (from + 1) records index r)
 
 -- ---- records put at the end
 
 -- the set of two lists is the union of theirs
 pub from_list-append : (xs ys : List Handle) → sets.from_list {R = handle_cmp} (xs ++ ys)
     ≡ sets.union (sets.from_list xs) (sets.from_list ys)
-from_list-append xs ys =
-    sets.same_set handle_cmp_total handle_cmp-IsAntisymmetric _ _ (λ q.
-    search (rules, sets.contains-from_list, handle_cmp_total, list_any-append, sets.contains-union))
+from_list-append xs ys = sets.same_set handle_cmp_total handle_cmp-IsAntisymmetric _ _
+    (λ q. search (rules, sets.contains-from_list, handle_cmp_total, list_any-append, sets.contains-union))
 
-pub occupants-append : (from : ℕ) (records more : List SlotRecord)
-    → occupants from (records ++ more) ≡ occupants from records ++ occupants (from + length records)
-    more
+pub occupants-append : (from : ℕ) (records more : List SlotRecord) → occupants from (records ++ more) ≡ occupants from
+    records ++ occupants (from + length records) more
 occupants-append from [] more = ap (λ n. occupants n more) (omega arith)
-occupants-append from (r ∷ records) more =
-    grind (arith, common_steps, occupants-append (from + 1) records more)
+occupants-append from (r ∷ records) more = grind (arith, common_steps, occupants-append (from + 1) records more)
 
-pub occupants-new : (from count : ℕ) → occupants from (replicate count new_record)
-    ≡ fresh from count
+pub occupants-new : (from count : ℕ) → occupants from (replicate count new_record) ≡ fresh from count
 unfolding fresh
 occupants-new from zero = refl
 occupants-new from (suc count) = ap (λ rest. record { index = from; generation = 1 } ∷ rest)

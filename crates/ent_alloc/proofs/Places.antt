@@ -1,9 +1,7 @@
 -- Where a handle stands among those that there were to give at the last flush.
-use Rattle.std.proofs.Common.{rules, ◌≡◌, ℕ, ◌+◌, ◌-◌, ◌<◌, ◌≤◌, true, false, ◌||◌, List, length}
-use Rattle.std.proofs.Common.{get_or, drop, arith, slice_get, Some}
+use Rattle.std.proofs.Common.{rules, ◌≡◌, ℕ, ◌+◌, ◌-◌, ◌<◌, ◌≤◌, true, false, ◌||◌, List, length, get_or, drop, arith, slice_get, Some}
 use Rattle.std.proofs.lemmas.Grind.{common_steps}
-use Rattle.std.proofs.lemmas.List.{get_or-append-add, get_or_append_left, length-reverse}
-use Rattle.std.proofs.lemmas.List.{get_or-reverse}
+use Rattle.std.proofs.lemmas.List.{get_or-append-add, get_or_append_left, length-reverse, get_or-reverse}
 use Rattle.std.proofs.lemmas.List.Folds.{list_any-append}
 use Rattle.std.proofs.lemmas.Option.{slice_get-get_or}
 use Rattle.ent_handle.specs.Handle.{Handle}
@@ -21,8 +19,8 @@ pub available_view : (r : Roster) (asked given : ℕ) (s : Allocator) → AreRes
 available_view r asked given s reserved view = search (rules, available_is)
 
 -- it waits in the pending list, or it is a fresh one
-pub stands_idle : (r : Roster) (h : Handle) → stands_in (idle r) h ≡ (stands_in r.pending h
-    || stands_in (fresh r.made (r.limits.slots - r.made)) h)
+pub stands_idle : (r : Roster) (h : Handle) → stands_in (idle r) h
+    ≡ (stands_in r.pending h || stands_in (fresh r.made (r.limits.slots - r.made)) h)
 stands_idle r h = search (rules, list_any-append, list_any-reverse)
 
 -- who waits from a position on, and not from the next one on, waits there
@@ -31,8 +29,8 @@ pub waits_here : (hs : List Handle) (h : Handle) (n : ℕ) → stands_in (drop n
 waits_here hs h n from later = grind (arith, common_steps)
 
 -- a handle that waits at a position stands as far from the other end
-pub waiting_place : (r : Roster) (h : Handle) (n : ℕ) → n < length r.pending
-    → get_or r.pending n h ≡ h → slice_get (idle r) (length r.pending - 1 - n) ≡ Some h
+pub waiting_place : (r : Roster) (h : Handle) (n : ℕ) → n < length r.pending → get_or r.pending n h ≡ h
+    → slice_get (idle r) (length r.pending - 1 - n) ≡ Some h
 waiting_place r h n within is =
     let place = length r.pending - 1 - n in
     let long = length-reverse r.pending in
@@ -41,17 +39,15 @@ waiting_place r h n within is =
     search (rules, slice_get-get_or, get_or_append_left, get_or-reverse)
 
 -- a fresh one stands after all that wait
-pub fresh_place : (r : Roster) (h : Handle)
-    → stands_in (fresh r.made (r.limits.slots - r.made)) h ≡ true
+pub fresh_place : (r : Roster) (h : Handle) → stands_in (fresh r.made (r.limits.slots - r.made)) h ≡ true
     → (r.made ≤ h.index) × (slice_get (idle r) (length r.pending + (h.index - r.made)) ≡ Some h)
-fresh_place r h stands =
-    search (
-      rules,
-      Contains-from_stands_in,
-      length-fresh,
-      get_or-fresh,
-      length-reverse,
-      length-idle,
-      slice_get-get_or,
-      get_or-append-add,
-    )
+fresh_place r h stands = search (
+  rules,
+  Contains-from_stands_in,
+  length-fresh,
+  get_or-fresh,
+  length-reverse,
+  length-idle,
+  slice_get-get_or,
+  get_or-append-add,
+)

@@ -1,16 +1,13 @@
 -- What requests take off the pool, whether they are served or not. It depends on their sum alone,
 -- so a reply depends on the cursor alone, and can be computed later.
-use Rattle.std.proofs.Common.{rules, ◌≡◌, refl, sym, ap, ◌∙◌, ℕ, ◌+◌, ◌≤◌, ℤ, pos, negsuc, ◌-ℤ◌}
-use Rattle.std.proofs.Common.{List, [], ◌∷◌, ◌++◌, length, take, drop, sum, Ok}
-use Rattle.std.proofs.Common.{le-leb, arith, append-nil}
+use Rattle.std.proofs.Common.{rules, ◌≡◌, refl, sym, ap, ◌∙◌, ℕ, ◌+◌, ◌≤◌, ℤ, pos, negsuc, ◌-ℤ◌, List, [], ◌∷◌, ◌++◌, length, take, drop, sum, Ok, le-leb, arith, append-nil}
 use Rattle.std.proofs.lemmas.Grind.{common_steps}
 use Rattle.std.proofs.lemmas.Bool.{cases_lt}
 use Rattle.std.proofs.lemmas.Int.{ints}
 use Rattle.std.proofs.lemmas.List.{take_all, drop_all, length-append}
 use Rattle.std.proofs.lemmas.List.Sums.{sum_by-cons}
 use Rattle.std.proofs.Math.Seq.{take-append_seam, drop-append_seam}
-use Rattle.ent_alloc.specs.Sequential.{Allocator, available, top, cursor, after_take, asked_at}
-use Rattle.ent_alloc.specs.Sequential.{pool_at, reply_from, reply_to}
+use Rattle.ent_alloc.specs.Sequential.{Allocator, available, top, cursor, after_take, asked_at, pool_at, reply_from, reply_to}
 use Rattle.ent_alloc.specs.Sound.{IsSound}
 use Rattle.ent_alloc.proofs.Taken.{available-after_take, length-pool}
 use Rattle.ent_alloc.proofs.Soundness.{after_take-sound}
@@ -29,15 +26,13 @@ pub pool_at-cursor : (s : Allocator) → IsSound s → pool_at s (cursor s) ≡ 
 pool_at-cursor s h = search (rules, asked_at-cursor)
 
 -- and the reply to any request
-pub reply-cursor : (s : Allocator) (n : ℕ) → IsSound s → reply_from s.made (pool_at s (cursor s)) n
-    ≡ reply_to s n
+pub reply-cursor : (s : Allocator) (n : ℕ) → IsSound s → reply_from s.made (pool_at s (cursor s)) n ≡ reply_to s n
 reply-cursor s n h = ap (λ pool. reply_from s.made pool n) (pool_at-cursor s h)
 
 -- what a served request and a refused one both leave
 after_take-either : {A : Type 0} (f : Allocator → A) (x : A) (s : Allocator) (n : ℕ)
-    → f (record s { taken = s.taken ++ take n s.pool; pool = drop n s.pool; asked = s.asked + n })
-    ≡ x → f (record s { aside = s.aside ++ s.pool; pool = []; asked = s.asked + n }) ≡ x
-    → f (after_take s n) ≡ x
+    → f (record s { taken = s.taken ++ take n s.pool; pool = drop n s.pool; asked = s.asked + n }) ≡ x
+    → f (record s { aside = s.aside ++ s.pool; pool = []; asked = s.asked + n }) ≡ x → f (after_take s n) ≡ x
 after_take-either f x s n served refused = grind (arith, common_steps)
 
 -- a request leaves the limits as they are
@@ -61,8 +56,7 @@ pub top-after_take : (s : Allocator) (n : ℕ) → IsSound s → top (after_take
 top-after_take s n h = search (rules, made-after_take, available-after_take)
 
 -- the cursor falls by the request
-pub cursor-after_take : (s : Allocator) (n : ℕ) → IsSound s → cursor (after_take s n)
-    ≡ cursor s -ℤ pos n
+pub cursor-after_take : (s : Allocator) (n : ℕ) → IsSound s → cursor (after_take s n) ≡ cursor s -ℤ pos n
 cursor-after_take s n h = search (rules, top-after_take, asked-after_take)
 
 -- the allocator after each request in turn
@@ -71,30 +65,25 @@ after_takes s [] = s
 after_takes s (n ∷ requests) = after_takes (after_take s n) requests
 
 -- they keep the allocator sound
-pub after_takes-sound : (s : Allocator) (requests : List ℕ) → IsSound s
-    → IsSound (after_takes s requests)
+pub after_takes-sound : (s : Allocator) (requests : List ℕ) → IsSound s → IsSound (after_takes s requests)
 after_takes-sound s [] h = h
-after_takes-sound s (n ∷ requests) h = after_takes-sound (after_take s n) requests
-    (after_take-sound s n h)
+after_takes-sound s (n ∷ requests) h = after_takes-sound (after_take s n) requests (after_take-sound s n h)
 
 -- what there was to give stays
 pub available-after_takes : (s : Allocator) (requests : List ℕ) → IsSound s
     → available (after_takes s requests) ≡ available s
 available-after_takes s [] h = refl
-available-after_takes s (n ∷ requests) h = available-after_takes (after_take s n) requests
-    (after_take-sound s n h) ∙ available-after_take s n h
+available-after_takes s (n ∷ requests) h = available-after_takes (after_take s n) requests (after_take-sound s n h)
+    ∙ available-after_take s n h
 
 -- what each request leaves, all leave
-after_takes-leave : {A : Type 0} (f : Allocator → A)
-    → ((s : Allocator) (n : ℕ) → f (after_take s n) ≡ f s) → (s : Allocator) (requests : List ℕ)
-    → f (after_takes s requests) ≡ f s
+after_takes-leave : {A : Type 0} (f : Allocator → A) → ((s : Allocator) (n : ℕ) → f (after_take s n) ≡ f s)
+    → (s : Allocator) (requests : List ℕ) → f (after_takes s requests) ≡ f s
 after_takes-leave f each s [] = refl
-after_takes-leave f each s (n ∷ requests) =
-    search (rules, after_takes-leave f each (after_take s n) requests)
+after_takes-leave f each s (n ∷ requests) = search (rules, after_takes-leave f each (after_take s n) requests)
 
 -- the limits stay
-pub limits-after_takes : (s : Allocator) (requests : List ℕ) → (after_takes s requests).limits
-    ≡ s.limits
+pub limits-after_takes : (s : Allocator) (requests : List ℕ) → (after_takes s requests).limits ≡ s.limits
 limits-after_takes = after_takes-leave (λ t. t.limits) limits-after_take
 
 -- who is alive stays
@@ -106,18 +95,16 @@ pub made-after_takes : (s : Allocator) (requests : List ℕ) → (after_takes s 
 made-after_takes = after_takes-leave (λ t. t.made) made-after_take
 
 -- all requests are added
-pub asked-after_takes : (s : Allocator) (requests : List ℕ) → (after_takes s requests).asked
-    ≡ s.asked + sum requests
+pub asked-after_takes : (s : Allocator) (requests : List ℕ) → (after_takes s requests).asked ≡ s.asked + sum requests
 asked-after_takes s [] = omega arith
 asked-after_takes s (n ∷ requests) = let rest = asked-after_takes (after_take s n) requests in
     omega (arith, asked-after_take s n, sum_by-cons (λ x. x) n requests)
 
 -- how many old handles there were stays
-pub top-after_takes : (s : Allocator) (requests : List ℕ) → IsSound s → top (after_takes s requests)
-    ≡ top s
+pub top-after_takes : (s : Allocator) (requests : List ℕ) → IsSound s → top (after_takes s requests) ≡ top s
 top-after_takes s [] h = refl
-top-after_takes s (n ∷ requests) h = top-after_takes (after_take s n) requests
-    (after_take-sound s n h) ∙ top-after_take s n h
+top-after_takes s (n ∷ requests) h = top-after_takes (after_take s n) requests (after_take-sound s n h)
+    ∙ top-after_take s n h
 
 -- the cursor falls by the sum of the requests
 pub cursor-after_takes : (s : Allocator) (requests : List ℕ) → IsSound s
@@ -131,8 +118,7 @@ pool_at-later s requests h = search (rules, top-after_takes, available-after_tak
 
 -- and so the reply
 pub reply-later : (s : Allocator) (requests : List ℕ) (n : ℕ) → IsSound s
-    → reply_from (after_takes s requests).made (pool_at (after_takes s requests) (cursor s)) n
-    ≡ reply_to s n
+    → reply_from (after_takes s requests).made (pool_at (after_takes s requests) (cursor s)) n ≡ reply_to s n
 reply-later s requests n h = search (rules, made-after_takes, pool_at-later)
 
 -- a request for nothing changes nothing
@@ -144,8 +130,7 @@ pub reply-none : (s : Allocator) → reply_to s 0 ≡ Ok []
 reply-none s = search (rules, le-leb)
 
 -- where there was enough, all that was asked for is taken
-pub length-taken : (s : Allocator) → IsSound s → s.asked ≤ length (available s) → length s.taken
-    ≡ s.asked
+pub length-taken : (s : Allocator) → IsSound s → s.asked ≤ length (available s) → length s.taken ≡ s.asked
 length-taken s h enough = search (rules, length-pool, length-append)
 
 -- all lists, by two numbers: how many are taken, and how many were asked for
@@ -153,7 +138,6 @@ pub taken_is : (s : Allocator) → s.taken ≡ take (length s.taken) (available 
 taken_is s = sym (take-append_seam s.taken (s.aside ++ s.pool))
 
 -- what was passed over stands after it
-pub aside_is : (s : Allocator) → IsSound s → s.aside
-    ≡ drop (length s.taken) (take s.asked (available s))
-aside_is s h =
-    search (rules, cases_lt, drop_all, take_all, drop-append_seam, append-nil, length-taken, take-append_seam)
+pub aside_is : (s : Allocator) → IsSound s → s.aside ≡ drop (length s.taken) (take s.asked (available s))
+aside_is s h = search
+    (rules, cases_lt, drop_all, take_all, drop-append_seam, append-nil, length-taken, take-append_seam)

@@ -1,23 +1,14 @@
 -- Portions of a list: where what was used of them ends, and what is left.
-use Rattle.std.proofs.Common.{rules}
-use Rattle.std.proofs.Common.{◌≡◌, ◌⊎◌, inl, inr, refl, sym, ap, ◌∙◌, subst, ℕ, zero, suc, ◌+◌, ◌-◌}
-use Rattle.std.proofs.Common.{◌<◌, ◌≤◌, List, [], ◌∷◌, ◌++◌, length, take, drop, get_or, map, arith}
-use Rattle.std.proofs.Common.{IsPermutation, append_assoc}
+use Rattle.std.proofs.Common.{rules, ◌≡◌, ◌⊎◌, inl, inr, refl, sym, ap, ◌∙◌, subst, ℕ, zero, suc, ◌+◌, ◌-◌, ◌<◌, ◌≤◌, List, [], ◌∷◌, ◌++◌, length, take, drop, get_or, map, arith, IsPermutation, append_assoc}
 use Rattle.std.proofs.lemmas.Grind.{common_steps}
-use Rattle.std.proofs.Math.Seq.{take-add}
-use Rattle.std.proofs.lemmas.List.{take-append-drop, length-append, length-drop, drop-drop}
-use Rattle.std.proofs.lemmas.List.{length-take-le, append-nil, drop-append-le}
-use Rattle.std.proofs.Math.Seq.{take-append-add, drop-append-add}
+use Rattle.std.proofs.Math.Seq.{take-add, take-append-add, drop-append-add}
+use Rattle.std.proofs.lemmas.List.{take-append-drop, length-append, length-drop, drop-drop, length-take-le, append-nil, drop-append-le, drop_more, take_more, get_or-drop, take-append-le, drop-take, get_or_default}
 use Rattle.std.proofs.lemmas.List.Elements.{All-tail}
-use Rattle.std.proofs.lemmas.List.{drop_more, take_more, get_or-drop, take-append-le, drop-take}
-use Rattle.std.proofs.lemmas.List.{get_or_default}
 use Rattle.std.proofs.lemmas.Option.{get_or_from_slice_get}
 use Rattle.std.specs.Prelude.{min, slice_get, Some}
 use Rattle.std.proofs.Math.Nat.{min-eq_left, min-eq_right}
 use Rattle.std.proofs.lemmas.Bool.{cases_lt}
-use Rattle.std.proofs.lemmas.List.Sorted.{IsPermutation-refl, IsPermutation-append_left}
-use Rattle.std.proofs.lemmas.List.Sorted.{IsPermutation-append_right, IsPermutation-append_comm}
-use Rattle.std.proofs.lemmas.List.Sorted.{IsPermutation-trans}
+use Rattle.std.proofs.lemmas.List.Sorted.{IsPermutation-refl, IsPermutation-append_left, IsPermutation-append_right, IsPermutation-append_comm, IsPermutation-trans}
 use Rattle.ent_alloc.specs.declared.portion.Portion.{Portion}
 use Rattle.ent_alloc.specs.Portions.{used_of, left_of, size_of, count_of, reach_of, AreUsed, front_of}
 
@@ -32,8 +23,7 @@ others_used p ps fits = All-tail (λ (p : Portion). p.used ≤ p.size) p ps fits
 pub reach-none : (p : Portion) (ps : List Portion) → reach_of ps ≡ 0 → reach_of (p ∷ ps) ≡ p.used
 reach-none p ps none = grind (arith, common_steps)
 
-pub reach-some : (p : Portion) (ps : List Portion) → 0 < reach_of ps
-    → reach_of (p ∷ ps) ≡ p.size + reach_of ps
+pub reach-some : (p : Portion) (ps : List Portion) → 0 < reach_of ps → reach_of (p ∷ ps) ≡ p.size + reach_of ps
 reach-some p ps some = grind (arith, common_steps)
 
 none_or_some : (n : ℕ) → (n ≡ 0) ⊎ (0 < n)
@@ -42,13 +32,11 @@ none_or_some (suc n) = inr (omega arith)
 
 pub count_within : (ps : List Portion) → AreUsed ps → count_of ps ≤ reach_of ps
 count_within [] fits = omega arith
-count_within (p ∷ ps) fits =
-    grind (arith, common_steps, first_used p ps fits, count_within ps (others_used p ps fits))
+count_within (p ∷ ps) fits = grind (arith, common_steps, first_used p ps fits, count_within ps (others_used p ps fits))
 
 pub reach_within : (ps : List Portion) → AreUsed ps → reach_of ps ≤ size_of ps
 reach_within [] fits = omega arith
-reach_within (p ∷ ps) fits =
-    grind (arith, common_steps, first_used p ps fits, reach_within ps (others_used p ps fits))
+reach_within (p ∷ ps) fits = grind (arith, common_steps, first_used p ps fits, reach_within ps (others_used p ps fits))
 
 -- ---- what was used, and what is left
 
@@ -61,21 +49,19 @@ take_of_take (suc n) (suc m) (x ∷ xs) le = ap (x ∷◌) (take_of_take n m xs 
 module _ {A : Type 0} where
   pub used_none : (pool : List A) (ps : List Portion) → count_of ps ≡ 0 → used_of pool ps ≡ []
   used_none pool [] none = refl
-  used_none pool (p ∷ ps) none =
-      grind (arith, common_steps, used_none (drop p.size pool) ps (omega arith))
+  used_none pool (p ∷ ps) none = grind (arith, common_steps, used_none (drop p.size pool) ps (omega arith))
 
   pub left_none : (pool : List A) (ps : List Portion) → count_of ps ≡ 0 → left_of pool ps ≡ pool
   left_none pool [] none = refl
-  left_none pool (p ∷ ps) none =
-      grind (arith, common_steps, take-append-drop, left_none (drop p.size pool) ps (omega arith))
+  left_none pool (p ∷ ps) none = grind
+      (arith, common_steps, take-append-drop, left_none (drop p.size pool) ps (omega arith))
 
   pub length-used : (pool : List A) (ps : List Portion) → AreUsed ps → size_of ps ≤ length pool
       → length (used_of pool ps) ≡ count_of ps
   length-used pool [] fits within = refl
   length-used pool (p ∷ ps) fits within =
       let here = first_used p ps fits in
-      let others = length-used (drop p.size pool) ps (others_used p ps fits)
-      (omega (arith, length-drop p.size pool)) in
+      let others = length-used (drop p.size pool) ps (others_used p ps fits) (omega (arith, length-drop p.size pool)) in
       omega (
         arith,
         length-append (take p.used pool) (used_of (drop p.size pool) ps),
@@ -89,14 +75,11 @@ module _ {A : Type 0} where
       rest = drop p.used (take p.size pool)
 
       length-rest : length rest ≡ p.size - p.used
-      length-rest = length-drop p.used (take p.size pool)
-          ∙ ap (λ n. n - p.used) (length-take-le p.size pool within)
+      length-rest = length-drop p.used (take p.size pool) ∙ ap (λ n. n - p.used) (length-take-le p.size pool within)
 
       rest_and_behind : rest ++ drop p.size pool ≡ drop p.used pool
-      rest_and_behind =
-          sym (drop-append-le p.used (take p.size pool) (drop p.size pool)
-          (omega (arith, length-take-le p.size pool within)))
-          ∙ ap (drop p.used) (take-append-drop p.size pool)
+      rest_and_behind = sym (drop-append-le p.used (take p.size pool) (drop p.size pool)
+          (omega (arith, length-take-le p.size pool within))) ∙ ap (drop p.used) (take-append-drop p.size pool)
 
       front_and_rest : take p.used pool ++ rest ≡ take p.size pool
       front_and_rest = ap (◌++ rest) (sym (take_of_take p.used p.size pool fits))
@@ -111,19 +94,15 @@ module _ {A : Type 0} where
       pub take_left : (more n : ℕ) (others : List A) → n ≡ min (p.size - p.used) more
           → take more (rest ++ others) ≡ take n (drop p.used pool) ++ take (more - n) others
       take_left more n others least = elim (cases_lt more (p.size - p.used)) [
-        | inl less ↦
-            let n_is : n ≡ more = least ∙ min-eq_right (omega arith) in
-            let none : more - n ≡ 0 = omega arith in
-            take-append-le more rest others (omega (arith, length-rest)) ∙ ap (take more) rest_is
+        | inl less ↦ let n_is : n ≡ more = least ∙ min-eq_right (omega arith) in let none : more - n
+            ≡ 0 = omega arith in take-append-le more rest others (omega (arith, length-rest)) ∙ ap (take more) rest_is
             ∙ take_of_take more (p.size - p.used) (drop p.used pool) (omega arith)
-            ∙ ap (λ n. take n (drop p.used pool)) (sym n_is)
-            ∙ sym (append-nil (take n (drop p.used pool)))
+            ∙ ap (λ n. take n (drop p.used pool)) (sym n_is) ∙ sym (append-nil (take n (drop p.used pool)))
             ∙ ap (λ m. take n (drop p.used pool) ++ take m others) (sym none)
-        | inr all ↦
-            let n_is : n ≡ p.size - p.used = least ∙ min-eq_left all in
-            let sum : more ≡ length rest + (more - n) = omega (arith, length-rest) in
-            ap (λ m. take m (rest ++ others)) sum ∙ take-append-add rest others (more - n)
-            ∙ ap (◌++ take (more - n) others)
+        | inr all ↦ let n_is : n ≡ p.size
+            - p.used = least ∙ min-eq_left all in let sum : more ≡ length rest
+            + (more - n) = omega (arith, length-rest) in ap (λ m. take m (rest ++ others)) sum
+            ∙ take-append-add rest others (more - n) ∙ ap (◌++ take (more - n) others)
             (rest_is ∙ ap (λ n. take n (drop p.used pool)) (sym n_is))
       ]
 
@@ -137,31 +116,25 @@ module _ {A : Type 0} where
       let others = behind_reach (drop p.size pool) ps (others_used p ps fits)
       (omega (arith, length-drop p.size pool)) in
       elim (none_or_some (reach_of ps)) [
-        | inl none ↦
-            let reach = reach-none p ps none in
-            let none_used : count_of ps ≡ 0 = omega (arith, few) in
-            let start : reach_of (p ∷ ps) - count_of (p ∷ ps) ≡ 0 = omega arith in
-            ap (λ n. drop n (left_of pool (p ∷ ps))) start
+        | inl none ↦ let reach = reach-none p ps none in let none_used : count_of ps
+            ≡ 0 = omega (arith, few) in let start : reach_of (p ∷ ps) - count_of (p ∷ ps)
+            ≡ 0 = omega arith in ap (λ n. drop n (left_of pool (p ∷ ps))) start
             ∙ ap (rest p pool here (omega arith) ++◌) (left_none (drop p.size pool) ps none_used)
             ∙ rest_and_behind p pool here (omega arith) ∙ ap (λ n. drop n pool) (sym reach)
-        | inr some ↦
-            let reach = reach-some p ps some in
-            let long = length-rest p pool here (omega arith) in
-            let start : reach_of (p ∷ ps) - count_of (p ∷ ps)
-            ≡ length (rest p pool here (omega arith)) + (reach_of ps - count_of ps) =
-            omega (arith, few, here) in
-            ap (λ n. drop n (left_of pool (p ∷ ps))) start
-            ∙ drop-append-add (rest p pool here (omega arith)) (left_of (drop p.size pool) ps)
-            (reach_of ps - count_of ps) ∙ others ∙ drop-drop (reach_of ps) p.size pool
-            ∙ ap (λ n. drop n pool) (sym reach)
+        | inr some ↦ let reach =
+            reach-some p ps some in let long = length-rest p pool here (omega arith) in let start : reach_of (p ∷ ps)
+            - count_of (p ∷ ps) ≡ length (rest p pool here (omega arith))
+            + (reach_of ps - count_of ps) = omega (arith, few, here) in ap (λ n. drop n (left_of pool (p ∷ ps))) start
+            ∙ drop-append-add (rest p pool here (omega arith)) (left_of (drop p.size pool) ps) (reach_of ps - count_of ps)
+            ∙ others ∙ drop-drop (reach_of ps) p.size pool ∙ ap (λ n. drop n pool) (sym reach)
       ]
 
   -- the middle ones of four lists in the other order
   swap_middle : (u r us rs : List A) → IsPermutation ((u ++ r) ++ (us ++ rs)) ((u ++ us) ++ (r ++ rs))
   swap_middle u r us rs =
-      let swapped : IsPermutation (u ++ ((r ++ us) ++ rs)) (u ++ ((us ++ r) ++ rs)) =
-      IsPermutation-append_right u ((r ++ us) ++ rs) ((us ++ r) ++ rs)
-      (IsPermutation-append_left rs (r ++ us) (us ++ r) (IsPermutation-append_comm r us)) in
+      let swapped : IsPermutation (u ++ ((r ++ us) ++ rs)) (u ++ ((us ++ r) ++ rs)) = IsPermutation-append_right u
+      ((r ++ us) ++ rs) ((us ++ r) ++ rs) (IsPermutation-append_left rs (r ++ us) (us ++ r)
+      (IsPermutation-append_comm r us)) in
       simp append_assoc (simp append_assoc at swapped)
 
   -- they are what the list begins with, in another order
@@ -171,74 +144,58 @@ module _ {A : Type 0} where
   front_same pool (p ∷ ps) fits within =
       let here = first_used p ps fits in
       let few = count_within ps (others_used p ps fits) in
-      let others = front_same (drop p.size pool) ps (others_used p ps fits)
-      (omega (arith, length-drop p.size pool)) in
+      let others = front_same (drop p.size pool) ps (others_used p ps fits) (omega (arith, length-drop p.size pool)) in
       elim (none_or_some (reach_of ps)) [
-        | inl none ↦
-            let none_used : count_of ps ≡ 0 = omega (arith, few) in
-            let start : reach_of (p ∷ ps) - count_of (p ∷ ps) ≡ 0 =
-            omega (arith, reach-none p ps none) in
-            let us : used_of (drop p.size pool) ps ≡ [] = used_none (drop p.size pool) ps none_used in
-            let all : front_of pool (p ∷ ps) ≡ take (reach_of (p ∷ ps)) pool =
-            (λ i. (take p.used pool ++ us i) ++ take (start i) (left_of pool (p ∷ ps)))
+        | inl none ↦ let none_used : count_of ps
+            ≡ 0 = omega (arith, few) in let start : reach_of (p ∷ ps) - count_of (p ∷ ps)
+            ≡ 0 = omega (arith, reach-none p ps none) in let us : used_of (drop p.size pool) ps
+            ≡ [] = used_none (drop p.size pool) ps none_used in let all : front_of pool (p ∷ ps)
+            ≡ take (reach_of (p ∷ ps)) pool = (λ i. (take p.used pool ++ us i) ++ take (start i) (left_of pool (p ∷ ps)))
             ∙ append-nil (take p.used pool ++ []) ∙ append-nil (take p.used pool)
-            ∙ ap (λ n. take n pool) (sym (reach-none p ps none)) in
-            subst (IsPermutation (take (reach_of (p ∷ ps)) pool)) (sym all)
-            (IsPermutation-refl (take (reach_of (p ∷ ps)) pool))
-        | inr some ↦
-            let r = rest p pool here (omega arith) in
-            let u = take p.used pool in
-            let pool' = drop p.size pool in
-            let us = used_of pool' ps in
-            let rs = take (reach_of ps - count_of ps) (left_of pool' ps) in
-            let reach = reach-some p ps some in
-            let start : reach_of (p ∷ ps) - count_of (p ∷ ps)
-            ≡ length r + (reach_of ps - count_of ps) =
-            omega (arith, few, here, length-rest p pool here (omega arith)) in
-            let lefts : take (reach_of (p ∷ ps) - count_of (p ∷ ps)) (left_of pool (p ∷ ps)) ≡ r ++ rs =
-            ap (λ n. take n (left_of pool (p ∷ ps))) start
-            ∙ take-append-add r (left_of pool' ps) (reach_of ps - count_of ps) in
-            let front : take (reach_of (p ∷ ps)) pool ≡ (u ++ r) ++ take (reach_of ps) pool' =
-            ap (λ n. take n pool) reach ∙ take-add p.size (reach_of ps) pool
-            ∙ ap (◌++ take (reach_of ps) pool') (sym (front_and_rest p pool here (omega arith))) in
-            let first : IsPermutation ((u ++ r) ++ take (reach_of ps) pool') ((u ++ r) ++ (us ++ rs)) =
-            IsPermutation-append_right (u ++ r) (take (reach_of ps) pool') (us ++ rs) others in
-            let whole : (u ++ us) ++ (r ++ rs) ≡ front_of pool (p ∷ ps) =
-            ap ((u ++ us) ++◌) (sym lefts) in
-            subst (λ xs. IsPermutation xs (front_of pool (p ∷ ps))) (sym front)
+            ∙ ap (λ n. take n pool) (sym (reach-none p ps none)) in subst (IsPermutation (take (reach_of (p ∷ ps)) pool))
+            (sym all) (IsPermutation-refl (take (reach_of (p ∷ ps)) pool))
+        | inr some ↦ let r = rest p pool here
+            (omega arith) in let u = take p.used pool in let pool' = drop p.size pool in let us = used_of pool' ps in let rs =
+            take (reach_of ps - count_of ps) (left_of pool' ps) in let reach = reach-some p ps some in let start : reach_of
+            (p ∷ ps) - count_of (p ∷ ps) ≡ length r + (reach_of ps - count_of ps) = omega
+            (arith, few, here, length-rest p pool here (omega arith)) in let lefts : take
+            (reach_of (p ∷ ps) - count_of (p ∷ ps)) (left_of pool (p ∷ ps)) ≡ r
+            ++ rs = ap (λ n. take n (left_of pool (p ∷ ps))) start ∙ take-append-add r (left_of pool' ps) (reach_of ps
+            - count_of ps) in let front : take (reach_of (p ∷ ps)) pool ≡ (u ++ r)
+            ++ take (reach_of ps) pool' = ap (λ n. take n pool) reach ∙ take-add p.size (reach_of ps) pool
+            ∙ ap (◌++ take (reach_of ps) pool') (sym (front_and_rest p pool here (omega arith))) in let first : IsPermutation
+            ((u ++ r) ++ take (reach_of ps) pool') ((u ++ r) ++ (us ++ rs)) = IsPermutation-append_right (u ++ r)
+            (take (reach_of ps) pool') (us ++ rs) others in let whole : (u ++ us) ++ (r ++ rs)
+            ≡ front_of pool (p ∷ ps) = ap ((u ++ us) ++◌) (sym lefts) in subst
+            (λ xs. IsPermutation xs (front_of pool (p ∷ ps))) (sym front)
             (subst (IsPermutation ((u ++ r) ++ take (reach_of ps) pool')) whole
             (IsPermutation-trans _ _ _ first (swap_middle u r us rs)))
       ]
 
   -- if nothing is left before the last one that was used, they are what the list begins with
-  pub used_is_front : (pool : List A) (ps : List Portion) → AreUsed ps
-      → count_of ps ≡ reach_of ps → size_of ps ≤ length pool
-      → used_of pool ps ≡ take (count_of ps) pool
+  pub used_is_front : (pool : List A) (ps : List Portion) → AreUsed ps → count_of ps ≡ reach_of ps
+      → size_of ps ≤ length pool → used_of pool ps ≡ take (count_of ps) pool
   used_is_front pool [] fits all within = refl
   used_is_front pool (p ∷ ps) fits all within =
       let here = first_used p ps fits in
       let few = count_within ps (others_used p ps fits) in
-      let others = λ (whole : count_of ps ≡ reach_of ps).
-      used_is_front (drop p.size pool) ps (others_used p ps fits) whole
-      (omega (arith, length-drop p.size pool)) in
+      let others = λ (whole : count_of ps ≡ reach_of ps). used_is_front (drop p.size pool) ps (others_used p ps fits)
+      whole (omega (arith, length-drop p.size pool)) in
       elim (none_or_some (reach_of ps)) [
-        | inl none ↦
-            let none_used : count_of ps ≡ 0 = omega (arith, few) in
-            let sum : p.used ≡ p.used + count_of ps = omega arith in
-            ap (take p.used pool ++◌) (used_none (drop p.size pool) ps none_used)
-            ∙ append-nil (take p.used pool) ∙ ap (λ n. take n pool) sum
-        | inr some ↦
-            let reach = reach-some p ps some in
-            let full : p.used ≡ p.size = omega (arith, few, here) in
-            let sum : p.size + count_of ps ≡ p.used + count_of ps = omega arith in
-            (λ i. take (full i) pool ++ others (omega (arith, few, here)) i)
+        | inl none ↦ let none_used : count_of ps
+            ≡ 0 = omega (arith, few) in let sum : p.used ≡ p.used + count_of ps = omega arith in ap (take p.used pool ++◌)
+            (used_none (drop p.size pool) ps none_used) ∙ append-nil (take p.used pool)
+            ∙ ap (λ n. take n pool) sum
+        | inr some ↦ let reach = reach-some p ps some in let full : p.used
+            ≡ p.size = omega (arith, few, here) in let sum : p.size + count_of ps ≡ p.used
+            + count_of ps = omega arith in (λ i. take (full i) pool ++ others (omega (arith, few, here)) i)
             ∙ sym (take-add p.size (count_of ps) pool) ∙ ap (λ n. take n pool) sum
       ]
 
-  pub left_is_behind : (pool : List A) (ps : List Portion) → AreUsed ps
-      → count_of ps ≡ reach_of ps → size_of ps ≤ length pool
-      → left_of pool ps ≡ drop (count_of ps) pool
-  left_is_behind pool ps fits all within = let none : 0 ≡ reach_of ps - count_of ps = omega arith in search (rules, behind_reach)
+  pub left_is_behind : (pool : List A) (ps : List Portion) → AreUsed ps → count_of ps ≡ reach_of ps
+      → size_of ps ≤ length pool → left_of pool ps ≡ drop (count_of ps) pool
+  left_is_behind pool ps fits all within =
+      let none : 0 ≡ reach_of ps - count_of ps = omega arith in search (rules, behind_reach)
 
 -- ---- one portion more
 
@@ -249,8 +206,8 @@ count_size ps fits = omega (arith, count_within ps fits, reach_within ps fits)
 abbrev pub no_portion : Portion
 no_portion = record { size = 0; used = 0 }
 
-pub portion_is : (ps : List Portion) (k : ℕ) → k < length ps
-    → get_or ps k no_portion ≡ get_or ps k (get_or ps k no_portion)
+pub portion_is : (ps : List Portion) (k : ℕ) → k < length ps → get_or ps k no_portion ≡ get_or ps k (get_or ps k
+    no_portion)
 portion_is ps k lt = search (rules, get_or_default)
 
 module _ (ps : List Portion) (k : ℕ) (p : Portion) (lt : k < length ps) (is : p ≡ get_or ps k p)
@@ -268,27 +225,23 @@ module _ (ps : List Portion) (k : ℕ) (p : Portion) (lt : k < length ps) (is : 
     used_at fits = subst (λ (x : Portion). x.used ≤ x.size) (sym is) (fits k p lt)
 
     module _ {A : Type 0} (pool : List A) (before : ℕ) where
-      pub left_more : (more n : ℕ) → n ≡ min (p.size - p.used) more → p.used ≤ p.size
-          → before + p.size ≤ length pool → take more (left_of (drop before pool) (drop k ps))
-          ≡ take n (drop (before + p.used) pool)
+      pub left_more : (more n : ℕ) → n ≡ min (p.size - p.used) more → p.used ≤ p.size → before + p.size ≤ length pool
+          → take more (left_of (drop before pool) (drop k ps)) ≡ take n (drop (before + p.used) pool)
           ++ take (more - n) (left_of (drop (before + p.size) pool) (drop (k + 1) ps))
       left_more more n least fits within =
           let others = left_of (drop (before + p.size) pool) (drop (k + 1) ps) in
           let long : p.size ≤ length (drop before pool) = omega (arith, length-drop before pool) in
           ap (λ ps. take more (left_of (drop before pool) ps)) portion_more
-          ∙ ap (λ xs. take more (drop p.used (take p.size (drop before pool))
-          ++ left_of xs (drop (k + 1) ps))) (drop-drop p.size before pool)
-          ∙ take_left p (drop before pool) fits long more n others least
+          ∙ ap (λ xs. take more (drop p.used (take p.size (drop before pool)) ++ left_of xs (drop (k + 1) ps)))
+          (drop-drop p.size before pool) ∙ take_left p (drop before pool) fits long more n others least
           ∙ ap (λ xs. take n xs ++ take (more - n) others) (drop-drop p.used before pool)
 
 -- one more of what begins at a position
-pub list_more : {X : Type 0} (pool : List X) (from more : ℕ) (x : X)
-    → slice_get pool (from + more) ≡ Some x → from + more < length pool
-    → take (more + 1) (drop from pool) ≡ take more (drop from pool) ++ x ∷ []
-list_more pool from more x at below =
-    take_more (drop from pool) more x (omega (arith, length-drop from pool))
-    ∙ ap (λ y. take more (drop from pool) ++ y ∷ [])
-    (get_or-drop from pool more x ∙ get_or_from_slice_get pool (from + more) x x at)
+pub list_more : {X : Type 0} (pool : List X) (from more : ℕ) (x : X) → slice_get pool (from + more) ≡ Some x
+    → from + more < length pool → take (more + 1) (drop from pool) ≡ take more (drop from pool) ++ x ∷ []
+list_more pool from more x at below = take_more (drop from pool) more x (omega (arith, length-drop from pool))
+    ∙ ap (λ y. take more (drop from pool) ++ y ∷ []) (get_or-drop from pool more x
+    ∙ get_or_from_slice_get pool (from + more) x x at)
 
 -- ---- a list of which each element is mapped
 
@@ -315,12 +268,10 @@ module _ {A B : Type 0} (f : A → B) where
 
   left-map : (pool : List A) (ps : List Portion) → map f (left_of pool ps) ≡ left_of (map f pool) ps
   left-map pool [] = refl
-  left-map pool (p ∷ ps) =
-      map-append (drop p.used (take p.size pool)) (left_of (drop p.size pool) ps)
+  left-map pool (p ∷ ps) = map-append (drop p.used (take p.size pool)) (left_of (drop p.size pool) ps)
       ∙ (λ i. (map-drop p.used (take p.size pool) ∙ ap (drop p.used) (map-take p.size pool)) i
-      ++ left-map (drop p.size pool) ps i)
-      ∙ ap (λ xs. drop p.used (take p.size (map f pool)) ++ left_of xs ps) (map-drop p.size pool)
+      ++ left-map (drop p.size pool) ps i) ∙ ap (λ xs. drop p.used (take p.size (map f pool)) ++ left_of xs ps)
+      (map-drop p.size pool)
 
-  pub front-map : (pool : List A) (ps : List Portion) → map f (front_of pool ps)
-      ≡ front_of (map f pool) ps
+  pub front-map : (pool : List A) (ps : List Portion) → map f (front_of pool ps) ≡ front_of (map f pool) ps
   front-map pool ps = grind (arith, common_steps, map-append, used-map, map-take, left-map)

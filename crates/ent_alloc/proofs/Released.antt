@@ -1,23 +1,18 @@
 -- A slot whose occupant is freed, and waits for the next one or is retired: the vectors stay
 -- linked, and the roster loses the occupant.
-use Rattle.std.proofs.Common.{rules, ◌≡◌, ◌≢◌, ℕ, ◌+◌, ◌-◌, ◌<◌, ◌≤◌, true, false, List, [], ◌∷◌}
-use Rattle.std.proofs.Common.{◌++◌, length, get_or, set, refl, arith, None, map}
+use Rattle.std.proofs.Common.{rules, ◌≡◌, ◌≢◌, ℕ, ◌+◌, ◌-◌, ◌<◌, ◌≤◌, true, false, List, [], ◌∷◌, ◌++◌, length, get_or, set, refl, arith, None, map}
 use Rattle.std.specs.FinSet as sets
 use Rattle.std.specs.FinMap as maps
 use Rattle.std.proofs.lemmas.Bool.{cases_lt, cases_eq, false≢true}
-use Rattle.std.proofs.lemmas.List.{length-set, length_push, map_push, get_or-set_same}
-use Rattle.std.proofs.lemmas.List.{get_or-set_other, get_or_append_left, get_or_push}
-use Rattle.ent_handle.specs.Handle.{Handle, handle_cmp, handle_cmp_total}
-use Rattle.ent_handle.specs.Handle.{handle_cmp-IsAntisymmetric}
+use Rattle.std.proofs.lemmas.List.{length-set, length_push, map_push, get_or-set_same, get_or-set_other, get_or_append_left, get_or_push}
+use Rattle.ent_handle.specs.Handle.{Handle, handle_cmp, handle_cmp_total, handle_cmp-IsAntisymmetric}
 use Rattle.ent_alloc.proofs.ListLaws.{map_alike}
 use Rattle.ent_alloc.specs.Limits.{Limits}
 use Rattle.ent_alloc.specs.Sequential.{following}
 use Rattle.ent_alloc.specs.declared.slot_record.SlotRecord.{SlotRecord}
 use Rattle.ent_alloc.specs.declared.slot_record.Occupancy.TheVariants.{Pending, Retired}
-use Rattle.ent_alloc.specs.Slots.{occupants, is_alive, row_of, record_at, no_slot, handle_at}
-use Rattle.ent_alloc.specs.Slots.{rows_from, roster_of, AreLinked}
-use Rattle.ent_alloc.proofs.Occupants.{is_occupant, contains_occupants, ties, one}
-use Rattle.ent_alloc.proofs.Occupants.{length-occupants-set}
+use Rattle.ent_alloc.specs.Slots.{occupants, is_alive, row_of, record_at, no_slot, handle_at, rows_from, roster_of, AreLinked}
+use Rattle.ent_alloc.proofs.Occupants.{is_occupant, contains_occupants, ties, one, length-occupants-set}
 use Rattle.ent_alloc.proofs.LivingOccupant.{occupant_made, occupant_alive}
 use Rattle.ent_alloc.proofs.KeptRows.{get_rows}
 use Rattle.std.proofs.lemmas.Grind.{common_steps}
@@ -31,8 +26,7 @@ module _ (limits : Limits) (records : List SlotRecord) (pending : List ℕ) (liv
   apart position below e = search (rules, occupant_alive, false≢true)
 
   -- its record has no occupant any more
-  module _ (left : SlotRecord) (dead : is_alive left.occupancy ≡ false)
-      (bare : row_of left.occupancy ≡ None) where
+  module _ (left : SlotRecord) (dead : is_alive left.occupancy ≡ false) (bare : row_of left.occupancy ≡ None) where
     abbrev changed : List SlotRecord
     changed = set records h.index left
 
@@ -45,18 +39,17 @@ module _ (limits : Limits) (records : List SlotRecord) (pending : List ℕ) (liv
     fewer : length (occupants 0 changed) + 1 ≡ length (occupants 0 records)
     fewer = search (rules, length-occupants-set, made_slot, one, occupant_alive)
 
-    live_is : sets.from_list {R = handle_cmp} (occupants 0 changed)
-        ≡ sets.remove (sets.from_list (occupants 0 records)) h
-    live_is = sets.same_set handle_cmp_total handle_cmp-IsAntisymmetric _ _ (λ q.
-        let gone =
-        sets.contains-remove handle_cmp_total (sets.from_list (occupants 0 records)) h q in
-        grind (arith, common_steps, contains_occupants changed q, contains_occupants records q))
+    live_is : sets.from_list {R = handle_cmp} (occupants 0 changed) ≡ sets.remove (sets.from_list (occupants 0 records))
+        h
+    live_is = sets.same_set handle_cmp_total handle_cmp-IsAntisymmetric _ _
+        (λ q. let gone = sets.contains-remove handle_cmp_total (sets.from_list (occupants 0 records)) h q in grind
+        (arith, common_steps, contains_occupants changed q, contains_occupants records q))
 
     rows_is : maps.from_entries {R = handle_cmp} (rows_from 0 changed)
         ≡ maps.remove (maps.from_entries (rows_from 0 records)) h
-    rows_is = maps.same_map handle_cmp_total handle_cmp-IsAntisymmetric _ _ (λ q.
-        let gone = maps.get-remove handle_cmp_total (maps.from_entries (rows_from 0 records)) h q in
-        grind (arith, common_steps, ties q h, get_rows changed q, get_rows records q))
+    rows_is = maps.same_map handle_cmp_total handle_cmp-IsAntisymmetric _ _
+        (λ q. let gone = maps.get-remove handle_cmp_total (maps.from_entries (rows_from 0 records)) h q in grind
+        (arith, common_steps, ties q h, get_rows changed q, get_rows records q))
 
     pending_is : map (handle_at changed) pending ≡ map (handle_at records) pending
     pending_is = search (rules, map_alike, other, apart)
@@ -72,8 +65,8 @@ module _ (limits : Limits) (records : List SlotRecord) (pending : List ℕ) (liv
   pub one_lives : 1 ≤ live
   one_lives = let counted = linked.counted in omega (arith, fewer vacant refl refl)
 
-  pub release_keeps_links : h.generation ≢ limits.generations
-      → AreLinked limits released (pending ++ h.index ∷ []) (live - 1)
+  pub release_keeps_links : h.generation ≢ limits.generations → AreLinked limits released (pending ++ h.index ∷ [])
+      (live - 1)
   release_keeps_links before =
       let less = fewer vacant refl refl in
       let made = made_slot in
@@ -82,8 +75,10 @@ module _ (limits : Limits) (records : List SlotRecord) (pending : List ℕ) (liv
   pub roster_of-release : roster_of limits released (pending ++ h.index ∷ [])
       ≡ record (roster_of limits records pending) {
         live = sets.remove (roster_of limits records pending).live h;
-        rows = maps.remove (roster_of limits records pending).rows h;
-        pending = (roster_of limits records pending).pending ++ following h ∷ [];
+        rows =
+            maps.remove (roster_of limits records pending).rows h;
+        pending = (roster_of limits records pending).pending
+            ++ following h ∷ [];
       }
   roster_of-release = search (rules, pending_is, map_push, same, live_is, rows_is, length-set)
 
@@ -98,9 +93,10 @@ module _ (limits : Limits) (records : List SlotRecord) (pending : List ℕ) (liv
   pub retire_keeps_links : AreLinked limits retired pending (live - 1)
   retire_keeps_links = search (rules, fewer unused refl refl, made_slot)
 
-  pub roster_of-retire : roster_of limits retired pending
-      ≡ record (roster_of limits records pending) {
-        live = sets.remove (roster_of limits records pending).live h;
-        rows = maps.remove (roster_of limits records pending).rows h;
-      }
+  pub roster_of-retire : roster_of limits retired pending ≡ record (roster_of limits records pending) {
+    live =
+        sets.remove (roster_of limits records pending).live h;
+    rows = maps.remove (roster_of limits records pending).rows
+        h;
+  }
   roster_of-retire = search (rules, live_is, rows_is, pending_is, length-set)

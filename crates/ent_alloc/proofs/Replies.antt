@@ -1,23 +1,16 @@
 -- What a served reply lists: handles of different slots, none of them alive, all of them taken, and
 -- none twice in two replies.
-use Rattle.std.proofs.Common.{rules, ◌≡◌, ◌≢◌, refl, sym, ap, subst, ℕ, ◌<◌, ◌≤◌, not}
-use Rattle.std.proofs.Common.{List, ◌++◌, length, take, reverse, filter, All, AllPairs}
-use Rattle.std.proofs.Common.{Contains, IsPermutation, Ok, Err, arith, le-leb}
+use Rattle.std.proofs.Common.{rules, ◌≡◌, ◌≢◌, refl, sym, ap, subst, ℕ, ◌<◌, ◌≤◌, not, List, ◌++◌, length, take, reverse, filter, All, AllPairs, Contains, IsPermutation, Ok, Err, arith, le-leb}
 use Rattle.std.proofs.lemmas.Grind.{common_steps}
 use Rattle.std.proofs.lemmas.Bool.{lt-leb}
 use Rattle.std.proofs.lemmas.Bool.Decides.{nat_tests}
 use Rattle.std.proofs.lemmas.List.Elements.{All-take, Contains-append_right, All-contains_itself}
-use Rattle.std.proofs.lemmas.List.Sorted.{IsPermutation-refl, IsPermutation-sym}
-use Rattle.std.proofs.lemmas.List.Sorted.{IsPermutation-trans, IsPermutation-append}
-use Rattle.std.proofs.lemmas.List.Sorted.{IsPermutation-reverse, IsPermutation-filter_both}
-use Rattle.std.proofs.lemmas.List.Sorted.{All-permutation}
+use Rattle.std.proofs.lemmas.List.Sorted.{IsPermutation-refl, IsPermutation-sym, IsPermutation-trans, IsPermutation-append, IsPermutation-reverse, IsPermutation-filter_both, All-permutation}
 use Rattle.ent_handle.specs.Handle.{Handle}
 use Rattle.ent_alloc.specs.declared.space.Space.{Space}
-use Rattle.ent_alloc.specs.Sequential.{Allocator, available, after_take, listed, reply_to, is_old}
-use Rattle.ent_alloc.specs.Sequential.{is_fresh}
+use Rattle.ent_alloc.specs.Sequential.{Allocator, available, after_take, listed, reply_to, is_old, is_fresh}
 use Rattle.ent_alloc.specs.Sound.{IsSound, AreApart, IsLive}
-use Rattle.ent_alloc.proofs.ListLaws.{AllPairs-right, AllPairs-take, AllPairs-IsPermutation}
-use Rattle.ent_alloc.proofs.ListLaws.{All-right}
+use Rattle.ent_alloc.proofs.ListLaws.{AllPairs-right, AllPairs-take, AllPairs-IsPermutation, All-right}
 use Rattle.ent_alloc.proofs.Taken.{after_take-served}
 
 -- a handle is fresh where it is not old
@@ -25,23 +18,20 @@ pub fresh_is_not_old : (made : ℕ) (h : Handle) → is_fresh made h ≡ not (is
 fresh_is_not_old made h = grind (arith, nat_tests)
 
 -- a reply lists what it gives in another order
-pub listed-IsPermutation : (made : ℕ) (given : List Handle)
-    → IsPermutation given (listed made given)
+pub listed-IsPermutation : (made : ℕ) (given : List Handle) → IsPermutation given (listed made given)
 listed-IsPermutation made given =
     let old = filter (is_old made) given in
     let new = filter (is_fresh made) given in
-    IsPermutation-trans given (old ++ new) (reverse old ++ new)
-    (IsPermutation-filter_both (is_old made) (is_fresh made) (fresh_is_not_old made) given)
-    (search (rules, IsPermutation-append, IsPermutation-reverse, IsPermutation-refl))
+    IsPermutation-trans given (old ++ new) (reverse old ++ new) (IsPermutation-filter_both (is_old made) (is_fresh made)
+    (fresh_is_not_old made) given) (search (rules, IsPermutation-append, IsPermutation-reverse, IsPermutation-refl))
 
 -- a request for no more than the pool has
-pub reply-served : (s : Allocator) (n : ℕ) → n ≤ length s.pool → reply_to s n
-    ≡ Ok (listed s.made (take n s.pool))
+pub reply-served : (s : Allocator) (n : ℕ) → n ≤ length s.pool → reply_to s n ≡ Ok (listed s.made (take n s.pool))
 reply-served s n enough = search (rules, le-leb)
 
 -- a request for more than the pool has
-pub reply-refused : (s : Allocator) (n : ℕ) → length s.pool < n → reply_to s n
-    ≡ Err (record { wanted = n; left = length s.pool })
+pub reply-refused : (s : Allocator) (n : ℕ) → length s.pool < n
+    → reply_to s n ≡ Err (record { wanted = n; left = length s.pool })
 reply-refused s n short = search (rules, lt-leb)
 
 -- what a served reply tells of the pool
@@ -58,8 +48,7 @@ pub apart_both : (g h : Handle) → AreApart g h → AreApart h g
 apart_both g h apart same = apart (sym same)
 
 -- handles of different slots are different
-pub distinct_from_apart : (handles : List Handle) → AllPairs AreApart handles
-    → AllPairs (λ g h. g ≢ h) handles
+pub distinct_from_apart : (handles : List Handle) → AllPairs AreApart handles → AllPairs (λ g h. g ≢ h) handles
 distinct_from_apart handles h i j d lt within same = h i j d lt within (ap (λ x. x.index) same)
 
 -- what holds of all that may be given holds of the pool
@@ -81,19 +70,18 @@ module _ (s : Allocator) (n : ℕ) (given : List Handle) (is : reply_to s n ≡ 
 
   -- each is taken, and nothing else is that was not
   pub reply-taken : All (Contains (after_take s n).taken) given
-  reply-taken = All-permutation (Contains (after_take s n).taken) (take n s.pool) given
-      reply-IsPermutation
+  reply-taken = All-permutation (Contains (after_take s n).taken) (take n s.pool) given reply-IsPermutation
       (subst (λ taken. All (Contains taken) (take n s.pool)) (sym taken-after_served)
       (search (rules, Contains-append_right, All-contains_itself)))
 
   -- so what is taken is what was taken and the reply
   pub taken-IsPermutation : IsPermutation (s.taken ++ given) (after_take s n).taken
-  taken-IsPermutation = search (rules, taken-after_served, IsPermutation-append, IsPermutation-refl, IsPermutation-sym, reply-IsPermutation)
+  taken-IsPermutation = search
+      (rules, taken-after_served, IsPermutation-append, IsPermutation-refl, IsPermutation-sym, reply-IsPermutation)
 
   -- no two are of one slot
   pub reply-apart : IsSound s → AllPairs AreApart given
-  reply-apart h = AllPairs-IsPermutation AreApart apart_both (take n s.pool) given
-      reply-IsPermutation
+  reply-apart h = AllPairs-IsPermutation AreApart apart_both (take n s.pool) given reply-IsPermutation
       (AllPairs-take AreApart n s.pool (AllPairs-right AreApart s.aside s.pool
       (AllPairs-right AreApart s.taken (s.aside ++ s.pool) h.apart)))
 
@@ -103,8 +91,7 @@ module _ (s : Allocator) (n : ℕ) (given : List Handle) (is : reply_to s n ≡ 
 
   -- none is of a slot whose occupant is alive
   pub reply-apart_from_live : IsSound s → (x : Handle) → IsLive s x → All (AreApart x) given
-  reply-apart_from_live h x alive = of_reply (AreApart x)
-      (of_pool (AreApart x) s (h.live x alive).apart)
+  reply-apart_from_live h x alive = of_reply (AreApart x) (of_pool (AreApart x) s (h.live x alive).apart)
 
   -- so none is alive
   pub reply-not_live : IsSound s → All (λ x. ¬ (IsLive s x)) given

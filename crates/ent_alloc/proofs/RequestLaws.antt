@@ -1,22 +1,16 @@
 -- All replies to requests in turn, taken together: no handle twice, none alive before, and a flush
 -- brings to life exactly those.
-use Rattle.std.proofs.Common.{rules, get_or, ◌≡◌, refl, ℕ, List, [], ◌∷◌, ◌++◌, All, AllPairs}
-use Rattle.std.proofs.Common.{Contains, IsPermutation, Ok, Err, ◌⊎◌, ◌↔◌, append-nil, append_assoc}
-use Rattle.std.proofs.Common.{inl, inr}
-use Rattle.std.proofs.lemmas.List.Sorted.{IsPermutation-refl, IsPermutation-sym}
-use Rattle.std.proofs.lemmas.List.Sorted.{IsPermutation-trans, IsPermutation-append_left}
-use Rattle.std.proofs.lemmas.List.Sorted.{All-permutation, Contains-permutation}
+use Rattle.std.proofs.Common.{rules, get_or, ◌≡◌, refl, ℕ, List, [], ◌∷◌, ◌++◌, All, AllPairs, Contains, IsPermutation, Ok, Err, ◌⊎◌, ◌↔◌, append-nil, append_assoc, inl, inr}
+use Rattle.std.proofs.lemmas.List.Sorted.{IsPermutation-refl, IsPermutation-sym, IsPermutation-trans, IsPermutation-append_left, All-permutation, Contains-permutation}
 use Rattle.ent_handle.specs.Handle.{Handle}
 use Rattle.ent_alloc.specs.Sequential.{Allocator, after_take, after_flush, reply_to}
 use Rattle.ent_alloc.specs.Sound.{IsSound, AreApart, IsLive}
 use Rattle.ent_alloc.specs.Spent.{AreSpent}
 use Rattle.ent_alloc.specs.History.{handles_in}
-use Rattle.ent_alloc.proofs.ListLaws.{All-left, All-right, AllPairs-left, AllPairs-right}
-use Rattle.ent_alloc.proofs.ListLaws.{AllPairs-IsPermutation}
+use Rattle.ent_alloc.proofs.ListLaws.{All-left, All-right, AllPairs-left, AllPairs-right, AllPairs-IsPermutation}
 use Rattle.ent_alloc.proofs.LaidOut.{flushed-laid_out}
 use Rattle.ent_alloc.proofs.PoolLaw.{after_takes, live-after_takes, after_takes-sound}
-use Rattle.ent_alloc.proofs.Replies.{taken-IsPermutation, taken-after_refused, apart_both}
-use Rattle.ent_alloc.proofs.Replies.{not_apart}
+use Rattle.ent_alloc.proofs.Replies.{taken-IsPermutation, taken-after_refused, apart_both, not_apart}
 use Rattle.ent_alloc.proofs.Flushes.{live-after_flush, live-stays, taken-lives}
 use Rattle.ent_alloc.proofs.GivenOnce.{take-given, refused-given}
 
@@ -26,22 +20,20 @@ given_by s [] = []
 given_by s (n ∷ requests) = handles_in (reply_to s n) ++ given_by (after_take s n) requests
 
 -- what is taken is what was taken, and the handles of the reply
-pub taken-after_take : (s : Allocator) (n : ℕ)
-    → IsPermutation (s.taken ++ handles_in (reply_to s n)) (after_take s n).taken
-taken-after_take s n =
-    search (rules, taken-IsPermutation, append-nil, taken-after_refused, IsPermutation-refl)
+pub taken-after_take : (s : Allocator) (n : ℕ) → IsPermutation (s.taken ++ handles_in (reply_to s n))
+    (after_take s n).taken
+taken-after_take s n = search (rules, taken-IsPermutation, append-nil, taken-after_refused, IsPermutation-refl)
 
 -- and the handles of all replies
-pub taken-after_takes : (s : Allocator) (requests : List ℕ)
-    → IsPermutation (s.taken ++ given_by s requests) (after_takes s requests).taken
+pub taken-after_takes : (s : Allocator) (requests : List ℕ) → IsPermutation (s.taken ++ given_by s requests)
+    (after_takes s requests).taken
 taken-after_takes s [] = rw (append-nil s.taken) (IsPermutation-refl s.taken)
 taken-after_takes s (n ∷ requests) =
     let t = after_take s n in
     let one = handles_in (reply_to s n) in
     let rest = given_by t requests in
     IsPermutation-trans (s.taken ++ (one ++ rest)) (t.taken ++ rest) (after_takes t requests).taken
-    (rw append_assoc at
-    (IsPermutation-append_left rest (s.taken ++ one) t.taken (taken-after_take s n)))
+    (rw append_assoc at (IsPermutation-append_left rest (s.taken ++ one) t.taken (taken-after_take s n)))
     (taken-after_takes t requests)
 
 module _ (s : Allocator) (requests : List ℕ) (h : IsSound s) where
@@ -49,34 +41,28 @@ module _ (s : Allocator) (requests : List ℕ) (h : IsSound s) where
   pub given_by-apart : AllPairs AreApart (given_by s requests)
   given_by-apart =
       let t = after_takes s requests in
-      let taken =
-      AllPairs-left AreApart t.taken (t.aside ++ t.pool) (after_takes-sound s requests h).apart in
-      AllPairs-right AreApart s.taken (given_by s requests)
-      (AllPairs-IsPermutation AreApart apart_both t.taken (s.taken ++ given_by s requests)
-      (search (rules, IsPermutation-sym, taken-after_takes)) taken)
+      let taken = AllPairs-left AreApart t.taken (t.aside ++ t.pool) (after_takes-sound s requests h).apart in
+      AllPairs-right AreApart s.taken (given_by s requests) (AllPairs-IsPermutation AreApart apart_both t.taken
+      (s.taken ++ given_by s requests) (search (rules, IsPermutation-sym, taken-after_takes)) taken)
 
   -- none is alive
   pub given_by-not_live : All (λ x. ¬ (IsLive s x)) (given_by s requests)
   given_by-not_live =
       let t = after_takes s requests in
-      let taken_not_live : All (λ x. ¬ (IsLive s x)) t.taken =
-      λ k d lt alive. let x = get_or t.taken k d in
-      let still : IsLive t x = rw (live-after_takes s requests) alive in
-      not_apart x (All-left (AreApart x) t.taken (t.aside ++ t.pool)
-      ((after_takes-sound s requests h).live x still).apart k d lt) in
-      All-right (λ x. ¬ (IsLive s x)) s.taken (given_by s requests)
-      (All-permutation (λ x. ¬ (IsLive s x)) t.taken (s.taken ++ given_by s requests)
-      (search (rules, IsPermutation-sym, taken-after_takes)) taken_not_live)
+      let taken_not_live : All (λ x. ¬ (IsLive s x)) t.taken = λ k d lt alive. let x = get_or t.taken k d in let still :
+      IsLive t x = rw (live-after_takes s requests) alive in not_apart x
+      (All-left (AreApart x) t.taken (t.aside ++ t.pool) ((after_takes-sound s requests h).live x still).apart k d
+      lt) in
+      All-right (λ x. ¬ (IsLive s x)) s.taken (given_by s requests) (All-permutation (λ x. ¬ (IsLive s x)) t.taken
+      (s.taken ++ given_by s requests) (search (rules, IsPermutation-sym, taken-after_takes)) taken_not_live)
 
   -- from a flushed state they are all that is taken
-  pub taken-since_flush : s.asked ≡ 0 → IsPermutation (given_by s requests)
-      (after_takes s requests).taken
-  taken-since_flush flushed =
-      search (rules, flushed-laid_out s h flushed, taken-after_takes s requests)
+  pub taken-since_flush : s.asked ≡ 0 → IsPermutation (given_by s requests) (after_takes s requests).taken
+  taken-since_flush flushed = search (rules, flushed-laid_out s h flushed, taken-after_takes s requests)
 
   -- so then exactly those are alive, and who was
-  pub live-since_flush : s.asked ≡ 0 → (x : Handle) → IsLive (after_flush (after_takes s requests))
-      x ↔ IsLive s x ⊎ Contains (given_by s requests) x
+  pub live-since_flush : s.asked ≡ 0 → (x : Handle) → IsLive (after_flush (after_takes s requests)) x ↔ IsLive s x
+      ⊎ Contains (given_by s requests) x
   live-since_flush flushed x =
       let t = after_takes s requests in
       let all = taken-since_flush flushed in
@@ -84,7 +70,8 @@ module _ (s : Allocator) (requests : List ℕ) (h : IsSound s) where
       let same = live-after_takes s requests in (
         λ alive. elim (live-after_flush t x alive) [
           | inl was ↦ inl (rw same at was)
-          | inr in_taken ↦ inr (Contains-permutation t.taken (given_by s requests) x back in_taken)
+          | inr in_taken ↦ inr
+              (Contains-permutation t.taken (given_by s requests) x back in_taken)
         ],
         λ either. elim either [
           | inl was ↦ live-stays t x (rw same was)
@@ -96,8 +83,9 @@ module _ (s : Allocator) (requests : List ℕ) (h : IsSound s) where
 -- one request gives nothing that was given before
 pub requested-given : (s : Allocator) (n : ℕ) (given : List Handle) → IsSound s → AreSpent s given
     → AreSpent (after_take s n) (given ++ handles_in (reply_to s n))
-requested-given s n given h once = elim (reply_to s n) as (λ r. reply_to s n ≡ r
-    → AreSpent (after_take s n) (given ++ handles_in r)) [
+requested-given s n given h once = elim (reply_to s n) as (λ r. reply_to s n ≡ r → AreSpent (after_take s n)
+    (given ++ handles_in r)) [
       | Ok more ↦ λ is. take-given s n given more h is once
-      | Err space ↦ λ is. rw (append-nil given) (refused-given s n given once)
+      | Err space ↦ λ is. rw
+          (append-nil given) (refused-given s n given once)
     ] refl

@@ -1,8 +1,6 @@
 -- How many slots are retired: all that were made but those of the living and those of the old
 -- handles that may be given.
-use Rattle.std.proofs.Common.{rules, ◌≡◌, ℕ, ◌+◌, ◌<◌, ◌≤◌, Bool, true, false, cond, not, ◌||◌, eqb}
-use Rattle.std.proofs.Common.{List, [], ◌∷◌, length, get_or, filter, refl, sym, ap, ◌∙◌, arith, suc}
-use Rattle.std.proofs.Common.{zero, All, AllPairs, Contains, true≢false}
+use Rattle.std.proofs.Common.{rules, ◌≡◌, ℕ, ◌+◌, ◌<◌, ◌≤◌, Bool, true, false, cond, not, ◌||◌, eqb, List, [], ◌∷◌, length, get_or, filter, refl, sym, ap, ◌∙◌, arith, suc, zero, All, AllPairs, Contains, true≢false}
 use Rattle.std.proofs.lemmas.Grind.{common_steps}
 use Rattle.std.specs.List.{count_by, range_with_len}
 use Rattle.std.specs.FinSet as set
@@ -10,10 +8,8 @@ use Rattle.std.proofs.lemmas.Bool.{cases_eq, eq-eqb, ne_eqb, eqb-true, false_fro
 use Rattle.std.proofs.lemmas.List.Kept.{AllPairs-filter}
 use Rattle.std.proofs.lemmas.List.Sums.{sum_by-cons}
 use Rattle.std.proofs.lemmas.List.Elements.{All-head, All-tail, All-contains, Contains-get_or}
-use Rattle.ent_handle.specs.Handle.{Handle, handle_cmp, handle_cmp_total}
-use Rattle.ent_handle.specs.Handle.{handle_cmp-IsAntisymmetric}
-use Rattle.ent_alloc.specs.Sequential.{Allocator, available, top, is_old, has_slot, retired}
-use Rattle.ent_alloc.specs.Sequential.{stands_in}
+use Rattle.ent_handle.specs.Handle.{Handle, handle_cmp, handle_cmp_total, handle_cmp-IsAntisymmetric}
+use Rattle.ent_alloc.specs.Sequential.{Allocator, available, top, is_old, has_slot, retired, stands_in}
 use Rattle.ent_alloc.specs.Sound.{IsSound, AreApart, IsLive}
 use Rattle.ent_alloc.proofs.ListLaws.{AllPairs-head, AllPairs-tail}
 use Rattle.ent_alloc.proofs.HandleSets.{Contains-from_stands_in, stands_in-from_Contains}
@@ -30,25 +26,21 @@ weight b = cond b 1 0
 abbrev count : (ℕ → Bool) → ℕ → ℕ → ℕ
 count p from n = count_by p (range_with_len from n)
 
-count-next : (p : ℕ → Bool) (from n : ℕ) → count p from (suc n) ≡ weight (p from)
-    + count p (from + 1) n
+count-next : (p : ℕ → Bool) (from n : ℕ) → count p from (suc n) ≡ weight (p from) + count p (from + 1) n
 count-next p from n = search (rules, sum_by-cons)
 
 -- two tests that agree on these numbers
-count_alike : (p q : ℕ → Bool) (from n : ℕ)
-    → ((i : ℕ) → from ≤ i → i < from + n → p i ≡ q i) → count p from n ≡ count q from n
+count_alike : (p q : ℕ → Bool) (from n : ℕ) → ((i : ℕ) → from ≤ i → i < from + n → p i ≡ q i)
+    → count p from n ≡ count q from n
 count_alike p q from zero alike = refl
-count_alike p q from (suc n) alike =
-    search (rules, count-next, alike from, count_alike p q (from + 1) n)
+count_alike p q from (suc n) alike = search (rules, count-next, alike from, count_alike p q (from + 1) n)
 
 -- each number passes one of two tests or none, and never both
-count-parts : (p q : ℕ → Bool) (from n : ℕ)
-    → ((i : ℕ) → from ≤ i → i < from + n → p i ≡ true → q i ≡ true → ⊥)
+count-parts : (p q : ℕ → Bool) (from n : ℕ) → ((i : ℕ) → from ≤ i → i < from + n → p i ≡ true → q i ≡ true → ⊥)
     → count (λ i. not (p i || q i)) from n + (count p from n + count q from n) ≡ n
 count-parts p q from zero apart = refl
 count-parts p q from (suc n) apart =
-    let rest =
-    count-parts p q (from + 1) n (λ k least below. apart k (omega arith) (omega arith)) in
+    let rest = count-parts p q (from + 1) n (λ k least below. apart k (omega arith) (omega arith)) in
     grind (arith, common_steps, count-next)
 
 count-none : (from n : ℕ) → count (λ _. false) from n ≡ 0
@@ -70,28 +62,29 @@ has_slot-found : (handles : List Handle) (index : ℕ) → has_slot handles inde
     → (h : Handle) × Contains handles h × (h.index ≡ index)
 has_slot-found handles index is = search (rules, Any-from_list_any, eqb-true)
 
-has_slot-has : (handles : List Handle) (h : Handle) → Contains handles h → has_slot handles h.index
-    ≡ true
-has_slot-has handles h has =
-    search (rules, list_any_at (λ (x : Handle). eqb x.index h.index) handles has.0 h has.1)
+has_slot-has : (handles : List Handle) (h : Handle) → Contains handles h → has_slot handles h.index ≡ true
+has_slot-has handles h has = search (rules, list_any_at (λ (x : Handle). eqb x.index h.index) handles has.0 h has.1)
 
-has_slot-apart : (handles : List Handle) (h : Handle) → All (AreApart h) handles
-    → has_slot handles h.index ≡ false
+has_slot-apart : (handles : List Handle) (h : Handle) → All (AreApart h) handles → has_slot handles h.index ≡ false
 has_slot-apart handles h apart = search (rules, list_any_none, ne_eqb)
 
 -- handles of as many slots
-count-apart : (handles : List Handle) (n : ℕ) → AllPairs AreApart handles
-    → All (λ h. h.index < n) handles → count (has_slot handles) 0 n ≡ length handles
+count-apart : (handles : List Handle) (n : ℕ) → AllPairs AreApart handles → All (λ h. h.index < n) handles
+    → count (has_slot handles) 0 n ≡ length handles
 count-apart [] n apart below = count-none 0 n
-count-apart (h ∷ handles) n apart below = let first : h.index < n = search (rules, All-head) in let rest = count-apart handles n (AllPairs-tail AreApart h handles apart) (All-tail (λ h. h.index < n) h handles below) in let none = has_slot-apart handles h (AllPairs-head AreApart h handles apart) in let more = count-one_more (has_slot handles) h.index 0 n in search (rules)
+count-apart (h ∷ handles) n apart below =
+    let first : h.index < n = search (rules, All-head) in
+    let rest = count-apart handles n (AllPairs-tail AreApart h handles apart)
+    (All-tail (λ h. h.index < n) h handles below) in
+    let none = has_slot-apart handles h (AllPairs-head AreApart h handles apart) in
+    let more = count-one_more (has_slot handles) h.index 0 n in
+    search (rules)
 
 -- a slot has one of these handles at most
 abbrev AreAlone : List Handle → Type 0
-AreAlone handles = (g h : Handle) → Contains handles g → Contains handles h → g.index ≡ h.index
-    → g ≡ h
+AreAlone handles = (g h : Handle) → Contains handles g → Contains handles h → g.index ≡ h.index → g ≡ h
 
-in_tail : (x : Handle) (handles : List Handle) (h : Handle) → Contains handles h
-    → Contains (x ∷ handles) h
+in_tail : (x : Handle) (handles : List Handle) (h : Handle) → Contains handles h → Contains (x ∷ handles) h
 in_tail x handles h (k, below, is) = (suc k, omega arith, is)
 
 alone-tail : (x : Handle) (handles : List Handle) → AreAlone (x ∷ handles) → AreAlone handles
@@ -105,14 +98,26 @@ either_of false P f g = g refl
 count-alone : (handles : List Handle) (n : ℕ) → AreAlone handles → All (λ h. h.index < n) handles
     → count (has_slot handles) 0 n ≡ set.len {R = handle_cmp} (set.from_list handles)
 count-alone [] n alone below = count-none 0 n ∙ sym (set.len-empty handle_cmp)
-count-alone (h ∷ handles) n alone below = let first : h.index < n = search (rules, All-head) in let rest = count-alone handles n (alone-tail h handles alone) (All-tail (λ h. h.index < n) h handles below) in let long = set.len-insert handle_cmp_total (set.from_list handles) h in let tells = set.contains-from_list handle_cmp_total handles h in either_of (stands_in handles h) (count (has_slot (h ∷ handles)) 0 n ≡ set.len {R = handle_cmp} (set.from_list (h ∷ handles))) (λ is. let there = has_slot-has handles h (Contains-from_stands_in handles h is) in let same = count_alike (has_slot (h ∷ handles)) (has_slot handles) 0 n (λ i _ _. grind (arith, common_steps)) in cc) (λ is. let none : has_slot handles h.index ≡ false = false_from_ne_true _ (λ one. let found = has_slot-found handles h.index one in let same = alone found.0 h (in_tail h handles found.0 found.1) (0, omega arith, refl) found.2 in true≢false (search (rules, stands_in-from_Contains, same))) in let more = count-one_more (has_slot handles) h.index 0 n (omega arith) (omega arith) none in cc)
+count-alone (h ∷ handles) n alone below =
+    let first : h.index < n = search (rules, All-head) in
+    let rest = count-alone handles n (alone-tail h handles alone) (All-tail (λ h. h.index < n) h handles below) in
+    let long = set.len-insert handle_cmp_total (set.from_list handles) h in
+    let tells = set.contains-from_list handle_cmp_total handles h in
+    either_of (stands_in handles h) (count (has_slot (h ∷ handles)) 0 n
+    ≡ set.len {R = handle_cmp} (set.from_list (h ∷ handles)))
+    (λ is. let there = has_slot-has handles h (Contains-from_stands_in handles h is) in let same = count_alike
+    (has_slot (h ∷ handles)) (has_slot handles) 0 n (λ i _ _. grind (arith, common_steps)) in cc)
+    (λ is. let none : has_slot handles h.index ≡ false = false_from_ne_true _
+    (λ one. let found = has_slot-found handles h.index one in let same = alone found.0 h
+    (in_tail h handles found.0 found.1) (0, omega arith, refl) found.2 in true≢false
+    (search (rules, stands_in-from_Contains, same))) in let more = count-one_more (has_slot handles) h.index 0 n
+    (omega arith) (omega arith) none in cc)
 
 -- of the old slots, the old handles tell
 has_slot-old : (made : ℕ) (handles : List Handle) (index : ℕ) → index < made
     → has_slot handles index ≡ has_slot (filter (is_old made) handles) index
 has_slot-old made [] index below = refl
-has_slot-old made (h ∷ handles) index below =
-    grind (arith, common_steps, has_slot-old made handles index below)
+has_slot-old made (h ∷ handles) index below = grind (arith, common_steps, has_slot-old made handles index below)
 
 -- ---- the slots of an allocator
 
@@ -124,31 +129,24 @@ module _ (s : Allocator) (sound : IsSound s) where
   lives h has = set.contains-items s.live h ∙ stands_in-from_Contains living h has
 
   listed : s.live ≡ set.from_list living
-  listed = set.same_set handle_cmp_total handle_cmp-IsAntisymmetric _ _ (λ q.
-      set.contains-items s.live q ∙ sym (set.contains-from_list handle_cmp_total living q))
+  listed = set.same_set handle_cmp_total handle_cmp-IsAntisymmetric _ _
+      (λ q. set.contains-items s.live q ∙ sym (set.contains-from_list handle_cmp_total living q))
 
   count-living : count (has_slot living) 0 s.made ≡ set.len s.live
-  count-living =
-      count-alone living s.made
-      (λ g h in_g in_h. sound.one_occupant g h (lives g in_g) (lives h in_h))
-      (λ i d lt. (sound.live (get_or living i d) (lives (get_or living i d)
-      (Contains-get_or living i d lt))).made)
+  count-living = count-alone living s.made (λ g h in_g in_h. sound.one_occupant g h (lives g in_g) (lives h in_h))
+      (λ i d lt. (sound.live (get_or living i d) (lives (get_or living i d) (Contains-get_or living i d lt))).made)
       ∙ ap (λ l. set.len l) (sym listed)
 
   count-waiting : count (has_slot (available s)) 0 s.made ≡ top s
-  count-waiting =
-      count_alike (has_slot (available s)) (has_slot (old_ones s)) 0 s.made
+  count-waiting = count_alike (has_slot (available s)) (has_slot (old_ones s)) 0 s.made
       (λ i _ below. has_slot-old s.made (available s) i (omega arith))
-      ∙ count-apart (old_ones s) s.made
-      (AllPairs-filter AreApart (is_old s.made) (available s) sound.apart) (old_ones_below s)
+      ∙ count-apart (old_ones s) s.made (AllPairs-filter AreApart (is_old s.made) (available s) sound.apart)
+      (old_ones_below s)
 
   -- what is neither alive nor old and to be given is retired
   pub retired-rest : retired s + (set.len s.live + top s) ≡ s.made
   retired-rest =
       let parts = count-parts (has_slot living) (has_slot (available s)) 0 s.made
-      (λ i _ _ alive waits.
-      let g = has_slot-found living i alive in
-      let h = has_slot-found (available s) i waits in
-      All-contains (AreApart g.0) (available s) h.0 (sound.live g.0 (lives g.0 g.1)).apart h.1
-      (g.2 ∙ sym h.2)) in
+      (λ i _ _ alive waits. let g = has_slot-found living i alive in let h = has_slot-found (available s) i waits in
+      All-contains (AreApart g.0) (available s) h.0 (sound.live g.0 (lives g.0 g.1)).apart h.1 (g.2 ∙ sym h.2)) in
       omega (arith, count-living, count-waiting)

@@ -1,19 +1,16 @@
 -- What becomes of the records when pending slots get their next occupants.
-use Rattle.std.proofs.Common.{rules, ◌≡◌, ◌≢◌, ℕ, ◌+◌, ◌<◌, ◌||◌, List, [], ◌∷◌, length, get_or}
-use Rattle.std.proofs.Common.{set, map, refl, arith, suc}
+use Rattle.std.proofs.Common.{rules, ◌≡◌, ◌≢◌, ℕ, ◌+◌, ◌<◌, ◌||◌, List, [], ◌∷◌, length, get_or, set, map, refl, arith, suc}
 use Rattle.std.proofs.lemmas.Grind.{common_steps}
 use Rattle.std.specs.List.{list_any}
 use Rattle.std.specs.Ordering.{eq_by_cmp}
 use Rattle.std.specs.FinSet as sets
 use Rattle.std.proofs.lemmas.List.{get_or-set_other, length-set}
-use Rattle.ent_handle.specs.Handle.{Handle, handle_cmp, handle_cmp_total}
-use Rattle.ent_handle.specs.Handle.{handle_cmp-IsAntisymmetric}
+use Rattle.ent_handle.specs.Handle.{Handle, handle_cmp, handle_cmp_total, handle_cmp-IsAntisymmetric}
 use Rattle.ent_alloc.proofs.ListLaws.{map_alike}
 use Rattle.ent_alloc.specs.declared.slot_record.SlotRecord.{SlotRecord}
 use Rattle.ent_alloc.specs.declared.slot_record.Occupancy.TheVariants.{Alive, Pending}
 use Rattle.ent_alloc.specs.Slots.{occupants, record_at, rows_from, reuse, reused, handle_at}
-use Rattle.ent_alloc.proofs.Occupants.{is_occupant, contains_occupants, is_occupant-set}
-use Rattle.ent_alloc.proofs.Occupants.{length-occupants-set, ties}
+use Rattle.ent_alloc.proofs.Occupants.{is_occupant, contains_occupants, is_occupant-set, length-occupants-set, ties}
 use Rattle.ent_alloc.proofs.KeptRows.{rows_from-set}
 
 -- The slots of these indexes wait at the positions from a first one on.
@@ -23,23 +20,19 @@ pub record Wait (records : List SlotRecord) (from : ℕ) (indices : List ℕ) : 
       ≡ Pending (from + k)
 
 -- after the first of them got its occupant, the others still wait
-pub Wait-rest : (records : List SlotRecord) (from index : ℕ) (indices : List ℕ)
-    → Wait records from (index ∷ indices)
+pub Wait-rest : (records : List SlotRecord) (from index : ℕ) (indices : List ℕ) → Wait records from (index ∷ indices)
     → Wait (set records index (reuse (record_at records index))) (from + 1) indices
 Wait-rest records from index indices wait = record {
-  made = λ k within. let h = wait.made (suc k) (omega arith) in
-      omega (arith, length-set records index (reuse (record_at records index)));
-  pending = λ k within.
-      let here = wait.pending 0 (omega arith) in
-      let there = wait.pending (suc k) (omega arith) in
+  made = λ k within. let h = wait.made (suc k) (omega arith) in omega
+      (arith, length-set records index (reuse (record_at records index)));
+  pending = λ k within. let here = wait.pending 0 (omega arith) in let there = wait.pending (suc k) (omega arith) in
       grind (arith, common_steps);
 }
 
-pub length-reused : (records : List SlotRecord) (indices : List ℕ) → length (reused records indices)
-    ≡ length records
+pub length-reused : (records : List SlotRecord) (indices : List ℕ) → length (reused records indices) ≡ length records
 length-reused records [] = refl
-length-reused records (index ∷ indices) =
-    search (rules, length-reused (set records index (reuse (record_at records index))) indices)
+length-reused records (index ∷ indices) = search
+    (rules, length-reused (set records index (reuse (record_at records index))) indices)
 
 -- the generations stay
 generation-reuse : (records : List SlotRecord) (index at : ℕ) → index < length records
@@ -47,9 +40,8 @@ generation-reuse : (records : List SlotRecord) (index at : ℕ) → index < leng
     ≡ (record_at records at).generation
 generation-reuse records index at within = grind (arith, common_steps)
 
-pub generation-reused : (records : List SlotRecord) (from : ℕ) (indices : List ℕ) (at : ℕ)
-    → Wait records from indices → (record_at (reused records indices) at).generation
-    ≡ (record_at records at).generation
+pub generation-reused : (records : List SlotRecord) (from : ℕ) (indices : List ℕ) (at : ℕ) → Wait records from indices
+    → (record_at (reused records indices) at).generation ≡ (record_at records at).generation
 generation-reused records from [] at wait = refl
 generation-reused records from (index ∷ indices) at wait =
     let within = wait.made 0 (omega arith) in
@@ -58,8 +50,8 @@ generation-reused records from (index ∷ indices) at wait =
 
 -- a slot that waits at an earlier position goes on waiting there
 pub waiting-reused : (records : List SlotRecord) (from : ℕ) (indices : List ℕ) (at position : ℕ)
-    → Wait records from indices → (record_at records at).occupancy ≡ Pending position → position
-    < from → (record_at (reused records indices) at).occupancy ≡ Pending position
+    → Wait records from indices → (record_at records at).occupancy ≡ Pending position → position < from
+    → (record_at (reused records indices) at).occupancy ≡ Pending position
 waiting-reused records from [] at position wait is below = is
 waiting-reused records from (index ∷ indices) at position wait is below =
     let here = wait.pending 0 (omega arith) in
@@ -80,18 +72,17 @@ pub Alive≢Pending : {position : ℕ} → Alive ≢ Pending position
 Alive≢Pending e = cc
 
 pub waited-reused : (records : List SlotRecord) (from : ℕ) (indices : List ℕ) (at position : ℕ)
-    → Wait records from indices → (record_at (reused records indices) at).occupancy
-    ≡ Pending position → StillWaits records indices at position
+    → Wait records from indices → (record_at (reused records indices) at).occupancy ≡ Pending position
+    → StillWaits records indices at position
 waited-reused records from [] at position wait is = search (rules)
 waited-reused records from (index ∷ indices) at position wait is =
-    let later = waited-reused (set records index (reuse (record_at records index))) (from + 1)
-    indices at position (Wait-rest records from index indices wait) is in
+    let later = waited-reused (set records index (reuse (record_at records index))) (from + 1) indices at position
+    (Wait-rest records from index indices wait) is in
     grind (arith, common_steps, later.before, later.apart)
 
 -- each of them has a occupant more
-pub length-occupants-reused : (records : List SlotRecord) (from : ℕ) (indices : List ℕ)
-    → Wait records from indices → length (occupants 0 (reused records indices))
-    ≡ length (occupants 0 records) + length indices
+pub length-occupants-reused : (records : List SlotRecord) (from : ℕ) (indices : List ℕ) → Wait records from indices
+    → length (occupants 0 (reused records indices)) ≡ length (occupants 0 records) + length indices
 length-occupants-reused records from [] wait = omega arith
 length-occupants-reused records from (index ∷ indices) wait =
     let here = wait.pending 0 (omega arith) in
@@ -100,8 +91,8 @@ length-occupants-reused records from (index ∷ indices) wait =
     search (rules, length-occupants-reused next (from + 1) indices, Wait-rest, length-occupants-set)
 
 -- the rows stay
-pub rows_from-reused : (records : List SlotRecord) (from : ℕ) (indices : List ℕ)
-    → Wait records from indices → rows_from 0 (reused records indices) ≡ rows_from 0 records
+pub rows_from-reused : (records : List SlotRecord) (from : ℕ) (indices : List ℕ) → Wait records from indices
+    → rows_from 0 (reused records indices) ≡ rows_from 0 records
 rows_from-reused records from [] wait = refl
 rows_from-reused records from (index ∷ indices) wait =
     let here = wait.pending 0 (omega arith) in
@@ -116,20 +107,16 @@ is_occupant-reused records from [] q wait = refl
 is_occupant-reused records from (index ∷ indices) q wait =
     let within : index < length records = wait.made 0 (omega arith) in
     let next = set records index (reuse (record_at records index)) in
-    let rest =
-    is_occupant-reused next (from + 1) indices q (Wait-rest records from index indices wait) in
-    let same : map (handle_at next) indices ≡ map (handle_at records) indices =
-    search (rules, map_alike, generation-reuse) in
+    let rest = is_occupant-reused next (from + 1) indices q (Wait-rest records from index indices wait) in
+    let same : map (handle_at next) indices ≡ map (handle_at records) indices = search
+    (rules, map_alike, generation-reuse) in
     let set_is = is_occupant-set records index (reuse (record_at records index)) q within in
     grind (arith, common_steps, rest, same, set_is, ties q (handle_at records index))
 
 -- so the set of the occupants is the union
-pub live-reused : (records : List SlotRecord) (from : ℕ) (indices : List ℕ)
-    → Wait records from indices → sets.from_list {R = handle_cmp}
-    (occupants 0 (reused records indices)) ≡ sets.union (sets.from_list (occupants 0 records))
-    (sets.from_list (map (handle_at records) indices))
-live-reused records from indices wait =
-    sets.same_set handle_cmp_total handle_cmp-IsAntisymmetric _ _ (λ q.
-    let tells = is_occupant-reused records from indices q wait in
-    let joined = sets.contains-union handle_cmp_total in
-    search (rules, contains_occupants, sets.contains-from_list, joined, handle_cmp_total))
+pub live-reused : (records : List SlotRecord) (from : ℕ) (indices : List ℕ) → Wait records from indices
+    → sets.from_list {R = handle_cmp} (occupants 0 (reused records indices))
+    ≡ sets.union (sets.from_list (occupants 0 records)) (sets.from_list (map (handle_at records) indices))
+live-reused records from indices wait = sets.same_set handle_cmp_total handle_cmp-IsAntisymmetric _ _
+    (λ q. let tells = is_occupant-reused records from indices q wait in let joined = sets.contains-union
+    handle_cmp_total in search (rules, contains_occupants, sets.contains-from_list, joined, handle_cmp_total))

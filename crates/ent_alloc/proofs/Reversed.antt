@@ -1,10 +1,8 @@
 -- A list from its other end.
-use Rattle.std.proofs.Common.{rules, ◌≡◌, ℕ, ◌-◌, Bool, List, ◌++◌, length, take, drop, reverse}
-use Rattle.std.proofs.Common.{sym, ap, ◌∙◌}
+use Rattle.std.proofs.Common.{rules, ◌≡◌, ℕ, ◌-◌, Bool, List, ◌++◌, length, take, drop, reverse, sym, ap, ◌∙◌}
 use Rattle.std.specs.List.{list_any}
 use Rattle.std.proofs.lemmas.Bool.{cases_lt}
-use Rattle.std.proofs.lemmas.List.{length-reverse, length-drop, take-append-drop, take_all}
-use Rattle.std.proofs.lemmas.List.{drop_all, drop_at, take_at, reverse-append}
+use Rattle.std.proofs.lemmas.List.{length-reverse, length-drop, take-append-drop, take_all, drop_all, drop_at, take_at, reverse-append}
 use Rattle.ent_handle.specs.Handle.{Handle}
 use Rattle.std.proofs.lemmas.List.Sorted.{IsPermutation-reverse, list_any-IsPermutation}
 
@@ -14,8 +12,7 @@ module _ {X : Type 0} (n : ℕ) (xs : List X) where
   before = length xs - n
 
   turned : reverse xs ≡ reverse (drop before xs) ++ reverse (take before xs)
-  turned = ap reverse (sym (take-append-drop before xs))
-      ∙ reverse-append (take before xs) (drop before xs)
+  turned = ap reverse (sym (take-append-drop before xs)) ∙ reverse-append (take before xs) (drop before xs)
 
   long : length (reverse (drop before xs)) ≡ length xs - before
   long = length-reverse (drop before xs) ∙ length-drop before xs
@@ -27,6 +24,5 @@ module _ {X : Type 0} (n : ℕ) (xs : List X) where
   take-reverse = search (rules, long, cases_lt, take_all, length-reverse, turned, take_at)
 
 -- a test of the elements doesn't see their order
-pub list_any-reverse : (p : Handle → Bool) (hs : List Handle) → list_any p (reverse hs)
-    ≡ list_any p hs
+pub list_any-reverse : (p : Handle → Bool) (hs : List Handle) → list_any p (reverse hs) ≡ list_any p hs
 list_any-reverse p hs = search (rules, list_any-IsPermutation, IsPermutation-reverse)

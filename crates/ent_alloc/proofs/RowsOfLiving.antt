@@ -1,6 +1,5 @@
 -- Rows are kept of the living alone, whatever a call does.
-use Rattle.std.proofs.Common.{rules, ◌≡◌, true, false, cond, not, ◌&&◌, ℕ, List, refl, ap, ◌∙◌}
-use Rattle.std.proofs.Common.{None, Some, IsTrue, All}
+use Rattle.std.proofs.Common.{rules, ◌≡◌, true, false, cond, not, ◌&&◌, ℕ, List, refl, ap, ◌∙◌, None, Some, IsTrue, All}
 use Rattle.std.specs.Ordering.{eq_by_cmp}
 use Rattle.std.specs.FinSet as sets
 use Rattle.std.specs.FinMap as maps
@@ -19,30 +18,28 @@ pub no_rows : (live : sets.FinSet handle_cmp) → AreOf live maps.empty
 no_rows live h gone = maps.get-empty handle_cmp h
 
 -- more come to life
-pub rows-joined : (live : sets.FinSet handle_cmp) (more : List Handle)
-    (rows : maps.FinMap handle_cmp ℕ) → AreOf live rows
-    → AreOf (sets.union live (sets.from_list more)) rows
+pub rows-joined : (live : sets.FinSet handle_cmp) (more : List Handle) (rows : maps.FinMap handle_cmp ℕ)
+    → AreOf live rows → AreOf (sets.union live (sets.from_list more)) rows
 rows-joined live more rows kept h gone = kept h (λ alive. gone (union_list_keeps live more h alive))
 
 -- one goes, with its row
-pub rows-removed : (live : sets.FinSet handle_cmp) (x : Handle) (rows : maps.FinMap handle_cmp ℕ)
-    → AreOf live rows → AreOf (sets.remove live x) (maps.remove rows x)
+pub rows-removed : (live : sets.FinSet handle_cmp) (x : Handle) (rows : maps.FinMap handle_cmp ℕ) → AreOf live rows
+    → AreOf (sets.remove live x) (maps.remove rows x)
 rows-removed live x rows kept h gone = maps.get-remove handle_cmp_total rows x h
-    ∙ elim (eq_by_cmp handle_cmp h x) as (λ b. eq_by_cmp handle_cmp h x ≡ b
-    → cond b None (maps.get rows h) ≡ None) [
+    ∙ elim (eq_by_cmp handle_cmp h x) as (λ b. eq_by_cmp handle_cmp h x ≡ b → cond b None (maps.get rows h) ≡ None) [
       | true ↦ λ _. refl
       | false ↦ λ other. kept h (λ alive. gone (sets.contains-remove handle_cmp_total live x h
           ∙ (λ i. not (other i) && alive i)))
     ] refl
 
 -- one that lives gets a row
-pub rows-inserted : (live : sets.FinSet handle_cmp) (x : Handle) (row : ℕ)
-    (rows : maps.FinMap handle_cmp ℕ) → IsTrue (sets.contains live x) → AreOf live rows
-    → AreOf live (maps.insert rows x row)
+pub rows-inserted : (live : sets.FinSet handle_cmp) (x : Handle) (row : ℕ) (rows : maps.FinMap handle_cmp ℕ)
+    → IsTrue (sets.contains live x) → AreOf live rows → AreOf live (maps.insert rows x row)
 rows-inserted live x row rows lives kept h gone = maps.get-insert handle_cmp_total rows x row h
     ∙ elim (eq_by_cmp handle_cmp h x) as (λ b. eq_by_cmp handle_cmp h x ≡ b
     → cond b (Some row) (maps.get rows h) ≡ None) [
-      | true ↦ λ same. absurd (gone (ap (sets.contains live) (same_handle h x same) ∙ lives))
+      | true ↦ λ same. absurd
+          (gone (ap (sets.contains live) (same_handle h x same) ∙ lives))
       | false ↦ λ _. kept h gone
     ] refl
 

@@ -7,9 +7,7 @@ use Rattle.ent_alloc.specs.Sequential.{Allocator, available, top, after_take, se
 use Rattle.ent_alloc.specs.Sound.{IsSound}
 use Rattle.ent_alloc.proofs.LaidOut.{flushed-laid_out}
 use Rattle.ent_alloc.proofs.Taken.{length-available, after_take-served}
-use Rattle.ent_alloc.proofs.PoolLaw.{limits-after_takes, live-after_takes, after_takes}
-use Rattle.ent_alloc.proofs.PoolLaw.{after_takes-sound, available-after_takes, made-after_takes}
-use Rattle.ent_alloc.proofs.PoolLaw.{asked-after_takes, taken_is, aside_is}
+use Rattle.ent_alloc.proofs.PoolLaw.{limits-after_takes, live-after_takes, after_takes, after_takes-sound, available-after_takes, made-after_takes, asked-after_takes, taken_is, aside_is}
 use Rattle.ent_alloc.proofs.Meaning.{append_parts}
 use Rattle.ent_alloc.proofs.RequestLaws.{given_by, taken-since_flush}
 
@@ -29,8 +27,8 @@ module _ (s : Allocator) (h : IsSound s) (flushed : s.asked ≡ 0) where
   -- any two numbers that requests may leave
   pub settled-sound : (given asked : ℕ) → given ≤ asked → (asked ≤ length s.pool → given ≡ asked)
       → IsSound (settled s given asked)
-  settled-sound given asked le enough =
-      search (rules, append_parts, all_in_pool, nothing_taken, nothing_aside, drop_all, length-take)
+  settled-sound given asked le enough = search
+      (rules, append_parts, all_in_pool, nothing_taken, nothing_aside, drop_all, length-take)
 
   -- how many there are to give
   pub length-all : length s.pool ≡ top s + (s.limits.slots - s.made)
@@ -41,18 +39,18 @@ module _ (s : Allocator) (h : IsSound s) (flushed : s.asked ≡ 0) where
   pub settled-requests : (given asked : ℕ) → given ≤ asked → given ≤ length s.pool
       → (asked ≤ length s.pool → given ≡ asked) → settled s given asked
       ≡ after_take (after_take s given) (asked - given)
-  settled-requests given asked le enough whole =
-      search (rules, take_all, drop_all, after_take-served, length-drop, length-take, append-nil)
+  settled-requests given asked le enough whole = search
+      (rules, take_all, drop_all, after_take-served, length-drop, length-take, append-nil)
 
   -- requests leave such a state
-  pub after_takes-settled : (requests : List ℕ) → after_takes s requests
-      ≡ settled s (length (given_by s requests)) (sum requests)
+  pub after_takes-settled : (requests : List ℕ) → after_takes s requests ≡ settled s (length (given_by s requests)) (sum
+      requests)
   after_takes-settled requests =
       let t = after_takes s requests in
       let sound = after_takes-sound s requests h in
       let pool = available-after_takes s requests h ∙ all_in_pool in
-      let long : length t.taken ≡ length (given_by s requests) =
-      search (rules, length_permutation, taken-since_flush) in
+      let long : length t.taken ≡ length (given_by s requests) = search
+      (rules, length_permutation, taken-since_flush) in
       let taken = taken_is t in
       let aside = aside_is t sound in
       let asked = asked-after_takes s requests in

@@ -1,62 +1,48 @@
 -- Every step of the sequential allocator leads from a sound state to a sound state.
-use Rattle.std.proofs.Common.{rules, ◌≡◌, refl, sym, ap, ◌∙◌, subst, ℕ, zero, suc, ◌+◌, ◌-◌, ◌<◌}
-use Rattle.std.proofs.Common.{◌≤◌, true≢false, List, [], ◌∷◌, ◌++◌, length, get_or}
-use Rattle.std.proofs.Common.{take, drop, All, AllPairs, arith, append-nil, lt-ltb, le-ltb, ◌≢◌}
-use Rattle.std.proofs.Common.{inl, inr, Some, None, Option}
+use Rattle.std.proofs.Common.{rules, ◌≡◌, refl, sym, ap, ◌∙◌, subst, ℕ, zero, suc, ◌+◌, ◌-◌, ◌<◌, ◌≤◌, true≢false, List, [], ◌∷◌, ◌++◌, length, get_or, take, drop, All, AllPairs, arith, append-nil, lt-ltb, le-ltb, ◌≢◌, inl, inr, Some, None, Option}
 use Rattle.std.proofs.lemmas.Grind.{common_steps}
 use Rattle.std.specs.Option.{IfSome}
 use Rattle.std.proofs.lemmas.Bool.{cases_lt}
 use Rattle.std.specs.FinSet as set
 use Rattle.std.proofs.lemmas.List.{drop-drop, drop_all}
-use Rattle.std.proofs.lemmas.List.Elements.{All-drop, All-head, All-tail, All-nil, All-cons}
-use Rattle.std.proofs.lemmas.List.Elements.{All-weaker, All-filter}
+use Rattle.std.proofs.lemmas.List.Elements.{All-drop, All-head, All-tail, All-nil, All-cons, All-weaker, All-filter}
 use Rattle.std.proofs.lemmas.List.Kept.{AllPairs-filter, AllPairs-cons}
 use Rattle.ent_handle.specs.Handle.{Handle, handle_cmp}
 use Rattle.ent_alloc.specs.Limits.{Limits, AreLimits}
-use Rattle.ent_alloc.specs.Sequential.{Allocator, opening, available, after_take, after_flush}
-use Rattle.ent_alloc.specs.Sequential.{after_alloc, after_free, next, following, in_front, fresh}
-use Rattle.ent_alloc.specs.Sequential.{is_old}
+use Rattle.ent_alloc.specs.Sequential.{Allocator, opening, available, after_take, after_flush, after_alloc, after_free, next, following, in_front, fresh, is_old}
 use Rattle.ent_alloc.specs.Sound.{IsSound, IsWithin, AreApart, IsLive}
-use Rattle.ent_alloc.proofs.ListLaws.{AllPairs-left, AllPairs-across, All-left, AllPairs-drop}
-use Rattle.ent_alloc.proofs.ListLaws.{AllPairs-head, AllPairs-tail}
+use Rattle.ent_alloc.proofs.ListLaws.{AllPairs-left, AllPairs-across, All-left, AllPairs-drop, AllPairs-head, AllPairs-tail}
 use Rattle.ent_alloc.proofs.FreshHandles.{fresh-next, fresh-none, first_of_slot}
-use Rattle.ent_alloc.proofs.HandleSets.{in_removed, one_occupant_inserted, one_occupant_joined}
-use Rattle.ent_alloc.proofs.HandleSets.{of_inserted, of_joined}
-use Rattle.ent_alloc.proofs.LaidOut.{old_ones, old_ones_below, IsLaidOut, laid_out-sound}
-use Rattle.ent_alloc.proofs.LaidOut.{flushed-laid_out, apart_by_made}
-use Rattle.ent_alloc.proofs.Taken.{aside_or_pool, length-pool, take_moves, after_take-served}
-use Rattle.ent_alloc.proofs.Taken.{after_take-refused, enough, left-parts, taken_below}
-use Rattle.ent_alloc.proofs.Taken.{made-after_flush}
+use Rattle.ent_alloc.proofs.HandleSets.{in_removed, one_occupant_inserted, one_occupant_joined, of_inserted, of_joined}
+use Rattle.ent_alloc.proofs.LaidOut.{old_ones, old_ones_below, IsLaidOut, laid_out-sound, flushed-laid_out, apart_by_made}
+use Rattle.ent_alloc.proofs.Taken.{aside_or_pool, length-pool, take_moves, after_take-served, after_take-refused, enough, left-parts, taken_below, made-after_flush}
 
 -- the allocator that has given nothing
 pub opening-sound : (limits : Limits) → AreLimits limits → IsSound (opening limits)
 opening-sound limits ok =
-    let no_one : (h : Handle) → IsLive (opening limits) h → ⊥ = λ h alive.
-    true≢false (sym alive ∙ set.contains-empty handle_cmp h) in
+    let no_one : (h : Handle) → IsLive (opening limits) h → ⊥ = λ h alive. true≢false (sym alive ∙ set.contains-empty
+    handle_cmp h) in
     laid_out-sound (opening limits) [] (search (rules, no_one, All-nil))
 
 -- other lists of the same handles, as far as the requests have reached
-pub IsSound-moved : (s : Allocator) (taken aside pool : List Handle) (asked : ℕ) → IsSound s → taken
-    ++ (aside ++ pool) ≡ available s → pool ≡ drop asked (available s)
-    → (asked ≤ length (available s) → aside ≡ [])
-    → IsSound (record s { taken = taken; aside = aside; pool = pool; asked = asked })
+pub IsSound-moved : (s : Allocator) (taken aside pool : List Handle) (asked : ℕ) → IsSound s
+    → taken ++ (aside ++ pool) ≡ available s → pool ≡ drop asked (available s)
+    → (asked ≤ length (available s) → aside ≡ []) → IsSound
+    (record s { taken = taken; aside = aside; pool = pool; asked = asked })
 IsSound-moved s taken aside pool asked h same rest enough = search (rules, enough)
 
 -- a request, served or refused
 pub after_take-sound : (s : Allocator) (n : ℕ) → IsSound s → IsSound (after_take s n)
 after_take-sound s n h = elim (cases_lt (length s.pool) n) [
-  | inl short ↦
-      search (rules, length-pool, after_take-refused, IsSound-moved, append-nil, drop_all, enough)
-  | inr enough ↦ rw (after_take-served s n enough) (
-      IsSound-moved s (s.taken ++ take n s.pool) s.aside (drop n s.pool) (s.asked + n) h
-      (take_moves s.taken s.aside s.pool n (aside_or_pool s h))
-      (ap (drop n) h.pool ∙ drop-drop n s.asked (available s)) (λ enough. h.aside (omega arith))
-      )
+  | inl short ↦ search (rules, length-pool, after_take-refused, IsSound-moved, append-nil, drop_all, enough)
+  | inr
+      enough ↦ rw (after_take-served s n enough) (IsSound-moved s (s.taken ++ take n s.pool) s.aside (drop n s.pool)
+      (s.asked + n) h (take_moves s.taken s.aside s.pool n (aside_or_pool s h))
+      (ap (drop n) h.pool ∙ drop-drop n s.asked (available s)) (λ enough. h.aside (omega arith)))
 ]
 
 -- else the next one
-pub next-later : (limits : Limits) (h : Handle) → h.generation ≢ limits.generations → next limits h
-    ≡ Some (following h)
+pub next-later : (limits : Limits) (h : Handle) → h.generation ≢ limits.generations → next limits h ≡ Some (following h)
 next-later limits h before = search (rules)
 
 -- what holds of what follows
@@ -65,50 +51,54 @@ pub of_next : (P : Handle → Type 0) (limits : Limits) (h : Handle)
 of_next P limits h each = grind (arith, common_steps)
 
 -- the limits allow what follows
-pub following-within : (limits : Limits) (h : Handle) → IsWithin limits h → h.generation
-    ≢ limits.generations → IsWithin limits (following h)
+pub following-within : (limits : Limits) (h : Handle) → IsWithin limits h → h.generation ≢ limits.generations
+    → IsWithin limits (following h)
 following-within limits h within before = search (rules)
 
 -- what holds of a list and of what stands in front of it
-pub All-in_front : (P : Handle → Type 0) (o : Option Handle) (handles : List Handle) → IfSome o P
-    → All P handles → All P (in_front o handles)
+pub All-in_front : (P : Handle → Type 0) (o : Option Handle) (handles : List Handle) → IfSome o P → All P handles
+    → All P (in_front o handles)
 All-in_front P None handles first all = all
 All-in_front P (Some h) handles first all = All-cons P h handles first all
 
-AllPairs-in_front : (o : Option Handle) (handles : List Handle)
-    → IfSome o (λ h. All (AreApart h) handles) → AllPairs AreApart handles
-    → AllPairs AreApart (in_front o handles)
+AllPairs-in_front : (o : Option Handle) (handles : List Handle) → IfSome o (λ h. All (AreApart h) handles)
+    → AllPairs AreApart handles → AllPairs AreApart (in_front o handles)
 AllPairs-in_front o handles first all = search (rules, AllPairs-cons)
 
-append-in_front : (o : Option Handle) (handles more : List Handle) → in_front o (handles ++ more)
-    ≡ in_front o handles ++ more
+append-in_front : (o : Option Handle) (handles more : List Handle) → in_front o (handles ++ more) ≡ in_front o handles
+    ++ more
 append-in_front o handles more = grind (arith)
 
 -- a living handle goes
-pub after_free-sound : (s : Allocator) (x : Handle) → IsSound s → s.asked ≡ 0 → IsLive s x
-    → IsSound (after_free s x)
-after_free-sound s x h flushed alive =
-    search (
-      rules,
-      flushed-laid_out,
-      laid_out-sound,
-      old_ones,
-      append-in_front,
-      All-in_front,
-      of_next,
-      following-within,
-      AllPairs-in_front,
-      in_removed,
-    )
+pub after_free-sound : (s : Allocator) (x : Handle) → IsSound s → s.asked ≡ 0 → IsLive s x → IsSound (after_free s x)
+after_free-sound s x h flushed alive = search (
+  rules,
+  flushed-laid_out,
+  laid_out-sound,
+  old_ones,
+  append-in_front,
+  All-in_front,
+  of_next,
+  following-within,
+  AllPairs-in_front,
+  in_removed,
+)
 
 -- an old handle that comes to life
-pub after_alloc-old : (s : Allocator) (x : Handle) → x.index < s.made → after_alloc s x
-    ≡ record s { live = set.insert s.live x; pool = drop 1 s.pool }
+pub after_alloc-old : (s : Allocator) (x : Handle) → x.index < s.made → after_alloc s x ≡ record s {
+  live = set.insert
+      s.live x;
+  pool = drop 1 s.pool;
+}
 after_alloc-old s x old = search (rules, lt-ltb)
 
 -- a fresh handle that comes to life: its slot is made
-pub after_alloc-fresh : (s : Allocator) (x : Handle) → s.made ≤ x.index → after_alloc s x
-    ≡ record s { live = set.insert s.live x; pool = drop 1 s.pool; made = s.made + 1 }
+pub after_alloc-fresh : (s : Allocator) (x : Handle) → s.made ≤ x.index → after_alloc s x ≡ record s {
+  live = set.insert
+      s.live x;
+  pool = drop 1 s.pool;
+  made = s.made + 1;
+}
 after_alloc-fresh s x new = search (rules, le-ltb)
 
 -- the first old handle comes to life
@@ -124,25 +114,17 @@ alloc_of_old s x old was = record {
   within = search (rules, All-tail);
   below = search (rules, All-tail);
   apart = AllPairs-tail AreApart x old was.apart;
-  live_within = of_inserted (IsWithin s.limits) s.live x (was.within 0 x (omega arith))
-      was.live_within;
-  live_below = of_inserted (λ h. h.index < s.made) s.live x (was.below 0 x (omega arith))
-      was.live_below;
-  live_apart = of_inserted (λ h. All (AreApart h) old) s.live x
-      (AllPairs-head AreApart x old was.apart) (λ y alive. All-tail (AreApart y) x old
-      (was.live_apart y alive));
-  one_occupant = one_occupant_inserted s.live x
-      (λ y alive. was.live_apart y alive 0 x (omega arith))
-      was.one_occupant;
+  live_within = of_inserted (IsWithin s.limits) s.live x (was.within 0 x (omega arith)) was.live_within;
+  live_below = of_inserted (λ h. h.index < s.made) s.live x (was.below 0 x (omega arith)) was.live_below;
+  live_apart = of_inserted (λ h. All (AreApart h) old) s.live x (AllPairs-head AreApart x old was.apart)
+      (λ y alive. All-tail (AreApart y) x old (was.live_apart y alive));
+  one_occupant = one_occupant_inserted s.live x (λ y alive. was.live_apart y alive 0 x (omega arith)) was.one_occupant;
 }
 
 -- where no old handle waits, the first occupant of a new slot does
 alloc_of_fresh : (s : Allocator) (more : ℕ) → IsLaidOut s [] → s.limits.slots - s.made ≡ suc more
-    → IsLaidOut (record s {
-      live = set.insert s.live (first_of_slot s.made);
-      pool = drop 1 s.pool;
-      made = s.made + 1;
-    }) []
+    → IsLaidOut (record s { live = set.insert s.live (first_of_slot s.made); pool = drop 1 s.pool; made = s.made + 1 })
+    []
 alloc_of_fresh s more was some =
     let x = first_of_slot s.made in
     let fewer : s.limits.slots - (s.made + 1) ≡ more = omega arith in
@@ -164,8 +146,8 @@ alloc_of_fresh s more was some =
     }
 
 -- the handle at the front of the pool comes to life
-pub after_alloc-sound : (s : Allocator) (x : Handle) (rest : List Handle) → IsSound s → s.asked ≡ 0
-    → s.pool ≡ x ∷ rest → IsSound (after_alloc s x)
+pub after_alloc-sound : (s : Allocator) (x : Handle) (rest : List Handle) → IsSound s → s.asked ≡ 0 → s.pool ≡ x ∷ rest
+    → IsSound (after_alloc s x)
 after_alloc-sound s x rest h flushed front = by_first (old_ones s) (flushed-laid_out s h flushed)
   where
     of_new : (more : ℕ) → s.limits.slots - s.made ≡ more → IsLaidOut s [] → IsSound
@@ -188,9 +170,32 @@ after_alloc-sound s x rest h flushed front = by_first (old_ones s) (flushed-laid
         (laid_out-sound _ old (alloc_of_old s y old was))
 
 -- a flush leaves the old handles that were not taken
-pub flush-laid_out : (s : Allocator) → IsSound s
-    → IsLaidOut (after_flush s) (drop (length s.taken) (old_ones s))
-flush-laid_out s h = let k = length s.taken in let old = drop k (old_ones s) in record { limits = h.limits; made = omega (arith, made-after_flush s h, enough s h, h.made); taken = refl; aside = refl; asked = refl; pool = left-parts s h; within = All-drop (IsWithin s.limits) k (old_ones s) (All-filter (is_old s.made) (IsWithin s.limits) (available s) h.within); below = grind (arith, common_steps, All-drop, old_ones, All-weaker, old_ones_below); apart = AllPairs-drop AreApart k (old_ones s) (AllPairs-filter AreApart (is_old s.made) (available s) h.apart); live_within = of_joined (IsWithin s.limits) s.live s.taken (λ x alive. (h.live x alive).within) (All-left (IsWithin s.limits) s.taken (s.aside ++ s.pool) h.within); live_below = of_joined (λ h. h.index < (after_flush s).made) s.live s.taken (λ x alive. let was = (h.live x alive).made in omega arith) (taken_below s h); live_apart = of_joined (λ h. All (AreApart h) old) s.live s.taken (λ x alive. All-drop (AreApart x) k (old_ones s) (All-filter (is_old s.made) (AreApart x) (available s) (h.live x alive).apart)) (λ i d lt. All-left (AreApart (get_or s.taken i d)) old _ (subst (All (AreApart (get_or s.taken i d))) (left-parts s h) (AllPairs-across AreApart s.taken (s.aside ++ s.pool) h.apart i d lt))); one_occupant = one_occupant_joined s.live s.taken (λ x alive. All-left (AreApart x) s.taken (s.aside ++ s.pool) (h.live x alive).apart) (AllPairs-left AreApart s.taken (s.aside ++ s.pool) h.apart) h.one_occupant }
+pub flush-laid_out : (s : Allocator) → IsSound s → IsLaidOut (after_flush s) (drop (length s.taken) (old_ones s))
+flush-laid_out s h =
+    let k = length s.taken in
+    let old = drop k (old_ones s) in
+    record {
+      limits = h.limits;
+      made = omega (arith, made-after_flush s h, enough s h, h.made);
+      taken = refl;
+      aside = refl;
+      asked = refl;
+      pool = left-parts s h;
+      within = All-drop (IsWithin s.limits) k (old_ones s) (All-filter (is_old s.made) (IsWithin s.limits) (available s)
+          h.within);
+      below = grind (arith, common_steps, All-drop, old_ones, All-weaker, old_ones_below);
+      apart = AllPairs-drop AreApart k (old_ones s) (AllPairs-filter AreApart (is_old s.made) (available s) h.apart);
+      live_within = of_joined (IsWithin s.limits) s.live s.taken (λ x alive. (h.live x alive).within)
+          (All-left (IsWithin s.limits) s.taken (s.aside ++ s.pool) h.within);
+      live_below = of_joined (λ h. h.index < (after_flush s).made) s.live s.taken
+          (λ x alive. let was = (h.live x alive).made in omega arith) (taken_below s h);
+      live_apart = of_joined (λ h. All (AreApart h) old) s.live s.taken (λ x alive. All-drop (AreApart x) k (old_ones s)
+          (All-filter (is_old s.made) (AreApart x) (available s) (h.live x alive).apart))
+          (λ i d lt. All-left (AreApart (get_or s.taken i d)) old _ (subst (All (AreApart (get_or s.taken i d)))
+          (left-parts s h) (AllPairs-across AreApart s.taken (s.aside ++ s.pool) h.apart i d lt)));
+      one_occupant = one_occupant_joined s.live s.taken (λ x alive. All-left (AreApart x) s.taken (s.aside ++ s.pool)
+          (h.live x alive).apart) (AllPairs-left AreApart s.taken (s.aside ++ s.pool) h.apart) h.one_occupant;
+    }
 
 -- what was taken comes to life
 pub after_flush-sound : (s : Allocator) → IsSound s → IsSound (after_flush s)

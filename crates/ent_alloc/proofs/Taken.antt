@@ -1,17 +1,14 @@
 -- What a request does to the lists of a sound allocator, and what is taken by all requests.
-use Rattle.std.proofs.Common.{rules, ◌≡◌, sym, ap, ◌∙◌, subst, ℕ, ◌+◌, ◌-◌, ◌<◌, ◌≤◌, List, []}
-use Rattle.std.proofs.Common.{◌++◌, length, take, drop, filter, All, arith, le-leb, ◌⊎◌}
+use Rattle.std.proofs.Common.{rules, ◌≡◌, sym, ap, ◌∙◌, subst, ℕ, ◌+◌, ◌-◌, ◌<◌, ◌≤◌, List, [], ◌++◌, length, take, drop, filter, All, arith, le-leb, ◌⊎◌}
 use Rattle.std.proofs.lemmas.Grind.{common_steps}
 use Rattle.std.proofs.lemmas.Bool.{cases_lt, lt-leb}
 use Rattle.std.proofs.Math.Seq.{take-append_seam, drop-append_seam}
 use Rattle.std.proofs.lemmas.List.{length-append, length-drop}
 use Rattle.std.proofs.lemmas.List.Elements.{All-take, All-append, All-weaker}
 use Rattle.ent_handle.specs.Handle.{Handle}
-use Rattle.ent_alloc.specs.Sequential.{Allocator, top, available, after_take, after_flush, fresh}
-use Rattle.ent_alloc.specs.Sequential.{is_fresh}
+use Rattle.ent_alloc.specs.Sequential.{Allocator, top, available, after_take, after_flush, fresh, is_fresh}
 use Rattle.ent_alloc.specs.Sound.{IsSound}
-use Rattle.ent_alloc.proofs.FreshHandles.{All-fresh, fresh_of_joined, take_joined, drop_joined}
-use Rattle.ent_alloc.proofs.FreshHandles.{length-fresh}
+use Rattle.ent_alloc.proofs.FreshHandles.{All-fresh, fresh_of_joined, take_joined, drop_joined, length-fresh}
 use Rattle.ent_alloc.proofs.LaidOut.{old_ones, old_ones_below}
 
 -- something was passed over, or something is left
@@ -28,23 +25,21 @@ pub take_moves : (taken aside pool : List Handle) (n : ℕ) → (aside ≡ []) �
 take_moves taken aside pool n either = grind (arith, common_steps)
 
 -- a request for no more than the pool has
-pub after_take-served : (s : Allocator) (n : ℕ) → n ≤ length s.pool → after_take s n
-    ≡ record s { taken = s.taken ++ take n s.pool; pool = drop n s.pool; asked = s.asked + n }
+pub after_take-served : (s : Allocator) (n : ℕ) → n ≤ length s.pool
+    → after_take s n ≡ record s { taken = s.taken ++ take n s.pool; pool = drop n s.pool; asked = s.asked + n }
 after_take-served s n enough = search (rules, le-leb)
 
 -- a request for more than the pool has
-pub after_take-refused : (s : Allocator) (n : ℕ) → length s.pool < n → after_take s n
-    ≡ record s { aside = s.aside ++ s.pool; pool = []; asked = s.asked + n }
+pub after_take-refused : (s : Allocator) (n : ℕ) → length s.pool < n
+    → after_take s n ≡ record s { aside = s.aside ++ s.pool; pool = []; asked = s.asked + n }
 after_take-refused s n short = search (rules, lt-leb)
 
 -- what there was to give stays
-pub available-after_take : (s : Allocator) (n : ℕ) → IsSound s → available (after_take s n)
-    ≡ available s
+pub available-after_take : (s : Allocator) (n : ℕ) → IsSound s → available (after_take s n) ≡ available s
 available-after_take s n h = search (rules, cases_lt, after_take-served, take_moves, aside_or_pool)
 
 -- how many there are to give, or were since the last flush
-pub length-available : (s : Allocator) → IsSound s → length (available s) ≡ top s
-    + (s.limits.slots - s.made)
+pub length-available : (s : Allocator) → IsSound s → length (available s) ≡ top s + (s.limits.slots - s.made)
 length-available s h = search (rules, length-append, old_ones, length-fresh)
 
 -- what is taken: old handles, and fresh ones once there are no more old ones
@@ -54,12 +49,9 @@ module _ (s : Allocator) (h : IsSound s) where
   enough = search (rules, old_ones, length-available, length-append)
 
   -- first the old ones, then fresh ones
-  pub taken-parts : s.taken ≡ take (length s.taken) (old_ones s)
-      ++ fresh s.made (length s.taken - top s)
-  taken-parts =
-      sym (take-append_seam s.taken (s.aside ++ s.pool)) ∙ ap (take (length s.taken)) h.order
-      ∙ take_joined s.made (s.limits.slots - s.made) (old_ones s) (old_ones_below s)
-      (length s.taken) enough
+  pub taken-parts : s.taken ≡ take (length s.taken) (old_ones s) ++ fresh s.made (length s.taken - top s)
+  taken-parts = sym (take-append_seam s.taken (s.aside ++ s.pool)) ∙ ap (take (length s.taken)) h.order
+      ∙ take_joined s.made (s.limits.slots - s.made) (old_ones s) (old_ones_below s) (length s.taken) enough
 
   -- slots of old ones were made
   taken_old_below : All (λ h. h.index < s.made) (take (length s.taken) (old_ones s))
@@ -76,16 +68,16 @@ module _ (s : Allocator) (h : IsSound s) where
   -- what is left by the flush
   pub left-parts : s.aside ++ s.pool ≡ drop (length s.taken) (old_ones s)
       ++ fresh (after_flush s).made (s.limits.slots - (after_flush s).made)
-  left-parts = let joined = drop_joined s.made (s.limits.slots - s.made) (old_ones s) (old_ones_below s) (length s.taken) in search (rules, made-after_flush, drop-append_seam)
+  left-parts =
+      let joined = drop_joined s.made (s.limits.slots - s.made) (old_ones s) (old_ones_below s) (length s.taken) in
+      search (rules, made-after_flush, drop-append_seam)
 
   -- and so every slot from which something is taken
   pub taken_below : All (λ h. h.index < (after_flush s).made) s.taken
   taken_below =
       let more : s.made + (length s.taken - top s) ≡ (after_flush s).made = sym made-after_flush in
       subst (All (λ h. h.index < (after_flush s).made)) (sym taken-parts)
-      (All-append (λ h. h.index < (after_flush s).made)
-      (take (length s.taken) (old_ones s)) (fresh s.made (length s.taken - top s))
-      (All-weaker (λ h. h.index < s.made) (λ h. h.index < (after_flush s).made)
+      (All-append (λ h. h.index < (after_flush s).made) (take (length s.taken) (old_ones s))
+      (fresh s.made (length s.taken - top s)) (All-weaker (λ h. h.index < s.made) (λ h. h.index < (after_flush s).made)
       (λ h lt. omega arith) (take (length s.taken) (old_ones s)) taken_old_below)
-      (All-fresh (λ h. h.index < (after_flush s).made) s.made (length s.taken - top s)
-      (λ k lt. omega arith)))
+      (All-fresh (λ h. h.index < (after_flush s).made) s.made (length s.taken - top s) (λ k lt. omega arith)))

@@ -1,22 +1,19 @@
 -- Slots that are made, and wait after all others: the vectors stay linked, and the roster has their
 -- first occupants.
-use Rattle.std.proofs.Common.{rules, ◌≡◌, inl, inr, ℕ, zero, suc, ◌+◌, ◌-◌, ◌<◌, ◌≤◌, refl, sym, ap}
-use Rattle.std.proofs.Common.{◌∙◌, List, [], ◌∷◌, ◌++◌, length, get_or, map, arith}
+use Rattle.std.proofs.Common.{rules, ◌≡◌, inl, inr, ℕ, zero, suc, ◌+◌, ◌-◌, ◌<◌, ◌≤◌, refl, sym, ap, ◌∙◌, List, [], ◌∷◌, ◌++◌, length, get_or, map, arith}
 use Rattle.std.specs.List.{range_with_len}
 use Rattle.std.specs.FinSet as sets
 use Rattle.std.specs.FinMap as maps
 use Rattle.std.proofs.lemmas.Grind.{common_steps}
 use Rattle.std.proofs.lemmas.Bool.{cases_lt}
-use Rattle.std.proofs.lemmas.List.{length-append, get_or_append_left, get_or-append-add, same_lists}
-use Rattle.std.proofs.lemmas.List.{get_or-map, length-map, append-nil}
+use Rattle.std.proofs.lemmas.List.{length-append, get_or_append_left, get_or-append-add, same_lists, get_or-map, length-map, append-nil}
 use Rattle.std.proofs.lemmas.List.FromFn.{length-range_with_len, get_or-range_with_len}
 use Rattle.ent_handle.specs.Handle.{Handle}
 use Rattle.ent_alloc.specs.Limits.{Limits}
 use Rattle.ent_alloc.specs.Sequential.{fresh}
 use Rattle.ent_alloc.specs.declared.slot_record.SlotRecord.{SlotRecord}
 use Rattle.ent_alloc.specs.declared.slot_record.Occupancy.TheVariants.{Pending}
-use Rattle.ent_alloc.specs.Slots.{record_at, no_slot, handle_at, occupants, rows_from, roster_of}
-use Rattle.ent_alloc.specs.Slots.{AreLinked}
+use Rattle.ent_alloc.specs.Slots.{record_at, no_slot, handle_at, occupants, rows_from, roster_of, AreLinked}
 use Rattle.ent_alloc.specs.Front.{waiting_at, new_waiting}
 use Rattle.ent_alloc.proofs.FreshHandles.{length-fresh, get_or-fresh}
 use Rattle.ent_alloc.proofs.Occupants.{occupants-append}
@@ -29,23 +26,20 @@ pub get_or-new_waiting : (position count k : ℕ) (d : SlotRecord) → k < count
     → get_or (new_waiting position count) k d ≡ waiting_at 1 (position + k)
 get_or-new_waiting position zero k d below = absurd (omega arith)
 get_or-new_waiting position (suc count) zero d below = ap (waiting_at 1) (omega arith)
-get_or-new_waiting position (suc count) (suc k) d below =
-    get_or-new_waiting (position + 1) count k d (omega arith) ∙ ap (waiting_at 1) (omega arith)
+get_or-new_waiting position (suc count) (suc k) d below = get_or-new_waiting (position + 1) count k d (omega arith)
+    ∙ ap (waiting_at 1) (omega arith)
 
 -- one more
-pub new_waiting-push : (position count : ℕ) → new_waiting position (count + 1)
-    ≡ new_waiting position count ++ waiting_at 1 (position + count) ∷ []
-new_waiting-push position zero =
-    let at : position ≡ position + 0 = omega arith in ap (λ n. waiting_at 1 n ∷ []) at
+pub new_waiting-push : (position count : ℕ) → new_waiting position (count + 1) ≡ new_waiting position count
+    ++ waiting_at 1 (position + count) ∷ []
+new_waiting-push position zero = let at : position ≡ position + 0 = omega arith in ap (λ n. waiting_at 1 n ∷ []) at
 new_waiting-push position (suc count) =
     let next : suc count + 1 ≡ suc (count + 1) = omega arith in
     let at : position + 1 + count ≡ position + suc count = omega arith in
-    ap (new_waiting position) next
-    ∙ ap (waiting_at 1 position ∷◌) (new_waiting-push (position + 1) count)
+    ap (new_waiting position) next ∙ ap (waiting_at 1 position ∷◌) (new_waiting-push (position + 1) count)
     ∙ ap (λ n. new_waiting position (suc count) ++ waiting_at 1 n ∷ []) at
 
-pub range-push : (from count : ℕ) → range_with_len from (count + 1) ≡ range_with_len from count
-    ++ (from + count) ∷ []
+pub range-push : (from count : ℕ) → range_with_len from (count + 1) ≡ range_with_len from count ++ (from + count) ∷ []
 range-push from zero = let at : from ≡ from + 0 = omega arith in ap (λ n. n ∷ []) at
 range-push from (suc count) =
     let next : suc count + 1 ≡ suc (count + 1) = omega arith in
@@ -61,11 +55,10 @@ rows-waiting : (from position count : ℕ) → rows_from from (new_waiting posit
 rows-waiting from position zero = refl
 rows-waiting from position (suc count) = rows-waiting (from + 1) (position + 1) count
 
-rows-made : (from position count : ℕ) (records : List SlotRecord)
-    → rows_from from (records ++ new_waiting position count) ≡ rows_from from records
+rows-made : (from position count : ℕ) (records : List SlotRecord) → rows_from from (records ++ new_waiting position
+    count) ≡ rows_from from records
 rows-made from position count [] = rows-waiting from position count
-rows-made from position count (r ∷ records) =
-    search (rules, rows-made (from + 1) position count records)
+rows-made from position count (r ∷ records) = search (rules, rows-made (from + 1) position count records)
 
 module _ (limits : Limits) (records : List SlotRecord) (pending : List ℕ) (live count : ℕ)
     (linked : AreLinked limits records pending live) (room : length records + count ≤ limits.slots)
@@ -82,31 +75,24 @@ module _ (limits : Limits) (records : List SlotRecord) (pending : List ℕ) (liv
     order_long : length order ≡ length pending + count
     order_long = search (rules, length-append, length-range_with_len)
 
-    old_stays : (index : ℕ) → index < length records → record_at grown index
-        ≡ record_at records index
-    old_stays index made =
-        get_or_append_left records (new_waiting (length pending) count) no_slot index made
+    old_stays : (index : ℕ) → index < length records → record_at grown index ≡ record_at records index
+    old_stays index made = get_or_append_left records (new_waiting (length pending) count) no_slot index made
 
     new_is : (index : ℕ) → length records ≤ index → index < length records + count
         → record_at grown index ≡ waiting_at 1 (length pending + (index - length records))
     new_is index past within = grind (arith, common_steps, get_or-append-add, get_or-new_waiting)
 
-    old_place : (position : ℕ) → position < length pending → get_or order position 0
-        ≡ get_or pending position 0
-    old_place position within =
-        get_or_append_left pending (range_with_len (length records) count) 0 position within
+    old_place : (position : ℕ) → position < length pending → get_or order position 0 ≡ get_or pending position 0
+    old_place position within = get_or_append_left pending (range_with_len (length records) count) 0 position within
 
     new_place : (position : ℕ) → length pending ≤ position → position < length pending + count
         → get_or order position 0 ≡ length records + (position - length pending)
-    new_place position past within =
-        grind (arith, common_steps, get_or-append-add, get_or-range_with_len)
+    new_place position past within = grind (arith, common_steps, get_or-append-add, get_or-range_with_len)
 
     -- what is so of the generation of each old slot, and of the first one, is so of each slot's
-    generation_in : (P : ℕ → Type 0)
-        → ((index : ℕ) → index < length records → P (record_at records index).generation) → P 1
-        → (index : ℕ) → index < length grown → P (record_at grown index).generation
-    generation_in P each first index within =
-        search (rules, cases_lt, old_stays, new_is, grown_long)
+    generation_in : (P : ℕ → Type 0) → ((index : ℕ) → index < length records → P (record_at records index).generation)
+        → P 1 → (index : ℕ) → index < length grown → P (record_at grown index).generation
+    generation_in P each first index within = search (rules, cases_lt, old_stays, new_is, grown_long)
 
     living : occupants 0 grown ≡ occupants 0 records
     living = search (rules, occupants-append, occupants-waiting, append-nil)
@@ -115,36 +101,29 @@ module _ (limits : Limits) (records : List SlotRecord) (pending : List ℕ) (liv
       within : position < length order
       back : get_or order position 0 ≡ index
 
-    tied : (index position : ℕ) → index < length grown
-        → (record_at grown index).occupancy ≡ Pending position → IsTied index position
+    tied : (index position : ℕ) → index < length grown → (record_at grown index).occupancy ≡ Pending position
+        → IsTied index position
     tied index position made is = elim (cases_lt index (length records)) [
-      | inl old ↦
-          let was : (record_at records index).occupancy ≡ Pending position =
-          sym (ap (λ (r : SlotRecord). r.occupancy) (old_stays index old)) ∙ is in
-          let below = linked.listed index position old was in
-          record {
+      | inl old ↦ let was : (record_at records index).occupancy
+          ≡ Pending position = sym (ap (λ (r : SlotRecord). r.occupancy) (old_stays index old))
+          ∙ is in let below = linked.listed index position old was in record {
             within = omega (arith, order_long);
-            back = old_place position below ∙ linked.back index position old was;
+            back =
+                old_place position below ∙ linked.back index position old was;
           }
-      | inr new ↦
-          let within : index < length records + count = omega (arith, grown_long) in
-          let here : Pending (length pending + (index - length records)) ≡ Pending position =
-          sym (ap (λ (r : SlotRecord). r.occupancy) (new_is index new within)) ∙ is in
-          let at : length pending + (index - length records) ≡ position =
-          grind (arith, common_steps) in
-          record {
-            within = omega (arith, order_long);
-            back = new_place position (omega arith) (omega arith) ∙ (omega arith);
-          }
+      | inr new ↦ let within : index < length records
+          + count = omega (arith, grown_long) in let here : Pending (length pending + (index - length records))
+          ≡ Pending position = sym (ap (λ (r : SlotRecord). r.occupancy) (new_is index new within))
+          ∙ is in let at : length pending + (index - length records) ≡ position = grind (arith, common_steps) in record
+          { within = omega (arith, order_long); back = new_place position (omega arith) (omega arith) ∙ (omega arith) }
     ]
 
     made_in : (position : ℕ) → position < length order → get_or order position 0 < length grown
     made_in position within = search (rules, cases_lt, old_place, grown_long, order_long, new_place)
 
-    forward_in : (position : ℕ) → position < length order
-        → (record_at grown (get_or order position 0)).occupancy ≡ Pending position
-    forward_in position within =
-        search (rules, cases_lt, old_place, old_stays, order_long, new_place, new_is)
+    forward_in : (position : ℕ) → position < length order → (record_at grown (get_or order position 0)).occupancy
+        ≡ Pending position
+    forward_in position within = search (rules, cases_lt, old_place, old_stays, order_long, new_place, new_is)
 
     pub waiting_keeps_links : AreLinked limits grown order live
     waiting_keeps_links = record {
@@ -153,8 +132,7 @@ module _ (limits : Limits) (records : List SlotRecord) (pending : List ℕ) (liv
       counted = linked.counted ∙ ap length (sym living);
       each_once = omega (arith, grown_long, order_long, linked.each_once);
       least = generation_in (λ g. 1 ≤ g) linked.least (omega arith);
-      greatest = generation_in (λ g. g ≤ limits.generations) linked.greatest
-          linked.limited.some_generation;
+      greatest = generation_in (λ g. g ≤ limits.generations) linked.greatest linked.limited.some_generation;
       made = made_in;
       forward = forward_in;
       listed = λ index position lt is. (tied index position lt is).within;
@@ -165,24 +143,20 @@ module _ (limits : Limits) (records : List SlotRecord) (pending : List ℕ) (liv
     waited = map (handle_at records) pending
 
     waits_after : (k : ℕ) (d : Handle) → k < length (map (handle_at grown) order)
-        → get_or (map (handle_at grown) order) k d
-        ≡ get_or (waited ++ fresh (length records) count) k d
+        → get_or (map (handle_at grown) order) k d ≡ get_or (waited ++ fresh (length records) count) k d
     waits_after k d lt =
         let long = order_long in
         let all = length-map order (handle_at grown) in
         let first = length-map pending (handle_at records) in
         get_or-map (handle_at grown) order k 0 d (omega arith) ∙ elim (cases_lt k (length pending)) [
-          | inl old ↦
-              let stays = old_stays (get_or pending k 0) (linked.made k old) in
-              ap (handle_at grown) (old_place k old)
+          | inl old ↦ let
+              stays = old_stays (get_or pending k 0) (linked.made k old) in ap (handle_at grown) (old_place k old)
               ∙ (λ i. record { index = get_or pending k 0; generation = (stays i).generation })
               ∙ sym (get_or-map (handle_at records) pending k 0 d old)
               ∙ sym (get_or_append_left waited (fresh (length records) count) d k (omega arith))
-          | inr new ↦
-              let index = length records + (k - length pending) in
-              let stays = new_is index (omega arith) (omega arith) in
-              let there : length waited + (k - length pending) ≡ k = omega arith in
-              ap (handle_at grown) (new_place k new (omega arith))
+          | inr new ↦ let index =
+              length records + (k - length pending) in let stays = new_is index (omega arith) (omega arith) in let there :
+              length waited + (k - length pending) ≡ k = omega arith in ap (handle_at grown) (new_place k new (omega arith))
               ∙ (λ i. record { index = index; generation = (stays i).generation })
               ∙ sym (get_or-fresh (length records) count (k - length pending) d (omega arith))
               ∙ sym (get_or-append-add waited (fresh (length records) count) (k - length pending) d)
@@ -190,8 +164,7 @@ module _ (limits : Limits) (records : List SlotRecord) (pending : List ℕ) (liv
         ]
 
     pub roster_of-waiting : roster_of limits grown order ≡ record (roster_of limits records pending) {
-      pending = (roster_of limits records pending).pending
-          ++ fresh (roster_of limits records pending).made count;
+      pending = (roster_of limits records pending).pending ++ fresh (roster_of limits records pending).made count;
       made = (roster_of limits records pending).made + count;
     }
     roster_of-waiting =

@@ -1,11 +1,8 @@
 -- Reservers of some blocks, in their order, and what was used of all.
-use Rattle.std.proofs.Common.{rules}
-use Rattle.std.proofs.Common.{◌≡◌, refl, sym, ap, ◌∙◌, ℕ, zero, suc, ◌+◌, ◌<◌, ◌≤◌, List}
-use Rattle.std.proofs.Common.{[], ◌∷◌, length, map, drop, get_or, arith, Bool, true, false}
+use Rattle.std.proofs.Common.{rules, ◌≡◌, refl, sym, ap, ◌∙◌, ℕ, zero, suc, ◌+◌, ◌<◌, ◌≤◌, List, [], ◌∷◌, length, map, drop, get_or, arith, Bool, true, false}
 use Rattle.std.proofs.lemmas.Grind.{common_steps}
 use Rattle.std.proofs.lemmas.List.{drop_more, get_or-map, length-map, length-drop}
-use Rattle.ent_blocks.specs.Blocks.{Block, Reserver, unused, is_same, are_among, accounted, blocks_of}
-use Rattle.ent_blocks.specs.Blocks.{AreLaid}
+use Rattle.ent_blocks.specs.Blocks.{Block, Reserver, unused, is_same, are_among, accounted, blocks_of, AreLaid}
 
 same_size : (b r : Block) → is_same b r ≡ true → b.size ≡ r.size
 same_size b r same = grind (arith, common_steps)
@@ -14,8 +11,7 @@ same_before : (b r : Block) → is_same b r ≡ true → b.before ≡ r.before
 same_before b r same = grind (arith, common_steps)
 
 -- no more than there are blocks
-pub few_among : (blocks reservers : List Block) → are_among blocks reservers ≡ true
-    → length reservers ≤ length blocks
+pub few_among : (blocks reservers : List Block) → are_among blocks reservers ≡ true → length reservers ≤ length blocks
 few_among [] [] among = omega arith
 few_among [] (r ∷ reservers) among = absurd cc
 few_among (b ∷ blocks) [] among = omega arith
@@ -49,16 +45,15 @@ unused_accounted before (b ∷ blocks) (r ∷ reservers) laid =
     first = λ i. record b { used = sym laid.1 i }
 
     by_same : (x : Bool) → is_same b r ≡ x → map unused (accounted blocks reservers) ≡ blocks
-        → map unused (accounted blocks (r ∷ reservers)) ≡ blocks
-        → map unused (accounted (b ∷ blocks) (r ∷ reservers)) ≡ b ∷ blocks
+        → map unused (accounted blocks (r ∷ reservers)) ≡ blocks → map unused (accounted (b ∷ blocks) (r ∷ reservers))
+        ≡ b ∷ blocks
     by_same true is rest second =
-        let here : accounted (b ∷ blocks) (r ∷ reservers)
-        ≡ record b { used = r.used } ∷ accounted blocks reservers = grind (arith, common_steps) in
+        let here : accounted (b ∷ blocks) (r ∷ reservers) ≡ record b { used = r.used }
+        ∷ accounted blocks reservers = grind (arith, common_steps) in
         ap (map unused) here ∙ (λ i. first i ∷ rest i)
     by_same false is second rest =
-        let here : accounted (b ∷ blocks) (r ∷ reservers)
-        ≡ record b { used = b.size } ∷ accounted blocks (r ∷ reservers) =
-        grind (arith, common_steps) in
+        let here : accounted (b ∷ blocks) (r ∷ reservers) ≡ record b { used = b.size }
+        ∷ accounted blocks (r ∷ reservers) = grind (arith, common_steps) in
         ap (map unused) here ∙ (λ i. first i ∷ rest i)
 
 -- if all are here, it is what they say
@@ -99,7 +94,10 @@ module _ (bs : List Block) (rs : List Reserver) (i k : ℕ) (b : Block) (here : 
 
   module _ (r : Reserver) (lt : k < length rs) (r_is : r ≡ get_or rs k r) where
     next : drop k (blocks_of rs) ≡ r.block ∷ drop (k + 1) (blocks_of rs)
-    next = let at : get_or (blocks_of rs) k r.block ≡ r.block = get_or-map (λ (r : Reserver). r.block) rs k r r.block lt ∙ ap (λ (r : Reserver). r.block) (sym r_is) in search (rules, drop_more, length-map)
+    next =
+        let at : get_or (blocks_of rs) k r.block ≡ r.block = get_or-map (λ (r : Reserver). r.block) rs k r r.block lt
+        ∙ ap (λ (r : Reserver). r.block) (sym r_is) in
+        search (rules, drop_more, length-map)
 
     pub among_same : is_same b r.block ≡ true → are_among (drop i bs) (drop k (blocks_of rs))
         ≡ are_among (drop (i + 1) bs) (drop (k + 1) (blocks_of rs))
@@ -110,12 +108,10 @@ module _ (bs : List Block) (rs : List Reserver) (i k : ℕ) (b : Block) (here : 
     among_other other = search (rules, more, next)
 
     pub accounted_same : is_same b r.block ≡ true → accounted (drop i bs) (drop k (blocks_of rs))
-        ≡ record b { used = r.block.used }
-        ∷ accounted (drop (i + 1) bs) (drop (k + 1) (blocks_of rs))
+        ≡ record b { used = r.block.used } ∷ accounted (drop (i + 1) bs) (drop (k + 1) (blocks_of rs))
     accounted_same same = search (rules, more, next)
 
-    pub accounted_other : is_same b r.block ≡ false
-        → accounted (drop i bs) (drop k (blocks_of rs))
+    pub accounted_other : is_same b r.block ≡ false → accounted (drop i bs) (drop k (blocks_of rs))
         ≡ record b { used = b.size } ∷ accounted (drop (i + 1) bs) (drop k (blocks_of rs))
     accounted_other other = search (rules, more, next)
 
@@ -123,12 +119,11 @@ module _ (bs : List Block) (rs : List Reserver) (i k : ℕ) (b : Block) (here : 
     none : drop k (blocks_of rs) ≡ []
     none = search (rules, drop_all, length-map)
 
-    pub among_none : are_among (drop i bs) (drop k (blocks_of rs))
-        ≡ are_among (drop (i + 1) bs) (drop k (blocks_of rs))
+    pub among_none : are_among (drop i bs) (drop k (blocks_of rs)) ≡ are_among (drop (i + 1) bs) (drop k (blocks_of rs))
     among_none = search (rules, more, none)
 
-    pub accounted_none : accounted (drop i bs) (drop k (blocks_of rs))
-        ≡ record b { used = b.size } ∷ accounted (drop (i + 1) bs) (drop k (blocks_of rs))
+    pub accounted_none : accounted (drop i bs) (drop k (blocks_of rs)) ≡ record b { used = b.size }
+        ∷ accounted (drop (i + 1) bs) (drop k (blocks_of rs))
     accounted_none = search (rules, more, none)
 
 -- one is left when there is no more block

@@ -1,8 +1,5 @@
 -- Blocks that are dealt one after the other: where they lie in the pool, and what becomes of it.
-use Rattle.std.proofs.Common.{rules}
-use Rattle.std.proofs.Common.{◌≡◌, refl, sym, ap, ◌∙◌, ℕ, zero, suc, ◌+◌, ◌-◌, ◌<◌, ◌≤◌}
-use Rattle.std.proofs.Common.{List, [], ◌∷◌, ◌++◌, length, take, drop, get_or, map, arith, Contains}
-use Rattle.std.proofs.Common.{append_assoc}
+use Rattle.std.proofs.Common.{rules, ◌≡◌, refl, sym, ap, ◌∙◌, ℕ, zero, suc, ◌+◌, ◌-◌, ◌<◌, ◌≤◌, List, [], ◌∷◌, ◌++◌, length, take, drop, get_or, map, arith, Contains, append_assoc}
 use Rattle.std.specs.List.{flat_map}
 use Rattle.std.proofs.lemmas.Grind.{common_steps}
 use Rattle.std.proofs.lemmas.List.{drop_more, drop-drop}
@@ -11,8 +8,7 @@ use Rattle.ent_alloc.specs.Sequential.{Allocator}
 use Rattle.ent_alloc.specs.Portions as portions
 use Rattle.ent_alloc.specs.Portions.{left_of, size_of, count_of, after_portions, AreUsed}
 use Rattle.ent_alloc.proofs.Portioned.{first_used, others_used, length-used, take_of_take}
-use Rattle.ent_blocks.specs.Blocks.{Block, used_of, rest_of, dealt, lesser, blocks_from, portion_of}
-use Rattle.ent_blocks.specs.Blocks.{portions_of, after_blocks, unused, AreLaid}
+use Rattle.ent_blocks.specs.Blocks.{Block, used_of, rest_of, dealt, lesser, blocks_from, portion_of, portions_of, after_blocks, unused, AreLaid}
 
 add-zero : (n : ℕ) → n + 0 ≡ n
 add-zero n = omega arith
@@ -24,11 +20,7 @@ add-joined a b c = omega arith
 
 pub laid_from : (before left : ℕ) (sizes : List ℕ) → AreLaid before (blocks_from before left sizes)
 laid_from before left [] = tt
-laid_from before left (n ∷ sizes) = (
-  refl,
-  refl,
-  laid_from (before + lesser n left) (left - lesser n left) sizes,
-)
+laid_from before left (n ∷ sizes) = (refl, refl, laid_from (before + lesser n left) (left - lesser n left) sizes)
 
 pub lesser_within : (n left : ℕ) → lesser n left ≤ left
 lesser_within n left = grind (arith, common_steps)
@@ -42,9 +34,8 @@ dealt_from before left (n ∷ sizes) =
 
 -- ---- where they lie
 
-pub in_laid : (before k : ℕ) (blocks : List Block) (d : Block) → AreLaid before blocks
-    → k < length blocks → (get_or blocks k d).before + (get_or blocks k d).size
-    ≤ before + dealt blocks
+pub in_laid : (before k : ℕ) (blocks : List Block) (d : Block) → AreLaid before blocks → k < length blocks
+    → (get_or blocks k d).before + (get_or blocks k d).size ≤ before + dealt blocks
 in_laid before k [] d laid lt = absurd (omega arith)
 in_laid before zero (b ∷ blocks) d laid lt = let at = laid.0 in omega arith
 in_laid before (suc k) (b ∷ blocks) d laid lt =
@@ -66,22 +57,29 @@ size-portions [] = refl
 size-portions (b ∷ blocks) = ap (λ n. b.size + n) (size-portions blocks)
 
 -- where the blocks lie
-behind : (before : ℕ) (b : Block) (pool : List Handle)
-    → drop b.size (drop before pool) ≡ drop (before + b.size) pool
+behind : (before : ℕ) (b : Block) (pool : List Handle) → drop b.size (drop before pool) ≡ drop (before + b.size) pool
 behind before b pool = drop-drop b.size before pool
 
-used_laid : (before : ℕ) (blocks : List Block) (pool : List Handle)
-    → AreLaid before (map unused blocks) → AreUsed (portions_of blocks)
-    → flat_map (used_of pool) blocks ≡ portions.used_of (drop before pool) (portions_of blocks)
+used_laid : (before : ℕ) (blocks : List Block) (pool : List Handle) → AreLaid before (map unused blocks)
+    → AreUsed (portions_of blocks) → flat_map (used_of pool) blocks ≡ portions.used_of (drop before pool) (portions_of
+    blocks)
 used_laid before [] pool laid fits = refl
-used_laid before (b ∷ blocks) pool laid fits = let first : used_of pool b ≡ take b.used (drop before pool) = ap (λ n. take b.used (take b.size (drop n pool))) laid.0 ∙ take_of_take b.used b.size (drop before pool) (first_used (portion_of b) (portions_of blocks) fits) in let others = used_laid (before + b.size) blocks pool laid.2 (others_used (portion_of b) (portions_of blocks) fits) in search (rules, behind)
+used_laid before (b ∷ blocks) pool laid fits =
+    let first : used_of pool b ≡ take b.used (drop before pool) = ap (λ n. take b.used (take b.size (drop n pool)))
+    laid.0 ∙ take_of_take b.used b.size (drop before pool) (first_used (portion_of b) (portions_of blocks) fits) in
+    let others = used_laid (before + b.size) blocks pool laid.2 (others_used (portion_of b) (portions_of blocks)
+    fits) in
+    search (rules, behind)
 
-left_laid : (before : ℕ) (blocks : List Block) (pool : List Handle)
-    → AreLaid before (map unused blocks)
+left_laid : (before : ℕ) (blocks : List Block) (pool : List Handle) → AreLaid before (map unused blocks)
     → flat_map (rest_of pool) blocks ++ drop (before + dealt blocks) pool
     ≡ left_of (drop before pool) (portions_of blocks)
 left_laid before [] pool laid = ap (λ n. drop n pool) (add-zero before)
-left_laid before (b ∷ blocks) pool laid = let first : rest_of pool b ≡ drop b.used (take b.size (drop before pool)) = ap (λ n. drop b.used (take b.size (drop n pool))) laid.0 in let others = left_laid (before + b.size) blocks pool laid.2 in search (rules, append_assoc, add-joined, behind)
+left_laid before (b ∷ blocks) pool laid =
+    let first : rest_of pool b ≡ drop b.used (take b.size (drop before pool)) = ap
+    (λ n. drop b.used (take b.size (drop n pool))) laid.0 in
+    let others = left_laid (before + b.size) blocks pool laid.2 in
+    search (rules, append_assoc, add-joined, behind)
 
 module _ (s : Allocator) (blocks : List Block) (laid : AreLaid 0 (map unused blocks))
     (fits : AreUsed (portions_of blocks)) (within : dealt blocks ≤ length s.pool) where
@@ -89,17 +87,21 @@ module _ (s : Allocator) (blocks : List Block) (laid : AreLaid 0 (map unused blo
   portions_within = omega (arith, size-portions blocks)
 
   pub closed_is : after_portions s (portions_of blocks) ≡ after_blocks s blocks
-  closed_is = let used = used_laid 0 blocks s.pool laid fits in let none : dealt blocks ≡ 0 + dealt blocks = omega arith in let left = ap (λ n. flat_map (rest_of s.pool) blocks ++ drop n s.pool) none ∙ left_laid 0 blocks s.pool laid in let count : count_of (portions_of blocks) ≡ length (flat_map (used_of s.pool) blocks) = sym (length-used s.pool (portions_of blocks) fits portions_within) ∙ ap length (sym used) in search rules
+  closed_is =
+      let used = used_laid 0 blocks s.pool laid fits in
+      let none : dealt blocks ≡ 0 + dealt blocks = omega arith in
+      let left = ap (λ n. flat_map (rest_of s.pool) blocks ++ drop n s.pool) none ∙ left_laid 0 blocks s.pool laid in
+      let count : count_of (portions_of blocks) ≡ length (flat_map (used_of s.pool) blocks) = sym
+      (length-used s.pool (portions_of blocks) fits portions_within) ∙ ap length (sym used) in
+      search rules
 
 -- ---- one more block
 
-pub dealt-push : (blocks : List Block) (b : Block) → dealt (blocks ++ b ∷ []) ≡ dealt blocks
-    + b.size
+pub dealt-push : (blocks : List Block) (b : Block) → dealt (blocks ++ b ∷ []) ≡ dealt blocks + b.size
 dealt-push [] b = omega arith
 dealt-push (c ∷ blocks) b = let rest = dealt-push blocks b in omega arith
 
-pub blocks_more : (before left : ℕ) (sizes : List ℕ) (k n : ℕ) → k < length sizes
-    → get_or sizes k n ≡ n → blocks_from before left (drop k sizes)
-    ≡ record { before = before; size = lesser n left; used = 0 }
+pub blocks_more : (before left : ℕ) (sizes : List ℕ) (k n : ℕ) → k < length sizes → get_or sizes k n ≡ n
+    → blocks_from before left (drop k sizes) ≡ record { before = before; size = lesser n left; used = 0 }
     ∷ blocks_from (before + lesser n left) (left - lesser n left) (drop (k + 1) sizes)
 blocks_more before left sizes k n below is = search (rules, drop_more)

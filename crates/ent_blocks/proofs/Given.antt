@@ -1,8 +1,6 @@
 -- What was used of the blocks: no handle twice, none that was alive, and a flush brings to life just
 -- these.
-use Rattle.std.proofs.Common.{rules}
-use Rattle.std.proofs.Common.{◌≡◌, ◌≢◌, ◌⊎◌, ◌↔◌, inl, inr, ap, ◌≤◌, List}
-use Rattle.std.proofs.Common.{◌++◌, length, get_or, map, All, AllPairs, Contains}
+use Rattle.std.proofs.Common.{rules, ◌≡◌, ◌≢◌, ◌⊎◌, ◌↔◌, inl, inr, ap, ◌≤◌, List, ◌++◌, length, get_or, map, All, AllPairs, Contains}
 use Rattle.std.specs.List.{flat_map}
 use Rattle.ent_handle.specs.Handle.{Handle}
 use Rattle.ent_alloc.specs.Sequential.{Allocator, after_flush}
@@ -28,8 +26,7 @@ module _ (s : Allocator) (blocks : List Block) (sound : IsSound s) (flushed : s.
   left = (after_blocks s blocks).aside ++ (after_blocks s blocks).pool
 
   pub used-distinct : AllPairs (λ g h. g ≢ h) used
-  used-distinct i j d lt in_part same =
-      AllPairs-left AreApart used left after_blocks-sound.apart i j d lt in_part
+  used-distinct i j d lt in_part same = AllPairs-left AreApart used left after_blocks-sound.apart i j d lt in_part
       (ap (λ (h : Handle). h.index) same)
 
   pub used-not_live : All (λ h. ¬ (IsLive s h)) used
@@ -37,12 +34,12 @@ module _ (s : Allocator) (blocks : List Block) (sound : IsSound s) (flushed : s.
       let h = get_or used k d in
       not_apart h (All-left (AreApart h) used left (after_blocks-sound.live h alive).apart k d lt)
 
-  pub used-live : (h : Handle) → IsLive (after_flush (after_blocks s blocks)) h
-      ↔ (IsLive s h ⊎ Contains used h)
+  pub used-live : (h : Handle) → IsLive (after_flush (after_blocks s blocks)) h ↔ (IsLive s h ⊎ Contains used h)
   used-live h = (
     live-after_flush (after_blocks s blocks) h,
     λ either. elim either [
       | inl alive ↦ live-stays (after_blocks s blocks) h alive
-      | inr has ↦ taken-lives (after_blocks s blocks) h has
+      | inr has ↦ taken-lives
+          (after_blocks s blocks) h has
     ],
   )

@@ -1,17 +1,13 @@
 -- A position of the pool, from its front, and what a request finds there.
-use Rattle.std.proofs.Common.{rules, ◌≡◌, ◌≢◌, refl, sym, ap, ◌∙◌, ℕ, zero, suc, ℤ, pos, ◌-ℤ◌, ◌+◌, ◌-◌}
-use Rattle.std.proofs.Common.{◌<◌, ◌≤◌, List, [], ◌∷◌, ◌++◌, length, take, drop, get_or, arith, Ok, Err}
-use Rattle.std.proofs.Common.{slice_get, Some, Result}
+use Rattle.std.proofs.Common.{rules, ◌≡◌, refl, sym, ap, ◌∙◌, ℕ, zero, suc, ℤ, pos, ◌-ℤ◌, ◌+◌, ◌-◌, ◌<◌, ◌≤◌, List, [], ◌∷◌, ◌++◌, length, take, drop, get_or, arith, Ok, Err, slice_get, Some, Result}
 use Rattle.std.proofs.lemmas.Grind.{common_steps}
 use Rattle.std.proofs.lemmas.Bool.{le-leb, lt-leb}
-use Rattle.std.proofs.lemmas.List.{get_or-drop, length-drop, take_more, drop_more, drop-take}
-use Rattle.std.proofs.lemmas.List.{length-take-le, drop-drop}
+use Rattle.std.proofs.lemmas.List.{get_or-drop, length-drop, take_more, drop_more, drop-take, length-take-le, drop-drop}
 use Rattle.std.proofs.lemmas.List.Sorted.{length_permutation}
 use Rattle.std.proofs.lemmas.Option.{get_or_from_slice_get, slice_get_read}
 use Rattle.ent_handle.specs.Handle.{Handle}
 use Rattle.ent_alloc.specs.declared.space.Space.{Space}
-use Rattle.ent_alloc.specs.Sequential.{Allocator, available, top, cursor, asked_at, pool_at}
-use Rattle.ent_alloc.specs.Sequential.{reply_from, listed, listed_alone}
+use Rattle.ent_alloc.specs.Sequential.{Allocator, available, top, cursor, asked_at, pool_at, reply_from, listed, listed_alone}
 use Rattle.ent_alloc.specs.Sound.{IsSound}
 use Rattle.ent_alloc.proofs.Meaning.{asked_at-is}
 use Rattle.ent_alloc.proofs.LaidOut.{flushed-laid_out}
@@ -19,13 +15,11 @@ use Rattle.ent_alloc.proofs.Replies.{listed-IsPermutation}
 use Rattle.ent_blocks.specs.Blocks.{Block, used_of, rest_of}
 
 -- one more of what begins at a position
-pub list_more : (pool : List Handle) (from more : ℕ) (h : Handle)
-    → slice_get pool (from + more) ≡ Some h → from + more < length pool
-    → take (more + 1) (drop from pool) ≡ take more (drop from pool) ++ h ∷ []
-list_more pool from more h at below =
-    take_more (drop from pool) more h (omega (arith, length-drop from pool))
-    ∙ ap (λ x. take more (drop from pool) ++ x ∷ [])
-    (get_or-drop from pool more h ∙ get_or_from_slice_get pool (from + more) h h at)
+pub list_more : (pool : List Handle) (from more : ℕ) (h : Handle) → slice_get pool (from + more) ≡ Some h
+    → from + more < length pool → take (more + 1) (drop from pool) ≡ take more (drop from pool) ++ h ∷ []
+list_more pool from more h at below = take_more (drop from pool) more h (omega (arith, length-drop from pool))
+    ∙ ap (λ x. take more (drop from pool) ++ x ∷ []) (get_or-drop from pool more h
+    ∙ get_or_from_slice_get pool (from + more) h h at)
 
 single : (made : ℕ) (x : Handle) → listed made (x ∷ []) ≡ x ∷ []
 single made x = grind (arith, common_steps)
@@ -47,9 +41,18 @@ module _ (s : Allocator) (sound : IsSound s) (flushed : s.asked ≡ 0) (position
 
   -- one handle
   pub one_there : (reply : Result Handle Space) → position < length s.pool
-      → listed_alone reply ≡ reply_from s.made (pool_at s high) 1
-      → (h : Handle) → reply ≡ Ok h → slice_get s.pool position ≡ Some h
-  one_there reply below replies h is = let x = get_or s.pool position h in let rest : drop position s.pool ≡ x ∷ drop (position + 1) s.pool = drop_more s.pool position h below in let given : reply_from s.made (drop position s.pool) 1 ≡ Ok (listed s.made (take 1 (drop position s.pool))) = search (rules, le-leb) in let front : take 1 (drop position s.pool) ≡ x ∷ [] = ap (take 1) rest in let same = sym (ap listed_alone is) ∙ replies ∙ ap (λ pool. reply_from s.made pool 1) pool_there ∙ given ∙ ap (λ hs. Ok (listed s.made hs)) front ∙ ap Ok (single s.made x) in let here : x ≡ h = grind (arith, common_steps) in slice_get_read s.pool (length s.pool) position h refl below (sym here)
+      → listed_alone reply ≡ reply_from s.made (pool_at s high) 1 → (h : Handle) → reply ≡ Ok h
+      → slice_get s.pool position ≡ Some h
+  one_there reply below replies h is =
+      let x = get_or s.pool position h in
+      let rest : drop position s.pool ≡ x ∷ drop (position + 1) s.pool = drop_more s.pool position h below in
+      let given : reply_from s.made (drop position s.pool) 1 ≡ Ok (listed s.made (take 1 (drop position s.pool))) =
+      search (rules, le-leb) in
+      let front : take 1 (drop position s.pool) ≡ x ∷ [] = ap (take 1) rest in
+      let same = sym (ap listed_alone is) ∙ replies ∙ ap (λ pool. reply_from s.made pool 1) pool_there ∙ given
+      ∙ ap (λ hs. Ok (listed s.made hs)) front ∙ ap Ok (single s.made x) in
+      let here : x ≡ h = grind (arith, common_steps) in
+      slice_get_read s.pool (length s.pool) position h refl below (sym here)
 
 -- ---- a block
 
@@ -67,18 +70,18 @@ served made n pool enough = search (rules, le-leb)
 -- what is left of it
 pub rest_is : (pool : List Handle) (b : Block) → b.used ≤ b.size → b.before + b.size ≤ length pool
     → rest_of pool b ≡ take (b.size - b.used) (drop (b.before + b.used) pool)
-rest_is pool b used within = let whole : b.used + (b.size - b.used) ≡ b.size = omega arith in search (rules, drop-take, drop-drop)
+rest_is pool b used within =
+    let whole : b.used + (b.size - b.used) ≡ b.size = omega arith in search (rules, drop-take, drop-drop)
 
-pub length-rest : (pool : List Handle) (b : Block) → b.used ≤ b.size
-    → b.before + b.size ≤ length pool → length (rest_of pool b) ≡ b.size - b.used
+pub length-rest : (pool : List Handle) (b : Block) → b.used ≤ b.size → b.before + b.size ≤ length pool
+    → length (rest_of pool b) ≡ b.size - b.used
 length-rest pool b used within = search (rules, rest_is, length-take-le, length-drop)
 
-pub used_is : (pool : List Handle) (b : Block) → b.used ≤ b.size
-    → used_of pool b ≡ take b.used (drop b.before pool)
+pub used_is : (pool : List Handle) (b : Block) → b.used ≤ b.size → used_of pool b ≡ take b.used (drop b.before pool)
 used_is pool b used = take_of_take b.used b.size (drop b.before pool) used
 
-pub length-used : (pool : List Handle) (b : Block) → b.used ≤ b.size
-    → b.before + b.size ≤ length pool → length (used_of pool b) ≡ b.used
+pub length-used : (pool : List Handle) (b : Block) → b.used ≤ b.size → b.before + b.size ≤ length pool
+    → length (used_of pool b) ≡ b.used
 length-used pool b used within = search (rules, used_is, length-take-le, length-drop)
 
 -- too few are left
@@ -90,11 +93,17 @@ refused made n left rest long less = search (rules, lt-leb)
 pub served_one : (made : ℕ) (pool : List Handle) (b : Block) (h : Handle) → b.used < b.size
     → b.before + b.size ≤ length pool → slice_get pool (b.before + b.used) ≡ Some h
     → Ok (h ∷ []) ≡ reply_from made (rest_of pool b) 1
-served_one made pool b h less within at = let rest = rest_of pool b in let long : length rest ≡ b.size - b.used = length-rest pool b (omega arith) within in let there = drop (b.before + b.used) pool in let first : take 1 rest ≡ h ∷ [] = ap (take 1) (rest_is pool b (omega arith) within) ∙ take_of_take 1 (b.size - b.used) there (omega arith) ∙ list_more pool (b.before + b.used) 0 h (ap (slice_get pool) (omega arith) ∙ at) (omega arith) in search (rules, served, single)
+served_one made pool b h less within at =
+    let rest = rest_of pool b in
+    let long : length rest ≡ b.size - b.used = length-rest pool b (omega arith) within in
+    let there = drop (b.before + b.used) pool in
+    let first : take 1 rest ≡ h ∷ [] = ap (take 1) (rest_is pool b (omega arith) within)
+    ∙ take_of_take 1 (b.size - b.used) there (omega arith) ∙ list_more pool (b.before + b.used) 0 h (ap (slice_get pool)
+    (omega arith) ∙ at) (omega arith) in
+    search (rules, served, single)
 
 -- n of a block are those that begin where its rest begins
-pub served_many : (made n : ℕ) (pool : List Handle) (b : Block) → b.used + n ≤ b.size
-    → b.before + b.size ≤ length pool
+pub served_many : (made n : ℕ) (pool : List Handle) (b : Block) → b.used + n ≤ b.size → b.before + b.size ≤ length pool
     → reply_from made (drop (b.before + b.used) pool) n ≡ reply_from made (rest_of pool b) n
 served_many made n pool b few within = search (rules, length-rest, rest_is, take_of_take, served, length-drop)
 

@@ -1,7 +1,5 @@
 -- How many slots wait after a close: those that waited before, or no more than were dealt.
-use Rattle.std.proofs.Common.{rules}
-use Rattle.std.proofs.Common.{◌≡◌, ◌≢◌, ◌⊎◌, inl, inr, sym, ap, ◌∙◌, subst, ◌-◌, ◌≤◌, max}
-use Rattle.std.proofs.Common.{List, length, take, map, arith, length-append, length-drop, length-take-le}
+use Rattle.std.proofs.Common.{rules, ◌≡◌, ◌≢◌, ◌⊎◌, inl, inr, sym, ap, ◌∙◌, subst, ◌-◌, ◌≤◌, max, List, length, take, map, arith, length-append, length-drop, length-take-le}
 use Rattle.std.proofs.lemmas.List.Sorted.{length_permutation}
 use Rattle.std.proofs.lemmas.Bool.{cases_eq}
 use Rattle.std.proofs.lemmas.Grind.{common_steps}
@@ -20,8 +18,8 @@ use Rattle.ent_alloc.proofs.Taken.{length-available}
 use Rattle.ent_blocks.specs.Blocks.{Block, dealt, unused, AreLaid, portions_of, after_blocks}
 use Rattle.ent_blocks.proofs.Dealing.{closed_is, portions_within, size-portions}
 
-module _ (s : Allocator) (ps : List Portion) (sound : IsSound s) (flushed : s.asked ≡ 0)
-    (fits : AreUsed ps) (within : size_of ps ≤ length s.pool) where
+module _ (s : Allocator) (ps : List Portion) (sound : IsSound s) (flushed : s.asked ≡ 0) (fits : AreUsed ps)
+    (within : size_of ps ≤ length s.pool) where
   abbrev front : List Handle
   front = front_of s.pool ps
 
@@ -69,17 +67,11 @@ module _ (s : Allocator) (ps : List Portion) (sound : IsSound s) (flushed : s.as
   top_portions : top (after_portions s ps) ≤ max (top s) (size_of ps)
   top_portions =
       let taken = portions_taken s ps fits within (flushed-laid_out s sound flushed).taken flushed in
-      omega (
-        arith,
-        ap top taken,
-        top-after_take (arranged s ps) (count_of ps) arranged_sound,
-        top_arranged,
-      )
+      omega (arith, ap top taken, top-after_take (arranged s ps) (count_of ps) arranged_sound, top_arranged)
 
-pub waiting : (s : Allocator) (blocks : List Block) → IsSound s → s.asked ≡ 0
-    → AreLaid 0 (map unused blocks) → dealt blocks ≤ length s.pool → AreUsed (portions_of blocks)
-    → top (after_blocks s blocks) ≤ max (top s) (dealt blocks)
+pub waiting : (s : Allocator) (blocks : List Block) → IsSound s → s.asked ≡ 0 → AreLaid 0 (map unused blocks)
+    → dealt blocks ≤ length s.pool → AreUsed (portions_of blocks) → top (after_blocks s blocks) ≤ max (top s) (dealt
+    blocks)
 waiting s blocks sound flushed laid within fits =
-    let all = top_portions s (portions_of blocks) sound flushed fits
-    (portions_within s blocks laid fits within) in
+    let all = top_portions s (portions_of blocks) sound flushed fits (portions_within s blocks laid fits within) in
     omega (arith, ap top (closed_is s blocks laid fits within), size-portions blocks, all)

@@ -1,7 +1,6 @@
 use Rattle.std.proofs.Common.{rules}
 use Rattle.ent_alloc.proofs.ImageHeader.{header_then, too_short, other_magic, other_version, letters}
-use Rattle.ent_alloc.proofs.ImageFront.{magic_fault, too_short_for_magic, other_letters, length_fault}
-use Rattle.ent_alloc.proofs.ImageFront.{version_fault, front_passes}
+use Rattle.ent_alloc.proofs.ImageFront.{magic_fault, too_short_for_magic, other_letters, length_fault, version_fault, front_passes}
 use Rattle.ent_alloc.proofs.image.read_header.Goals as goal
 
 pub returns-then-bytes-lt8-clause-refused : goal.returns-then-bytes-lt8-clause-refused

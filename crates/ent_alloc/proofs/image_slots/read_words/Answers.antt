@@ -6,8 +6,7 @@ use Rattle.ent_alloc.proofs.image_slots.read_words.Goals as goal
 
 -- the three words, which are all
 in_words : (c : After-record_of) → c.args.bytes.now ≡ word c.read_word-generation.result.0
-    ++ (word c.read_word-kind.result.0 ++ (word c.read_word-number.result.0
-    ++ c.read_word-number.result.1.now))
+    ++ (word c.read_word-kind.result.0 ++ (word c.read_word-number.result.0 ++ c.read_word-number.result.1.now))
 in_words c = search rules
 
 all : (c : After-record_of) → length c.read_word-number.result.1.now ≡ 0
@@ -16,10 +15,9 @@ all c = search rules
 pub returns-clause-bytes : goal.returns-clause-bytes
 returns-clause-bytes c =
     let after = (goal.at.returns-clause-bytes c).After-record_of in
-    spelled c.args.bytes.now c.read_word-generation.result.0 c.read_word-kind.result.0
-    c.read_word-number.result.0 c.read_word-number.result.1.now (in_words after) (all after)
-    c.record_of.result c.record_of.ensures.generation c.record_of.ensures.kind
-    c.record_of.ensures.number
+    spelled c.args.bytes.now c.read_word-generation.result.0 c.read_word-kind.result.0 c.read_word-number.result.0
+    c.read_word-number.result.1.now (in_words after) (all after) c.record_of.result c.record_of.ensures.generation
+    c.record_of.ensures.kind c.record_of.ensures.number
 
 pub returns-clause-none : goal.returns-clause-none
 returns-clause-none c = search (rules, none_spelled, in_words, all)

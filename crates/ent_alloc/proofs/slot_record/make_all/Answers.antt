@@ -6,8 +6,7 @@ use Rattle.ent_alloc.proofs.slot_record.make_all.Goals as goal
 
 pub loop-index-init : goal.loop-index-init
 loop-index-init c =
-    let none : c.len-made.result - c.len-made.result ≡ 0 = omega arith in
-    search (rules, none, fresh-none, append-nil)
+    let none : c.len-made.result - c.len-made.result ≡ 0 = omega arith in search (rules, none, fresh-none, append-nil)
 
 pub loop-index-preserved : goal.loop-index-preserved
 loop-index-preserved c =

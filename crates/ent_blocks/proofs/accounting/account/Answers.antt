@@ -1,5 +1,4 @@
-use Rattle.std.proofs.Common.{rules}
-use Rattle.std.proofs.Common.{append_assoc}
+use Rattle.std.proofs.Common.{rules, append_assoc}
 use Rattle.ent_blocks.proofs.Accounts.{accounted_same, accounted_other, accounted_none}
 use Rattle.ent_blocks.proofs.accounting.account.Goals as goal
 

@@ -15,21 +15,15 @@ unreachable-requires c =
     let s = c.args.entities.now.allocator in
     let r = c.args.part.now in
     let n = c.args.n in
-    let at : c.new-span.result.high ≡ cursor s -ℤ pos (r.before + r.used) =
-    ap (λ (s : Span). s.high) c.new-span.ensures.value
-    ∙ (omega (arith, ints, c.requires.few, c.requires.flushed)) in
-    let is : c.reply.result ≡ Ok (listed s.made (take n (rest_of s.pool r))) =
-    c.reply.ensures n (ap (λ (s : Span). s.low) c.new-span.ensures.value
-    ∙ sym (ap (λ (s : Span). s.high -ℤ pos n) c.new-span.ensures.value))
-    ∙ ap (λ pool. reply_from s.made pool n)
-    (pool_there s c.cursor-cursor.ensures.sound c.requires.flushed (r.before + r.used)
-    c.new-span.result.high at)
+    let at : c.new-span.result.high ≡ cursor s -ℤ pos (r.before + r.used) = ap (λ (s : Span). s.high)
+    c.new-span.ensures.value ∙ (omega (arith, ints, c.requires.few, c.requires.flushed)) in
+    let is : c.reply.result ≡ Ok (listed s.made (take n (rest_of s.pool r))) = c.reply.ensures n
+    (ap (λ (s : Span). s.low) c.new-span.ensures.value ∙ sym
+    (ap (λ (s : Span). s.high -ℤ pos n) c.new-span.ensures.value)) ∙ ap (λ pool. reply_from s.made pool n) (pool_there s
+    c.cursor-cursor.ensures.sound c.requires.flushed (r.before + r.used) c.new-span.result.high at)
     ∙ served_many s.made n s.pool r c.requires.left c.requires.within
-    ∙ served s.made n (rest_of s.pool r) (omega (
-      arith,
-      length-rest s.pool r (omega (arith, c.requires.left)) c.requires.within,
-      c.requires.left,
-    )) in
+    ∙ served s.made n (rest_of s.pool r)
+    (omega (arith, length-rest s.pool r (omega (arith, c.requires.left)) c.requires.within, c.requires.left)) in
     search (rules, is)
 
 pub returns-clause-given : goal.returns-clause-given
@@ -37,22 +31,31 @@ returns-clause-given c =
     let s = c.args.entities.now.allocator in
     let r = c.args.part.now in
     let n = c.args.n in
-    let at : c.new-span.result.high ≡ cursor s -ℤ pos (r.before + r.used) =
-    ap (λ (s : Span). s.high) c.new-span.ensures.value
-    ∙ (omega (arith, ints, c.requires.few, c.requires.flushed)) in
-    let is : c.reply.result ≡ Ok (listed s.made (take n (rest_of s.pool r))) =
-    c.reply.ensures n (ap (λ (s : Span). s.low) c.new-span.ensures.value
-    ∙ sym (ap (λ (s : Span). s.high -ℤ pos n) c.new-span.ensures.value))
-    ∙ ap (λ pool. reply_from s.made pool n)
-    (pool_there s c.cursor-cursor.ensures.sound c.requires.flushed (r.before + r.used)
-    c.new-span.result.high at)
+    let at : c.new-span.result.high ≡ cursor s -ℤ pos (r.before + r.used) = ap (λ (s : Span). s.high)
+    c.new-span.ensures.value ∙ (omega (arith, ints, c.requires.few, c.requires.flushed)) in
+    let is : c.reply.result ≡ Ok (listed s.made (take n (rest_of s.pool r))) = c.reply.ensures n
+    (ap (λ (s : Span). s.low) c.new-span.ensures.value ∙ sym
+    (ap (λ (s : Span). s.high -ℤ pos n) c.new-span.ensures.value)) ∙ ap (λ pool. reply_from s.made pool n) (pool_there s
+    c.cursor-cursor.ensures.sound c.requires.flushed (r.before + r.used) c.new-span.result.high at)
     ∙ served_many s.made n s.pool r c.requires.left c.requires.within
-    ∙ served s.made n (rest_of s.pool r) (omega (
-      arith,
-      length-rest s.pool r (omega (arith, c.requires.left)) c.requires.within,
-      c.requires.left,
-    )) in
+    ∙ served s.made n (rest_of s.pool r)
+    (omega (arith, length-rest s.pool r (omega (arith, c.requires.left)) c.requires.within, c.requires.left)) in
     search (rules, is)
 
 pub returns-clause-length : goal.returns-clause-length
-returns-clause-length c = let s = c.args.entities.now.allocator in let r = c.args.part.now in let n = c.args.n in let at : c.new-span.result.high ≡ cursor s -ℤ pos (r.before + r.used) = ap (λ (s : Span). s.high) c.new-span.ensures.value ∙ (omega (arith, ints, c.requires.few, c.requires.flushed)) in let is : c.reply.result ≡ Ok (listed s.made (take n (rest_of s.pool r))) = c.reply.ensures n (ap (λ (s : Span). s.low) c.new-span.ensures.value ∙ sym (ap (λ (s : Span). s.high -ℤ pos n) c.new-span.ensures.value)) ∙ ap (λ pool. reply_from s.made pool n) (pool_there s c.cursor-cursor.ensures.sound c.requires.flushed (r.before + r.used) c.new-span.result.high at) ∙ served_many s.made n s.pool r c.requires.left c.requires.within ∙ served s.made n (rest_of s.pool r) (omega (arith, length-rest s.pool r (omega (arith, c.requires.left)) c.requires.within, c.requires.left)) in let long = length-rest s.pool r (omega (arith, c.requires.left)) c.requires.within in let given : c.in-Ok.given ≡ listed s.made (take n (rest_of s.pool r)) = search (rules, is) in search (rules, length-listed, length-take-le)
+returns-clause-length c =
+    let s = c.args.entities.now.allocator in
+    let r = c.args.part.now in
+    let n = c.args.n in
+    let at : c.new-span.result.high ≡ cursor s -ℤ pos (r.before + r.used) = ap (λ (s : Span). s.high)
+    c.new-span.ensures.value ∙ (omega (arith, ints, c.requires.few, c.requires.flushed)) in
+    let is : c.reply.result ≡ Ok (listed s.made (take n (rest_of s.pool r))) = c.reply.ensures n
+    (ap (λ (s : Span). s.low) c.new-span.ensures.value ∙ sym
+    (ap (λ (s : Span). s.high -ℤ pos n) c.new-span.ensures.value)) ∙ ap (λ pool. reply_from s.made pool n) (pool_there s
+    c.cursor-cursor.ensures.sound c.requires.flushed (r.before + r.used) c.new-span.result.high at)
+    ∙ served_many s.made n s.pool r c.requires.left c.requires.within
+    ∙ served s.made n (rest_of s.pool r)
+    (omega (arith, length-rest s.pool r (omega (arith, c.requires.left)) c.requires.within, c.requires.left)) in
+    let long = length-rest s.pool r (omega (arith, c.requires.left)) c.requires.within in
+    let given : c.in-Ok.given ≡ listed s.made (take n (rest_of s.pool r)) = search (rules, is) in
+    search (rules, length-listed, length-take-le)

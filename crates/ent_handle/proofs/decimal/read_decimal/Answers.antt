@@ -1,6 +1,5 @@
 use Rattle.std.proofs.Common.{rules}
-use Rattle.ent_handle.proofs.Decimals.{number_of_none, number_from_value, number_found}
-use Rattle.ent_handle.proofs.Decimals.{number_only, number_shape, number_range}
+use Rattle.ent_handle.proofs.Decimals.{number_of_none, number_from_value, number_found, number_only, number_shape, number_range}
 use Rattle.ent_handle.proofs.decimal.read_decimal.Goals as goal
 
 pub returns : goal.returns

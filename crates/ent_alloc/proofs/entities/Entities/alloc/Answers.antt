@@ -6,61 +6,52 @@ use Rattle.ent_alloc.specs.declared.fault.AllocFault.{AllocFault}
 use Rattle.ent_alloc.specs.declared.fault.AllocFault.TheVariants.{Memory, Space}
 use Rattle.ent_alloc.specs.Roster.{Roster}
 use Rattle.ent_alloc.proofs.Meaning.{allocator_is, IsAtRest, at_rest, top_view}
-use Rattle.ent_alloc.proofs.MeaningOfAlloc.{IsGiven, made_roster, length_pool, reused_given}
-use Rattle.ent_alloc.proofs.MeaningOfAlloc.{made_given}
+use Rattle.ent_alloc.proofs.MeaningOfAlloc.{IsGiven, made_roster, length_pool, reused_given, made_given}
 use Rattle.ent_alloc.proofs.Asked.{first_within}
-use Rattle.ent_alloc.proofs.entities.Entities.alloc.Goals.{Else-needs_flush, Then-room-gt0, In-Some}
-use Rattle.ent_alloc.proofs.entities.Entities.alloc.Goals.{In_ok-make_one}
+use Rattle.ent_alloc.proofs.entities.Entities.alloc.Goals.{Else-needs_flush, Then-room-gt0, In-Some, In_ok-make_one}
 use Rattle.ent_alloc.proofs.entities.Entities.alloc.Goals as goal
 
 -- nothing is reserved
-rest : (c : Else-needs_flush) → IsAtRest c.self.inside.slots c.self.inside.requests
-    c.args.self.now.allocator
+rest : (c : Else-needs_flush) → IsAtRest c.self.inside.slots c.self.inside.requests c.args.self.now.allocator
 rest c = search (rules, at_rest, allocator_is)
 
 -- the room is that of the slots, since no slot waited and so nothing has changed
-room_is : (r old : Roster) (room : ℕ) → old ≡ r → room ≡ old.limits.slots - old.made → room
-    ≡ r.limits.slots - r.made
+room_is : (r old : Roster) (room : ℕ) → old ≡ r → room ≡ old.limits.slots - old.made → room ≡ r.limits.slots - r.made
 room_is r old room same is = is ∙ ap (λ (x : Roster). x.limits.slots - x.made) same
 
 some_room : (c : Then-room-gt0) → c.self.inside.slots.made < c.self.inside.slots.limits.slots
 some_room c = search (rules, room_is)
 
 -- so some handle can be given
-none_left : (c : Then-room-gt0) → IsAtRest c.self.inside.slots c.self.inside.requests
-    c.args.self.now.allocator → c.args.self.now.allocator.pool ≡ [] → ⊥
+none_left : (c : Then-room-gt0) → IsAtRest c.self.inside.slots c.self.inside.requests c.args.self.now.allocator
+    → c.args.self.now.allocator.pool ≡ [] → ⊥
 none_left c rest none = search (rules, some_room, length_pool, rest)
 
 -- the slot that waits last gives its next handle
-reused : (c : In-Some) → IsAtRest c.self.inside.slots c.self.inside.requests
-    c.args.self.now.allocator
-    → IsGiven c.self.inside.requests c.args.self.now.allocator c.in-Some.handle
-    c.reuse_last.new.self
-reused c rest = reused_given c.self.inside.slots c.self.inside.requests c.args.self.now.allocator
-    rest c.in-Some.handle c.in-Some.ensures.last c.reuse_last.new.self c.in-Some.ensures.some
+reused : (c : In-Some) → IsAtRest c.self.inside.slots c.self.inside.requests c.args.self.now.allocator
+    → IsGiven c.self.inside.requests c.args.self.now.allocator c.in-Some.handle c.reuse_last.new.self
+reused c rest = reused_given c.self.inside.slots c.self.inside.requests c.args.self.now.allocator rest c.in-Some.handle
+    c.in-Some.ensures.last c.reuse_last.new.self c.in-Some.ensures.some
 
 -- no slot waits, and one is made
-made : (c : In_ok-make_one) → IsAtRest c.self.inside.slots c.self.inside.requests
-    c.args.self.now.allocator → c.self.inside.slots.made < c.self.inside.slots.limits.slots
-    → IsGiven c.self.inside.requests c.args.self.now.allocator c.in_ok-make_one.field-0
-    c.make_one.new.self
+made : (c : In_ok-make_one) → IsAtRest c.self.inside.slots c.self.inside.requests c.args.self.now.allocator
+    → c.self.inside.slots.made < c.self.inside.slots.limits.slots
+    → IsGiven c.self.inside.requests c.args.self.now.allocator c.in_ok-make_one.field-0 c.make_one.new.self
 made c rest room =
     let same = c.in_default.ensures.unchanged in
     let h = c.in_ok-make_one.field-0 in
     made_given c.self.inside.slots c.self.inside.requests c.args.self.now.allocator rest h
-    (ap length c.in_default.ensures.none) room (search (rules, c.in_ok-make_one.ensures.first))
-    c.make_one.new.self (c.in_ok-make_one.ensures.ok ∙ ap (λ (x : Roster). made_roster x h) same)
+    (ap length c.in_default.ensures.none) room (search (rules, c.in_ok-make_one.ensures.first)) c.make_one.new.self
+    (c.in_ok-make_one.ensures.ok ∙ ap (λ (x : Roster). made_roster x h) same)
 
 -- lack of memory is no lack of slots
-not_space : (result : Result Handle AllocFault) → IsErrAnd result (λ e. e ≡ Memory)
-    → IsErrOf result Space → ⊥
+not_space : (result : Result Handle AllocFault) → IsErrAnd result (λ e. e ≡ Memory) → IsErrOf result Space → ⊥
 not_space (Ok h) is same = is
 not_space (Err e) is same = cc
 
 pub invariant_of-self : goal.invariant_of-self
 invariant_of-self c =
-    let at = goal.at.invariant_of-self c in
-    (reused at.In-Some (rest at.Else-needs_flush)).stands.reserved
+    let at = goal.at.invariant_of-self c in (reused at.In-Some (rest at.Else-needs_flush)).stands.reserved
 
 pub invariant_of-self-then-room-gt0 : goal.invariant_of-self-then-room-gt0
 invariant_of-self-then-room-gt0 c =
@@ -72,8 +63,7 @@ returns-in-Some-clause-front c = search (rules, reused, rest)
 
 pub returns-in-Some-clause-ok : goal.returns-in-Some-clause-ok
 returns-in-Some-clause-ok c =
-    let at = goal.at.returns-in-Some-clause-ok c in
-    (reused at.In-Some (rest at.Else-needs_flush)).stands.view
+    let at = goal.at.returns-in-Some-clause-ok c in (reused at.In-Some (rest at.Else-needs_flush)).stands.view
 
 pub returns-in_ok-make_one-clause-front : goal.returns-in_ok-make_one-clause-front
 returns-in_ok-make_one-clause-front c = search (rules, made, rest, some_room)
@@ -97,8 +87,7 @@ returns-else-room-gt0-clause-space c = search (rules, room_is, length_pool, nil_
 
 pub returns-in-Some-clause-no_row : goal.returns-in-Some-clause-no_row
 returns-in-Some-clause-no_row c =
-    let at = goal.at.returns-in-Some-clause-no_row c in
-    (reused at.In-Some (rest at.Else-needs_flush)).no_row
+    let at = goal.at.returns-in-Some-clause-no_row c in (reused at.In-Some (rest at.Else-needs_flush)).no_row
 
 pub returns-in-Some-clause-rows_of_living : goal.returns-in-Some-clause-rows_of_living
 returns-in-Some-clause-rows_of_living c =
@@ -118,8 +107,7 @@ pub returns-in-Some-clause-within : goal.returns-in-Some-clause-within
 returns-in-Some-clause-within c =
     let at = goal.at.returns-in-Some-clause-within c in
     let rest = rest at.Else-needs_flush in
-    first_within c.args.self.now.allocator c.in-Some.handle rest.sound
-    (reused at.In-Some rest).front
+    first_within c.args.self.now.allocator c.in-Some.handle rest.sound (reused at.In-Some rest).front
 
 pub returns-in_ok-make_one-clause-within : goal.returns-in_ok-make_one-clause-within
 returns-in_ok-make_one-clause-within c = search (rules, rest, first_within, made, some_room)

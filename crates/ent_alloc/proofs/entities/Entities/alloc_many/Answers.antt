@@ -1,5 +1,4 @@
-use Rattle.std.proofs.Common.{rules, ◌≡◌, sym, ◌∙◌, subst, ℕ, ◌+◌, ◌-◌, ◌≤◌, length, drop}
-use Rattle.std.proofs.Common.{◌++◌}
+use Rattle.std.proofs.Common.{rules, ◌≡◌, sym, ◌∙◌, subst, ℕ, ◌+◌, ◌-◌, ◌≤◌, length, drop, ◌++◌}
 use Rattle.std.proofs.lemmas.List.{length-append}
 use Rattle.ent_alloc.specs.Sequential.{fresh, after_take, after_flush}
 use Rattle.ent_alloc.specs.Sound.{IsSound}
@@ -11,19 +10,16 @@ use Rattle.ent_alloc.proofs.MeaningOfFlush.{flushed_roster}
 use Rattle.ent_alloc.proofs.GivenMany.{front_no_row, front_is, many_given, ordered}
 use Rattle.ent_alloc.proofs.Asked.{front_within}
 use Rattle.ent_alloc.proofs.OneByOne.{one_by_one}
-use Rattle.ent_alloc.proofs.entities.Entities.alloc_many.Goals.{Else-needs_flush, Else-n-left}
-use Rattle.ent_alloc.proofs.entities.Entities.alloc_many.Goals.{After-fresh-fresh, In_ok-bring_to_life}
+use Rattle.ent_alloc.proofs.entities.Entities.alloc_many.Goals.{Else-needs_flush, Else-n-left, After-fresh-fresh, In_ok-bring_to_life}
 use Rattle.ent_alloc.proofs.entities.Entities.alloc_many.Goals as goal
 
 -- nothing is reserved
-rest : (c : Else-needs_flush) → IsAtRest c.self.inside.slots c.self.inside.requests
-    c.args.self.now.allocator
+rest : (c : Else-needs_flush) → IsAtRest c.self.inside.slots c.self.inside.requests c.args.self.now.allocator
 rest c = search (rules, at_rest, allocator_is)
 
 -- there are as many
-enough : (c : Else-n-left) → IsAtRest c.self.inside.slots c.self.inside.requests
-    c.args.self.now.allocator → c.args.n ≤ length c.self.inside.slots.pending
-    + (c.self.inside.slots.limits.slots - c.self.inside.slots.made)
+enough : (c : Else-n-left) → IsAtRest c.self.inside.slots c.self.inside.requests c.args.self.now.allocator
+    → c.args.n ≤ length c.self.inside.slots.pending + (c.self.inside.slots.limits.slots - c.self.inside.slots.made)
 enough c rest = search (rules, length_pool, rest)
 
 -- how many slots go on waiting, and how many are made
@@ -31,21 +27,18 @@ record AreCounted (waiting n kept news : ℕ) : Type 0 where
   kept_is : kept ≡ waiting - n
   news_is : news ≡ n - waiting
 
-counted : (c : After-fresh-fresh) → AreCounted (length c.self.inside.slots.pending) c.args.n
-    c.kept-kept.result c.fresh-fresh.result
+counted : (c : After-fresh-fresh) → AreCounted (length c.self.inside.slots.pending) c.args.n c.kept-kept.result
+    c.fresh-fresh.result
 counted c = search (rules)
 
 -- what is left stands for the allocator after the call
-given : (c : In_ok-bring_to_life) → IsAtRest c.self.inside.slots c.self.inside.requests
-    c.args.self.now.allocator → c.args.n ≤ length c.self.inside.slots.pending
-    + (c.self.inside.slots.limits.slots - c.self.inside.slots.made)
-    → AreCounted (length c.self.inside.slots.pending) c.args.n c.kept-kept.result
-    c.fresh-fresh.result → StandFor c.bring_to_life.new.self c.self.inside.requests
+given : (c : In_ok-bring_to_life) → IsAtRest c.self.inside.slots c.self.inside.requests c.args.self.now.allocator
+    → c.args.n ≤ length c.self.inside.slots.pending + (c.self.inside.slots.limits.slots - c.self.inside.slots.made)
+    → AreCounted (length c.self.inside.slots.pending) c.args.n c.kept-kept.result c.fresh-fresh.result
+    → StandFor c.bring_to_life.new.self c.self.inside.requests
     (after_flush (after_take c.args.self.now.allocator c.args.n))
-given c rest enough counts =
-    many_given c.self.inside.slots c.self.inside.requests c.args.self.now.allocator rest c.args.n
-    enough c.bring_to_life.new.self
-    (c.in_ok-bring_to_life.ensures.ok
+given c rest enough counts = many_given c.self.inside.slots c.self.inside.requests c.args.self.now.allocator rest
+    c.args.n enough c.bring_to_life.new.self (c.in_ok-bring_to_life.ensures.ok
     ∙ (λ i. flushed_roster c.self.inside.slots (counts.kept_is i) (counts.news_is i)))
 
 pub bring_to_life-requires-clause-room : goal.bring_to_life-requires-clause-room
@@ -57,8 +50,8 @@ in_order-requires c = search (rules, length-append, length-fresh)
 pub invariant_of-self-2 : goal.invariant_of-self-2
 invariant_of-self-2 c =
     let at = goal.at.invariant_of-self-2 c in
-    (given at.In_ok-bring_to_life (rest at.Else-needs_flush)
-    (enough at.Else-n-left (rest at.Else-needs_flush)) (counted at.After-fresh-fresh)).reserved
+    (given at.In_ok-bring_to_life (rest at.Else-needs_flush) (enough at.Else-n-left (rest at.Else-needs_flush))
+    (counted at.After-fresh-fresh)).reserved
 
 pub returns-clause-ok : goal.returns-clause-ok
 returns-clause-ok c = search (rules, given, rest, enough, counted)
@@ -88,14 +81,13 @@ returns-clause-within c = search (rules, returns-clause-handles, front_within, r
 pub returns-clause-rows_of_living : goal.returns-clause-rows_of_living
 returns-clause-rows_of_living c =
     let at = goal.at.returns-clause-rows_of_living c in
-    (given at.In_ok-bring_to_life (rest at.Else-needs_flush)
-    (enough at.Else-n-left (rest at.Else-needs_flush)) (counted at.After-fresh-fresh)).reserved.rows
+    (given at.In_ok-bring_to_life (rest at.Else-needs_flush) (enough at.Else-n-left (rest at.Else-needs_flush))
+    (counted at.After-fresh-fresh)).reserved.rows
 
 pub returns-clause-no_rows : goal.returns-clause-no_rows
 returns-clause-no_rows c =
     let view = c.self.view_is in
     let inv = c.self.invariant in
-    let none = front_no_row c.args.self.now c.args.n
-    (subst (λ (e : Entities). IsSound e.allocator) view inv.sound)
+    let none = front_no_row c.args.self.now c.args.n (subst (λ (e : Entities). IsSound e.allocator) view inv.sound)
     (subst HasRowsOfLiving view inv.rows) in
     search (rules, none, c.in_ok-bring_to_life.ensures.ok, view)

@@ -5,11 +5,9 @@ use Rattle.ent_alloc.specs.Sound.{IsSound}
 use Rattle.ent_alloc.specs.Entities.{Entities, HasRowsOfLiving}
 use Rattle.ent_alloc.proofs.Soundness.{after_flush-sound}
 use Rattle.ent_alloc.proofs.Meaning.{allocator_is, length-idle, closed, StandFor}
-use Rattle.ent_alloc.proofs.MeaningOfFlush.{flushed_roster, made_at_flush_is, flush_is}
-use Rattle.ent_alloc.proofs.MeaningOfFlush.{born_is_listed}
+use Rattle.ent_alloc.proofs.MeaningOfFlush.{flushed_roster, made_at_flush_is, flush_is, born_is_listed}
 use Rattle.ent_alloc.proofs.RowsOfLiving.{rows-joined, born-no_row}
-use Rattle.ent_alloc.proofs.entities.Entities.flush.Goals.{After-fresh-fresh}
-use Rattle.ent_alloc.proofs.entities.Entities.flush.Goals.{After-none-self-inside}
+use Rattle.ent_alloc.proofs.entities.Entities.flush.Goals.{After-fresh-fresh, After-none-self-inside}
 use Rattle.ent_alloc.proofs.entities.Entities.flush.Goals as goal
 
 -- what is so anyhow is so after a refusal
@@ -22,14 +20,13 @@ record AreCounted (waiting given kept news : ℕ) : Type 0 where
   kept_is : kept ≡ waiting - given
   news_is : news ≡ given - waiting
 
-counted : (c : After-fresh-fresh) → AreCounted (length c.self.inside.slots.pending)
-    c.self.inside.requests.served c.kept-kept.result c.fresh-fresh.result
+counted : (c : After-fresh-fresh) → AreCounted (length c.self.inside.slots.pending) c.self.inside.requests.served
+    c.kept-kept.result c.fresh-fresh.result
 counted c = search (rules)
 
 -- the roster that a flush leaves stands for the flushed allocator
-left : (c : After-none-self-inside) → AreCounted (length c.self.inside.slots.pending)
-    c.self.inside.requests.served c.kept-kept.result c.fresh-fresh.result
-    → StandFor c.bring_to_life.new.self c.none-self-inside.result
+left : (c : After-none-self-inside) → AreCounted (length c.self.inside.slots.pending) c.self.inside.requests.served
+    c.kept-kept.result c.fresh-fresh.result → StandFor c.bring_to_life.new.self c.none-self-inside.result
     (after_flush c.args.self.now.allocator)
 left c counts =
     let r = c.self.inside.slots in
@@ -37,20 +34,17 @@ left c counts =
     let inv = c.self.invariant in
     let given = c.self.inside.requests.served in
     let is = flush_is r c.self.inside.requests.asked given inv.given_least inv.given_in inv.sound in
-    closed c.bring_to_life.new.self
-    (flushed_roster r (length r.pending - given) (given - length r.pending))
-    c.none-self-inside.result (after_flush c.args.self.now.allocator) (search (rules))
-    c.none-self-inside.ensures (is ∙ ap after_flush view)
-    (search (rules, after_flush-sound, view)) (search (rules, rows-joined))
+    closed c.bring_to_life.new.self (flushed_roster r (length r.pending - given) (given - length r.pending))
+    c.none-self-inside.result (after_flush c.args.self.now.allocator) (search (rules)) c.none-self-inside.ensures
+    (is ∙ ap after_flush view) (search (rules, after_flush-sound, view)) (search (rules, rows-joined))
 
 pub returns-in_err-bring_to_life-clause-memory : goal.returns-in_err-bring_to_life-clause-memory
-returns-in_err-bring_to_life-clause-memory c =
-    search (rules, counted, length-take-le, length-idle, allocator_is, made_at_flush_is, anyhow)
+returns-in_err-bring_to_life-clause-memory c = search
+    (rules, counted, length-take-le, length-idle, allocator_is, made_at_flush_is, anyhow)
 
 pub invariant_of-self-2 : goal.invariant_of-self-2
 invariant_of-self-2 c =
-    let at = goal.at.invariant_of-self-2 c in
-    (left at.After-none-self-inside (counted at.After-fresh-fresh)).reserved
+    let at = goal.at.invariant_of-self-2 c in (left at.After-none-self-inside (counted at.After-fresh-fresh)).reserved
 
 pub returns-clause-ok : goal.returns-clause-ok
 returns-clause-ok c = search (rules, left, counted)

@@ -13,19 +13,16 @@ use Rattle.ent_alloc.proofs.entities.Entities.free.Goals.{Else-needs_flush, In_o
 use Rattle.ent_alloc.proofs.entities.Entities.free.Goals as goal
 
 -- nothing is reserved
-rest : (c : Else-needs_flush) → IsAtRest c.self.inside.slots c.self.inside.requests
-    c.args.self.now.allocator
+rest : (c : Else-needs_flush) → IsAtRest c.self.inside.slots c.self.inside.requests c.args.self.now.allocator
 rest c = search (rules, at_rest, allocator_is)
 
 -- the slot of the last generation is retired, and any other one waits
-retired_is : (c : Else-needs_flush) → c.args.handle.generation
-    ≡ c.self.inside.slots.limits.generations
+retired_is : (c : Else-needs_flush) → c.args.handle.generation ≡ c.self.inside.slots.limits.generations
     → allocator_of (retired_roster c.self.inside.slots c.args.handle) 0 0
     ≡ after_free c.args.self.now.allocator c.args.handle
 retired_is c last = grind (arith, common_steps)
 
-freed_is : (c : Else-needs_flush) → c.args.handle.generation
-    ≢ c.self.inside.slots.limits.generations
+freed_is : (c : Else-needs_flush) → c.args.handle.generation ≢ c.self.inside.slots.limits.generations
     → allocator_of (freed_roster c.self.inside.slots c.args.handle) 0 0
     ≡ after_free c.args.self.now.allocator c.args.handle
 freed_is c before = grind (arith, common_steps, before)
@@ -40,10 +37,9 @@ removed : (c : Else-needs_flush) → AreOf (sets.remove c.self.inside.slots.live
 removed c = search (rules, rows-removed)
 
 -- the roster that this leaves stands for what is freed
-left : (c : In_ok-next) (new after : Roster)
-    → IsAtRest c.self.inside.slots c.self.inside.requests c.args.self.now.allocator → new ≡ after
-    → allocator_of after 0 0 ≡ after_free c.args.self.now.allocator c.args.handle
-    → HasRowsOfLiving (entities_of after 0 0)
+left : (c : In_ok-next) (new after : Roster) → IsAtRest c.self.inside.slots c.self.inside.requests
+    c.args.self.now.allocator → new ≡ after → allocator_of after 0 0
+    ≡ after_free c.args.self.now.allocator c.args.handle → HasRowsOfLiving (entities_of after 0 0)
     → StandFor new c.self.inside.requests (after_free c.args.self.now.allocator c.args.handle)
 left c new after rest same is rows = search (rules, closed, after_free-sound, lives)
 
@@ -54,12 +50,12 @@ invariant_of-self-2 c =
     let r = c.self.inside.slots in
     let h = c.args.handle in
     elim (cases_eq h.generation r.limits.generations) [
-      | inl last ↦ (left at.In_ok-next c.free.new.self (retired_roster r h)
-          (rest at.Else-needs_flush) (c.in_ok-next.ensures.retired last)
-          (retired_is at.Else-needs_flush last) (search (rules, gone))).reserved
-      | inr before ↦ (left at.In_ok-next c.free.new.self (freed_roster r h)
-          (rest at.Else-needs_flush) (c.in_ok-next.ensures.waits before)
-          (freed_is at.Else-needs_flush before) (search (rules, gone))).reserved
+      | inl last ↦
+          (left at.In_ok-next c.free.new.self (retired_roster r h) (rest at.Else-needs_flush)
+          (c.in_ok-next.ensures.retired last) (retired_is at.Else-needs_flush last) (search (rules, gone))).reserved
+      | inr
+          before ↦ (left at.In_ok-next c.free.new.self (freed_roster r h) (rest at.Else-needs_flush)
+          (c.in_ok-next.ensures.waits before) (freed_is at.Else-needs_flush before) (search (rules, gone))).reserved
     ]
 
 pub returns-clause-ok : goal.returns-clause-ok

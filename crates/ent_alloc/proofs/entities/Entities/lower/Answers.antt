@@ -8,8 +8,7 @@ use Rattle.ent_alloc.specs.Sequential.{Allocator}
 use Rattle.ent_alloc.specs.Entities.{AreReserved}
 use Rattle.ent_alloc.proofs.Spans.{IsSpanOf-after_take}
 use Rattle.ent_alloc.proofs.Meaning.{allocator_is, length_available}
-use Rattle.ent_alloc.proofs.MeaningOfRequests.{served_view, served_reserved, refused_view}
-use Rattle.ent_alloc.proofs.MeaningOfRequests.{refused_reserved}
+use Rattle.ent_alloc.proofs.MeaningOfRequests.{served_view, served_reserved, refused_view, refused_reserved}
 use Rattle.ent_alloc.proofs.entities.Entities.lower.Goals.{After-available-available}
 use Rattle.ent_alloc.proofs.entities.Entities.lower.Goals as goal
 
@@ -37,14 +36,13 @@ invariant_of-self c =
     let keeps : Requests → Type 0 = λ q. AreReserved r q.asked q.served in
     elim (cases_lt c.available-available.result (e.requests.asked + n)) [
       | inl short ↦ search (rules, c.and-self-inside.ensures.refused, refused_reserved)
-      | inr enough ↦ subst keeps (sym (c.and-self-inside.ensures.served enough))
-          (served_reserved r e.requests.asked e.requests.served n s inv view (omega arith)
-          (omega arith))
+      | inr enough ↦ subst keeps
+          (sym (c.and-self-inside.ensures.served enough)) (served_reserved r e.requests.asked e.requests.served n s inv view
+          (omega arith) (omega arith))
     ]
 
 pub returns-clause-step : goal.returns-clause-step
 returns-clause-step c = search (rules, allocator_is, many, cases_lt, refused_view, served_view)
 
 pub returns-clause-valid : goal.returns-clause-valid
-returns-clause-valid c =
-    search (rules, allocator_is, ints, IsSpanOf-after_take, returns-clause-step)
+returns-clause-valid c = search (rules, allocator_is, ints, IsSpanOf-after_take, returns-clause-step)

@@ -1,7 +1,5 @@
-use Rattle.std.proofs.Common.{rules}
+use Rattle.std.proofs.Common.{rules, ◌≡◌, ◌+◌, ◌-◌, ◌*◌, length, sym, ap, ◌∙◌, subst, arith, inl, inr, refl}
 use Rattle.std.proofs.lemmas.Grind.{common_steps}
-use Rattle.std.proofs.Common.{◌≡◌, ◌+◌, ◌-◌, ◌*◌, length, sym}
-use Rattle.std.proofs.Common.{ap, ◌∙◌, subst, arith, inl, inr, refl}
 use Rattle.std.proofs.lemmas.List.{length-append}
 use Rattle.std.proofs.lemmas.Bool.{false≢true}
 use Rattle.ent_alloc.specs.Limits.{Limits}
@@ -10,13 +8,10 @@ use Rattle.ent_alloc.specs.Image.{header, image, HasImage, slots_bytes, roster}
 use Rattle.ent_alloc.specs.ImageRecords.{AreServed}
 use Rattle.ent_alloc.specs.declared.image.Header.{Header}
 use Rattle.ent_alloc.proofs.ImageSound.{roster_slots}
-use Rattle.ent_alloc.proofs.ImageOf.{told, served, few_wait, length-slots_bytes, reserved_are, has_image}
-use Rattle.ent_alloc.proofs.ImageOf.{image_is, numbers, top_as, handed_on}
+use Rattle.ent_alloc.proofs.ImageOf.{told, served, few_wait, length-slots_bytes, reserved_are, has_image, image_is, numbers, top_as, handed_on}
 use Rattle.ent_alloc.specs.FirstFault.{first_fault, first_failing, slots_tests}
 use Rattle.ent_alloc.proofs.ImageHeader.{length-header_bytes}
-use Rattle.ent_alloc.proofs.ImageFront.{front_fault, to_numbers, later_tests, limits_fault}
-use Rattle.ent_alloc.proofs.ImageFront.{header_passes, no_header_fault}
-use Rattle.ent_alloc.proofs.ImageFront.{counts_fault, requests_fault, whole_length_fault, to_slots}
+use Rattle.ent_alloc.proofs.ImageFront.{front_fault, to_numbers, later_tests, limits_fault, header_passes, no_header_fault, counts_fault, requests_fault, whole_length_fault, to_slots}
 use Rattle.ent_alloc.proofs.entities.Entities.of_image.Goals.{In_ok-header, In-Some-requests_of, In_ok-slots}
 use Rattle.ent_alloc.proofs.entities.Entities.of_image.Goals as goal
 
@@ -34,13 +29,11 @@ returns-in_default-clause-refused c not_memory e has same = search (rules, told,
 pub returns-then-header-clause-refused : goal.returns-then-header-clause-refused
 returns-then-header-clause-refused c not_memory e has same = search (rules, told, told_of, few_wait)
 
-pub returns-in_default-requests_of-clause-refused :
-    goal.returns-in_default-requests_of-clause-refused
+pub returns-in_default-requests_of-clause-refused : goal.returns-in_default-requests_of-clause-refused
 returns-in_default-requests_of-clause-refused c not_memory e has same =
-    let told =
-    told_of (goal.at.returns-in_default-requests_of-clause-refused c).In_ok-header e has same in
-    c.in_default-requests_of.ensures.none (subst (λ (h : Header).
-    AreServed h.asked h.reserved (h.waiting + (h.slots - h.made))) told.0 (served e has))
+    let told = told_of (goal.at.returns-in_default-requests_of-clause-refused c).In_ok-header e has same in
+    c.in_default-requests_of.ensures.none (subst (λ (h : Header). AreServed h.asked h.reserved
+    (h.waiting + (h.slots - h.made))) told.0 (served e has))
 
 pub returns-then-slots-header-clause-refused : goal.returns-then-slots-header-clause-refused
 returns-then-slots-header-clause-refused c not_memory e has same = search (rules, told, told_of, length-slots_bytes)
@@ -54,9 +47,8 @@ numbers_are : (c : In_ok-slots) → numbers c.in_ok-slots.slots c.in-Some-reques
 numbers_are c = search rules
 
 -- the requests are ones that may have been made of the slots
-are_served : (c : In_ok-slots) → AreServed c.in-Some-requests_of.requests.asked
-    c.in-Some-requests_of.requests.served (length c.in_ok-slots.slots.pending
-    + (c.in_ok-slots.slots.limits.slots - c.in_ok-slots.slots.made))
+are_served : (c : In_ok-slots) → AreServed c.in-Some-requests_of.requests.asked c.in-Some-requests_of.requests.served
+    (length c.in_ok-slots.slots.pending + (c.in_ok-slots.slots.limits.slots - c.in_ok-slots.slots.made))
 are_served c = search (rules, numbers_are)
 
 pub invariant_of-result : goal.invariant_of-result
@@ -71,74 +63,65 @@ returns-clause-has_image c = search (rules, has_image, reserved_are, are_served)
 -- ---- the first fault
 
 -- the tests that are left after those of the letters, the length and the version
-to_later : (c : In_ok-header) → first_fault c.args.bytes.now
-    ≡ first_failing (later_tests c.in_ok-header.header (length c.args.bytes.now)
-    c.in_ok-header.slots.now)
+to_later : (c : In_ok-header) → first_fault c.args.bytes.now ≡ first_failing (later_tests c.in_ok-header.header
+    (length c.args.bytes.now) c.in_ok-header.slots.now)
 to_later c = search (rules, to_numbers)
 
 -- where the requests may have been made: the length, and what is left if it is that of the slots
 long_is : (c : In-Some-requests_of) → length c.args.bytes.now ≡ 40 + length c.in_ok-header.slots.now
 long_is c = search (rules, length-append, length-header_bytes)
 
-to_slots_of : (c : In-Some-requests_of)
-    → length c.in_ok-header.slots.now ≡ 12 * c.in_ok-header.header.made
-    → first_fault c.args.bytes.now ≡ first_failing (slots_tests c.in-Some.limits.generations
-    c.in_ok-header.header.made c.in_ok-header.header.waiting c.in_ok-header.slots.now)
+to_slots_of : (c : In-Some-requests_of) → length c.in_ok-header.slots.now ≡ 12 * c.in_ok-header.header.made
+    → first_fault c.args.bytes.now ≡ first_failing (slots_tests c.in-Some.limits.generations c.in_ok-header.header.made
+    c.in_ok-header.header.waiting c.in_ok-header.slots.now)
 to_slots_of c whole =
     let h = c.in_ok-header.header in
     let slots = c.in_ok-header.slots.now in
     let limits : c.in-Some.limits ≡ limits_in h = c.in-Some.ensures.value in
     to_numbers c.args.bytes.now h slots c.in_ok-header.ensures.fits c.in_ok-header.ensures.found
-    c.in_ok-header.ensures.faultless
-    ∙ to_slots h (length c.args.bytes.now) slots (c.in-Some.ensures.in_range.0 refl) (omega arith)
-    (omega arith) c.in-Some-requests_of.ensures.some (omega (arith, long_is c))
-    ∙ ap (λ (l : Limits). first_failing (slots_tests l.generations h.made h.waiting slots))
-    (sym limits)
+    c.in_ok-header.ensures.faultless ∙ to_slots h (length c.args.bytes.now) slots (c.in-Some.ensures.in_range.0 refl)
+    (omega arith) (omega arith) c.in-Some-requests_of.ensures.some (omega (arith, long_is c))
+    ∙ ap (λ (l : Limits). first_failing (slots_tests l.generations h.made h.waiting slots)) (sym limits)
 
 pub returns-in_err-header-clause-fault : goal.returns-in_err-header-clause-fault
 returns-in_err-header-clause-fault c = grind (arith, common_steps, handed_on, front_fault)
 
 pub returns-in_default-clause-fault : goal.returns-in_default-clause-fault
-returns-in_default-clause-fault c not_memory =
-    to_later (goal.at.returns-in_default-clause-fault c).In_ok-header
+returns-in_default-clause-fault c not_memory = to_later (goal.at.returns-in_default-clause-fault c).In_ok-header
     ∙ limits_fault c.in_ok-header.header (length c.args.bytes.now) c.in_ok-header.slots.now
     c.in_ok-header.ensures.fits.slots (λ are. false≢true (c.in_default.ensures.in_range.1 are))
 
 pub returns-then-header-clause-fault : goal.returns-then-header-clause-fault
-returns-then-header-clause-fault c not_memory =
-    to_later (goal.at.returns-then-header-clause-fault c).In_ok-header
+returns-then-header-clause-fault c not_memory = to_later (goal.at.returns-then-header-clause-fault c).In_ok-header
     ∙ counts_fault c.in_ok-header.header (length c.args.bytes.now) c.in_ok-header.slots.now
-    (c.in-Some.ensures.in_range.0 refl)
-    (elim c.then-header.either [ inl more ↦ inl (omega arith) | inr wait ↦ inr (omega (arith, wait.1)) ])
+    (c.in-Some.ensures.in_range.0 refl) (elim c.then-header.either [
+      | inl more ↦ inl (omega arith)
+      | inr wait ↦ inr
+          (omega (arith, wait.1))
+    ])
 
 pub returns-in_default-requests_of-clause-fault : goal.returns-in_default-requests_of-clause-fault
-returns-in_default-requests_of-clause-fault c not_memory =
-    to_later (goal.at.returns-in_default-requests_of-clause-fault c).In_ok-header
-    ∙ requests_fault c.in_ok-header.header (length c.args.bytes.now) c.in_ok-header.slots.now
-    (c.in-Some.ensures.in_range.0 refl) (omega arith) (omega arith)
-    c.in_default-requests_of.ensures.none
+returns-in_default-requests_of-clause-fault c not_memory = to_later (goal.at.returns-in_default-requests_of-clause-fault
+    c).In_ok-header ∙ requests_fault c.in_ok-header.header (length c.args.bytes.now) c.in_ok-header.slots.now
+    (c.in-Some.ensures.in_range.0 refl) (omega arith) (omega arith) c.in_default-requests_of.ensures.none
 
 pub returns-then-slots-header-clause-fault : goal.returns-then-slots-header-clause-fault
 returns-then-slots-header-clause-fault c not_memory =
     let at = goal.at.returns-then-slots-header-clause-fault c in
-    to_later at.In_ok-header
-    ∙ whole_length_fault c.in_ok-header.header (length c.args.bytes.now) c.in_ok-header.slots.now
-    (c.in-Some.ensures.in_range.0 refl) (omega arith) (omega arith)
-    c.in-Some-requests_of.ensures.some
-    (λ same. c.if-slots-header.true (omega (arith, long_is at.In-Some-requests_of)))
+    to_later at.In_ok-header ∙ whole_length_fault c.in_ok-header.header (length c.args.bytes.now)
+    c.in_ok-header.slots.now (c.in-Some.ensures.in_range.0 refl) (omega arith) (omega arith)
+    c.in-Some-requests_of.ensures.some (λ same. c.if-slots-header.true (omega (arith, long_is at.In-Some-requests_of)))
 
 -- and those of the slots
 pub returns-in_err-slots-clause-fault : goal.returns-in_err-slots-clause-fault
-returns-in_err-slots-clause-fault c =
-    handed_on c.from_residual-in_err-slots.result c.in_err-slots.field-0.0 _
-    c.from_residual-in_err-slots.ensures.1 (λ not_memory.
-    to_slots_of (goal.at.returns-in_err-slots-clause-fault c).In-Some-requests_of
-    c.if-slots-header.false ∙ c.in_err-slots.ensures.fault not_memory)
+returns-in_err-slots-clause-fault c = handed_on c.from_residual-in_err-slots.result c.in_err-slots.field-0.0 _
+    c.from_residual-in_err-slots.ensures.1 (λ not_memory. to_slots_of
+    (goal.at.returns-in_err-slots-clause-fault c).In-Some-requests_of c.if-slots-header.false
+    ∙ c.in_err-slots.ensures.fault not_memory)
 
 pub returns-clause-faultless : goal.returns-clause-faultless
-returns-clause-faultless c =
-    to_slots_of (goal.at.returns-clause-faultless c).In-Some-requests_of c.if-slots-header.false
-    ∙ c.in_ok-slots.ensures.faultless
+returns-clause-faultless c = to_slots_of (goal.at.returns-clause-faultless c).In-Some-requests_of
+    c.if-slots-header.false ∙ c.in_ok-slots.ensures.faultless
 
 -- ---- memory
 
@@ -154,16 +137,13 @@ returns-in_err-slots-clause-memory c =
     let slots = c.in_ok-header.slots.now in
     let header = c.in_ok-header.ensures in
     let long = long_is (goal.at.returns-in_err-slots-clause-memory c).In-Some-requests_of in
-    handed_on c.from_residual-in_err-slots.result c.in_err-slots.field-0.0 _
-    c.from_residual-in_err-slots.ensures.1 (λ _.
-    no_header_fault c.args.bytes.now h slots header.fits header.found header.faultless
-    (header_passes h (length c.args.bytes.now) slots (c.in-Some.ensures.in_range.0 refl)
-    (omega arith) (omega arith) c.in-Some-requests_of.ensures.some
-    (omega (arith, long, c.if-slots-header.false))))
+    handed_on c.from_residual-in_err-slots.result c.in_err-slots.field-0.0 _ c.from_residual-in_err-slots.ensures.1
+    (λ _. no_header_fault c.args.bytes.now h slots header.fits header.found header.faultless
+    (header_passes h (length c.args.bytes.now) slots (c.in-Some.ensures.in_range.0 refl) (omega arith) (omega arith)
+    c.in-Some-requests_of.ensures.some (omega (arith, long, c.if-slots-header.false))))
 
 pub returns-in_err-slots-clause-slots : goal.returns-in_err-slots-clause-slots
 returns-in_err-slots-clause-slots c =
     let long = long_is (goal.at.returns-in_err-slots-clause-slots c).In-Some-requests_of in
-    handed_on c.from_residual-in_err-slots.result c.in_err-slots.field-0.0 _
-    c.from_residual-in_err-slots.ensures.1
+    handed_on c.from_residual-in_err-slots.result c.in_err-slots.field-0.0 _ c.from_residual-in_err-slots.ensures.1
     (λ is. omega (arith, c.in_err-slots.ensures.memory is, long, c.if-slots-header.false))

@@ -1,5 +1,4 @@
-use Rattle.std.proofs.Common.{rules, ◌≡◌, ℕ, ◌+◌, ◌-◌, ◌<◌, false, length, drop, leb, get_or}
-use Rattle.std.proofs.Common.{◌∙◌, arith, le-leb}
+use Rattle.std.proofs.Common.{rules, ◌≡◌, ℕ, ◌+◌, ◌-◌, ◌<◌, false, length, drop, leb, get_or, ◌∙◌, arith, le-leb}
 use Rattle.std.proofs.lemmas.Bool.{lt-leb}
 use Rattle.ent_handle.specs.Handle.{Handle}
 use Rattle.ent_alloc.specs.Roster.{Roster}
@@ -7,23 +6,20 @@ use Rattle.ent_alloc.specs.Sequential.{Allocator, available, fresh, stands_in}
 use Rattle.ent_alloc.specs.Entities.{allocator_of, AreReserved}
 use Rattle.ent_alloc.proofs.Looked.{fresh_no}
 use Rattle.ent_alloc.proofs.Meaning.{allocator_is}
-use Rattle.ent_alloc.proofs.Places.{available_view, stands_idle, waits_here, waiting_place}
-use Rattle.ent_alloc.proofs.Places.{fresh_place}
+use Rattle.ent_alloc.proofs.Places.{available_view, stands_idle, waits_here, waiting_place, fresh_place}
 use Rattle.ent_alloc.proofs.entities.Entities.place.Goals as goal
 
 -- it neither waits nor is it fresh
 nowhere : (r : Roster) (asked given : ℕ) (s : Allocator) (h : Handle) → AreReserved r asked given
     → allocator_of r asked given ≡ s → stands_in (drop 0 r.pending) h ≡ false
-    → stands_in (fresh r.made (r.limits.slots - r.made)) h ≡ false
-    → stands_in (available s) h ≡ false
+    → stands_in (fresh r.made (r.limits.slots - r.made)) h ≡ false → stands_in (available s) h ≡ false
 nowhere r asked given s h inv view waits fresh_is = search (rules, available_view, stands_idle)
 
 -- where it waits
-waiting : (r : Roster) (h : Handle) (position : ℕ)
-    → ((from : ℕ) → stands_in (drop from r.pending) h ≡ leb from position)
-    → (position < length r.pending) × (get_or r.pending position h ≡ h)
-waiting r h position waits =
-    waits_here r.pending h position (waits position ∙ le-leb position position (omega arith))
+waiting : (r : Roster) (h : Handle) (position : ℕ) → ((from : ℕ)
+    → stands_in (drop from r.pending) h ≡ leb from position) → (position < length r.pending) × (get_or r.pending
+    position h ≡ h)
+waiting r h position waits = waits_here r.pending h position (waits position ∙ le-leb position position (omega arith))
     (waits (position + 1) ∙ lt-leb (position + 1) position (omega arith))
 
 pub overflow_sub-result : goal.overflow_sub-result
@@ -64,8 +60,7 @@ returns-in-Some-Retired-clause-none c =
 
 pub returns-in-None-clause-none : goal.returns-in-None-clause-none
 returns-in-None-clause-none c =
-    let gone = c.in-None.ensures.waits 0 in
-    search (rules, nowhere, allocator_is, fresh_no, c.args.handle)
+    let gone = c.in-None.ensures.waits 0 in search (rules, nowhere, allocator_is, fresh_no, c.args.handle)
 
 -- how many slots can still be made
 room_is : (r : Roster) (asked given : ℕ) (s : Allocator) (room : ℕ) → allocator_of r asked given ≡ s
@@ -73,8 +68,7 @@ room_is : (r : Roster) (asked given : ℕ) (s : Allocator) (room : ℕ) → allo
 room_is r asked given s room view is = search rules
 
 pub returns-in-None-2-clause-found : goal.returns-in-None-2-clause-found
-returns-in-None-2-clause-found c =
-    search (rules, allocator_is, room_is, fresh_place, available_view)
+returns-in-None-2-clause-found c = search (rules, allocator_is, room_is, fresh_place, available_view)
 
 pub returns-in-None-3-clause-none : goal.returns-in-None-3-clause-none
 returns-in-None-3-clause-none c =

@@ -1,12 +1,10 @@
-use Rattle.std.proofs.Common.{rules, ◌≡◌, ◌+◌, pos, ◌-ℤ◌, nat_abs, ap, ◌∙◌, Ok, arith, to_z, of_z}
-use Rattle.std.proofs.Common.{w64, ℕ}
+use Rattle.std.proofs.Common.{rules, ◌≡◌, ◌+◌, pos, ◌-ℤ◌, nat_abs, ap, ◌∙◌, Ok, arith, to_z, of_z, w64, ℕ}
 use Rattle.std.proofs.lemmas.Int.{ints}
 use Rattle.ent_alloc.specs.Sequential.{pool_at, reply_from}
 use Rattle.ent_alloc.proofs.FreshHandles.{fresh-none}
 use Rattle.ent_alloc.proofs.Meaning.{allocator_is}
 use Rattle.ent_alloc.proofs.MeaningOfReplies.{reply_none}
-use Rattle.ent_alloc.proofs.OneReply.{IsBelowTop, below_top, replied, several, short_of, left_is}
-use Rattle.ent_alloc.proofs.OneReply.{served, served_in_range, IsServed}
+use Rattle.ent_alloc.proofs.OneReply.{IsBelowTop, below_top, replied, several, short_of, left_is, served, served_in_range, IsServed}
 use Rattle.ent_alloc.specs.Reserved.{reserved_handles}
 use Rattle.ent_alloc.proofs.entities.Entities.reply.Goals.{After-self, After-slots}
 use Rattle.ent_alloc.proofs.entities.Entities.reply.Goals as goal
@@ -20,11 +18,9 @@ slots_is : (c : After-slots) → c.slots.result ≡ c.self.inside.slots.limits.s
 slots_is c = search rules
 
 -- what a reply lists that owns these positions and indexes
-lists : (c : After-self) (n position end index index_end : ℕ)
-    → IsServed c.self.inside.slots c.args.span.high n position end index index_end
-    → Ok (reserved_handles c.self.inside.slots position end index index_end)
-    ≡ reply_from c.args.self.now.allocator.made
-    (pool_at c.args.self.now.allocator c.args.span.high) n
+lists : (c : After-self) (n position end index index_end : ℕ) → IsServed c.self.inside.slots c.args.span.high n position
+    end index index_end → Ok (reserved_handles c.self.inside.slots position end index index_end)
+    ≡ reply_from c.args.self.now.allocator.made (pool_at c.args.self.now.allocator c.args.span.high) n
 lists c = search (rules, several, allocator_is)
 
 pub returns-then-low-high : goal.returns-then-low-high
@@ -46,12 +42,10 @@ returns-then-index_end-from c n requested =
     let at = lies (goal.at.returns-then-index_end-from c).After-self in
     let slots = slots_is (goal.at.returns-then-index_end-from c).After-slots in
     let word : to_z w64 (of_z w64 c.args.span.high) ≡ c.args.span.high = omega (arith, ints) in
-    let left =
-    left_is e.slots e.requests.asked e.requests.served c.args.span.high c.args.self.now.allocator
+    let left = left_is e.slots e.requests.asked e.requests.served c.args.span.high c.args.self.now.allocator
     c.self.invariant (allocator_is c.self.view_is) in
-    short_of e.slots e.requests.asked e.requests.served c.args.span.high c.args.self.now.allocator
-    c.self.invariant (allocator_is c.self.view_is) n _ _
-    (omega (arith, ints)) (omega (arith, ints)) (omega (arith, ints))
+    short_of e.slots e.requests.asked e.requests.served c.args.span.high c.args.self.now.allocator c.self.invariant
+    (allocator_is c.self.view_is) n _ _ (omega (arith, ints)) (omega (arith, ints)) (omega (arith, ints))
     (search (rules, c.left_below.ensures, word, left))
 
 pub new-requires-then-high-gt0 : goal.new-requires-then-high-gt0
@@ -74,7 +68,7 @@ returns c =
     let start = (goal.at.returns c).After-self in
     let at = lies start in
     let slots = slots_is (goal.at.returns c).After-slots in
-    λ n requested. ap Ok c.new-2.ensures ∙ lists start n 0 0 (c.made-made.result + nat_abs
-    (to_z w64 (of_z w64 (pos 0 -ℤ to_z w64 (of_z w64 c.args.span.high)))))
+    λ n requested. ap Ok c.new-2.ensures ∙ lists start n 0 0
+    (c.made-made.result + nat_abs (to_z w64 (of_z w64 (pos 0 -ℤ to_z w64 (of_z w64 c.args.span.high)))))
     (c.from.result + nat_abs (to_z w64 (of_z w64 (pos 0 -ℤ to_z w64 (of_z w64 c.args.span.low)))))
     (search (rules, ints))

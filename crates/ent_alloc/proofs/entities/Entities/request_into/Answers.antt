@@ -18,15 +18,14 @@ returns-in_err-reply-clause-refused c =
     let at = goal.at.returns-in_err-reply-clause-refused c in
     let is = of_refused c.args.self.now.allocator c.args.n c.in_err-reply.field-0.0
     (sym (replied at.After-reply) ∙ c.in_err-reply.was) in
-    space_of_three c.from_residual-in_err-reply.result c.in_err-reply.field-0.0.wanted
-    c.in_err-reply.field-0.0.left c.args.n _ _ c.from_residual-in_err-reply.ensures.1 is.wanted
-    is.left
+    space_of_three c.from_residual-in_err-reply.result c.in_err-reply.field-0.0.wanted c.in_err-reply.field-0.0.left
+    c.args.n _ _ c.from_residual-in_err-reply.ensures.1 is.wanted is.left
 
 pub append-requires : goal.append-requires
 append-requires c =
     let at = goal.at.append-requires c in
-    let is = of_served c.args.self.now.allocator c.args.n c.in_ok-reply.field-0
-    (sound at.After-reply) (sym (replied at.After-reply) ∙ c.in_ok-reply.was) in
+    let is = of_served c.args.self.now.allocator c.args.n c.in_ok-reply.field-0 (sound at.After-reply)
+    (sym (replied at.After-reply) ∙ c.in_ok-reply.was) in
     search (rules)
 
 pub returns-clause-listed : goal.returns-clause-listed
@@ -35,8 +34,8 @@ returns-clause-listed c = search (rules, of_served, sound, replied)
 pub returns-clause-enough : goal.returns-clause-enough
 returns-clause-enough c =
     let at = goal.at.returns-clause-enough c in
-    (of_served c.args.self.now.allocator c.args.n c.in_ok-reply.field-0
-    (sound at.After-reply) (sym (replied at.After-reply) ∙ c.in_ok-reply.was)).enough
+    (of_served c.args.self.now.allocator c.args.n c.in_ok-reply.field-0 (sound at.After-reply)
+    (sym (replied at.After-reply) ∙ c.in_ok-reply.was)).enough
 
 pub returns-clause-within : goal.returns-clause-within
 returns-clause-within c = search (rules, of_served, sound, replied)

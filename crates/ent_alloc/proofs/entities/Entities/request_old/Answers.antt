@@ -1,6 +1,4 @@
-use Rattle.std.proofs.Common.{rules}
-use Rattle.std.proofs.Common.{◌≡◌, ◌+◌, ◌-◌, ◌<◌, ◌^◌, pos, ◌≤ℤ◌, subst, sym, ap, refl}
-use Rattle.std.proofs.Common.{arith, length, Ok}
+use Rattle.std.proofs.Common.{rules, ◌≡◌, ◌+◌, ◌-◌, ◌<◌, ◌^◌, pos, ◌≤ℤ◌, subst, sym, ap, refl, arith, length, Ok}
 use Rattle.std.proofs.lemmas.Int.{ints}
 use Rattle.ent_alloc.specs.Sequential.{Allocator, after_take, cursor, top}
 use Rattle.ent_alloc.specs.Sound.{IsSound}
@@ -13,15 +11,15 @@ use Rattle.ent_alloc.proofs.entities.Entities.request_old.Goals.{In_ok-handle}
 use Rattle.ent_alloc.proofs.entities.Entities.request_old.Goals as goal
 
 -- the requests after this one are all served
-reserved : (c : In_ok-handle) → AreReserved c.self.inside.slots
-    (c.self.inside.requests.asked + 1) (c.self.inside.requests.asked + 1)
+reserved : (c : In_ok-handle) → AreReserved c.self.inside.slots (c.self.inside.requests.asked + 1)
+    (c.self.inside.requests.asked + 1)
 reserved c =
     let r = c.self.inside.slots in
     let q = c.self.inside.requests in
     let below : q.asked < length r.pending = c.in_ok-handle.ensures.enough in
     let few : length r.pending < 2 ^ 32 = c.in_ok-handle.ensures.few in
-    served_reserved r q.asked q.served 1 c.args.self.now.allocator c.self.invariant
-    (allocator_is c.self.view_is) (omega arith) (omega arith)
+    served_reserved r q.asked q.served 1 c.args.self.now.allocator c.self.invariant (allocator_is c.self.view_is)
+    (omega arith) (omega arith)
 
 viewed : (c : In_ok-handle) → allocator_of c.self.inside.slots (c.self.inside.requests.asked + 1)
     (c.self.inside.requests.asked + 1) ≡ after_take c.args.self.now.allocator 1
@@ -29,8 +27,8 @@ viewed c =
     let r = c.self.inside.slots in
     let q = c.self.inside.requests in
     let below : q.asked < length r.pending = c.in_ok-handle.ensures.enough in
-    served_view r q.asked q.served 1 c.args.self.now.allocator c.self.invariant
-    (allocator_is c.self.view_is) (omega arith)
+    served_view r q.asked q.served 1 c.args.self.now.allocator c.self.invariant (allocator_is c.self.view_is)
+    (omega arith)
 
 pub invariant_of-self : goal.invariant_of-self
 invariant_of-self c = search (rules, reserved)
@@ -52,6 +50,6 @@ returns-clause-reply c =
     let high : cursor s ≡ pos (length r.pending - 1 - q.asked + 1) = omega (arith, ints) in
     let within : cursor s ≤ℤ pos (length r.pending) = omega (arith, ints) in
     let sound : IsSound s = subst IsSound view c.self.invariant.sound in
-    let waits = one_pending r (q.asked + 1) (q.asked + 1) (cursor s) (after_take s 1) (reserved at)
-    (viewed at) h (length r.pending - 1 - q.asked) high within c.in_ok-handle.ensures.some in
+    let waits = one_pending r (q.asked + 1) (q.asked + 1) (cursor s) (after_take s 1) (reserved at) (viewed at) h
+    (length r.pending - 1 - q.asked) high within c.in_ok-handle.ensures.some in
     sym (told_one s (after_take s 1) (cursor s) sound refl refl (Ok h) waits)

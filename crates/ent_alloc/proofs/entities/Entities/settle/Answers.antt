@@ -19,8 +19,7 @@ record AreAsked (top : ℕ) (cursor floor : ℤ) (asked given : ℕ) : Type 0 wh
   gives_is : given ≡ asked_at top floor
 
 asked : (c : After-distance-2) → top c.args.self.now.allocator ≡ length c.self.inside.slots.pending
-    → AreAsked (top c.args.self.now.allocator) c.args.cursor c.args.floor c.distance.result
-    c.distance-2.result
+    → AreAsked (top c.args.self.now.allocator) c.args.cursor c.args.floor c.distance.result c.distance-2.result
 asked c tops = search (rules, ints, tops)
 
 pub distance-requires-2-clause-passed : goal.distance-requires-2-clause-passed
@@ -36,11 +35,10 @@ invariant_of-self c =
     let gives = asked_at-is (top s) c.args.floor c.requires.greatest in
     let asks = asked_at-is (top s) c.args.cursor (omega (arith, ints)) in
     let made : e.slots.made ≡ s.made = ap (λ (s : Allocator). s.made) view in
-    let slots : e.slots.limits.slots ≡ s.limits.slots =
-    ap (λ (s : Allocator). s.limits.slots) view in
-    settled_reserved e.slots e.requests.asked e.requests.served s c.self.invariant view
-    c.requires.flushed c.distance.result c.distance-2.result (omega (arith, ints))
-    (omega (arith, ints)) (omega (arith, ints)) (search (rules, c.requires.all_given, ints))
+    let slots : e.slots.limits.slots ≡ s.limits.slots = ap (λ (s : Allocator). s.limits.slots) view in
+    settled_reserved e.slots e.requests.asked e.requests.served s c.self.invariant view c.requires.flushed
+    c.distance.result c.distance-2.result (omega (arith, ints)) (omega (arith, ints)) (omega (arith, ints))
+    (search (rules, c.requires.all_given, ints))
 
 pub returns-clause-settled : goal.returns-clause-settled
 returns-clause-settled c = search (rules, tops, asked, settled_view, allocator_is)
@@ -52,7 +50,6 @@ returns-clause-requests c =
     let gives = asked_at-is (top s) c.args.floor c.requires.greatest in
     let asks = asked_at-is (top s) c.args.cursor (omega (arith, ints)) in
     let long = length-all s sound c.requires.flushed in
-    (returns-clause-settled c)
-    ∙ settled-requests s sound c.requires.flushed (asked_at (top s) c.args.floor)
+    (returns-clause-settled c) ∙ settled-requests s sound c.requires.flushed (asked_at (top s) c.args.floor)
     (asked_at (top s) c.args.cursor) (omega (arith, ints)) (omega (arith, ints))
     (λ within. ap (asked_at (top s)) (c.requires.all_given (omega (arith, ints))))

@@ -15,9 +15,9 @@ use Rattle.ent_alloc.proofs.entities.Entities.state.Goals.{Joined-occupancy_of}
 -- the state of a handle that isn't alive, by the test whether it is reserved
 told : (s : Allocator) (r : Roster) (asked given : ℕ) (h : Handle) → AreReserved r asked given
     → allocator_of r asked given ≡ s → (reserved : Bool) → sets.contains r.live h ≡ false
-    → reserved ≡ (stands_in (drop (length r.pending - given) r.pending) h || stands_in
-    (fresh r.made (given - length r.pending)) h)
-    → {b : Bool} → reserved ≡ b → cond b Reserved Gone ≡ state_of s h
+    → reserved ≡ (stands_in (drop (length r.pending - given) r.pending) h
+    || stands_in (fresh r.made (given - length r.pending)) h) → {b : Bool} → reserved ≡ b
+    → cond b Reserved Gone ≡ state_of s h
 told s r asked given h inv view reserved dead is test = search (rules, stands_in_taken)
 
 -- the test of the code, whichever branch made it

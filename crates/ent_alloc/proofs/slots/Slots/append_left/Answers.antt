@@ -1,6 +1,4 @@
-use Rattle.std.proofs.Common.{rules}
-use Rattle.std.proofs.Common.{sym, ap, ◌∙◌, ◌+◌, ◌-◌, ◌≤◌, ◌++◌, length, get_or, take}
-use Rattle.std.proofs.Common.{drop, arith, append_assoc}
+use Rattle.std.proofs.Common.{rules, sym, ap, ◌∙◌, ◌+◌, ◌-◌, ◌≤◌, ◌++◌, length, get_or, take, drop, arith, append_assoc}
 use Rattle.std.proofs.Math.ListN.{drop_of_length-le}
 use Rattle.std.proofs.lemmas.List.{length-map, append-nil}
 use Rattle.std.proofs.lemmas.List.Elements.{All-drop}
@@ -9,8 +7,7 @@ use Rattle.ent_alloc.specs.declared.portion.Portion.{Portion}
 use Rattle.ent_alloc.specs.Entities.{idle}
 use Rattle.ent_alloc.specs.Front.{slots_of}
 use Rattle.ent_alloc.specs.Portions.{left_of}
-use Rattle.ent_alloc.proofs.Portioned.{size_more, count_more, left_more, used_at, count_size}
-use Rattle.ent_alloc.proofs.Portioned.{no_portion, portion_is}
+use Rattle.ent_alloc.proofs.Portioned.{size_more, count_more, left_more, used_at, count_size, no_portion, portion_is}
 use Rattle.ent_alloc.proofs.slots.Slots.append_left.Goals as goal
 
 pub loop-portion-preserved : goal.loop-portion-preserved
@@ -28,17 +25,14 @@ loop-portion-preserved c =
     let all = length-map (idle c.args.self.now) (λ (h : Handle). h.index) in
     let within : before + p.size ≤ length slots = omega arith in
     let n = c.lesser-count.result in
-    let more = left_more ps k p lt is slots before c.loop-portion.more n c.lesser-count.ensures fits
-    within in
-    let others = take (c.loop-portion.more - n) (left_of (drop (before + p.size) slots)
-    (drop (k + 1) ps)) in
+    let more = left_more ps k p lt is slots before c.loop-portion.more n c.lesser-count.ensures fits within in
+    let others = take (c.loop-portion.more - n) (left_of (drop (before + p.size) slots) (drop (k + 1) ps)) in
     let given = take n (drop (before + p.used) slots) in
     let order = c.loop-portion.order.items in
-    let rest = count_size (drop (k + 1) ps)
-    (All-drop (λ (p : Portion). p.used ≤ p.size) (k + 1) ps c.requires.used) in
+    let rest = count_size (drop (k + 1) ps) (All-drop (λ (p : Portion). p.used ≤ p.size) (k + 1) ps c.requires.used) in
     record {
-      items = ap (◌++ others) c.append_slots.ensures.items ∙ append_assoc order given others
-          ∙ ap (order ++◌) (sym more) ∙ c.loop-portion.invariant.items;
+      items = ap (◌++ others) c.append_slots.ensures.items ∙ append_assoc order given others ∙ ap (order ++◌) (sym more)
+          ∙ c.loop-portion.invariant.items;
       at = omega arith;
       enough = omega arith;
       room = omega arith;

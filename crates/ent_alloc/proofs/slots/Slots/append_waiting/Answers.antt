@@ -13,10 +13,8 @@ returns-clause-items c =
     let end_is : end ≡ length xs - c.args.from = search (rules) in
     let long = waiting_long e.limits e.records.items xs c.args.self.now c.self.view_is in
     let few : n ≤ end = omega (arith, end_is, c.requires.within, long) in
-    let part : reverse (take n (drop (end - n) xs))
-    ≡ take n (drop c.args.from (slots_of (idle c.args.self.now))) =
-    ap (λ k. reverse (take n (drop (k - n) xs))) end_is
-    ∙ waiting_part e.limits e.records.items xs c.args.self.now c.args.from n c.self.view_is
-    c.requires.within in
+    let part : reverse (take n (drop (end - n) xs)) ≡ take n (drop c.args.from (slots_of (idle c.args.self.now))) = ap
+    (λ k. reverse (take n (drop (k - n) xs))) end_is ∙ waiting_part e.limits e.records.items xs c.args.self.now
+    c.args.from n c.self.view_is c.requires.within in
     let count : end - (end - n) ≡ n = omega arith in
     search (rules, part, count)

@@ -1,5 +1,4 @@
-use Rattle.std.proofs.Common.{rules, ◌≡◌, ℕ, ◌+◌, ◌-◌, ◌≤◌, List, ◌++◌, length, map, take, drop}
-use Rattle.std.proofs.Common.{replicate, ap, ◌∙◌, arith}
+use Rattle.std.proofs.Common.{rules, ◌≡◌, ℕ, ◌+◌, ◌-◌, ◌≤◌, List, ◌++◌, length, map, take, drop, replicate, ap, ◌∙◌, arith}
 use Rattle.std.proofs.lemmas.Grind.{common_steps}
 use Rattle.std.specs.FinSet as sets
 use Rattle.std.proofs.lemmas.List.{append_assoc, with_items_is, take_rest, drop-map}
@@ -7,15 +6,13 @@ use Rattle.ent_alloc.specs.declared.slot_record.SlotRecord.{SlotRecord}
 use Rattle.ent_alloc.specs.Sequential.{fresh}
 use Rattle.ent_alloc.specs.Roster.{Roster}
 use Rattle.ent_alloc.specs.Slots.{roster_of, handle_at, new_record, reused, AreLinked}
-use Rattle.ent_alloc.proofs.Linked.{make_keeps_links, roster_of-make, reuse_keeps_links}
-use Rattle.ent_alloc.proofs.Linked.{roster_of-reuse}
+use Rattle.ent_alloc.proofs.Linked.{make_keeps_links, roster_of-make, reuse_keeps_links, roster_of-reuse}
 use Rattle.ent_alloc.proofs.slots.Slots.bring_to_life.Goals.{After-reuse_all}
 use Rattle.ent_alloc.proofs.slots.Slots.bring_to_life.Goals as goal
 
 -- the handles that waited are those of the pending slots
-waited : (lent records : List SlotRecord) (slots pending : List ℕ) (kept : ℕ) → lent ≡ records
-    → slots ≡ pending → map (handle_at lent) (take (length slots - kept) (drop kept slots))
-    ≡ drop kept (map (handle_at records) pending)
+waited : (lent records : List SlotRecord) (slots pending : List ℕ) (kept : ℕ) → lent ≡ records → slots ≡ pending
+    → map (handle_at lent) (take (length slots - kept) (drop kept slots)) ≡ drop kept (map (handle_at records) pending)
 waited lent records slots pending kept same same_pending = search (rules, take_rest, drop-map)
 
 -- what the two loops leave in the records
@@ -27,26 +24,25 @@ record AreWritten (records : List SlotRecord) (pending : List ℕ) (fresh kept s
   written_is : new ≡ reused (records ++ replicate fresh new_record) (drop kept pending)
   long : length new ≡ len
 
-all_written : (c : After-reuse_all) → AreWritten c.self.inside.records.items
-    c.self.inside.pending.items c.args.fresh c.args.kept c.self.inside.limits.slots
-    c.make_all.new.records.items c.reuse_all.new.records c.make_all.new.records.len
+all_written : (c : After-reuse_all) → AreWritten c.self.inside.records.items c.self.inside.pending.items c.args.fresh
+    c.args.kept c.self.inside.limits.slots c.make_all.new.records.items c.reuse_all.new.records
+    c.make_all.new.records.len
 all_written c = grind (arith, common_steps)
 
 -- the records with the new slots are linked, and stand for the roster with their first occupants
-linked : (c : After-reuse_all) → AreLinked c.self.inside.limits (c.self.inside.records.items
-    ++ replicate c.args.fresh new_record) c.self.inside.pending.items (c.self.inside.live
-    + c.args.fresh)
+linked : (c : After-reuse_all) → AreLinked c.self.inside.limits (c.self.inside.records.items ++ replicate c.args.fresh
+    new_record) c.self.inside.pending.items (c.self.inside.live + c.args.fresh)
 linked c = search (rules, make_keeps_links, all_written c, c.self.invariant)
 
-grown_roster : (c : After-reuse_all) → roster_of c.self.inside.limits (c.self.inside.records.items
-    ++ replicate c.args.fresh new_record) c.self.inside.pending.items ≡ record c.args.self.now {
+grown_roster : (c : After-reuse_all) → roster_of c.self.inside.limits
+    (c.self.inside.records.items ++ replicate c.args.fresh new_record) c.self.inside.pending.items
+    ≡ record c.args.self.now {
       live = sets.union c.args.self.now.live
           (sets.from_list (fresh c.args.self.now.made c.args.fresh));
       made = c.args.self.now.made + c.args.fresh;
     }
 grown_roster c =
-    let whole =
-    roster_of-make c.self.inside.limits c.self.inside.records.items c.self.inside.pending.items
+    let whole = roster_of-make c.self.inside.limits c.self.inside.records.items c.self.inside.pending.items
     c.self.inside.live c.args.fresh c.self.invariant (all_written c).room in
     search (rules, whole, c.self.view_is)
 
@@ -58,8 +54,8 @@ invariant_of-self-2 c =
     let at = (goal.at.invariant_of-self-2 c).After-reuse_all in
     let all = all_written at in
     let long = with_items_is c.make_all.new.records c.reuse_all.new.records all.long in
-    let keeps = reuse_keeps_links c.self.inside.limits _ c.self.inside.pending.items _ c.args.kept
-    (linked at) all.within in
+    let keeps = reuse_keeps_links c.self.inside.limits _ c.self.inside.pending.items _ c.args.kept (linked at)
+    all.within in
     search (rules, long, all.written_is, c.truncate.ensures.items, keeps)
 
 pub returns-clause-ok : goal.returns-clause-ok
@@ -68,9 +64,9 @@ returns-clause-ok c =
     let at = (goal.at.returns-clause-ok c).After-reuse_all in
     let all = all_written at in
     let long = with_items_is c.make_all.new.records c.reuse_all.new.records all.long in
-    rw (long, all.written_is, c.truncate.ensures.items)
-    (roster_of-reuse e.limits (e.records.items ++ replicate c.args.fresh new_record) e.pending.items
-    (e.live + c.args.fresh) c.args.kept (linked at) all.within ∙ (search (rules, grown_roster)))
+    rw (long, all.written_is, c.truncate.ensures.items) (roster_of-reuse e.limits
+    (e.records.items ++ replicate c.args.fresh new_record) e.pending.items (e.live + c.args.fresh) c.args.kept
+    (linked at) all.within ∙ (search (rules, grown_roster)))
 
 pub returns-clause-born : goal.returns-clause-born
 returns-clause-born c =
@@ -78,12 +74,11 @@ returns-clause-born c =
     let kept = c.args.kept in
     let at = (goal.at.returns-clause-born c).After-reuse_all in
     let all = all_written at in
-    let made : length e.records.items ≡ c.args.self.now.made =
-    ap (λ (r : Roster). r.made) c.self.view_is in
+    let made : length e.records.items ≡ c.args.self.now.made = ap (λ (r : Roster). r.made) c.self.view_is in
     let len = c.in_ok-reserve.ensures.len in
     let first : c.reserve.new.self.len ≡ c.args.self.now.made = omega arith in
     let roster = ap (λ (r : Roster). drop kept r.pending) (grown_roster at) in
     let old : map (handle_at c.deref_mut.result.now) (take (length c.deref.result.now - kept)
-    (drop kept c.deref.result.now)) ≡ drop kept c.args.self.now.pending =
-    search (rules, waited, all.grown_is, c.deref_mut.ensures.value, c.deref.ensures.value) in
+    (drop kept c.deref.result.now)) ≡ drop kept c.args.self.now.pending = search
+    (rules, waited, all.grown_is, c.deref_mut.ensures.value, c.deref.ensures.value) in
     search (rules, old, c.reuse_all.ensures.listed, c.in_ok-reserve-2.ensures.items, append_assoc)

@@ -3,15 +3,12 @@ use Rattle.std.proofs.lemmas.Bool.{false≢true}
 use Rattle.std.specs.FinSet as sets
 use Rattle.ent_alloc.proofs.Occupants.{is_occupant, contains_occupants}
 use Rattle.ent_alloc.proofs.LivingOccupant.{occupant_generation}
-use Rattle.ent_alloc.proofs.Released.{one_lives, release_keeps_links, roster_of-release}
-use Rattle.ent_alloc.proofs.Released.{retire_keeps_links, roster_of-retire}
-use Rattle.ent_alloc.proofs.slots.Slots.leave.Goals.{Else-not-is_occupied_by, After-is_occupied_by}
-use Rattle.ent_alloc.proofs.slots.Slots.leave.Goals.{Else-generation-generations}
+use Rattle.ent_alloc.proofs.Released.{one_lives, release_keeps_links, roster_of-release, retire_keeps_links, roster_of-retire}
+use Rattle.ent_alloc.proofs.slots.Slots.leave.Goals.{Else-not-is_occupied_by, After-is_occupied_by, Else-generation-generations}
 use Rattle.ent_alloc.proofs.slots.Slots.leave.Goals as goal
 
 -- the look-up tells whether the handle is that of an occupant
-found : (c : After-is_occupied_by) → c.is_occupied_by.result
-    ≡ is_occupant c.self.inside.records.items c.args.handle
+found : (c : After-is_occupied_by) → c.is_occupied_by.result ≡ is_occupant c.self.inside.records.items c.args.handle
 found c = search (rules)
 
 -- whom the vectors let live
@@ -28,15 +25,13 @@ some_live c =
     one_lives e.limits e.records.items e.pending.items e.live c.args.handle c.self.invariant (lives c)
 
 -- it is not of the last generation
-not_last : (c : Else-generation-generations) → c.args.handle.generation
-    ≢ c.self.inside.limits.generations
+not_last : (c : Else-generation-generations) → c.args.handle.generation ≢ c.self.inside.limits.generations
 not_last c last = search (rules)
 
 pub returns-in_default-clause-not_alive : goal.returns-in_default-clause-not_alive
 returns-in_default-clause-not_alive c = search (rules, contains_occupants, c.self.view_is)
 
-pub returns-then-not-is_occupied_by-clause-not_alive :
-    goal.returns-then-not-is_occupied_by-clause-not_alive
+pub returns-then-not-is_occupied_by-clause-not_alive : goal.returns-then-not-is_occupied_by-clause-not_alive
 returns-then-not-is_occupied_by-clause-not_alive c = search (rules, found, living)
 
 pub overflow_sub-self : goal.overflow_sub-self
@@ -45,38 +40,32 @@ overflow_sub-self c = some_live (goal.at.overflow_sub-self c).Else-not-is_occupi
 pub overflow_sub-self-2 : goal.overflow_sub-self-2
 overflow_sub-self-2 c = some_live (goal.at.overflow_sub-self-2 c).Else-not-is_occupied_by
 
-pub invariant_of-self-then-generation-generations :
-    goal.invariant_of-self-then-generation-generations
+pub invariant_of-self-then-generation-generations : goal.invariant_of-self-then-generation-generations
 invariant_of-self-then-generation-generations c =
     let e = c.self.inside in
     let h = c.args.handle in
     let at = goal.at.invariant_of-self-then-generation-generations c in
     let lives = lives at.Else-not-is_occupied_by in
     let same = occupant_generation e.records.items h lives in
-    let keeps = retire_keeps_links e.limits e.records.items e.pending.items e.live h
-    c.self.invariant lives in
+    let keeps = retire_keeps_links e.limits e.records.items e.pending.items e.live h c.self.invariant lives in
     search (rules, same, keeps)
 
-pub returns-then-generation-generations-clause-retired :
-    goal.returns-then-generation-generations-clause-retired
+pub returns-then-generation-generations-clause-retired : goal.returns-then-generation-generations-clause-retired
 returns-then-generation-generations-clause-retired c last =
     let e = c.self.inside in
     let h = c.args.handle in
     let at = goal.at.returns-then-generation-generations-clause-retired c in
     let lives = lives at.Else-not-is_occupied_by in
     let same = occupant_generation e.records.items h lives in
-    let whole = roster_of-retire e.limits e.records.items e.pending.items e.live h
-    c.self.invariant lives in
+    let whole = roster_of-retire e.limits e.records.items e.pending.items e.live h c.self.invariant lives in
     search (rules, same, whole, c.self.view_is)
 
-pub returns-then-generation-generations-clause-lived :
-    goal.returns-then-generation-generations-clause-lived
+pub returns-then-generation-generations-clause-lived : goal.returns-then-generation-generations-clause-lived
 returns-then-generation-generations-clause-lived c =
     let at = goal.at.returns-then-generation-generations-clause-lived c in
     living at.After-is_occupied_by ∙ lives at.Else-not-is_occupied_by
 
-pub returns-then-generation-generations-clause-not_alive :
-    goal.returns-then-generation-generations-clause-not_alive
+pub returns-then-generation-generations-clause-not_alive : goal.returns-then-generation-generations-clause-not_alive
 returns-then-generation-generations-clause-not_alive c =
     let at = goal.at.returns-then-generation-generations-clause-not_alive c in
     let alive = living at.After-is_occupied_by ∙ lives at.Else-not-is_occupied_by in
@@ -87,26 +76,23 @@ returns-then-is_err-clause-not_alive c = search (rules, living, lives, false≢t
 
 pub pending-requires-clause-few : goal.pending-requires-clause-few
 pending-requires-clause-few c =
-    let some = some_live (goal.at.pending-requires-clause-few c).Else-not-is_occupied_by in
-    omega arith
+    let some = some_live (goal.at.pending-requires-clause-few c).Else-not-is_occupied_by in omega arith
 
 pub invariant_of-self-2 : goal.invariant_of-self-2
 invariant_of-self-2 c =
     let at = goal.at.invariant_of-self-2 c in
     let is = lives at.Else-not-is_occupied_by in
     let position_is : c.len-position.result ≡ length c.self.inside.pending.items = omega arith in
-    let keeps = release_keeps_links c.self.inside.limits c.self.inside.records.items
-    c.self.inside.pending.items c.self.inside.live c.args.handle c.self.invariant is
-    (not_last at.Else-generation-generations) in
+    let keeps = release_keeps_links c.self.inside.limits c.self.inside.records.items c.self.inside.pending.items
+    c.self.inside.live c.args.handle c.self.invariant is (not_last at.Else-generation-generations) in
     search (rules, keeps, c.push.ensures.items)
 
 pub returns-clause-waits : goal.returns-clause-waits
 returns-clause-waits c before =
     let is = lives (goal.at.returns-clause-waits c).Else-not-is_occupied_by in
     let position_is : c.len-position.result ≡ length c.self.inside.pending.items = omega arith in
-    let whole = roster_of-release c.self.inside.limits c.self.inside.records.items
-    c.self.inside.pending.items c.self.inside.live c.args.handle
-    c.self.invariant is in
+    let whole = roster_of-release c.self.inside.limits c.self.inside.records.items c.self.inside.pending.items
+    c.self.inside.live c.args.handle c.self.invariant is in
     search (rules, whole, c.self.view_is, c.index-index.ensures, c.push.ensures.items)
 
 pub returns-clause-lived : goal.returns-clause-lived

@@ -8,10 +8,9 @@ invariant_of-self-2 c =
     let e = c.self.inside in
     let r : Roster = c.args.self.now in
     let made : length e.records.items ≡ r.made = ap (λ (r : Roster). r.made) c.self.view_is in
-    let slots : e.limits.slots ≡ r.limits.slots =
-    ap (λ (r : Roster). r.limits.slots) c.self.view_is in
-    let keeps = waiting_keeps_links e.limits e.records.items e.pending.items e.live c.args.count
-    c.self.invariant (omega arith) in
+    let slots : e.limits.slots ≡ r.limits.slots = ap (λ (r : Roster). r.limits.slots) c.self.view_is in
+    let keeps = waiting_keeps_links e.limits e.records.items e.pending.items e.live c.args.count c.self.invariant
+    (omega arith) in
     search (rules, keeps)
 
 pub returns-clause-ok : goal.returns-clause-ok
@@ -19,8 +18,7 @@ returns-clause-ok c =
     let e = c.self.inside in
     let r : Roster = c.args.self.now in
     let made : length e.records.items ≡ r.made = ap (λ (r : Roster). r.made) c.self.view_is in
-    let slots : e.limits.slots ≡ r.limits.slots =
-    ap (λ (r : Roster). r.limits.slots) c.self.view_is in
-    let whole = roster_of-waiting e.limits e.records.items e.pending.items e.live c.args.count
-    c.self.invariant (omega arith) in
+    let slots : e.limits.slots ≡ r.limits.slots = ap (λ (r : Roster). r.limits.slots) c.self.view_is in
+    let whole = roster_of-waiting e.limits e.records.items e.pending.items e.live c.args.count c.self.invariant
+    (omega arith) in
     search (rules, whole, c.self.view_is)

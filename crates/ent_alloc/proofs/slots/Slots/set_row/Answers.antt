@@ -10,11 +10,8 @@ lives : (c : After-self) → is_occupant c.self.inside.records.items c.args.hand
 lives c = search (rules, lives_in)
 
 pub index_mut-requires : goal.index_mut-requires
-index_mut-requires c = omega (
-  arith,
-  occupant_made c.self.inside.records.items c.args.handle
-      (lives (goal.at.index_mut-requires c).After-self),
-)
+index_mut-requires c = omega
+    (arith, occupant_made c.self.inside.records.items c.args.handle (lives (goal.at.index_mut-requires c).After-self))
 
 pub invariant_of-self : goal.invariant_of-self
 invariant_of-self c =
@@ -22,8 +19,8 @@ invariant_of-self c =
     let h = c.args.handle in
     let lives = lives (goal.at.invariant_of-self c).After-self in
     let same = occupant_generation e.records.items h lives in
-    let keeps = set_row_keeps_links e.limits e.records.items e.pending.items e.live h c.args.row
-    c.self.invariant lives in
+    let keeps = set_row_keeps_links e.limits e.records.items e.pending.items e.live h c.args.row c.self.invariant
+    lives in
     search (rules, same, keeps)
 
 pub returns : goal.returns
@@ -32,6 +29,5 @@ returns c =
     let h = c.args.handle in
     let lives = lives (goal.at.returns c).After-self in
     let same = occupant_generation e.records.items h lives in
-    let whole = roster_of-set_row e.limits e.records.items e.pending.items e.live h c.args.row
-    c.self.invariant lives in
+    let whole = roster_of-set_row e.limits e.records.items e.pending.items e.live h c.args.row c.self.invariant lives in
     search (rules, same, whole, c.self.view_is)

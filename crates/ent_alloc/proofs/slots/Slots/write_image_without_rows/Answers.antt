@@ -1,5 +1,4 @@
-use Rattle.std.proofs.Common.{rules}
-use Rattle.std.proofs.Common.{subst}
+use Rattle.std.proofs.Common.{rules, subst}
 use Rattle.std.specs.FinMap as maps
 use Rattle.ent_alloc.specs.Roster.{Roster}
 use Rattle.ent_alloc.specs.Image.{AreSlots}

@@ -1,10 +1,7 @@
-use Rattle.std.proofs.Common.{rules}
-use Rattle.std.proofs.Common.{◌≡◌, ◌≢◌, sym, ap, ◌∙◌, subst, arith, List}
-use Rattle.std.proofs.Common.{AllPairs}
+use Rattle.std.proofs.Common.{rules, ◌≡◌, ◌≢◌, sym, ap, ◌∙◌, subst, arith, List, AllPairs}
 use Rattle.ent_alloc.specs.Sequential.{Allocator}
 use Rattle.ent_alloc.specs.Portions.{AreUsed}
-use Rattle.ent_blocks.specs.Blocks.{Block, Phase, dealt, portions_of, after_blocks}
-use Rattle.ent_blocks.specs.Blocks.{accounted, blocks_of}
+use Rattle.ent_blocks.specs.Blocks.{Block, Phase, dealt, portions_of, after_blocks, accounted, blocks_of}
 use Rattle.ent_blocks.proofs.Accounts.{unused_accounted}
 use Rattle.ent_blocks.proofs.Dealing.{dealt-unused}
 use Rattle.ent_blocks.proofs.Phases.{closing}
@@ -25,10 +22,27 @@ pub take_used-requires-clause-laid : goal.take_used-requires-clause-laid
 take_used-requires-clause-laid g c = search (rules, closing)
 
 pub take_used-requires-clause-within : goal.take_used-requires-clause-within
-take_used-requires-clause-within g c = let s = c.self.inside.entities.allocator in let all = accounted c.self.inside.parts.items (blocks_of c.args.reservers.items) in let closes = closing s c.self.inside.parts.items (blocks_of c.args.reservers.items) c.self.invariant.0 in let is : c.deref-3.result.now ≡ all = search rules in omega (arith, ap dealt is, closes.within)
+take_used-requires-clause-within g c =
+    let s = c.self.inside.entities.allocator in
+    let all = accounted c.self.inside.parts.items (blocks_of c.args.reservers.items) in
+    let closes = closing s c.self.inside.parts.items (blocks_of c.args.reservers.items) c.self.invariant.0 in
+    let is : c.deref-3.result.now ≡ all = search rules in
+    omega (arith, ap dealt is, closes.within)
 
 pub returns-clause-distinct : goal.returns-clause-distinct
-returns-clause-distinct g c = let s = c.self.inside.entities.allocator in let all = accounted c.self.inside.parts.items (blocks_of c.args.reservers.items) in let closes = closing s c.self.inside.parts.items (blocks_of c.args.reservers.items) c.self.invariant.0 in let is : c.deref-3.result.now ≡ all = search rules in let inv = c.self.invariant.0 in let fits : AreUsed (portions_of all) = subst (λ (bs : List Block). AreUsed (portions_of bs)) is c.in-Ok-take_used.ensures.used in let after : c.take_used.new.entities.allocator ≡ after_blocks s all = c.in-Ok-take_used.ensures.ok ∙ ap (after_blocks s) is in let start : s ≡ c.args.self.phase.start = ap (λ (p : Phase). p.phase.start) c.self.view_is in subst (λ (t : Allocator). AllPairs (λ g h. g ≢ h) t.taken) (sym after) (used-distinct s all inv.sound inv.flushed closes.laid closes.within fits)
+returns-clause-distinct g c =
+    let s = c.self.inside.entities.allocator in
+    let all = accounted c.self.inside.parts.items (blocks_of c.args.reservers.items) in
+    let closes = closing s c.self.inside.parts.items (blocks_of c.args.reservers.items) c.self.invariant.0 in
+    let is : c.deref-3.result.now ≡ all = search rules in
+    let inv = c.self.invariant.0 in
+    let fits : AreUsed (portions_of all) = subst (λ (bs : List Block). AreUsed (portions_of bs)) is
+    c.in-Ok-take_used.ensures.used in
+    let after : c.take_used.new.entities.allocator ≡ after_blocks s all = c.in-Ok-take_used.ensures.ok
+    ∙ ap (after_blocks s) is in
+    let start : s ≡ c.args.self.phase.start = ap (λ (p : Phase). p.phase.start) c.self.view_is in
+    subst (λ (t : Allocator). AllPairs (λ g h. g ≢ h) t.taken) (sym after)
+    (used-distinct s all inv.sound inv.flushed closes.laid closes.within fits)
 
 pub returns-clause-not_live : goal.returns-clause-not_live
 returns-clause-not_live g c = search (rules, closing, used-not_live)
