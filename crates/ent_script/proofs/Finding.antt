@@ -104,7 +104,3 @@ no_object depth ts r d k other e = search (rules, impossible, mapped, converted-
 
 -- ---- the whole text
 
--- the tokens of a text that is read are those of a value, and no more
-pub whole_text : (text : List ℕ) (d : Data) → read text ≡ Some d → converted of_json
-    (value 127 (tokens text)) ≡ Some (d, [])
-whole_text text d e = search (rules, impossible)
