@@ -20,7 +20,7 @@ use Rattle.ent_script.specs.Fields.{IsUnder, AreAmong, AreFields, of_fields}
 use Rattle.ent_script.specs.Json.{keys_among, pairs_of}
 use Rattle.ent_script.specs.Reading.{has_keys, is_spawn, is_spawn_many, is_insert, is_remove}
 use Rattle.ent_script.specs.Reading.{is_despawn, of_kind, operation_of, read_bundle}
-use Rattle.ent_script.specs.Reading.{with_of, count_of, binding_of, removed_of, target_of}
+use Rattle.ent_script.specs.Reading.{count_of, binding_of, removed_of, target_of}
 use Rattle.ent_script.specs.declared.cause.Cause.TheVariants as cause
 use Rattle.ent_script.specs.declared.fields.Fields.{Fields}
 use Rattle.ent_script.specs.declared.kind.Kind.{Kind}
@@ -157,10 +157,6 @@ module _ (components bound : List (List ℕ)) (before : Option ℕ) (f : Fields)
       → read_bundle components (option_map data_of o) ≡ read_bundle components (get_member k ms)
   bundle_under k o e = search (rules, bundle-cut)
 
-  with_under : (k : List ℕ) (o : Option Part) → IsUnder k o ms
-      → with_of components (option_map data_of o) ≡ with_of components (get_member k ms)
-  with_under k o e = search (rules, with-cut)
-
   count_under : (k : List ℕ) (o : Option Part) → IsUnder k o ms
       → count_of (option_map data_of o) ≡ count_of (get_member k ms)
   count_under k o e = ap count_of e ∙ count-cut 1 (get_member k ms)
@@ -182,7 +178,7 @@ module _ (components bound : List (List ℕ)) (before : Option ℕ) (f : Fields)
       ≡ of_kind components bound before (object ms) kind
   unfolding of_kind of_fields
   of_fields-means kinds.Spawn = search (rules, bundle_under, binding_under)
-  of_fields-means kinds.SpawnMany = search (rules, count_under, with_under, binding_under)
+  of_fields-means kinds.SpawnMany = search (rules, count_under, binding_under, with-cut)
   of_fields-means kinds.Insert = search (rules, bundle_under, target_under)
   of_fields-means kinds.Remove = search (rules, removed_under, target_under)
   of_fields-means kinds.Despawn = rw (target_under (codes "despawn") f.despawn at.despawn)

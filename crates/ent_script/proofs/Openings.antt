@@ -1,4 +1,5 @@
 -- What stands behind the bracket that a reader took, and behind a value that it passed over.
+use Rattle.ent_script.proofs.Finding.{impossible}
 use Rattle.std.proofs.Common.{rules, ◌≡◌, ◌-◌, ℕ, [], ◌∷◌, List, length, Some, None, Bool, true}
 use Rattle.std.proofs.Common.{false}
 use Rattle.std.specs.Prelude.{Ok}
@@ -13,7 +14,7 @@ use Rattle.ent_script.specs.Passing.{left}
 use Rattle.ent_script.specs.Fields.{BeginsObject}
 use Rattle.ent_script.specs.Streaming.{BeginsArray, begins_object}
 use Rattle.ent_script.proofs.Cuts.{opened_object}
-use Rattle.ent_script.proofs.Finding.{whole_text, no_object}
+use Rattle.ent_script.proofs.Finding.{no_object}
 
 -- whether the value was an array
 module _ (depth : ℕ) (b : Bool) (ts : List Token) (d : Data) (rest : List Token)
@@ -40,7 +41,7 @@ module _ (depth : ℕ) (b : Bool) (ts : List Token) (d : Data) (rest : List Toke
 module _ (text : List ℕ) (d : Data) (read_as : read text ≡ Some d) (all : List Token)
     (of_text : all ≡ tokens text) where
   whole : converted of_json (value 127 all) ≡ Some (d, [])
-  whole = search (rules, whole_text)
+  whole = search (rules, impossible)
 
   pub text_object : (ts : List Token) → all ≡ Token.begin_object ∷ ts
       → (ms : Members) × (d ≡ object ms)
