@@ -44,24 +44,19 @@ pub draws_still : (s : Allocator) (b : Block) (c : Command) → IsDrawnBy s b c 
 draws_still s b c is none = draws_one s b b c is (rw none (draws_nothing s b).used)
 
 used_then : (b : Block) (m n : ℕ) → after_use (after_use b m) n ≡ after_use b (m + n)
-used_then b m n =
-    let same : (b.used + m) + n ≡ b.used + (m + n) = omega arith in
-    ap (λ k. record b { used = k }) same
+used_then b m n = search rules
 
 after_then : (b : Block) (cs ds : List Command)
     → after_commands (after_commands b cs) ds ≡ after_commands b (cs ++ ds)
-after_then b cs ds = used_then b (sum_by used_by cs) (sum_by used_by ds)
-    ∙ ap (after_use b) (sym (sum_by-append used_by cs ds))
+after_then b cs ds = search (rules, used_then, sum_by-append)
 
 after_first : (b : Block) (c : Command) (cs : List Command)
     → after_commands b (c ∷ cs) ≡ after_commands (after_use b (used_by c)) cs
-after_first b c cs = ap (after_use b) (sum_by-cons used_by c cs)
-    ∙ sym (used_then b (used_by c) (sum_by used_by cs))
+after_first b c cs = search (rules, sum_by-cons, used_then)
 
 each_then : (s : Allocator) (b : Block) (cs ds : List Command) → AreDrawnBy s b cs
     → AreDrawnBy s (after_commands b cs) ds → AreDrawnBy s b (cs ++ ds)
-each_then s b [] ds first second =
-    subst (λ (b : Block). AreDrawnBy s b ds) (sym (draws_nothing s b).used) second
+each_then s b [] ds first second = search (rules, draws_nothing)
 each_then s b (c ∷ cs) ds first second = (
   first.0,
   each_then s (after_use b (used_by c)) cs ds first.1
@@ -71,11 +66,7 @@ each_then s b (c ∷ cs) ds first second = (
 -- the commands of two queues, one after the other
 pub draws_then : (s : Allocator) (a b c : Block) (cs ds : List Command) → Draws s a cs b
     → Draws s b ds c → Draws s a (cs ++ ds) c
-draws_then s a b c cs ds first second = record {
-  each = each_then s a cs ds first.each
-      (subst (λ (b : Block). AreDrawnBy s b ds) first.used second.each);
-  used = second.used ∙ ap (λ (b : Block). after_commands b ds) first.used ∙ after_then a cs ds;
-}
+draws_then s a b c cs ds first second = grind (arith, common_steps, each_then, after_then)
 
 -- the commands that a call added, and what they drew from the block
 pub record AddedInBlocks (s : Allocator) (old new : List Command) (before after : Reserver)
@@ -87,35 +78,18 @@ pub record AddedInBlocks (s : Allocator) (old new : List Command) (before after 
 
 pub extends_in_blocks : (a b : Issuing) → b.phase ≡ a.phase
     → AddedInBlocks a.phase.phase.start a.queue b.queue a.reserver b.reserver → ExtendsInBlocks a b
-extends_in_blocks a b phase more = record {
-  phase = phase;
-  number = more.number;
-  added = more.added;
-  queue = more.queue;
-  draws = more.draws;
-}
+extends_in_blocks a b phase more = search rules
 
 nothing_added : (s : Allocator) (old new : List Command) (before after : Reserver)
     → new ≡ old ++ [] → after ≡ before → AddedInBlocks s old new before after
-nothing_added s old new before after queue same = record {
-  number = ap (λ (r : Reserver). r.number) same;
-  added = [];
-  queue = queue;
-  draws = rw same (draws_nothing s before.block);
-}
+nothing_added s old new before after queue same = search (rules, draws_nothing)
 
 -- a command that reserves nothing, or no command
 pub still_added : {E : Type 0} (s : Allocator) (old new : List Command) (r : Reserver) (c : Command)
     (result : Result (Unit {0}) E) → IsDrawnBy s r.block c → used_by c ≡ 0
     → OnOk result (new ≡ old ++ c ∷ []) → OnErr result (new ≡ old) → AddedInBlocks s old new r r
-still_added s old new r c (Ok it) is none ok err = record {
-  number = refl;
-  added = c ∷ [];
-  queue = ok;
-  draws = draws_still s r.block c is none;
-}
-still_added s old new r c (Err e) is none ok err =
-    nothing_added s old new r r (err ∙ sym (append-nil old)) refl
+still_added s old new r c (Ok it) is none ok err = search (rules, draws_still)
+still_added s old new r c (Err e) is none ok err = search (rules, nothing_added, append-nil)
 
 same_fault : (f g : QueueFault) → ◌≡◌ {A = Result (List Handle) QueueFault} (Err f) (Err g) → f ≡ g
 same_fault f g e = cc
@@ -130,13 +104,7 @@ module _ (phase : Phase) (old new : List Command) (before after : Reserver) wher
   added_served : (n : ℕ) (hs : List Handle) (c : Command) → IsDrawn phase before after n (Ok hs)
       → IsDrawnBy start before.block c → used_by c ≡ n → new ≡ old ++ c ∷ []
       → AddedInBlocks start old new before after
-  added_served n hs c replied is many queue = record {
-    number = ap (λ (r : Reserver). r.number) replied.used;
-    added = c ∷ [];
-    queue = queue;
-    draws = draws_one start before.block after.block c is
-        (rw many (ap (λ (r : Reserver). r.block) replied.used));
-  }
+  added_served n hs c replied is many queue = search (rules, draws_one)
 
   added_refusal : (n : ℕ) (f : QueueFault) → new ≡ old ++ refused_by n f
       → (f ≡ fault.Memory → after ≡ before)
@@ -156,8 +124,7 @@ module _ (phase : Phase) (old new : List Command) (before after : Reserver) wher
       let d = replied (Quota left) refl in
       let no = d.refused.0 in
       absurd (cc)
-  added_refusal n fault.Memory queue memory replied =
-      nothing_added start old new before after queue (memory refl)
+  added_refusal n fault.Memory queue memory replied = search (rules, nothing_added)
 
   pub spawn_added : (items : Bundle) (result : Result Handle QueueFault)
       → IfOk result (λ h. new ≡ old ++ Spawn h items ∷ [])
@@ -184,5 +151,4 @@ module _ (phase : Phase) (old new : List Command) (before after : Reserver) wher
       added_served n hs.items (SpawnMany hs.items items) d
       (subst (λ (k : ℕ). hs.items ≡ listed start.made (take k (rest_of start.pool before.block)))
       (sym d.number) d.given) d.number ok
-  many_added n items (Err f) ok refused memory replied =
-      added_refusal n f refused (λ e. memory (ap Err e)) (λ why e. replied (Err why) e)
+  many_added n items (Err f) ok refused memory replied = search (rules, added_refusal)

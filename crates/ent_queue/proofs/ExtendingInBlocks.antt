@@ -1,5 +1,6 @@
 -- For who writes a system, or any function that issues commands from a block: what its calls add up to.
 -- Put `#[tactic(auto, using(ent_queue::proofs::ExtendingInBlocks::extends_then))]` above it.
+use Rattle.std.proofs.Common.{rules}
 use Rattle.std.proofs.Common.{refl, sym, ◌∙◌, [], ◌++◌, ap, subst, append-nil, append_assoc}
 use Rattle.std.specs.Prelude.{List}
 use Rattle.ent_blocks.specs.Blocks.{Phase}
@@ -10,13 +11,7 @@ use Rattle.ent_queue.proofs.DrawnBlocks.{draws_nothing, draws_then}
 
 -- where nothing is issued: on a path without a call, and before the first turn of a loop
 pub extends_nothing : (a : Issuing) → ExtendsInBlocks a a
-extends_nothing a = record {
-  phase = refl;
-  number = refl;
-  added = [];
-  queue = sym (append-nil a.queue);
-  draws = draws_nothing a.phase.phase.start a.reserver.block;
-}
+extends_nothing a = search (rules, append-nil, draws_nothing)
 
 -- where one call follows another, also over the turns of a loop
 pub extends_then : (a b c : Issuing) → ExtendsInBlocks a b → ExtendsInBlocks b c

@@ -100,5 +100,4 @@ module _ (shared : Shared) (before after : Reserver) (old new : List Command) wh
             (λ none empty. ap (λ gs. stands_for (SpawnMany gs items)) empty)
             (λ enough. subst (λ k. k ≤ before.own.left) (sym number) enough);
       }
-  added_many n items (Err f) ok refused memory replied number =
-      added_refusal n f refused (λ e. memory (ap Err e)) (λ why e. replied (Err why) e)
+  added_many n items (Err f) ok refused memory replied number = search (rules, added_refusal)

@@ -41,7 +41,7 @@ drop-handles hs rest = grind (arith, common_steps, length-handles, drop-append_s
 
 take-item : (item : ComponentId × ℤ) (rest : List ℕ) → take 9 (item_bytes item ++ rest)
     ≡ item_bytes item
-take-item item rest = ap (λ bytes. item.0.0 ∷ bytes) (take-bytes_8 (cast_unsigned w64 item.1) rest)
+take-item item rest = search (rules, take-bytes_8)
 
 drop-item : (item : ComponentId × ℤ) (rest : List ℕ) → drop 9 (item_bytes item ++ rest) ≡ rest
 drop-item item rest = drop-bytes_8 (cast_unsigned w64 item.1) rest

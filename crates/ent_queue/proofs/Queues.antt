@@ -204,7 +204,7 @@ no_commands (suc count) bytes e = absurd (omega arith)
 pub no_commands_iff : (count : ℕ) (bytes : List ℕ) (now : List Command)
     → unpacked_commands count bytes ≡ now → (IsTrue (nat_eq count 0) → now ≡ [])
     × (now ≡ [] → IsTrue (nat_eq count 0))
-no_commands_iff zero bytes now e = (λ t. sym e ∙ no_commands zero bytes refl, λ n. search rules)
+no_commands_iff zero bytes now e = search (rules, no_commands)
 no_commands_iff (suc count) bytes now e = (
   λ t. absurd (search rules),
   λ n. let none = sym (length_of_commands (suc count) bytes)

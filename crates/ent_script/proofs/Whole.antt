@@ -43,21 +43,6 @@ abbrev after_these : Heading → Names → Option (List Data) → Result Script 
 after_these heading names o = ok_or o (fault.Script script_cause.Frames) >>=
     λ ds. numbered (frame_of heading.format names) 0 ds >>= λ frames. all_of heading names frames
 
-<<<<<<< HEAD
-after_frames : (heading : Heading) (names : Names) (o : Option (List Data))
-    → after_these heading names o ≡ ((ok_or o (fault.Script script_cause.Frames) >>=
-    λ ds. numbered (frame_of heading.format names) 0 ds) >>= λ frames. all_of heading names frames)
-after_frames heading names it = search rules
-=======
-abbrev after_names : Data → Heading → Names → Result Script ReadFault
-after_names d heading names =
-    after_these heading names (option_and_then (at_most 1000) (get (codes "frames") d))
-
-abbrev after_heading : Data → Heading → Result Script ReadFault
-after_heading d heading =
-    in_script (component_names (get (codes "components") d)) >>= after_names d heading
->>>>>>> bed5667048ef34d4d0a61f41528a37af4e4a1095
-
 pub script_is : (d : Data) (heading : Heading) (names : Names)
     → in_script (heading_of d) ≡ Ok heading
     → in_script (component_names (get (codes "components") d)) ≡ Ok names

@@ -1,3 +1,4 @@
+use Rattle.std.proofs.Common.{rules}
 use Rattle.std.proofs.Common.{◌++◌, ◌∷◌, [], ap, ◌∙◌}
 use Rattle.ent_queue.specs.Command.{Insert}
 use Rattle.ent_queue.proofs.Pushes.{Pushed, pushed, count_fits}
@@ -6,7 +7,7 @@ use Rattle.ent_queue.proofs.queue.CommandQueue.insert.Goals as goal
 use Rattle.ent_queue.specs.Packing.{command_bytes}
 
 pub overflow_add-self : goal.overflow_add-self
-overflow_add-self c = count_fits c.self.inside.count c.self.inside.bytes c.self.invariant
+overflow_add-self c = search (rules, count_fits)
 
 -- the bytes after the command
 after : (c : After-write_with_bundle) → Pushed c.self.inside.count c.self.inside.bytes.items
@@ -19,7 +20,7 @@ after c =
     c.in_ok-reserve.ensures.items)
 
 pub invariant_of-self-2 : goal.invariant_of-self-2
-invariant_of-self-2 c = (after (goal.at.invariant_of-self-2 c).After-write_with_bundle).packed
+invariant_of-self-2 c = search (rules, after)
 
 pub returns-clause-ok : goal.returns-clause-ok
 returns-clause-ok c = (after (goal.at.returns-clause-ok c).After-write_with_bundle).commands

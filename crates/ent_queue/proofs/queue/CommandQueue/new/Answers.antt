@@ -1,3 +1,4 @@
+use Rattle.std.proofs.Common.{rules}
 use Rattle.std.proofs.Common.{subst, sym, refl}
 use Rattle.ent_queue.specs.Unpacking.{ArePacked}
 use Rattle.ent_queue.proofs.Queues.{no_commands}
@@ -5,7 +6,7 @@ use Rattle.ent_queue.proofs.Pushes.{nothing_packed}
 use Rattle.ent_queue.proofs.queue.CommandQueue.new.Goals as goal
 
 pub invariant_of-result : goal.invariant_of-result
-invariant_of-result c = subst (ArePacked 0) (sym c.new.ensures.items) nothing_packed
+invariant_of-result c = search (rules, nothing_packed)
 
 pub returns : goal.returns
 returns c = no_commands 0 c.new.result.items refl

@@ -1,3 +1,4 @@
+use Rattle.std.proofs.Common.{rules}
 use Rattle.std.proofs.Common.{◌++◌, ◌∷◌, [], ap, sym, ◌∙◌}
 use Rattle.ent_queue.specs.Command.{Spawn, Refused}
 use Rattle.ent_queue.proofs.Pushes.{Pushed, pushed, count_fits}
@@ -10,10 +11,10 @@ use Rattle.ent_queue.specs.Packing.{command_bytes}
 use Rattle.ent_queue.specs.Reserving.{refused_by}
 
 pub overflow_add-self : goal.overflow_add-self
-overflow_add-self g c = count_fits c.self.inside.count c.self.inside.bytes c.self.invariant
+overflow_add-self g c = search (rules, count_fits)
 
 pub overflow_add-self-in-Err : goal.overflow_add-self-in-Err
-overflow_add-self-in-Err g c = count_fits c.self.inside.count c.self.inside.bytes c.self.invariant
+overflow_add-self-in-Err g c = search (rules, count_fits)
 
 -- the bytes after the spawn
 served : (g : given.Over) (c : After-write_with_bundle g) → Pushed c.self.inside.count c.self.inside.bytes.items

@@ -1,3 +1,4 @@
+use Rattle.std.proofs.Common.{rules}
 use Rattle.std.proofs.Common.{◌≡◌, ◌++◌, ◌∷◌, [], Ok, ap, sym, subst, ◌∙◌, length, ◌<◌, ◌^◌}
 use Rattle.ent_queue.specs.Command.{SpawnMany, Refused}
 use Rattle.ent_queue.proofs.Pushes.{Pushed, pushed, count_fits, many_written}
@@ -11,10 +12,10 @@ use Rattle.ent_queue.specs.Packing.{command_bytes, bundle_bytes}
 use Rattle.ent_queue.specs.Reserving.{refused_by}
 
 pub overflow_add-self : goal.overflow_add-self
-overflow_add-self g c = count_fits c.self.inside.count c.self.inside.bytes c.self.invariant
+overflow_add-self g c = search (rules, count_fits)
 
 pub overflow_add-self-in-Err : goal.overflow_add-self-in-Err
-overflow_add-self-in-Err g c = count_fits c.self.inside.count c.self.inside.bytes c.self.invariant
+overflow_add-self-in-Err g c = search (rules, count_fits)
 
 -- the bytes after the spawn
 served : (g : given.Over) (c : After-write_bundle g) → Pushed c.self.inside.count c.self.inside.bytes.items
@@ -65,11 +66,4 @@ returns-in-Err-clause-refused g c =
     ∙ refused_by_fault c.args.n c.in-Err.why))
 
 pub returns-in-Ok-clause-replies : goal.returns-in-Ok-clause-replies
-returns-in-Ok-clause-replies g c reply e =
-    let hs = c.in-Ok.given in
-    let listed : Ok hs ≡ reply = queued_ok reply hs
-    (ap Ok (sym (c.write_many.ensures.handles
-    ∙ ap (λ gs. gs ++ hs) c.in_ok-handles.ensures.items)) ∙ e) in
-    subst (g.A.Serves.may_reply c.args.phase.now c.args.reserver.now c.serve_many.new.reserver
-    c.args.n)
-    listed c.in-Ok.ensures.replies
+returns-in-Ok-clause-replies g c reply e = search (rules, queued_ok)
