@@ -83,16 +83,7 @@ module _ (start : Allocator) (count : ℕ) (records : List Record) (at : ℤ)
 
     -- the least floor tells how many are taken
     pub floor_is : least_floor (cursor start) records ≡ pos (top start) -ℤ pos (length final.taken)
-    floor_is =
-        let of_log : least_floor (cursor start) records ≡ floor_of start k.log =
-        floor_of_all start at k.log records k.each ∙ (sym (floor_sorted start (own_of_all records))
-        ∙ ap (floor_of start) (reservations_are start count records at k whole)) in
-        let none = ap length (flushed-laid_out start sound flushed).taken in
-        let below = floor_below start k.log in
-        let down : floor_of start k.log ≤ℤ (pos (top start) -ℤ pos (length start.taken)) =
-        omega (arith, ints) in
-        let taken = taken_floor start start k.log at flushed itself k.follow in
-        search (rules, min_right, history_is)
+    floor_is = let of_log : least_floor (cursor start) records ≡ floor_of start k.log = floor_of_all start at k.log records k.each ∙ (sym (floor_sorted start (own_of_all records)) ∙ ap (floor_of start) (reservations_are start count records at k whole)) in let none = ap length (flushed-laid_out start sound flushed).taken in let below = floor_below start k.log in let taken = taken_floor start start k.log at flushed itself k.follow in search (rules, min_right, history_is)
 
     asked_is : sum (history.requests_of (history_of records)) ≡ sum_by requested k.log
     asked_is = grind (arith, common_steps, history_is)
@@ -124,35 +115,7 @@ module _ (start : Allocator) (count : ℕ) (records : List Record) (at : ℤ)
       floor_here = search (rules, ints, floor_is)
 
       ended_at : count ≤ 1024 → Ended start start records at floor
-      ended_at few =
-          let here = floor_here in
-          let taken = taken_few in
-          let calls : List history.Call = history_of records in
-          record {
-            least = cursor_least few;
-            greatest = omega (arith, ints);
-            ordered = search
-                (rules, here, asked_in_all, taken_few, cases_lt, requested, ints, taken_all);
-            reachable = omega (arith, ints);
-            all_given = λ within. search (rules, floor_here, asked_in_all, taken_all, ints);
-            is_legal = legal;
-            respects = respects_all start count records at k whole;
-            after =
-                let given : asked_at (top start) floor ≡ length final.taken =
-                search (rules, asked_at-is, floor_here, ints) in
-                let asked : asked_at (top start) at ≡ sum (history.requests_of calls) =
-                search (rules, asked_at-is, cursor_greatest, asked_is, asked_in_all, ints) in
-                let long : length final.taken ≡ length (history.given_in calls) =
-                search (rules, length_permutation, given_in-taken, legal) in
-                (λ i. settled start ((given ∙ long) i) (asked i))
-                ∙ sym (after_history-settled start calls sound legal flushed);
-            all_fall = rw (reservations_are start count records at k whole)
-                (falls_apart k.log (follow_falls (cursor start) k.log at k.follow));
-            all_numbers = numbers_differ records k.numbers;
-            all_distinct = given_in-distinct start calls sound legal;
-            none_live = given_in-not_live start calls sound legal;
-            brings_to_life = given_in-bring_to_life start calls sound legal flushed;
-          }
+      ended_at few = let here = floor_here in let taken = taken_few in let calls : List history.Call = history_of records in record { least = cursor_least few; greatest = omega (arith, ints); ordered = search (rules, here, asked_in_all, taken_few, cases_lt, requested, ints, taken_all); reachable = omega (arith, ints); all_given = search (rules, floor_here, asked_in_all, taken_all); is_legal = legal; respects = respects_all start count records at k whole; after = let given : asked_at (top start) floor ≡ length final.taken = search (rules, asked_at-is, floor_here, ints) in let asked : asked_at (top start) at ≡ sum (history.requests_of calls) = search (rules, asked_at-is, cursor_greatest, asked_is, asked_in_all, ints) in let long : length final.taken ≡ length (history.given_in calls) = search (rules, length_permutation, given_in-taken, legal) in (λ i. settled start ((given ∙ long) i) (asked i)) ∙ sym (after_history-settled start calls sound legal flushed); all_fall = rw (reservations_are start count records at k whole) (falls_apart k.log (follow_falls (cursor start) k.log at k.follow)); all_numbers = numbers_differ records k.numbers; all_distinct = given_in-distinct start calls sound legal; none_live = given_in-not_live start calls sound legal; brings_to_life = given_in-bring_to_life start calls sound legal flushed }
 
 pub ended : (entities : Entities) (start : Allocator) (n count : ℕ) (key : Opening)
     (records : List Record) (at floor from : ℤ) → IsStart entities.allocator
@@ -161,18 +124,4 @@ pub ended : (entities : Entities) (start : Allocator) (n count : ℕ) (key : Ope
     → IsClosed key.entities.allocator key.count records at → from ≡ pos (top entities.allocator)
     → floor ≡ least_floor (to_z w64 (of_z w64 from)) records
     → Ended entities.allocator start records (to_z w64 (of_z w64 at)) (to_z w64 (of_z w64 floor))
-ended entities start n count key records at floor from begins sound few key_is here_is n_is whole
-    closed from_is floor_is =
-    let here : Allocator = entities.allocator in
-    let small = begins.top in
-    let k : IsClosed here n records at = subst (λ (o : Opening). IsClosed o.entities.allocator
-    o.count records at) key_is closed in
-    let from_word : to_z w64 (of_z w64 from) ≡ pos (top here) = omega (arith, ints) in
-    let e = ended_at here n records at k sound begins.flushed (whole ∙ sym n_is) floor
-    (floor_is ∙ ap (λ (z : ℤ). least_floor z records) from_word) few in
-    let ordered = e.ordered in
-    let least = e.least in
-    let greatest = e.greatest in
-    let at_word : to_z w64 (of_z w64 at) ≡ at = omega (arith, ints) in
-    let floor_word : to_z w64 (of_z w64 floor) ≡ floor = omega (arith, ints) in
-    rw (at_word, floor_word, sym here_is) e
+ended entities start n count key records at floor from begins sound few key_is here_is n_is whole closed from_is floor_is = let here : Allocator = entities.allocator in let small = begins.top in let k : IsClosed here n records at = search rules in let from_word : to_z w64 (of_z w64 from) ≡ pos (top here) = omega (arith, ints) in let e = ended_at here n records at k sound begins.flushed (whole ∙ sym n_is) floor (floor_is ∙ ap (λ (z : ℤ). least_floor z records) from_word) few in let ordered = e.ordered in let least = e.least in let greatest = e.greatest in let at_word : to_z w64 (of_z w64 at) ≡ at = omega (arith, ints) in let floor_word : to_z w64 (of_z w64 floor) ≡ floor = omega (arith, ints) in rw (at_word, floor_word, sym here_is) e

@@ -43,13 +43,7 @@ module _ (start : Allocator) (count : ℕ) where
       × (k < number → numbered k (opened_records start number many) ≡ 0)
   unfolding opened_records
   numbered-opened k number zero = (omega arith, λ _. refl)
-  numbered-opened k number (suc many) =
-      let rest = numbered-opened k (number + 1) many in
-      let few = rest.0 in
-      let none = rest.1 in
-      let here = sum_by-cons (λ (x : Record). cond (x.number == k) 1 0) (opened start number)
-      (opened_records start (number + 1) many) in
-      (grind (arith, common_steps), λ less. grind (arith, common_steps))
+  numbered-opened k number (suc many) = let rest = numbered-opened k (number + 1) many in let few = rest.0 in let none = rest.1 in (grind (arith, common_steps), λ less. grind (arith, common_steps))
 
   kept-opened : (at : ℤ) (number : ℕ) → at ≤ℤ cursor start
       → IsKept start at [] (opened start number)

@@ -55,13 +55,7 @@ counted h (g ∷ gs) inside =
 -- a list of different handles has each at most once
 once : (gs : List Handle) → Differ gs → (h : Handle) → sum_by (is_one h) gs ≤ 1
 once [] differ h = omega arith
-once (g ∷ gs) differ h =
-    let rest = once gs (AllPairs-tail (λ g h. g ≢ h) g gs differ) h in
-    let others = none_there g gs (AllPairs-head (λ g h. g ≢ h) g gs differ) in
-    let first : sum_by (is_one g) (g ∷ gs) ≤ 1 =
-    grind (arith, common_steps, sum_by-cons, one_itself g) in
-    ⊎_elim (λ is. subst (λ (x : Handle). sum_by (is_one x) (g ∷ gs) ≤ 1) (sym is) first)
-    (λ none. grind (arith, common_steps, sum_by-cons)) (same_or_none g h)
+once (g ∷ gs) differ h = let rest = once gs (AllPairs-tail (λ g h. g ≢ h) g gs differ) h in let others = none_there g gs (AllPairs-head (λ g h. g ≢ h) g gs differ) in let first : sum_by (is_one g) (g ∷ gs) ≤ 1 = grind (arith, common_steps, sum_by-cons, one_itself g) in search (rules, sum_by-cons, same_or_none)
 
 -- and the other way around
 differ_if_once : (gs : List Handle) → ((h : Handle) → sum_by (is_one h) gs ≤ 1) → Differ gs

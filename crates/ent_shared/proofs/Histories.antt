@@ -52,44 +52,27 @@ falls_apart (c ∷ cs) falls = grind (arith, common_steps, falls_apart cs falls.
 stands : (cs : List Reservation) (earlier later : Reservation) → FallsStrictly cs
     → Contains cs earlier → Contains cs later → later.high <ℤ earlier.high
     → StandsBefore cs earlier later
-stands cs earlier later falls (i, i_in, i_is) (j, j_in, j_is) lower =
-    let at_j = get_or_default cs j earlier later j_in in
-    let pairs = falls_apart cs falls j i earlier in
-    let before : i < j = grind (arith, ints, pairs, at_j) in
-    search (rules, slice_get-get_or)
+stands cs earlier later falls (i, i_in, i_is) (j, j_in, j_is) lower = let at_j = get_or_default cs j earlier later j_in in let pairs = falls_apart cs falls j i earlier in search (rules, slice_get-get_or)
 
 after_one : (cs before : List Reservation) (later : Reservation) → FallsStrictly cs
     → All (λ (c : Reservation). 0 < c.requested) cs → All (Contains cs) before → Contains cs later
     → All (λ (earlier : Reservation). later.high ≤ℤ low earlier) before
     → All (λ (earlier : Reservation). StandsBefore cs earlier later) before
-after_one cs before later falls requests in_before in_later order i d lt =
-    let x : Reservation = get_or before i d in
-    let inside = in_before i d lt in
-    let some_request = All-contains (λ (c : Reservation). 0 < c.requested) cs x requests inside in
-    let le = order i d lt in
-    stands cs x later falls inside in_later (omega (arith, ints))
+after_one cs before later falls requests in_before in_later order i d lt = let x : Reservation = get_or before i d in let inside = in_before i d lt in let some_request = All-contains (λ (c : Reservation). 0 < c.requested) cs x requests inside in let le = order i d lt in search (rules, stands)
 
 -- what a record knew before its own calls stands before them
 follows : (cs : List Reservation) (es : List RecordEntry) → FallsStrictly cs
     → All (λ (c : Reservation). 0 < c.requested) cs → All (Contains cs) (known_reservations es)
     → InOrder es → FollowsEntries cs es
 follows cs [] falls requests known order = tt
-follows cs (e ∷ es) falls requests known order =
-    let rest = All-right (Contains cs) (reservations_in e) (known_reservations es) known in
-    let more = follows cs es falls requests rest order.1 in
-    let before = All-left (Contains cs) (reservations_in e) (known_reservations es) known in
-    let after = all_own (Contains cs) es rest in
-    (λ i d lt. after_one cs _ _ falls requests before (after i d lt) (order.0 i d lt), more)
+follows cs (e ∷ es) falls requests known order = let rest = All-right (Contains cs) (reservations_in e) (known_reservations es) known in let more = follows cs es falls requests rest order.1 in let before = All-left (Contains cs) (reservations_in e) (known_reservations es) known in let after = all_own (Contains cs) es rest in search (rules, after_one)
 
 -- a record's own calls fall
 own_fall : (es : List RecordEntry) → All (λ (c : Reservation). 0 < c.requested)
     (own_reservations es) → InOrder es → Falls (own_reservations es)
 own_fall [] requests order = tt
 own_fall (Met cs ∷ es) requests order = own_fall es requests order.1
-own_fall (Own c ∷ es) requests order =
-    let some_request = requests 0 c (omega arith) in
-    let rest = own_fall es (λ i d lt. requests (suc i) d (omega arith)) order.1 in
-    (λ i d lt. let le = order.0 i d lt 0 d (omega arith) in omega (arith, ints), rest)
+own_fall (Own c ∷ es) requests order = let rest = own_fall es (λ i d lt. requests (suc i) d (omega arith)) order.1 in (λ i d lt. let le = order.0 i d lt 0 d (omega arith) in omega (arith, ints), rest)
 
 strictly_by : (caller : ℕ) (cs : List Reservation) → FallsStrictly cs
     → FallsStrictly (reservations_by caller cs)

@@ -128,50 +128,7 @@ module _ (start : Allocator) (sound : IsSound start) (flushed : start.asked ≡ 
       → IsClosed start count records at
       → floor ≡ int_max at (neg_ℤ (pos (start.limits.slots - start.made)))
       → Lost start start count records at floor
-  lost_at count records at floor few k is =
-      let asked : ℕ = sum_by requested k.log in
-      let all = asked_in_all start count records at k sound flushed in
-      let below = cursor_greatest start count records at k sound flushed in
-      let within : pos (top start) ≡ at +ℤ pos asked = omega (arith, ints) in
-      let pool = length_pool in
-      let floor_in : floor ≤ℤ pos (top start) = grind (arith, ints) in
-      let a = asked_at-is (top start) at below in
-      let g = asked_at-is (top start) floor floor_in in
-      let given : ℕ = asked_at (top start) floor in
-      let asked_is : asked_at (top start) at ≡ asked = omega (arith, ints) in
-      let some : ¬ (given ≡ asked) → given ≡ length start.pool = grind (arith, ints) in
-      let cases : (given ≡ asked) ⊎ (given ≡ length start.pool) = search (rules, cases_eq, some) in
-      let W : Reservation → Type 0 = λ (c : Reservation). asked_at (top start) c.high + c.requested
-      ≤ asked in
-      let log_within : All W k.log = (reservations_within start (cursor start) k.log at asked
-      (omega (arith, ints)) within k.follow).0 in
-      let left = cursor-loss asked in
-      record {
-        asked = asked;
-        some_asked = k.some requested;
-        all_asked = λ all_here. k.all all_here requested;
-        most_asked = k.quota;
-        reached = λ i d lt. let mark = (k.each i d lt).marks.mark in omega (arith, ints);
-        whole = λ all_here.
-            let other = final_cursor start count records at k sound flushed all_here in
-            omega (arith, ints);
-        least = cursor_least start count records at k sound flushed few;
-        greatest = floor_in;
-        all_given = λ room. grind (arith, ints);
-        after = ap (settled start given) asked_is ∙ loss_is given asked (grind (arith, ints)) cases;
-        given = λ i d lt.
-            let own = all_own (Contains k.log) (get_or records i d).entries
-            (k.each i d lt).marks.known in
-            rw (sym all_pool) (reservations_contain start asked _
-            (λ j c l. All-contains (HasItsReply start) k.log _ k.replied (own j c l))
-            (λ j c l. All-contains W k.log _ log_within (own j c l)));
-        none_live = All-take (λ h. ¬ (IsLive start h)) asked start.pool pool_not_live;
-        distinct =
-            let itself : IsLater start start =
-            record { sound = sound; available_is = refl; made_is = refl } in
-            some_differ records k.log k.some (given_in-distinct start (map as_call k.log) sound
-            (legal_from start start k.log at itself k.follow k.replied));
-      }
+  lost_at count records at floor few k is = let asked : ℕ = sum_by requested k.log in let all = asked_in_all start count records at k sound flushed in let below = cursor_greatest start count records at k sound flushed in let within : pos (top start) ≡ at +ℤ pos asked = omega (arith, ints) in let pool = length_pool in let floor_in : floor ≤ℤ pos (top start) = grind (arith, ints) in let a = asked_at-is (top start) at below in let g = asked_at-is (top start) floor floor_in in let given : ℕ = asked_at (top start) floor in let asked_is : asked_at (top start) at ≡ asked = omega (arith, ints) in let some : ¬ (given ≡ asked) → given ≡ length start.pool = grind (arith, ints) in let cases : (given ≡ asked) ⊎ (given ≡ length start.pool) = search (rules, cases_eq, some) in let W : Reservation → Type 0 = λ (c : Reservation). asked_at (top start) c.high + c.requested ≤ asked in let log_within : All W k.log = (reservations_within start (cursor start) k.log at asked (omega (arith, ints)) within k.follow).0 in let left = cursor-loss asked in record { asked = asked; some_asked = k.some requested; all_asked = λ all_here. k.all all_here requested; most_asked = k.quota; reached = λ i d lt. let mark = (k.each i d lt).marks.mark in omega (arith, ints); whole = λ all_here. let other = final_cursor start count records at k sound flushed all_here in omega (arith, ints); least = cursor_least start count records at k sound flushed few; greatest = floor_in; all_given = λ room. grind (arith, ints); after = search (rules, loss_is); given = λ i d lt. let own = all_own (Contains k.log) (get_or records i d).entries (k.each i d lt).marks.known in rw (sym all_pool) (reservations_contain start asked _ (λ j c l. All-contains (HasItsReply start) k.log _ k.replied (own j c l)) (λ j c l. All-contains W k.log _ log_within (own j c l))); none_live = All-take (λ h. ¬ (IsLive start h)) asked start.pool pool_not_live; distinct = let itself : IsLater start start = record { sound = sound; available_is = refl; made_is = refl } in some_differ records k.log k.some (given_in-distinct start (map as_call k.log) sound (legal_from start start k.log at itself k.follow k.replied)) }
 
 pub lost : (entities : Entities) (start : Allocator) (n count room : ℕ) (key : Opening)
     (records : List Record) (at floor roomed : ℤ) → IsStart entities.allocator
@@ -182,20 +139,4 @@ pub lost : (entities : Entities) (start : Allocator) (n count room : ℕ) (key :
     (to_z w64 (of_z w64 (pos 0 -ℤ to_z w64 (of_z w64 roomed))))
     → Lost entities.allocator start count records (to_z w64 (of_z w64 at))
     (to_z w64 (of_z w64 floor))
-lost entities start n count room key records at floor roomed begins sound few key_is here_is n_is
-    closed room_is room_small roomed_is floor_is =
-    let here : Allocator = entities.allocator in
-    let small = begins.top in
-    let flushed = begins.flushed in
-    let k : IsClosed here n records at = subst (λ (o : Opening). IsClosed o.entities.allocator
-    o.count records at) key_is closed in
-    let least = cursor_least here n records at k sound flushed few in
-    let greatest = cursor_greatest here n records at k sound flushed in
-    let at_word : to_z w64 (of_z w64 at) ≡ at = omega (arith, ints) in
-    let end_word : to_z w64 (of_z w64 (pos 0 -ℤ to_z w64 (of_z w64 roomed)))
-    ≡ neg_ℤ (pos (here.limits.slots - here.made)) = omega (arith, ints) in
-    let max_is = floor_is ∙ (λ i. int_max (at_word i) (end_word i)) in
-    let floor_word : to_z w64 (of_z w64 floor) ≡ floor = grind (arith, ints) in
-    subst (λ (x : Allocator × ℕ × ℤ × ℤ). Lost here x.0 x.1 records x.2 x.3)
-    (λ i. (here_is i, n_is i, sym at_word i, sym floor_word i))
-    (lost_at here sound flushed n records at floor few k max_is)
+lost entities start n count room key records at floor roomed begins sound few key_is here_is n_is closed room_is room_small roomed_is floor_is = let here : Allocator = entities.allocator in let small = begins.top in let flushed = begins.flushed in let k : IsClosed here n records at = subst (λ (o : Opening). IsClosed o.entities.allocator o.count records at) key_is closed in let least = cursor_least here n records at k sound flushed few in let greatest = cursor_greatest here n records at k sound flushed in let at_word : to_z w64 (of_z w64 at) ≡ at = omega (arith, ints) in let end_word : to_z w64 (of_z w64 (pos 0 -ℤ to_z w64 (of_z w64 roomed))) ≡ neg_ℤ (pos (here.limits.slots - here.made)) = omega (arith, ints) in let max_is = floor_is ∙ (λ i. int_max (at_word i) (end_word i)) in let floor_word : to_z w64 (of_z w64 floor) ≡ floor = grind (arith, ints) in search (rules, lost_at)

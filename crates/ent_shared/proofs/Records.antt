@@ -115,71 +115,11 @@ kept_on start at now log more r le k = search (rules, ints, All-weaker, Contains
 pub kept_reserved : (start : Allocator) (at : ℤ) (log : List Reservation) (n : ℕ) (r : Record) → n
     ≤ r.left → at ≤ℤ cursor start → IsKept start at log r
     → IsKept start (at -ℤ pos n) (log ++ reservation_at r at n ∷ []) (after_reservation r at n)
-kept_reserved start at log n r within top k =
-    let c : Reservation = reservation_at r at n in
-    let es : List RecordEntry = r.entries in
-    let own : List Reservation = own_reservations es in
-    let mark = k.marks.mark in
-    let P : Reservation → Type 0 = λ (d : Reservation). at ≤ℤ low d in
-    let below : All P (known_reservations es) = All-weaker (λ (d : Reservation). r.mark ≤ℤ low d) P
-    (λ d h. omega (arith, ints)) (known_reservations es) k.marks.below in
-    let Q : Reservation → Type 0 = λ (d : Reservation). (at -ℤ pos n) ≤ℤ low d in
-    let lower : All Q (known_reservations es) = All-weaker P Q (λ d h. omega (arith, ints))
-    (known_reservations es) below in
-    record {
-      start_is = k.start_is;
-      caller = subst (All (λ (d : Reservation). d.caller ≡ r.number)) (sym (own-made es c))
-          (All-append (λ (d : Reservation). d.caller ≡ r.number) own (c ∷ []) k.caller
-          (all_one (λ (d : Reservation). d.caller ≡ r.number) c refl));
-      quota = record {
-        quota = quota-reserved r at n within k.quota.quota;
-        floor =
-            rw (own-made es c, floor-made start own c (all_own Q es lower) (omega (arith, ints)))
-            (rw (k.start_is, k.quota.floor) refl);
-      };
-      marks = record {
-        mark = omega (arith, ints);
-        below = subst (All Q) (sym (known-more es (Own c))) (All-append Q (known_reservations es)
-            (c ∷ []) lower (all_one Q c (omega (arith, ints))));
-        order = order-made es c k.marks.order below;
-        known = subst (All (Contains (log ++ c ∷ []))) (sym (known-more es (Own c)))
-            (All-append (Contains (log ++ c ∷ [])) (known_reservations es) (c ∷ [])
-            (All-weaker (Contains log) (Contains (log ++ c ∷ []))
-            (λ d h. Contains-append_left log (c ∷ []) d h) (known_reservations es) k.marks.known)
-            (all_one (Contains (log ++ c ∷ [])) c (Contains-push log c)));
-      };
-    }
+kept_reserved start at log n r within top k = let c : Reservation = reservation_at r at n in let es : List RecordEntry = r.entries in let own : List Reservation = own_reservations es in let mark = k.marks.mark in let P : Reservation → Type 0 = λ (d : Reservation). at ≤ℤ low d in let below : All P (known_reservations es) = All-weaker (λ (d : Reservation). r.mark ≤ℤ low d) P (λ d h. omega (arith, ints)) (known_reservations es) k.marks.below in let Q : Reservation → Type 0 = λ (d : Reservation). (at -ℤ pos n) ≤ℤ low d in let lower : All Q (known_reservations es) = All-weaker P Q (λ d h. omega (arith, ints)) (known_reservations es) below in record { start_is = k.start_is; caller = grind (arith, common_steps, own-made, All-append, all_one); quota = record { quota = quota-reserved r at n within k.quota.quota; floor = rw (own-made es c, floor-made start own c (all_own Q es lower) (omega (arith, ints))) (rw (k.start_is, k.quota.floor) refl) }; marks = record { mark = omega (arith, ints); below = subst (All Q) (sym (known-more es (Own c))) (All-append Q (known_reservations es) (c ∷ []) lower (all_one Q c (omega (arith, ints)))); order = order-made es c k.marks.order below; known = subst (All (Contains (log ++ c ∷ []))) (sym (known-more es (Own c))) (All-append (Contains (log ++ c ∷ [])) (known_reservations es) (c ∷ []) (All-weaker (Contains log) (Contains (log ++ c ∷ [])) (λ d h. Contains-append_left log (c ∷ []) d h) (known_reservations es) k.marks.known) (all_one (Contains (log ++ c ∷ [])) c (Contains-push log c))) } }
 
 pub kept_met : (start : Allocator) (at : ℤ) (log : List Reservation) (r met : Record)
     → IsKept start at log r → IsKept start at log met → IsKept start at log (after_meeting r met)
-kept_met start at log r met k m =
-    let es : List RecordEntry = r.entries in
-    let cs : List Reservation = known_reservations met.entries in
-    let here = k.marks.mark in
-    let there = m.marks.mark in
-    let lesser = int_min_is r.mark met.mark in
-    let P : Reservation → Type 0 = λ (d : Reservation). int_min r.mark met.mark ≤ℤ low d in
-    record {
-      start_is = k.start_is;
-      caller = subst (All (λ (d : Reservation). d.caller ≡ r.number)) (sym (own-met es cs))
-          k.caller;
-      quota = record {
-        quota = quota-met r met k.quota.quota;
-        floor = rw (own-met es cs) k.quota.floor;
-      };
-      marks = record {
-        mark = grind (arith, ints);
-        below = subst (All P) (sym (known-more es (Met cs))) (All-append P (known_reservations es)
-            cs
-            (All-weaker (λ (d : Reservation). r.mark ≤ℤ low d) P (λ d h. grind (arith, ints))
-            (known_reservations es) k.marks.below)
-            (All-weaker (λ (d : Reservation). met.mark ≤ℤ low d) P (λ d h. grind (arith, ints)) cs
-            m.marks.below));
-        order = order-met es cs k.marks.order;
-        known = subst (All (Contains log)) (sym (known-more es (Met cs)))
-            (All-append (Contains log) (known_reservations es) cs k.marks.known m.marks.known);
-      };
-    }
+kept_met start at log r met k m = let es : List RecordEntry = r.entries in let cs : List Reservation = known_reservations met.entries in let here = k.marks.mark in let there = m.marks.mark in let lesser = int_min_is r.mark met.mark in let P : Reservation → Type 0 = λ (d : Reservation). int_min r.mark met.mark ≤ℤ low d in record { start_is = k.start_is; caller = search (rules, own-met); quota = record { quota = quota-met r met k.quota.quota; floor = rw (own-met es cs) k.quota.floor }; marks = record { mark = grind (arith, ints); below = subst (All P) (sym (known-more es (Met cs))) (All-append P (known_reservations es) cs (All-weaker (λ (d : Reservation). r.mark ≤ℤ low d) P (λ d h. grind (arith, ints)) (known_reservations es) k.marks.below) (All-weaker (λ (d : Reservation). met.mark ≤ℤ low d) P (λ d h. grind (arith, ints)) cs m.marks.below)); order = order-met es cs k.marks.order; known = subst (All (Contains log)) (sym (known-more es (Met cs))) (All-append (Contains log) (known_reservations es) cs k.marks.known m.marks.known) } }
 
 pub met_below : (r met : Record) → All (λ (c : Reservation). met.mark ≤ℤ low c)
     (known_reservations met.entries)

@@ -77,45 +77,14 @@ module _ {R : Type 0} where
   pub same_split : (views : List (List R)) (id : ℕ) (v left right : List R)
       → get_elem? views id ≡ some v → IsPermutation v (left ++ right)
       → IsPermutation (records_in views) (records_in (set views id left ++ right ∷ []))
-  same_split views id v left right at parts =
-      let others : List R = records_in (set views id []) in
-      let first : IsPermutation (records_in views) ((left ++ right) ++ others) =
-      IsPermutation-trans (records_in views) (v ++ others) ((left ++ right) ++ others)
-      (seat_first views id v at)
-      (IsPermutation-append v (left ++ right) others others parts (IsPermutation-refl others)) in
-      let second : IsPermutation ((left ++ right) ++ others) (right ++ (left ++ others)) =
-      subst (λ (l : List R). IsPermutation l (right ++ (left ++ others)))
-      (sym (append_assoc left right others)) (turned left right others) in
-      let third : IsPermutation (right ++ (left ++ others)) ((left ++ others) ++ right) =
-      IsPermutation-append_comm right (left ++ others) in
-      let fourth : IsPermutation ((left ++ others) ++ right)
-      (records_in (set views id left) ++ right) =
-      search (rules, IsPermutation-append, IsPermutation-sym, set_first, IsPermutation-refl) in
-      search (rules, append-nil, flat_map-append, IsPermutation-trans)
+  same_split views id v left right at parts = let others : List R = records_in (set views id []) in let first : IsPermutation (records_in views) ((left ++ right) ++ others) = search (rules, IsPermutation-trans, seat_first, IsPermutation-append, IsPermutation-refl) in let second : IsPermutation ((left ++ right) ++ others) (right ++ (left ++ others)) = subst (λ (l : List R). IsPermutation l (right ++ (left ++ others))) (sym (append_assoc left right others)) (turned left right others) in let third : IsPermutation (right ++ (left ++ others)) ((left ++ others) ++ right) = IsPermutation-append_comm right (left ++ others) in let fourth : IsPermutation ((left ++ others) ++ right) (records_in (set views id left) ++ right) = search (rules, IsPermutation-append, IsPermutation-sym, set_first, IsPermutation-refl) in search (rules, append-nil, flat_map-append, IsPermutation-trans)
 
   -- two seats' records in one
   pub same_join : (views : List (List R)) (id other : ℕ) (v w both : List R)
       → get_elem? views id ≡ some v → ¬ (other ≡ id)
       → get_elem? (set views id both) other ≡ some w → IsPermutation (v ++ w) both
       → IsPermutation (records_in views) (records_in (set (set views id both) other []))
-  same_join views id other v w both at apart there parts =
-      let bare : List (List R) = set views other [] in
-      let others : List R = records_in (set bare id []) in
-      let second : get_elem? views other ≡ some w = sym (set_else views id other both apart) ∙ there
-      in
-      let first : get_elem? bare id ≡ some v = set_else views other id [] (λ e. apart (sym e)) ∙ at
-      in
-      let two : IsPermutation (records_in views) (w ++ (v ++ others)) =
-      search (rules, IsPermutation-trans, seat_first, IsPermutation-append, IsPermutation-refl) in
-      let one : IsPermutation (w ++ (v ++ others)) (both ++ others) =
-      IsPermutation-trans (w ++ (v ++ others)) ((v ++ w) ++ others) (both ++ others)
-      (subst (IsPermutation (w ++ (v ++ others))) (sym (append_assoc v w others))
-      (turned w v others))
-      (IsPermutation-append (v ++ w) both others others parts (IsPermutation-refl others)) in
-      let set_both : IsPermutation (both ++ others) (records_in (set bare id both)) =
-      IsPermutation-sym (records_in (set bare id both)) (both ++ others)
-      (set_first bare id v both first) in
-      grind (arith, common_steps, set_comm, IsPermutation-trans)
+  same_join views id other v w both at apart there parts = let bare : List (List R) = set views other [] in let others : List R = records_in (set bare id []) in let second : get_elem? views other ≡ some w = sym (set_else views id other both apart) ∙ there in let first : get_elem? bare id ≡ some v = set_else views other id [] (λ e. apart (sym e)) ∙ at in let two : IsPermutation (records_in views) (w ++ (v ++ others)) = search (rules, IsPermutation-trans, seat_first, IsPermutation-append, IsPermutation-refl) in let one : IsPermutation (w ++ (v ++ others)) (both ++ others) = IsPermutation-trans (w ++ (v ++ others)) ((v ++ w) ++ others) (both ++ others) (subst (IsPermutation (w ++ (v ++ others))) (sym (append_assoc v w others)) (turned w v others)) (IsPermutation-append (v ++ w) both others others parts (IsPermutation-refl others)) in let set_both : IsPermutation (both ++ others) (records_in (set bare id both)) = search (rules, IsPermutation-sym, set_first) in grind (arith, common_steps, set_comm, IsPermutation-trans)
 
   -- one more seat, which has no record
   pub same_entered : (views : List (List R)) → records_in (views ++ [] ∷ []) ≡ records_in views

@@ -34,11 +34,7 @@ enough_served made pool handles n is = search (rules)
 -- a reply that serves n lists n handles
 pub length-served : (made : ℕ) (pool handles : List Handle) (n : ℕ) → reply_from made pool n
     ≡ Ok handles → length handles ≡ n
-length-served made pool handles n is =
-    let test = enough_served made pool handles n is in
-    let long = length_permutation (take n pool) (listed made (take n pool))
-    (listed-IsPermutation made (take n pool)) in
-    grind (arith, nat_tests, common_steps)
+length-served made pool handles n is = let long = length_permutation (take n pool) (listed made (take n pool)) (listed-IsPermutation made (take n pool)) in grind (arith, nat_tests, common_steps)
 
 -- the pool never has more than at the opening
 pub enough_at_first : (start : Allocator) (high : ℤ) (handles : List Handle) (n : ℕ)

@@ -93,9 +93,7 @@ WeighSame xs ys = (f : Reservation → ℕ) → sum_by f xs ≡ sum_by f ys
 inside_rest : (y : Reservation) (ys xs : List Reservation)
     → All (λ (c : Reservation). c.high <ℤ y.high) xs → All (Contains (y ∷ ys)) xs
     → All (Contains ys) xs
-inside_rest y ys xs below within i d lt =
-    let less = below i d lt in
-    grind (arith, common_steps, ints, contains_cases y ys (get_or xs i d) (within i d lt))
+inside_rest y ys xs below within i d lt = grind (arith, common_steps, ints, contains_cases y ys (get_or xs i d) (within i d lt))
 
 pub same_fall : (xs ys : List Reservation) → Falls xs → FallsStrictly ys → All (Contains ys) xs
     → WeighSame xs ys → xs ≡ ys
@@ -103,19 +101,7 @@ same_fall [] [] falls strictly within same = refl
 same_fall [] (y ∷ ys) falls strictly within same = grind (arith, common_steps, same (λ _. 1))
 same_fall (x ∷ xs) [] falls strictly within same =
     absurd (let inside = (within 0 x (omega arith)).1 in omega arith)
-same_fall (x ∷ xs) (y ∷ ys) falls strictly within same =
-    let total = same (reaches y.high) in
-    let ys_none = none_reach y.high ys strictly.0 in
-    let cases = contains_cases y ys x (within 0 x (omega arith)) in
-    let less = All-contains (λ (d : Reservation). d.high <ℤ y.high) ys x strictly.0 in
-    let none : x.high <ℤ y.high → sum_by (reaches y.high) xs ≡ 0 = λ low.
-    none_reach y.high xs (λ i d lt. let le = falls.0 i d lt in omega (arith, ints)) in
-    let first : x ≡ y = grind (arith, ints, common_steps, cases, less, none) in
-    let below = reached_by_none y.high xs (grind (arith, ints, common_steps)) in
-    let rest_within = inside_rest y ys xs below (All-tail (Contains (y ∷ ys)) x xs within) in
-    let rest_same : WeighSame xs ys = λ f. grind (arith, common_steps, same f) in
-    let rest = same_fall xs ys falls.1 strictly.1 rest_within rest_same in
-    λ i. first i ∷ rest i
+same_fall (x ∷ xs) (y ∷ ys) falls strictly within same = let total = same (reaches y.high) in let ys_none = none_reach y.high ys strictly.0 in let cases = contains_cases y ys x (within 0 x (omega arith)) in let less = All-contains (λ (d : Reservation). d.high <ℤ y.high) ys x strictly.0 in let none : x.high <ℤ y.high → sum_by (reaches y.high) xs ≡ 0 = search (rules, none_reach) in let first : x ≡ y = grind (arith, ints, common_steps, cases, less, none) in let below = reached_by_none y.high xs (grind (arith, ints, common_steps)) in let rest_within = inside_rest y ys xs below (All-tail (Contains (y ∷ ys)) x xs within) in let rest_same : WeighSame xs ys = λ f. grind (arith, common_steps, same f) in let rest = same_fall xs ys falls.1 strictly.1 rest_within rest_same in λ i. first i ∷ rest i
 
 -- calls that follow each other fall
 pub follow_below : (high : ℤ) (cs : List Reservation) (end : ℤ) → Follow high cs end

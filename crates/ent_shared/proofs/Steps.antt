@@ -45,60 +45,7 @@ module _ (start : Allocator) (count : ℕ) where
   pub reserves : (slots id : ℕ) (r : Record) (n : ℕ) → 0 < n → n ≤ r.left
       → Allows Rule slots id (r ∷ [], []) 0 (λ word. (word + (2 ^ 64 - n)) % 2 ^ 64)
       (ReserveTells n (r ∷ [], []))
-  reserves slots id r n some_request within s k _ at _ =
-      let word : ℕ = k.word in
-      let found : get_or s.words 0 0 ≡ word = ap (λ (ws : List ℕ). get_or ws 0 0) k.words in
-      let log : List Reservation = k.spans.log in
-      let high : ℤ = cursor_of word in
-      let c : Reservation = reservation_at r high n in
-      let w : List Record = after_reservation r high n ∷ [] in
-      let mine = all_at (All (IsKept start high log)) s.views id (r ∷ []) at k.each in
-      let kept : IsKept start high log r = mine 0 r (omega arith) in
-      let mark = kept.marks.mark in
-      let sum = kept.quota.quota in
-      let small : n ≤ quota = omega arith in
-      let least = word_least start count s k in
-      let greatest = word_greatest start count s k in
-      let next : (get_or s.words 0 0 + (2 ^ 64 - n)) % 2 ^ 64 ≡ word - n =
-      ap (λ (x : ℕ). (x + (2 ^ 64 - n)) % 2 ^ 64) found ∙ lowered word n least greatest small in
-      let now : cursor_of (word - n) ≡ high -ℤ pos n = lowered_cursor word n least small in
-      let f = follow_asked (cursor start) log high k.spans.follow in
-      let down : (high -ℤ pos n) ≤ℤ high = omega (arith, ints) in
-      let up : high ≤ℤ cursor start = omega (arith, ints) in
-      let K : ℤ → List Record → Type 0 = λ z v. All (IsKept start z (log ++ c ∷ [])) v in
-      let others : All (K (high -ℤ pos n)) s.views = λ i v l j x m.
-      kept_on start high (high -ℤ pos n) log (c ∷ []) _ down (k.each i v l j x m) in
-      let told : AfterReserve n r (get_or s.words 0 0) w = search rules in
-      let own : K (high -ℤ pos n) w = all_one (IsKept start (high -ℤ pos n) (log ++ c ∷ []))
-      (after_reservation r high n) (kept_reserved start high log n r within up kept) in (
-        w,
-        keeps,
-        tt,
-        record {
-          begins = k.begins;
-          few = k.few;
-          word = word - n;
-          words = ap (λ (ws : List ℕ). set ws 0 ((get_or s.words 0 0 + (2 ^ 64 - n)) % 2 ^ 64))
-              k.words ∙ ap (λ (x : ℕ). x ∷ []) next;
-          spans = record {
-            log = log ++ c ∷ [];
-            follow = subst (Follow (cursor start) (log ++ c ∷ [])) (sym now)
-                (follow-snoc (cursor start) log c high k.spans.follow refl some_request);
-            all = λ f. search (rules, sum_at, own-made, sum_by-append, sum_by-cons);
-          };
-          replied = All-append (HasItsReply start) log (c ∷ []) k.replied
-              (search (rules, all_one, kept.start_is));
-          records = (let changed = sum_at length s.views id (r ∷ []) w at in let was = k.records in
-              omega arith);
-          numbers = λ number.
-              let same = sum_at (numbered number) s.views id (r ∷ []) w at in
-              let was = k.numbers number in
-              omega arith;
-          each = subst (λ z. All (K z) (set s.views id w)) (sym now)
-              (All-set (K (high -ℤ pos n)) s.views id w own others);
-        },
-        (refl, λ x is. search (rules, is, told)),
-      )
+  reserves slots id r n some_request within s k _ at _ = let word : ℕ = k.word in let found : get_or s.words 0 0 ≡ word = ap (λ (ws : List ℕ). get_or ws 0 0) k.words in let log : List Reservation = k.spans.log in let high : ℤ = cursor_of word in let c : Reservation = reservation_at r high n in let w : List Record = after_reservation r high n ∷ [] in let mine = all_at (All (IsKept start high log)) s.views id (r ∷ []) at k.each in let kept : IsKept start high log r = mine 0 r (omega arith) in let mark = kept.marks.mark in let sum = kept.quota.quota in let small : n ≤ quota = omega arith in let least = word_least start count s k in let greatest = word_greatest start count s k in let next : (get_or s.words 0 0 + (2 ^ 64 - n)) % 2 ^ 64 ≡ word - n = ap (λ (x : ℕ). (x + (2 ^ 64 - n)) % 2 ^ 64) found ∙ lowered word n least greatest small in let now : cursor_of (word - n) ≡ high -ℤ pos n = lowered_cursor word n least small in let f = follow_asked (cursor start) log high k.spans.follow in let down : (high -ℤ pos n) ≤ℤ high = omega (arith, ints) in let up : high ≤ℤ cursor start = omega (arith, ints) in let K : ℤ → List Record → Type 0 = λ z v. All (IsKept start z (log ++ c ∷ [])) v in let others : All (K (high -ℤ pos n)) s.views = λ i v l j x m. kept_on start high (high -ℤ pos n) log (c ∷ []) _ down (k.each i v l j x m) in let told : AfterReserve n r (get_or s.words 0 0) w = search rules in let own : K (high -ℤ pos n) w = all_one (IsKept start (high -ℤ pos n) (log ++ c ∷ [])) (after_reservation r high n) (kept_reserved start high log n r within up kept) in (w, keeps, tt, record { begins = k.begins; few = k.few; word = word - n; words = search rules; spans = record { log = log ++ c ∷ []; follow = subst (Follow (cursor start) (log ++ c ∷ [])) (sym now) (follow-snoc (cursor start) log c high k.spans.follow refl some_request); all = λ f. search (rules, sum_at, own-made, sum_by-append, sum_by-cons) }; replied = All-append (HasItsReply start) log (c ∷ []) k.replied (search (rules, all_one, kept.start_is)); records = (let changed = sum_at length s.views id (r ∷ []) w at in let was = k.records in omega arith); numbers = λ number. let same = sum_at (numbered number) s.views id (r ∷ []) w at in let was = k.numbers number in omega arith; each = subst (λ z. All (K z) (set s.views id w)) (sym now) (All-set (K (high -ℤ pos n)) s.views id w own others) }, (refl, λ x is. search (rules, is, told)))
 
   pub reserves_at : (slots id : ℕ) (me : Me (Unit {0}) (List Record)) (r : Record) (n m : ℕ) → me.0
       ≡ r ∷ [] → me.1 ≡ [] → m ≡ n → 0 < n → n ≤ r.left
@@ -110,52 +57,11 @@ module _ (start : Allocator) (count : ℕ) where
 
   -- the rule goes by the records, and not by which seat has which
   pub goes_by_records : GoesByRecords Rule
-  goes_by_records s views same k = record {
-    begins = k.begins;
-    few = k.few;
-    word = k.word;
-    words = k.words;
-    spans = record {
-      log = k.spans.log;
-      follow = k.spans.follow;
-      all = λ f. sum_regrouped s.views views same (λ (r : Record).
-          sum_by f (own_reservations r.entries)) ∙ k.spans.all f;
-    };
-    replied = k.replied;
-    records = length-regrouped s.views views same ∙ k.records;
-    numbers = λ a. omega (
-      arith,
-      k.numbers a,
-      sum_regrouped s.views views same (λ (r : Record). cond (r.number == a) 1 0),
-    );
-    each = all_regrouped s.views views same (IsKept start (cursor_of k.word) k.spans.log) k.each;
-  }
+  goes_by_records s views same k = record { begins = k.begins; few = k.few; word = k.word; words = k.words; spans = record { log = k.spans.log; follow = k.spans.follow; all = λ f. sum_regrouped s.views views same (λ (r : Record). sum_by f (own_reservations r.entries)) ∙ k.spans.all f }; replied = k.replied; records = length-regrouped s.views views same ∙ k.records; numbers = λ a. omega (arith, k.numbers a, sum_regrouped s.views views same (λ (r : Record). cond (r.number == a) 1 0)); each = search (rules, all_regrouped) }
 
   pub meets : (id other : ℕ) (r met : Record) → Joins Rule id (r ∷ []) other (met ∷ [])
       (met_in (r ∷ []) (met ∷ [])) []
-  meets id other r met s k at apart there =
-      let both : List Record = after_meeting r met ∷ met ∷ [] in
-      let views : List (List Record) = set s.views id both in
-      let P : List Record → Type 0 = All (IsKept start (cursor_of k.word) k.spans.log) in
-      let between : get_elem? s.views other ≡ some (met ∷ []) =
-      sym (set_else s.views id other both apart) ∙ there in
-      let mine = all_at P s.views id (r ∷ []) at k.each in
-      let theirs = all_at P s.views other (met ∷ []) between k.each in
-      let first = λ (f : List Record → ℕ). sum_at f s.views id (r ∷ []) both at in
-      let second = λ (f : List Record → ℕ). sum_at f views other (met ∷ []) [] there in
-      let same = own-met r.entries (known_reservations met.entries) in
-      record {
-        begins = k.begins;
-        few = k.few;
-        word = k.word;
-        words = k.words;
-        spans = search (rules, sum_at, same, sum_by-cons);
-        replied = k.replied;
-        records = omega (arith, first length, second length, k.records);
-        numbers = λ a. omega (arith, first (numbered a), second (numbered a), k.numbers a);
-        each = All-set P views other [] (All-nil (IsKept start (cursor_of k.word) k.spans.log))
-            (All-set P s.views id both (search (rules, All-cons, kept_met, All-head)) k.each);
-      }
+  meets id other r met s k at apart there = let both : List Record = after_meeting r met ∷ met ∷ [] in let views : List (List Record) = set s.views id both in let P : List Record → Type 0 = All (IsKept start (cursor_of k.word) k.spans.log) in let between : get_elem? s.views other ≡ some (met ∷ []) = search (rules, set_else) in let mine = all_at P s.views id (r ∷ []) at k.each in let theirs = all_at P s.views other (met ∷ []) between k.each in let first = λ (f : List Record → ℕ). sum_at f s.views id (r ∷ []) both at in let second = λ (f : List Record → ℕ). sum_at f views other (met ∷ []) [] there in let same = own-met r.entries (known_reservations met.entries) in record { begins = k.begins; few = k.few; word = k.word; words = k.words; spans = search (rules, sum_at, same, sum_by-cons); replied = k.replied; records = omega (arith, first length, second length, k.records); numbers = λ a. omega (arith, first (numbered a), second (numbered a), k.numbers a); each = All-set P views other [] (All-nil (IsKept start (cursor_of k.word) k.spans.log)) (All-set P s.views id both (search (rules, All-cons, kept_met, All-head)) k.each) }
 
   pub meets_at : (id other : ℕ) (v w : List Record) (r met : Record) → v ≡ r ∷ [] → w ≡ met ∷ []
       → Joins Rule id v other w (met_in v w) []
