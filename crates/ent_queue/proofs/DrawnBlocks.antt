@@ -1,12 +1,12 @@
 -- What commands draw from a block, one by one and together.
-use Rattle.std.proofs.Common.{rules, ◌≡◌, refl, sym, ap, ◌∙◌, subst, ℕ, ◌+◌, ◌-◌, ◌<◌, List, [], ◌∷◌}
-use Rattle.std.proofs.Common.{◌++◌, take, length, arith, append-nil, Result, Ok, Err}
+use Rattle.std.proofs.Common.{rules, ◌≡◌, refl, sym, ap, ◌∙◌, subst, ℕ, ◌+◌, ◌-◌, List, [], ◌∷◌}
+use Rattle.std.proofs.Common.{◌++◌, take, arith, append-nil, Result, Ok, Err}
 use Rattle.std.proofs.Common.{IfOk, IfErr, OnOk, OnErr, IsErrOf, Vec, Global}
 use Rattle.std.specs.List.{sum_by}
 use Rattle.std.proofs.lemmas.Grind.{common_steps}
 use Rattle.std.proofs.lemmas.List.Sums.{sum_by-append, sum_by-cons}
 use Rattle.ent_handle.specs.Handle.{Handle}
-use Rattle.ent_alloc.specs.Sequential.{Allocator, reply_from, listed, listed_alone}
+use Rattle.ent_alloc.specs.Sequential.{Allocator, listed, listed_alone}
 use Rattle.ent_alloc.specs.Fault.{as_reserve_error}
 use Rattle.ent_alloc.specs.declared.refused.Refused.{Refused as Refusal}
 use Rattle.ent_alloc.specs.declared.refused.Refused.TheVariants.{Space, Quota}

@@ -1,7 +1,7 @@
 -- For who writes a system, or any function that issues commands from a block: what its calls add up to.
 -- Put `#[tactic(auto, using(ent_queue::proofs::ExtendingInBlocks::extends_then))]` above it.
 use Rattle.std.proofs.Common.{rules}
-use Rattle.std.proofs.Common.{refl, sym, ◌∙◌, [], ◌++◌, ap, subst, append-nil, append_assoc}
+use Rattle.std.proofs.Common.{◌∙◌, ◌++◌, ap, subst, append-nil, append_assoc}
 use Rattle.std.specs.Prelude.{List}
 use Rattle.ent_blocks.specs.Blocks.{Phase}
 use Rattle.ent_queue.specs.Command.{Command}

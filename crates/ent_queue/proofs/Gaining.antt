@@ -1,19 +1,17 @@
 -- How a reserver's record gains what commands have asked of it.
 use Rattle.std.proofs.Common.{rules, ◌≡◌, refl, ℕ, ◌+◌, ◌-◌, ◌<◌, ◌≤◌, ℤ, List, [], ◌∷◌, ◌++◌}
-use Rattle.std.proofs.Common.{arith, ap, ◌∙◌, subst, append_assoc, Result, Ok, Err, sym, inl, inr}
+use Rattle.std.proofs.Common.{arith, ap, ◌∙◌, subst, append_assoc, Ok, Err, sym, inl, inr}
 use Rattle.std.proofs.lemmas.Grind.{common_steps, flat_map-append}
 use Rattle.std.specs.List.{sum_by}
 use Rattle.std.proofs.lemmas.List.Elements.{All-nil, All-cons}
 use Rattle.std.proofs.lemmas.Bool.{cases_lt}
 use Rattle.std.proofs.lemmas.List.Sums.{sum_by-append, sum_by-cons}
 use Rattle.ent_handle.specs.Handle.{Handle}
-use Rattle.ent_alloc.specs.Sequential.{listed_alone}
 use Rattle.ent_shared.specs.declared.record.Record.{Record}
 use Rattle.ent_alloc.specs.declared.refused.Refused.{Refused as Refusal}
 use Rattle.ent_alloc.specs.declared.refused.Refused.TheVariants.{Quota, Space}
 use Rattle.ent_shared.specs.Phase.{Shared, Reserver}
 use Rattle.ent_shared.specs.Record.{after_reservation, reservation_at}
-use Rattle.ent_shared.specs.Replies.{Reserves}
 use Rattle.ent_queue.specs.Command.{Command, Refused, HasRange, SaysWanted, IsRefusal}
 use Rattle.ent_queue.specs.Reserving.{stands_for, cost, FitsQuota, FitQuota, Gains, IsReturned}
 use Rattle.ent_queue.specs.Reserving.{refused_by}

@@ -39,10 +39,6 @@ abbrev pub all_of : Heading → Names → List (List (List Operation)) → Resul
 all_of heading names frames =
     Ok (record { limits = heading.limits; components = names; frames = frames })
 
-abbrev after_these : Heading → Names → Option (List Data) → Result Script ReadFault
-after_these heading names o = ok_or o (fault.Script script_cause.Frames) >>=
-    λ ds. numbered (frame_of heading.format names) 0 ds >>= λ frames. all_of heading names frames
-
 pub script_is : (d : Data) (heading : Heading) (names : Names)
     → in_script (heading_of d) ≡ Ok heading
     → in_script (component_names (get (codes "components") d)) ≡ Ok names

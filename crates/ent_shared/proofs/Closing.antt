@@ -2,7 +2,7 @@
 -- the allocator after it.
 use Rattle.ent_shared.proofs.Histories.{falls_apart, reservations_are, respects_all}
 use Rattle.std.proofs.Common.{rules, ◌≡◌, ◌≢◌, ℕ, ◌+◌, ◌-◌, ◌^◌, ◌≤◌, ℤ, pos, ◌+ℤ◌, ◌-ℤ◌, ◌≤ℤ◌}
-use Rattle.std.proofs.Common.{◌<ℤ◌, List, length, map, sym, ap, subst, ◌∙◌, arith, sum}
+use Rattle.std.proofs.Common.{◌<ℤ◌, List, length, map, sym, ap, ◌∙◌, arith, sum}
 use Rattle.std.proofs.Common.{length-append, All, AllPairs, Contains, ◌↔◌, ◌⊎◌}
 use Rattle.std.proofs.lemmas.Grind.{common_steps}
 use Rattle.std.specs.List.{sum_by}

@@ -1,7 +1,7 @@
 -- The handles of a list differ if each is there at most once. So the handles of some reservers differ if
 -- those of all do.
 use Rattle.std.proofs.Common.{rules, arith, ◌≡◌, ◌≢◌, ℕ, ◌≤◌, List, [], ◌∷◌, refl}
-use Rattle.std.proofs.Common.{All, AllPairs, Contains, ◌⊎◌, ⊎_elim, sym, subst}
+use Rattle.std.proofs.Common.{All, AllPairs, Contains, ◌⊎◌, sym, subst}
 use Rattle.std.specs.Prelude.{cond}
 use Rattle.std.specs.List.{sum_by}
 use Rattle.std.proofs.lemmas.Grind.{common_steps}

@@ -1,8 +1,5 @@
 use Rattle.std.proofs.Common.{rules}
-use Rattle.std.proofs.Common.{refl, subst}
-use Rattle.ent_queue.specs.Command.{Remove}
 use Rattle.ent_queue.proofs.DrawnBlocks.{extends_in_blocks, still_added}
-use Rattle.ent_queue.specs.InBlocks.{Issuing, ExtendsInBlocks}
 use Rattle.ent_queue.proofs.commands_in_blocks.CommandsInBlocks.remove.Goals as goal
 
 pub returns-clause-extends : goal.returns-clause-extends

@@ -1,6 +1,5 @@
 use Rattle.std.proofs.Common.{rules}
-use Rattle.std.proofs.Common.{subst, sym, refl}
-use Rattle.ent_queue.specs.Unpacking.{ArePacked}
+use Rattle.std.proofs.Common.{refl}
 use Rattle.ent_queue.proofs.Queues.{no_commands}
 use Rattle.ent_queue.proofs.Pushes.{nothing_packed}
 use Rattle.ent_queue.proofs.queue.CommandQueue.new.Goals as goal

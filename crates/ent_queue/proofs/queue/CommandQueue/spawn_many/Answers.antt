@@ -1,5 +1,5 @@
 use Rattle.std.proofs.Common.{rules}
-use Rattle.std.proofs.Common.{◌≡◌, ◌++◌, ◌∷◌, [], Ok, ap, sym, subst, ◌∙◌, length, ◌<◌, ◌^◌}
+use Rattle.std.proofs.Common.{◌++◌, ◌∷◌, [], ap, sym, subst, ◌∙◌, length, ◌<◌, ◌^◌}
 use Rattle.ent_queue.specs.Command.{SpawnMany, Refused}
 use Rattle.ent_queue.proofs.Pushes.{Pushed, pushed, count_fits, many_written}
 use Rattle.ent_queue.proofs.Issuing.{queued_ok}
