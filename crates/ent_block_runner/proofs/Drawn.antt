@@ -1,6 +1,5 @@
 -- What a call on a system's log draws from its block.
-use Rattle.std.proofs.Common.{rules, ◌≡◌, refl, sym, ap, ◌∙◌, ℕ, List, [], ◌∷◌, ◌++◌, take}
-use Rattle.std.proofs.Common.{append-nil, arith, Result, Ok, Err}
+use Rattle.std.proofs.Common.{rules, ◌≡◌, refl, sym, ap, ◌∙◌, ℕ, List, [], ◌∷◌, ◌++◌, take, append-nil, arith, Result, Ok, Err}
 use Rattle.std.specs.Prelude.{IfOk, OnOk, OnErr, IsErrOf}
 use Rattle.std.proofs.lemmas.Grind.{common_steps}
 use Rattle.ent_handle.specs.Handle.{Handle}
@@ -21,8 +20,8 @@ single : (made : ℕ) (x : Handle) → listed made (x ∷ []) ≡ x ∷ []
 single made x = grind (arith, common_steps)
 
 -- a reply with one handle has the first one
-pub first_given : (made : ℕ) (rest : List Handle) (h : Handle)
-    → reply_from made rest 1 ≡ Ok (h ∷ []) → take 1 rest ≡ h ∷ []
+pub first_given : (made : ℕ) (rest : List Handle) (h : Handle) → reply_from made rest 1 ≡ Ok (h ∷ [])
+    → take 1 rest ≡ h ∷ []
 first_given made [] h is = absurd (cc)
 first_given made (x ∷ rest) h is = let one = single made x in grind (arith, common_steps)
 
@@ -60,42 +59,32 @@ module _ {C : Type 0} where
       }
 
   pub extends_push : {A E : Type 0} (before after : Filling C) (command : C) (result : Result A E)
-      → after.source ≡ before.source
-      → OnOk result (after.log ≡ before.log ++ Command command ∷ [])
+      → after.source ≡ before.source → OnOk result (after.log ≡ before.log ++ Command command ∷ [])
       → OnErr result (after.log ≡ before.log) → Extends before after
-  extends_push before after command (Ok x) same ok err =
-      extends_still before after (Command command ∷ []) refl same ok
-  extends_push before after command (Err e) same ok err =
-      extends_still before after [] refl same (err ∙ sym (append-nil before.log))
+  extends_push before after command (Ok x) same ok err = extends_still before after (Command command ∷ []) refl same ok
+  extends_push before after command (Err e) same ok err = extends_still before after [] refl same
+      (err ∙ sym (append-nil before.log))
 
-  extends_given : (before after : Filling C) (h : Handle)
-      → DrawsOne before.source (Ok h) after.source
+  extends_given : (before after : Filling C) (h : Handle) → DrawsOne before.source (Ok h) after.source
       → after.log ≡ before.log ++ Spawn h ∷ [] → Extends before after
   extends_given before after h d log = record {
     phase = ap (λ (s : Source). s.phase) d.used;
     number = ap (λ (s : Source). s.reserver.number) d.used;
     added = Spawn h ∷ [];
     log = log;
-    draws = record {
-      given = sym d.given;
-      used = ap (λ (s : Source). s.reserver.block) d.used;
-    };
+    draws = record { given = sym d.given; used = ap (λ (s : Source). s.reserver.block) d.used };
   }
 
   pub extends_spawn : (before after : Filling C) (result : Result Handle ReserveError)
-      → IfOk result (λ h. after.log ≡ before.log ++ Spawn h ∷ [])
-      → OnErr result (after.log ≡ before.log)
-      → ((reply : Result Handle Refused) → result ≡ returned reply
-      → DrawsOne before.source reply after.source)
+      → IfOk result (λ h. after.log ≡ before.log ++ Spawn h ∷ []) → OnErr result (after.log ≡ before.log)
+      → ((reply : Result Handle Refused) → result ≡ returned reply → DrawsOne before.source reply after.source)
       → OnErr result (after.source ≡ before.source) → Extends before after
-  extends_spawn before after (Ok h) ok err replies still =
-      extends_given before after h (replies (Ok h) refl) ok
-  extends_spawn before after (Err e) ok err replies still =
-      extends_still before after [] refl still (err ∙ sym (append-nil before.log))
+  extends_spawn before after (Ok h) ok err replies still = extends_given before after h (replies (Ok h) refl) ok
+  extends_spawn before after (Err e) ok err replies still = extends_still before after [] refl still
+      (err ∙ sym (append-nil before.log))
 
 -- if it failed, both parts are as they were
-pub same_err : {A E C : Type 0} (before after : Filling C) (result : Result A E)
-    → OnErr result (after.log ≡ before.log) → OnErr result (after.source ≡ before.source)
-    → OnErr result (after ≡ before)
+pub same_err : {A E C : Type 0} (before after : Filling C) (result : Result A E) → OnErr result (after.log ≡ before.log)
+    → OnErr result (after.source ≡ before.source) → OnErr result (after ≡ before)
 same_err before after (Ok x) log source = tt
 same_err before after (Err e) log source = (λ i. record { source = source i; log = log i })

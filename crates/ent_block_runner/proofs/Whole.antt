@@ -1,6 +1,5 @@
 -- Reservers of all blocks, in their order, still are so after systems have used the blocks.
-use Rattle.std.proofs.Common.{◌≡◌, refl, sym, ap, ◌∙◌, subst, arith, ℕ, suc, ◌-◌, ◌<◌, List, [], ◌∷◌}
-use Rattle.std.proofs.Common.{length, map, true, IsTrue}
+use Rattle.std.proofs.Common.{◌≡◌, refl, sym, ap, ◌∙◌, subst, arith, ℕ, suc, ◌-◌, ◌<◌, List, [], ◌∷◌, length, map, true, IsTrue}
 use Rattle.std.specs.Prelude.{if◌then◌else◌}
 use Rattle.std.proofs.lemmas.Grind.{common_steps}
 use Rattle.std.proofs.lemmas.List.{length-map}
@@ -28,45 +27,39 @@ same_unused r = grind (arith, common_steps)
 
 among_all : (before : List Block) → are_among (map unused before) before ≡ true
 among_all [] = refl
-among_all (r ∷ before) =
-    (λ i. if same_unused r i then are_among (map unused before) before
-    else are_among (map unused before) (r ∷ before))
-    ∙ among_all before
+among_all (r ∷ before) = (λ i. if same_unused r i then are_among (map unused before) before else are_among
+    (map unused before) (r ∷ before)) ∙ among_all before
 
-length_used : (before : List Block) (queues : List (List Command))
-    → length (blocks_after_queues before queues) ≡ length before
+length_used : (before : List Block) (queues : List (List Command)) → length (blocks_after_queues before queues) ≡ length
+    before
 length_used [] queues = refl
 length_used (r ∷ before) [] = refl
 length_used (r ∷ before) (queue ∷ queues) = ap suc (length_used before queues)
 
 -- which blocks they are does not depend on how many were used
-pub unused_used : (before : List Block) (queues : List (List Command))
-    → map unused (blocks_after_queues before queues) ≡ map unused before
+pub unused_used : (before : List Block) (queues : List (List Command)) → map unused (blocks_after_queues before queues)
+    ≡ map unused before
 unused_used [] queues = refl
 unused_used (r ∷ before) [] = refl
 unused_used (r ∷ before) (queue ∷ queues) = ap (λ bs. unused r ∷ bs) (unused_used before queues)
 
-only_memory : (e : EndError) → (e ≡ unended.OtherPhase → ⊥) → (e ≡ unended.Order → ⊥)
-    → ((n : ℕ) → IsMissing n e → ⊥) → e ≡ unended.Memory
+only_memory : (e : EndError) → (e ≡ unended.OtherPhase → ⊥) → (e ≡ unended.Order → ⊥) → ((n : ℕ) → IsMissing n e → ⊥)
+    → e ≡ unended.Memory
 only_memory unended.OtherPhase phase order none = absurd (phase refl)
 only_memory unended.Order phase order none = absurd (order refl)
 only_memory (unended.Missing count) phase order none = absurd (none count refl)
 only_memory unended.Memory phase order none = refl
 
 -- so they are refused for nothing but memory
-pub whole : (blocks before left : List Block) (queues : List (List Command)) (e : EndError)
-    (count : ℕ) (OfPhase : Type 0) → OfPhase → map unused before ≡ blocks
-    → left ≡ blocks_after_queues before queues → length left ≡ count
-    → (e ≡ unended.OtherPhase → OfPhase → ⊥)
-    → (e ≡ unended.Order → IsTrue (are_among blocks left) → ⊥)
-    → ((n : ℕ) → IsMissing n e → n ≡ length blocks - count)
-    → (IsMissing (length blocks - count) e → count < length blocks) → e ≡ unended.Memory
+pub whole : (blocks before left : List Block) (queues : List (List Command)) (e : EndError) (count : ℕ)
+    (OfPhase : Type 0) → OfPhase → map unused before ≡ blocks → left ≡ blocks_after_queues before queues
+    → length left ≡ count → (e ≡ unended.OtherPhase → OfPhase → ⊥) → (e ≡ unended.Order → IsTrue (are_among blocks left)
+    → ⊥) → ((n : ℕ) → IsMissing n e → n ≡ length blocks - count) → (IsMissing (length blocks - count) e → count < length
+    blocks) → e ≡ unended.Memory
 whole blocks before left queues e count OfPhase of_phase all used long phase order counts missing =
-    let among : are_among blocks left ≡ true =
-    ap (are_among blocks) used ∙ among_used blocks before queues
+    let among : are_among blocks left ≡ true = ap (are_among blocks) used ∙ among_used blocks before queues
     ∙ ap (λ (bs : List Block). are_among bs before) (sym all) ∙ among_all before in
-    let same : length blocks ≡ count =
-    ap length (sym all) ∙ length-map before unused ∙ sym (length_used before queues)
+    let same : length blocks ≡ count = ap length (sym all) ∙ length-map before unused ∙ sym (length_used before queues)
     ∙ ap length (sym used) ∙ long in
     only_memory e (λ is. phase is of_phase) (λ is. order is among)
     (λ n is. absurd (omega (arith, same, missing (subst (λ m. IsMissing m e) (counts n is) is))))

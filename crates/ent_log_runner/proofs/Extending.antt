@@ -1,6 +1,6 @@
 -- For who writes a system that fills a log: what its calls add up to. Put
 -- `#[tactic(auto, using(ent_log_runner::proofs::Extending::extends_then))]` above it.
-use Rattle.std.proofs.Common.{◌≡◌, refl, sym, ap, ◌∙◌, [], ◌++◌, append-nil, append_assoc}
+use Rattle.std.proofs.Common.{refl, sym, ap, ◌∙◌, [], ◌++◌, append-nil, append_assoc}
 use Rattle.ent_log_runner.specs.Logging.{Filled, IsReady, Extends}
 use Rattle.ent_log_runner.proofs.Gaining.{log_gains_nothing, log_gains_then}
 
@@ -22,8 +22,7 @@ extends_then a b c first second = record {
   shared = second.shared ∙ first.shared;
   ready = second.ready;
   added = first.added ++ second.added;
-  log = second.log ∙ (ap (λ l. l ++ second.added) first.log
-      ∙ append_assoc a.log first.added second.added);
-  gains = log_gains_then a.reserver.now.own b.reserver.now.own c.reserver.now.own first.added
-      second.added first.gains second.gains;
+  log = second.log ∙ (ap (λ l. l ++ second.added) first.log ∙ append_assoc a.log first.added second.added);
+  gains = log_gains_then a.reserver.now.own b.reserver.now.own c.reserver.now.own first.added second.added first.gains
+      second.gains;
 }

@@ -1,7 +1,6 @@
 -- What a call on a system's log adds to it.
-use Rattle.std.proofs.Common.{rules, ◌≡◌, refl, sym, ap, ◌∙◌, List, [], ◌∷◌, ◌++◌, append-nil}
+use Rattle.std.proofs.Common.{rules, ◌≡◌, refl, sym, ap, ◌∙◌, List, [], ◌∷◌, ◌++◌, append-nil, append_assoc, subst, All, arith, Result, Ok, Err, inl, inr}
 use Rattle.std.proofs.lemmas.List.Elements.{All-nil, All-cons, All-append}
-use Rattle.std.proofs.Common.{append_assoc, subst, All, arith, Result, Ok, Err, inl, inr}
 use Rattle.std.specs.Prelude.{IfOk, OnOk, OnErr, IsErrOf}
 use Rattle.std.proofs.lemmas.Bool.{cases_lt}
 use Rattle.std.proofs.lemmas.List.{map-append}
@@ -41,33 +40,25 @@ module _ {C : Type 0} where
   gains_same a b same = rw same (log_gains_nothing a.own)
 
   -- a reservation, and the entries that were added for it
-  gains_one : (shared : Shared) (before after : Reserver) (reply : Result Handle Refused)
-      (entries : List (Entry C)) → RepliesOne shared before reply after
-      → handles_given after.own ≡ handles_given before.own ++ spawned_in entries
+  gains_one : (shared : Shared) (before after : Reserver) (reply : Result Handle Refused) (entries : List (Entry C))
+      → RepliesOne shared before reply after → handles_given after.own ≡ handles_given before.own ++ spawned_in entries
       → LogGains before.own entries after.own
   gains_one shared before after reply entries r given = elim (cases_lt 0 before.own.left) [
-    | inl some ↦
-        let g = r.gains some in
-        let one = reservation_at before.own g.high 1 in
-        rw g.after (record {
+    | inl some ↦ let g = r.gains some in let one = reservation_at before.own g.high 1 in rw g.after
+        (record {
           gained = record { number = refl; reservations = one ∷ []; entries = refl };
-          callers = All-cons (λ (c : Reservation). c.caller ≡ before.own.number) one [] refl
-              (no_callers before.own);
-          given = rw g.after at given;
+          callers = All-cons
+              (λ (c : Reservation). c.caller ≡ before.own.number) one [] refl (no_callers before.own);
+          given = rw g.after at
+              given;
         })
-    | inr none ↦
-        let same = (r.quota (omega arith)).1 in
-        rw same (record {
-          gained = gained_nothing before.own;
-          callers = no_callers before.own;
-          given = rw same at given;
-        })
+    | inr none ↦ let same = (r.quota (omega arith)).1 in rw same
+        (record { gained = gained_nothing before.own; callers = no_callers before.own; given = rw same at given })
   ]
 
   -- entries that reserve nothing
-  extends_added : (before : Filled C) (new added : List (Entry C)) → IsReady before
-      → new ≡ before.log ++ added → spawned_in added ≡ []
-      → Extends before (record before { log = new })
+  extends_added : (before : Filled C) (new added : List (Entry C)) → IsReady before → new ≡ before.log ++ added
+      → spawned_in added ≡ [] → Extends before (record before { log = new })
   extends_added before new added ready log none =
       let r = before.reserver.now.own in
       record {
@@ -79,25 +70,20 @@ module _ {C : Type 0} where
         gains = record {
           gained = gained_nothing r;
           callers = no_callers r;
-          given = sym (append-nil (handles_given r))
-              ∙ ap (λ hs. handles_given r ++ hs) (sym none);
+          given = sym (append-nil (handles_given r)) ∙ ap (λ hs. handles_given r ++ hs) (sym none);
         };
       }
 
-  pub extends_push : {A E : Type 0} (before : Filled C) (new : List (Entry C)) (command : C)
-      → IsReady before → (result : Result A E)
-      → OnOk result (new ≡ before.log ++ Command command ∷ []) → OnErr result (new ≡ before.log)
+  pub extends_push : {A E : Type 0} (before : Filled C) (new : List (Entry C)) (command : C) → IsReady before
+      → (result : Result A E) → OnOk result (new ≡ before.log ++ Command command ∷ []) → OnErr result (new ≡ before.log)
       → Extends before (record before { log = new })
-  extends_push before new command ready (Ok x) ok err =
-      extends_added before new (Command command ∷ []) ready ok refl
-  extends_push before new command ready (Err e) ok err =
-      extends_added before new [] ready (err ∙ sym (append-nil before.log)) refl
+  extends_push before new command ready (Ok x) ok err = extends_added before new (Command command ∷ []) ready ok refl
+  extends_push before new command ready (Err e) ok err = extends_added before new [] ready
+      (err ∙ sym (append-nil before.log)) refl
 
-module _ {C : Type 0} (before after : Filled C) (lent left : Lent)
-    (lent_is : lent.reserver.now ≡ before.reserver.now)
-    (shared_is : lent.shared.now ≡ before.shared.now)
-    (left_is : after.reserver.now ≡ left.reserver.now) (name : after.reserver.ghost_name
-    ≡ before.reserver.ghost_name) (kept : after.shared.now ≡ before.shared.now) where
+module _ {C : Type 0} (before after : Filled C) (lent left : Lent) (lent_is : lent.reserver.now ≡ before.reserver.now)
+    (shared_is : lent.shared.now ≡ before.shared.now) (left_is : after.reserver.now ≡ left.reserver.now)
+    (name : after.reserver.ghost_name ≡ before.reserver.ghost_name) (kept : after.shared.now ≡ before.shared.now) where
   replied : (reply : Result Handle Refused) → ReservesOne lent reply left
       → RepliesOne before.shared.now before.reserver.now reply after.reserver.now
   replied reply r = rw (left_is, sym lent_is, sym shared_is) r.replies
@@ -105,8 +91,7 @@ module _ {C : Type 0} (before after : Filled C) (lent left : Lent)
   still : left.shared.now ≡ lent.shared.now → IsReady after
   still same = rw (left_is, kept ∙ (sym shared_is ∙ sym same)) left.of_shared
 
-  extends_refused : (why : Refused) → after.log ≡ before.log → ReservesOne lent (Err why) left
-      → Extends before after
+  extends_refused : (why : Refused) → after.log ≡ before.log → ReservesOne lent (Err why) left → Extends before after
   extends_refused why log r = let one = replied (Err why) r in record {
     same = name;
     shared = kept;
@@ -117,11 +102,9 @@ module _ {C : Type 0} (before after : Filled C) (lent left : Lent)
         (one.refused ∙ sym (append-nil (handles_given before.reserver.now.own)));
   }
 
-  pub extends_spawn : (result : Result Handle ReserveError)
-      → IfOk result (λ h. after.log ≡ before.log ++ Spawn h ∷ [])
-      → OnErr result (after.log ≡ before.log)
-      → ((reply : Result Handle Refused) → result ≡ returned reply → ReservesOne lent reply left)
-      → (IsErrOf result failed.Memory → left ≡ lent) → Extends before after
+  pub extends_spawn : (result : Result Handle ReserveError) → IfOk result (λ h. after.log ≡ before.log ++ Spawn h ∷ [])
+      → OnErr result (after.log ≡ before.log) → ((reply : Result Handle Refused) → result ≡ returned reply
+      → ReservesOne lent reply left) → (IsErrOf result failed.Memory → left ≡ lent) → Extends before after
   extends_spawn (Ok h) ok err replies memory =
       let r = replies (Ok h) refl in
       let one = replied (Ok h) r in
@@ -131,16 +114,15 @@ module _ {C : Type 0} (before after : Filled C) (lent left : Lent)
         ready = still r.shared;
         added = Spawn h ∷ [];
         log = ok;
-        gains = gains_one before.shared.now before.reserver.now after.reserver.now (Ok h)
-            (Spawn h ∷ []) one one.given;
+        gains = gains_one before.shared.now before.reserver.now after.reserver.now (Ok h) (Spawn h ∷ []) one one.given;
       }
-  extends_spawn (Err (failed.Space wanted rest)) ok err replies memory =
-      extends_refused (refused.Space wanted rest) err (replies (Err (refused.Space wanted rest)) refl)
-  extends_spawn (Err (failed.Quota rest)) ok err replies memory =
-      extends_refused (refused.Quota rest) err (replies (Err (refused.Quota rest)) refl)
+  extends_spawn (Err (failed.Space wanted rest)) ok err replies memory = extends_refused (refused.Space wanted rest) err
+      (replies (Err (refused.Space wanted rest)) refl)
+  extends_spawn (Err (failed.Quota rest)) ok err replies memory = extends_refused (refused.Quota rest) err
+      (replies (Err (refused.Quota rest)) refl)
   extends_spawn (Err failed.Memory) ok err replies memory =
-      let same : after.reserver.now ≡ before.reserver.now =
-      left_is ∙ (ap (λ (l : Lent). l.reserver.now) (memory refl) ∙ lent_is) in
+      let same : after.reserver.now ≡ before.reserver.now = left_is ∙ (ap (λ (l : Lent). l.reserver.now) (memory refl)
+      ∙ lent_is) in
       record {
         same = name;
         shared = kept;
@@ -153,35 +135,29 @@ module _ {C : Type 0} (before after : Filled C) (lent left : Lent)
 -- a spawn keeps the reserver that was lent
 pub same_lent : (lent left : Lent) (result : Result Handle ReserveError)
     → ((reply : Result Handle Refused) → result ≡ returned reply → ReservesOne lent reply left)
-    → (IsErrOf result failed.Memory → left ≡ lent)
-    → lent.reserver.ghost_name ≡ left.reserver.ghost_name
+    → (IsErrOf result failed.Memory → left ≡ lent) → lent.reserver.ghost_name ≡ left.reserver.ghost_name
 same_lent lent left (Ok h) replies memory = sym (replies (Ok h) refl).same
-same_lent lent left (Err (failed.Space wanted rest)) replies memory =
-    sym (replies (Err (refused.Space wanted rest)) refl).same
-same_lent lent left (Err (failed.Quota rest)) replies memory =
-    sym (replies (Err (refused.Quota rest)) refl).same
-same_lent lent left (Err failed.Memory) replies memory =
-    ap (λ (l : Lent). l.reserver.ghost_name) (sym (memory refl))
+same_lent lent left (Err (failed.Space wanted rest)) replies memory = sym
+    (replies (Err (refused.Space wanted rest)) refl).same
+same_lent lent left (Err (failed.Quota rest)) replies memory = sym (replies (Err (refused.Quota rest)) refl).same
+same_lent lent left (Err failed.Memory) replies memory = ap (λ (l : Lent). l.reserver.ghost_name) (sym (memory refl))
 
-pub spawned_both : {C : Type 0} (xs ys : List (Entry C)) → spawned_in (xs ++ ys)
-    ≡ spawned_in xs ++ spawned_in ys
+pub spawned_both : {C : Type 0} (xs ys : List (Entry C)) → spawned_in (xs ++ ys) ≡ spawned_in xs ++ spawned_in ys
 spawned_both [] ys = refl
-spawned_both (x ∷ xs) ys =
-    ap (λ hs. spawned_by x ++ hs) (spawned_both xs ys)
+spawned_both (x ∷ xs) ys = ap (λ hs. spawned_by x ++ hs) (spawned_both xs ys)
     ∙ sym (append_assoc (spawned_by x) (spawned_in xs) (spawned_in ys))
 
 -- where one call follows another
-pub log_gains_then : {C : Type 0} (a b c : Record) (xs ys : List (Entry C)) → LogGains a xs b
-    → LogGains b ys c → LogGains a (xs ++ ys) c
+pub log_gains_then : {C : Type 0} (a b c : Record) (xs ys : List (Entry C)) → LogGains a xs b → LogGains b ys c
+    → LogGains a (xs ++ ys) c
 log_gains_then a b c xs ys first second = record {
   gained = record {
     number = second.gained.number ∙ first.gained.number;
     reservations = first.gained.reservations ++ second.gained.reservations;
     entries = search (rules, append_assoc, map-append);
   };
-  callers = All-append (λ (r : Reservation). r.caller ≡ a.number) first.gained.reservations
-      second.gained.reservations first.callers
-      (subst (λ n. All (λ (r : Reservation). r.caller ≡ n) second.gained.reservations)
-      first.gained.number second.callers);
+  callers = All-append (λ (r : Reservation). r.caller ≡ a.number) first.gained.reservations second.gained.reservations
+      first.callers (subst (λ n. All (λ (r : Reservation). r.caller ≡ n) second.gained.reservations) first.gained.number
+      second.callers);
   given = search (rules, append_assoc, spawned_both xs ys);
 }

@@ -1,5 +1,5 @@
 -- What holds of a run of no systems.
-use Rattle.std.proofs.Common.{rules, ◌≡◌, ℕ, ◌<◌, List, [], ◌∷◌, length, refl, arith}
+use Rattle.std.proofs.Common.{◌≡◌, ℕ, ◌<◌, List, [], ◌∷◌, length, refl, arith}
 use Rattle.std.specs.Prelude.{replicate}
 use Rattle.std.proofs.lemmas.List.{length-replicate}
 use Rattle.std.proofs.lemmas.List.Elements.{All-nil}
@@ -27,11 +27,8 @@ logged_none may workers s = record {
   each_system = λ n system at. absurd (cc);
 }
 
-pub logged_nothing : {C S : Type 0} (may : S → List (Entry C) → Type 0) (systems : List S)
-    (workers : ℕ) (before : Allocator) (logs : List (List (Entry C))) (after : Allocator)
-    → length systems ≡ 0 → logs ≡ [] → after ≡ before
-    → HaveLogged may systems workers before logs after
-logged_nothing may [] workers before logs after none no_logs same =
-    rw (no_logs, same) (logged_none may workers before)
-logged_nothing may (system ∷ systems) workers before logs after none no_logs same =
-    absurd (omega arith)
+pub logged_nothing : {C S : Type 0} (may : S → List (Entry C) → Type 0) (systems : List S) (workers : ℕ)
+    (before : Allocator) (logs : List (List (Entry C))) (after : Allocator) → length systems ≡ 0 → logs ≡ []
+    → after ≡ before → HaveLogged may systems workers before logs after
+logged_nothing may [] workers before logs after none no_logs same = rw (no_logs, same) (logged_none may workers before)
+logged_nothing may (system ∷ systems) workers before logs after none no_logs same = absurd (omega arith)

@@ -1,13 +1,10 @@
 -- The handles of all spawns are reserved in the allocator after the run.
-use Rattle.std.proofs.Common.{rules, ◌≡◌, ℕ, ◌<◌, List, [], ◌∷◌, refl, ap, ◌∙◌, sym, subst, arith}
-use Rattle.std.proofs.Common.{get_or}
-use Rattle.std.proofs.Common.{Bool, true, false, None}
+use Rattle.std.proofs.Common.{rules, ◌≡◌, ℕ, ◌<◌, List, [], ◌∷◌, refl, ap, ◌∙◌, sym, subst, arith, get_or, Bool, true, false, None}
 use Rattle.std.specs.Prelude.{filter, ◌==◌, if◌then◌else◌, IsTrue}
 use Rattle.std.specs.List.{All}
 use Rattle.std.proofs.lemmas.Grind.{common_steps}
 use Rattle.std.proofs.lemmas.Option.{slice_get_within}
-use Rattle.std.proofs.lemmas.List.Elements.{All-nil, All-cons, All-head, All-tail, All-append}
-use Rattle.std.proofs.lemmas.List.Elements.{Contains-get_or}
+use Rattle.std.proofs.lemmas.List.Elements.{All-nil, All-cons, All-head, All-tail, All-append, Contains-get_or}
 use Rattle.std.proofs.lemmas.List.Sorted.{All-permutation, IsPermutation-sym}
 use Rattle.ent_handle.specs.Handle.{Handle}
 use Rattle.ent_alloc.specs.Sequential.{Allocator, state_of, stands_in}
@@ -25,21 +22,19 @@ use Rattle.ent_log_runner.proofs.Gaining.{spawned_both}
 use Rattle.ent_log_runner.proofs.Logged.{everywhere, log_is}
 
 module _ (P : Handle → Type 0) where
-  kept : (call : Call) (more : List Call) (b : Bool) → All P (handles_in call.reply)
-      → All P (given_in more) → All P (given_in (if b then call ∷ more else more))
+  kept : (call : Call) (more : List Call) (b : Bool) → All P (handles_in call.reply) → All P (given_in more)
+      → All P (given_in (if b then call ∷ more else more))
   kept call more true here rest = All-append P (handles_in call.reply) (given_in more) here rest
   kept call more false here rest = rest
 
-  given_kept : (p : Call → Bool) (history : List Call) → All P (given_in history)
-      → All P (given_in (filter p history))
+  given_kept : (p : Call → Bool) (history : List Call) → All P (given_in history) → All P (given_in (filter p history))
   given_kept p [] all = all
   given_kept p (call ∷ history) all = kept call (filter p history) (p call)
       (All-left P (handles_in call.reply) (given_in history) all)
       (given_kept p history (All-right P (handles_in call.reply) (given_in history) all))
 
 module _ {C : Type 0} (start after : Allocator) (workers count : ℕ) (logs : List (List (Entry C)))
-    (run : HaveRun workers count start logs after) (Q : Handle → Type 0)
-    (all : All Q (given_in run.history)) where
+    (run : HaveRun workers count start logs after) (Q : Handle → Type 0) (all : All Q (given_in run.history)) where
   abbrev In : ℕ → Type 0
   In n = All Q (spawned_in (log_at logs n))
 
@@ -52,46 +47,39 @@ module _ {C : Type 0} (start after : Allocator) (workers count : ℕ) (logs : Li
       All-cons In n mine (All-left Q left right both) (in_entries mine (All-right Q left right both))
 
   in_log : (n : ℕ) → n < count → In n
-  in_log = everywhere In count run.ran run.once (λ k mine at.
-      in_entries mine (subst (All Q) (run.given k mine at)
-      (given_kept Q (λ (call : Call). call.caller == k) run.history all)))
+  in_log = everywhere In count run.ran run.once (λ k mine at. in_entries mine
+      (subst (All Q) (run.given k mine at) (given_kept Q (λ (call : Call). call.caller == k) run.history all)))
 
-  flat : (ls : List (List (Entry C))) → All (λ log. All Q (spawned_in log)) ls
-      → All Q (spawned_in (entries_of ls))
+  flat : (ls : List (List (Entry C))) → All (λ log. All Q (spawned_in log)) ls → All Q (spawned_in (entries_of ls))
   flat [] each = All-nil Q
-  flat (l ∷ ls) each =
-      subst (All Q) (sym (spawned_both l (entries_of ls)))
-      (All-append Q (spawned_in l) (spawned_in (entries_of ls))
-      (All-head (λ log. All Q (spawned_in log)) l ls each)
+  flat (l ∷ ls) each = subst (All Q) (sym (spawned_both l (entries_of ls)))
+      (All-append Q (spawned_in l) (spawned_in (entries_of ls)) (All-head (λ log. All Q (spawned_in log)) l ls each)
       (flat ls (All-tail (λ log. All Q (spawned_in log)) l ls each)))
 
   pub in_all : All Q (spawned_in (entries_of logs))
-  in_all = flat logs (all_from_each (λ log. All Q (spawned_in log)) logs (λ k log at.
-      subst (λ l. All Q (spawned_in l)) (log_is logs k log at)
+  in_all = flat logs (all_from_each (λ log. All Q (spawned_in log)) logs
+      (λ k log at. subst (λ l. All Q (spawned_in l)) (log_is logs k log at)
       (in_log k (omega (arith, slice_get_within logs k log at, run.each_log)))))
 
 abbrev IsReserved : Allocator → Handle → Type 0
 IsReserved s h = is_reserved (state_of s h) ≡ true
 
-none_unreserved : (s : Allocator) (hs : List Handle) → All (IsReserved s) hs
-    → first_unreserved s hs ≡ None
+none_unreserved : (s : Allocator) (hs : List Handle) → All (IsReserved s) hs → first_unreserved s hs ≡ None
 none_unreserved s [] all = refl
 none_unreserved s (h ∷ hs) all =
     let here = All-head (IsReserved s) h hs all in
     let rest = none_unreserved s hs (All-tail (IsReserved s) h hs all) in
     search (rules, here, rest)
 
-reserved_here : (s : Allocator) (h : Handle) → IsTrue (stands_in s.taken h) → ¬ (IsLive s h)
-    → IsReserved s h
+reserved_here : (s : Allocator) (h : Handle) → IsTrue (stands_in s.taken h) → ¬ (IsLive s h) → IsReserved s h
 reserved_here s h taken not_live = grind (arith, common_steps)
 
 stand_there : (hs : List Handle) → All (λ h. IsTrue (stands_in hs h)) hs
-stand_there hs k d within = stands_in-from_Contains hs (get_or hs k d)
-    (Contains-get_or hs k d within)
+stand_there hs k d within = stands_in-from_Contains hs (get_or hs k d) (Contains-get_or hs k d within)
 
-pub reserved_all : {C : Type 0} (start after : Allocator) (workers count : ℕ)
-    (logs : List (List (Entry C))) → HaveRun workers count start logs after → IsSound start
-    → start.asked ≡ 0 → first_unreserved after (spawned_in (entries_of logs)) ≡ None
+pub reserved_all : {C : Type 0} (start after : Allocator) (workers count : ℕ) (logs : List (List (Entry C)))
+    → HaveRun workers count start logs after → IsSound start → start.asked ≡ 0
+    → first_unreserved after (spawned_in (entries_of logs)) ≡ None
 reserved_all start after workers count logs run sound flushed =
     let given : List Handle = given_in run.history in
     let taken : List Handle = (after_history start run.history).taken in

@@ -1,8 +1,7 @@
 -- The dealer's one reservation, and the reservers that come after it.
-use Rattle.std.proofs.Common.{rules, ◌≡◌, refl, sym, ap, ◌∙◌, subst, ℕ, zero, suc, ◌+◌, ◌^◌, ◌<◌}
-use Rattle.std.proofs.Common.{◌≤ℤ◌, List, [], ◌∷◌, ◌++◌, length, take, drop, get_or, arith, Contains, All}
+use Rattle.std.proofs.Common.{rules, ◌≡◌, refl, sym, ap, ◌∙◌, subst, ℕ, zero, suc, ◌+◌, ◌^◌, ◌<◌, ◌≤ℤ◌, List, [], ◌∷◌, ◌++◌, length, take, get_or, arith, Contains, All}
 use Rattle.std.specs.Prelude.{Result}
-use Rattle.std.proofs.lemmas.List.{drop_more, get_or_default, map-append, take_more}
+use Rattle.std.proofs.lemmas.List.{get_or_default, map-append, take_more}
 use Rattle.std.proofs.lemmas.List.Elements.{All-nil, All-head, All-tail}
 use Rattle.std.proofs.lemmas.Int.{ints}
 use Rattle.ent_handle.specs.Handle.{Handle}
@@ -15,16 +14,14 @@ use Rattle.ent_shared.specs.declared.record.RecordEntry.{RecordEntry}
 use Rattle.ent_shared.specs.declared.record.RecordEntry.TheVariants.{Met}
 use Rattle.ent_shared.specs.declared.record.Reservation.{Reservation}
 use Rattle.ent_shared.specs.declared.record.Record.{Record}
-use Rattle.ent_shared.specs.Record.{reservation_at, after_reservation}
-use Rattle.ent_shared.specs.Record.{own_reservations, known_reservations}
+use Rattle.ent_shared.specs.Record.{reservation_at, after_reservation, own_reservations, known_reservations}
 use Rattle.ent_shared.specs.Moves.{after_meeting}
 use Rattle.ent_shared.specs.Phase.{Shared, Reserver, IsOf as IsReserverOf}
 use Rattle.ent_shared.specs.Replies.{Reserves}
 use Rattle.ent_shared.specs.Order.{own_of_all}
 use Rattle.ent_alloc.proofs.ListLaws.{All-left, All-right}
 use Rattle.ent_blocks.proofs.Openings.{none_used, are_dealt, length-from}
-use Rattle.ent_overflow.specs.Overflow.{Phase, Caller, IsOf, IsFresh, IsPhase, HasDealt, IsDealer}
-use Rattle.ent_overflow.specs.Overflow.{past_records, past_history, blocks_of}
+use Rattle.ent_overflow.specs.Overflow.{Phase, Caller, IsOf, IsFresh, IsPhase, HasDealt, IsDealer, past_records, past_history, blocks_of}
 
 -- a reserver that has done nothing has its whole quota
 pub whole_quota : (s : Shared) (r : Reserver) → IsReserverOf s r → r.own.entries ≡ [] → r.own.left ≡ quota
@@ -32,10 +29,18 @@ whole_quota s r of nothing = let adds = of.quota in search (rules, nothing)
 
 pub has_dealt : (s : Shared) (old new : Reserver) (n : ℕ) (result : Result (List Handle) Refused)
     → Reserves s old new n result → old.own.entries ≡ [] → HasDealt n new.own
-has_dealt s old new n result did nothing = let own : new.own ≡ after_reservation old.own did.high n = ap (λ (r : Reserver). r.own) did.after in record { call = reservation_at old.own did.high n; entries = search rules; caller = sym (ap (λ (r : Record). r.number) own); requested = refl; mark = ap (λ (r : Record). r.mark) own }
+has_dealt s old new n result did nothing =
+    let own : new.own ≡ after_reservation old.own did.high n = ap (λ (r : Reserver). r.own) did.after in
+    record {
+      call = reservation_at old.own did.high n;
+      entries = search rules;
+      caller = sym (ap (λ (r : Record). r.number) own);
+      requested = refl;
+      mark = ap (λ (r : Record). r.mark) own;
+    }
 
-pub is_dealer : (s : Shared) (old new : Reserver) (n : ℕ) (result : Result (List Handle) Refused)
-    → 0 < n → Reserves s old new n result → old.own.entries ≡ [] → IsDealer n new.own
+pub is_dealer : (s : Shared) (old new : Reserver) (n : ℕ) (result : Result (List Handle) Refused) → 0 < n
+    → Reserves s old new n result → old.own.entries ≡ [] → IsDealer n new.own
 is_dealer s old new zero result some did nothing = absurd (omega arith)
 is_dealer s old new (suc n) result some did nothing = has_dealt s old new (suc n) result did nothing
 
@@ -53,10 +58,9 @@ module _ (p : Phase) (laid : AreLaid 0 p.blocks) (k : ℕ) (b : Block) (lt : k <
     own_is = ap (λ (x : Reserver). x.own) is
 
     nothing_own : own_reservations met.own.entries ≡ []
-    nothing_own =
-        ap (λ (x : Record). own_reservations x.entries) own_is
-        ∙ ap (λ (es : List RecordEntry).
-        own_reservations (es ++ Met (known_reservations p.dealer.own.entries) ∷ [])) fresh.nothing
+    nothing_own = ap (λ (x : Record). own_reservations x.entries) own_is
+        ∙ ap (λ (es : List RecordEntry). own_reservations (es ++ Met (known_reservations p.dealer.own.entries) ∷ []))
+        fresh.nothing
 
     in_phase : Contains p.blocks (unused (unused b))
     in_phase =
@@ -94,16 +98,14 @@ none_past callers all = search (rules, nothing_past)
 module _ (s : Shared) (all rest : List Reserver) (r : Reserver) (front : all ≡ rest ++ r ∷ [])
     (fresh : All (IsFresh s) all) where
   pub last_fresh : IsFresh s r
-  last_fresh = All-head (IsFresh s) r []
-      (All-right (IsFresh s) rest (r ∷ []) (subst (All (IsFresh s)) front fresh))
+  last_fresh = All-head (IsFresh s) r [] (All-right (IsFresh s) rest (r ∷ []) (subst (All (IsFresh s)) front fresh))
 
   pub others_fresh : All (IsFresh s) rest
   others_fresh = All-left (IsFresh s) rest (r ∷ []) (subst (All (IsFresh s)) front fresh)
 
-pub blocks_more : (before after : List Caller) (bs : List Block) (k : ℕ) (b : Block) (met : Reserver)
-    → AreLaid 0 bs → k < length bs → b ≡ get_or bs k b
-    → after ≡ before ++ record { block = unused b; past = met } ∷ [] → blocks_of before ≡ take k bs
-    → blocks_of after ≡ take (k + 1) bs
+pub blocks_more : (before after : List Caller) (bs : List Block) (k : ℕ) (b : Block) (met : Reserver) → AreLaid 0 bs
+    → k < length bs → b ≡ get_or bs k b → after ≡ before ++ record { block = unused b; past = met } ∷ []
+    → blocks_of before ≡ take k bs → blocks_of after ≡ take (k + 1) bs
 blocks_more before after bs k b met laid lt there is so_far = search (rules, none_used, map-append, take_more)
 
 pub all_fresh : (s : Shared) (rs : List Reserver) → All (IsReserverOf s) rs
@@ -111,9 +113,15 @@ pub all_fresh : (s : Shared) (rs : List Reserver) → All (IsReserverOf s) rs
 all_fresh s rs of nothing k d lt = record { of = of k d lt; nothing = nothing k d lt }
 
 -- what the opening leaves
-pub opened : (s : Allocator) (sizes : List ℕ) (shared : Shared) (dealer : Reserver)
-    (blocks : List Block) (d : ℕ) → s.asked ≡ 0 → IsSound shared.start → shared.start ≡ s
-    → shared.count ≡ length sizes + 1 → blocks ≡ blocks_from 0 (length s.pool) sizes
-    → dealt blocks < 2 ^ 32 → IsReserverOf shared dealer → d ≡ dealt blocks
-    → IsDealer d dealer.own → IsPhase shared dealer blocks
-opened s sizes shared dealer blocks d flushed sound start count is few of deals dealer_is = record { lie = subst (λ (t : Allocator). AreDealt t blocks) (sym start) (subst (AreDealt s) (sym is) (are_dealt s sizes (subst IsSound start sound) flushed (subst (λ (bs : List Block). dealt bs < 2 ^ 32) is few))); of = of; deals = subst (λ n. IsDealer n dealer.own) deals dealer_is; count = search (rules, length-from) }
+pub opened : (s : Allocator) (sizes : List ℕ) (shared : Shared) (dealer : Reserver) (blocks : List Block) (d : ℕ)
+    → s.asked ≡ 0 → IsSound shared.start → shared.start ≡ s → shared.count ≡ length sizes + 1
+    → blocks ≡ blocks_from 0 (length s.pool) sizes → dealt blocks < 2 ^ 32 → IsReserverOf shared dealer
+    → d ≡ dealt blocks → IsDealer d dealer.own → IsPhase shared dealer blocks
+opened s sizes shared dealer blocks d flushed sound start count is few of deals dealer_is = record {
+  lie = subst (λ (t : Allocator). AreDealt t blocks) (sym start)
+      (subst (AreDealt s) (sym is) (are_dealt s sizes (subst IsSound start sound) flushed
+      (subst (λ (bs : List Block). dealt bs < 2 ^ 32) is few)));
+  of = of;
+  deals = subst (λ n. IsDealer n dealer.own) deals dealer_is;
+  count = search (rules, length-from);
+}

@@ -1,15 +1,10 @@
 -- The end of a phase, in the numbers of its code.
-use Rattle.std.proofs.Common.{rules}
-use Rattle.std.proofs.Common.{◌≡◌, refl, ap, ◌∙◌, subst, ℕ, zero, suc, ◌+◌, ◌≤◌}
-use Rattle.std.proofs.Common.{List, [], ◌∷◌, ◌++◌, map, All, AllPairs, Contains, ◌↔◌, arith}
-use Rattle.std.proofs.Common.{length, take, drop, sum, IsPermutation, length-append, inl, inr}
+use Rattle.std.proofs.Common.{rules, ◌≡◌, refl, ap, ◌∙◌, subst, ℕ, zero, suc, ◌+◌, ◌≤◌, List, [], ◌∷◌, ◌++◌, map, All, AllPairs, Contains, ◌↔◌, arith, length, take, drop, sum, IsPermutation, length-append, inl, inr}
 use Rattle.std.proofs.lemmas.Grind.{common_steps}
 use Rattle.std.proofs.lemmas.List.{length-take-le, length-take, map-append}
 use Rattle.std.proofs.lemmas.List.Sums.{sum_by-cons}
-use Rattle.std.proofs.lemmas.List.Elements.{All-contains}
-use Rattle.std.proofs.lemmas.List.Elements.{Contains-append_right, Contains-append_cases}
-use Rattle.std.proofs.lemmas.List.Sorted.{length_permutation, Contains-permutation}
-use Rattle.std.proofs.lemmas.List.Sorted.{IsPermutation-sym}
+use Rattle.std.proofs.lemmas.List.Elements.{All-contains, Contains-append_right, Contains-append_cases}
+use Rattle.std.proofs.lemmas.List.Sorted.{length_permutation, Contains-permutation, IsPermutation-sym}
 use Rattle.std.proofs.Math.Seq.{take-add}
 use Rattle.ent_handle.specs.Handle.{Handle}
 use Rattle.ent_alloc.specs.Sequential.{Allocator, available, after_take, before_requests}
@@ -18,10 +13,7 @@ use Rattle.ent_alloc.specs.Sound.{IsSound, AreApart}
 use Rattle.ent_alloc.proofs.LaidOut.{flushed-laid_out}
 use Rattle.ent_alloc.proofs.Histories.{given_in-legal}
 use Rattle.ent_alloc.proofs.ListLaws.{AllPairs-left, AllPairs-across, AllPairs-IsPermutation}
-use Rattle.ent_alloc.proofs.PoolLaw.{after_takes, after_takes-sound, available-after_takes}
-use Rattle.ent_alloc.proofs.PoolLaw.{limits-after_takes, live-after_takes, made-after_takes}
-use Rattle.ent_alloc.proofs.PoolLaw.{asked-after_takes, asked-after_take, limits-after_take}
-use Rattle.ent_alloc.proofs.PoolLaw.{live-after_take, made-after_take, taken_is}
+use Rattle.ent_alloc.proofs.PoolLaw.{after_takes, after_takes-sound, available-after_takes, limits-after_takes, live-after_takes, made-after_takes, asked-after_takes, asked-after_take, limits-after_take, live-after_take, made-after_take, taken_is}
 use Rattle.ent_alloc.proofs.Replies.{not_apart, apart_both}
 use Rattle.ent_alloc.proofs.RequestLaws.{taken-after_takes}
 use Rattle.ent_alloc.proofs.Soundness.{after_take-sound}
@@ -30,15 +22,12 @@ use Rattle.ent_blocks.specs.Blocks.{Block, dealt, unused, AreLaid}
 use Rattle.ent_overflow.specs.Overflow.{past_block}
 
 -- what else the two have, if both begin with the same handles and no slot is there twice
-also_behind : (front xs ys : List Handle) → AllPairs AreApart (front ++ xs)
-    → IsPermutation (front ++ xs) (front ++ ys) → (h : Handle) → Contains xs h → Contains ys h
-also_behind front xs ys apart same h has =
-    elim (Contains-append_cases front ys h (Contains-permutation (front ++ xs) (front ++ ys) h same
-    (Contains-append_right front xs h has))) [
-      | inl before ↦ absurd (not_apart h
-          (All-contains (AreApart h) xs h
-          (All-contains (λ g. All (AreApart g) xs) front h (AllPairs-across AreApart front xs apart)
-          before) has))
+also_behind : (front xs ys : List Handle) → AllPairs AreApart (front ++ xs) → IsPermutation (front ++ xs) (front ++ ys)
+    → (h : Handle) → Contains xs h → Contains ys h
+also_behind front xs ys apart same h has = elim (Contains-append_cases front ys h
+    (Contains-permutation (front ++ xs) (front ++ ys) h same (Contains-append_right front xs h has))) [
+      | inl before ↦ absurd (not_apart h (All-contains (AreApart h) xs h (All-contains (λ g. All (AreApart g) xs) front
+          h (AllPairs-across AreApart front xs apart) before) has))
       | inr behind ↦ behind
     ]
 
@@ -49,9 +38,8 @@ some_requested s [] legal none = refl
 some_requested s (call ∷ calls) legal none = grind (arith, common_steps, sum_by-cons)
 
 -- a flushed allocator, of which d handles were reserved first, and then these calls were made
-module _ (s : Allocator) (sound : IsSound s) (flushed : s.asked ≡ 0) (d : ℕ)
-    (enough : d ≤ length s.pool) (calls : List history.Call)
-    (legal : history.IsLegal (after_take s d) calls) where
+module _ (s : Allocator) (sound : IsSound s) (flushed : s.asked ≡ 0) (d : ℕ) (enough : d ≤ length s.pool)
+    (calls : List history.Call) (legal : history.IsLegal (after_take s d) calls) where
   abbrev first : Allocator
   first = after_take s d
 
@@ -98,8 +86,8 @@ module _ (s : Allocator) (sound : IsSound s) (flushed : s.asked ≡ 0) (d : ℕ)
   taken_both = grind (arith, common_steps, taken_is, long, last_available, take-add)
 
   apart_both_parts : AllPairs AreApart (front ++ behind)
-  apart_both_parts = subst (AllPairs AreApart) taken_both
-      (AllPairs-left AreApart last.taken (last.aside ++ last.pool) last_sound.apart)
+  apart_both_parts = subst (AllPairs AreApart) taken_both (AllPairs-left AreApart last.taken (last.aside ++ last.pool)
+      last_sound.apart)
 
   same_both : IsPermutation (front ++ given) (front ++ behind)
   same_both = subst (IsPermutation (front ++ given)) taken_both moved
@@ -109,9 +97,8 @@ module _ (s : Allocator) (sound : IsSound s) (flushed : s.asked ≡ 0) (d : ℕ)
 
   pub same_handles : (h : Handle) → Contains given h ↔ Contains behind h
   same_handles h = (
-    also_behind front given behind
-        (AllPairs-IsPermutation AreApart apart_both (front ++ behind) (front ++ given) back_both
-        apart_both_parts) same_both h,
+    also_behind front given behind (AllPairs-IsPermutation AreApart apart_both (front ++ behind) (front ++ given)
+        back_both apart_both_parts) same_both h,
     also_behind front behind given apart_both_parts back_both h,
   )
 
@@ -119,20 +106,26 @@ module _ (s : Allocator) (sound : IsSound s) (flushed : s.asked ≡ 0) (d : ℕ)
   all_asked = search (rules, asked-after_take, asked-after_takes)
 
   pub taken_back : before_requests last ≡ s
-  taken_back = search (rules, flushed-laid_out, limits-after_takes, limits-after_take, live-after_takes, live-after_take, made-after_takes, made-after_take, last_available)
+  taken_back = search (
+    rules,
+    flushed-laid_out,
+    limits-after_takes,
+    limits-after_take,
+    live-after_takes,
+    live-after_take,
+    made-after_takes,
+    made-after_take,
+    last_available,
+  )
 
 -- one more block
 laid_more : (before : ℕ) (xs ys : List Block) → AreLaid before xs → AreLaid (before + dealt xs) ys
     → AreLaid before (xs ++ ys)
 laid_more before [] ys laid more = subst (λ n. AreLaid n ys) (omega arith) more
-laid_more before (x ∷ xs) ys laid more = (
-  laid.0,
-  laid.1,
-  laid_more (before + x.size) xs ys laid.2 (subst (λ n. AreLaid n ys) (omega arith) more),
-)
+laid_more before (x ∷ xs) ys laid more =
+    (laid.0, laid.1, laid_more (before + x.size) xs ys laid.2 (subst (λ n. AreLaid n ys) (omega arith) more))
 
-past_some : (before n : ℕ) → past_block before (suc n)
-    ≡ record { before = before; size = suc n; used = suc n } ∷ []
+past_some : (before n : ℕ) → past_block before (suc n) ≡ record { before = before; size = suc n; used = suc n } ∷ []
 past_some before n = grind (arith, common_steps)
 
 past_laid : (before n : ℕ) → AreLaid before (map unused (past_block before n))
@@ -151,8 +144,7 @@ dealt-unused : (xs : List Block) → dealt (map unused xs) ≡ dealt xs
 dealt-unused [] = refl
 dealt-unused (x ∷ xs) = ap (λ n. x.size + n) (dealt-unused xs)
 
-module _ (blocks used : List Block) (laid : AreLaid 0 blocks) (all : map unused used ≡ blocks)
-    (n : ℕ) where
+module _ (blocks used : List Block) (laid : AreLaid 0 blocks) (all : map unused used ≡ blocks) (n : ℕ) where
   pub ends_laid : AreLaid 0 (map unused (used ++ past_block (dealt blocks) n))
   ends_laid = search (rules, map-append, laid_more, past_laid)
 

@@ -1,8 +1,6 @@
 -- What a reservation leaves of a caller: from its block, and past it.
-use Rattle.std.proofs.Common.{rules}
+use Rattle.std.proofs.Common.{rules, ◌≡◌, ap, ℕ, ◌+◌, ◌^◌, ◌<◌, ◌≤◌, ◌≤ℤ◌, List, length, All, arith}
 use Rattle.std.proofs.lemmas.Grind.{common_steps}
-use Rattle.std.proofs.Common.{◌≡◌, ap, ℕ, ◌+◌, ◌^◌, ◌<◌, ◌≤◌, ◌≤ℤ◌, List}
-use Rattle.std.proofs.Common.{length, All, arith}
 use Rattle.std.specs.Prelude.{Result}
 use Rattle.std.proofs.lemmas.Bool.{cases_lt}
 use Rattle.std.proofs.lemmas.List.Elements.{All-push}
@@ -34,8 +32,8 @@ pub used_on : (p : Phase) (c : Caller) (n : ℕ) → IsOf p c
 used_on p c n of = search rules
 
 -- after a reservation past it
-module _ (p : Phase) (c : Caller) (new : Reserver) (n : ℕ) (result : Result (List Handle) Refused)
-    (of : IsOf p c) (stays : IsReserverOf p.shared new) where
+module _ (p : Phase) (c : Caller) (new : Reserver) (n : ℕ) (result : Result (List Handle) Refused) (of : IsOf p c)
+    (stays : IsReserverOf p.shared new) where
   AllBehind : List Reservation → Type 0
   AllBehind = All (λ (r : Reservation). r.high ≤ℤ p.dealer.own.mark)
 
@@ -57,7 +55,6 @@ module _ (p : Phase) (c : Caller) (new : Reserver) (n : ℕ) (result : Result (L
     unfolding AllBehind
     gone = search (rules, own_is, lower, behind)
 
-  pub gone_past : (c.past.own.left < n → new ≡ c.past)
-      → (n ≤ c.past.own.left → Reserves p.shared c.past new n result)
+  pub gone_past : (c.past.own.left < n → new ≡ c.past) → (n ≤ c.past.own.left → Reserves p.shared c.past new n result)
       → IsOf p (record { block = c.block; past = new })
   gone_past same gains = search (rules, cases_lt, gone)

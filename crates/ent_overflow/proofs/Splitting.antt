@@ -1,7 +1,5 @@
 -- The dealer's reservation is the first one of all, and the others are a history of their own.
-use Rattle.std.proofs.Common.{rules}
-use Rattle.std.proofs.Common.{◌≡◌, ◌≢◌, refl, ap, ◌∙◌, subst, ℕ, zero, suc, ◌≤ℤ◌, ◌<ℤ◌, ℤ}
-use Rattle.std.proofs.Common.{List, [], ◌∷◌, ◌++◌, map, All, AllPairs}
+use Rattle.std.proofs.Common.{rules, ◌≡◌, ◌≢◌, refl, ap, ◌∙◌, subst, ℕ, zero, suc, ◌≤ℤ◌, ◌<ℤ◌, ℤ, List, [], ◌∷◌, ◌++◌, map, All, AllPairs}
 use Rattle.std.proofs.lemmas.List.Elements.{All-nil, All-head, All-tail, All-append, All-weaker}
 use Rattle.ent_alloc.specs.Sequential.{Allocator, after_take}
 use Rattle.ent_alloc.specs.History as history
@@ -11,8 +9,7 @@ use Rattle.ent_shared.specs.declared.record.RecordEntry.{RecordEntry}
 use Rattle.ent_shared.specs.declared.record.Reservation.{Reservation}
 use Rattle.ent_shared.specs.declared.record.Record.{Record}
 use Rattle.ent_shared.specs.Record.{own_reservations}
-use Rattle.ent_shared.specs.Order.{as_call, insert_reservation, by_falling_high, own_of_all}
-use Rattle.ent_shared.specs.Order.{reservations_of, history_of, Respects}
+use Rattle.ent_shared.specs.Order.{as_call, insert_reservation, by_falling_high, own_of_all, reservations_of, history_of, Respects}
 use Rattle.ent_shared.proofs.Sorting.{all_sorted}
 use Rattle.ent_overflow.specs.Overflow.{IsDealer, HasDealt, IsInOrder}
 
@@ -20,18 +17,16 @@ use Rattle.ent_overflow.specs.Overflow.{IsDealer, HasDealt, IsInOrder}
 abbrev pub AreBehind : ℤ → List Reservation → Type 0
 AreBehind mark cs = All (λ (c : Reservation). c.high ≤ℤ mark) cs
 
-pub all_behind : (mark : ℤ) (records : List Record)
-    → All (λ (r : Record). AreBehind mark (own_reservations r.entries)) records
-    → AreBehind mark (own_of_all records)
+pub all_behind : (mark : ℤ) (records : List Record) → All (λ (r : Record). AreBehind mark (own_reservations r.entries))
+    records → AreBehind mark (own_of_all records)
 all_behind mark [] all = All-nil (λ (c : Reservation). c.high ≤ℤ mark)
 all_behind mark (r ∷ records) all =
     let Q : Record → Type 0 = λ (r : Record). AreBehind mark (own_reservations r.entries) in
-    All-append (λ (c : Reservation). c.high ≤ℤ mark) (own_reservations r.entries)
-    (own_of_all records) (All-head Q r records all)
-    (all_behind mark records (All-tail Q r records all))
+    All-append (λ (c : Reservation). c.high ≤ℤ mark) (own_reservations r.entries) (own_of_all records)
+    (All-head Q r records all) (all_behind mark records (All-tail Q r records all))
 
-inserted_first : (c : Reservation) (cs : List Reservation)
-    → All (λ (d : Reservation). d.high <ℤ c.high) cs → insert_reservation c cs ≡ c ∷ cs
+inserted_first : (c : Reservation) (cs : List Reservation) → All (λ (d : Reservation). d.high <ℤ c.high) cs
+    → insert_reservation c cs ≡ c ∷ cs
 inserted_first c [] below = refl
 inserted_first c (d ∷ ds) below = search (rules, All-head)
 
@@ -52,13 +47,28 @@ module _ (s : Allocator) (dealer : Record) (records : List Record)
   none_first : dealer.entries ≡ [] → reservations_of (dealer ∷ records) ≡ reservations_of records
   none_first nothing = search rules
 
-  dealt_first : (d : ℕ) (h : HasDealt (suc d) dealer)
-      → reservations_of (dealer ∷ records) ≡ h.call ∷ reservations_of records
-  dealt_first d h = let mark = h.mark in let some = h.requested in let below : All (λ (c : Reservation). c.high <ℤ h.call.high) (own_of_all records) = search (rules, All-weaker) in ap (λ (es : List RecordEntry). by_falling_high (own_reservations es ++ own_of_all records)) h.entries ∙ inserted_first h.call (reservations_of records) (all_sorted (λ (c : Reservation). c.high <ℤ h.call.high) (own_of_all records) below)
+  dealt_first : (d : ℕ) (h : HasDealt (suc d) dealer) → reservations_of (dealer ∷ records) ≡ h.call
+      ∷ reservations_of records
+  dealt_first d h =
+      let mark = h.mark in
+      let some = h.requested in
+      let below : All (λ (c : Reservation). c.high <ℤ h.call.high) (own_of_all records) = search (rules, All-weaker) in
+      ap (λ (es : List RecordEntry). by_falling_high (own_reservations es ++ own_of_all records)) h.entries
+      ∙ inserted_first h.call (reservations_of records) (all_sorted (λ (c : Reservation). c.high <ℤ h.call.high)
+      (own_of_all records) below)
 
-  pub splits : (d : ℕ) → IsDealer d dealer
-      → history.IsLegal s (history_of (dealer ∷ records))
+  pub splits : (d : ℕ) → IsDealer d dealer → history.IsLegal s (history_of (dealer ∷ records))
       → AllPairs (λ earlier later. later.high <ℤ earlier.high) (reservations_of (dealer ∷ records))
       → Splits s d dealer records
   splits zero deals legal falls = search (rules, none_first, after_take-none)
-  splits (suc d) h legal falls = let same = dealt_first d h in let from : history.IsLegal s (as_call h.call ∷ history_of records) = subst (λ (cs : List Reservation). history.IsLegal s (map as_call cs)) same legal in record { legal = subst (λ n. history.IsLegal (after_take s n) (history_of records)) h.requested from.2; after = ap (λ (cs : List Reservation). history.after_history s (map as_call cs)) same ∙ ap (λ n. history.after_history (after_take s n) (history_of records)) h.requested; falls = AllPairs-right Falls (h.call ∷ []) (reservations_of records) (subst (AllPairs Falls) same falls); in_order = search rules }
+  splits (suc d) h legal falls =
+      let same = dealt_first d h in
+      let from : history.IsLegal s (as_call h.call ∷ history_of records) = subst
+      (λ (cs : List Reservation). history.IsLegal s (map as_call cs)) same legal in
+      record {
+        legal = subst (λ n. history.IsLegal (after_take s n) (history_of records)) h.requested from.2;
+        after = ap (λ (cs : List Reservation). history.after_history s (map as_call cs)) same
+            ∙ ap (λ n. history.after_history (after_take s n) (history_of records)) h.requested;
+        falls = AllPairs-right Falls (h.call ∷ []) (reservations_of records) (subst (AllPairs Falls) same falls);
+        in_order = search rules;
+      }

@@ -1,7 +1,5 @@
 -- What commands draw from a block, one by one and together.
-use Rattle.std.proofs.Common.{rules, ◌≡◌, refl, sym, ap, ◌∙◌, subst, ℕ, ◌+◌, ◌-◌, List, [], ◌∷◌}
-use Rattle.std.proofs.Common.{◌++◌, take, arith, append-nil, Result, Ok, Err}
-use Rattle.std.proofs.Common.{IfOk, IfErr, OnOk, OnErr, IsErrOf, Vec, Global}
+use Rattle.std.proofs.Common.{rules, ◌≡◌, refl, sym, ap, ◌∙◌, subst, ℕ, ◌+◌, ◌-◌, List, [], ◌∷◌, ◌++◌, take, arith, append-nil, Result, Ok, Err, IfOk, IfErr, OnOk, OnErr, IsErrOf, Vec, Global}
 use Rattle.std.specs.List.{sum_by}
 use Rattle.std.proofs.lemmas.Grind.{common_steps}
 use Rattle.std.proofs.lemmas.List.Sums.{sum_by-append, sum_by-cons}
@@ -16,15 +14,13 @@ use Rattle.ent_blocks.specs.Blocks.{Block, Phase, Reserver, rest_of, after_use}
 use Rattle.ent_storage.specs.Bundle.{Bundle}
 use Rattle.ent_queue.specs.Command.{Command, Spawn, SpawnMany, Refused}
 use Rattle.ent_queue.specs.Reserving.{queued, as_list, refused_by}
-use Rattle.ent_queue.specs.Drawing.{IsDrawn, IsDrawnBy, AreDrawnBy, Draws, left_of, used_by}
-use Rattle.ent_queue.specs.Drawing.{after_commands}
+use Rattle.ent_queue.specs.Drawing.{IsDrawn, IsDrawnBy, AreDrawnBy, Draws, left_of, used_by, after_commands}
 use Rattle.ent_queue.specs.InBlocks.{Issuing, ExtendsInBlocks}
 
 single : (made : ℕ) (x : Handle) → listed made (x ∷ []) ≡ x ∷ []
 single made x = grind (arith, common_steps)
 
-first_listed : (made : ℕ) (rest : List Handle) (h : Handle)
-    → h ∷ [] ≡ listed made (take 1 rest) → h ∷ [] ≡ take 1 rest
+first_listed : (made : ℕ) (rest : List Handle) (h : Handle) → h ∷ [] ≡ listed made (take 1 rest) → h ∷ [] ≡ take 1 rest
 first_listed made [] h is = is
 first_listed made (x ∷ rest) h is = is ∙ single made x
 
@@ -35,23 +31,21 @@ draws_nothing s b = record { each = tt; used = search rules }
 one_used : (c : Command) → sum_by used_by (c ∷ []) ≡ used_by c
 one_used c = grind (arith, common_steps)
 
-pub draws_one : (s : Allocator) (b after : Block) (c : Command) → IsDrawnBy s b c
-    → after ≡ after_use b (used_by c) → Draws s b (c ∷ []) after
+pub draws_one : (s : Allocator) (b after : Block) (c : Command) → IsDrawnBy s b c → after ≡ after_use b (used_by c)
+    → Draws s b (c ∷ []) after
 draws_one s b after c is used = record { each = (is, tt); used = rw (one_used c) used }
 
-pub draws_still : (s : Allocator) (b : Block) (c : Command) → IsDrawnBy s b c → used_by c ≡ 0
-    → Draws s b (c ∷ []) b
+pub draws_still : (s : Allocator) (b : Block) (c : Command) → IsDrawnBy s b c → used_by c ≡ 0 → Draws s b (c ∷ []) b
 draws_still s b c is none = draws_one s b b c is (rw none (draws_nothing s b).used)
 
 used_then : (b : Block) (m n : ℕ) → after_use (after_use b m) n ≡ after_use b (m + n)
 used_then b m n = search rules
 
-after_then : (b : Block) (cs ds : List Command)
-    → after_commands (after_commands b cs) ds ≡ after_commands b (cs ++ ds)
+after_then : (b : Block) (cs ds : List Command) → after_commands (after_commands b cs) ds ≡ after_commands b (cs ++ ds)
 after_then b cs ds = search (rules, used_then, sum_by-append)
 
-after_first : (b : Block) (c : Command) (cs : List Command)
-    → after_commands b (c ∷ cs) ≡ after_commands (after_use b (used_by c)) cs
+after_first : (b : Block) (c : Command) (cs : List Command) → after_commands b (c ∷ cs) ≡ after_commands (after_use b
+    (used_by c)) cs
 after_first b c cs = search (rules, sum_by-cons, used_then)
 
 each_then : (s : Allocator) (b : Block) (cs ds : List Command) → AreDrawnBy s b cs
@@ -64,8 +58,8 @@ each_then s b (c ∷ cs) ds first second = (
 )
 
 -- the commands of two queues, one after the other
-pub draws_then : (s : Allocator) (a b c : Block) (cs ds : List Command) → Draws s a cs b
-    → Draws s b ds c → Draws s a (cs ++ ds) c
+pub draws_then : (s : Allocator) (a b c : Block) (cs ds : List Command) → Draws s a cs b → Draws s b ds c
+    → Draws s a (cs ++ ds) c
 draws_then s a b c cs ds first second = grind (arith, common_steps, each_then, after_then)
 
 -- the commands that a call added, and what they drew from the block
@@ -76,18 +70,18 @@ pub record AddedInBlocks (s : Allocator) (old new : List Command) (before after 
   pub queue : new ≡ old ++ added
   pub draws : Draws s before.block added after.block
 
-pub extends_in_blocks : (a b : Issuing) → b.phase ≡ a.phase
-    → AddedInBlocks a.phase.phase.start a.queue b.queue a.reserver b.reserver → ExtendsInBlocks a b
+pub extends_in_blocks : (a b : Issuing) → b.phase ≡ a.phase → AddedInBlocks a.phase.phase.start a.queue b.queue
+    a.reserver b.reserver → ExtendsInBlocks a b
 extends_in_blocks a b phase more = search rules
 
-nothing_added : (s : Allocator) (old new : List Command) (before after : Reserver)
-    → new ≡ old ++ [] → after ≡ before → AddedInBlocks s old new before after
+nothing_added : (s : Allocator) (old new : List Command) (before after : Reserver) → new ≡ old ++ [] → after ≡ before
+    → AddedInBlocks s old new before after
 nothing_added s old new before after queue same = search (rules, draws_nothing)
 
 -- a command that reserves nothing, or no command
 pub still_added : {E : Type 0} (s : Allocator) (old new : List Command) (r : Reserver) (c : Command)
-    (result : Result (Unit {0}) E) → IsDrawnBy s r.block c → used_by c ≡ 0
-    → OnOk result (new ≡ old ++ c ∷ []) → OnErr result (new ≡ old) → AddedInBlocks s old new r r
+    (result : Result (Unit {0}) E) → IsDrawnBy s r.block c → used_by c ≡ 0 → OnOk result (new ≡ old ++ c ∷ [])
+    → OnErr result (new ≡ old) → AddedInBlocks s old new r r
 still_added s old new r c (Ok it) is none ok err = search (rules, draws_still)
 still_added s old new r c (Err e) is none ok err = search (rules, nothing_added, append-nil)
 
@@ -102,14 +96,12 @@ module _ (phase : Phase) (old new : List Command) (before after : Reserver) wher
   start = phase.phase.start
 
   added_served : (n : ℕ) (hs : List Handle) (c : Command) → IsDrawn phase before after n (Ok hs)
-      → IsDrawnBy start before.block c → used_by c ≡ n → new ≡ old ++ c ∷ []
-      → AddedInBlocks start old new before after
+      → IsDrawnBy start before.block c → used_by c ≡ n → new ≡ old ++ c ∷ [] → AddedInBlocks start old new before after
   added_served n hs c replied is many queue = search (rules, draws_one)
 
-  added_refusal : (n : ℕ) (f : QueueFault) → new ≡ old ++ refused_by n f
-      → (f ≡ fault.Memory → after ≡ before)
-      → ((why : Refusal) → Err f ≡ queued {X = List Handle} (Err why)
-      → IsDrawn phase before after n (Err why)) → AddedInBlocks start old new before after
+  added_refusal : (n : ℕ) (f : QueueFault) → new ≡ old ++ refused_by n f → (f ≡ fault.Memory → after ≡ before)
+      → ((why : Refusal) → Err f ≡ queued {X = List Handle} (Err why) → IsDrawn phase before after n (Err why))
+      → AddedInBlocks start old new before after
   added_refusal n (fault.Space wanted left) queue memory replied =
       let d = replied (Space wanted left) refl in
       let is = space_is n wanted (left_of before.block) left d.refused.0 in
@@ -121,34 +113,27 @@ module _ (phase : Phase) (old new : List Command) (before after : Reserver) wher
             (is.0, is.1, omega (arith, is.1, d.refused.1)) refl);
       }
   added_refusal n (fault.Quota left) queue memory replied =
-      let d = replied (Quota left) refl in
-      let no = d.refused.0 in
-      absurd (cc)
+      let d = replied (Quota left) refl in let no = d.refused.0 in absurd (cc)
   added_refusal n fault.Memory queue memory replied = search (rules, nothing_added)
 
   pub spawn_added : (items : Bundle) (result : Result Handle QueueFault)
-      → IfOk result (λ h. new ≡ old ++ Spawn h items ∷ [])
-      → IfErr result (λ f. new ≡ old ++ refused_by 1 f)
-      → (IsErrOf result fault.Memory → after ≡ before)
-      → ((reply : Result Handle Refusal) → result ≡ queued reply
+      → IfOk result (λ h. new ≡ old ++ Spawn h items ∷ []) → IfErr result (λ f. new ≡ old ++ refused_by 1 f)
+      → (IsErrOf result fault.Memory → after ≡ before) → ((reply : Result Handle Refusal) → result ≡ queued reply
       → IsDrawn phase before after 1 (listed_alone reply)) → AddedInBlocks start old new before after
   spawn_added items (Ok h) ok refused memory replied =
       let d = replied (Ok h) refl in
-      added_served 1 (h ∷ []) (Spawn h items) d
-      (first_listed start.made (rest_of start.pool before.block) h d.given) refl ok
-  spawn_added items (Err f) ok refused memory replied =
-      added_refusal 1 f refused (λ e. memory (ap Err e))
+      added_served 1 (h ∷ []) (Spawn h items) d (first_listed start.made (rest_of start.pool before.block) h d.given)
+      refl ok
+  spawn_added items (Err f) ok refused memory replied = added_refusal 1 f refused (λ e. memory (ap Err e))
       (λ why e. replied (Err why) (ap Err (same_fault f (as_reserve_error why) e)))
 
   pub many_added : (n : ℕ) (items : Bundle) (result : Result (Vec Handle Global) QueueFault)
-      → IfOk result (λ hs. new ≡ old ++ SpawnMany hs.items items ∷ [])
-      → IfErr result (λ f. new ≡ old ++ refused_by n f)
-      → (IsErrOf result fault.Memory → after ≡ before)
-      → ((reply : Result (List Handle) Refusal) → as_list result ≡ queued reply
-      → IsDrawn phase before after n reply) → AddedInBlocks start old new before after
+      → IfOk result (λ hs. new ≡ old ++ SpawnMany hs.items items ∷ []) → IfErr result (λ f. new ≡ old ++ refused_by n f)
+      → (IsErrOf result fault.Memory → after ≡ before) → ((reply : Result (List Handle) Refusal)
+      → as_list result ≡ queued reply → IsDrawn phase before after n reply) → AddedInBlocks start old new before after
   many_added n items (Ok hs) ok refused memory replied =
       let d = replied (Ok hs.items) refl in
       added_served n hs.items (SpawnMany hs.items items) d
-      (subst (λ (k : ℕ). hs.items ≡ listed start.made (take k (rest_of start.pool before.block)))
-      (sym d.number) d.given) d.number ok
+      (subst (λ (k : ℕ). hs.items ≡ listed start.made (take k (rest_of start.pool before.block))) (sym d.number)
+      d.given) d.number ok
   many_added n items (Err f) ok refused memory replied = search (rules, added_refusal)

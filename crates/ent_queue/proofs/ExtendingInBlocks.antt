@@ -1,7 +1,6 @@
 -- For who writes a system, or any function that issues commands from a block: what its calls add up to.
 -- Put `#[tactic(auto, using(ent_queue::proofs::ExtendingInBlocks::extends_then))]` above it.
-use Rattle.std.proofs.Common.{rules}
-use Rattle.std.proofs.Common.{◌∙◌, ◌++◌, ap, subst, append-nil, append_assoc}
+use Rattle.std.proofs.Common.{rules, ◌∙◌, ◌++◌, ap, subst, append-nil, append_assoc}
 use Rattle.std.specs.Prelude.{List}
 use Rattle.ent_blocks.specs.Blocks.{Phase}
 use Rattle.ent_queue.specs.Command.{Command}
@@ -14,15 +13,14 @@ pub extends_nothing : (a : Issuing) → ExtendsInBlocks a a
 extends_nothing a = search (rules, append-nil, draws_nothing)
 
 -- where one call follows another, also over the turns of a loop
-pub extends_then : (a b c : Issuing) → ExtendsInBlocks a b → ExtendsInBlocks b c
-    → ExtendsInBlocks a c
+pub extends_then : (a b c : Issuing) → ExtendsInBlocks a b → ExtendsInBlocks b c → ExtendsInBlocks a c
 extends_then a b c first second = record {
   phase = second.phase ∙ first.phase;
   number = second.number ∙ first.number;
   added = first.added ++ second.added;
   queue = second.queue ∙ ap (λ (cs : List Command). cs ++ second.added) first.queue
       ∙ append_assoc a.queue first.added second.added;
-  draws = draws_then a.phase.phase.start a.reserver.block b.reserver.block c.reserver.block first.added
-      second.added first.draws (subst (λ (p : Phase). Draws p.phase.start b.reserver.block
-      second.added c.reserver.block) first.phase second.draws);
+  draws = draws_then a.phase.phase.start a.reserver.block b.reserver.block c.reserver.block first.added second.added
+      first.draws (subst (λ (p : Phase). Draws p.phase.start b.reserver.block second.added c.reserver.block) first.phase
+      second.draws);
 }

@@ -1,18 +1,13 @@
 -- What bytes that begin with a command let be read, kind by kind.
-use Rattle.std.proofs.Common.{rules, ◌≡◌, ℕ, ◌+◌, ◌*◌, ◌<◌, ◌≤◌, List, ◌++◌, length, drop}
-use Rattle.std.proofs.Common.{length-drop, slice_index, refl, [], ◌∷◌, arith, sym, subst}
+use Rattle.std.proofs.Common.{rules, ◌≡◌, ℕ, ◌+◌, ◌*◌, ◌<◌, ◌≤◌, List, ◌++◌, length, drop, length-drop, slice_index, refl, [], ◌∷◌, arith, sym, subst}
 use Rattle.std.specs.List.{All, flat_map}
 use Rattle.ent_handle.specs.Handle.{Handle, IsHandle}
 use Rattle.ent_storage.specs.Bundle.{Bundle, IsBundle}
-use Rattle.ent_queue.specs.Command.{Command, IsRefusal, IsCommand, Spawn, SpawnMany, Insert, Remove}
-use Rattle.ent_queue.specs.Command.{Despawn, Refused}
-use Rattle.ent_queue.specs.Packing.{command_bytes, bytes_4, handle_bytes, bundle_bytes}
-use Rattle.ent_queue.specs.Packing.{refusal_bytes}
-use Rattle.ent_queue.specs.Unpacking.{number_2, number_4, unpacked_handle, unpacked_handles}
-use Rattle.ent_queue.specs.Unpacking.{unpacked_bundle, unpacked_refusal, after_first, BeginsWith}
+use Rattle.ent_queue.specs.Command.{Command, IsRefusal, IsCommand, Spawn, SpawnMany, Insert, Remove, Despawn, Refused}
+use Rattle.ent_queue.specs.Packing.{command_bytes, bytes_4, handle_bytes, bundle_bytes, refusal_bytes}
+use Rattle.ent_queue.specs.Unpacking.{number_2, number_4, unpacked_handle, unpacked_handles, unpacked_bundle, unpacked_refusal, after_first, BeginsWith}
 use Rattle.ent_queue.proofs.Parts.{BundleBegins}
-use Rattle.ent_queue.proofs.Queues.{WithBundle, with_bundle, with_handles, with_component}
-use Rattle.ent_queue.proofs.Queues.{handle_alone, with_reason, after_first-bytes}
+use Rattle.ent_queue.proofs.Queues.{WithBundle, with_bundle, with_handles, with_component, handle_alone, with_reason, after_first-bytes}
 
 -- some command stands at the front
 abbrev pub Begins : List ℕ → Type 0
@@ -56,8 +51,8 @@ pub record Reason (parts rest : List ℕ) : Type 0 where
   pub is : IsRefusal (number_4 parts) (unpacked_refusal (number_4 parts) (drop 4 parts))
   pub rest_is : drop 8 (drop 1 (drop 4 parts)) ≡ rest
 
-handle_and_bundle : (h : Handle) (items : Bundle) (parts rest : List ℕ) → IsHandle h
-    → IsBundle items → WithBundle h items parts rest → HandleAndBundle parts rest
+handle_and_bundle : (h : Handle) (items : Bundle) (parts rest : List ℕ) → IsHandle h → IsBundle items
+    → WithBundle h items parts rest → HandleAndBundle parts rest
 handle_and_bundle h items parts rest is bundle w = search (rules, bundle_at)
 
 -- what may be read after the byte for each kind
@@ -69,13 +64,12 @@ pub record Kinds (kind : ℕ) (parts rest : List ℕ) : Type 0 where
   pub despawn : kind ≡ 4 → OneHandle parts rest
   pub refused : 4 < kind → Reason parts rest
 
-kinds : (c : Command) (rest : List ℕ) → IsCommand c
-    → Kinds (slice_index (command_bytes c ++ rest) 0) (drop 1 (command_bytes c ++ rest)) rest
+kinds : (c : Command) (rest : List ℕ) → IsCommand c → Kinds (slice_index (command_bytes c ++ rest) 0)
+    (drop 1 (command_bytes c ++ rest)) rest
 kinds (Spawn h items) rest is =
     let parts = (handle_bytes h ++ bundle_bytes items) ++ rest in
     record {
-      spawn = λ e. handle_and_bundle h items parts rest is.0 is.1
-          (with_bundle h items parts rest is.0 is.1 refl);
+      spawn = λ e. handle_and_bundle h items parts rest is.0 is.1 (with_bundle h items parts rest is.0 is.1 refl);
       spawn_many = λ e. absurd (omega arith);
       insert = λ e. absurd (omega arith);
       remove = λ e. absurd (omega arith);
@@ -106,8 +100,7 @@ kinds (Insert h items) rest is =
     record {
       spawn = λ e. absurd (omega arith);
       spawn_many = λ e. absurd (omega arith);
-      insert = λ e. handle_and_bundle h items parts rest is.0 is.1
-          (with_bundle h items parts rest is.0 is.1 refl);
+      insert = λ e. handle_and_bundle h items parts rest is.0 is.1 (with_bundle h items parts rest is.0 is.1 refl);
       remove = λ e. absurd (omega arith);
       despawn = λ e. absurd (omega arith);
       refused = λ e. absurd (omega arith);
@@ -164,6 +157,5 @@ kinds (Refused wanted why) rest is =
     }
 
 -- the same of any bytes that begin with a command
-pub begins_kinds : (bytes : List ℕ) → Begins bytes → Kinds (slice_index bytes 0) (drop 1 bytes)
-    (after_first bytes)
+pub begins_kinds : (bytes : List ℕ) → Begins bytes → Kinds (slice_index bytes 0) (drop 1 bytes) (after_first bytes)
 begins_kinds bytes b = search (rules, after_first-bytes, kinds)

@@ -1,6 +1,5 @@
 -- How a reserver's record gains what commands have asked of it.
-use Rattle.std.proofs.Common.{rules, ◌≡◌, refl, ℕ, ◌+◌, ◌-◌, ◌<◌, ◌≤◌, ℤ, List, [], ◌∷◌, ◌++◌}
-use Rattle.std.proofs.Common.{arith, ap, ◌∙◌, subst, append_assoc, Ok, Err, sym, inl, inr}
+use Rattle.std.proofs.Common.{rules, ◌≡◌, refl, ℕ, ◌+◌, ◌-◌, ◌<◌, ◌≤◌, ℤ, List, [], ◌∷◌, ◌++◌, arith, ap, ◌∙◌, subst, append_assoc, Ok, Err, sym, inl, inr}
 use Rattle.std.proofs.lemmas.Grind.{common_steps, flat_map-append}
 use Rattle.std.specs.List.{sum_by}
 use Rattle.std.proofs.lemmas.List.Elements.{All-nil, All-cons}
@@ -13,8 +12,7 @@ use Rattle.ent_alloc.specs.declared.refused.Refused.TheVariants.{Quota, Space}
 use Rattle.ent_shared.specs.Phase.{Shared, Reserver}
 use Rattle.ent_shared.specs.Record.{after_reservation, reservation_at}
 use Rattle.ent_queue.specs.Command.{Command, Refused, HasRange, SaysWanted, IsRefusal}
-use Rattle.ent_queue.specs.Reserving.{stands_for, cost, FitsQuota, FitQuota, Gains, IsReturned}
-use Rattle.ent_queue.specs.Reserving.{refused_by}
+use Rattle.ent_queue.specs.Reserving.{stands_for, cost, FitsQuota, FitQuota, Gains, IsReturned, refused_by}
 use Rattle.ent_alloc.specs.Fault.{as_reserve_error}
 use Rattle.std.proofs.lemmas.List.{map-append}
 use Rattle.ent_shared.specs.declared.record.Reservation.{Reservation}
@@ -23,13 +21,12 @@ pub gains_nothing : (r : Record) → Gains r [] r
 gains_nothing r = grind (arith, common_steps)
 
 -- a command that stands for no reservation
-pub gains_none : (r : Record) (c : Command) → stands_for c ≡ [] → FitsQuota r.left c
-    → Gains r (c ∷ []) r
+pub gains_none : (r : Record) (c : Command) → stands_for c ≡ [] → FitsQuota r.left c → Gains r (c ∷ []) r
 gains_none r c none within = grind (arith, common_steps)
 
 -- a command that stands for one reservation
-pub gains_one : (r : Record) (high : ℤ) (n : ℕ) (c : Command) → n ≤ r.left → stands_for c
-    ≡ (n, (reservation_at r high n).reply) ∷ [] → FitsQuota r.left c
+pub gains_one : (r : Record) (high : ℤ) (n : ℕ) (c : Command) → n ≤ r.left
+    → stands_for c ≡ (n, (reservation_at r high n).reply) ∷ [] → FitsQuota r.left c
     → Gains r (c ∷ []) (after_reservation r high n)
 gains_one r high n c enough one within = record {
   start = refl;
@@ -43,15 +40,14 @@ gains_one r high n c enough one within = record {
   within = (within, tt);
 }
 
-within_both : (left : ℕ) (cs ds : List Command) → FitQuota left cs
-    → FitQuota (left - sum_by cost cs) ds → FitQuota left (cs ++ ds)
+within_both : (left : ℕ) (cs ds : List Command) → FitQuota left cs → FitQuota (left - sum_by cost cs) ds
+    → FitQuota left (cs ++ ds)
 within_both left [] ds first second = search (rules)
-within_both left (c ∷ cs) ds first second =
-    grind (arith, common_steps, sum_by-cons cost c cs, within_both (left - cost c) cs ds)
+within_both left (c ∷ cs) ds first second = grind
+    (arith, common_steps, sum_by-cons cost c cs, within_both (left - cost c) cs ds)
 
 -- The commands of two queues, one after the other: so many queues of one reserver are added up.
-pub gains_then : (a b c : Record) (cs ds : List Command) → Gains a cs b → Gains b ds c
-    → Gains a (cs ++ ds) c
+pub gains_then : (a b c : Record) (cs ds : List Command) → Gains a cs b → Gains b ds c → Gains a (cs ++ ds) c
 gains_then a b c cs ds first second = record {
   start = second.start ∙ first.start;
   number = second.number ∙ first.number;
@@ -60,8 +56,7 @@ gains_then a b c cs ds first second = record {
   requests = search (rules, map-append, flat_map-append);
   callers = grind (arith, common_steps);
   left = omega (arith, first.left, second.left, sum_by-append cost cs ds);
-  within = within_both a.left cs ds first.within
-      (subst (λ n. FitQuota n ds) (omega (arith, first.left)) second.within);
+  within = within_both a.left cs ds first.within (subst (λ n. FitQuota n ds) (omega (arith, first.left)) second.within);
 }
 
 module _ (shared : Shared) (before after : Reserver) (n : ℕ) where
@@ -71,7 +66,8 @@ module _ (shared : Shared) (before after : Reserver) (n : ℕ) where
       → (n ≤ before.own.left → FitsQuota before.own.left c) → Gains before.own (c ∷ []) after.own
   served_gains hs c replied one none within = elim (cases_lt before.own.left n) [
     | inl short ↦ let no = (replied.quota short).0 in absurd (cc)
-    | inr enough ↦ search (rules, cases_lt, gains_one, gains_none)
+    | inr enough ↦ search
+        (rules, cases_lt, gains_one, gains_none)
   ]
 
   -- what was refused
@@ -80,15 +76,12 @@ module _ (shared : Shared) (before after : Reserver) (n : ℕ) where
   refused_gains (Space wanted left) replied = elim (cases_lt before.own.left n) [
     | inl short ↦ let no = (replied.quota short).0 in absurd (cc)
     | inr enough ↦ elim (cases_lt 0 n) [
-      | inl some ↦
-          let g = replied.gains some enough in
-          let asks : stands_for (Refused n (Space wanted left))
-          ≡ (n, (reservation_at before.own g.high n).reply) ∷ [] = ap (λ r. (n, r) ∷ [])
-          (sym g.recorded) in
-          subst (λ (r : Reserver). Gains before.own (Refused n (Space wanted left) ∷ []) r.own)
-          (sym g.after) (gains_one before.own g.high n (Refused n (Space wanted left))
-          enough asks enough)
-      | inr nothing ↦ let no = (replied.nothing (omega arith)).0 in absurd (cc)
+      | inl some ↦ let g = replied.gains some enough in let asks : stands_for (Refused n (Space wanted left))
+          ≡ (n, (reservation_at before.own g.high n).reply) ∷ [] = ap (λ r. (n, r) ∷ []) (sym g.recorded) in subst
+          (λ (r : Reserver). Gains before.own (Refused n (Space wanted left) ∷ []) r.own) (sym g.after)
+          (gains_one before.own g.high n (Refused n (Space wanted left)) enough asks enough)
+      | inr nothing ↦ let no =
+          (replied.nothing (omega arith)).0 in absurd (cc)
     ]
   ]
   refused_gains (Quota left) replied = search (rules, cases_lt, gains_none)

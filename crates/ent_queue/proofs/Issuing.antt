@@ -1,7 +1,5 @@
 -- What a call of `Commands` adds.
-use Rattle.std.proofs.Common.{rules, ◌≡◌, ℕ, List, [], ◌∷◌, ◌++◌, length, Result, Ok, Err, IfOk}
-use Rattle.std.proofs.Common.{IfErr, OnOk, OnErr, IsErrOf, Vec, Global, ◌<◌, arith, refl, ap, sym}
-use Rattle.std.proofs.Common.{subst, ◌≤◌}
+use Rattle.std.proofs.Common.{rules, ◌≡◌, ℕ, List, [], ◌∷◌, ◌++◌, length, Result, Ok, Err, IfOk, IfErr, OnOk, OnErr, IsErrOf, Vec, Global, ◌<◌, arith, refl, ap, sym, subst, ◌≤◌}
 use Rattle.std.proofs.lemmas.Grind.{common_steps}
 use Rattle.ent_handle.specs.Handle.{Handle}
 use Rattle.ent_handle.specs.declared.memory.Memory.{Memory}
@@ -14,8 +12,7 @@ use Rattle.ent_alloc.specs.declared.reserve_error.ReserveError.TheVariants as fa
 use Rattle.ent_storage.specs.Bundle.{Bundle}
 use Rattle.ent_queue.specs.Command.{Command, Spawn, SpawnMany, Refused}
 use Rattle.ent_queue.specs.Commands.{Issued, IsReady, Extends, queue_of, reserver_of, shared_of}
-use Rattle.ent_queue.specs.Reserving.{stands_for, FitsQuota, Gains, IsReturned, queued, as_list}
-use Rattle.ent_queue.specs.Reserving.{refused_by}
+use Rattle.ent_queue.specs.Reserving.{stands_for, FitsQuota, Gains, IsReturned, queued, as_list, refused_by}
 use Rattle.ent_alloc.specs.Fault.{as_reserve_error}
 use Rattle.ent_queue.proofs.Gaining.{gains_nothing, gains_none, served_gains, refused_gains}
 use Rattle.ent_alloc.specs.declared.refused.Refused.TheVariants.{Space, Quota}
@@ -27,9 +24,8 @@ pub record Added (old new : List Command) (before after : Record) : Type 0 where
   pub gains : Gains before added after
 
 -- So the call extends what was there, with the same reserver of the same allocator.
-pub extends_added : (a b : Issued) → b.reserver.ghost_name ≡ a.reserver.ghost_name
-    → shared_of b ≡ shared_of a → IsReady b
-    → Added (queue_of a) (queue_of b) (reserver_of a).own (reserver_of b).own → Extends a b
+pub extends_added : (a b : Issued) → b.reserver.ghost_name ≡ a.reserver.ghost_name → shared_of b ≡ shared_of a
+    → IsReady b → Added (queue_of a) (queue_of b) (reserver_of a).own (reserver_of b).own → Extends a b
 extends_added a b same shared ready more = search (rules)
 
 many_request : (hs : List Handle) (items : Bundle) (n : ℕ) → length hs ≡ n → 0 < n
@@ -37,28 +33,25 @@ many_request : (hs : List Handle) (items : Bundle) (n : ℕ) → length hs ≡ n
 many_request hs items n e some = search rules
 
 -- a command that reserves nothing, or no command
-pub added_none : (r : Record) (c : Command) (result : Result (Unit {0}) Memory)
-    (old new : List Command) → stands_for c ≡ [] → FitsQuota r.left c
-    → OnOk result (new ≡ old ++ c ∷ []) → OnErr result (new ≡ old) → Added old new r r
+pub added_none : (r : Record) (c : Command) (result : Result (Unit {0}) Memory) (old new : List Command)
+    → stands_for c ≡ [] → FitsQuota r.left c → OnOk result (new ≡ old ++ c ∷ []) → OnErr result (new ≡ old)
+    → Added old new r r
 added_none r c it old new none within ok err = grind (arith, common_steps, gains_none)
 
-pub queued_ok : (reply : Result (List Handle) Refusal) (hs : List Handle) → Ok hs ≡ queued reply
-    → Ok hs ≡ reply
+pub queued_ok : (reply : Result (List Handle) Refusal) (hs : List Handle) → Ok hs ≡ queued reply → Ok hs ≡ reply
 queued_ok it hs e = search rules
 
 same_fault : (f g : QueueFault) → ◌≡◌ {A = Result (List Handle) QueueFault} (Err f) (Err g) → f ≡ g
 same_fault f g e = cc
 
 module _ (shared : Shared) (before after : Reserver) (old new : List Command) where
-  added_refusal : (n : ℕ) (f : QueueFault) → new ≡ old ++ refused_by n f
-      → (f ≡ fault.Memory → after ≡ before)
-      → ((why : Refusal) → Err f ≡ queued {X = List Handle} (Err why) → IsReturned shared before
-      after n (Err why)) → Added old new before.own after.own
+  added_refusal : (n : ℕ) (f : QueueFault) → new ≡ old ++ refused_by n f → (f ≡ fault.Memory → after ≡ before)
+      → ((why : Refusal) → Err f ≡ queued {X = List Handle} (Err why) → IsReturned shared before after n (Err why))
+      → Added old new before.own after.own
   added_refusal n (fault.Space wanted left) queue memory replied = record {
     added = Refused n (Space wanted left) ∷ [];
     queue = queue;
-    gains = refused_gains shared before after n (Space wanted left)
-        (replied (Space wanted left) refl);
+    gains = refused_gains shared before after n (Space wanted left) (replied (Space wanted left) refl);
   }
   added_refusal n (fault.Quota left) queue memory replied = record {
     added = Refused n (Quota left) ∷ [];
@@ -68,36 +61,28 @@ module _ (shared : Shared) (before after : Reserver) (old new : List Command) wh
   added_refusal n fault.Memory queue memory replied = search (rules, gains_nothing)
 
   pub added_spawn : (items : Bundle) (result : Result Handle QueueFault)
-      → IfOk result (λ h. new ≡ old ++ Spawn h items ∷ [])
-      → IfErr result (λ f. new ≡ old ++ refused_by 1 f) → (IsErrOf result fault.Memory → after
-      ≡ before) → ((reply : Result Handle Refusal) → result ≡ queued reply
+      → IfOk result (λ h. new ≡ old ++ Spawn h items ∷ []) → IfErr result (λ f. new ≡ old ++ refused_by 1 f)
+      → (IsErrOf result fault.Memory → after ≡ before) → ((reply : Result Handle Refusal) → result ≡ queued reply
       → IsReturned shared before after 1 (listed_alone reply)) → Added old new before.own after.own
-  added_spawn items (Ok h) ok refused memory replied =
-      record {
-        added = Spawn h items ∷ [];
-        queue = ok;
-        gains = served_gains shared before after 1
-            (h ∷ []) (Spawn h items) (replied (Ok h) refl) (λ some. refl)
-            (λ none. absurd (omega arith)) (λ enough. enough);
-      }
-  added_spawn items (Err f) ok refused memory replied =
-      added_refusal 1 f refused (λ e. memory (ap Err e))
+  added_spawn items (Ok h) ok refused memory replied = record {
+    added = Spawn h items ∷ [];
+    queue = ok;
+    gains = served_gains shared before after 1 (h ∷ []) (Spawn h items) (replied (Ok h) refl) (λ some. refl)
+        (λ none. absurd (omega arith)) (λ enough. enough);
+  }
+  added_spawn items (Err f) ok refused memory replied = added_refusal 1 f refused (λ e. memory (ap Err e))
       (λ why e. replied (Err why) (ap Err (same_fault f (as_reserve_error why) e)))
 
   pub added_many : (n : ℕ) (items : Bundle) (result : Result (Vec Handle Global) QueueFault)
-      → IfOk result (λ hs. new ≡ old ++ SpawnMany hs.items items ∷ [])
-      → IfErr result (λ f. new ≡ old ++ refused_by n f) → (IsErrOf result fault.Memory → after
-      ≡ before) → ((reply : Result (List Handle) Refusal) → as_list result ≡ queued reply
-      → IsReturned shared before after n reply) → IfOk result (λ hs. length hs.items ≡ n)
-      → Added old new before.own after.own
-  added_many n items (Ok hs) ok refused memory replied number =
-      record {
-        added = SpawnMany hs.items items ∷ [];
-        queue = ok;
-        gains = served_gains shared before
-            after n hs.items (SpawnMany hs.items items) (replied (Ok hs.items) refl)
-            (λ some. many_request hs.items items n number some)
-            (λ none empty. ap (λ gs. stands_for (SpawnMany gs items)) empty)
-            (λ enough. subst (λ k. k ≤ before.own.left) (sym number) enough);
-      }
+      → IfOk result (λ hs. new ≡ old ++ SpawnMany hs.items items ∷ []) → IfErr result (λ f. new ≡ old ++ refused_by n f)
+      → (IsErrOf result fault.Memory → after ≡ before) → ((reply : Result (List Handle) Refusal)
+      → as_list result ≡ queued reply → IsReturned shared before after n reply)
+      → IfOk result (λ hs. length hs.items ≡ n) → Added old new before.own after.own
+  added_many n items (Ok hs) ok refused memory replied number = record {
+    added = SpawnMany hs.items items ∷ [];
+    queue = ok;
+    gains = served_gains shared before after n hs.items (SpawnMany hs.items items) (replied (Ok hs.items) refl)
+        (λ some. many_request hs.items items n number some) (λ none empty. ap (λ gs. stands_for (SpawnMany gs items))
+        empty) (λ enough. subst (λ k. k ≤ before.own.left) (sym number) enough);
+  }
   added_many n items (Err f) ok refused memory replied number = search (rules, added_refusal)

@@ -1,8 +1,7 @@
 -- Numbers as bytes, and back.
 use Rattle.std.proofs.Common.{rules, ◌≡◌, refl, ℕ, ◌^◌, ◌<◌, List, ◌++◌, length, take, drop, arith}
 use Rattle.std.proofs.lemmas.Grind.{common_steps}
-use Rattle.std.proofs.lemmas.Nat.{from_le_bytes-to_le_bytes_2, from_le_bytes-to_le_bytes_4}
-use Rattle.std.proofs.lemmas.Nat.{from_le_bytes-to_le_bytes_8}
+use Rattle.std.proofs.lemmas.Nat.{from_le_bytes-to_le_bytes_2, from_le_bytes-to_le_bytes_4, from_le_bytes-to_le_bytes_8}
 use Rattle.ent_handle.specs.Handle.{Handle, IsHandle, bits}
 use Rattle.ent_queue.specs.Packing.{bytes_2, bytes_4, bytes_8, handle_bytes}
 use Rattle.ent_queue.specs.Unpacking.{number_2, number_4, number_8, handle_of_bits, unpacked_handle}
@@ -57,8 +56,7 @@ bits_below h is = omega (arith, is.index, is.greatest)
 pub handle_of_bits-bits : (h : Handle) → IsHandle h → handle_of_bits (bits h) ≡ h
 handle_of_bits-bits h is = grind (arith, common_steps)
 
-pub unpacked_handle-bytes : (h : Handle) (rest : List ℕ) → IsHandle h
-    → unpacked_handle (handle_bytes h ++ rest) ≡ h
+pub unpacked_handle-bytes : (h : Handle) (rest : List ℕ) → IsHandle h → unpacked_handle (handle_bytes h ++ rest) ≡ h
 unpacked_handle-bytes h rest is = search (rules, number_8-bytes, bits_below, handle_of_bits-bits)
 
 pub unpacked_handle-alone : (h : Handle) → IsHandle h → unpacked_handle (handle_bytes h) ≡ h

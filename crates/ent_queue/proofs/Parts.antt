@@ -1,6 +1,5 @@
 -- Handles, items and bundles as bytes, and back.
-use Rattle.std.proofs.Common.{rules, ◌≡◌, refl, ℕ, ◌+◌, ◌*◌, ◌^◌, ◌<◌, ℤ, List, [], ◌∷◌, ◌++◌}
-use Rattle.std.proofs.Common.{length, take, drop, map, arith, append_assoc, length-append}
+use Rattle.std.proofs.Common.{rules, ◌≡◌, refl, ℕ, ◌+◌, ◌*◌, ◌^◌, ◌<◌, ℤ, List, [], ◌∷◌, ◌++◌, length, take, drop, map, arith, append_assoc, length-append}
 use Rattle.std.proofs.lemmas.Grind.{common_steps}
 use Rattle.std.specs.List.{All, flat_map}
 use Rattle.std.proofs.lemmas.List.Elements.{All-head, All-tail}
@@ -15,9 +14,7 @@ use Rattle.ent_handle.specs.Handle.{Handle, IsHandle}
 use Rattle.ent_storage.specs.Bundle.{Bundle, IsItem}
 use Rattle.ent_queue.specs.Packing.{handle_bytes, item_bytes, bundle_bytes}
 use Rattle.ent_queue.specs.Unpacking.{number_2, unpacked_handles, unpacked_item, unpacked_bundle}
-use Rattle.ent_queue.proofs.Numbers.{length-bytes_2, length-bytes_8, number_2-bytes, number_8-alone}
-use Rattle.ent_queue.proofs.Numbers.{drop-bytes_2, drop-bytes_8, take-bytes_8}
-use Rattle.ent_queue.proofs.Numbers.{unpacked_handle-alone}
+use Rattle.ent_queue.proofs.Numbers.{length-bytes_2, length-bytes_8, number_2-bytes, number_8-alone, drop-bytes_2, drop-bytes_8, take-bytes_8, unpacked_handle-alone}
 
 pub length-handles : (hs : List Handle) → length (flat_map handle_bytes hs) ≡ 8 * length hs
 length-handles [] = refl
@@ -26,21 +23,18 @@ length-handles (h ∷ hs) = search (rules, length-append, length-bytes_8, length
 pub unpacked_handles-bytes : (hs : List Handle) (rest : List ℕ) → All IsHandle hs
     → unpacked_handles (length hs) (flat_map handle_bytes hs ++ rest) ≡ hs
 unpacked_handles-bytes [] rest all = refl
-unpacked_handles-bytes (h ∷ hs) rest all =
-    rw (
-      append_assoc (handle_bytes h) (flat_map handle_bytes hs) rest,
-      take-bytes_8,
-      drop-bytes_8,
-      unpacked_handle-alone h (All-head IsHandle h hs all),
-      unpacked_handles-bytes hs rest (All-tail IsHandle h hs all),
-    ) refl
+unpacked_handles-bytes (h ∷ hs) rest all = rw (
+  append_assoc (handle_bytes h) (flat_map handle_bytes hs) rest,
+  take-bytes_8,
+  drop-bytes_8,
+  unpacked_handle-alone h (All-head IsHandle h hs all),
+  unpacked_handles-bytes hs rest (All-tail IsHandle h hs all),
+) refl
 
-pub drop-handles : (hs : List Handle) (rest : List ℕ)
-    → drop (8 * length hs) (flat_map handle_bytes hs ++ rest) ≡ rest
+pub drop-handles : (hs : List Handle) (rest : List ℕ) → drop (8 * length hs) (flat_map handle_bytes hs ++ rest) ≡ rest
 drop-handles hs rest = grind (arith, common_steps, length-handles, drop-append_seam)
 
-take-item : (item : ComponentId × ℤ) (rest : List ℕ) → take 9 (item_bytes item ++ rest)
-    ≡ item_bytes item
+take-item : (item : ComponentId × ℤ) (rest : List ℕ) → take 9 (item_bytes item ++ rest) ≡ item_bytes item
 take-item item rest = search (rules, take-bytes_8)
 
 drop-item : (item : ComponentId × ℤ) (rest : List ℕ) → drop 9 (item_bytes item ++ rest) ≡ rest
@@ -49,8 +43,7 @@ drop-item item rest = drop-bytes_8 (cast_unsigned w64 item.1) rest
 pub unsigned_below : (z : ℤ) → FitsSigned w64 z → cast_unsigned w64 z < 2 ^ 64
 unsigned_below z fits = Fits-lt-pow (Fits-of_z fits)
 
-unpacked_item-alone : (item : ComponentId × ℤ) → IsItem item → unpacked_item (item_bytes item)
-    ≡ item
+unpacked_item-alone : (item : ComponentId × ℤ) → IsItem item → unpacked_item (item_bytes item) ≡ item
 unpacked_item-alone item is = search (rules, number_8-alone, unsigned_below, to_z-of_z)
 
 pub length-items : (items : Bundle) → length (flat_map item_bytes items) ≡ 9 * length items
@@ -60,20 +53,18 @@ length-items (item ∷ items) = search (rules, length-append, length-bytes_8, le
 pub items_in-bytes : (items : Bundle) (rest : List ℕ) → All IsItem items
     → map unpacked_item (first_chunks 9 (length items) (flat_map item_bytes items ++ rest)) ≡ items
 items_in-bytes [] rest all = refl
-items_in-bytes (item ∷ items) rest all =
-    search (
-      rules,
-      append_assoc,
-      take-item,
-      unpacked_item-alone,
-      All-head,
-      drop-item,
-      All-tail,
-      items_in-bytes items rest (All-tail IsItem item items all),
-    )
+items_in-bytes (item ∷ items) rest all = search (
+  rules,
+  append_assoc,
+  take-item,
+  unpacked_item-alone,
+  All-head,
+  drop-item,
+  All-tail,
+  items_in-bytes items rest (All-tail IsItem item items all),
+)
 
-pub drop-items : (items : Bundle) (rest : List ℕ)
-    → drop (9 * length items) (flat_map item_bytes items ++ rest) ≡ rest
+pub drop-items : (items : Bundle) (rest : List ℕ) → drop (9 * length items) (flat_map item_bytes items ++ rest) ≡ rest
 drop-items items rest = grind (arith, common_steps, length-items, drop-append_seam)
 
 pub length-bundle : (items : Bundle) → length (bundle_bytes items) ≡ 2 + 9 * length items
@@ -86,16 +77,7 @@ pub record BundleBegins (items : Bundle) (bytes rest : List ℕ) : Type 0 where
   pub length_is : length bytes ≡ 2 + 9 * length items + length rest
   pub rest_is : drop (9 * length items) (drop 2 bytes) ≡ rest
 
-pub bundle_begins : (items : Bundle) (rest bytes : List ℕ) → All IsItem items → length items
-    < 2 ^ 16 → bytes ≡ bundle_bytes items ++ rest → BundleBegins items bytes rest
-bundle_begins items rest bytes all few e =
-    search (
-      rules,
-      append_assoc,
-      number_2-bytes,
-      drop-bytes_2,
-      items_in-bytes,
-      length-append,
-      length-bundle,
-      drop-items,
-    )
+pub bundle_begins : (items : Bundle) (rest bytes : List ℕ) → All IsItem items → length items < 2 ^ 16
+    → bytes ≡ bundle_bytes items ++ rest → BundleBegins items bytes rest
+bundle_begins items rest bytes all few e = search
+    (rules, append_assoc, number_2-bytes, drop-bytes_2, items_in-bytes, length-append, length-bundle, drop-items)

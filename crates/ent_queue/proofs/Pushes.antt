@@ -1,6 +1,5 @@
 -- A command at the end of a queue.
-use Rattle.std.proofs.Common.{rules, ◌≡◌, ℕ, ◌+◌, ◌≤◌, List, [], ◌∷◌, ◌++◌, length, arith}
-use Rattle.std.proofs.Common.{append-nil, length-append, Fits, Vec, w64, ap, sym, ◌∙◌}
+use Rattle.std.proofs.Common.{rules, ◌≡◌, ℕ, ◌+◌, ◌≤◌, List, [], ◌∷◌, ◌++◌, length, arith, append-nil, length-append, Fits, Vec, w64, ap, sym, ◌∙◌}
 use Rattle.std.proofs.lemmas.Grind.{common_steps}
 use Rattle.std.proofs.Math.Facts.{Fits-of_lt}
 use Rattle.std.specs.List.{flat_map, All}
@@ -12,8 +11,7 @@ use Rattle.ent_queue.specs.Packing.{command_bytes, queue_bytes, bytes_4, handle_
 use Rattle.ent_queue.specs.Unpacking.{unpacked_commands, ArePacked}
 use Rattle.ent_queue.proofs.Queues.{unpacked_commands-bytes, are_packed, length_of_commands}
 
-queue_bytes-push : (cs : List Command) (c : Command) → queue_bytes (cs ++ c ∷ []) ≡ queue_bytes cs
-    ++ command_bytes c
+queue_bytes-push : (cs : List Command) (c : Command) → queue_bytes (cs ++ c ∷ []) ≡ queue_bytes cs ++ command_bytes c
 queue_bytes-push cs c = grind (arith, common_steps, append-nil)
 
 -- The bytes of some commands, and then those of one more, are those of one more command.
@@ -36,12 +34,11 @@ counted (c ∷ cs) = grind (arith, common_steps, counted cs)
 
 -- there are no more commands than bytes
 count_le_bytes : (count : ℕ) (bytes : List ℕ) → ArePacked count bytes → count ≤ length bytes
-count_le_bytes count bytes packed =
-    search (rules, counted (unpacked_commands count bytes), length_of_commands count bytes)
+count_le_bytes count bytes packed = search
+    (rules, counted (unpacked_commands count bytes), length_of_commands count bytes)
 
 -- so that one more can be counted
-pub count_fits : {Z : Type 0} (count : ℕ) (bytes : Vec ℕ Z) → ArePacked count bytes.items
-    → Fits w64 (count + 1)
+pub count_fits : {Z : Type 0} (count : ℕ) (bytes : Vec ℕ Z) → ArePacked count bytes.items → Fits w64 (count + 1)
 count_fits count bytes packed = search (rules, count_le_bytes, Fits-of_lt)
 
 pub nothing_packed : ArePacked 0 []

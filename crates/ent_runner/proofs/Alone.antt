@@ -1,7 +1,5 @@
 -- A frame of one worker: its reservations stand in the order of the systems.
-use Rattle.std.proofs.Common.{rules, ◌≡◌, ℕ, suc, ◌+◌, ◌<◌, ◌≤◌, List, [], ◌∷◌, ◌++◌, length, map}
-use Rattle.std.proofs.Common.{get_or, refl, ap, sym, ◌∙◌, arith, subst, Some, eq-eqb, append-nil}
-use Rattle.std.proofs.Common.{append_assoc, Option, Vec, Global}
+use Rattle.std.proofs.Common.{rules, ◌≡◌, ℕ, suc, ◌+◌, ◌<◌, ◌≤◌, List, [], ◌∷◌, ◌++◌, length, map, get_or, refl, ap, sym, ◌∙◌, arith, subst, Some, eq-eqb, append-nil, append_assoc, Option, Vec, Global}
 use Rattle.std.specs.Prelude.{slice_get}
 use Rattle.std.specs.List.{All, AllPairs, flat_map, range_with_len}
 use Rattle.std.specs.List.Sorted.{IsPermutation}
@@ -17,14 +15,13 @@ use Rattle.ent_world.specs.World.{World}
 use Rattle.ent_world.specs.Sync.{sync}
 use Rattle.ent_world.specs.OpenWorld.{OpenWorld, View, world_at_start}
 use Rattle.ent_world.specs.declared.fault.Fault.{Fault}
-use Rattle.ent_runner.specs.Frame.{IsFrame, Ends, EndsInOrder, commands_of, requests_by, first_call}
-use Rattle.ent_runner.specs.Frame.{calls_in_order}
+use Rattle.ent_runner.specs.Frame.{IsFrame, Ends, EndsInOrder, commands_of, requests_by, first_call, calls_in_order}
 use Rattle.ent_runner.proofs.Lost.{ClosedAgain}
 use Rattle.ent_runner.proofs.Lists.{at_within, all_below}
 
 -- numbers that rise and fill a range are the range
-rising_from : (a : ℕ) (xs : List ℕ) → AllPairs (λ m n. m < n) xs → All (λ n. a ≤ n) xs
-    → All (λ n. n < a + length xs) xs → xs ≡ range_with_len a (length xs)
+rising_from : (a : ℕ) (xs : List ℕ) → AllPairs (λ m n. m < n) xs → All (λ n. a ≤ n) xs → All (λ n. n < a + length xs) xs
+    → xs ≡ range_with_len a (length xs)
 rising_from a [] rises least below = refl
 rising_from a (x ∷ xs) rises least below =
     let above : All (λ n. x < n) xs = λ k d within. rises 0 (suc k) d (omega arith) (omega arith) in
@@ -42,13 +39,11 @@ rising_from a (x ∷ xs) rises least below =
     first (y ∷ xs) x a low above less rest =
         omega (arith, ap (λ ns. get_or ns 0 0) rest, above 0 y (omega arith))
 
-queues_in_order : (queues before after : List (List Command)) (n : ℕ) → queues ≡ before ++ after → n
-    ≡ length before → commands_of queues (range_with_len n (length after))
-    ≡ flat_map (λ queue. queue) after
+queues_in_order : (queues before after : List (List Command)) (n : ℕ) → queues ≡ before ++ after → n ≡ length before
+    → commands_of queues (range_with_len n (length after)) ≡ flat_map (λ queue. queue) after
 queues_in_order queues before [] n is at = refl
 queues_in_order queues before (q ∷ after) n is at =
-    let rest = queues_in_order queues (before ++ q ∷ []) after (n + 1)
-    (is ∙ sym (append_assoc before (q ∷ []) after))
+    let rest = queues_in_order queues (before ++ q ∷ []) after (n + 1) (is ∙ sym (append_assoc before (q ∷ []) after))
     (omega (arith, at, length-append before (q ∷ []))) in
     search (rules, get_or-append_seam, rest)
 
@@ -56,12 +51,15 @@ queues_in_order queues before (q ∷ after) n is at =
 pub calls_back : (history : List Call) → All (λ (call : Call). call.caller < 1) history
     → map first_call (requests_by 0 history) ≡ history
 calls_back [] all = refl
-calls_back (call ∷ history) all = let less = all 0 call (omega arith) in let rest = calls_back history (λ k d within. all (suc k) d (omega arith)) in search (rules, eq-eqb, rest)
+calls_back (call ∷ history) all =
+    let less = all 0 call (omega arith) in
+    let rest = calls_back history (λ k d within. all (suc k) d (omega arith)) in
+    search (rules, eq-eqb, rest)
 
 module _ {S : Type 0} (may : S → View → List Command → Type 0) (systems : List S) (before : World)
     (queues : List (List Command)) where
-  in_order : (workers : ℕ) (history : List Call) → workers ≡ 1 → IsFrame may systems workers before
-      queues history → history ≡ calls_in_order queues
+  in_order : (workers : ℕ) (history : List Call) → workers ≡ 1 → IsFrame may systems workers before queues history
+      → history ≡ calls_in_order queues
   in_order workers history one frame =
       let only = at_within frame.ran 0 (omega (arith, frame.each_worker)) in
       let mine : List ℕ = only.0 in
@@ -89,20 +87,17 @@ module _ {S : Type 0} (may : S → View → List Command → Type 0) (systems : 
       alone (x ∷ []) mine e at = cc
       alone (x ∷ y ∷ ran) mine e at = absurd (omega arith)
 
-  pub ends_in_order : (workers : ℕ) (after : World) (births : List Handle) (faults : List Fault)
-      → workers ≡ 1 → Ends may systems workers before queues after births faults
-      → EndsInOrder before queues after births faults
-  ends_in_order workers after births faults one ends =
-      search (rules, in_order workers ends.history one ends.frame)
+  pub ends_in_order : (workers : ℕ) (after : World) (births : List Handle) (faults : List Fault) → workers ≡ 1
+      → Ends may systems workers before queues after births faults → EndsInOrder before queues after births faults
+  ends_in_order workers after births faults one ends = search (rules, in_order workers ends.history one ends.frame)
 
 -- the sync of the queues of a frame ends it
-pub ends : {S : Type 0} (may leave : S → View → List Command → Type 0) (systems : List S)
-    (workers : ℕ) (before : World) (world : OpenWorld) (closed after : World)
-    (got : Option (Vec (List Command) Global)) (queues : Vec (List Command) Global)
-    (seen : List (List Command)) (births : List Handle) (faults : List Fault)
-    → ClosedAgain may leave systems world closed got
-    → got ≡ Some queues → world_at_start world ≡ before → world.shared.count ≡ workers → seen
-    ≡ queues.items → after ≡ (sync seen closed).world → births ≡ born closed.allocator → faults
-    ≡ (sync seen closed).faults → Ends may systems workers before queues.items after births faults
-ends may leave systems workers before world closed after got queues seen births faults r some same
-    count shown ok born_are faults_are = search (rules)
+pub ends : {S : Type 0} (may leave : S → View → List Command → Type 0) (systems : List S) (workers : ℕ) (before : World)
+    (world : OpenWorld) (closed after : World) (got : Option (Vec (List Command) Global))
+    (queues : Vec (List Command) Global) (seen : List (List Command)) (births : List Handle) (faults : List Fault)
+    → ClosedAgain may leave systems world closed got → got ≡ Some queues → world_at_start world ≡ before
+    → world.shared.count ≡ workers → seen ≡ queues.items → after ≡ (sync seen closed).world
+    → births ≡ born closed.allocator → faults ≡ (sync seen closed).faults → Ends may systems workers before queues.items
+    after births faults
+ends may leave systems workers before world closed after got queues seen births faults r some same count shown ok
+    born_are faults_are = search (rules)

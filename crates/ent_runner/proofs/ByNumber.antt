@@ -1,8 +1,6 @@
 -- Outputs put at the numbers of their jobs: each is there if no job has two.
 use Rattle.std.proofs.lemmas.Grind.{common_steps}
-use Rattle.std.proofs.Common.{rules, append_assoc, ◌≡◌, ℕ, ◌+◌, ◌<◌, ◌≤◌, List, [], ◌∷◌}
-use Rattle.std.proofs.Common.{◌++◌, length, map, get_or, refl, ap, ◌∙◌, arith, Option, Some, cond}
-use Rattle.std.proofs.Common.{eq-eqb, suc}
+use Rattle.std.proofs.Common.{rules, append_assoc, ◌≡◌, ℕ, ◌+◌, ◌<◌, ◌≤◌, List, [], ◌∷◌, ◌++◌, length, map, get_or, refl, ap, ◌∙◌, arith, Option, Some, cond, eq-eqb, suc}
 use Rattle.std.specs.Prelude.{slice_set, ◌==◌}
 use Rattle.std.specs.List.{All, sum_by}
 use Rattle.std.proofs.lemmas.List.Elements.{All-nil, All-cons, All-rest}
@@ -28,18 +26,17 @@ module _ {O : Type 0} where
   length_put (d ∷ done) by_number = length_put done (slice_set by_number d.number (Some d.output))
       ∙ length-set by_number d.number (Some d.output)
 
-  pub put_both : (xs ys : List (Done O)) (by_number : List (Option O))
-      → outputs_put (xs ++ ys) by_number ≡ outputs_put ys (outputs_put xs by_number)
+  pub put_both : (xs ys : List (Done O)) (by_number : List (Option O)) → outputs_put (xs ++ ys) by_number ≡ outputs_put
+      ys (outputs_put xs by_number)
   put_both [] ys by_number = refl
   put_both (d ∷ xs) ys by_number = put_both xs ys (slice_set by_number d.number (Some d.output))
 
   -- what is not named stays
-  pub put_other : (n : ℕ) (e : Option O) (done : List (Done O)) (by_number : List (Option O))
-      → times n done ≡ 0 → get_or (outputs_put done by_number) n e ≡ get_or by_number n e
+  pub put_other : (n : ℕ) (e : Option O) (done : List (Done O)) (by_number : List (Option O)) → times n done ≡ 0
+      → get_or (outputs_put done by_number) n e ≡ get_or by_number n e
   put_other n e [] by_number none = refl
   put_other n e (d ∷ done) by_number none =
-      let sums = sum_by-cons (is_of n) d done in
-      search (rules, put_other n e done, get_or-set_other)
+      let sums = sum_by-cons (is_of n) d done in search (rules, put_other n e done, get_or-set_other)
 
   pub all_put : (e : Option O) (done : List (Done O)) (by_number : List (Option O))
       → All (λ (d : Done O). d.number < length by_number) done → ((n : ℕ) → times n done ≤ 1)
@@ -47,32 +44,26 @@ module _ {O : Type 0} where
   all_put e [] by_number inside once = search (rules, All-nil)
   all_put e (d ∷ done) by_number inside once =
       let next : List (Option O) = slice_set by_number d.number (Some d.output) in
-      let sums : (n : ℕ) → times n (d ∷ done) ≡ is_of n d + times n done = λ n.
-      sum_by-cons (is_of n) d done in
+      let sums : (n : ℕ) → times n (d ∷ done) ≡ is_of n d + times n done = λ n. sum_by-cons (is_of n) d done in
       let alone : times d.number done ≡ 0 = grind (arith, common_steps, times_here) in
       let put = length-set by_number d.number (Some d.output) in
-      All-cons (λ (f : Done O). get_or (outputs_put done next) f.number e ≡ Some f.output) d
-      done
+      All-cons (λ (f : Done O). get_or (outputs_put done next) f.number e ≡ Some f.output) d done
       (put_other d.number e done next alone ∙ get_or-set_same by_number d.number (Some d.output) e
-      (inside 0 d (omega arith)))
-      (all_put e done next (λ k f within. rw put (inside (suc k) f (omega arith)))
+      (inside 0 d (omega arith))) (all_put e done next (λ k f within. rw put (inside (suc k) f (omega arith)))
       (λ n. omega (arith, sums n, once n)))
 
   -- one more output is put at its number
-  pub put_on : (rest new : List (Done O)) (d : Done O) (by_number next all : List (Option O))
-      → rest ≡ d ∷ new → next ≡ slice_set by_number d.number (Some d.output)
-      → All (λ (f : Done O). f.number < length by_number) rest
-      → outputs_put rest by_number ≡ all
-      → All (λ (f : Done O). f.number < length next) new × (outputs_put new next ≡ all)
+  pub put_on : (rest new : List (Done O)) (d : Done O) (by_number next all : List (Option O)) → rest ≡ d ∷ new
+      → next ≡ slice_set by_number d.number (Some d.output) → All (λ (f : Done O). f.number < length by_number) rest
+      → outputs_put rest by_number ≡ all → All (λ (f : Done O). f.number < length next) new
+      × (outputs_put new next ≡ all)
   put_on rest new d by_number next all front set inside same = (
-    rw (set, length-set) (All-rest (λ (f : Done O). f.number < length by_number) d new rest front
-        inside),
+    rw (set, length-set) (All-rest (λ (f : Done O). f.number < length by_number) d new rest front inside),
     search rules,
   )
 
 -- one more output is moved out
-pub collected_on : {O : Type 0} (rest new : List (Option O)) (q : O) (before after : List O)
-    (all : List (Option O)) → rest ≡ Some q ∷ new → after ≡ before ++ q ∷ []
-    → map Some before ++ rest ≡ all
+pub collected_on : {O : Type 0} (rest new : List (Option O)) (q : O) (before after : List O) (all : List (Option O))
+    → rest ≡ Some q ∷ new → after ≡ before ++ q ∷ [] → map Some before ++ rest ≡ all
     → (map Some after ++ new ≡ all) × (length rest ≡ length new + 1)
 collected_on rest new q before after all front push same = search (rules, map-append, append_assoc)

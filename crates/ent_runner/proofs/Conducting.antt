@@ -1,15 +1,12 @@
 -- What the workers of a crew have done together, once all of them are back.
 use Rattle.std.proofs.lemmas.Grind.{common_steps}
-use Rattle.std.proofs.Common.{rules, ◌≡◌, ℕ, ◌<◌, ◌≤◌, List, [], ◌∷◌, ◌++◌, length, map, get_or, refl}
-use Rattle.std.proofs.Common.{ap, sym, ◌∙◌, arith, subst, Option, Some, None, true, false, Bool, take}
-use Rattle.std.proofs.Common.{drop, inl, inr, ⊎_elim, ◌⊎◌, Vec, Global, reverse}
+use Rattle.std.proofs.Common.{rules, ◌≡◌, ℕ, ◌<◌, ◌≤◌, List, [], ◌∷◌, ◌++◌, length, map, get_or, refl, ap, sym, ◌∙◌, arith, subst, Option, Some, None, true, false, Bool, take, drop, inl, inr, ⊎_elim, ◌⊎◌, Vec, Global, reverse}
 use Rattle.std.specs.Prelude.{slice_get, replicate, IsSome, IfSome, IfNone, Any, vec_capacity}
 use Rattle.std.specs.List.{All, AllPairs, flat_map, range_with_len}
 use Rattle.std.specs.List.Sorted.{IsPermutation}
 use Rattle.std.proofs.lemmas.Bool.{cases_lt}
 use Rattle.std.proofs.lemmas.Option.{slice_get_within, get_or_from_slice_get, slice_get-get_or, none-some}
-use Rattle.std.proofs.lemmas.List.{length-map, length-append, take-append-le, take_all}
-use Rattle.std.proofs.lemmas.List.{length-replicate, map-append, length-reverse}
+use Rattle.std.proofs.lemmas.List.{length-map, length-append, take-append-le, take_all, length-replicate, map-append, length-reverse}
 use Rattle.std.proofs.lemmas.List.Folds.{flat_map-map}
 use Rattle.std.proofs.lemmas.List.Sorted.{All-permutation, IsPermutation-reverse, length_permutation}
 use Rattle.std.proofs.lemmas.List.FromFn.{length-range_with_len}
@@ -20,62 +17,59 @@ use Rattle.ent_runner.specs.Collecting.{outputs_put}
 use Rattle.ent_runner.specs.Crew.{AreDone, AreBrokenOff, DidAll, DidUntil}
 use Rattle.ent_runner.specs.declared.worker.Done.{Done}
 use Rattle.ent_runner.specs.declared.worker.Worker.{Worker}
-use Rattle.ent_runner.specs.Worker.{HasWorked, HaveAllWorked, HaveDoneFirst, HasClaimed, IsUnused}
-use Rattle.ent_runner.specs.Worker.{IsRoomForOne, IsNewWorker, IsLostFor, numbers_of, all_done}
-use Rattle.ent_runner.specs.Worker.{HasStoppedAt, IsRoom}
-use Rattle.ent_runner.proofs.Lists.{of_mapped, each_of_all, mapped_at, same_flat, get_mapped, map_flat}
-use Rattle.ent_runner.proofs.Lists.{at_within, flat_all}
+use Rattle.ent_runner.specs.Worker.{HasWorked, HaveAllWorked, HaveDoneFirst, HasClaimed, IsUnused, IsRoomForOne, IsNewWorker, IsLostFor, numbers_of, all_done, HasStoppedAt, IsRoom}
+use Rattle.ent_runner.proofs.Lists.{of_mapped, each_of_all, mapped_at, same_flat, get_mapped, map_flat, at_within, flat_all}
 use Rattle.ent_runner.proofs.ByNumber.{length_put}
 use Rattle.ent_runner.proofs.Outputs.{full, left_out, long, outputs_at, unwrapped, kept_all}
 
 -- a slice of the same length that was written back
-pub written_back : {X : Type 0} (n : ℕ) (old new : List X) → n ≡ length old → length new
-    ≡ length old → take n (new ++ drop (length new) old) ≡ new
+pub written_back : {X : Type 0} (n : ℕ) (old new : List X) → n ≡ length old → length new ≡ length old
+    → take n (new ++ drop (length new) old) ≡ new
 written_back n old new n_is same = search (rules, take-append-le, take_all)
 
 -- what follows if there is none, follows if there is none
 pub none_weaker : {X P Q : Type 0} (o : Option X) → (P → Q) → IfNone o P → IfNone o Q
 none_weaker it follows p = search rules
 
-pub some_weaker : {X : Type 0} {P Q : X → Type 0} (o : Option X) → ((x : X) → P x → Q x)
-    → IfSome o P → IfSome o Q
+pub some_weaker : {X : Type 0} {P Q : X → Type 0} (o : Option X) → ((x : X) → P x → Q x) → IfSome o P → IfSome o Q
 some_weaker None follows p = tt
 some_weaker (Some x) follows p = follows x p
 
 module _ {O : Type 0} where
   -- the workers are ready to begin
   pub all_ready : (claims : Claims) (team : List (Worker O)) (fresh : List Claimer)
-      → map (λ (w : Worker O). w.claimer) team ≡ reverse fresh → All (IsClaimerOf claims) fresh
-      → All IsUnused fresh → All (λ (w : Worker O). IsRoomForOne w.done) team
-      → All (λ (w : Worker O). IsClaimerOf claims w.claimer × IsNewWorker w) team
-  all_ready claims team fresh claimers theirs unused empty = let moved = IsPermutation-reverse fresh in let one = of_mapped (IsClaimerOf claims) (λ (w : Worker O). w.claimer) team (rw claimers (All-permutation (IsClaimerOf claims) fresh (reverse fresh) moved theirs)) in let two = of_mapped IsUnused (λ (w : Worker O). w.claimer) team (rw claimers (All-permutation IsUnused fresh (reverse fresh) moved unused)) in search rules
+      → map (λ (w : Worker O). w.claimer) team ≡ reverse fresh → All (IsClaimerOf claims) fresh → All IsUnused fresh
+      → All (λ (w : Worker O). IsRoomForOne w.done) team → All (λ (w : Worker O). IsClaimerOf claims w.claimer
+      × IsNewWorker w) team
+  all_ready claims team fresh claimers theirs unused empty =
+      let moved = IsPermutation-reverse fresh in
+      let one = of_mapped (IsClaimerOf claims) (λ (w : Worker O). w.claimer) team
+      (rw claimers (All-permutation (IsClaimerOf claims) fresh (reverse fresh) moved theirs)) in
+      let two = of_mapped IsUnused (λ (w : Worker O). w.claimer) team
+      (rw claimers (All-permutation IsUnused fresh (reverse fresh) moved unused)) in
+      search rules
 
   -- A crew is made: its claims are open, its workers are ready, and there is room for all outputs.
-  pub room_of : (claims seen : Claims) (jobs workers : ℕ) (team : List (Worker O))
-      (fresh : List Claimer) (claimers : Vec Claimer Global) (by_number : List (Option O))
-      (outputs : Vec O Global) → claims ≡ seen → claims.numbers ≡ jobs → claims.workers ≡ workers
-      → 0 < workers → length fresh ≡ workers → All (IsClaimerOf claims) fresh → All IsUnused fresh
-      → map (λ (w : Worker O). w.claimer) team ≡ reverse fresh
-      → All (λ (w : Worker O). IsRoomForOne w.done) team → claimers.items ≡ []
-      → length fresh ≤ vec_capacity claimers → by_number ≡ replicate jobs None
-      → outputs.items ≡ [] → jobs ≤ vec_capacity outputs
+  pub room_of : (claims seen : Claims) (jobs workers : ℕ) (team : List (Worker O)) (fresh : List Claimer)
+      (claimers : Vec Claimer Global) (by_number : List (Option O)) (outputs : Vec O Global) → claims ≡ seen
+      → claims.numbers ≡ jobs → claims.workers ≡ workers → 0 < workers → length fresh ≡ workers
+      → All (IsClaimerOf claims) fresh → All IsUnused fresh → map (λ (w : Worker O). w.claimer) team ≡ reverse fresh
+      → All (λ (w : Worker O). IsRoomForOne w.done) team → claimers.items ≡ [] → length fresh ≤ vec_capacity claimers
+      → by_number ≡ replicate jobs None → outputs.items ≡ [] → jobs ≤ vec_capacity outputs
       → IsRoom seen team claimers by_number outputs
-  room_of claims seen jobs workers team fresh claimers by_number outputs same numbers many some count
-      own unused theirs empty none fits without outputs_none outputs_fit = rw (sym same) (record {
+  room_of claims seen jobs workers team fresh claimers by_number outputs same numbers many some count own unused theirs
+      empty none fits without outputs_none outputs_fit = rw (sym same)
+      (record {
         some = omega (arith, many, some);
-        count = omega (
-          arith,
-          length-map team (λ (w : Worker O). w.claimer),
-          ap length theirs,
-          length-reverse fresh,
-          count,
-          many,
-        );
+        count = omega
+            (arith, length-map team (λ (w : Worker O). w.claimer), ap length theirs, length-reverse fresh, count, many);
         each = all_ready claims team fresh theirs own unused empty;
         claimers_empty = none;
-        claimers_fit = omega (arith, count, many, fits);
+        claimers_fit = omega
+            (arith, count, many, fits);
         by_number_empty = without ∙ ap (λ n. replicate n None) (sym numbers);
-        outputs_empty = outputs_none;
+        outputs_empty =
+            outputs_none;
         outputs_fit = omega (arith, numbers, outputs_fit);
       })
 
@@ -89,62 +83,58 @@ module _ {O : Type 0} where
         (λ k d within. (each k d within).claimer)
 
     -- the jobs that they did are those that they claimed
-    pub did_claims : numbers_of (all_done team)
-        ≡ flat_map (λ (c : Claimer). c.own.claims) (claimers_of team)
+    pub did_claims : numbers_of (all_done team) ≡ flat_map (λ (c : Claimer). c.own.claims) (claimers_of team)
     did_claims = search (rules, map_flat, same_flat, flat_map-map)
 
     -- each job has a number that there is
-    pub numbers_below : All (λ (w : Worker O). All (λ (d : Done O). d.number < claims.numbers)
-        w.done.items) team
+    pub numbers_below : All (λ (w : Worker O). All (λ (d : Done O). d.number < claims.numbers) w.done.items) team
     numbers_below k w within =
         let has = each k w within in
         of_mapped (λ n. n < claims.numbers) (λ (d : Done O). d.number) (get_or team k w).done.items
         (rw has.claimed has.claimer.below)
 
   -- A worker did a job, if some are left: else it had found none left.
-  busy_one : (claims : Claims) (w : Worker O) → HasClaimed claims w
-      → (claimers : List Claimer) (k : ℕ) → slice_get claimers k ≡ Some w.claimer
-      → (first : AreFirst claims.numbers claimers) → (stopped : Bool) → w.stopped ≡ stopped
-      → first.count < claims.numbers → 0 < length w.done.items
+  busy_one : (claims : Claims) (w : Worker O) → HasClaimed claims w → (claimers : List Claimer) (k : ℕ)
+      → slice_get claimers k ≡ Some w.claimer → (first : AreFirst claims.numbers claimers) → (stopped : Bool)
+      → w.stopped ≡ stopped → first.count < claims.numbers → 0 < length w.done.items
   busy_one claims w has claimers k at first true is less = has.some is
   busy_one claims w has claimers k at first false is less = search rules
 
-  busy_all : (claims : Claims) (team : List (Worker O)) → All (HasClaimed claims) team
-      → (claimers : List Claimer) → claimers ≡ map (λ (w : Worker O). w.claimer) team
-      → (first : AreFirst claims.numbers claimers) → first.count < claims.numbers
-      → All (λ (w : Worker O). 0 < length w.done.items) team
-  busy_all claims team each claimers theirs first less k d within = let w = get_or team k d in let at = get_mapped (λ (w : Worker O). w.claimer) team k w (slice_get-get_or team k d within) in search (rules, busy_one)
+  busy_all : (claims : Claims) (team : List (Worker O)) → All (HasClaimed claims) team → (claimers : List Claimer)
+      → claimers ≡ map (λ (w : Worker O). w.claimer) team → (first : AreFirst claims.numbers claimers)
+      → first.count < claims.numbers → All (λ (w : Worker O). 0 < length w.done.items) team
+  busy_all claims team each claimers theirs first less k d within =
+      let w = get_or team k d in
+      let at = get_mapped (λ (w : Worker O). w.claimer) team k w (slice_get-get_or team k d within) in
+      search (rules, busy_one)
 
   -- So some were done, if there are any.
-  some_by : (claims : Claims) (w : Worker O) (team : List (Worker O)) → HasClaimed claims w
-      → (claimers : List Claimer) → claimers ≡ map (λ (v : Worker O). v.claimer) (w ∷ team)
-      → (first : AreFirst claims.numbers claimers) → 0 < length w.done.items → 0 < first.count
+  some_by : (claims : Claims) (w : Worker O) (team : List (Worker O)) → HasClaimed claims w → (claimers : List Claimer)
+      → claimers ≡ map (λ (v : Worker O). v.claimer) (w ∷ team) → (first : AreFirst claims.numbers claimers)
+      → 0 < length w.done.items → 0 < first.count
   some_by claims w team has claimers theirs first some =
       let whole = length_permutation _ _ first.once in
       let long = length-range_with_len 0 first.count in
       let own = length-map w.done.items (λ (d : Done O). d.number) in
       let same = ap length has.claimed in
-      let parts = length-append w.claimer.own.claims
-      (flat_map (λ (c : Claimer). c.own.claims) (map (λ (v : Worker O). v.claimer) team)) in
+      let parts = length-append w.claimer.own.claims (flat_map (λ (c : Claimer). c.own.claims)
+      (map (λ (v : Worker O). v.claimer) team)) in
       let all = ap (λ cs. length (flat_map (λ (c : Claimer). c.own.claims) cs)) theirs in
       omega (arith, whole, long, own, same, parts, all, some)
 
-  some_ran : (claims : Claims) (team : List (Worker O)) → All (HasClaimed claims) team
-      → 0 < length team → (claimers : List Claimer) → claimers
-      ≡ map (λ (w : Worker O). w.claimer) team → (first : AreFirst claims.numbers claimers)
-      → 0 < claims.numbers → 0 < first.count
+  some_ran : (claims : Claims) (team : List (Worker O)) → All (HasClaimed claims) team → 0 < length team
+      → (claimers : List Claimer) → claimers ≡ map (λ (w : Worker O). w.claimer) team
+      → (first : AreFirst claims.numbers claimers) → 0 < claims.numbers → 0 < first.count
   some_ran claims [] each many claimers theirs first less = absurd (omega arith)
   some_ran claims (w ∷ team) each many claimers theirs first less = ⊎_elim
-      (λ (left : first.count < claims.numbers). some_by claims w team
-      (All-head (HasClaimed claims) w team each) claimers theirs first
-      (All-head (λ (w : Worker O). 0 < length w.done.items) w team
-      (busy_all claims (w ∷ team) each claimers theirs first left)))
-      (λ (all : claims.numbers ≤ first.count). omega (arith, less))
-      (cases_lt first.count claims.numbers)
+      (λ (left : first.count < claims.numbers). some_by claims w team (All-head (HasClaimed claims) w team each)
+      claimers theirs first (All-head (λ (w : Worker O). 0 < length w.done.items) w team
+      (busy_all claims (w ∷ team) each claimers theirs first left))) (λ (all : claims.numbers ≤ first.count). omega
+      (arith, less)) (cases_lt first.count claims.numbers)
 
   pub first_closed : (claims : Claims) (team : List (Worker O)) → All (HasClaimed claims) team
-      → (claimers : List Claimer) → claimers ≡ map (λ (w : Worker O). w.claimer) team
-      → 0 < length team → AreFirst claims.numbers claimers → HaveDoneFirst claims.numbers team
+      → (claimers : List Claimer) → claimers ≡ map (λ (w : Worker O). w.claimer) team → 0 < length team
+      → AreFirst claims.numbers claimers → HaveDoneFirst claims.numbers team
   first_closed claims team each claimers theirs many first = record {
     count = first.count;
     within = first.within;
@@ -161,24 +151,15 @@ module _ {O : Type 0} where
 
   module _ (numbers : ℕ) (team : List (Worker O)) (first : HaveDoneFirst numbers team) where
     -- if each job has an output, all were done
-    pub all_ran : (outputs : List O) → map Some outputs ≡ by_number numbers team → first.count
-        ≡ numbers
-    all_ran outputs each = ⊎_elim
-        (λ (less : first.count < numbers).
-        let lacks : get_or (by_number numbers team) first.count no_output ≡ no_output =
-        left_out first.count (all_done team) first.once numbers first.count no_output
-        (omega arith) less in
-        let long = length-map outputs Some in
-        let put = length_put (all_done team) (replicate numbers None) in
-        let many = length-replicate numbers no_output in
-        let there = at_within outputs first.count
-        (omega (arith, long, put, many, ap length each, less)) in
-        let some = get_or_from_slice_get (map Some outputs) first.count (Some there.0) no_output
-        (get_mapped Some outputs first.count there.0 there.1) in
-        absurd (none-some there.0 (sym lacks
-        ∙ (ap (λ all. get_or all first.count no_output) (sym each) ∙ some))))
-        (λ (all : numbers ≤ first.count). omega (arith, first.within))
-        (cases_lt first.count numbers)
+    pub all_ran : (outputs : List O) → map Some outputs ≡ by_number numbers team → first.count ≡ numbers
+    all_ran outputs each = ⊎_elim (λ (less : first.count < numbers). let lacks : get_or (by_number numbers team)
+        first.count no_output ≡ no_output = left_out first.count (all_done team) first.once numbers first.count
+        no_output (omega arith) less in let long = length-map outputs Some in let put = length_put (all_done team)
+        (replicate numbers None) in let many = length-replicate numbers no_output in let there = at_within outputs
+        first.count (omega (arith, long, put, many, ap length each, less)) in let some = get_or_from_slice_get
+        (map Some outputs) first.count (Some there.0) no_output (get_mapped Some outputs first.count there.0 there.1) in
+        absurd (none-some there.0 (sym lacks ∙ (ap (λ all. get_or all first.count no_output) (sym each) ∙ some))))
+        (λ (all : numbers ≤ first.count). omega (arith, first.within)) (cases_lt first.count numbers)
 
     -- if one lacks it, some are left
     pub some_left : Any (λ (output : Option O). output ≡ None) (by_number numbers team)
@@ -188,46 +169,40 @@ module _ {O : Type 0} where
         let long = length-range_with_len 0 first.count in
         let own = length-map (all_done team) (λ (d : Done O). d.number) in
         ⊎_elim (λ (less : first.count < numbers). omega (arith, whole, long, own, less))
-        (λ (all : numbers ≤ first.count).
-        let same : first.count ≡ numbers = omega (arith, first.within) in
-        let has : IsSome (get_or (by_number numbers team) k output) =
-        (rw same at (full first.count (all_done team) first.once)) k output within in
-        let gone : IsSome no_output = subst IsSome (at ∙ none) has in
-        absurd (cc)) (cases_lt first.count numbers)
+        (λ (all : numbers ≤ first.count). let same : first.count ≡ numbers = omega (arith, first.within) in let has :
+        IsSome (get_or (by_number numbers team) k output) = (rw same at (full first.count (all_done team) first.once)) k
+        output within in let gone : IsSome no_output = subst IsSome (at ∙ none) has in absurd (cc))
+        (cases_lt first.count numbers)
 
   pub claimers_are : (old new : List (Worker O)) → old ≡ new
       → map (λ (w : Worker O). w.claimer) old ≡ map (λ (w : Worker O). w.claimer) new
   claimers_are old new same = ap (map (λ (w : Worker O). w.claimer)) same
 
-  pub any_stopped : (old new : List (Worker O)) → old ≡ new
-      → Any (λ (w : Worker O). w.stopped ≡ true) old → Any (λ (w : Worker O). w.stopped ≡ true) new
+  pub any_stopped : (old new : List (Worker O)) → old ≡ new → Any (λ (w : Worker O). w.stopped ≡ true) old
+      → Any (λ (w : Worker O). w.stopped ≡ true) new
   any_stopped old new same any = subst (Any (λ (w : Worker O). w.stopped ≡ true)) same any
 
-  pub none_stopped : (old new : List (Worker O)) → old ≡ new
-      → All (λ (w : Worker O). w.stopped ≡ false) old
+  pub none_stopped : (old new : List (Worker O)) → old ≡ new → All (λ (w : Worker O). w.stopped ≡ false) old
       → All (λ (w : Worker O). w.stopped ≡ false) new
   none_stopped old new same all = subst (All (λ (w : Worker O). w.stopped ≡ false)) same all
 
   -- the outputs by number after all were put in, as they are written back
-  pub outputs_back : (count n : ℕ) (done : List (Done O)) (start new : List (Option O))
-      → start ≡ replicate count None → n ≡ length start → new ≡ outputs_put done start
-      → take n (new ++ drop (length new) start) ≡ outputs_put done (replicate count None)
+  pub outputs_back : (count n : ℕ) (done : List (Done O)) (start new : List (Option O)) → start ≡ replicate count None
+      → n ≡ length start → new ≡ outputs_put done start → take n (new ++ drop (length new) start)
+      ≡ outputs_put done (replicate count None)
   outputs_back count n done start new empty n_is put = search (rules, length_put, written_back)
 
   -- what all workers together have done
-  module _ {L : Type 0} (may leave : ℕ → L → O → L → Type 0) (may_have : L → Type 0)
-      (claims : Claims) (before after : List L) (team : List (Worker O))
-      (worked : HaveAllWorked may leave may_have claims before after team) where
-    worked_at : (k : ℕ) (w : Worker O) (a b : L) → slice_get team k ≡ Some w
-        → slice_get before k ≡ Some a → slice_get after k ≡ Some b
-        → HasWorked may leave may_have claims a b w
-    worked_at k w a b at_w at_a at_b =
-        rw (
-          sym (get_or_from_slice_get before k a a at_a),
-          sym (get_or_from_slice_get after k b b at_b),
-          sym (get_or_from_slice_get team k w w at_w),
-        )
-        (worked.each k a b w (slice_get_within before k a at_a))
+  module _ {L : Type 0} (may leave : ℕ → L → O → L → Type 0) (may_have : L → Type 0) (claims : Claims)
+      (before after : List L) (team : List (Worker O)) (worked : HaveAllWorked may leave may_have claims before after
+      team) where
+    worked_at : (k : ℕ) (w : Worker O) (a b : L) → slice_get team k ≡ Some w → slice_get before k ≡ Some a
+        → slice_get after k ≡ Some b → HasWorked may leave may_have claims a b w
+    worked_at k w a b at_w at_a at_b = rw (
+      sym (get_or_from_slice_get before k a a at_a),
+      sym (get_or_from_slice_get after k b b at_b),
+      sym (get_or_from_slice_get team k w w at_w),
+    ) (worked.each k a b w (slice_get_within before k a at_a))
 
     pub stay : All may_have after
     stay k d within =
@@ -266,22 +241,20 @@ module _ {O : Type 0} where
     rising = All-map (AllPairs (λ m n. m < n)) (λ (w : Worker O). numbers_of w.done.items) team
         (λ k d within. let has = all_claimed k d within in rw has.claimed has.claimer.rises)
 
-    long_ran : length (map (λ (w : Worker O). numbers_of w.done.items) team)
-        ≡ length before
+    long_ran : length (map (λ (w : Worker O). numbers_of w.done.items) team) ≡ length before
     long_ran = length-map team _ ∙ worked.count
 
-    module _ (outputs : List O) (at : All (λ (d : Done O). slice_get outputs d.number
-        ≡ Some d.output) (all_done team)) where
-      own_at : (k : ℕ) (w : Worker O) → slice_get team k ≡ Some w
-          → All (λ (d : Done O). slice_get outputs d.number ≡ Some d.output) w.done.items
-      own_at k w at_w = each_of_all (λ (w : Worker O). All (λ (d : Done O). slice_get outputs
-          d.number ≡ Some d.output) w.done.items) team k w (flat_all (λ (d : Done O).
-          slice_get outputs d.number ≡ Some d.output) (λ (w : Worker O). w.done.items) team at) at_w
+    module _ (outputs : List O) (at : All (λ (d : Done O). slice_get outputs d.number ≡ Some d.output)
+        (all_done team)) where
+      own_at : (k : ℕ) (w : Worker O) → slice_get team k ≡ Some w → All (λ (d : Done O). slice_get outputs d.number
+          ≡ Some d.output) w.done.items
+      own_at k w at_w = each_of_all (λ (w : Worker O). All (λ (d : Done O). slice_get outputs d.number ≡ Some d.output)
+          w.done.items) team k w (flat_all (λ (d : Done O). slice_get outputs d.number ≡ Some d.output)
+          (λ (w : Worker O). w.done.items) team at) at_w
 
       -- a worker that has ended, and one whose last job stopped
-      until : (a b : L) (w : Worker O) → All (λ (d : Done O). slice_get outputs d.number
-          ≡ Some d.output) w.done.items → HasStoppedAt may leave a w.done.items b
-          → DidUntil may leave outputs a (numbers_of w.done.items) b
+      until : (a b : L) (w : Worker O) → All (λ (d : Done O). slice_get outputs d.number ≡ Some d.output) w.done.items
+          → HasStoppedAt may leave a w.done.items b → DidUntil may leave outputs a (numbers_of w.done.items) b
       until a b w own s =
           let whole = rw s.done_are at own in
           let last : slice_get outputs s.last.number ≡ Some s.last.output =
@@ -301,50 +274,42 @@ module _ {O : Type 0} where
           seam [] x = refl
           seam (y ∷ xs) x = seam xs x
 
-          front : (xs : List (Done O)) (x : Done O) → All (λ (d : Done O). slice_get outputs d.number
-              ≡ Some d.output) (xs ++ x ∷ []) → All (λ (d : Done O). slice_get outputs d.number
-              ≡ Some d.output) xs
-          front xs x all = All-left (λ (d : Done O). slice_get outputs d.number ≡ Some d.output) xs
-              (x ∷ []) all
+          front : (xs : List (Done O)) (x : Done O) → All (λ (d : Done O). slice_get outputs d.number ≡ Some d.output)
+              (xs ++ x ∷ []) → All (λ (d : Done O). slice_get outputs d.number ≡ Some d.output) xs
+          front xs x all = All-left (λ (d : Done O). slice_get outputs d.number ≡ Some d.output) xs (x ∷ []) all
 
-      ended_by : (k : ℕ) (w : Worker O) (a b : L) → slice_get team k ≡ Some w
-          → slice_get before k ≡ Some a → slice_get after k ≡ Some b → w.stopped ≡ false
-          → DidAll may outputs a (numbers_of w.done.items) b
-      ended_by k w a b at_w at_a at_b going = kept_all may outputs a w.done.items b
-          (own_at k w at_w) ((worked_at k w a b at_w at_a at_b).ended going)
+      ended_by : (k : ℕ) (w : Worker O) (a b : L) → slice_get team k ≡ Some w → slice_get before k ≡ Some a
+          → slice_get after k ≡ Some b → w.stopped ≡ false → DidAll may outputs a (numbers_of w.done.items) b
+      ended_by k w a b at_w at_a at_b going = kept_all may outputs a w.done.items b (own_at k w at_w)
+          ((worked_at k w a b at_w at_a at_b).ended going)
 
-      stopped_by : (k : ℕ) (w : Worker O) (a b : L) → slice_get team k ≡ Some w
-          → slice_get before k ≡ Some a → slice_get after k ≡ Some b → w.stopped ≡ true
-          → DidUntil may leave outputs a (numbers_of w.done.items) b
+      stopped_by : (k : ℕ) (w : Worker O) (a b : L) → slice_get team k ≡ Some w → slice_get before k ≡ Some a
+          → slice_get after k ≡ Some b → w.stopped ≡ true → DidUntil may leave outputs a (numbers_of w.done.items) b
       stopped_by k w a b at_w at_a at_b stopped = until a b w (own_at k w at_w)
           ((worked_at k w a b at_w at_a at_b).stopped stopped)
 
-      either_by : (k : ℕ) (w : Worker O) (a b : L) → slice_get team k ≡ Some w
-          → slice_get before k ≡ Some a → slice_get after k ≡ Some b → (stopped : Bool)
-          → w.stopped ≡ stopped → DidAll may outputs a (numbers_of w.done.items) b
-          ⊎ DidUntil may leave outputs a (numbers_of w.done.items) b
+      either_by : (k : ℕ) (w : Worker O) (a b : L) → slice_get team k ≡ Some w → slice_get before k ≡ Some a
+          → slice_get after k ≡ Some b → (stopped : Bool) → w.stopped ≡ stopped
+          → DidAll may outputs a (numbers_of w.done.items) b ⊎ DidUntil may leave outputs a (numbers_of w.done.items) b
       either_by k w a b at_w at_a at_b false is = inl (ended_by k w a b at_w at_a at_b is)
       either_by k w a b at_w at_a at_b true is = inr (stopped_by k w a b at_w at_a at_b is)
 
-    pub are_done : (first : HaveDoneFirst claims.numbers team)
-        → All (λ (w : Worker O). w.stopped ≡ false) team → (outputs : List O)
-        → map Some outputs ≡ by_number claims.numbers team
+    pub are_done : (first : HaveDoneFirst claims.numbers team) → All (λ (w : Worker O). w.stopped ≡ false) team
+        → (outputs : List O) → map Some outputs ≡ by_number claims.numbers team
         → AreDone may claims.numbers before outputs after
     are_done first going outputs each =
         let all = all_ran claims.numbers team first outputs each in
-        let once : IsPermutation (numbers_of (all_done team)) (range_with_len 0 claims.numbers) =
-        rw (sym all) first.once in
+        let once : IsPermutation (numbers_of (all_done team)) (range_with_len 0 claims.numbers) = rw (sym all)
+        first.once in
         record {
           ran = ran;
           each_worker = long_ran;
           once = rw ran_flat once;
           rising = rising;
           count = long claims.numbers (all_done team) once outputs each;
-          did = λ k mine a b at_mine at_a at_b.
-              let w = mapped_at (λ (w : Worker O). numbers_of w.done.items) team k mine at_mine in
-              rw (sym w.2) (ended_by outputs
-              (outputs_at claims.numbers (all_done team) once outputs each) k w.0 a b w.1 at_a at_b
-              (each_of_all (λ (w : Worker O). w.stopped ≡ false) team k w.0 going w.1));
+          did = λ k mine a b at_mine at_a at_b. let w = mapped_at (λ (w : Worker O). numbers_of w.done.items) team k
+              mine at_mine in rw (sym w.2) (ended_by outputs (outputs_at claims.numbers (all_done team) once outputs
+              each) k w.0 a b w.1 at_a at_b (each_of_all (λ (w : Worker O). w.stopped ≡ false) team k w.0 going w.1));
         }
 
     pub are_broken_off : HaveDoneFirst claims.numbers team → IsLostFor claims.numbers team
@@ -403,11 +368,10 @@ module _ {O : Type 0} where
             inr (omega (arith, whole, many, own, less))
 
     -- what comes of these outputs, by number, where they are collected
-    module _ (first : HaveDoneFirst claims.numbers team) (got : Option (Vec O Global))
-        (was : List (Option O)) (same : was ≡ by_number claims.numbers team) where
-      pub done_of : All (λ (w : Worker O). w.stopped ≡ false) team
-          → IfSome got (λ outputs. map Some outputs.items ≡ was)
-          → IfSome got (λ outputs. AreDone may claims.numbers before outputs.items after)
+    module _ (first : HaveDoneFirst claims.numbers team) (got : Option (Vec O Global)) (was : List (Option O))
+        (same : was ≡ by_number claims.numbers team) where
+      pub done_of : All (λ (w : Worker O). w.stopped ≡ false) team → IfSome got (λ outputs. map Some outputs.items
+          ≡ was) → IfSome got (λ outputs. AreDone may claims.numbers before outputs.items after)
       done_of going all = search (rules, some_weaker, are_done)
 
       pub lost_of : IfNone got (Any (λ (output : Option O). output ≡ None) was)
@@ -418,4 +382,5 @@ module _ {O : Type 0} where
     -- a worker that has stopped has done a job
     pub some_jobs : IsLostFor claims.numbers team → 0 < claims.numbers
     some_jobs (inr less) = omega arith
-    some_jobs (inl (k, w, within, at, stopped)) = grind (arith, common_steps, slice_get-get_or, each_of_all, all_claimed, numbers_below, at_within)
+    some_jobs (inl (k, w, within, at, stopped)) = grind
+        (arith, common_steps, slice_get-get_or, each_of_all, all_claimed, numbers_below, at_within)

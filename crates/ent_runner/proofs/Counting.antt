@@ -1,12 +1,10 @@
 -- Lists of numbers that weigh the same, however each number is weighed.
 use Rattle.std.proofs.lemmas.Grind.{common_steps}
-use Rattle.std.proofs.Common.{rules, ◌≡◌, ℕ, zero, suc, ◌+◌, ◌<◌, ◌≤◌, List, [], ◌∷◌, sym, refl, ap}
-use Rattle.std.proofs.Common.{arith, eq-eqb, ne_eqb, IsPermutation, remove, cond, Bool}
+use Rattle.std.proofs.Common.{rules, ◌≡◌, ℕ, zero, suc, ◌+◌, ◌<◌, ◌≤◌, List, [], ◌∷◌, sym, refl, ap, arith, eq-eqb, ne_eqb, IsPermutation, remove, cond, Bool}
 use Rattle.std.specs.Prelude.{◌==◌}
 use Rattle.std.specs.List.{sum_by, Contains, range_with_len}
 use Rattle.std.proofs.lemmas.List.Sums.{sum_by-cons}
-use Rattle.std.proofs.lemmas.List.Sorted.{IsPermutation-refl, IsPermutation-trans}
-use Rattle.std.proofs.lemmas.List.Sorted.{IsPermutation-cons, IsPermutation-remove, sum_by_popped}
+use Rattle.std.proofs.lemmas.List.Sorted.{IsPermutation-refl, IsPermutation-trans, IsPermutation-cons, IsPermutation-remove, sum_by_popped}
 use mathlib.Core.Logic.{dite}
 use native.Mathlib.Decide.{ℕ_discrete}
 
@@ -23,21 +21,18 @@ is_other n m ne = ap (λ (b : Bool). cond {A = ℕ} b 1 0) (ne_eqb m n ne)
 pub found_in : (n : ℕ) (xs : List ℕ) → Contains xs n → 1 ≤ sum_by (is n) xs
 found_in n [] at = absurd (let none = at.1 in omega arith)
 found_in n (x ∷ xs) (zero, within, at) = search (rules, sum_by-cons, is_same)
-found_in n (x ∷ xs) (suc k, within, at) =
-    search (rules, sum_by-cons, found_in n xs (k, omega arith, at))
+found_in n (x ∷ xs) (suc k, within, at) = search (rules, sum_by-cons, found_in n xs (k, omega arith, at))
 
 pub inside : (n : ℕ) (xs : List ℕ) → 1 ≤ sum_by (is n) xs → Contains xs n
 inside n [] some = absurd (omega arith)
-inside n (x ∷ xs) some =
-    dite (ℕ_discrete x n) (λ same. (0, omega arith, same)) (λ other.
-    let sums = sum_by-cons (is n) x xs in
-    let rest = inside n xs (omega (arith, is_other n x other)) in
+inside n (x ∷ xs) some = dite (ℕ_discrete x n) (λ same. (0, omega arith, same))
+    (λ other. let sums = sum_by-cons (is n) x xs in let rest = inside n xs (omega (arith, is_other n x other)) in
     (suc rest.0, omega (arith, rest.1), rest.2))
 
 -- how often a number stands among those from low on
 pub in_range : (n low many : ℕ) → (sum_by (is n) (range_with_len low many) ≤ 1)
-    × (n < low → sum_by (is n) (range_with_len low many) ≡ 0)
-    × (low ≤ n → n < low + many → 1 ≤ sum_by (is n) (range_with_len low many))
+    × (n < low → sum_by (is n) (range_with_len low many) ≡ 0) × (low ≤ n → n < low + many → 1 ≤ sum_by (is n)
+    (range_with_len low many))
 in_range n low zero = (omega arith, λ _. refl, λ le lt. absurd (omega arith))
 in_range n low (suc many) =
     let rest = in_range n (low + 1) many in
@@ -49,4 +44,11 @@ nothing_in (x ∷ xs) e = grind (arith, common_steps, sum_by-cons)
 
 pub weigh_same : (xs ys : List ℕ) → ((f : ℕ → ℕ) → sum_by f xs ≡ sum_by f ys) → IsPermutation xs ys
 weigh_same xs [] same = rw (nothing_in xs (same (λ (_ : ℕ). 1))) (IsPermutation-refl [])
-weigh_same xs (y ∷ ys) same = let sums = sum_by-cons (is y) y ys in let one = is_same y y refl in let at = inside y xs (omega arith) in let rest : (f : ℕ → ℕ) → sum_by f (remove xs at.0) ≡ sum_by f ys = λ f. grind (arith, common_steps, sum_by_popped, sum_by-cons) in IsPermutation-trans _ _ _ (IsPermutation-remove xs at.0 y at.1 (sym at.2)) (IsPermutation-cons y _ _ (weigh_same (remove xs at.0) ys rest))
+weigh_same xs (y ∷ ys) same =
+    let sums = sum_by-cons (is y) y ys in
+    let one = is_same y y refl in
+    let at = inside y xs (omega arith) in
+    let rest : (f : ℕ → ℕ) → sum_by f (remove xs at.0) ≡ sum_by f ys = λ f. grind
+    (arith, common_steps, sum_by_popped, sum_by-cons) in
+    IsPermutation-trans _ _ _ (IsPermutation-remove xs at.0 y at.1 (sym at.2))
+    (IsPermutation-cons y _ _ (weigh_same (remove xs at.0) ys rest))

@@ -1,6 +1,5 @@
 -- Workers are taken apart, one after the other.
-use Rattle.std.proofs.Common.{rules, ◌≡◌, ◌<◌, List, [], ◌∷◌, ◌++◌, length, map, Option}
-use Rattle.std.proofs.Common.{append_assoc, arith}
+use Rattle.std.proofs.Common.{rules, ◌≡◌, ◌<◌, List, [], ◌∷◌, ◌++◌, length, map, Option, append_assoc, arith}
 use Rattle.std.specs.List.{All, flat_map}
 use Rattle.std.proofs.lemmas.List.{map-append}
 use Rattle.std.proofs.lemmas.List.Elements.{All-rest}
@@ -23,11 +22,10 @@ module _ {O : Type 0} where
     pub inside : All (λ (w : Worker O). All (λ (d : Done O). d.number < length next)
         w.done.items) rest
 
-  pub disbanded_on : (workers yielded old rest : List (Worker O)) (w : Worker O)
-      (by_number next : List (Option O)) → old ≡ w ∷ rest → yielded ++ old ≡ workers
-      → next ≡ outputs_put w.done.items by_number
-      → All (λ (w : Worker O). All (λ (d : Done O). d.number < length by_number) w.done.items)
-      old → Disbanded workers yielded rest w by_number next
+  pub disbanded_on : (workers yielded old rest : List (Worker O)) (w : Worker O) (by_number next : List (Option O))
+      → old ≡ w ∷ rest → yielded ++ old ≡ workers → next ≡ outputs_put w.done.items by_number
+      → All (λ (w : Worker O). All (λ (d : Done O). d.number < length by_number) w.done.items) old
+      → Disbanded workers yielded rest w by_number next
   disbanded_on workers yielded old rest w by_number next front all put inside = record {
     all = search (rules, append_assoc);
     outputs_are = search (rules, put_both);
@@ -35,13 +33,12 @@ module _ {O : Type 0} where
   }
 
   -- its outputs have numbers of jobs
-  pub inside_first : (old rest : List (Worker O)) (w : Worker O) (by_number : List (Option O))
-      → old ≡ w ∷ rest → All (λ (w : Worker O). All (λ (d : Done O). d.number < length by_number)
-      w.done.items) old → All (λ (d : Done O). d.number < length by_number) w.done.items
+  pub inside_first : (old rest : List (Worker O)) (w : Worker O) (by_number : List (Option O)) → old ≡ w ∷ rest
+      → All (λ (w : Worker O). All (λ (d : Done O). d.number < length by_number) w.done.items) old
+      → All (λ (d : Done O). d.number < length by_number) w.done.items
   inside_first old rest w by_number front inside = (rw front at inside) 0 w (omega arith)
 
   -- what was moved out of the workers, and out of one more
-  pub moved_on : {X : Type 0} (f : Worker O → X) (yielded : List (Worker O)) (w : Worker O)
-      (before after : List X) → before ≡ map f yielded → after ≡ before ++ f w ∷ [] → after
-      ≡ map f (yielded ++ w ∷ [])
+  pub moved_on : {X : Type 0} (f : Worker O → X) (yielded : List (Worker O)) (w : Worker O) (before after : List X)
+      → before ≡ map f yielded → after ≡ before ++ f w ∷ [] → after ≡ map f (yielded ++ w ∷ [])
   moved_on f yielded w before after moved push = search (rules, map-append)

@@ -8,9 +8,8 @@ use Rattle.ent_queue.specs.Reserving.{Gains}
 use Rattle.ent_world.specs.OpenWorld.{View}
 use Rattle.ent_runner.specs.Frame.{SystemMayIssue}
 
-module _ {S A E : Type 0} (may : S → View → List Command → Type 0) (systems : List S) (view : View)
-    (n : ℕ) (d : S) (a b : Record) (queue finished : List Command) (same : finished ≡ queue)
-    (gains : Gains a finished b) where
+module _ {S A E : Type 0} (may : S → View → List Command → Type 0) (systems : List S) (view : View) (n : ℕ) (d : S)
+    (a b : Record) (queue finished : List Command) (same : finished ≡ queue) (gains : Gains a finished b) where
   -- if it ended, and if it stopped
   pub issued_ok : (r : Result A E) → OnOk r (may (get_or systems n d) view queue)
       → OnOk r (Gains a finished b × SystemMayIssue may systems view n finished)

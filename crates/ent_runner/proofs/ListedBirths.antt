@@ -1,9 +1,7 @@
 -- The births of a frame: the system whose queue lists a handle, and its ordinal there, are its
 -- birth in this phase. So births follow from the queues, whatever handles the workers were given.
 -- It speaks of the definitions alone.
-use Rattle.std.proofs.Common.{rules, ◌≡◌, ◌≢◌, ℕ, zero, suc, ◌+◌, ◌^◌, ◌<◌, ◌≤◌, List, [], ◌∷◌}
-use Rattle.std.proofs.Common.{◌++◌, length, refl, ap, sym, ◌∙◌, arith, inl, inr, eq-eqb, ne_eqb}
-use Rattle.std.proofs.Common.{false, not, Some, None, IsPermutation, get_or}
+use Rattle.std.proofs.Common.{rules, ◌≡◌, ◌≢◌, ℕ, zero, suc, ◌+◌, ◌^◌, ◌<◌, ◌≤◌, List, [], ◌∷◌, ◌++◌, length, refl, ap, sym, ◌∙◌, arith, inl, inr, eq-eqb, ne_eqb, false, not, Some, None, IsPermutation, get_or}
 use Rattle.std.proofs.lemmas.Grind.{common_steps}
 use Rattle.std.specs.Prelude.{◌==◌, filter}
 use Rattle.std.specs.List.{All, AllPairs, Contains, flat_map}
@@ -13,8 +11,7 @@ use Rattle.std.proofs.lemmas.Option.{slice_get_within, slice_get-get_or}
 use Rattle.std.proofs.lemmas.List.{length-append}
 use Rattle.std.proofs.lemmas.List.Elements.{All-nil, All-cons, All-append, All-contains}
 use Rattle.std.proofs.lemmas.List.Kept.{AllPairs-filter}
-use Rattle.std.proofs.lemmas.List.Sorted.{Contains-permutation, IsPermutation-sym}
-use Rattle.std.proofs.lemmas.List.Sorted.{length_permutation}
+use Rattle.std.proofs.lemmas.List.Sorted.{Contains-permutation, IsPermutation-sym, length_permutation}
 use Rattle.ent_handle.specs.Handle.{Handle}
 use Rattle.ent_alloc.specs.Sequential.{available, born, stands_in}
 use Rattle.ent_alloc.specs.Sound.{IsSound, IsLive}
@@ -31,8 +28,7 @@ use Rattle.ent_world.proofs.Numbered.{no_index}
 use Rattle.ent_world.proofs.Born.{get-with_born, no_entity}
 use Rattle.ent_world.proofs.GivenOnce.{history-sound}
 use Rattle.ent_runner.specs.Frame.{IsFrame, queue_at, reserved_by}
-use Rattle.ent_runner.proofs.ListedOnce.{Differ, Lists, contains_listed, not_in_both, position_is}
-use Rattle.ent_runner.proofs.ListedOnce.{listed-IsPermutation, listed-distinct, listed-born}
+use Rattle.ent_runner.proofs.ListedOnce.{Differ, Lists, contains_listed, not_in_both, position_is, listed-IsPermutation, listed-distinct, listed-born}
 
 -- ---- how many handles there are
 
@@ -44,25 +40,25 @@ module _ {X : Type 0} (f : X → ℕ) where
   others : ℕ → List X → List X
   others n xs = filter (λ x. not (f x == n)) xs
 
-  below_others : (n : ℕ) (xs : List X) → All (λ x. f x < suc n) xs
-      → All (λ x. f x < n) (others n xs)
+  below_others : (n : ℕ) (xs : List X) → All (λ x. f x < suc n) xs → All (λ x. f x < n) (others n xs)
   unfolding others
   below_others n [] below = All-nil (λ x. f x < n)
-  below_others n (x ∷ xs) below = let less : f x < suc n = below 0 x (omega arith) in let rest = below_others n xs (λ k d within. below (suc k) d (omega arith)) in search (rules, cases_eq, eq-eqb, All-cons, others)
+  below_others n (x ∷ xs) below =
+      let less : f x < suc n = below 0 x (omega arith) in
+      let rest = below_others n xs (λ k d within. below (suc k) d (omega arith)) in
+      search (rules, cases_eq, eq-eqb, All-cons, others)
 
   one_less : (n : ℕ) (xs : List X) → AllPairs HaveTwo xs → length xs ≤ suc (length (others n xs))
   unfolding others
   one_less n [] apart = omega arith
-  one_less n (x ∷ xs) apart =
-      elim (cases_eq (f x) n) [
-        | inl e ↦
-            let same : others n xs ≡ xs = filter_all (λ x. not (f x == n)) xs
-            (λ k d l. rw (ne_eqb (f (get_or xs k d)) n (λ is. apart 0 (suc k) d (omega arith)
-            (omega arith) (e ∙ sym is)))) in
-            rw (eq-eqb (f x) n e) (omega (arith, ap length same))
-        | inr ne ↦
-            rw (ne_eqb (f x) n ne) (omega (arith, one_less n xs (AllPairs-tail HaveTwo x xs apart)))
-      ]
+  one_less n (x ∷ xs) apart = elim (cases_eq (f x) n) [
+    | inl e ↦ let same : others n xs
+        ≡ xs = filter_all (λ x. not (f x == n)) xs (λ k d l. rw
+        (ne_eqb (f (get_or xs k d)) n (λ is. apart 0 (suc k) d (omega arith) (omega arith) (e ∙ sym is)))) in rw
+        (eq-eqb (f x) n e) (omega (arith, ap length same))
+    | inr ne ↦ rw (ne_eqb (f x) n ne)
+        (omega (arith, one_less n xs (AllPairs-tail HaveTwo x xs apart)))
+  ]
 
   -- elements with numbers below n, no two with the same one, are n at most
   few_below : (n : ℕ) (xs : List X) → AllPairs HaveTwo xs → All (λ x. f x < n) xs → length xs ≤ n
@@ -70,13 +66,12 @@ module _ {X : Type 0} (f : X → ℕ) where
   few_below zero [] apart below = omega arith
   few_below zero (x ∷ xs) apart below = absurd (let less = below 0 x (omega arith) in omega arith)
   few_below (suc n) xs apart below =
-      let rest = few_below n (others n xs) (AllPairs-filter HaveTwo _ xs apart)
-      (below_others n xs below) in
+      let rest = few_below n (others n xs) (AllPairs-filter HaveTwo _ xs apart) (below_others n xs below) in
       omega (arith, one_less n xs apart)
 
 -- one queue lists no more handles than all queues together
-few_of_all : (queues : List (List Command)) (n : ℕ)
-    → length (handles_listed (queue_at queues n)) ≤ length (flat_map handles_listed queues)
+few_of_all : (queues : List (List Command)) (n : ℕ) → length (handles_listed (queue_at queues n))
+    ≤ length (flat_map handles_listed queues)
 few_of_all [] n = omega arith
 few_of_all (q ∷ qs) zero = search (rules, length-append)
 few_of_all (q ∷ qs) (suc n) = grind (arith, common_steps, few_of_all qs n)
@@ -91,8 +86,7 @@ all_listed : (queues : List (List Command)) → All (IsListed queues) (flat_map 
 all_listed [] = All-nil (IsListed [])
 all_listed (q ∷ qs) = All-append (IsListed (q ∷ qs)) (handles_listed q) (flat_map handles_listed qs)
     (λ k d within. (0, k, omega arith, slice_get-get_or (handles_listed q) k d within))
-    (λ k d within. let there = all_listed qs k d within in
-    (suc there.0, there.1, omega (arith, there.2), there.3))
+    (λ k d within. let there = all_listed qs k d within in (suc there.0, there.1, omega (arith, there.2), there.3))
 
 not_there : (hs : List Handle) (h : Handle) → ¬ (Contains hs h) → stands_in hs h ≡ false
 not_there hs h away = search (rules, Contains-from_stands_in)
@@ -100,25 +94,26 @@ not_there hs h away = search (rules, Contains-from_stands_in)
 -- the birth by the queues, if no handle is listed twice
 listed_birth_is : (phase system : ℕ) (queues : List (List Command)) (n k : ℕ) (h : Handle)
     → AreGivenOnce (flat_map handles_listed queues) → Lists queues n k h
-    → listed_birth phase system queues h
-    ≡ Some (record { frame = phase; system = system + n; ordinal = ordinal k })
+    → listed_birth phase system queues h ≡ Some (record { frame = phase; system = system + n; ordinal = ordinal k })
 listed_birth_is phase system [] n k h once at = absurd (cc)
 listed_birth_is phase system (q ∷ qs) zero k h once at =
-    let own = AllPairs-left Differ (handles_listed q) (flat_map handles_listed qs) once in
-    search (rules, position_is)
+    let own = AllPairs-left Differ (handles_listed q) (flat_map handles_listed qs) once in search (rules, position_is)
 listed_birth_is phase system (q ∷ qs) (suc n) k h once at =
     let none = no_index h 0 (handles_listed q) (not_there (handles_listed q) h
-    (λ here. not_in_both (handles_listed q) (flat_map handles_listed qs) h once here
-    (contains_listed qs n k h at) refl)) in
+    (λ here. not_in_both (handles_listed q) (flat_map handles_listed qs) h once here (contains_listed qs n k h at)
+    refl)) in
     let next : (system + 1) + n ≡ system + suc n = omega arith in
-    rw none (listed_birth_is phase (system + 1) qs n k h
-    (AllPairs-right Differ (handles_listed q) (flat_map handles_listed qs) once) at
-    ∙ (λ i. Some (record { frame = phase; system = next i; ordinal = ordinal k })))
+    rw none (listed_birth_is phase (system + 1) qs n k h (AllPairs-right Differ (handles_listed q)
+    (flat_map handles_listed qs) once) at ∙ (λ i. Some (record {
+      frame = phase;
+      system = next i;
+      ordinal = ordinal
+          k;
+    })))
 
-module _ {S : Type 0} (may : S → View → List Command → Type 0) (systems : List S) (workers : ℕ)
-    (before : World) (queues : List (List Command)) (history : List Call)
-    (frame : IsFrame may systems workers before queues history) (sound : IsSound before.allocator)
-    (flushed : before.allocator.asked ≡ 0) where
+module _ {S : Type 0} (may : S → View → List Command → Type 0) (systems : List S) (workers : ℕ) (before : World)
+    (queues : List (List Command)) (history : List Call) (frame : IsFrame may systems workers before queues history)
+    (sound : IsSound before.allocator) (flushed : before.allocator.asked ≡ 0) where
   abbrev distinct : AreGivenOnce (flat_map handles_listed queues)
   distinct = listed-distinct may systems workers before queues history frame sound
 
@@ -132,18 +127,32 @@ module _ {S : Type 0} (may : S → View → List Command → Type 0) (systems : 
   -- All queues together list fewer than 2^32 handles, so no ordinal is cut off.
   pub listed-few : length (flat_map handles_listed queues) < 2 ^ 32
   unfolding handles
-  listed-few = let after = after_history before.allocator history in let kept : IsSound after = search (rules, history-sound) in let all = few_below (λ (h : Handle). h.index) after.limits.slots (available after) kept.apart (λ k d within. (kept.within k d within).index) in let two = length_permutation after.taken handles (born-IsPermutation after) in omega (arith, kept.limits.slots, length_permutation _ handles listed_are_born, length-append after.taken (after.aside ++ after.pool))
+  listed-few =
+      let after = after_history before.allocator history in
+      let kept : IsSound after = search (rules, history-sound) in
+      let all = few_below (λ (h : Handle). h.index) after.limits.slots (available after) kept.apart
+      (λ k d within. (kept.within k d within).index) in
+      let two = length_permutation after.taken handles (born-IsPermutation after) in
+      omega (
+        arith,
+        kept.limits.slots,
+        length_permutation _ handles listed_are_born,
+        length-append after.taken (after.aside ++ after.pool),
+      )
 
   -- A handle that a system lists after k others has this phase, this system and k as its birth.
   pub listed-birth : (system k : ℕ) (h : Handle) → Lists queues system k h
       → birth_in before.phase queues (born (after_history before.allocator history)) h
       ≡ record { frame = before.phase; system = system; ordinal = k }
   unfolding handles
-  listed-birth system k h at = let within = slice_get_within (handles_listed (queue_at queues system)) k h at in let few = few_of_all queues system in let all = listed-few in search (rules, listed_birth_is before.phase 0 queues system k h distinct at)
+  listed-birth system k h at =
+      let within = slice_get_within (handles_listed (queue_at queues system)) k h at in
+      let few = few_of_all queues system in
+      let all = listed-few in
+      search (rules, listed_birth_is before.phase 0 queues system k h distinct at)
 
   -- Who is born is listed by some queue.
-  pub born-listed : (h : Handle) → Contains (born (after_history before.allocator history)) h
-      → IsListed queues h
+  pub born-listed : (h : Handle) → Contains (born (after_history before.allocator history)) h → IsListed queues h
   unfolding handles
   born-listed h there = All-contains (IsListed queues) _ h (all_listed queues)
       (Contains-permutation handles _ h (IsPermutation-sym _ handles listed_are_born) there)
@@ -151,32 +160,26 @@ module _ {S : Type 0} (may : S → View → List Command → Type 0) (systems : 
   -- After the births it is there with this birth, and without components.
   pub listed-enters : (system k : ℕ) (h : Handle) → Lists queues system k h
       → map.get (after_births queues (reserved_by history before)).entities h
-      ≡ Some (record {
-        birth = record { frame = before.phase; system = system; ordinal = k };
-        components = map.empty;
-      })
+      ≡ Some (record { birth = record { frame = before.phase; system = system; ordinal = k }; components = map.empty })
   unfolding handles
   listed-enters system k h at =
       let birth = listed-birth system k h at in
-      let there = stands_in-from_Contains handles h
-      (Contains-permutation _ handles h listed_are_born
+      let there = stands_in-from_Contains handles h (Contains-permutation _ handles h listed_are_born
       (contains_listed queues system k h at)) in
       search (rules, get-with_born, birth, there)
 
   -- Who is not listed is as before.
   pub unlisted-stays : (h : Handle) → ¬ (IsListed queues h)
-      → map.get (after_births queues (reserved_by history before)).entities h
-      ≡ map.get before.entities h
+      → map.get (after_births queues (reserved_by history before)).entities h ≡ map.get before.entities h
   unfolding handles
   unlisted-stays h away = search (rules, get-with_born, handles, not_there, born-listed)
 
   -- Who is listed was not there before the frame.
-  pub listed-new : AreLiving before.allocator before.entities → (system k : ℕ) (h : Handle)
-      → Lists queues system k h → map.get before.entities h ≡ None
+  pub listed-new : AreLiving before.allocator before.entities → (system k : ℕ) (h : Handle) → Lists queues system k h
+      → map.get before.entities h ≡ None
   listed-new living system k h at =
       let dead = All-contains (λ x. ¬ (IsLive before.allocator x)) (given_in history) h
       (given_in-not_live before.allocator history sound frame.legal)
       (Contains-permutation (flat_map handles_listed queues) (given_in history) h
-      (listed-IsPermutation may systems workers before queues history frame)
-      (contains_listed queues system k h at)) in
+      (listed-IsPermutation may systems workers before queues history frame) (contains_listed queues system k h at)) in
       search (rules, no_entity, living h, dead)

@@ -1,9 +1,6 @@
 -- The handles that the queues of a frame list are those that its history gave. After this law
 -- neither the workers nor the history count. It speaks of the definitions alone.
-use Rattle.std.proofs.Common.{rules, ◌≡◌, ℕ, zero, suc, ◌+◌, ◌<◌, ◌≤◌, List, [], ◌∷◌, ◌++◌, length}
-use Rattle.std.proofs.Common.{map, refl, ap, sym, ◌∙◌, arith, subst, Some, Bool, cond, eq-eqb}
-use Rattle.std.proofs.Common.{ne_eqb, append-nil, append_assoc, inl, inr, Result, get_or, swap, set}
-use Rattle.std.proofs.Common.{◌≢◌}
+use Rattle.std.proofs.Common.{rules, ◌≡◌, ℕ, zero, suc, ◌+◌, ◌<◌, ◌≤◌, List, [], ◌∷◌, ◌++◌, length, map, refl, ap, sym, ◌∙◌, arith, subst, Some, Bool, cond, eq-eqb, ne_eqb, append-nil, append_assoc, inl, inr, Result, get_or, swap, set, ◌≢◌}
 use Rattle.std.proofs.lemmas.Grind.{common_steps}
 use Rattle.std.specs.Prelude.{◌==◌, filter, slice_get}
 use Rattle.std.specs.List.{All, Contains, flat_map, range_with_len, position_from}
@@ -13,17 +10,13 @@ use Rattle.std.proofs.lemmas.Bool.{cases_eq}
 use Rattle.std.proofs.lemmas.Option.{get_or_from_slice_get, slice_get_within}
 use Rattle.std.proofs.lemmas.List.Edits.{swap_is}
 use Rattle.std.proofs.lemmas.List.Elements.{Contains-append_left, Contains-append_right}
-use Rattle.std.proofs.lemmas.List.Sorted.{IsPermutation-refl, IsPermutation-sym}
-use Rattle.std.proofs.lemmas.List.Sorted.{IsPermutation-trans, IsPermutation-keeps}
-use Rattle.std.proofs.lemmas.List.Sorted.{IsPermutation-append_left, IsPermutation-append_right}
-use Rattle.std.proofs.lemmas.List.Sorted.{IsPermutation-append_comm}
+use Rattle.std.proofs.lemmas.List.Sorted.{IsPermutation-refl, IsPermutation-sym, IsPermutation-trans, IsPermutation-keeps, IsPermutation-append_left, IsPermutation-append_right, IsPermutation-append_comm}
 use Rattle.ent_handle.specs.Handle.{Handle, handle_cmp}
 use Rattle.ent_alloc.specs.declared.space.Space.{Space}
 use Rattle.ent_alloc.specs.Sequential.{born}
 use Rattle.ent_alloc.specs.Sound.{IsSound}
 use Rattle.ent_alloc.specs.History.{Call, handles_in, given_in, AreGivenOnce, after_history}
-use Rattle.ent_alloc.proofs.ListLaws.{AllPairs-head, AllPairs-tail, AllPairs-across}
-use Rattle.ent_alloc.proofs.ListLaws.{AllPairs-IsPermutation}
+use Rattle.ent_alloc.proofs.ListLaws.{AllPairs-head, AllPairs-tail, AllPairs-across, AllPairs-IsPermutation}
 use Rattle.ent_alloc.proofs.HandleSets.{itself}
 use Rattle.ent_alloc.proofs.Flushes.{born-IsPermutation}
 use Rattle.ent_alloc.proofs.Histories.{given_in-distinct, given_in-taken}
@@ -44,13 +37,13 @@ flipped xs ys zs = rw (sym (append_assoc xs ys zs), sym (append_assoc ys xs zs))
 
 module _ {X Y : Type 0} (f : X → List Y) where
   -- an element is put instead of another one
-  flat_put : (x : X) (xs : List X) (k : ℕ) → k < length xs → IsPermutation (f x ++ flat_map f xs)
-      (f (get_or xs k x) ++ flat_map f (set xs k x))
+  flat_put : (x : X) (xs : List X) (k : ℕ) → k < length xs → IsPermutation (f x ++ flat_map f xs) (f (get_or xs k x)
+      ++ flat_map f (set xs k x))
   flat_put x [] k within = absurd (omega arith)
   flat_put x (y ∷ xs) zero within = flipped (f x) (f y) (flat_map f xs)
-  flat_put x (y ∷ xs) (suc k) within =
-      IsPermutation-trans _ _ _ (flipped (f x) (f y) _) (IsPermutation-trans _ _ _
-      (IsPermutation-append_right (f y) _ _ (flat_put x xs k (omega arith))) (flipped (f y) _ _))
+  flat_put x (y ∷ xs) (suc k) within = IsPermutation-trans _ _ _ (flipped (f x) (f y) _)
+      (IsPermutation-trans _ _ _ (IsPermutation-append_right (f y) _ _ (flat_put x xs k (omega arith)))
+      (flipped (f y) _ _))
 
   flat_swap : (xs : List X) (i j : ℕ) → i < length xs → j < length xs
       → IsPermutation (flat_map f xs) (flat_map f (swap xs i j))
@@ -58,19 +51,16 @@ module _ {X Y : Type 0} (f : X → List Y) where
   flat_swap (x ∷ xs) zero zero li lj = IsPermutation-refl (flat_map f (x ∷ xs))
   flat_swap (x ∷ xs) zero (suc j) li lj = flat_put x xs j (omega arith)
   flat_swap (x ∷ xs) (suc i) zero li lj = flat_put x xs i (omega arith)
-  flat_swap (x ∷ xs) (suc i) (suc j) li lj = search
-      (rules, swap_is, IsPermutation-append_right, flat_swap xs i j)
+  flat_swap (x ∷ xs) (suc i) (suc j) li lj = search (rules, swap_is, IsPermutation-append_right, flat_swap xs i j)
 
   -- what the elements of a list stand for, in another order
-  flat_moved : (xs ys : List X) → IsPermutation xs ys → IsPermutation (flat_map f xs)
-      (flat_map f ys)
-  flat_moved xs ys moved =
-      IsPermutation-keeps xs (λ l. IsPermutation (flat_map f xs) (flat_map f l))
+  flat_moved : (xs ys : List X) → IsPermutation xs ys → IsPermutation (flat_map f xs) (flat_map f ys)
+  flat_moved xs ys moved = IsPermutation-keeps xs (λ l. IsPermutation (flat_map f xs) (flat_map f l))
       (IsPermutation-refl (flat_map f xs)) (search (rules, IsPermutation-trans, flat_swap)) ys moved
 
 -- a list of lists of lists
-flat_flat : {X Y Z : Type 0} (g : Y → List Z) (f : X → List Y) (xs : List X) → flat_map g
-    (flat_map f xs) ≡ flat_map (λ x. flat_map g (f x)) xs
+flat_flat : {X Y Z : Type 0} (g : Y → List Z) (f : X → List Y) (xs : List X)
+    → flat_map g (flat_map f xs) ≡ flat_map (λ x. flat_map g (f x)) xs
 flat_flat g f [] = refl
 flat_flat g f (x ∷ xs) = grind (arith, common_steps, flat_flat g f xs)
 
@@ -91,29 +81,23 @@ with_call : (caller : ℕ) (handles : List Handle) (given : ℕ → List Handle)
 with_call caller handles given k = cond (caller == k) (handles ++ given k) (given k)
 
 none_below : (c a many : ℕ) (handles : List Handle) (given : ℕ → List Handle) → c < a
-    → flat_map given (range_with_len a many)
-    ≡ flat_map (with_call c handles given) (range_with_len a many)
+    → flat_map given (range_with_len a many) ≡ flat_map (with_call c handles given) (range_with_len a many)
 unfolding with_call
 none_below c a zero handles given less = refl
-none_below c a (suc many) handles given less =
-    search (rules, ne_eqb, none_below c (a + 1) many handles given (omega arith))
+none_below c a (suc many) handles given less = search
+    (rules, ne_eqb, none_below c (a + 1) many handles given (omega arith))
 
 one_gets : (c a many : ℕ) (handles : List Handle) (given : ℕ → List Handle) → a ≤ c → c < a + many
     → IsPermutation (handles ++ flat_map given (range_with_len a many))
     (flat_map (with_call c handles given) (range_with_len a many))
 unfolding with_call
 one_gets c a zero handles given from below = absurd (omega arith)
-one_gets c a (suc many) handles given from below =
-    elim (cases_eq c a) [
-      | inl e ↦
-          rw (eq-eqb c a e, append_assoc, sym (none_below c (a + 1) many handles given (omega arith)))
-          (IsPermutation-refl _)
-      | inr ne ↦
-          rw (ne_eqb c a ne)
-          (IsPermutation-trans _ _ _ (flipped handles (given a) _)
-          (IsPermutation-append_right (given a) _ _
-          (one_gets c (a + 1) many handles given (omega arith) (omega arith))))
-    ]
+one_gets c a (suc many) handles given from below = elim (cases_eq c a) [
+  | inl e ↦ rw (eq-eqb c a e, append_assoc, sym (none_below c (a + 1) many handles given (omega arith)))
+      (IsPermutation-refl _)
+  | inr ne ↦ rw (ne_eqb c a ne) (IsPermutation-trans _ _ _ (flipped handles (given a) _)
+      (IsPermutation-append_right (given a) _ _ (one_gets c (a + 1) many handles given (omega arith) (omega arith))))
+]
 
 -- what a history gave to one caller
 given_to : List Call → ℕ → List Handle
@@ -127,8 +111,7 @@ none_given [] = refl
 none_given (x ∷ xs) = none_given xs
 
 -- each handle was given to one of the callers
-by_callers : (workers : ℕ) (history : List Call)
-    → All (λ (call : Call). call.caller < workers) history
+by_callers : (workers : ℕ) (history : List Call) → All (λ (call : Call). call.caller < workers) history
     → IsPermutation (given_in history) (flat_map (given_to history) (range_with_len 0 workers))
 unfolding with_call given_to
 by_callers workers [] callers = rw (none_given (range_with_len 0 workers)) (IsPermutation-refl [])
@@ -154,12 +137,11 @@ by_callers workers (call ∷ history) callers =
 abbrev replied : ℕ × Result (List Handle) Space → List Handle
 replied request = handles_in request.1
 
-replies_are : (commands : List Command) → flat_map replied (flat_map stands_for commands)
-    ≡ handles_listed commands
+replies_are : (commands : List Command) → flat_map replied (flat_map stands_for commands) ≡ handles_listed commands
 replies_are commands = search (rules, flat_flat, append-nil)
 
-given_replies : (calls : List Call) → given_in calls
-    ≡ flat_map replied (map (λ (call : Call). (call.requested, call.reply)) calls)
+given_replies : (calls : List Call) → given_in calls ≡ flat_map replied
+    (map (λ (call : Call). (call.requested, call.reply)) calls)
 given_replies [] = refl
 given_replies (call ∷ calls) = ap (λ l. handles_in call.reply ++ l) (given_replies calls)
 
@@ -177,21 +159,20 @@ contains_at : (hs : List Handle) (k : ℕ) (h : Handle) → slice_get hs k ≡ S
 contains_at hs k h at = search (rules, slice_get_within, get_or_from_slice_get)
 
 -- it stands among those that the queues list
-pub contains_listed : (queues : List (List Command)) (system k : ℕ) (h : Handle)
-    → Lists queues system k h → Contains (flat_map handles_listed queues) h
+pub contains_listed : (queues : List (List Command)) (system k : ℕ) (h : Handle) → Lists queues system k h
+    → Contains (flat_map handles_listed queues) h
 contains_listed [] system k h at = absurd (cc)
 contains_listed (q ∷ qs) zero k h at = search (rules, Contains-append_left, contains_at)
-contains_listed (q ∷ qs) (suc system) k h at = Contains-append_right (handles_listed q)
-    (flat_map handles_listed qs) h (contains_listed qs system k h at)
+contains_listed (q ∷ qs) (suc system) k h at = Contains-append_right (handles_listed q) (flat_map handles_listed qs) h
+    (contains_listed qs system k h at)
 
 -- what stands in the first of two lists does not stand in the second
-pub not_in_both : (xs ys : List Handle) (h : Handle) → AreGivenOnce (xs ++ ys) → Contains xs h
-    → Contains ys h → h ≢ h
+pub not_in_both : (xs ys : List Handle) (h : Handle) → AreGivenOnce (xs ++ ys) → Contains xs h → Contains ys h → h ≢ h
 not_in_both xs ys h once here there = search (rules, AllPairs-across Differ xs ys once)
 
 -- the first index of a handle that stands there once
-pub position_is : (hs : List Handle) (index k : ℕ) (h : Handle) → AreGivenOnce hs → slice_get hs k
-    ≡ Some h → position_from (eq_by_cmp handle_cmp h) index hs ≡ Some (index + k)
+pub position_is : (hs : List Handle) (index k : ℕ) (h : Handle) → AreGivenOnce hs → slice_get hs k ≡ Some h
+    → position_from (eq_by_cmp handle_cmp h) index hs ≡ Some (index + k)
 position_is [] index k h once at = absurd (cc)
 position_is (x ∷ hs) index zero h once at = search (rules, itself)
 position_is (x ∷ hs) index (suc k) h once at =
@@ -200,9 +181,9 @@ position_is (x ∷ hs) index (suc k) h once at =
 
 -- ---- the law
 
-module _ {S : Type 0} (may : S → View → List Command → Type 0) (systems : List S) (workers : ℕ)
-    (before : World) (queues : List (List Command)) (history : List Call)
-    (frame : IsFrame may systems workers before queues history) where
+module _ {S : Type 0} (may : S → View → List Command → Type 0) (systems : List S) (workers : ℕ) (before : World)
+    (queues : List (List Command)) (history : List Call) (frame : IsFrame may systems workers before queues
+    history) where
   listed_at : ℕ → List Handle
   listed_at n = handles_listed (queue_at queues n)
 
@@ -210,8 +191,7 @@ module _ {S : Type 0} (may : S → View → List Command → Type 0) (systems : 
   given_listed : (k : ℕ) (mine : List ℕ) → slice_get frame.ran k ≡ Some mine
       → given_to history k ≡ flat_map listed_at mine
   unfolding given_to listed_at
-  given_listed k mine at =
-      search (rules, given_replies, (frame.work k mine at).calls, replies_are, flat_flat)
+  given_listed k mine at = search (rules, given_replies, (frame.work k mine at).calls, replies_are, flat_flat)
 
   -- The queues list the handles that the history gave, each as often as it was given.
   pub listed-IsPermutation : IsPermutation (flat_map handles_listed queues) (given_in history)
@@ -219,34 +199,30 @@ module _ {S : Type 0} (may : S → View → List Command → Type 0) (systems : 
   listed-IsPermutation =
       let ran : List ℕ = flat_map (λ mine. mine) frame.ran in
       let numbers : List ℕ = range_with_len 0 (length systems) in
-      let by_system : flat_map listed_at numbers ≡ flat_map handles_listed queues =
-      ap (λ n. flat_map listed_at (range_with_len 0 n)) (sym frame.count)
-      ∙ flat_by_number listed_at handles_listed 0 queues
-      (λ k q at. ap listed_at (omega arith) ∙ ap handles_listed
-      (get_or_from_slice_get queues k q [] at)) in
+      let by_system : flat_map listed_at numbers ≡ flat_map handles_listed queues = ap
+      (λ n. flat_map listed_at (range_with_len 0 n)) (sym frame.count)
+      ∙ flat_by_number listed_at handles_listed 0 queues (λ k q at. ap listed_at (omega arith)
+      ∙ ap handles_listed (get_or_from_slice_get queues k q [] at)) in
       let by_worker : flat_map (given_to history) (range_with_len 0 workers)
-      ≡ flat_map listed_at ran =
-      ap (λ n. flat_map (given_to history) (range_with_len 0 n)) (sym frame.each_worker)
+      ≡ flat_map listed_at ran = ap (λ n. flat_map (given_to history) (range_with_len 0 n)) (sym frame.each_worker)
       ∙ (flat_by_number (given_to history) (flat_map listed_at) 0 frame.ran
       (λ k mine at. ap (given_to history) (omega arith) ∙ given_listed k mine at)
       ∙ sym (flat_flat listed_at (λ mine. mine) frame.ran)) in
       subst (λ l. IsPermutation l (given_in history)) by_system
       (IsPermutation-sym (given_in history) (flat_map listed_at numbers)
       (IsPermutation-trans (given_in history) (flat_map listed_at ran) (flat_map listed_at numbers)
-      (subst (IsPermutation (given_in history)) by_worker
-      (by_callers workers history frame.callers)) (flat_moved listed_at ran numbers frame.once)))
+      (subst (IsPermutation (given_in history)) by_worker (by_callers workers history frame.callers))
+      (flat_moved listed_at ran numbers frame.once)))
 
   module _ (sound : IsSound before.allocator) where
     -- No handle is listed twice, by one queue or by two.
     pub listed-distinct : AreGivenOnce (flat_map handles_listed queues)
     listed-distinct = AllPairs-IsPermutation Differ (λ g h apart same. apart (sym same)) _ _
-        (IsPermutation-sym _ _ listed-IsPermutation)
-        (given_in-distinct before.allocator history sound frame.legal)
+        (IsPermutation-sym _ _ listed-IsPermutation) (given_in-distinct before.allocator history sound frame.legal)
 
     module _ (flushed : before.allocator.asked ≡ 0) where
       -- The handles that the queues list are those that are born in the sync of the frame.
-      pub listed-born : IsPermutation (flat_map handles_listed queues)
-          (born (after_history before.allocator history))
-      listed-born = IsPermutation-trans _ _ _ listed-IsPermutation (IsPermutation-trans _ _ _
-          (given_in-taken before.allocator history sound frame.legal flushed)
+      pub listed-born : IsPermutation (flat_map handles_listed queues) (born (after_history before.allocator history))
+      listed-born = IsPermutation-trans _ _ _ listed-IsPermutation
+          (IsPermutation-trans _ _ _ (given_in-taken before.allocator history sound frame.legal flushed)
           (born-IsPermutation (after_history before.allocator history)))

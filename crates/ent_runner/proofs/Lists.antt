@@ -1,7 +1,5 @@
 -- Lists of lists, and the numbers of a range.
-use Rattle.std.proofs.Common.{rules, ◌≡◌, ◌≢◌, ℕ, zero, suc, ◌+◌, ◌<◌, ◌≤◌, List, [], ◌∷◌, ◌++◌}
-use Rattle.std.proofs.Common.{length, map, refl, ap, arith, subst, Some, Bool, cond, ◌⊎◌, eq-eqb}
-use Rattle.std.proofs.Common.{ne_eqb, ◌∙◌}
+use Rattle.std.proofs.Common.{rules, ◌≡◌, ◌≢◌, ℕ, zero, suc, ◌+◌, ◌<◌, ◌≤◌, List, [], ◌∷◌, ◌++◌, length, map, refl, ap, arith, subst, Some, Bool, cond, ◌⊎◌, eq-eqb, ne_eqb, ◌∙◌}
 use Rattle.std.proofs.lemmas.Grind.{common_steps}
 use Rattle.std.specs.Prelude.{◌==◌, filter, slice_get}
 use Rattle.std.specs.List.{All, sum_by, flat_map, range_with_len}
@@ -9,33 +7,30 @@ use Rattle.std.proofs.lemmas.Bool.{cases_eq}
 use Rattle.std.proofs.lemmas.List.Elements.{All-nil, All-cons, All-head, All-tail, All-append}
 use Rattle.std.proofs.lemmas.List.Sums.{sum_by-cons}
 use Rattle.ent_alloc.proofs.ListLaws.{All-left, All-right}
-use Rattle.std.proofs.lemmas.Option.{slice_get-get_or, get_or_from_slice_get, slice_get_within}
-use Rattle.std.proofs.lemmas.Option.{slice_get-map}
+use Rattle.std.proofs.lemmas.Option.{slice_get-get_or, get_or_from_slice_get, slice_get_within, slice_get-map}
 use Rattle.std.specs.Option.{option_map}
 use Rattle.std.proofs.lemmas.List.{get_or-map, length-map}
 
 -- what holds of each element at its index holds of all
-pub all_from_each : {X : Type 0} (P : X → Type 0) (xs : List X) → ((k : ℕ) (x : X) → slice_get xs k
-    ≡ Some x → P x) → All P xs
+pub all_from_each : {X : Type 0} (P : X → Type 0) (xs : List X) → ((k : ℕ) (x : X) → slice_get xs k ≡ Some x → P x)
+    → All P xs
 all_from_each P xs each k d within = search (rules, slice_get-get_or)
 
-pub of_mapped : {X Y : Type 0} (P : Y → Type 0) (f : X → Y) (xs : List X) → All P (map f xs)
-    → All (λ x. P (f x)) xs
-of_mapped P f xs all k d within =
-    subst P (get_or-map f xs k d (f d) within) (all k (f d) (omega (arith, length-map xs f)))
+pub of_mapped : {X Y : Type 0} (P : Y → Type 0) (f : X → Y) (xs : List X) → All P (map f xs) → All (λ x. P (f x)) xs
+of_mapped P f xs all k d within = subst P (get_or-map f xs k d (f d) within)
+    (all k (f d) (omega (arith, length-map xs f)))
 
-pub each_of_all : {X : Type 0} (P : X → Type 0) (xs : List X) (k : ℕ) (x : X) → All P xs
-    → slice_get xs k ≡ Some x → P x
+pub each_of_all : {X : Type 0} (P : X → Type 0) (xs : List X) (k : ℕ) (x : X) → All P xs → slice_get xs k ≡ Some x → P x
 each_of_all P xs k x all at = search (rules, get_or_from_slice_get, slice_get_within)
 
-pub all_flat : {X Y : Type 0} (P : Y → Type 0) (f : X → List Y) (xs : List X)
-    → All (λ x. All P (f x)) xs → All P (flat_map f xs)
+pub all_flat : {X Y : Type 0} (P : Y → Type 0) (f : X → List Y) (xs : List X) → All (λ x. All P (f x)) xs
+    → All P (flat_map f xs)
 all_flat P f [] all = All-nil P
-all_flat P f (x ∷ xs) all = All-append P (f x) (flat_map f xs)
-    (All-head (λ x. All P (f x)) x xs all) (all_flat P f xs (All-tail (λ x. All P (f x)) x xs all))
+all_flat P f (x ∷ xs) all = All-append P (f x) (flat_map f xs) (All-head (λ x. All P (f x)) x xs all)
+    (all_flat P f xs (All-tail (λ x. All P (f x)) x xs all))
 
-pub flat_all : {X Y : Type 0} (P : Y → Type 0) (f : X → List Y) (xs : List X)
-    → All P (flat_map f xs) → All (λ x. All P (f x)) xs
+pub flat_all : {X Y : Type 0} (P : Y → Type 0) (f : X → List Y) (xs : List X) → All P (flat_map f xs)
+    → All (λ x. All P (f x)) xs
 flat_all P f [] all = All-nil (λ x. All P (f x))
 flat_all P f (x ∷ xs) all = All-cons (λ x. All P (f x)) x xs (All-left P (f x) (flat_map f xs) all)
     (flat_all P f xs (All-right P (f x) (flat_map f xs) all))
@@ -46,39 +41,36 @@ same_flat f g [] all = refl
 same_flat f g (x ∷ xs) all = let here = All-head (λ x. f x ≡ g x) x xs all in let rest =
     same_flat f g xs (All-tail (λ x. f x ≡ g x) x xs all) in (λ i. here i ++ rest i)
 
-pub map_flat : {X Y Z : Type 0} (g : Y → Z) (f : X → List Y) (xs : List X) → map g (flat_map f xs)
-    ≡ flat_map (λ x. map g (f x)) xs
+pub map_flat : {X Y Z : Type 0} (g : Y → Z) (f : X → List Y) (xs : List X)
+    → map g (flat_map f xs) ≡ flat_map (λ x. map g (f x)) xs
 map_flat g f [] = refl
 map_flat g f (x ∷ xs) = grind (arith, common_steps, map_flat g f xs)
 
-pub filter_map_is : {X Y : Type 0} (p : Y → Bool) (f : X → Y) (xs : List X) → filter p (map f xs)
-    ≡ map f (filter (λ x. p (f x)) xs)
+pub filter_map_is : {X Y : Type 0} (p : Y → Bool) (f : X → Y) (xs : List X)
+    → filter p (map f xs) ≡ map f (filter (λ x. p (f x)) xs)
 filter_map_is p f [] = refl
 filter_map_is p f (x ∷ xs) = search (rules, filter_map_is p f xs)
 
-pub map_map_is : {X Y Z : Type 0} (g : Y → Z) (f : X → Y) (xs : List X) → map g (map f xs)
-    ≡ map (λ x. g (f x)) xs
+pub map_map_is : {X Y Z : Type 0} (g : Y → Z) (f : X → Y) (xs : List X) → map g (map f xs) ≡ map (λ x. g (f x)) xs
 map_map_is g f [] = refl
 map_map_is g f (x ∷ xs) = ap (λ ys. g (f x) ∷ ys) (map_map_is g f xs)
 
-pub sum_map : {X Y : Type 0} (g : Y → ℕ) (f : X → Y) (xs : List X) → sum_by g (map f xs)
-    ≡ sum_by (λ x. g (f x)) xs
+pub sum_map : {X Y : Type 0} (g : Y → ℕ) (f : X → Y) (xs : List X) → sum_by g (map f xs) ≡ sum_by (λ x. g (f x)) xs
 sum_map g f [] = refl
 sum_map g f (x ∷ xs) = grind (arith, common_steps, sum_map g f xs)
 
 -- the element of a mapped list is that of one element
-pub mapped_at : {X Y : Type 0} (f : X → Y) (xs : List X) (k : ℕ) (y : Y) → slice_get (map f xs) k
-    ≡ Some y → (x : X) × (slice_get xs k ≡ Some x) × (f x ≡ y)
+pub mapped_at : {X Y : Type 0} (f : X → Y) (xs : List X) (k : ℕ) (y : Y) → slice_get (map f xs) k ≡ Some y
+    → (x : X) × (slice_get xs k ≡ Some x) × (f x ≡ y)
 mapped_at f [] k y at = absurd (cc)
 mapped_at f (x ∷ xs) zero y at = (x, refl, cc)
 mapped_at f (x ∷ xs) (suc k) y at = mapped_at f xs k y at
 
-pub get_mapped : {X Y : Type 0} (f : X → Y) (xs : List X) (k : ℕ) (x : X) → slice_get xs k
-    ≡ Some x → slice_get (map f xs) k ≡ Some (f x)
+pub get_mapped : {X Y : Type 0} (f : X → Y) (xs : List X) (k : ℕ) (x : X) → slice_get xs k ≡ Some x
+    → slice_get (map f xs) k ≡ Some (f x)
 get_mapped f xs k x at = slice_get-map f xs k ∙ ap (option_map f) at
 
-pub at_within : {X : Type 0} (xs : List X) (k : ℕ) → k < length xs → (x : X)
-    × (slice_get xs k ≡ Some x)
+pub at_within : {X : Type 0} (xs : List X) (k : ℕ) → k < length xs → (x : X) × (slice_get xs k ≡ Some x)
 at_within [] k within = absurd (omega arith)
 at_within (x ∷ xs) zero within = (x, refl)
 at_within (x ∷ xs) (suc k) within = at_within xs k (omega arith)
@@ -95,31 +87,25 @@ number_away n k ne = ap (λ b. cond b 1 0) (ne_eqb k n ne)
 
 pub below_range : (n a many : ℕ) → n < a → sum_by (is_number n) (range_with_len a many) ≡ 0
 below_range n a zero less = refl
-below_range n a (suc many) less =
-    search (rules, sum_by-cons, number_away, below_range n (a + 1) many (omega arith))
+below_range n a (suc many) less = search (rules, sum_by-cons, number_away, below_range n (a + 1) many (omega arith))
 
-pub above_range : (n a many : ℕ) → a + many ≤ n
-    → sum_by (is_number n) (range_with_len a many) ≡ 0
+pub above_range : (n a many : ℕ) → a + many ≤ n → sum_by (is_number n) (range_with_len a many) ≡ 0
 above_range n a zero past = refl
-above_range n a (suc many) past =
-    search (rules, sum_by-cons, number_away, above_range n (a + 1) many (omega arith))
+above_range n a (suc many) past = search (rules, sum_by-cons, number_away, above_range n (a + 1) many (omega arith))
 
 -- the first number of a range is this one, and no later one is, or it is another
 range_step : (n a many : ℕ) → ((a ≡ n) × (sum_by (is_number n) (range_with_len a (suc many)) ≡ 1))
-    ⊎ ((a ≢ n) × (sum_by (is_number n) (range_with_len a (suc many))
-    ≡ sum_by (is_number n) (range_with_len (a + 1) many)))
-range_step n a many =
-    grind (arith, common_steps, sum_by-cons, cases_eq, number_here, below_range, number_away)
+    ⊎ ((a ≢ n) × (sum_by (is_number n) (range_with_len a (suc many)) ≡ sum_by (is_number n) (range_with_len (a + 1)
+    many)))
+range_step n a many = grind (arith, common_steps, sum_by-cons, cases_eq, number_here, below_range, number_away)
 
 pub once_in_range : (n a many : ℕ) → sum_by (is_number n) (range_with_len a many) ≤ 1
 once_in_range n a zero = omega arith
 once_in_range n a (suc many) = search (rules, range_step, once_in_range n (a + 1) many)
 
-pub some_in_range : (n a many : ℕ) → a ≤ n → n < a + many
-    → sum_by (is_number n) (range_with_len a many) ≡ 1
+pub some_in_range : (n a many : ℕ) → a ≤ n → n < a + many → sum_by (is_number n) (range_with_len a many) ≡ 1
 some_in_range n a zero from below = absurd (omega arith)
-some_in_range n a (suc many) from below =
-    search (rules, range_step n a many, some_in_range n (a + 1) many)
+some_in_range n a (suc many) from below = search (rules, range_step n a many, some_in_range n (a + 1) many)
 
 all_in_range : (a many : ℕ) → All (λ n. n < a + many) (range_with_len a many)
 all_in_range a zero = All-nil (λ n. n < a + zero)

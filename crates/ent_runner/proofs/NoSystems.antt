@@ -1,7 +1,6 @@
 -- Workers who have nothing to do, and a frame without systems.
 use Rattle.std.proofs.lemmas.Grind.{common_steps}
-use Rattle.std.proofs.Common.{rules, ◌≡◌, ℕ, zero, suc, ◌<◌, List, [], ◌∷◌, length, refl}
-use Rattle.std.proofs.Common.{arith, Result, Ok, Err, Some}
+use Rattle.std.proofs.Common.{rules, ◌≡◌, ℕ, zero, suc, ◌<◌, List, [], ◌∷◌, length, refl, arith, Result, Ok, Err, Some}
 use Rattle.std.specs.Prelude.{replicate, slice_get, IsErrOf, IsOk}
 use Rattle.std.specs.List.{All, AllPairs, flat_map}
 use Rattle.std.specs.List.Sorted.{IsPermutation}
@@ -31,8 +30,7 @@ flat_none zero = refl
 flat_none (suc workers) = flat_none workers
 
 -- together they do no jobs, each once
-pub none_once : (workers : ℕ) → IsPermutation (flat_map (λ (mine : List ℕ). mine)
-    (replicate workers no_jobs)) no_jobs
+pub none_once : (workers : ℕ) → IsPermutation (flat_map (λ (mine : List ℕ). mine) (replicate workers no_jobs)) no_jobs
 none_once workers = search (rules, flat_none, IsPermutation-refl)
 
 none_rise : AllPairs (λ m n. m < n) no_jobs
@@ -41,33 +39,39 @@ none_rise i j d less within = absurd (omega arith)
 pub all_rise : (workers : ℕ) → All (AllPairs (λ m n. m < n)) (replicate workers no_jobs)
 all_rise workers = grind (arith, common_steps, All-replicate, none_rise)
 
-pub is_none : (workers worker : ℕ) (mine : List ℕ) → slice_get (replicate workers no_jobs) worker
-    ≡ Some mine → mine ≡ no_jobs
-is_none workers worker mine at =
-    each_of_all (λ (mine : List ℕ). mine ≡ no_jobs) (replicate workers no_jobs) worker mine
+pub is_none : (workers worker : ℕ) (mine : List ℕ) → slice_get (replicate workers no_jobs) worker ≡ Some mine
+    → mine ≡ no_jobs
+is_none workers worker mine at = each_of_all (λ (mine : List ℕ). mine ≡ no_jobs) (replicate workers no_jobs) worker mine
     (All-replicate (λ (mine : List ℕ). mine ≡ no_jobs) workers no_jobs refl) at
 
 no_frame : {S : Type 0} (may : S → View → List Command → Type 0) (workers : ℕ) (before : World)
     → IsFrame may [] workers before [] []
-no_frame may workers before = record { legal = tt; callers = All-nil (λ (call : Call). call.caller < workers); ran = replicate workers no_jobs; each_worker = length-replicate workers no_jobs; once = none_once workers; work = search (rules, is_none, none_rise); count = refl; each_system = λ n system at. absurd (cc) }
+no_frame may workers before = record {
+  legal = tt;
+  callers = All-nil (λ (call : Call). call.caller < workers);
+  ran = replicate workers no_jobs;
+  each_worker = length-replicate workers no_jobs;
+  once = none_once workers;
+  work = search (rules, is_none, none_rise);
+  count = refl;
+  each_system = λ n system at. absurd (cc);
+}
 
-pub ends_none : {S : Type 0} (may : S → View → List Command → Type 0) (systems : List S)
-    (workers : ℕ) (before : World) (queues : List (List Command)) (after : World)
-    (births : List Handle) (faults : List Fault) → length systems ≡ 0 → queues ≡ []
-    → after ≡ (sync [] before).world → births ≡ born before.allocator
-    → faults ≡ (sync [] before).faults → Ends may systems workers before queues after births faults
+pub ends_none : {S : Type 0} (may : S → View → List Command → Type 0) (systems : List S) (workers : ℕ) (before : World)
+    (queues : List (List Command)) (after : World) (births : List Handle) (faults : List Fault) → length systems ≡ 0
+    → queues ≡ [] → after ≡ (sync [] before).world → births ≡ born before.allocator → faults ≡ (sync [] before).faults
+    → Ends may systems workers before queues after births faults
 ends_none may [] workers before queues after births faults none no_queues world came fault = search (rules, no_frame)
-ends_none may (system ∷ systems) workers before queues after births faults none no_queues world came
-    fault = absurd (omega arith)
+ends_none may (system ∷ systems) workers before queues after births faults none no_queues world came fault = absurd
+    (omega arith)
 
 -- a sync point of nothing asks for no memory
-pub applies_none : (result : Result SyncReport SyncFault) (before after : World)
-    → before.allocator.asked ≡ 0 → IsWorld after → (IsErrOf result stop.FlushMemory → after ≡ before)
-    → (IsErrOf result stop.FlushMemory → 0 < length before.allocator.taken)
-    → IfStopped result (λ system command done _. IsStop system command done []) → IsOk result
+pub applies_none : (result : Result SyncReport SyncFault) (before after : World) → before.allocator.asked ≡ 0
+    → IsWorld after → (IsErrOf result stop.FlushMemory → after ≡ before) → (IsErrOf result stop.FlushMemory → 0 < length
+    before.allocator.taken) → IfStopped result (λ system command done _. IsStop system command done []) → IsOk result
 applies_none (Ok report) before after flushed world kept taken stops = refl
 applies_none (Err stop.FlushMemory) before after flushed world kept taken stops = search (rules, flushed-laid_out)
-applies_none (Err (stop.Memory zero command done so_far)) before after flushed world kept taken stops =
-    absurd (omega arith)
-applies_none (Err (stop.Memory (suc system) command done so_far)) before after flushed world kept taken
-    stops = absurd (omega arith)
+applies_none (Err (stop.Memory zero command done so_far)) before after flushed world kept taken stops = absurd
+    (omega arith)
+applies_none (Err (stop.Memory (suc system) command done so_far)) before after flushed world kept taken stops = absurd
+    (omega arith)

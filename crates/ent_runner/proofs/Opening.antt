@@ -1,7 +1,6 @@
 -- The claimers of a number of workers, as they are made one by one.
 use Rattle.std.proofs.lemmas.Grind.{common_steps}
-use Rattle.std.proofs.Common.{rules, ◌≡◌, ℕ, ◌+◌, ◌-◌, ◌<◌, List, [], ◌∷◌, ◌++◌, take, drop, ap}
-use Rattle.std.proofs.Common.{◌∙◌, arith, replicate}
+use Rattle.std.proofs.Common.{rules, ◌≡◌, ℕ, ◌+◌, ◌-◌, ◌<◌, List, [], ◌∷◌, ◌++◌, take, drop, ap, ◌∙◌, arith, replicate}
 use Rattle.std.specs.Prelude.{false}
 use Rattle.std.specs.List.{All}
 use Rattle.std.proofs.lemmas.List.Elements.{All-push}
@@ -22,34 +21,27 @@ pub record AreOpened (numbers workers many : ℕ) (word : TableId) (made : List 
   pub own : All (IsClaimerOf (record { word = word; numbers = numbers; workers = workers })) made
   pub unused : All IsUnused made
 
-of_opened : (claims : Claims)
-    → IsClaimerOf claims (record { word = claims.word; own = nothing_claimed claims.numbers })
+of_opened : (claims : Claims) → IsClaimerOf claims (record { word = claims.word; own = nothing_claimed claims.numbers })
 of_opened claims = search rules
 
-opened-first : (numbers workers many : ℕ) → many < workers → replicate (workers - many)
-    (nothing_claimed numbers) ≡ nothing_claimed numbers ∷ replicate (workers - (many + 1))
-    (nothing_claimed numbers)
+opened-first : (numbers workers many : ℕ) → many < workers → replicate (workers - many) (nothing_claimed numbers)
+    ≡ nothing_claimed numbers ∷ replicate (workers - (many + 1)) (nothing_claimed numbers)
 opened-first numbers workers many below = search rules
 
-module _ (numbers workers many : ℕ) (word seat : TableId) (made : List Claimer)
-    (me : Me (Unit {0}) (List ClaimRecord)) (below : many < workers)
-    (d : AreOpened numbers workers many word made seat me) where
-  next_is : me.0 ≡ nothing_claimed numbers ∷ replicate (workers - (many + 1))
-      (nothing_claimed numbers)
+module _ (numbers workers many : ℕ) (word seat : TableId) (made : List Claimer) (me : Me (Unit {0}) (List ClaimRecord))
+    (below : many < workers) (d : AreOpened numbers workers many word made seat me) where
+  next_is : me.0 ≡ nothing_claimed numbers ∷ replicate (workers - (many + 1)) (nothing_claimed numbers)
   next_is = search (rules, opened-first)
 
-  one_is : (views : List (List ClaimRecord)) → views ≡ take 1 me.0 ∷ [] → views
-      ≡ (nothing_claimed numbers ∷ []) ∷ []
+  one_is : (views : List (List ClaimRecord)) → views ≡ take 1 me.0 ∷ [] → views ≡ (nothing_claimed numbers ∷ []) ∷ []
   one_is views is = is ∙ ap (λ (rs : List ClaimRecord). take 1 rs ∷ []) next_is
 
-  pub next_seated : (views : List (List ClaimRecord)) → views ≡ take 1 me.0 ∷ []
-      → IsClaimerSeated views false
+  pub next_seated : (views : List (List ClaimRecord)) → views ≡ take 1 me.0 ∷ [] → IsClaimerSeated views false
   next_seated views is = search (rules, one_is)
 
-  pub opened_more : (later : TableId) (after : Me (Unit {0}) (List ClaimRecord)) (c : Claimer)
-      → later ≡ seat → after ≡ (drop 1 me.0, []) → (views : List (List ClaimRecord)) → views
-      ≡ take 1 me.0 ∷ []
-      → c ≡ record { word = seat; own = claims_of views } → (now : List Claimer) → now ≡ made ++ c
-      ∷ [] → AreOpened numbers workers (many + 1) word now later after
-  opened_more later after c same left views is c_is now now_is =
-      grind (arith, common_steps, one_is, next_is, All-push, of_opened)
+  pub opened_more : (later : TableId) (after : Me (Unit {0}) (List ClaimRecord)) (c : Claimer) → later ≡ seat
+      → after ≡ (drop 1 me.0, []) → (views : List (List ClaimRecord)) → views ≡ take 1 me.0 ∷ []
+      → c ≡ record { word = seat; own = claims_of views } → (now : List Claimer) → now ≡ made ++ c ∷ []
+      → AreOpened numbers workers (many + 1) word now later after
+  opened_more later after c same left views is c_is now now_is = grind
+      (arith, common_steps, one_is, next_is, All-push, of_opened)

@@ -1,6 +1,5 @@
 -- The outputs of jobs that were done once each: each is there at its number.
-use Rattle.std.proofs.Common.{rules, ◌≡◌, ℕ, suc, ◌<◌, ◌≤◌, List, [], ◌∷◌, length, map, get_or, refl, ap}
-use Rattle.std.proofs.Common.{sym, ◌∙◌, arith, Option, Some, None, inl, inr, ne_eqb}
+use Rattle.std.proofs.Common.{rules, ◌≡◌, ℕ, suc, ◌<◌, ◌≤◌, List, [], ◌∷◌, length, map, get_or, refl, ap, sym, ◌∙◌, arith, Option, Some, None, inl, inr, ne_eqb}
 use Rattle.std.specs.Prelude.{slice_get, replicate, IsSome}
 use Rattle.std.specs.List.{All, sum_by, range_with_len}
 use Rattle.std.specs.List.Sorted.{IsPermutation}
@@ -15,29 +14,24 @@ use Rattle.ent_runner.specs.Collecting.{outputs_put}
 use Rattle.ent_runner.specs.Crew.{DidAll}
 use Rattle.ent_runner.specs.Worker.{numbers_of, HaveEnded}
 use Rattle.ent_runner.proofs.ByNumber.{is_of, times, all_put, length_put, put_other}
-use Rattle.ent_runner.proofs.Lists.{each_of_all, sum_map, mapped_at, of_mapped, is_number}
-use Rattle.ent_runner.proofs.Lists.{once_in_range, some_in_range, all_below, above_range}
+use Rattle.ent_runner.proofs.Lists.{each_of_all, sum_map, mapped_at, of_mapped, is_number, once_in_range, some_in_range, all_below, above_range}
 
 module _ {O : Type 0} where
   -- an element that is there so often is somewhere
-  found : (n : ℕ) (done : List (Done O)) → 0 < times n done → (k : ℕ) × (d : Done O)
-      × (slice_get done k ≡ Some d) × (d.number ≡ n)
+  found : (n : ℕ) (done : List (Done O)) → 0 < times n done → (k : ℕ) × (d : Done O) × (slice_get done k ≡ Some d)
+      × (d.number ≡ n)
   found n [] some = absurd (omega arith)
-  found n (d ∷ done) some =
-      elim (cases_eq d.number n) [
-        | inl e ↦ (0, d, refl, e)
-        | inr ne ↦
-            let sums = sum_by-cons (is_of n) d done in
-            let away : is_of n d ≡ 0 = rw (ne_eqb d.number n ne) in
-            let rest = found n done (omega arith) in
-            (suc rest.0, rest.1, rest.2, rest.3)
-      ]
+  found n (d ∷ done) some = elim (cases_eq d.number n) [
+    | inl e ↦ (0, d, refl, e)
+    | inr ne ↦ let sums = sum_by-cons
+        (is_of n) d done in let away : is_of n d ≡ 0 = rw (ne_eqb d.number n ne) in let rest = found n done
+        (omega arith) in (suc rest.0, rest.1, rest.2, rest.3)
+  ]
 
   abbrev none : Option O
   none = None
 
-  module _ (count : ℕ) (done : List (Done O))
-      (once : IsPermutation (numbers_of done) (range_with_len 0 count)) where
+  module _ (count : ℕ) (done : List (Done O)) (once : IsPermutation (numbers_of done) (range_with_len 0 count)) where
     pub counts : (n : ℕ) → times n done ≡ sum_by (is_number n) (range_with_len 0 count)
     counts n = sym (sum_map (is_number n) (λ (d : Done O). d.number) done)
         ∙ sym (sum_by-IsPermutation (is_number n) _ _ once)
@@ -47,27 +41,22 @@ module _ {O : Type 0} where
         (All-permutation (λ n. n < count) _ _ (IsPermutation-sym _ _ once) (all_below count))
 
     -- each output is there at its number
-    pub stand : (e : Option O) → All (λ (d : Done O). get_or (outputs_put done
-        (replicate count None)) d.number e ≡ Some d.output) done
+    pub stand : (e : Option O) → All (λ (d : Done O). get_or (outputs_put done (replicate count None)) d.number e
+        ≡ Some d.output) done
     stand e = search (rules, length-replicate, inside, all_put, counts, once_in_range)
 
     -- and each job has one
-    pub found_at : (n : ℕ) → n < count → (k : ℕ) × (d : Done O) × (slice_get done k ≡ Some d)
-        × (d.number ≡ n)
+    pub found_at : (n : ℕ) → n < count → (k : ℕ) × (d : Done O) × (slice_get done k ≡ Some d) × (d.number ≡ n)
     found_at n less = search (rules, found, counts, some_in_range)
 
     pub full : All IsSome (outputs_put done (replicate count None))
     full n e within =
-        let there = found_at n (omega (
-          arith,
-          length_put done (replicate count none),
-          length-replicate count none,
-        )) in
+        let there = found_at n (omega (arith, length_put done (replicate count none), length-replicate count none)) in
         let d : Done O = there.1 in
         rw (
           sym there.3,
-          each_of_all (λ (d : Done O). get_or (outputs_put done (replicate count none))
-              d.number e ≡ Some d.output) done there.0 d (stand e) there.2,
+          each_of_all (λ (d : Done O). get_or (outputs_put done (replicate count none)) d.number e ≡ Some d.output) done
+              there.0 d (stand e) there.2,
         )
 
     -- one that was not done has none
@@ -75,16 +64,15 @@ module _ {O : Type 0} where
         → get_or (outputs_put done (replicate numbers None)) n e ≡ None
     left_out numbers n e past less = search (rules, put_other, counts, above_range, get_or-replicate)
 
-    module _ (outputs : List O)
-        (whole : map Some outputs ≡ outputs_put done (replicate count None)) where
+    module _ (outputs : List O) (whole : map Some outputs ≡ outputs_put done (replicate count None)) where
       pub long : length outputs ≡ count
       long = search (rules, length-map, length_put, length-replicate)
 
       pub outputs_at : All (λ (d : Done O). slice_get outputs d.number ≡ Some d.output) done
       outputs_at k e within =
           let d = get_or done k e in
-          let less : d.number < length (map Some outputs) =
-          omega (arith, inside k e within, long, length-map outputs Some) in
+          let less : d.number < length (map Some outputs) = omega
+          (arith, inside k e within, long, length-map outputs Some) in
           let at = slice_get-get_or (map Some outputs) d.number None less
           ∙ ap Some (ap (λ all. get_or all d.number None) whole ∙ stand None k e within) in
           let there = mapped_at Some outputs d.number (Some d.output) at in
@@ -95,18 +83,13 @@ module _ {O : Type 0} where
   unwrapped [] all = ([], refl)
   unwrapped (None ∷ os) all = let none = All-head IsSome None os all in absurd (cc)
   unwrapped (Some x ∷ os) all =
-      let rest = unwrapped os (All-tail IsSome (Some x) os all) in
-      (x ∷ rest.0, ap (λ ys. Some x ∷ ys) rest.1)
+      let rest = unwrapped os (All-tail IsSome (Some x) os all) in (x ∷ rest.0, ap (λ ys. Some x ∷ ys) rest.1)
 
   module _ {L : Type 0} (may : ℕ → L → O → L → Type 0) (outputs : List O) where
     -- jobs that were kept with their outputs are those with their outputs at their numbers
-    pub kept_all : (a : L) (done : List (Done O)) (b : L)
-        → All (λ (d : Done O). slice_get outputs d.number ≡ Some d.output) done
-        → HaveEnded may a done b → DidAll may outputs a (numbers_of done) b
+    pub kept_all : (a : L) (done : List (Done O)) (b : L) → All (λ (d : Done O). slice_get outputs d.number ≡ Some
+        d.output) done → HaveEnded may a done b → DidAll may outputs a (numbers_of done) b
     kept_all a [] b at ended = ended
     kept_all a (d ∷ done) b at ended =
-        let P : Done O → Type 0 = λ (d : Done O). slice_get outputs d.number ≡ Some d.output in (
-          ended.0,
-          (d.output, All-head P d done at, ended.1),
-          kept_all ended.0 done b (All-tail P d done at) ended.2,
-        )
+        let P : Done O → Type 0 = λ (d : Done O). slice_get outputs d.number ≡ Some d.output in
+        (ended.0, (d.output, All-head P d done at, ended.1), kept_all ended.0 done b (All-tail P d done at) ended.2)

@@ -1,8 +1,6 @@
 -- Each step keeps the rule over the claim word and the records.
 use Rattle.std.proofs.lemmas.Grind.{common_steps}
-use Rattle.std.proofs.Common.{rules, ◌≡◌, ℕ, zero, suc, ◌+◌, ◌%◌, ◌^◌, ◌<◌, ◌≤◌, List, [], ◌∷◌}
-use Rattle.std.proofs.Common.{◌++◌, length, replicate, set, get_or, refl, ap, ◌∙◌, arith}
-use Rattle.std.proofs.Common.{lt-ltb, le-ltb}
+use Rattle.std.proofs.Common.{rules, ◌≡◌, ℕ, zero, suc, ◌+◌, ◌%◌, ◌^◌, ◌<◌, ◌≤◌, List, [], ◌∷◌, ◌++◌, length, replicate, set, get_or, sym, refl, ap, ◌∙◌, arith, ⊎_elim, lt-ltb, le-ltb}
 use Rattle.std.proofs.Math.Nat.{mod-eq_of_lt}
 use Rattle.std.specs.Prelude.{true, false, cond}
 use Rattle.std.specs.List.{sum_by, All, range_with_len}
@@ -19,8 +17,7 @@ use Rattle.ent_shared.proofs.Weighing.{all_one, sum_at, all_at, whole_weighs}
 use Rattle.ent_shared.proofs.Regrouping.{sum_regrouped, length-regrouped, all_regrouped}
 use Rattle.ent_runner.specs.declared.record.ClaimRecord.{ClaimRecord}
 use Rattle.ent_runner.specs.Record.{nothing_claimed, after_claim}
-use Rattle.ent_runner.specs.Rule.{weigh_claims, ended_in, IsClaimKept, AreClaimsRuled, AfterClaim}
-use Rattle.ent_runner.specs.Rule.{ClaimTells, AreClaimsClosed}
+use Rattle.ent_runner.specs.Rule.{weigh_claims, ended_in, IsClaimKept, AreClaimsRuled, AfterClaim, ClaimTells, AreClaimsClosed}
 
 range_last : (a n j : ℕ) → a + n ≡ j → range_with_len a (suc n) ≡ range_with_len a n ++ j ∷ []
 range_last a zero j e = ap (λ (k : ℕ). k ∷ []) (omega arith)
@@ -66,37 +63,124 @@ module _ (numbers workers : ℕ) where
   after_number : (s : St) (k : Rule s) (id : ℕ) (r : ClaimRecord) (words : List ℕ)
       → get_elem? s.views id ≡ some (r ∷ []) → k.word < numbers → words ≡ (k.word + 1) ∷ []
       → Rule (record s { words = words; views = set s.views id (with_claim r k.claimed ∷ []) })
-  after_number s k id r words at below now = let is : k.word ≡ k.claimed = search rules in let left : k.claimed < numbers = omega arith in let w : List ClaimRecord = with_claim r k.claimed ∷ [] in let mine : IsClaimKept numbers k.claimed r = all_at (All (IsClaimKept numbers k.claimed)) s.views id (r ∷ []) at k.each 0 r (omega arith) in let ended = sum_at ended_in s.views id (r ∷ []) w at in let changed = sum_at length s.views id (r ∷ []) w at in let none = k.none_early left in record { few_numbers = k.few_numbers; few_workers = k.few_workers; word = k.word + 1; words = now; claimed = k.claimed + 1; within = omega arith; counts = omega (arith, k.counts); none_early = λ _. omega arith; partition = search (rules, sum_at, weigh_claims-one, sum_by_push, range_more); records = omega (arith, k.records); each = search (rules, All-set, all_one, kept_claim, kept_on) }
+  after_number s k id r words at below now =
+      let is : k.word ≡ k.claimed = search rules in
+      let left : k.claimed < numbers = omega arith in
+      let w : List ClaimRecord = with_claim r k.claimed ∷ [] in
+      let mine : IsClaimKept numbers k.claimed r = all_at (All (IsClaimKept numbers k.claimed)) s.views id (r ∷ []) at
+      k.each 0 r (omega arith) in
+      let ended = sum_at ended_in s.views id (r ∷ []) w at in
+      let changed = sum_at length s.views id (r ∷ []) w at in
+      let none = k.none_early left in
+      record {
+        few_numbers = k.few_numbers;
+        few_workers = k.few_workers;
+        word = k.word + 1;
+        words = now;
+        claimed = k.claimed + 1;
+        within = omega arith;
+        counts = omega (arith, k.counts);
+        none_early = λ _. omega arith;
+        partition = search (rules, sum_at, weigh_claims-one, sum_by_push, range_more);
+        records = omega (arith, k.records);
+        each = All-set (All (IsClaimKept numbers (k.claimed + 1))) s.views id w
+            (all_one (IsClaimKept numbers (k.claimed + 1)) (with_claim r k.claimed) (kept_claim k.claimed r left mine))
+            (λ i d lt j e l. kept_on k.claimed _ left (k.each i d lt j e l));
+      }
 
-  after_end : (s : St) (k : Rule s) (id : ℕ) (r : ClaimRecord) (words : List ℕ)
-      → get_elem? s.views id ≡ some (r ∷ []) → r.ended ≡ false → numbers ≤ k.word → words
-      ≡ (k.word + 1) ∷ []
+  after_end : (s : St) (k : Rule s) (id : ℕ) (r : ClaimRecord) (words : List ℕ) → get_elem? s.views id ≡ some (r ∷ [])
+      → r.ended ≡ false → numbers ≤ k.word → words ≡ (k.word + 1) ∷ []
       → Rule (record s { words = words; views = set s.views id (with_end r ∷ []) })
-  after_end s k id r words at going above now = let all : k.claimed ≡ numbers = search rules in let w : List ClaimRecord = with_end r ∷ [] in let K : List ClaimRecord → Type 0 = All (IsClaimKept numbers k.claimed) in let mine : IsClaimKept numbers k.claimed r = all_at K s.views id (r ∷ []) at k.each 0 r (omega arith) in let ended = sum_at ended_in s.views id (r ∷ []) w at in let changed = sum_at length s.views id (r ∷ []) w at in let nought : ended_in (r ∷ []) ≡ 0 = search rules in record { few_numbers = k.few_numbers; few_workers = k.few_workers; word = k.word + 1; words = now; claimed = k.claimed; within = k.within; counts = omega (arith, k.counts); none_early = λ left. absurd (omega arith); partition = λ f. omega (arith, sum_at (weigh_claims f) s.views id (r ∷ []) w at, k.partition f); records = omega (arith, k.records); each = search (rules, All-set, all_one) }
+  after_end s k id r words at going above now =
+      let all : k.claimed ≡ numbers = search rules in
+      let w : List ClaimRecord = with_end r ∷ [] in
+      let K : List ClaimRecord → Type 0 = All (IsClaimKept numbers k.claimed) in
+      let mine : IsClaimKept numbers k.claimed r = all_at K s.views id (r ∷ []) at k.each 0 r (omega arith) in
+      let ended = sum_at ended_in s.views id (r ∷ []) w at in
+      let changed = sum_at length s.views id (r ∷ []) w at in
+      let nought : ended_in (r ∷ []) ≡ 0 = search rules in
+      record {
+        few_numbers = k.few_numbers;
+        few_workers = k.few_workers;
+        word = k.word + 1;
+        words = now;
+        claimed = k.claimed;
+        within = k.within;
+        counts = omega (arith, k.counts);
+        none_early = λ left. absurd (omega arith);
+        partition = λ f. omega (arith, sum_at (weigh_claims f) s.views id (r ∷ []) w at, k.partition f);
+        records = omega (arith, k.records);
+        each = All-set K s.views id w (all_one (IsClaimKept numbers k.claimed) (with_end r) (record {
+          numbers_is = mine.numbers_is;
+          below = mine.below;
+          rises = mine.rises;
+          ends = λ _. all;
+        })) k.each;
+      }
 
   pub claims : (slots id : ℕ) (r : ClaimRecord) → r.ended ≡ false
       → Allows Rule slots id (r ∷ [], []) 0 (λ word. (word + 1) % 2 ^ 64) (ClaimTells (r ∷ [], []))
-  claims slots id r going s k _ at _ = let word : ℕ = k.word in let found : get_or s.words 0 0 ≡ word = search (rules, k.words) in let small = word_small s k in let now : set s.words 0 ((get_or s.words 0 0 + 1) % 2 ^ 64) ≡ (word + 1) ∷ [] = search (rules, mod-eq_of_lt, k.words) in let w : ClaimRecord = after_claim r word in let mine : IsClaimKept numbers k.claimed r = all_at (All (IsClaimKept numbers k.claimed)) s.views id (r ∷ []) at k.each 0 r (omega arith) in let limit : r.numbers ≡ numbers = mine.numbers_is in let told : AfterClaim r (get_or s.words 0 0) (w ∷ []) = rw found (record { above = λ i d lt. omega (arith, mine.below i d lt, k.counts); after = refl }) in let ruled : Rule (record s { words = search (rules, lt-ltb, after_number, le-ltb, after_end, cases_lt) in (w ∷ [], keeps, tt, ruled, (refl, λ x is _. search (rules, told)))
+  claims slots id r going s k _ at _ =
+      let word : ℕ = k.word in
+      let found : get_or s.words 0 0 ≡ word = search (rules, k.words) in
+      let small = word_small s k in
+      let now : set s.words 0 ((get_or s.words 0 0 + 1) % 2 ^ 64) ≡ (word + 1)
+      ∷ [] = search (rules, mod-eq_of_lt, k.words) in
+      let w : ClaimRecord = after_claim r word in
+      let mine : IsClaimKept numbers k.claimed r = all_at (All (IsClaimKept numbers k.claimed)) s.views id (r ∷ []) at
+      k.each 0 r (omega arith) in
+      let limit : r.numbers ≡ numbers = mine.numbers_is in
+      let told : AfterClaim r (get_or s.words 0 0) (w ∷ []) = rw found (record {
+        above = λ i d lt. omega (arith, mine.below i d lt, k.counts);
+        after = refl;
+      }) in
+      let ruled : Rule (record s {
+        words = set s.words 0 ((get_or s.words 0 0 + 1) % 2 ^ 64);
+        views = set s.views id
+            (w ∷ []);
+      }) = ⊎_elim (λ (below : word < numbers). let is : w ≡ with_claim r k.claimed = search (rules, lt-ltb) in
+      rw is (after_number s k id r _ at below now)) (λ (above : numbers ≤ word). let is : w
+      ≡ with_end r = search (rules, le-ltb) in rw is (after_end s k id r _ at going above now))
+      (cases_lt word numbers) in
+      (w ∷ [], keeps, tt, ruled, (refl, λ x is _. search (rules, told)))
 
-  pub claims_at : (slots id : ℕ) (me : Me (Unit {0}) (List ClaimRecord)) (r : ClaimRecord) (n : ℕ)
-      → me.0 ≡ r ∷ [] → me.1 ≡ [] → n ≡ 1 → r.ended ≡ false
-      → Allows Rule slots id me 0 (λ word. (word + n) % 2 ^ 64) (ClaimTells me)
-  claims_at slots id me r n view bare one going =
-      rw (view, bare, one) (claims slots id r going)
+  pub claims_at : (slots id : ℕ) (me : Me (Unit {0}) (List ClaimRecord)) (r : ClaimRecord) (n : ℕ) → me.0 ≡ r ∷ []
+      → me.1 ≡ [] → n ≡ 1 → r.ended ≡ false → Allows Rule slots id me 0 (λ word. (word + n) % 2 ^ 64) (ClaimTells me)
+  claims_at slots id me r n view bare one going = rw (view, bare, one) (claims slots id r going)
 
   -- the rule goes by the records, and not by which seat has which
   pub goes_by_records : GoesByRecords Rule
-  goes_by_records s views same k = let ended = sum_regrouped s.views views same (λ (r : ClaimRecord). cond {A = ℕ} r.ended 1 0) in record { few_numbers = k.few_numbers; few_workers = k.few_workers; word = k.word; words = k.words; claimed = k.claimed; within = k.within; counts = rw ended k.counts; none_early = λ early. ended ∙ k.none_early early; partition = search (rules, sum_regrouped); records = length-regrouped s.views views same ∙ k.records; each = all_regrouped s.views views same (IsClaimKept numbers k.claimed) k.each }
+  goes_by_records s views same k =
+      let ended = sum_regrouped s.views views same (λ (r : ClaimRecord). cond {A = ℕ} r.ended 1 0) in
+      record {
+        few_numbers = k.few_numbers;
+        few_workers = k.few_workers;
+        word = k.word;
+        words = k.words;
+        claimed = k.claimed;
+        within = k.within;
+        counts = rw ended k.counts;
+        none_early = λ early. ended ∙ k.none_early early;
+        partition = λ f. sum_regrouped s.views views same (λ (r : ClaimRecord). sum_by f r.claims) ∙ k.partition f;
+        records = length-regrouped s.views views same ∙ k.records;
+        each = all_regrouped s.views views same (IsClaimKept numbers k.claimed) k.each;
+      }
 
   -- before the first step
   kept-opened : IsClaimKept numbers 0 (nothing_claimed numbers)
   kept-opened = search (rules, All-nil)
 
-  pub begins : numbers ≤ 2 ^ 16 → workers ≤ 64
-      → Rule (opening (0 ∷ []) [] (replicate workers (nothing_claimed numbers)))
+  pub begins : numbers ≤ 2 ^ 16 → workers ≤ 64 → Rule (opening (0 ∷ []) []
+      (replicate workers (nothing_claimed numbers)))
   begins few_numbers few_workers = grind (arith, common_steps, sum_by-replicate, all_one, All-replicate, kept-opened)
 
   -- after the last step
   pub ends : (s : St) (k : Rule s) (id : ℕ) (v : List ClaimRecord) → get_elem? s.views id ≡ some v
       → AreClaimsClosed numbers workers v
-  ends s k id v there = record { claimed = k.claimed; within = k.within; each = all_at (All (IsClaimKept numbers k.claimed)) s.views id v there k.each; all = search (rules, whole_weighs) }
+  ends s k id v there = record {
+    claimed = k.claimed;
+    within = k.within;
+    each = all_at (All (IsClaimKept numbers k.claimed)) s.views id v there k.each;
+    all = λ whole f. sym (whole_weighs (λ (r : ClaimRecord). sum_by f r.claims) s.views id v there
+        (k.records ∙ sym whole)) ∙ k.partition f;
+  }

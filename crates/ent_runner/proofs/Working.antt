@@ -1,6 +1,5 @@
 -- A worker does one job after the other.
-use Rattle.std.proofs.Common.{rules, ◌≡◌, ℕ, List, [], ◌∷◌, ◌++◌, ap, subst}
-use Rattle.std.proofs.Common.{is_err, false, true≢false}
+use Rattle.std.proofs.Common.{rules, ◌≡◌, ℕ, List, [], ◌∷◌, ◌++◌, ap, subst, is_err, false, true≢false}
 use Rattle.std.specs.Prelude.{Result, Ok, Err, OnOk, OnErr}
 use Rattle.std.proofs.lemmas.Fn.{FoldsTo-push}
 use Rattle.std.proofs.lemmas.List.{map-append}
@@ -9,22 +8,19 @@ use Rattle.ent_runner.specs.declared.worker.Done.{Done}
 use Rattle.ent_runner.specs.Worker.{numbers_of, HaveEnded, HasStoppedAt}
 
 module _ {O : Type 0} where
-  pub numbers_more : (done next : List (Done O)) (d : Done O) (claims more : List ℕ) → next
-      ≡ done ++ d ∷ [] → numbers_of done ≡ claims → more ≡ claims ++ d.number ∷ []
-      → numbers_of next ≡ more
+  pub numbers_more : (done next : List (Done O)) (d : Done O) (claims more : List ℕ) → next ≡ done ++ d ∷ []
+      → numbers_of done ≡ claims → more ≡ claims ++ d.number ∷ [] → numbers_of next ≡ more
   numbers_more done next d claims more pushed same claimed = search (rules, map-append)
 
   module _ {L : Type 0} (may leave : ℕ → L → O → L → Type 0) where
     -- one job more
-    pub ended_more : (a b c : L) (done next : List (Done O)) (d : Done O)
-        → HaveEnded may a done b → may d.number b d.output c → next ≡ done ++ d ∷ []
-        → HaveEnded may a next c
+    pub ended_more : (a b c : L) (done next : List (Done O)) (d : Done O) → HaveEnded may a done b
+        → may d.number b d.output c → next ≡ done ++ d ∷ [] → HaveEnded may a next c
     ended_more a b c done next d ended may_it pushed = search (rules, FoldsTo-push)
 
     -- and one more, which stopped
-    pub stopped_at : (a b c : L) (done next : List (Done O)) (d : Done O)
-        → HaveEnded may a done b → leave d.number b d.output c → next ≡ done ++ d ∷ []
-        → HasStoppedAt may leave a next c
+    pub stopped_at : (a b c : L) (done next : List (Done O)) (d : Done O) → HaveEnded may a done b
+        → leave d.number b d.output c → next ≡ done ++ d ∷ [] → HasStoppedAt may leave a next c
     stopped_at a b c done next d ended left pushed = search rules
 
 pub of_ok : {A E : Type 0} (X : Type 0) (r : Result A E) (a : A) → r ≡ Ok a → OnOk r X → X

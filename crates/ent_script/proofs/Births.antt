@@ -1,12 +1,10 @@
 -- The texts of births, cut at their dots.
-use Rattle.std.proofs.Common.{rules, ◌≡◌, ◌≢◌, ℕ, Bool, true, false, eqb, List, [], ◌∷◌, ◌++◌, Err}
-use Rattle.std.proofs.Common.{All, refl, sym, ◌∙◌, inl, inr, arith}
+use Rattle.std.proofs.Common.{rules, ◌≡◌, ◌≢◌, ℕ, Bool, true, false, eqb, List, [], ◌∷◌, ◌++◌, Err, All, refl, sym, ◌∙◌, inl, inr, arith}
 use Rattle.std.proofs.lemmas.Grind.{common_steps}
 use Rattle.std.specs.List.{slice_split}
 use Rattle.std.proofs.lemmas.Bool.{cases_Bool, ne_eqb, cond-false}
 use Rattle.std.proofs.lemmas.List.{get_or_default}
-use Rattle.std.proofs.lemmas.List.Splits.{slice_split_none, slice_split_at}
-use Rattle.std.proofs.lemmas.List.Splits.{join_with_byte-slice_split}
+use Rattle.std.proofs.lemmas.List.Splits.{slice_split_none, slice_split_at, join_with_byte-slice_split}
 use Rattle.ent_handle.specs.Text.{is_decimal}
 use Rattle.ent_handle.proofs.Decimals.{plain_from_decimal}
 use Rattle.ent_script.specs.Reading.{birth_number, birth_of_parts, birth_of}
@@ -23,55 +21,48 @@ fails : (bytes : List ℕ) → IsWithoutDot bytes → All (λ b. is_dot b ≡ fa
 fails bytes h k d lt = ne_eqb _ 46 (h k d lt)
 
 decimal_without_dot : (ds : List ℕ) → is_decimal ds ≡ true → IsWithoutDot ds
-decimal_without_dot ds is k d lt e =
-    grind (arith, common_steps, plain_from_decimal ds is, get_or_default ds k 0 d lt)
+decimal_without_dot ds is k d lt e = grind (arith, common_steps, plain_from_decimal ds is, get_or_default ds k 0 d lt)
 
 -- what is no decimal has no number
 number_refused : (ds : List ℕ) → is_decimal ds ≡ false → birth_number ds ≡ Err cause.Birth
 number_refused ds lacks = search (rules, cond-false)
 
-pub ordinal_refused : (before : ℕ) (frame system ordinal : List ℕ)
-    → birth_number ordinal ≡ Err cause.Birth
+pub ordinal_refused : (before : ℕ) (frame system ordinal : List ℕ) → birth_number ordinal ≡ Err cause.Birth
     → birth_of_parts before (frame ∷ system ∷ ordinal ∷ []) ≡ Err cause.Birth
 ordinal_refused before frame system ordinal lacks = grind (arith, common_steps)
 
 -- no dot: no birth
-pub birth_of_whole : (before : ℕ) (text : List ℕ) → IsWithoutDot text
-    → birth_of before text ≡ Err cause.Birth
+pub birth_of_whole : (before : ℕ) (text : List ℕ) → IsWithoutDot text → birth_of before text ≡ Err cause.Birth
 unfolding birth_of
 birth_of_whole before text h = search (rules, slice_split_none, fails)
 
 -- one dot: no birth
-pub birth_of_halves : (before : ℕ) (text frame others : List ℕ) → text ≡ frame ++ 46 ∷ others
-    → IsWithoutDot frame → IsWithoutDot others → birth_of before text ≡ Err cause.Birth
+pub birth_of_halves : (before : ℕ) (text frame others : List ℕ) → text ≡ frame ++ 46 ∷ others → IsWithoutDot frame
+    → IsWithoutDot others → birth_of before text ≡ Err cause.Birth
 unfolding birth_of
-birth_of_halves before text frame others e f h =
-    search (rules, slice_split_none, slice_split_at, fails)
+birth_of_halves before text frame others e f h = search (rules, slice_split_none, slice_split_at, fails)
 
-one_part : (before : ℕ) (frame system ordinal : List ℕ) (parts : List (List ℕ))
-    → slice_split is_dot ordinal ≡ parts → is_decimal ordinal ≡ false
-    → birth_of_parts before (frame ∷ system ∷ parts) ≡ Err cause.Birth
+one_part : (before : ℕ) (frame system ordinal : List ℕ) (parts : List (List ℕ)) → slice_split is_dot ordinal ≡ parts
+    → is_decimal ordinal ≡ false → birth_of_parts before (frame ∷ system ∷ parts) ≡ Err cause.Birth
 one_part before frame system ordinal [] e lacks = refl
-one_part before frame system ordinal (part ∷ []) e lacks =
-    search (rules, number_refused, join_with_byte-slice_split 46 ordinal)
+one_part before frame system ordinal (part ∷ []) e lacks = search
+    (rules, number_refused, join_with_byte-slice_split 46 ordinal)
 one_part before frame system ordinal (part ∷ more ∷ others) e lacks = refl
 
 -- the parts round the first two dots are the numbers, or there is no birth
-pub birth_of_split : (before : ℕ) (text frame others system ordinal : List ℕ)
-    → text ≡ frame ++ 46 ∷ others → others ≡ system ++ 46 ∷ ordinal
-    → IsWithoutDot frame → IsWithoutDot system
+pub birth_of_split : (before : ℕ) (text frame others system ordinal : List ℕ) → text ≡ frame ++ 46 ∷ others
+    → others ≡ system ++ 46 ∷ ordinal → IsWithoutDot frame → IsWithoutDot system
     → birth_of before text ≡ birth_of_parts before (frame ∷ system ∷ ordinal ∷ [])
 unfolding birth_of
-birth_of_split before text frame others system ordinal e e' f s =
-    rw (
-      e,
-      slice_split_at is_dot frame 46 others (fails frame f) refl,
-      e',
-      slice_split_at is_dot system 46 ordinal (fails system s) refl,
-    )
-    (elim (cases_Bool (is_decimal ordinal)) [
-      | inl is ↦ rw (slice_split_none is_dot ordinal
-          (fails ordinal (decimal_without_dot ordinal is))) refl
-      | inr lacks ↦ one_part before frame system ordinal _ refl lacks
-          ∙ sym (ordinal_refused before frame system ordinal (number_refused ordinal lacks))
-    ])
+birth_of_split before text frame others system ordinal e e' f s = rw (
+  e,
+  slice_split_at is_dot frame 46 others (fails frame f) refl,
+  e',
+  slice_split_at is_dot system 46 ordinal (fails system s) refl,
+) (elim (cases_Bool (is_decimal ordinal)) [
+  | inl is ↦ rw
+      (slice_split_none is_dot ordinal (fails ordinal (decimal_without_dot ordinal is))) refl
+  | inr lacks ↦ one_part
+      before frame system ordinal _ refl lacks ∙ sym (ordinal_refused before frame system ordinal
+      (number_refused ordinal lacks))
+])

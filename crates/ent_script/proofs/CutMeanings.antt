@@ -1,17 +1,13 @@
 -- One law, with a step for each test of the format: a value that is cut means the same.
 use Rattle.std.proofs.lemmas.List.{take-map}
-use Rattle.std.proofs.Common.{arith, rules, ◌≡◌, ℕ, suc, ◌+◌, List, [], ◌∷◌, map, refl, Option}
-use Rattle.std.proofs.Common.{option_map, Result, Ok, ok_or, codes}
+use Rattle.std.proofs.Common.{arith, rules, ◌≡◌, ℕ, suc, ◌+◌, List, [], ◌∷◌, map, refl, Option, option_map, Result, Ok, ok_or, codes}
 use Rattle.std.proofs.lemmas.Grind.{common_steps}
 use Rattle.serde_json.specs.Data.{Data, Members, no_members, member}
 use Rattle.serde_json.specs.Find.{get, as_str}
 use Rattle.ent_script.specs.Cut.{cut, cut_members}
 use Rattle.ent_script.specs.Json.{members, pairs_of, whole, whole_within}
 use Rattle.ent_script.specs.Names.{as_name}
-use Rattle.ent_script.specs.Reading.{◌>>=◌, items_of, read_bundle, with_of, count_of}
-use Rattle.ent_script.specs.Reading.{binding_of, removed_of, target_of}
-use Rattle.ent_script.specs.Reading.{format_of, or_absent}
-use Rattle.ent_script.specs.Reading.{numbered, component_at}
+use Rattle.ent_script.specs.Reading.{◌>>=◌, items_of, read_bundle, with_of, count_of, binding_of, removed_of, target_of, format_of, or_absent, numbered, component_at}
 use Rattle.ent_script.specs.declared.cause.ScriptCause.{ScriptCause}
 use Rattle.ent_script.specs.declared.cause.ScriptCause.TheVariants as script_cause
 use Rattle.ent_script.specs.declared.heading.Heading.{Heading}
@@ -23,8 +19,7 @@ pairs_of-cut : (l : ℕ) (ms : Members) → pairs_of (cut_members l ms) ≡ map 
 pairs_of-cut l no_members = refl
 pairs_of-cut l (member k d ms) = search (rules, pairs_of-cut l ms)
 
-members-cut : (l : ℕ) (d : Data) → members (cut (suc l) d) ≡ option_map (map (cut_pair l))
-    (members d)
+members-cut : (l : ℕ) (d : Data) → members (cut (suc l) d) ≡ option_map (map (cut_pair l)) (members d)
 members-cut l d = search (rules, pairs_of-cut)
 
 as_str-cut : (l : ℕ) (d : Data) → as_str (cut l d) ≡ as_str d
@@ -38,58 +33,51 @@ whole-cut l d = search rules
 
 -- ---- the parts of an operation
 
-items_of-cut : (l : ℕ) (components : List (List ℕ)) (ms : List (List ℕ × Data)) → items_of
-    components (map (cut_pair l) ms) ≡ items_of components ms
+items_of-cut : (l : ℕ) (components : List (List ℕ)) (ms : List (List ℕ × Data))
+    → items_of components (map (cut_pair l) ms) ≡ items_of components ms
 items_of-cut l components [] = refl
 items_of-cut l components (m ∷ ms) = grind (arith, common_steps, items_of-cut l components ms)
 
-pub bundle-cut : (l : ℕ) (components : List (List ℕ)) (o : Option Data) → read_bundle components
-    (option_map (cut (suc l)) o) ≡ read_bundle components o
+pub bundle-cut : (l : ℕ) (components : List (List ℕ)) (o : Option Data)
+    → read_bundle components (option_map (cut (suc l)) o) ≡ read_bundle components o
 unfolding read_bundle
 bundle-cut l components it = search (rules, members-cut, items_of-cut)
 
-pub with-cut : (l : ℕ) (components : List (List ℕ)) (o : Option Data) → with_of components
-    (option_map (cut (suc l)) o) ≡ with_of components o
+pub with-cut : (l : ℕ) (components : List (List ℕ)) (o : Option Data) → with_of components (option_map (cut (suc l)) o)
+    ≡ with_of components o
 with-cut l components it = search (rules, bundle-cut)
 
 pub count-cut : (l : ℕ) (o : Option Data) → count_of (option_map (cut l) o) ≡ count_of o
 unfolding count_of
 count-cut l it = search (rules, whole-cut)
 
-pub binding-cut : (l : ℕ) (bound : List (List ℕ)) (o : Option Data) → binding_of bound
-    (option_map (cut l) o) ≡ binding_of bound o
+pub binding-cut : (l : ℕ) (bound : List (List ℕ)) (o : Option Data)
+    → binding_of bound (option_map (cut l) o) ≡ binding_of bound o
 unfolding binding_of
 binding-cut l bound it = search (rules, as_name-cut)
 
-pub removed-cut : (l : ℕ) (components : List (List ℕ)) (o : Option Data) → removed_of components
-    (option_map (cut l) o) ≡ removed_of components o
+pub removed-cut : (l : ℕ) (components : List (List ℕ)) (o : Option Data)
+    → removed_of components (option_map (cut l) o) ≡ removed_of components o
 unfolding removed_of
 removed-cut l components it = search (rules, as_str-cut)
 
 pub target-cut : (l : ℕ) (components bound : List (List ℕ)) (before : Option ℕ) (o : Option Data)
-    → target_of components bound before (option_map (cut (suc l)) o)
-    ≡ target_of components bound before o
+    → target_of components bound before (option_map (cut (suc l)) o) ≡ target_of components bound before o
 unfolding target_of
 target-cut l components bound before it = search (rules, members-cut, as_str-cut)
 
-numbered-cut : {A E : Type 0} (f g : ℕ → Data → Result A E) (l n : ℕ) (ds : List Data) →
-    ((m : ℕ) (d : Data) → f m (cut l d) ≡ g m d) → numbered f n (map (cut l) ds) ≡ numbered g n ds
+numbered-cut : {A E : Type 0} (f g : ℕ → Data → Result A E) (l n : ℕ) (ds : List Data)
+    → ((m : ℕ) (d : Data) → f m (cut l d) ≡ g m d) → numbered f n (map (cut l) ds) ≡ numbered g n ds
 numbered-cut f g l n [] same = refl
 numbered-cut {A} {E} f g l n (d ∷ ds) same = search (rules, numbered-cut f g l (n + 1) ds same)
 
 -- ---- the heading, and the names of the components
 
 abbrev said : Data → Result Heading ScriptCause
-said d =
-    format_of (get (codes "format") d) >>=
-    λ format. ok_or (or_absent 4294967295 (whole_within 1 4294967295) (get (codes "slots") d))
-    script_cause.Slots >>=
-    λ slots. ok_or (or_absent 2147483647 (whole_within 1 2147483647)
-    (get (codes "generations") d)) script_cause.Generations
-    >>= λ generations. Ok (record {
-      format = format;
-      limits = record { slots = slots; generations = generations };
-    })
+said d = format_of (get (codes "format") d) >>= λ format. ok_or (or_absent 4294967295 (whole_within 1 4294967295)
+    (get (codes "slots") d)) script_cause.Slots >>= λ slots. ok_or (or_absent 2147483647 (whole_within 1 2147483647)
+    (get (codes "generations") d)) script_cause.Generations >>= λ generations. Ok
+    (record { format = format; limits = record { slots = slots; generations = generations } })
 
 pub components-cut : (ds : List Data) → numbered (component_at (map (cut 0) ds)) 0 (map (cut 0) ds)
     ≡ numbered (component_at ds) 0 ds

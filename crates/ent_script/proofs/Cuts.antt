@@ -1,8 +1,6 @@
 -- Values that are cut, beside the members of an object as they are put in.
 use Rattle.std.proofs.lemmas.Grind.{common_steps}
-use Rattle.std.proofs.Common.{◌≡◌, ℕ, List, [], ◌∷◌, Some, String, Vec, BTreeMap, Global}
-use Rattle.std.proofs.Common.{string_bytes, string_cmp, refl, rules, zero, suc, ◌<◌, ◌-◌, length}
-use Rattle.std.proofs.Common.{arith, Ordering, Less, Equal, Greater, Bor, nat_cmp, ◌∙◌}
+use Rattle.std.proofs.Common.{◌≡◌, ℕ, List, [], ◌∷◌, Some, String, Vec, BTreeMap, Global, string_bytes, string_cmp, refl, rules, zero, suc, ◌<◌, ◌-◌, length, arith, Ordering, Less, Equal, Greater, Bor, nat_cmp, ◌∙◌}
 use Rattle.std.specs.Cmp.Lexicographic.{slice_cmp}
 use Rattle.std.specs.Ordering.{match_ordering}
 use Rattle.ent_script.specs.Part.{leaf_data, leaves_of}
@@ -21,19 +19,16 @@ use Rattle.ent_script.specs.Cut.{cut, cut_members}
 pub view-Array : (v : Vec Value Global) → view (Array v) ≡ array (items_view v.items)
 view-Array v = search (rules, the_lemmas)
 
-pub view-Object : (m : BTreeMap (String Global) Value) → view (Object m) ≡ object
-    (members_view m.entries)
+pub view-Object : (m : BTreeMap (String Global) Value) → view (Object m) ≡ object (members_view m.entries)
 view-Object m = search (rules, the_lemmas)
 
 pub members_view-insert_entry : (es : List (String Global × Value)) (k : String Global) (v : Value)
-    → members_view (insert_entry string_cmp es k v) ≡ put (string_bytes k) (view v)
-    (members_view es)
+    → members_view (insert_entry string_cmp es k v) ≡ put (string_bytes k) (view v) (members_view es)
 members_view-insert_entry [] k v = refl
 members_view-insert_entry (e ∷ es) k v = search (rules, members_view-insert_entry es k v)
 
 leaves_of-match_ordering : (o : Ordering) (a b c : List (Bor (List ℕ) × Leaf))
-    → leaves_of (match_ordering o a b c)
-    ≡ match_ordering o (leaves_of a) (leaves_of b) (leaves_of c)
+    → leaves_of (match_ordering o a b c) ≡ match_ordering o (leaves_of a) (leaves_of b) (leaves_of c)
 leaves_of-match_ordering Less a b c = refl
 leaves_of-match_ordering Equal a b c = refl
 leaves_of-match_ordering Greater a b c = refl
@@ -42,29 +37,25 @@ pub leaves_of-insert_entry : (es : List (Bor (List ℕ) × Leaf)) (k : Bor (List
     → leaves_of (insert_entry (λ x y. slice_cmp nat_cmp x.now y.now) es k leaf)
     ≡ put k.now (leaf_data leaf) (leaves_of es)
 leaves_of-insert_entry [] k leaf = refl
-leaves_of-insert_entry (e ∷ es) k leaf =
-    leaves_of-match_ordering (slice_cmp nat_cmp k.now e.0.now) _ _ _
+leaves_of-insert_entry (e ∷ es) k leaf = leaves_of-match_ordering (slice_cmp nat_cmp k.now e.0.now) _ _ _
     ∙ rw (leaves_of-insert_entry es k leaf)
 
-pub cut_members-put : (levels : ℕ) (k : List ℕ) (d : Data) (ms : Members) → cut_members levels
-    (put k d ms) ≡ put k (cut levels d) (cut_members levels ms)
+pub cut_members-put : (levels : ℕ) (k : List ℕ) (d : Data) (ms : Members)
+    → cut_members levels (put k d ms) ≡ put k (cut levels d) (cut_members levels ms)
 cut_members-put levels k d no_members = refl
-cut_members-put levels k d (member l e ms) =
-    grind (arith, common_steps, cut_members-put levels k d ms)
+cut_members-put levels k d (member l e ms) = grind (arith, common_steps, cut_members-put levels k d ms)
 
-pub opened_array : (depth : ℕ) (ts r : List Token) (d : Data) → converted of_json
-    (value depth (Token.begin_array ∷ ts)) ≡ Some (d, r)
-    → (0 < depth) × ((ds : Items) × (d ≡ array ds) ×
-    (converted of_items (items (value (depth - 1)) (length ts) ts) ≡ Some (ds, r)))
+pub opened_array : (depth : ℕ) (ts r : List Token) (d : Data) → converted of_json (value depth (Token.begin_array ∷ ts))
+    ≡ Some (d, r) → (0 < depth) × ((ds : Items) × (d ≡ array ds)
+    × (converted of_items (items (value (depth - 1)) (length ts) ts) ≡ Some (ds, r)))
 unfolding value
 opened_array zero ts r d e = absurd (cc)
 opened_array (suc n) ts r d e = search (rules, value-begin_array, converted-array)
 
-pub opened_object : (depth : ℕ) (ts r : List Token) (d : Data) → converted of_json
-    (value depth (Token.begin_object ∷ ts)) ≡ Some (d, r)
-    → (0 < depth) × ((ms : Members) × (d ≡ object ms) ×
-    (converted (λ ms. of_members ms no_members) (members (value (depth - 1)) (length ts) ts) ≡ Some
-    (ms, r)))
+pub opened_object : (depth : ℕ) (ts r : List Token) (d : Data)
+    → converted of_json (value depth (Token.begin_object ∷ ts)) ≡ Some (d, r)
+    → (0 < depth) × ((ms : Members) × (d ≡ object ms) × (converted (λ ms. of_members ms no_members)
+    (members (value (depth - 1)) (length ts) ts) ≡ Some (ms, r)))
 unfolding value
 opened_object zero ts r d e = absurd (cc)
 opened_object (suc n) ts r d e = search (rules, value-begin_object, converted-object)

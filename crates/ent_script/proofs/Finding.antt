@@ -1,6 +1,5 @@
 -- Of a text that is read as a value: what each step of a reader finds.
-use Rattle.std.proofs.Common.{rules, ◌≡◌, ℕ, zero, suc, ◌-◌, List, [], ◌∷◌, false, Option, Some}
-use Rattle.std.proofs.Common.{None, option_map, refl, sym, ap, ◌∙◌}
+use Rattle.std.proofs.Common.{rules, ◌≡◌, ℕ, zero, suc, ◌-◌, List, [], ◌∷◌, false, Option, Some, None, option_map, refl, sym, ap, ◌∙◌}
 use Rattle.json.specs.Token.{Token}
 use Rattle.json.specs.Json as json
 use Rattle.json.specs.Json.{Parse, parse_map, after_end_array, read_key, items, members, value}
@@ -9,34 +8,30 @@ use Rattle.serde_json.specs.Data.{Data, Items, no_items, item, Members, put}
 use Rattle.serde_json.specs.Find.{as_array, as_object, get}
 use Rattle.ent_script.specs.Streaming.{begins_object}
 use Rattle.serde_json.specs.Read.{of_json, of_items, of_members, converted, read}
-use Rattle.ent_script.proofs.Turns.{item_read, item_refused, member_read, member_refused}
-use Rattle.ent_script.proofs.Turns.{key_refused, converted-object, converted-array}
+use Rattle.ent_script.proofs.Turns.{item_read, item_refused, member_read, member_refused, key_refused, converted-object, converted-array}
 
 pub impossible : {A : Type 0} {P : Type 0} (x : A) → None ≡ Some x → P
 impossible x e = absurd (cc e)
 
-pub mapped : {A B : Type 0} (f : A → B) (o : Option (A × List Token)) (b : B) (r : List Token) →
-    parse_map f o ≡ Some (b, r) → (a : A) × (b ≡ f a) × (o ≡ Some (a, r))
+pub mapped : {A B : Type 0} (f : A → B) (o : Option (A × List Token)) (b : B) (r : List Token)
+    → parse_map f o ≡ Some (b, r) → (a : A) × (b ≡ f a) × (o ≡ Some (a, r))
 mapped f None b r e = impossible (b, r) e
 mapped {A} {B} f (Some p) b r e = search (rules)
 
 module _ (p : Parse json.Json) where
-  next_by : (o : Option (Data × List Token)) (n : ℕ) (ts rest : List Token) (ds : Items) → converted
-      of_json (p ts) ≡ o → after_end_array ts ≡ None
-      → converted of_items (items p n ts) ≡ Some (ds, rest)
-      → (d : Data) × (r : List Token) × (later : Items) × (ds ≡ item d later)
-      × (converted of_json (p ts) ≡ Some (d, r)) ×
-      (converted of_items (items p (n - 1) r) ≡ Some (later, rest))
+  next_by : (o : Option (Data × List Token)) (n : ℕ) (ts rest : List Token) (ds : Items) → converted of_json (p ts) ≡ o
+      → after_end_array ts ≡ None → converted of_items (items p n ts) ≡ Some (ds, rest)
+      → (d : Data) × (r : List Token) × (later : Items) × (ds ≡ item d later) × (converted of_json (p ts) ≡ Some (d, r))
+      × (converted of_items (items p (n - 1) r) ≡ Some (later, rest))
   unfolding items
   next_by None n ts rest ds first going e = search (rules, impossible, item_refused)
   next_by (Some q) zero ts rest ds first going e = impossible (ds, rest) e
   next_by (Some q) (suc n) ts rest ds first going e = search (rules, item_read, mapped)
 
   pub next_item : (n : ℕ) (ts rest : List Token) (ds : Items) → after_end_array ts ≡ None
-      → converted of_items (items p n ts) ≡ Some (ds, rest)
-      → (d : Data) × (r : List Token) × (later : Items) × (ds ≡ item d later)
-      × (converted of_json (p ts) ≡ Some (d, r)) ×
-      (converted of_items (items p (n - 1) r) ≡ Some (later, rest))
+      → converted of_items (items p n ts) ≡ Some (ds, rest) → (d : Data) × (r : List Token) × (later : Items) × (ds
+      ≡ item d later) × (converted of_json (p ts) ≡ Some (d, r)) × (converted of_items (items p (n - 1) r) ≡ Some
+      (later, rest))
   next_item n ts rest ds going e = next_by (converted of_json (p ts)) n ts rest ds refl going e
 
   pub last_item : (n : ℕ) (ts r rest : List Token) (ds : Items) → after_end_array ts ≡ Some r
@@ -44,25 +39,22 @@ module _ (p : Parse json.Json) where
   unfolding items
   last_item n ts r rest ds over e = search (rules, impossible)
 
-  member_by : (o : Option (Data × List Token)) (n : ℕ) (k : List ℕ) (ts s rest : List Token)
-      (old ms : Members) → converted of_json (p s) ≡ o → read_key ts ≡ Some (Some k, s)
-      → converted (λ ms. of_members ms old) (members p n ts) ≡ Some (ms, rest)
-      → (d : Data) × (r : List Token) × (converted of_json (p s) ≡ Some (d, r))
+  member_by : (o : Option (Data × List Token)) (n : ℕ) (k : List ℕ) (ts s rest : List Token) (old ms : Members)
+      → converted of_json (p s) ≡ o → read_key ts ≡ Some (Some k, s) → converted (λ ms. of_members ms old) (members p n
+      ts) ≡ Some (ms, rest) → (d : Data) × (r : List Token) × (converted of_json (p s) ≡ Some (d, r))
       × (converted (λ ms. of_members ms (put k d old)) (members p (n - 1) r) ≡ Some (ms, rest))
   unfolding members
   member_by None n k ts s rest old ms first key e = search (rules, impossible, member_refused)
   member_by (Some q) n k ts s rest old ms first key e = search (rules, impossible, member_read)
 
-  pub next_member : (n : ℕ) (k : List ℕ) (ts s rest : List Token) (old ms : Members) → read_key ts ≡
-      Some (Some k, s) → converted (λ ms. of_members ms old) (members p n ts) ≡ Some (ms, rest)
+  pub next_member : (n : ℕ) (k : List ℕ) (ts s rest : List Token) (old ms : Members) → read_key ts ≡ Some (Some k, s)
+      → converted (λ ms. of_members ms old) (members p n ts) ≡ Some (ms, rest)
       → (d : Data) × (r : List Token) × (converted of_json (p s) ≡ Some (d, r))
       × (converted (λ ms. of_members ms (put k d old)) (members p (n - 1) r) ≡ Some (ms, rest))
-  next_member n k ts s rest old ms key e = member_by (converted of_json (p s)) n k ts s rest old ms
-      refl key e
+  next_member n k ts s rest old ms key e = member_by (converted of_json (p s)) n k ts s rest old ms refl key e
 
-  pub last_member : (n : ℕ) (ts r rest : List Token) (old ms : Members) → read_key ts ≡ Some
-      (None, r) → converted
-      (λ ms. of_members ms old) (members p n ts) ≡ Some (ms, rest) → (ms ≡ old) × (r ≡ rest)
+  pub last_member : (n : ℕ) (ts r rest : List Token) (old ms : Members) → read_key ts ≡ Some (None, r)
+      → converted (λ ms. of_members ms old) (members p n ts) ≡ Some (ms, rest) → (ms ≡ old) × (r ≡ rest)
   unfolding members
   last_member n ts r rest old ms over e = search (rules, impossible)
 
@@ -76,23 +68,22 @@ pub no_array : (depth : ℕ) (t : Token) (ts r : List Token) (d : Data) → (t �
     → converted of_json (value depth (t ∷ ts)) ≡ Some (d, r) → as_array d ≡ None
 no_array depth t ts r d other e = search (rules, mapped, converted-object, impossible, value_is)
 
-pub no_object_at : (depth : ℕ) (t : Token) (ts r : List Token) (d : Data)
-    → (t ≡ Token.begin_object → ⊥) → converted of_json (value depth (t ∷ ts)) ≡ Some (d, r)
-    → as_object d ≡ None
+pub no_object_at : (depth : ℕ) (t : Token) (ts r : List Token) (d : Data) → (t ≡ Token.begin_object → ⊥)
+    → converted of_json (value depth (t ∷ ts)) ≡ Some (d, r) → as_object d ≡ None
 no_object_at depth t ts r d other e = search (rules, mapped, converted-array, impossible, value_is)
 
 -- after no token there is no value
-pub no_token : (depth : ℕ) (r : List Token) (d : Data) {P : Type 0} → converted of_json
-    (value depth []) ≡ Some (d, r) → P
+pub no_token : (depth : ℕ) (r : List Token) (d : Data) {P : Type 0} → converted of_json (value depth []) ≡ Some (d, r)
+    → P
 no_token depth r d e = search (rules, impossible, value_is)
 
 -- what was passed over
-pub passed : {A : Type 0} (o : Option (A × List Token)) (left r : List Token) (a : A) → option_map
-    (λ p. p.1) o ≡ Some left → o ≡ Some (a, r) → left ≡ r
+pub passed : {A : Type 0} (o : Option (A × List Token)) (left r : List Token) (a : A)
+    → option_map (λ p. p.1) o ≡ Some left → o ≡ Some (a, r) → left ≡ r
 passed o left r a e is = search (rules)
 
-pub not_passed : {A : Type 0} {P : Type 0} (o : Option (A × List Token)) (r : List Token) (a : A) →
-    option_map (λ p. p.1) o ≡ None → o ≡ Some (a, r) → P
+pub not_passed : {A : Type 0} {P : Type 0} (o : Option (A × List Token)) (r : List Token) (a : A)
+    → option_map (λ p. p.1) o ≡ None → o ≡ Some (a, r) → P
 not_passed o r a e is = impossible r (sym e ∙ ap (option_map (λ p. p.1)) is)
 
 -- ---- a value that does not begin with the brace of an object has no members
@@ -102,4 +93,3 @@ pub no_object : (depth : ℕ) (ts r : List Token) (d : Data) (k : List ℕ) → 
 no_object depth ts r d k other e = search (rules, impossible, mapped, converted-array, value_is)
 
 -- ---- the whole text
-

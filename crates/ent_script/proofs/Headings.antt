@@ -1,7 +1,5 @@
 -- What the first pass over a text finds: whether it is JSON, and its heading.
-use Rattle.std.proofs.Common.{rules, ◌≡◌, ℕ, List, [], ◌∷◌, Option, Some, None, is_some}
-use Rattle.std.proofs.Common.{option_and_then, ok_or, Result, Ok, Err, false}
-use Rattle.std.proofs.Common.{MatchOption}
+use Rattle.std.proofs.Common.{rules, ◌≡◌, ℕ, List, [], ◌∷◌, Option, Some, None, is_some, option_and_then, ok_or, Result, Ok, Err, false, MatchOption}
 use Rattle.std.specs.Str.{IsUtf8}
 use Rattle.std.proofs.lemmas.Str.{is_utf8-from_IsUtf8}
 use Rattle.json.specs.Lex.{tokens}
@@ -36,8 +34,7 @@ last o = option_and_then of_json (option_and_then (λ p. json.if_last p.0 p.1) o
 refused_by : (o : Option (json.Json × List Token)) → converted of_json o ≡ None → last o ≡ None
 refused_by ts e = search rules
 
-pub refused : (text : List ℕ) → converted of_json (value 127 (tokens text)) ≡ None
-    → read text ≡ None
+pub refused : (text : List ℕ) → converted of_json (value 127 (tokens text)) ≡ None → read text ≡ None
 refused text e = refused_by (value 127 (tokens text)) e
 
 abbrev first : Data → Option (Data × List Token) → Data
@@ -45,8 +42,7 @@ first d None = d
 first d (Some p) = p.0
 
 -- a text that is its value
-pub whole : {T : Type 0} (r : Option T) (f : T → Token) (text : List ℕ) (d : Data)
-    (left after : List Token) → is_some r ≡ false
-    → MatchOption r ((left ≡ []) × (after ≡ [])) (λ t. left ≡ f t ∷ after)
+pub whole : {T : Type 0} (r : Option T) (f : T → Token) (text : List ℕ) (d : Data) (left after : List Token)
+    → is_some r ≡ false → MatchOption r ((left ≡ []) × (after ≡ [])) (λ t. left ≡ f t ∷ after)
     → converted of_json (value 127 (tokens text)) ≡ Some (d, left) → read text ≡ Some d
 whole it f text d left after none next e = search rules

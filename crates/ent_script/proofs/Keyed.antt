@@ -1,32 +1,24 @@
 -- The keys of an operation as they are put in, and what it is by them.
-use Rattle.std.proofs.Common.{rules}
-use Rattle.std.proofs.Common.{◌≡◌, ◌∙◌, ℕ, List, [], ◌∷◌, Bool, true, false, ◌&&◌, Option}
-use Rattle.std.proofs.Common.{Some, None, option_map, is_some, Ordering, Less, Equal, Greater}
-use Rattle.std.proofs.Common.{nat_cmp, is_eq, bytes_eq, refl, sym, ap, Bor}
-use Rattle.std.proofs.Common.{codes, Err, ◌||◌}
+use Rattle.std.proofs.Common.{rules, ◌≡◌, ◌∙◌, ℕ, List, [], ◌∷◌, Bool, true, false, ◌&&◌, Option, Some, None, option_map, is_some, Ordering, Less, Equal, Greater, nat_cmp, is_eq, bytes_eq, refl, sym, ap, Bor, codes, Err, ◌||◌}
 use Rattle.std.specs.Prelude.{option_copied}
 use Rattle.std.proofs.lemmas.Map.Text.{is_eq-slice_cmp}
 use Rattle.std.proofs.lemmas.Slice.Eq.{bytes_eq-Decides}
 use Rattle.std.specs.Cmp.Lexicographic.{slice_cmp}
 use Rattle.std.specs.List.{list_any}
 use Rattle.std.specs.Ordering.{match_ordering}
-use Rattle.serde_json.specs.Data.{Data, null, boolean, number, string, array, object, Members, no_members}
-use Rattle.serde_json.specs.Data.{member, put}
+use Rattle.serde_json.specs.Data.{Data, null, boolean, number, string, array, object, Members, no_members, member, put}
 use Rattle.serde_json.specs.Find.{get_member, as_object}
 use Rattle.ent_script.specs.Part.{data_of}
 use Rattle.ent_script.specs.declared.part.Part.{Part}
 use Rattle.ent_script.specs.Cut.{cut}
 use Rattle.ent_script.specs.Fields.{IsUnder, AreAmong, AreFields, of_fields}
 use Rattle.ent_script.specs.Json.{keys_among, pairs_of}
-use Rattle.ent_script.specs.Reading.{has_keys, is_spawn, is_spawn_many, is_insert, is_remove}
-use Rattle.ent_script.specs.Reading.{is_despawn, of_kind, operation_of, read_bundle}
-use Rattle.ent_script.specs.Reading.{count_of, binding_of, removed_of, target_of}
+use Rattle.ent_script.specs.Reading.{has_keys, is_spawn, is_spawn_many, is_insert, is_remove, is_despawn, of_kind, operation_of, read_bundle, count_of, binding_of, removed_of, target_of}
 use Rattle.ent_script.specs.declared.cause.Cause.TheVariants as cause
 use Rattle.ent_script.specs.declared.fields.Fields.{Fields}
 use Rattle.ent_script.specs.declared.kind.Kind.{Kind}
 use Rattle.ent_script.specs.declared.kind.Kind.TheVariants as kinds
-use Rattle.ent_script.proofs.CutMeanings.{bundle-cut, with-cut, count-cut, binding-cut, removed-cut}
-use Rattle.ent_script.proofs.CutMeanings.{target-cut}
+use Rattle.ent_script.proofs.CutMeanings.{bundle-cut, with-cut, count-cut, binding-cut, removed-cut, target-cut}
 use Rattle.ent_script.proofs.Puts.{found_here, found_before}
 
 -- ---- whether each key is one of some
@@ -45,22 +37,20 @@ abbrev one_of : List (List ℕ) → List ℕ → Bool
 one_of allowed k = list_any (λ name. bytes_eq k name) allowed
 
 among-put_at : (o : Ordering) (allowed : List (List ℕ)) (k l : List ℕ) (d e : Data) (ms : Members)
-    → slice_cmp nat_cmp k l ≡ o
-    → keys_among allowed (pairs_of (put k d ms))
+    → slice_cmp nat_cmp k l ≡ o → keys_among allowed (pairs_of (put k d ms))
     ≡ (one_of allowed k && keys_among allowed (pairs_of ms))
     → keys_among allowed (pairs_of (match_ordering o (member k d (member l e ms)) (member l d ms)
-    (member l e (put k d ms))))
-    ≡ (one_of allowed k && (one_of allowed l && keys_among allowed (pairs_of ms)))
+    (member l e (put k d ms)))) ≡ (one_of allowed k && (one_of allowed l && keys_among allowed (pairs_of ms)))
 among-put_at Less allowed k l d e ms is later = refl
-among-put_at Equal allowed k l d e ms is later = let same : k ≡ l = (bytes_eq-Decides k l).0 (sym (is_eq-slice_cmp k l) ∙ ap is_eq is) in search (rules, twice)
+among-put_at Equal allowed k l d e ms is later =
+    let same : k ≡ l = (bytes_eq-Decides k l).0 (sym (is_eq-slice_cmp k l) ∙ ap is_eq is) in search (rules, twice)
 among-put_at Greater allowed k l d e ms is later = search (rules, swapped)
 
 pub among-put : (allowed : List (List ℕ)) (k : List ℕ) (d : Data) (ms : Members)
-    → keys_among allowed (pairs_of (put k d ms))
-    ≡ (one_of allowed k && keys_among allowed (pairs_of ms))
+    → keys_among allowed (pairs_of (put k d ms)) ≡ (one_of allowed k && keys_among allowed (pairs_of ms))
 among-put allowed k d no_members = refl
-among-put allowed k d (member l e ms) =
-    among-put_at (slice_cmp nat_cmp k l) allowed k l d e ms refl (among-put allowed k d ms)
+among-put allowed k d (member l e ms) = among-put_at (slice_cmp nat_cmp k l) allowed k l d e ms refl
+    (among-put allowed k d ms)
 
 right : (b : Bool) → b ≡ (b && true)
 right true = refl
@@ -74,8 +64,7 @@ swap false false = refl
 
 -- all keys are among some, if those before are, and the key is
 pub with_key : (allowed : List (List ℕ)) (k : List ℕ) (d : Data) (ms : Members) (are one : Bool)
-    → AreAmong allowed are ms → AreAmong allowed one (put k d no_members)
-    → AreAmong allowed (are && one) (put k d ms)
+    → AreAmong allowed are ms → AreAmong allowed one (put k d no_members) → AreAmong allowed (are && one) (put k d ms)
 with_key allowed k d ms are one a o = search (rules, swap, right, among-put)
 
 -- a key that is one of one, two or three
@@ -96,21 +85,19 @@ three_keys false false false = refl
 
 -- ---- what is under a key
 
-pub under_here : (name k : List ℕ) (d : Data) (ms : Members) (v : Part) → data_of v ≡ cut 1 d
-    → bytes_eq k name ≡ true → IsUnder name (Some v) (put k d ms)
+pub under_here : (name k : List ℕ) (d : Data) (ms : Members) (v : Part) → data_of v ≡ cut 1 d → bytes_eq k name ≡ true
+    → IsUnder name (Some v) (put k d ms)
 under_here name k d ms v seen e = search (rules, found_here)
 
-pub under_before : (name k : List ℕ) (d : Data) (ms : Members) (f : Option Part)
-    → IsUnder name f ms → bytes_eq k name ≡ false → IsUnder name f (put k d ms)
+pub under_before : (name k : List ℕ) (d : Data) (ms : Members) (f : Option Part) → IsUnder name f ms
+    → bytes_eq k name ≡ false → IsUnder name f (put k d ms)
 under_before name k d ms f under e = search (rules, found_before)
 
 -- a key is one name, and so no other
-pub apart : (name other k : List ℕ) → bytes_eq k name ≡ true → bytes_eq name other ≡ false
-    → bytes_eq k other ≡ false
+pub apart : (name other k : List ℕ) → bytes_eq k name ≡ true → bytes_eq name other ≡ false → bytes_eq k other ≡ false
 apart name other k e differ = search (rules, bytes_eq-Decides)
 
-there : (f : Option Part) (o : Option Data) → option_map data_of f ≡ option_map (cut 1) o
-    → is_some f ≡ is_some o
+there : (f : Option Part) (o : Option Data) → option_map data_of f ≡ option_map (cut 1) o → is_some f ≡ is_some o
 there None None e = refl
 there (Some v) (Some d) e = refl
 there None (Some d) e = absurd (cc e)
@@ -118,8 +105,8 @@ there (Some v) None e = absurd (cc e)
 
 -- ---- what an operation is
 
-module _ (k : List ℕ) (allowed : List (List ℕ)) (ms : Members) (f : Option Part) (among : Bool)
-    (under : IsUnder k f ms) (are : AreAmong allowed among ms) where
+module _ (k : List ℕ) (allowed : List (List ℕ)) (ms : Members) (f : Option Part) (among : Bool) (under : IsUnder k f ms)
+    (are : AreAmong allowed among ms) where
   pub one_there : is_some f ≡ true → among ≡ has_keys (k ∷ []) allowed (object ms)
   unfolding has_keys
   one_there is = search (rules, there)
@@ -130,8 +117,7 @@ module _ (k : List ℕ) (allowed : List (List ℕ)) (ms : Members) (f : Option P
 
 module _ (k l : List ℕ) (allowed : List (List ℕ)) (ms : Members) (f g : Option Part) (among : Bool)
     (under : IsUnder k f ms) (beside : IsUnder l g ms) (are : AreAmong allowed among ms) where
-  pub two_there : is_some f ≡ true → is_some g ≡ true
-      → among ≡ has_keys (k ∷ l ∷ []) allowed (object ms)
+  pub two_there : is_some f ≡ true → is_some g ≡ true → among ≡ has_keys (k ∷ l ∷ []) allowed (object ms)
   unfolding has_keys
   two_there is too = search (rules, there)
 
@@ -139,8 +125,7 @@ module _ (k l : List ℕ) (allowed : List (List ℕ)) (ms : Members) (f g : Opti
   unfolding has_keys
   two_first is = search (rules, there)
 
-  pub two_second : is_some f ≡ true → is_some g ≡ false
-      → false ≡ has_keys (k ∷ l ∷ []) allowed (object ms)
+  pub two_second : is_some f ≡ true → is_some g ≡ false → false ≡ has_keys (k ∷ l ∷ []) allowed (object ms)
   unfolding has_keys
   two_second is too = search (rules, there)
 
@@ -151,27 +136,25 @@ pub lent : (r : Option (Bor Part)) → option_map (λ (v : Bor Part). data_of v.
 lent None = refl
 lent (Some v) = refl
 
-module _ (components bound : List (List ℕ)) (before : Option ℕ) (f : Fields) (ms : Members)
-    (at : AreFields f ms) where
-  bundle_under : (k : List ℕ) (o : Option Part) → IsUnder k o ms
-      → read_bundle components (option_map data_of o) ≡ read_bundle components (get_member k ms)
+module _ (components bound : List (List ℕ)) (before : Option ℕ) (f : Fields) (ms : Members) (at : AreFields f ms) where
+  bundle_under : (k : List ℕ) (o : Option Part) → IsUnder k o ms → read_bundle components (option_map data_of o)
+      ≡ read_bundle components (get_member k ms)
   bundle_under k o e = search (rules, bundle-cut)
 
-  count_under : (k : List ℕ) (o : Option Part) → IsUnder k o ms
-      → count_of (option_map data_of o) ≡ count_of (get_member k ms)
+  count_under : (k : List ℕ) (o : Option Part) → IsUnder k o ms → count_of (option_map data_of o) ≡ count_of (get_member
+      k ms)
   count_under k o e = ap count_of e ∙ count-cut 1 (get_member k ms)
 
-  binding_under : (k : List ℕ) (o : Option Part) → IsUnder k o ms
-      → binding_of bound (option_map data_of o) ≡ binding_of bound (get_member k ms)
+  binding_under : (k : List ℕ) (o : Option Part) → IsUnder k o ms → binding_of bound (option_map data_of o) ≡ binding_of
+      bound (get_member k ms)
   binding_under k o e = search (rules, binding-cut)
 
   removed_under : (k : List ℕ) (o : Option Part) → IsUnder k o ms
       → removed_of components (option_map data_of o) ≡ removed_of components (get_member k ms)
   removed_under k o e = search (rules, removed-cut)
 
-  target_under : (k : List ℕ) (o : Option Part) → IsUnder k o ms
-      → target_of components bound before (option_map data_of o)
-      ≡ target_of components bound before (get_member k ms)
+  target_under : (k : List ℕ) (o : Option Part) → IsUnder k o ms → target_of components bound before (option_map data_of
+      o) ≡ target_of components bound before (get_member k ms)
   target_under k o e = search (rules, target-cut)
 
   pub of_fields-means : (kind : Kind) → of_fields components bound before f kind
@@ -184,8 +167,8 @@ module _ (components bound : List (List ℕ)) (before : Option ℕ) (f : Fields)
   of_fields-means kinds.Despawn = rw (target_under (codes "despawn") f.despawn at.despawn)
 
 -- what is no object is no operation
-pub no_operation : (components bound : List (List ℕ)) (before : Option ℕ) (d : Data)
-    → as_object d ≡ None → operation_of components bound before d ≡ Err cause.Shape
+pub no_operation : (components bound : List (List ℕ)) (before : Option ℕ) (d : Data) → as_object d ≡ None
+    → operation_of components bound before d ≡ Err cause.Shape
 unfolding operation_of is_spawn is_spawn_many is_insert is_remove is_despawn has_keys
 no_operation components bound before null e = refl
 no_operation components bound before (boolean b) e = refl

@@ -1,6 +1,5 @@
 -- Reading the elements of an array one after another, of at most so many.
-use Rattle.std.proofs.Common.{le-leb, rules, ◌≡◌, ℕ, ◌+◌, ◌-◌, ◌≤◌, List, [], ◌∷◌}
-use Rattle.std.proofs.Common.{◌++◌, length, Some, None, Result, Ok, Err, false, cond, ok_or}
+use Rattle.std.proofs.Common.{le-leb, rules, ◌≡◌, ℕ, ◌+◌, ◌-◌, ◌≤◌, List, [], ◌∷◌, ◌++◌, length, Some, None, Result, Ok, Err, false, cond, ok_or}
 use Rattle.std.proofs.lemmas.Bool.{lt-leb}
 use Rattle.std.proofs.lemmas.List.{append-nil}
 use Rattle.std.specs.Global.{Vec}
@@ -18,73 +17,64 @@ use Rattle.ent_script.specs.declared.read_fault.ReadFault.TheVariants.{Memory}
 use Rattle.ent_script.proofs.Numbering.{onto, onto_one}
 use Rattle.ent_script.proofs.Finding.{next_item, last_item}
 
-pub streams_fault : {A : Type 0} (e : ReadFault) (left : List Token) (read : Result A ReadFault)
-    (rest : List Token)
+pub streams_fault : {A : Type 0} (e : ReadFault) (left : List Token) (read : Result A ReadFault) (rest : List Token)
     → (e ≡ Memory → ⊥) → Streams {A = A} (Err e) left read rest → (read ≡ Err e) × (left ≡ rest)
 streams_fault it left read rest other h = search rules
 
-pub fault_streams : {A : Type 0} (e : ReadFault) (left : List Token) (read : Result A ReadFault)
-    (rest : List Token)
+pub fault_streams : {A : Type 0} (e : ReadFault) (left : List Token) (read : Result A ReadFault) (rest : List Token)
     → ((e ≡ Memory → ⊥) → (read ≡ Err e) × (left ≡ rest)) → Streams {A = A} (Err e) left read rest
 fault_streams it left read rest h = search rules
 
-pub fault_streams_list : {A : Type 0} (e : ReadFault) (left : List Token)
-    (read : Result (List A) ReadFault) (rest : List Token)
-    → ((e ≡ Memory → ⊥) → (read ≡ Err e) × (left ≡ rest)) → StreamsList {A = A} (Err e) left read
-    rest
+pub fault_streams_list : {A : Type 0} (e : ReadFault) (left : List Token) (read : Result (List A) ReadFault)
+    (rest : List Token) → ((e ≡ Memory → ⊥) → (read ≡ Err e) × (left ≡ rest))
+    → StreamsList {A = A} (Err e) left read rest
 fault_streams_list it left read rest h = search rules
 
 -- what so many elements mean at most
-abbrev pub listed : {A : Type 0} → ℕ → (ℕ → Data → Result A ReadFault) → ReadFault → List Data →
-    Result (List A) ReadFault
-listed most f limit ds = ok_or (cond (nat_le (length ds) most) (Some ds) None) limit >>=
-    λ xs. numbered f 0 xs
+abbrev pub listed : {A : Type 0} → ℕ → (ℕ → Data → Result A ReadFault) → ReadFault → List Data
+    → Result (List A) ReadFault
+listed most f limit ds = ok_or (cond (nat_le (length ds) most) (Some ds) None) limit >>= λ xs. numbered f 0 xs
 
 -- of an array that is read as ds, so many elements were taken
-abbrev pub At : {A : Type 0} → Parse json.Json → (ℕ → Data → Result A ReadFault) → List A → ℕ → List
-    Token → Items → List Token → Type 0
-At p f done number now ds rest = (m : ℕ) × (later : Items)
-    × (converted of_items (items p m now) ≡ Some (later, rest))
-    × (length (list_of ds) ≡ number + length (list_of later))
-    × (onto done (numbered f number (list_of later)) ≡ numbered f 0 (list_of ds))
+abbrev pub At : {A : Type 0} → Parse json.Json → (ℕ → Data → Result A ReadFault) → List A → ℕ → List Token → Items
+    → List Token → Type 0
+At p f done number now ds rest = (m : ℕ) × (later : Items) × (converted of_items (items p m now) ≡ Some (later, rest))
+    × (length (list_of ds) ≡ number + length (list_of later)) × (onto done (numbered f number (list_of later))
+    ≡ numbered f 0 (list_of ds))
 
 module _ {A : Type 0} (p : Parse json.Json) (f : ℕ → Data → Result A ReadFault) where
-  pub at_next : (done : List A) (number : ℕ) (now left : List Token) (x : A) (ds : Items)
-      (rest : List Token) → At p f done number now ds rest → after_end_array now ≡ None
-      → ((d : Data) (r : List Token) → converted of_json (p now) ≡ Some (d, r) → Streams (Ok x) left
-      (f number d) r) → At p f (done ++ x ∷ []) (number + 1) left ds rest
-  at_next done number now left x ds rest at going reads =
-      search (rules, next_item p at.0 now rest at.1 going at.2, onto_one, onto)
+  pub at_next : (done : List A) (number : ℕ) (now left : List Token) (x : A) (ds : Items) (rest : List Token)
+      → At p f done number now ds rest → after_end_array now ≡ None → ((d : Data) (r : List Token) → converted of_json
+      (p now) ≡ Some (d, r) → Streams (Ok x) left (f number d) r) → At p f (done ++ x ∷ []) (number + 1) left ds rest
+  at_next done number now left x ds rest at going reads = search
+      (rules, next_item p at.0 now rest at.1 going at.2, onto_one, onto)
 
-  pub at_end : (most : ℕ) (limit : ReadFault) (done : List A) (number : ℕ) (now left : List Token)
-      (ds : Items) (rest : List Token)
-      → At p f done number now ds rest → after_end_array now ≡ Some left → number ≤ most
+  pub at_end : (most : ℕ) (limit : ReadFault) (done : List A) (number : ℕ) (now left : List Token) (ds : Items)
+      (rest : List Token) → At p f done number now ds rest → after_end_array now ≡ Some left → number ≤ most
       → (listed most f limit (list_of ds) ≡ Ok done) × (left ≡ rest)
-  at_end most limit done number now left ds rest at over few =
-      search (rules, last_item, onto, append-nil)
+  at_end most limit done number now left ds rest at over few = search (rules, last_item, onto, append-nil)
 
   -- one element too many
-  pub at_most_many : (most : ℕ) (limit found : ReadFault) (done : List A) (number : ℕ)
-      (now left : List Token) (ds : Items) (rest : List Token)
-      → At p f done number now ds rest → after_end_array now ≡ None → number ≡ most
-      → ((n : ℕ) (later : Items) (r : List Token) → converted of_items (items p n now) ≡ Some
-      (later, r) → FaultOfArray 0 limit limit found left later r)
-      → (listed most f limit (list_of ds) ≡ Err found) × (left ≡ rest)
+  pub at_most_many : (most : ℕ) (limit found : ReadFault) (done : List A) (number : ℕ) (now left : List Token)
+      (ds : Items) (rest : List Token) → At p f done number now ds rest → after_end_array now ≡ None → number ≡ most
+      → ((n : ℕ) (later : Items) (r : List Token) → converted of_items (items p n now) ≡ Some (later, r)
+      → FaultOfArray 0 limit limit found left later r) → (listed most f limit (list_of ds) ≡ Err found) × (left ≡ rest)
   at_most_many most limit found done number now left ds rest at going full faults = search (rules, next_item, lt-leb)
 
   -- an element that means nothing
-  pub at_fault : (most room : ℕ) (limit e found : ReadFault) (done : List A) (number : ℕ)
-      (now left after : List Token) (ds : Items) (rest : List Token)
-      → At p f done number now ds rest → after_end_array now ≡ None → room + number + 1 ≡ most
-      → (e ≡ Memory → ⊥)
-      → ((d : Data) (r : List Token) → converted of_json (p now) ≡ Some (d, r) → Streams {A = A}
-      (Err e) left (f number d) r)
-      → ((n : ℕ) (later : Items) (r : List Token) → converted of_items (items p n left) ≡ Some
-      (later, r) → FaultOfArray room e limit found after later r)
-      → (listed most f limit (list_of ds) ≡ Err found) × (after ≡ rest)
-  at_fault most room limit e found done number now left after ds rest at going more other reads faults = let next = next_item p at.0 now rest at.1 going at.2 in let is = streams_fault e left (f number next.0) next.1 other (reads next.0 next.1 next.4) in let fault = faults (at.0 - 1) next.2 rest (rw is.1 next.5) in let means : numbered f 0 (list_of ds) ≡ Err e = search (rules, onto) in (search (rules, le-leb, lt-leb, fault.few, fault.many), fault.passed)
+  pub at_fault : (most room : ℕ) (limit e found : ReadFault) (done : List A) (number : ℕ) (now left after : List Token)
+      (ds : Items) (rest : List Token) → At p f done number now ds rest → after_end_array now ≡ None
+      → room + number + 1 ≡ most → (e ≡ Memory → ⊥) → ((d : Data) (r : List Token)
+      → converted of_json (p now) ≡ Some (d, r) → Streams {A = A} (Err e) left (f number d) r)
+      → ((n : ℕ) (later : Items) (r : List Token) → converted of_items (items p n left) ≡ Some (later, r)
+      → FaultOfArray room e limit found after later r) → (listed most f limit (list_of ds) ≡ Err found) × (after ≡ rest)
+  at_fault most room limit e found done number now left after ds rest at going more other reads faults =
+      let next = next_item p at.0 now rest at.1 going at.2 in
+      let is = streams_fault e left (f number next.0) next.1 other (reads next.0 next.1 next.4) in
+      let fault = faults (at.0 - 1) next.2 rest (rw is.1 next.5) in
+      let means : numbered f 0 (list_of ds) ≡ Err e = search (rules, onto) in
+      (search (rules, le-leb, lt-leb, fault.few, fault.many), fault.passed)
 
-pub streamed_list : {A : Type 0} (r : Result (Vec A) ReadFault) (left : List Token)
-    (read : Result (List A) ReadFault) (rest : List Token)
-    → ran_out r ≡ false → StreamsList r left read rest → ReadsList r read × (left ≡ rest)
+pub streamed_list : {A : Type 0} (r : Result (Vec A) ReadFault) (left : List Token) (read : Result (List A) ReadFault)
+    (rest : List Token) → ran_out r ≡ false → StreamsList r left read rest → ReadsList r read × (left ≡ rest)
 streamed_list it left read rest e h = search rules

@@ -1,9 +1,6 @@
 -- Names and their numbers.
 use Rattle.std.proofs.lemmas.List.{length-map, map-append}
-use Rattle.std.proofs.Common.{rules, ◌≡◌, ℕ, ◌+◌, ◌<◌, Bool, true, false, List, [], ◌∷◌, ◌++◌}
-use Rattle.std.proofs.Common.{length, map, Option, Some, None, option_map, is_some, IfSome, cond}
-use Rattle.std.proofs.Common.{refl, sym, ◌∙◌, arith, bytes_eq, true≢false, suc, add-one, Bor}
-use Rattle.std.proofs.Common.{BTreeMap, option_and_then}
+use Rattle.std.proofs.Common.{rules, ◌≡◌, ℕ, ◌+◌, ◌<◌, Bool, true, false, List, [], ◌∷◌, ◌++◌, length, map, Option, Some, None, option_map, is_some, IfSome, cond, refl, sym, ◌∙◌, arith, bytes_eq, true≢false, suc, add-one, Bor, BTreeMap, option_and_then}
 use Rattle.std.proofs.lemmas.Grind.{common_steps}
 use Rattle.std.specs.BTreeMap.{get_by, Updates}
 use Rattle.std.specs.Cmp.Lexicographic.{slice_cmp}
@@ -16,8 +13,7 @@ use Rattle.ent_script.specs.Reading.{new_name}
 use Rattle.ent_script.specs.Numbers.{HaveNumbers}
 
 -- a name's number is less than how many there are
-pub number_within : (name : List ℕ) (names : List (List ℕ)) → IfSome (number_among name names)
-    (λ p. p < length names)
+pub number_within : (name : List ℕ) (names : List (List ℕ)) → IfSome (number_among name names) (λ p. p < length names)
 number_within name [] = tt
 number_within name (first ∷ others) = grind (arith, common_steps, number_within name others)
 
@@ -26,8 +22,7 @@ abbrev pub first_of : Option ℕ → Option ℕ → Option ℕ
 first_of None other = other
 first_of (Some n) other = Some n
 
-later : (found : Option ℕ) (b : Bool) (n : ℕ)
-    → option_map (λ p. p + 1) (first_of found (cond b (Some n) None))
+later : (found : Option ℕ) (b : Bool) (n : ℕ) → option_map (λ p. p + 1) (first_of found (cond b (Some n) None))
     ≡ first_of (option_map (λ p. p + 1) found) (cond b (Some (suc n)) None)
 later it b n = search (rules, add-one)
 
@@ -37,39 +32,34 @@ here_or_later : (here : Bool) (found : Option ℕ) (b : Bool) (n : ℕ)
 here_or_later true found b n = refl
 here_or_later false found b n = later found b n
 
-number_among-append : (text name : List ℕ) (names : List (List ℕ))
-    → number_among text (names ++ name ∷ []) ≡ first_of (number_among text names)
-    (cond (bytes_eq name text) (Some (length names)) None)
+number_among-append : (text name : List ℕ) (names : List (List ℕ)) → number_among text (names ++ name ∷ []) ≡ first_of
+    (number_among text names) (cond (bytes_eq name text) (Some (length names)) None)
 number_among-append text name [] = refl
-number_among-append text name (first ∷ others) =
-    search (rules, here_or_later, number_among-append text name others)
+number_among-append text name (first ∷ others) = search (rules, here_or_later, number_among-append text name others)
 
 pub at_end : (text name : List ℕ) (names : List (List ℕ)) → number_among name names ≡ None
-    → cond (bytes_eq name text) (Some (length names)) (number_among text names)
-    ≡ number_among text (names ++ name ∷ [])
+    → cond (bytes_eq name text) (Some (length names)) (number_among text names) ≡ number_among text (names ++ name ∷ [])
 at_end text name names none = search (rules, bytes_eq-Decides, number_among-append)
 
-map_now : (names : List (Bor (List ℕ))) (name : Bor (List ℕ))
-    → map (λ n. n.now) (names ++ name ∷ []) ≡ map (λ n. n.now) names ++ name.now ∷ []
+map_now : (names : List (Bor (List ℕ))) (name : Bor (List ℕ)) → map (λ n. n.now) (names ++ name ∷ []) ≡ map (λ n. n.now)
+    names ++ name.now ∷ []
 map_now names name = search (rules, map-append)
 
 length_now : (names : List (Bor (List ℕ))) → length names ≡ length (map (λ n. n.now) names)
 length_now names = sym (length-map names (λ n. n.now))
 
 -- a new name goes last
-pub numbers_added : (names : List (Bor (List ℕ))) (numbers after : BTreeMap (Bor (List ℕ)) ℕ)
-    (name : Bor (List ℕ)) (n : ℕ)
-    → n ≡ length names → HaveNumbers names numbers → get_by (λ k. slice_cmp nat_cmp name.now k.now)
-    numbers ≡ None → Updates (λ x y. slice_cmp nat_cmp x.now y.now) numbers after name (Some n)
+pub numbers_added : (names : List (Bor (List ℕ))) (numbers after : BTreeMap (Bor (List ℕ)) ℕ) (name : Bor (List ℕ))
+    (n : ℕ) → n ≡ length names → HaveNumbers names numbers → get_by (λ k. slice_cmp nat_cmp name.now k.now) numbers
+    ≡ None → Updates (λ x y. slice_cmp nat_cmp x.now y.now) numbers after name (Some n)
     → HaveNumbers (names ++ name ∷ []) after
-numbers_added names numbers after name n count old none updates = λ text.
-    rw (
-      btree_map_updates_str name.now numbers after (Some n) updates text,
-      old text,
-      count,
-      length_now names,
-      map_now names name,
-    ) (at_end text name.now _ (sym (old name.now) ∙ none))
+numbers_added names numbers after name n count old none updates = λ text. rw (
+  btree_map_updates_str name.now numbers after (Some n) updates text,
+  old text,
+  count,
+  length_now names,
+  map_now names name,
+) (at_end text name.now _ (sym (old name.now) ∙ none))
 
 pub none_of : (found : Option ℕ) (b : Bool) → b ≡ is_some found → b ≡ false → found ≡ None
 none_of it b e h = search (rules, true≢false)
@@ -84,6 +74,5 @@ pub new_name_is : (names : List (List ℕ)) (d : Data) (t : List ℕ) → new_na
     → (as_name d ≡ Some t) × (number_among t names ≡ None)
 new_name_is names d t h = found_by (as_name d) t names h
 
-pub with_new : (names : List (List ℕ)) (t : List ℕ) → number_among t names ≡ None
-    → with_name names t ≡ names ++ t ∷ []
+pub with_new : (names : List (List ℕ)) (t : List ℕ) → number_among t names ≡ None → with_name names t ≡ names ++ t ∷ []
 with_new names t h = search rules

@@ -1,7 +1,6 @@
 -- What stands behind the bracket that a reader took, and behind a value that it passed over.
-use Rattle.ent_script.proofs.Finding.{impossible}
-use Rattle.std.proofs.Common.{rules, ◌≡◌, ◌-◌, ℕ, [], ◌∷◌, List, length, Some, None, Bool, true}
-use Rattle.std.proofs.Common.{false}
+use Rattle.ent_script.proofs.Finding.{impossible, no_object}
+use Rattle.std.proofs.Common.{rules, ◌≡◌, ◌-◌, ℕ, [], ◌∷◌, List, length, Some, None, Bool, true, false}
 use Rattle.std.specs.Prelude.{Ok}
 use Rattle.json.specs.Lex.{tokens}
 use Rattle.json.specs.Token.{Token}
@@ -14,7 +13,6 @@ use Rattle.ent_script.specs.Passing.{left}
 use Rattle.ent_script.specs.Fields.{BeginsObject}
 use Rattle.ent_script.specs.Streaming.{BeginsArray, begins_object}
 use Rattle.ent_script.proofs.Cuts.{opened_object}
-use Rattle.ent_script.proofs.Finding.{no_object}
 
 -- whether the value was an array
 module _ (depth : ℕ) (b : Bool) (ts : List Token) (d : Data) (rest : List Token)
@@ -30,8 +28,7 @@ module _ (depth : ℕ) (b : Bool) (ts : List Token) (d : Data) (rest : List Toke
 module _ (depth : ℕ) (b : Bool) (ts : List Token) (d : Data) (rest : List Token)
     (begins : BeginsObject depth (Ok b) ts d rest) where
   pub object_begun : b ≡ true → (ms : Members) × (d ≡ object ms)
-      × (converted (λ ms. of_members ms no_members) (members (value (depth - 1)) (length ts) ts)
-      ≡ Some (ms, rest))
+      × (converted (λ ms. of_members ms no_members) (members (value (depth - 1)) (length ts) ts) ≡ Some (ms, rest))
   object_begun is = search rules
 
   pub no_object_begun : b ≡ false → (as_object d ≡ None) × (ts ≡ rest)
@@ -43,10 +40,8 @@ module _ (text : List ℕ) (d : Data) (read_as : read text ≡ Some d) (all : Li
   whole : converted of_json (value 127 all) ≡ Some (d, [])
   whole = search (rules, impossible)
 
-  pub text_object : (ts : List Token) → all ≡ Token.begin_object ∷ ts
-      → (ms : Members) × (d ≡ object ms)
-      × (converted (λ ms. of_members ms no_members) (members (value 126) (length ts) ts) ≡ Some
-      (ms, []))
+  pub text_object : (ts : List Token) → all ≡ Token.begin_object ∷ ts → (ms : Members) × (d ≡ object ms) × (converted
+      (λ ms. of_members ms no_members) (members (value 126) (length ts) ts) ≡ Some (ms, []))
   text_object ts begins = search (rules, opened_object, whole)
 
   pub text_no_object : (k : List ℕ) → begins_object all ≡ false → get k d ≡ None
@@ -54,7 +49,6 @@ module _ (text : List ℕ) (d : Data) (read_as : read text ≡ Some d) (all : Li
 
 -- a value that was passed over, of which the first token was taken before
 pub passed_nested : (depth : ℕ) (t u : Token) (all ts r : List Token) → all ≡ t ∷ ts → t ≡ u
-    → left (converted of_json (value depth (t ∷ ts))) ≡ Some r
-    → (d : Data) × (converted of_json (value depth all) ≡ Some (d, r))
-    × (converted of_json (value depth (u ∷ ts)) ≡ Some (d, r))
+    → left (converted of_json (value depth (t ∷ ts))) ≡ Some r → (d : Data) × (converted of_json (value depth all)
+    ≡ Some (d, r)) × (converted of_json (value depth (u ∷ ts)) ≡ Some (d, r))
 passed_nested depth t u all ts r first is over = search (rules, left_some)

@@ -1,6 +1,5 @@
 -- What an object has after a member is put into it.
-use Rattle.std.proofs.Common.{rules, ◌≡◌, ℕ, List, Option, Some, Ordering, Less, Equal, Greater}
-use Rattle.std.proofs.Common.{nat_cmp, is_eq, true, false, bytes_eq, true≢false, refl, sym, ap, ◌∙◌}
+use Rattle.std.proofs.Common.{rules, ◌≡◌, ℕ, List, Option, Some, Ordering, Less, Equal, Greater, nat_cmp, is_eq, true, false, bytes_eq, true≢false, refl, sym, ap, ◌∙◌}
 use Rattle.std.proofs.lemmas.Cmp.{nat_list_cmp_total, tied_itself}
 use Rattle.std.proofs.lemmas.Map.Text.{is_eq-slice_cmp}
 use Rattle.std.proofs.lemmas.Slice.Eq.{bytes_eq-Decides}
@@ -12,9 +11,8 @@ use Rattle.serde_json.specs.Find.{get_member}
 same_text : (xs : List ℕ) → slice_cmp nat_cmp xs xs ≡ Equal
 same_text xs = tied_itself nat_list_cmp_total xs
 
-get_member-put_at : (o : Ordering) (k l : List ℕ) (d e : Data) (ms : Members) → slice_cmp nat_cmp k
-    l ≡ o → get_member k (put k d ms) ≡ Some d
-    → get_member k (match_ordering o (member k d (member l e ms)) (member l d ms)
+get_member-put_at : (o : Ordering) (k l : List ℕ) (d e : Data) (ms : Members) → slice_cmp nat_cmp k l ≡ o
+    → get_member k (put k d ms) ≡ Some d → get_member k (match_ordering o (member k d (member l e ms)) (member l d ms)
     (member l e (put k d ms))) ≡ Some d
 get_member-put_at it k l d e ms is later = search (rules, same_text)
 
@@ -26,29 +24,31 @@ get_member-put k d (member l e ms) = get_member-put_at _ k l d e ms refl (get_me
 either : (o : Ordering) (a b : Option Data) → is_eq o ≡ false → match_ordering o a b a ≡ a
 either it a b e = search (rules, true≢false)
 
-skips : (q k : List ℕ) (d : Data) (ms : Members) → (q ≡ k → ⊥) → get_member q (member k d ms) ≡
-    get_member q ms
+skips : (q k : List ℕ) (d : Data) (ms : Members) → (q ≡ k → ⊥) → get_member q (member k d ms) ≡ get_member q ms
 skips q k d ms other = search (rules, either, is_eq-slice_cmp, bytes_eq-Decides)
 
-get_member-put_other_at : (o : Ordering) (q k l : List ℕ) (d e : Data) (ms : Members) → slice_cmp
-    nat_cmp k l ≡ o → (q ≡ k → ⊥) → get_member q (put k d ms) ≡ get_member q ms
-    → get_member q (match_ordering o (member k d (member l e ms)) (member l d ms)
-    (member l e (put k d ms))) ≡ get_member q (member l e ms)
+get_member-put_other_at : (o : Ordering) (q k l : List ℕ) (d e : Data) (ms : Members) → slice_cmp nat_cmp k l ≡ o
+    → (q ≡ k → ⊥) → get_member q (put k d ms) ≡ get_member q ms
+    → get_member q (match_ordering o (member k d (member l e ms)) (member l d ms) (member l e (put k d ms)))
+    ≡ get_member q (member l e ms)
 get_member-put_other_at Less q k l d e ms is other later = skips q k d (member l e ms) other
-get_member-put_other_at Equal q k l d e ms is other later = let same : k ≡ l = (bytes_eq-Decides k l).0 (sym (is_eq-slice_cmp k l) ∙ ap is_eq is) in let apart = λ (h : q ≡ l). other (h ∙ sym same) in search (rules, skips)
+get_member-put_other_at Equal q k l d e ms is other later =
+    let same : k ≡ l = (bytes_eq-Decides k l).0 (sym (is_eq-slice_cmp k l) ∙ ap is_eq is) in
+    let apart = λ (h : q ≡ l). other (h ∙ sym same) in
+    search (rules, skips)
 get_member-put_other_at Greater q k l d e ms is other later = search (rules)
 
 -- the other names keep their values
-pub get_member-put_other : (q k : List ℕ) (d : Data) (ms : Members) → (q ≡ k → ⊥) → get_member q
-    (put k d ms) ≡ get_member q ms
+pub get_member-put_other : (q k : List ℕ) (d : Data) (ms : Members) → (q ≡ k → ⊥)
+    → get_member q (put k d ms) ≡ get_member q ms
 get_member-put_other q k d no_members other = skips q k d no_members other
-get_member-put_other q k d (member l e ms) other =
-    search (rules, get_member-put_other_at, get_member-put_other q k d ms other)
+get_member-put_other q k d (member l e ms) other = search
+    (rules, get_member-put_other_at, get_member-put_other q k d ms other)
 
-pub found_here : (name k : List ℕ) (d : Data) (ms : Members) → bytes_eq k name ≡ true → get_member
-    name (put k d ms) ≡ Some d
+pub found_here : (name k : List ℕ) (d : Data) (ms : Members) → bytes_eq k name ≡ true
+    → get_member name (put k d ms) ≡ Some d
 found_here name k d ms e = search (rules, bytes_eq-Decides, get_member-put)
 
-pub found_before : (name k : List ℕ) (d : Data) (ms : Members) → bytes_eq k name ≡ false →
-    get_member name (put k d ms) ≡ get_member name ms
+pub found_before : (name k : List ℕ) (d : Data) (ms : Members) → bytes_eq k name ≡ false
+    → get_member name (put k d ms) ≡ get_member name ms
 found_before name k d ms e = search (rules, get_member-put_other, bytes_eq-Decides)

@@ -1,11 +1,7 @@
 -- A script that is read is in its ranges: its systems, its frames and the whole.
-use Rattle.std.proofs.Common.{rules, ℕ, ◌+◌, ◌≤◌, List, [], ◌∷◌, length, take, Option, ok_or}
-use Rattle.std.proofs.Common.{Result, Ok, Err, IfSome, codes, arith}
-use Rattle.ent_script.specs.Reading.{◌>>=◌, numbered, at_operation, operation_at}
-use Rattle.ent_script.specs.Reading.{bound_name, system_of, frame_of, component_at, component_names}
-use Rattle.ent_script.specs.Reading.{heading_of, script_of, ReadsAs}
-use Rattle.ent_script.proofs.PartRanges.{then_any, then_ok, numbered_each, Between, whole_in, few}
-use Rattle.ent_script.proofs.PartRanges.{few_names, operation_in}
+use Rattle.std.proofs.Common.{rules, ℕ, ◌+◌, ◌≤◌, List, [], ◌∷◌, length, take, Option, ok_or, Result, Ok, Err, IfSome, codes, arith}
+use Rattle.ent_script.specs.Reading.{◌>>=◌, numbered, at_operation, operation_at, bound_name, system_of, frame_of, component_at, component_names, heading_of, script_of, ReadsAs}
+use Rattle.ent_script.proofs.PartRanges.{then_any, then_ok, numbered_each, Between, whole_in, few, few_names, operation_in}
 use Rattle.std.proofs.lemmas.Grind.{common_steps}
 use Rattle.std.specs.Prelude.{IfOk}
 use Rattle.serde_json.specs.Data.{Data}
@@ -20,17 +16,15 @@ use Rattle.ent_script.specs.Names.{names_in}
 use Rattle.ent_script.specs.Script.{Script}
 use Rattle.ent_script.specs.Ranges.{AllFrom, IsOperationAt, IsSystemOf, IsFrameOf, IsScript}
 
-at_in : {A : Type 0} (P : A → Type 0) (f s o : ℕ) (r : Result A Cause) → IfOk r P
-    → IfOk (at_operation f s o r) P
+at_in : {A : Type 0} (P : A → Type 0) (f s o : ℕ) (r : Result A Cause) → IfOk r P → IfOk (at_operation f s o r) P
 at_in P f s o it h = search rules
 
 -- at most so many, each with its number
 abbrev AreFrom : {A : Type 0} → (ℕ → A → Type 0) → ℕ → ℕ → List A → Type 0
 AreFrom P n most xs = (length xs ≤ most) × AllFrom P n xs
 
-numbered_from : {A E : Type 0} (P : ℕ → A → Type 0) (f : ℕ → Data → Result A E) (n : ℕ)
-    (ds : List Data) → ((i : ℕ) (d : Data) → IfOk (f i d) (P i))
-    → IfOk (numbered f n ds) (AreFrom P n (length ds))
+numbered_from : {A E : Type 0} (P : ℕ → A → Type 0) (f : ℕ → Data → Result A E) (n : ℕ) (ds : List Data)
+    → ((i : ℕ) (d : Data) → IfOk (f i d) (P i)) → IfOk (numbered f n ds) (AreFrom P n (length ds))
 numbered_from P f n [] each = (omega arith, tt)
 numbered_from P f n (d ∷ ds) each = search (rules, then_ok, numbered_from P f (n + 1) ds each)
 
@@ -39,10 +33,9 @@ system_in : (format : Format) (components : List (List ℕ)) (frame number : ℕ
 unfolding system_of
 system_in format components frame number d =
     let P = IsOperationAt (length components) frame in
-    let each = λ (ds : List Data). numbered_from P
-    (operation_at format components frame number ds) 0 ds (λ i e. at_in (P i) frame number i _
-    (operation_in components (names_in bound_name (take i ds)) format frame i (few_names i ds) e))
-    in
+    let each = λ (ds : List Data). numbered_from P (operation_at format components frame number ds) 0 ds
+    (λ i e. at_in (P i) frame number i _ (operation_in components (names_in bound_name (take i ds)) format frame i
+    (few_names i ds) e)) in
     search (rules, few 10000 d, each)
 
 frame_in : (format : Format) (components : List (List ℕ)) (number : ℕ) (d : Data)
@@ -56,19 +49,16 @@ frame_in format components number d =
 components_in : (part : Option Data) → IfOk (component_names part) (λ names. length names ≤ 256)
 unfolding component_names
 components_in part =
-    let each = λ (ds : List Data). numbered_each (λ _. Unit {0}) (component_at ds) 0 ds
-    (λ i e. search rules) in
+    let each = λ (ds : List Data). numbered_each (λ _. Unit {0}) (component_at ds) 0 ds (λ i e. search rules) in
     search (rules, few, each)
 
 abbrev HasLimits : Heading → Type 0
 HasLimits heading = AreLimits heading.limits
 
 after_slots : (f : Format) (slots generations : Option ℕ) → IfSome slots (Between 1 4294967295)
-    → IfSome generations (Between 1 2147483647) → IfOk (ok_or slots script_cause.Slots >>=
-    λ s. ok_or generations script_cause.Generations >>= λ g. Ok (record {
-      format = f;
-      limits = record { slots = s; generations = g };
-    })) HasLimits
+    → IfSome generations (Between 1 2147483647) → IfOk (ok_or slots script_cause.Slots >>= λ s. ok_or generations
+    script_cause.Generations >>= λ g. Ok (record { format = f; limits = record { slots = s; generations = g } }))
+    HasLimits
 after_slots f it us s g = search (rules)
 
 heading_in : (d : Data) → IfOk (heading_of d) HasLimits
@@ -80,15 +70,13 @@ pub script_in : (d : Data) → IfOk (script_of d) IsScript
 unfolding script_of
 script_in d =
     let each = λ (format : Format) (components : List (List ℕ)) (ds : List Data). numbered_from
-    (IsFrameOf (length components)) (frame_of format components) 0 ds
-    (frame_in format components) in
+    (IsFrameOf (length components)) (frame_of format components) 0 ds (frame_in format components) in
     let heading = heading_in d in
     let names = components_in (get (codes "components") d) in
     let short = few 1000 in
     search (rules, heading, names, short, each)
 
 -- so is what was returned, if it is what a value means
-pub returned_in : (r : Result Script ReadFault) (d : Data) → ReadsAs r (script_of d)
-    → IfOk r IsScript
+pub returned_in : (r : Result Script ReadFault) (d : Data) → ReadsAs r (script_of d) → IfOk r IsScript
 returned_in (Ok s) d e = grind (arith, common_steps, script_in d)
 returned_in (Err e) d h = tt

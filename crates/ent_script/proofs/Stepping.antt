@@ -1,28 +1,26 @@
 -- The grammar's loops, a turn at a time, of what is left alone.
-use Rattle.std.proofs.Common.{rules, ◌≡◌, ℕ, ◌-◌, ◌<◌, ◌≤◌, List, length, Option, Some, None, ap}
-use Rattle.std.proofs.Common.{◌∙◌, arith, Result, Err, Bool, cond, true, false, ◌⊎◌}
+use Rattle.std.proofs.Common.{rules, ◌≡◌, ℕ, ◌-◌, ◌<◌, ◌≤◌, List, length, Option, Some, None, ap, ◌∙◌, arith, Result, Err, Bool, cond, true, false, ◌⊎◌}
 use Rattle.json.specs.Token.{Token}
 use Rattle.json.specs.Json as json
 use Rattle.json.specs.Json.{Parse, after_end_array, read_key, items, members}
 use Rattle.json.proofs.Grammar.{left_some, left_none, left-parse_map}
 use Rattle.serde_json.specs.Data.{Data, Members, item, put}
 use Rattle.serde_json.specs.Read.{of_json, of_items, of_members, converted}
-use Rattle.ent_script.proofs.Turns.{item_read, item_refused, items_over, member_read}
-use Rattle.ent_script.proofs.Turns.{member_refused}
+use Rattle.ent_script.proofs.Turns.{item_read, item_refused, items_over, member_read, member_refused}
 use Rattle.std.specs.Prelude.{IfOk}
 use Rattle.ent_script.specs.Passing.{left, Passes}
 use Rattle.ent_script.specs.declared.read_fault.ReadFault.{ReadFault}
 use Rattle.ent_script.specs.declared.read_fault.ReadFault.TheVariants.{Json, Memory}
 
-pub item_passed : (p : Parse json.Json) (n : ℕ) (ts r : List Token) → 0 < n → after_end_array ts ≡
-    None → left (converted of_json (p ts)) ≡ Some r
-    → left (converted of_items (items p n ts)) ≡ left (converted of_items (items p (n - 1) r))
+pub item_passed : (p : Parse json.Json) (n : ℕ) (ts r : List Token) → 0 < n → after_end_array ts ≡ None
+    → left (converted of_json (p ts)) ≡ Some r → left (converted of_items (items p n ts))
+    ≡ left (converted of_items (items p (n - 1) r))
 item_passed p n ts r some going e =
     let d = left_some (converted of_json (p ts)) r e in
     ap left (item_read p n ts r d.0 some going d.1) ∙ left-parse_map (item d.0) _
 
-pub member_passed : (p : Parse json.Json) (n : ℕ) (k : List ℕ) (ts s r : List Token) (old : Members)
-    → 0 < n → read_key ts ≡ Some (Some k, s) → left (converted of_json (p s)) ≡ Some r
+pub member_passed : (p : Parse json.Json) (n : ℕ) (k : List ℕ) (ts s r : List Token) (old : Members) → 0 < n
+    → read_key ts ≡ Some (Some k, s) → left (converted of_json (p s)) ≡ Some r
     → (d : Data) × (left (converted (λ ms. of_members ms old) (members p n ts))
     ≡ left (converted (λ ms. of_members ms (put k d old)) (members p (n - 1) r)))
 member_passed p n k ts s r old some key e = search (rules, left_some, member_read)
@@ -40,10 +38,9 @@ member_stuck p n k ts s old key e = ap left (member_refused p old n k ts s key (
 abbrev pub Goes : Parse json.Json → Option (List Token) → List Token → Type 0
 Goes p all ts = (n : ℕ) × (length ts ≤ n) × (all ≡ left (converted of_items (items p n ts)))
 
-module _ (p : Parse json.Json) (all : Option (List Token)) (ts r : List Token)
-    (going : Goes p all ts) where
-  pub goes_on : after_end_array ts ≡ None → left (converted of_json (p ts)) ≡ Some r
-      → length r < length ts → Goes p all r
+module _ (p : Parse json.Json) (all : Option (List Token)) (ts r : List Token) (going : Goes p all ts) where
+  pub goes_on : after_end_array ts ≡ None → left (converted of_json (p ts)) ≡ Some r → length r < length ts
+      → Goes p all r
   goes_on more passed less = (
     going.0 - 1,
     omega (arith, going.1, less),
@@ -67,8 +64,7 @@ pub passes_json : (A : Type 0) (e : ReadFault) (rest : List Token) (all : Option
     → Passes {A = A} (Err e) rest all → e ≡ Json → all ≡ None
 passes_json A it rest all h is = search rules
 
-pub if_ok : {A : Type 0} {P Q : A → Type 0} (r : Result A ReadFault) → IfOk r P
-    → ((x : A) → P x → Q x) → IfOk r Q
+pub if_ok : {A : Type 0} {P Q : A → Type 0} (r : Result A ReadFault) → IfOk r P → ((x : A) → P x → Q x) → IfOk r Q
 if_ok it h on = search rules
 
 pub begun : {A : Type 0} (b : Bool) (all x y : A) → all ≡ cond b x y → b ≡ true → all ≡ x

@@ -1,7 +1,5 @@
 -- Texts: which of them are JSON, and names as texts of their own.
-use Rattle.std.proofs.Common.{rules, ◌≡◌, ℕ, ◌+◌, ◌<◌, zero, suc, List, [], ◌∷◌, ◌++◌, length, map}
-use Rattle.std.proofs.Common.{take, get_or, Bool, cond, None, Bor, String, Global, string_bytes}
-use Rattle.std.proofs.Common.{refl, ap, arith, add-one}
+use Rattle.std.proofs.Common.{rules, ◌≡◌, ℕ, ◌+◌, ◌<◌, zero, suc, List, [], ◌∷◌, ◌++◌, length, map, take, get_or, Bool, cond, None, Bor, String, Global, string_bytes, refl, ap, arith, add-one}
 use Rattle.std.specs.Str.{IsUtf8, is_utf8}
 use Rattle.std.proofs.lemmas.List.{map-append}
 use Rattle.std.proofs.lemmas.Str.{IsUtf8-from_is_utf8}
@@ -17,15 +15,13 @@ json_none text refused = none_by text (is_utf8 text) refl refused
 
 taken : (names : List (Bor (List ℕ))) (i : ℕ) (text : List ℕ) → i < length names
     → text ≡ (get_or names i (record { ref_ptr = (0, 0); now = [] })).now
-    → take i (map (λ name. name.now) names) ++ text ∷ []
-    ≡ take (suc i) (map (λ name. name.now) names)
+    → take i (map (λ name. name.now) names) ++ text ∷ [] ≡ take (suc i) (map (λ name. name.now) names)
 taken [] i text h is = absurd (omega arith)
 taken (first ∷ names) zero text h is = ap (λ (t : List ℕ). t ∷ []) is
 taken (first ∷ names) (suc i) text h is = search (rules, taken names i text (omega arith) is)
 
-pub one_more : (names : List (Bor (List ℕ))) (i : ℕ) (texts : List (String Global))
-    (text : String Global) → i < length names
-    → string_bytes text ≡ (get_or names i (record { ref_ptr = (0, 0); now = [] })).now
-    → map string_bytes texts ≡ take i (map (λ name. name.now) names)
-    → map string_bytes (texts ++ text ∷ []) ≡ take (i + 1) (map (λ name. name.now) names)
+pub one_more : (names : List (Bor (List ℕ))) (i : ℕ) (texts : List (String Global)) (text : String Global)
+    → i < length names → string_bytes text ≡ (get_or names i (record { ref_ptr = (0, 0); now = [] })).now
+    → map string_bytes texts ≡ take i (map (λ name. name.now) names) → map string_bytes (texts ++ text ∷ []) ≡ take (i
+    + 1) (map (λ name. name.now) names)
 one_more names i texts text h is before = search (rules, map-append, taken, add-one)

@@ -1,7 +1,5 @@
 -- The values in memory, and the lists that they are seen as.
-use Rattle.std.proofs.Common.{rules, ◌≡◌, ℕ, List, [], ◌∷◌, map, Option, Some, None, option_map}
-use Rattle.std.proofs.Common.{String, Vec, BTreeMap, Global, string_bytes, Bor, refl, sym, ap}
-use Rattle.std.proofs.Common.{bytes_eq, length, arith, slice_get}
+use Rattle.std.proofs.Common.{rules, ◌≡◌, ℕ, List, [], ◌∷◌, map, Option, Some, None, option_map, String, Vec, BTreeMap, Global, string_bytes, Bor, refl, sym, ap, bytes_eq, length, arith, slice_get}
 use Rattle.serde_json.specs.Data.{Data, Items, Members}
 use Rattle.serde_json.specs.View.{view, items_view, members_view}
 use Rattle.serde_json.specs.declared.value.Value.{Value}
@@ -23,33 +21,29 @@ pub list_of-items_view : (vs : List Value) → list_of (items_view vs) ≡ map v
 list_of-items_view [] = refl
 list_of-items_view (v ∷ vs) = ap (λ (ds : List Data). view v ∷ ds) (list_of-items_view vs)
 
-pub pairs_of-members_view : (ms : List (String Global × Value)) → pairs_of (members_view ms)
-    ≡ map pair_view ms
+pub pairs_of-members_view : (ms : List (String Global × Value)) → pairs_of (members_view ms) ≡ map pair_view ms
 pairs_of-members_view [] = refl
 pairs_of-members_view (m ∷ ms) = search (rules, pairs_of-members_view ms)
 
-pub pairs_of-leaves_of : (ms : List (Bor (List ℕ) × Leaf)) → pairs_of (leaves_of ms)
-    ≡ map leaf_view ms
+pub pairs_of-leaves_of : (ms : List (Bor (List ℕ) × Leaf)) → pairs_of (leaves_of ms) ≡ map leaf_view ms
 pairs_of-leaves_of [] = refl
 pairs_of-leaves_of (m ∷ ms) = search (rules, pairs_of-leaves_of ms)
 
 pub members_seen : (r : Option (Bor (BTreeMap (String Global) Value))) (o : Option Members)
-    → option_map (λ m. members_view m.now.entries) r ≡ o
-    → option_map (λ m. map pair_view m.now.entries) r ≡ option_map pairs_of o
+    → option_map (λ m. members_view m.now.entries) r ≡ o → option_map (λ m. map pair_view m.now.entries) r
+    ≡ option_map pairs_of o
 members_seen it o e = search (rules, pairs_of-members_view)
 
 pub elements_seen : (r : Option (Bor (Vec Value Global))) (o : Option Items)
-    → option_map (λ v. items_view v.now.items) r ≡ o
-    → option_map (λ v. map view v.now.items) r ≡ option_map list_of o
+    → option_map (λ v. items_view v.now.items) r ≡ o → option_map (λ v. map view v.now.items) r ≡ option_map list_of o
 elements_seen None o e = ap (option_map list_of) e
 elements_seen (Some v) o e = search (rules, list_of-items_view)
 
 pub length_of_views : (vs : List Value) → length (map view vs) ≡ length vs
 length_of_views vs = length-map vs view
 
-pub any_lent : (key : List ℕ) (allowed : List (Bor (List ℕ)))
-    → list_any (λ name. bytes_eq key name.now) allowed ≡ list_any (λ name. bytes_eq key name)
-    (map (λ name. name.now) allowed)
+pub any_lent : (key : List ℕ) (allowed : List (Bor (List ℕ))) → list_any (λ name. bytes_eq key name.now) allowed
+    ≡ list_any (λ name. bytes_eq key name) (map (λ name. name.now) allowed)
 any_lent key [] = refl
 any_lent key (a ∷ allowed) = rw (any_lent key allowed)
 
@@ -61,15 +55,13 @@ keys_lent [] allowed = refl
 keys_lent (m ∷ ms) allowed = rw (any_lent (string_bytes m.0) allowed, keys_lent ms allowed)
 
 -- the only member
-pub only_member : (ms : List (Bor (List ℕ) × Leaf)) (k : Bor (List ℕ)) (leaf : Leaf)
-    → length ms ≡ 1 → slice_get ms 0 ≡ Some (k, leaf) → Some (k.now, leaf_data leaf)
-    ≡ only (pairs_of (leaves_of ms))
+pub only_member : (ms : List (Bor (List ℕ) × Leaf)) (k : Bor (List ℕ)) (leaf : Leaf) → length ms ≡ 1
+    → slice_get ms 0 ≡ Some (k, leaf) → Some (k.now, leaf_data leaf) ≡ only (pairs_of (leaves_of ms))
 only_member [] k leaf one e = absurd (omega (arith, one))
 only_member (m ∷ []) k leaf one e = sym (ap (option_map leaf_view) e)
 only_member (m ∷ n ∷ ms) k leaf one e = absurd (omega (arith, one))
 
-pub not_only : (ms : List (Bor (List ℕ) × Leaf)) → (length ms ≡ 1 → ⊥)
-    → only (pairs_of (leaves_of ms)) ≡ None
+pub not_only : (ms : List (Bor (List ℕ) × Leaf)) → (length ms ≡ 1 → ⊥) → only (pairs_of (leaves_of ms)) ≡ None
 not_only [] other = refl
 not_only (m ∷ []) other = absurd (other refl)
 not_only (m ∷ n ∷ ms) other = refl

@@ -1,6 +1,5 @@
 -- A script, of the parts that are read one after another.
-use Rattle.std.proofs.Common.{rules, ◌≡◌, ℕ, List, map, Option, Some, None, option_map}
-use Rattle.std.proofs.Common.{option_and_then, ok_or, codes, Result}
+use Rattle.std.proofs.Common.{rules, ◌≡◌, ℕ, List, map, Option, Some, None, option_map, option_and_then, codes, Result}
 use Rattle.std.specs.Prelude.{Ok, Err}
 use Rattle.serde_json.specs.Data.{Data}
 use Rattle.serde_json.specs.Find.{get}
@@ -8,8 +7,7 @@ use Rattle.serde_json.specs.View.{view}
 use Rattle.serde_json.specs.declared.value.Value.{Value}
 use Rattle.ent_script.specs.Cut.{cut}
 use Rattle.ent_script.specs.Json.{at_most}
-use Rattle.ent_script.specs.Reading.{◌>>=◌, numbered, frame_of, component_at, component_names}
-use Rattle.ent_script.specs.Reading.{heading_of, in_script, script_of}
+use Rattle.ent_script.specs.Reading.{◌>>=◌, numbered, component_at, component_names, heading_of, in_script, script_of}
 use Rattle.ent_script.specs.Script.{Script}
 use Rattle.ent_script.specs.Streaming.{frames_of}
 use Rattle.ent_script.specs.declared.cause.ScriptCause.TheVariants as script_cause
@@ -22,38 +20,31 @@ use Rattle.ent_script.proofs.CutMeanings.{components-cut}
 abbrev pub Names : Type 0
 Names = List (List ℕ)
 
-pub no_names : (part : Option Data) → None ≡ option_map (map (cut 0))
-    (option_and_then (at_most 256) part) → in_script (component_names part) ≡ Err
-    (fault.Script script_cause.Components)
+pub no_names : (part : Option Data) → None ≡ option_map (map (cut 0)) (option_and_then (at_most 256) part)
+    → in_script (component_names part) ≡ Err (fault.Script script_cause.Components)
 unfolding component_names
 no_names part e = search rules
 
-pub names_meant : (part : Option Data) (vs : List Value) → Some (map view vs) ≡ option_map
-    (map (cut 0)) (option_and_then (at_most 256) part)
-    → in_script (numbered (component_at (map view vs)) 0 (map view vs)) ≡ in_script
-    (component_names part)
+pub names_meant : (part : Option Data) (vs : List Value)
+    → Some (map view vs) ≡ option_map (map (cut 0)) (option_and_then (at_most 256) part)
+    → in_script (numbered (component_at (map view vs)) 0 (map view vs)) ≡ in_script (component_names part)
 unfolding component_names
 names_meant part vs e = search (rules, components-cut)
 
 abbrev pub all_of : Heading → Names → List (List (List Operation)) → Result Script ReadFault
-all_of heading names frames =
-    Ok (record { limits = heading.limits; components = names; frames = frames })
+all_of heading names frames = Ok (record { limits = heading.limits; components = names; frames = frames })
 
-pub script_is : (d : Data) (heading : Heading) (names : Names)
-    → in_script (heading_of d) ≡ Ok heading
+pub script_is : (d : Data) (heading : Heading) (names : Names) → in_script (heading_of d) ≡ Ok heading
     → in_script (component_names (get (codes "components") d)) ≡ Ok names
-    → script_of d ≡ (frames_of heading.format names (get (codes "frames") d) >>=
-    λ frames. all_of heading names frames)
+    → script_of d ≡ (frames_of heading.format names (get (codes "frames") d) >>= λ frames. all_of heading names frames)
 unfolding script_of
 script_is d heading names a b = search (rules)
 
-pub names_refused : (d : Data) (heading : Heading) (e : ReadFault)
-    → in_script (heading_of d) ≡ Ok heading
+pub names_refused : (d : Data) (heading : Heading) (e : ReadFault) → in_script (heading_of d) ≡ Ok heading
     → in_script (component_names (get (codes "components") d)) ≡ Err e → script_of d ≡ Err e
 unfolding script_of
 names_refused d heading e a b = search rules
 
-pub heading_refused : (d : Data) (e : ReadFault) → in_script (heading_of d) ≡ Err e
-    → script_of d ≡ Err e
+pub heading_refused : (d : Data) (e : ReadFault) → in_script (heading_of d) ≡ Err e → script_of d ≡ Err e
 unfolding script_of
 heading_refused d e a = search rules

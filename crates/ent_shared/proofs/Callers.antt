@@ -18,8 +18,7 @@ only caller f c = cond (c.caller == caller) (f c) 0
 pub sum_by_caller : (caller : ℕ) (f : Reservation → ℕ) (cs : List Reservation)
     → sum_by f (reservations_by caller cs) ≡ sum_by (only caller f) cs
 sum_by_caller caller f [] = refl
-sum_by_caller caller f (c ∷ cs) =
-    grind (arith, common_steps, sum_by-cons, c.caller, sum_by_caller caller f cs)
+sum_by_caller caller f (c ∷ cs) = grind (arith, common_steps, sum_by-cons, c.caller, sum_by_caller caller f cs)
 
 pub own_by_caller : (number caller : ℕ) (f : Reservation → ℕ) (cs : List Reservation)
     → All (λ (c : Reservation). c.caller ≡ number) cs → sum_by (only caller f) cs
@@ -33,22 +32,20 @@ own_by_caller number caller f (c ∷ cs) all =
 abbrev pub of_number : ℕ → (Record → ℕ) → Record → ℕ
 of_number number g r = cond (r.number == number) (g r) 0
 
-none_of_number : (number : ℕ) (g : Record → ℕ) (rs : List Record)
-    → count_by (λ (r : Record). r.number == number) rs ≡ 0 → sum_by (of_number number g) rs ≡ 0
+none_of_number : (number : ℕ) (g : Record → ℕ) (rs : List Record) → count_by (λ (r : Record). r.number == number) rs ≡ 0
+    → sum_by (of_number number g) rs ≡ 0
 none_of_number number g [] none = refl
-none_of_number number g (r ∷ rs) none =
-    grind (arith, common_steps, sum_by-cons, none_of_number number g rs)
+none_of_number number g (r ∷ rs) none = grind (arith, common_steps, sum_by-cons, none_of_number number g rs)
 
-counted : (number : ℕ) (rs : List Record) (r : Record) → Contains rs r → r.number ≡ number → 1
-    ≤ count_by (λ (x : Record). x.number == number) rs
+counted : (number : ℕ) (rs : List Record) (r : Record) → Contains rs r → r.number ≡ number
+    → 1 ≤ count_by (λ (x : Record). x.number == number) rs
 counted number rs r inside is = grind (arith, common_steps)
 
 -- records of which no two have one number differ in it
-pub numbers_differ : (rs : List Record) → ((k : ℕ) → count_by (λ (r : Record). r.number == k) rs
-    ≤ 1) → AllPairs (λ r s. r.number ≢ s.number) rs
+pub numbers_differ : (rs : List Record) → ((k : ℕ) → count_by (λ (r : Record). r.number == k) rs ≤ 1)
+    → AllPairs (λ r s. r.number ≢ s.number) rs
 numbers_differ [] few = λ i j d lt within. absurd (omega arith)
-numbers_differ (r ∷ rs) few =
-    AllPairs-cons (λ x y. x.number ≢ y.number) r rs
+numbers_differ (r ∷ rs) few = AllPairs-cons (λ x y. x.number ≢ y.number) r rs
     (λ i d lt same. grind (arith, common_steps, sum_by-cons, few r.number, counted))
     (numbers_differ rs (λ k. grind (arith, common_steps, sum_by-cons, few k)))
 

@@ -1,9 +1,7 @@
 -- The end of a phase: the history of all records is legal, and the cursor and the least floor tell
 -- the allocator after it.
 use Rattle.ent_shared.proofs.Histories.{falls_apart, reservations_are, respects_all}
-use Rattle.std.proofs.Common.{rules, ◌≡◌, ◌≢◌, ℕ, ◌+◌, ◌-◌, ◌^◌, ◌≤◌, ℤ, pos, ◌+ℤ◌, ◌-ℤ◌, ◌≤ℤ◌}
-use Rattle.std.proofs.Common.{◌<ℤ◌, List, length, map, sym, ap, ◌∙◌, arith, sum}
-use Rattle.std.proofs.Common.{length-append, All, AllPairs, Contains, ◌↔◌, ◌⊎◌}
+use Rattle.std.proofs.Common.{rules, ◌≡◌, ◌≢◌, ℕ, ◌+◌, ◌-◌, ◌^◌, ◌≤◌, ℤ, pos, ◌+ℤ◌, ◌-ℤ◌, ◌≤ℤ◌, ◌<ℤ◌, List, length, map, sym, ap, ◌∙◌, arith, sum, length-append, All, AllPairs, Contains, ◌↔◌, ◌⊎◌}
 use Rattle.std.proofs.lemmas.Grind.{common_steps}
 use Rattle.std.specs.List.{sum_by}
 use Rattle.std.proofs.lemmas.Bool.{cases_lt}
@@ -11,18 +9,14 @@ use Rattle.std.proofs.lemmas.List.Sorted.{length_permutation}
 use Rattle.std.proofs.lemmas.Int.{ints}
 use Rattle.ent_handle.specs.Handle.{Handle}
 use Rattle.ent_alloc.specs.Entities.{Entities}
-use Rattle.ent_alloc.specs.Sequential.{Allocator, available, cursor, top, asked_at, settled}
-use Rattle.ent_alloc.specs.Sequential.{after_flush}
+use Rattle.ent_alloc.specs.Sequential.{Allocator, available, cursor, top, asked_at, settled, after_flush}
 use Rattle.ent_alloc.specs.Sound.{IsSound, IsLive}
 use Rattle.ent_alloc.specs.History as history
-use Rattle.ent_alloc.proofs.PoolLaw.{after_takes-sound, available-after_takes, asked-after_takes}
-use Rattle.ent_alloc.proofs.PoolLaw.{cursor-after_takes, length-taken}
+use Rattle.ent_alloc.proofs.PoolLaw.{after_takes-sound, available-after_takes, asked-after_takes, cursor-after_takes, length-taken}
 use Rattle.ent_alloc.proofs.Taken.{length-available}
 use Rattle.ent_alloc.proofs.LaidOut.{flushed-laid_out}
 use Rattle.ent_alloc.proofs.Meaning.{asked_at-is}
-use Rattle.ent_alloc.proofs.Histories.{after_history-takes, given_in-distinct, given_in-not_live}
-use Rattle.ent_alloc.proofs.Histories.{given_in-taken, given_in-bring_to_life}
-use Rattle.ent_alloc.proofs.Histories.{after_history-settled}
+use Rattle.ent_alloc.proofs.Histories.{after_history-takes, given_in-distinct, given_in-not_live, given_in-taken, given_in-bring_to_life, after_history-settled}
 use mir.Syntax.{w64}
 use mir.Val.{to_z, of_z}
 use Rattle.ent_shared.specs.declared.record.Record.{Record}
@@ -32,8 +26,7 @@ use Rattle.ent_shared.specs.Order.{as_call, own_of_all, reservations_of, history
 use Rattle.ent_shared.proofs.Words.{requested, follow_asked, few_asked}
 use Rattle.ent_shared.proofs.Sorting.{follow_falls}
 use Rattle.ent_shared.proofs.Callers.{numbers_differ}
-use Rattle.ent_shared.proofs.Settling.{IsLater, legal_from, min_right, floor_below, taken_floor}
-use Rattle.ent_shared.proofs.Settling.{floor_sorted, floor_of_all}
+use Rattle.ent_shared.proofs.Settling.{IsLater, legal_from, min_right, floor_below, taken_floor, floor_sorted, floor_of_all}
 
 -- what the closing call owes and gives, in the numbers of its code
 pub record Ended (here start : Allocator) (records : List Record) (at floor : ℤ) : Type 0 where
@@ -54,8 +47,8 @@ pub record Ended (here start : Allocator) (records : List Record) (at floor : �
       → IsLive (after_flush (history.after_history start (history_of records))) h ↔ IsLive start h
       ⊎ Contains (history.given_in (history_of records)) h
 
-module _ (start : Allocator) (count : ℕ) (records : List Record) (at : ℤ)
-    (k : IsClosed start count records at) (sound : IsSound start) (flushed : start.asked ≡ 0) where
+module _ (start : Allocator) (count : ℕ) (records : List Record) (at : ℤ) (k : IsClosed start count records at)
+    (sound : IsSound start) (flushed : start.asked ≡ 0) where
   pub asked_in_all : cursor start ≡ at +ℤ pos (sum_by requested k.log)
   asked_in_all = follow_asked (cursor start) k.log at k.follow
 
@@ -83,7 +76,14 @@ module _ (start : Allocator) (count : ℕ) (records : List Record) (at : ℤ)
 
     -- the least floor tells how many are taken
     pub floor_is : least_floor (cursor start) records ≡ pos (top start) -ℤ pos (length final.taken)
-    floor_is = let of_log : least_floor (cursor start) records ≡ floor_of start k.log = floor_of_all start at k.log records k.each ∙ (sym (floor_sorted start (own_of_all records)) ∙ ap (floor_of start) (reservations_are start count records at k whole)) in let none = ap length (flushed-laid_out start sound flushed).taken in let below = floor_below start k.log in let taken = taken_floor start start k.log at flushed itself k.follow in search (rules, min_right, history_is)
+    floor_is =
+        let of_log : least_floor (cursor start) records ≡ floor_of start k.log = floor_of_all start at k.log records
+        k.each ∙ (sym (floor_sorted start (own_of_all records)) ∙ ap (floor_of start) (reservations_are start count
+        records at k whole)) in
+        let none = ap length (flushed-laid_out start sound flushed).taken in
+        let below = floor_below start k.log in
+        let taken = taken_floor start start k.log at flushed itself k.follow in
+        search (rules, min_right, history_is)
 
     asked_is : sum (history.requests_of (history_of records)) ≡ sum_by requested k.log
     asked_is = grind (arith, common_steps, history_is)
@@ -93,8 +93,7 @@ module _ (start : Allocator) (count : ℕ) (records : List Record) (at : ℤ)
 
     -- its cursor is the one that the word told
     pub final_cursor : cursor final ≡ at
-    final_cursor =
-        search (rules, cursor-after_takes, after_history-takes, asked_is, asked_in_all, ints)
+    final_cursor = search (rules, cursor-after_takes, after_history-takes, asked_is, asked_in_all, ints)
 
     final_sound : IsSound final
     final_sound = search (rules, after_history-takes, after_takes-sound)
@@ -107,21 +106,59 @@ module _ (start : Allocator) (count : ℕ) (records : List Record) (at : ℤ)
 
     taken_all : sum_by requested k.log ≤ top start + (start.limits.slots - start.made)
         → length final.taken ≡ sum_by requested k.log
-    taken_all enough =
-        search (rules, final_available, length-available, final_asked, length-taken, final_sound)
+    taken_all enough = search (rules, final_available, length-available, final_asked, length-taken, final_sound)
 
     module _ (floor : ℤ) (is : floor ≡ least_floor (pos (top start)) records) where
       floor_here : floor ≡ pos (top start) -ℤ pos (length final.taken)
       floor_here = search (rules, ints, floor_is)
 
       ended_at : count ≤ 1024 → Ended start start records at floor
-      ended_at few = let here = floor_here in let taken = taken_few in let calls : List history.Call = history_of records in record { least = cursor_least few; greatest = omega (arith, ints); ordered = search (rules, here, asked_in_all, taken_few, cases_lt, requested, ints, taken_all); reachable = omega (arith, ints); all_given = search (rules, floor_here, asked_in_all, taken_all); is_legal = legal; respects = respects_all start count records at k whole; after = let given : asked_at (top start) floor ≡ length final.taken = search (rules, asked_at-is, floor_here, ints) in let asked : asked_at (top start) at ≡ sum (history.requests_of calls) = search (rules, asked_at-is, cursor_greatest, asked_is, asked_in_all, ints) in let long : length final.taken ≡ length (history.given_in calls) = search (rules, length_permutation, given_in-taken, legal) in (λ i. settled start ((given ∙ long) i) (asked i)) ∙ sym (after_history-settled start calls sound legal flushed); all_fall = rw (reservations_are start count records at k whole) (falls_apart k.log (follow_falls (cursor start) k.log at k.follow)); all_numbers = numbers_differ records k.numbers; all_distinct = given_in-distinct start calls sound legal; none_live = given_in-not_live start calls sound legal; brings_to_life = given_in-bring_to_life start calls sound legal flushed }
+      ended_at few =
+          let here = floor_here in
+          let taken = taken_few in
+          let calls : List history.Call = history_of records in
+          record {
+            least = cursor_least few;
+            greatest = omega (arith, ints);
+            ordered = search (rules, here, asked_in_all, taken_few, cases_lt, requested, ints, taken_all);
+            reachable = omega (arith, ints);
+            all_given = search (rules, floor_here, asked_in_all, taken_all);
+            is_legal = legal;
+            respects = respects_all start count records at k whole;
+            after =
+                let given : asked_at (top start) floor ≡ length final.taken = search
+                (rules, asked_at-is, floor_here, ints) in
+                let asked : asked_at (top start) at ≡ sum (history.requests_of calls) = search
+                (rules, asked_at-is, cursor_greatest, asked_is, asked_in_all, ints) in
+                let long : length final.taken ≡ length (history.given_in calls) = search
+                (rules, length_permutation, given_in-taken, legal) in
+                (λ i. settled start ((given ∙ long) i) (asked i)) ∙ sym (after_history-settled start calls sound legal
+                flushed);
+            all_fall = rw (reservations_are start count records at k whole)
+                (falls_apart k.log (follow_falls (cursor start) k.log at k.follow));
+            all_numbers = numbers_differ records k.numbers;
+            all_distinct = given_in-distinct start calls sound legal;
+            none_live = given_in-not_live start calls sound legal;
+            brings_to_life = given_in-bring_to_life start calls sound legal flushed;
+          }
 
-pub ended : (entities : Entities) (start : Allocator) (n count : ℕ) (key : Opening)
-    (records : List Record) (at floor from : ℤ) → IsStart entities.allocator
-    → IsSound entities.allocator → n ≤ 1024 → key ≡ record { entities = entities; count = n }
-    → entities.allocator ≡ start → n ≡ count → length records ≡ count
+pub ended : (entities : Entities) (start : Allocator) (n count : ℕ) (key : Opening) (records : List Record)
+    (at floor from : ℤ) → IsStart entities.allocator → IsSound entities.allocator → n ≤ 1024
+    → key ≡ record { entities = entities; count = n } → entities.allocator ≡ start → n ≡ count → length records ≡ count
     → IsClosed key.entities.allocator key.count records at → from ≡ pos (top entities.allocator)
-    → floor ≡ least_floor (to_z w64 (of_z w64 from)) records
-    → Ended entities.allocator start records (to_z w64 (of_z w64 at)) (to_z w64 (of_z w64 floor))
-ended entities start n count key records at floor from begins sound few key_is here_is n_is whole closed from_is floor_is = let here : Allocator = entities.allocator in let small = begins.top in let k : IsClosed here n records at = search rules in let from_word : to_z w64 (of_z w64 from) ≡ pos (top here) = omega (arith, ints) in let e = ended_at here n records at k sound begins.flushed (whole ∙ sym n_is) floor (floor_is ∙ ap (λ (z : ℤ). least_floor z records) from_word) few in let ordered = e.ordered in let least = e.least in let greatest = e.greatest in let at_word : to_z w64 (of_z w64 at) ≡ at = omega (arith, ints) in let floor_word : to_z w64 (of_z w64 floor) ≡ floor = omega (arith, ints) in rw (at_word, floor_word, sym here_is) e
+    → floor ≡ least_floor (to_z w64 (of_z w64 from)) records → Ended entities.allocator start records (to_z w64
+    (of_z w64 at)) (to_z w64 (of_z w64 floor))
+ended entities start n count key records at floor from begins sound few key_is here_is n_is whole closed from_is
+    floor_is =
+    let here : Allocator = entities.allocator in
+    let small = begins.top in
+    let k : IsClosed here n records at = search rules in
+    let from_word : to_z w64 (of_z w64 from) ≡ pos (top here) = omega (arith, ints) in
+    let e = ended_at here n records at k sound begins.flushed (whole ∙ sym n_is) floor
+    (floor_is ∙ ap (λ (z : ℤ). least_floor z records) from_word) few in
+    let ordered = e.ordered in
+    let least = e.least in
+    let greatest = e.greatest in
+    let at_word : to_z w64 (of_z w64 at) ≡ at = omega (arith, ints) in
+    let floor_word : to_z w64 (of_z w64 floor) ≡ floor = omega (arith, ints) in
+    rw (at_word, floor_word, sym here_is) e

@@ -1,8 +1,7 @@
 -- The rule at the ends of a phase: it holds before the first step, and what it says after the last.
 use Rattle.std.proofs.lemmas.Int.{ints}
 use Rattle.std.proofs.lemmas.Grind.{common_steps}
-use Rattle.std.proofs.Common.{rules, ◌≡◌, ℕ, zero, suc, ◌+◌, ◌<◌, ◌≤◌, ℤ, ◌≤ℤ◌, List, [], ◌∷◌}
-use Rattle.std.proofs.Common.{length, sym, refl, ap, ◌∙◌, arith}
+use Rattle.std.proofs.Common.{rules, ◌≡◌, ℕ, zero, suc, ◌+◌, ◌<◌, ◌≤◌, ℤ, ◌≤ℤ◌, List, [], ◌∷◌, length, sym, refl, ap, ◌∙◌, arith}
 use Rattle.std.specs.List.{sum_by, All}
 use Rattle.std.proofs.lemmas.List.Elements.{All-nil, All-cons}
 use Rattle.std.proofs.lemmas.List.Sums.{sum_by-cons}
@@ -25,13 +24,10 @@ module _ (start : Allocator) (count : ℕ) where
   Rule = IsRuled start count
 
   -- before the first step
-  weigh-opened : (f : Reservation → ℕ) (number many : ℕ)
-      → weigh f (opened_records start number many) ≡ 0
+  weigh-opened : (f : Reservation → ℕ) (number many : ℕ) → weigh f (opened_records start number many) ≡ 0
   unfolding opened_records
   weigh-opened f number zero = refl
-  weigh-opened f number (suc many) =
-      let rest = weigh-opened f (number + 1) many in
-      grind (arith, common_steps)
+  weigh-opened f number (suc many) = let rest = weigh-opened f (number + 1) many in grind (arith, common_steps)
 
   length-opened : (number many : ℕ) → length (opened_records start number many) ≡ many
   unfolding opened_records
@@ -42,18 +38,20 @@ module _ (start : Allocator) (count : ℕ) where
       × (k < number → numbered k (opened_records start number many) ≡ 0)
   unfolding opened_records
   numbered-opened k number zero = (omega arith, λ _. refl)
-  numbered-opened k number (suc many) = let rest = numbered-opened k (number + 1) many in let few = rest.0 in let none = rest.1 in (grind (arith, common_steps), λ less. grind (arith, common_steps))
+  numbered-opened k number (suc many) =
+      let rest = numbered-opened k (number + 1) many in
+      let few = rest.0 in
+      let none = rest.1 in
+      (grind (arith, common_steps), λ less. grind (arith, common_steps))
 
-  kept-opened : (at : ℤ) (number : ℕ) → at ≤ℤ cursor start
-      → IsKept start at [] (opened start number)
+  kept-opened : (at : ℤ) (number : ℕ) → at ≤ℤ cursor start → IsKept start at [] (opened start number)
   kept-opened at number le = search (rules, All-nil)
 
-  all_kept-opened : (at : ℤ) (number many : ℕ) → at ≤ℤ cursor start
-      → All (IsKept start at []) (opened_records start number many)
+  all_kept-opened : (at : ℤ) (number many : ℕ) → at ≤ℤ cursor start → All (IsKept start at []) (opened_records start
+      number many)
   unfolding opened_records
   all_kept-opened at number zero le = All-nil (IsKept start at [])
-  all_kept-opened at number (suc many) le =
-      search (rules, All-cons, kept-opened, all_kept-opened at (number + 1) many)
+  all_kept-opened at number (suc many) le = search (rules, All-cons, kept-opened, all_kept-opened at (number + 1) many)
 
   pub begins : (word : ℕ) → IsStart start → count ≤ 1024 → cursor_of word ≡ cursor start
       → Rule (opening (word ∷ []) [] (opened_records start 0 count))
@@ -65,26 +63,20 @@ module _ (start : Allocator) (count : ℕ) where
         few = few;
         word = word;
         words = refl;
-        spans = record {
-          log = [];
-          follow = sym at;
-          all = λ f. search (rules, sum_by-cons, weigh-opened);
-        };
+        spans = record { log = []; follow = sym at; all = λ f. search (rules, sum_by-cons, weigh-opened) };
         replied = All-nil (HasItsReply start);
         records = search (rules, sum_by-cons, length-opened);
         numbers = λ number. (let sums = sum_by-cons (numbered number) v [] in let n =
             (numbered-opened number 0 count).0 in omega arith);
-        each = all_one (All (IsKept start (cursor_of word) [])) v
-            (all_kept-opened (cursor_of word) 0 count least);
+        each = all_one (All (IsKept start (cursor_of word) [])) v (all_kept-opened (cursor_of word) 0 count least);
       }
 
   -- after the last step
-  pub ends : (s : St) (k : Rule s) (id : ℕ) (v : List Record) → get_elem? s.views id ≡ some v
-      → (at : ℤ) → cursor_of k.word ≡ at → IsClosed start count v at
+  pub ends : (s : St) (k : Rule s) (id : ℕ) (v : List Record) → get_elem? s.views id ≡ some v → (at : ℤ)
+      → cursor_of k.word ≡ at → IsClosed start count v at
   ends s k id v there at here =
       let sums = λ (g : List Record → ℕ). sum_at g s.views id v [] there in
-      let each = all_at (All (IsKept start (cursor_of k.word) k.spans.log)) s.views id v there
-      k.each in
+      let each = all_at (All (IsKept start (cursor_of k.word) k.spans.log)) s.views id v there k.each in
       record {
         log = k.spans.log;
         follow = search (rules, here);
@@ -92,7 +84,7 @@ module _ (start : Allocator) (count : ℕ) where
         each = search (rules, here, each);
         numbers = λ number. grind (arith, sums (numbered number), k.numbers number);
         some = λ f. grind (arith, sums (weigh f), k.spans.all f);
-        all = λ whole f. sym (whole_weighs (λ (r : Record). sum_by f (own_reservations r.entries))
-            s.views id v there (k.records ∙ sym whole)) ∙ k.spans.all f;
+        all = λ whole f. sym (whole_weighs (λ (r : Record). sum_by f (own_reservations r.entries)) s.views id v there
+            (k.records ∙ sym whole)) ∙ k.spans.all f;
         quota = grind (arith, sums left_of, all_quota start count s k);
       }

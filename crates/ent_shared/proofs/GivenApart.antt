@@ -1,7 +1,6 @@
 -- The handles of a list differ if each is there at most once. So the handles of some reservers differ if
 -- those of all do.
-use Rattle.std.proofs.Common.{rules, arith, ◌≡◌, ◌≢◌, ℕ, ◌≤◌, List, [], ◌∷◌, refl}
-use Rattle.std.proofs.Common.{All, AllPairs, Contains, ◌⊎◌, sym, subst}
+use Rattle.std.proofs.Common.{rules, arith, ◌≡◌, ◌≢◌, ℕ, ◌≤◌, List, [], ◌∷◌, refl, All, AllPairs, Contains, ◌⊎◌, sym, subst}
 use Rattle.std.specs.Prelude.{cond}
 use Rattle.std.specs.List.{sum_by}
 use Rattle.std.proofs.lemmas.Grind.{common_steps}
@@ -49,22 +48,23 @@ none_there h (g ∷ gs) all =
 -- each handle of the list counts
 counted : (h : Handle) (gs : List Handle) → Contains gs h → 1 ≤ sum_by (is_one h) gs
 counted h [] inside = absurd (omega arith)
-counted h (g ∷ gs) inside =
-    grind (arith, common_steps, sum_by-cons, contains_cases, one_itself h, counted h gs)
+counted h (g ∷ gs) inside = grind (arith, common_steps, sum_by-cons, contains_cases, one_itself h, counted h gs)
 
 -- a list of different handles has each at most once
 once : (gs : List Handle) → Differ gs → (h : Handle) → sum_by (is_one h) gs ≤ 1
 once [] differ h = omega arith
-once (g ∷ gs) differ h = let rest = once gs (AllPairs-tail (λ g h. g ≢ h) g gs differ) h in let others = none_there g gs (AllPairs-head (λ g h. g ≢ h) g gs differ) in let first : sum_by (is_one g) (g ∷ gs) ≤ 1 = grind (arith, common_steps, sum_by-cons, one_itself g) in search (rules, sum_by-cons, same_or_none)
+once (g ∷ gs) differ h =
+    let rest = once gs (AllPairs-tail (λ g h. g ≢ h) g gs differ) h in
+    let others = none_there g gs (AllPairs-head (λ g h. g ≢ h) g gs differ) in
+    let first : sum_by (is_one g) (g ∷ gs) ≤ 1 = grind (arith, common_steps, sum_by-cons, one_itself g) in
+    search (rules, sum_by-cons, same_or_none)
 
 -- and the other way around
 differ_if_once : (gs : List Handle) → ((h : Handle) → sum_by (is_one h) gs ≤ 1) → Differ gs
 differ_if_once [] few = λ i j d lt within. absurd (omega arith)
-differ_if_once (g ∷ gs) few =
-    AllPairs-cons (λ g h. g ≢ h) g gs
-    (λ i d lt same.
-    let there = counted g gs (subst (Contains gs) (sym same) (All-contains_itself gs i d lt)) in
-    grind (arith, common_steps, sum_by-cons, one_itself g, few g))
+differ_if_once (g ∷ gs) few = AllPairs-cons (λ g h. g ≢ h) g gs
+    (λ i d lt same. let there = counted g gs (subst (Contains gs) (sym same) (All-contains_itself gs i d lt)) in grind
+    (arith, common_steps, sum_by-cons, one_itself g, few g))
     (differ_if_once gs (λ h. grind (arith, common_steps, sum_by-cons, few h)))
 
 -- a handle is in replies as often as in the lists of their handles
@@ -74,14 +74,9 @@ in_replies h [] = refl
 in_replies h (c ∷ cs) = search (rules, sum_by-append, sum_by-cons, in_replies h cs)
 
 -- what these records were given differs if what all were given does
-pub some_differ : (records : List Record) (log : List Reservation)
-    → ((f : Reservation → ℕ) → weigh f records ≤ sum_by f log) → Differ (handles_of log)
-    → Differ (handles_of (own_of_all records))
-some_differ records log some differ = differ_if_once _ (λ h.
-    let here = in_replies h (own_of_all records) in
-    let all = in_replies h log in
-    let less = some (λ c. sum_by (is_one h) (handles_in c.reply)) in
-    let few = once (handles_of log) differ h in
-    let apart = sum_by-flat_map (λ (r : Record). own_reservations r.entries)
-    (λ (c : Reservation). sum_by (is_one h) (handles_in c.reply)) records in
-    omega arith)
+pub some_differ : (records : List Record) (log : List Reservation) → ((f : Reservation → ℕ) → weigh f records ≤ sum_by f
+    log) → Differ (handles_of log) → Differ (handles_of (own_of_all records))
+some_differ records log some differ = differ_if_once _ (λ h. let here = in_replies h (own_of_all records) in let all =
+    in_replies h log in let less = some (λ c. sum_by (is_one h) (handles_in c.reply)) in let few = once (handles_of log)
+    differ h in let apart = sum_by-flat_map (λ (r : Record). own_reservations r.entries)
+    (λ (c : Reservation). sum_by (is_one h) (handles_in c.reply)) records in omega arith)

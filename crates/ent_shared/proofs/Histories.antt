@@ -3,11 +3,9 @@
 use Rattle.std.proofs.lemmas.Grind.{common_steps}
 use Rattle.std.proofs.lemmas.List.{get_or_default}
 use Rattle.std.specs.List.{AllPairs, sum_by, All, Contains}
-use Rattle.std.proofs.Common.{rules, ◌≡◌, ℕ, suc, ◌<◌, ⊎_elim, ℤ, ◌≤ℤ◌, ◌<ℤ◌, List, [], ◌∷◌}
-use Rattle.std.proofs.Common.{length, get_or, refl, sym, ap, ◌∙◌, arith}
+use Rattle.std.proofs.Common.{rules, ◌≡◌, ℕ, suc, ◌<◌, ⊎_elim, ℤ, ◌≤ℤ◌, ◌<ℤ◌, List, [], ◌∷◌, length, get_or, refl, sym, ap, ◌∙◌, arith}
 use Rattle.std.specs.Prelude.{Bool, true, false, cond, ◌==◌}
-use Rattle.std.proofs.lemmas.List.Elements.{All-weaker, All-contains, All-contains_itself}
-use Rattle.std.proofs.lemmas.List.Elements.{All-filter}
+use Rattle.std.proofs.lemmas.List.Elements.{All-weaker, All-contains, All-contains_itself, All-filter}
 use Rattle.std.proofs.lemmas.List.Sums.{sum_by-cons}
 use Rattle.std.proofs.lemmas.Option.{slice_get-get_or}
 use Rattle.std.proofs.lemmas.Int.{ints}
@@ -18,15 +16,12 @@ use Rattle.ent_shared.specs.declared.record.RecordEntry.TheVariants.{Own, Met}
 use Rattle.ent_shared.specs.declared.record.Record.{Record}
 use Rattle.ent_shared.specs.Record.{low, reservations_in, own_reservations, known_reservations}
 use Rattle.ent_shared.specs.Rule.{InOrder, IsKept, IsClosed}
-use Rattle.ent_shared.specs.Order.{own_of_all, reservations_of, reservations_by, StandsBefore}
-use Rattle.ent_shared.specs.Order.{FollowsEntries, Respects}
+use Rattle.ent_shared.specs.Order.{own_of_all, reservations_of, reservations_by, StandsBefore, FollowsEntries, Respects}
 use Rattle.ent_alloc.proofs.ListLaws.{All-left, All-right}
 use Rattle.ent_shared.proofs.Weighing.{sum_by-flat_map, All-flat_map}
 use Rattle.ent_shared.proofs.Records.{all_own}
 use Rattle.ent_shared.proofs.Callers.{only, sum_by_caller, own_by_caller, of_number, one_of_number}
-use Rattle.ent_shared.proofs.Sorting.{contains_cases, Falls, FallsStrictly, WeighSame, all_sorted}
-use Rattle.ent_shared.proofs.Sorting.{sum_sorted, falls_sorted, same_fall, follow_falls}
-use Rattle.ent_shared.proofs.Sorting.{follow_requests}
+use Rattle.ent_shared.proofs.Sorting.{contains_cases, Falls, FallsStrictly, WeighSame, all_sorted, sum_sorted, falls_sorted, same_fall, follow_falls, follow_requests}
 
 -- a record's own calls
 abbrev own_calls : Record → List Reservation
@@ -39,70 +34,78 @@ reservations_are start count records at k whole =
     let inside = All-flat_map own_calls (Contains k.log) records
     (λ i d lt. all_own (Contains k.log) (get_or records i d).entries (k.each i d lt).marks.known) in
     same_fall (reservations_of records) k.log (falls_sorted (own_of_all records))
-    (follow_falls (cursor start) k.log at k.follow)
-    (all_sorted (Contains k.log) (own_of_all records) inside)
+    (follow_falls (cursor start) k.log at k.follow) (all_sorted (Contains k.log) (own_of_all records) inside)
     (λ f. search (rules, sum_sorted, sum_by-flat_map, k.all whole f))
 
 -- of two reservations of a list that falls the later one is lower
-pub falls_apart : (cs : List Reservation) → FallsStrictly cs
-    → AllPairs (λ earlier later. later.high <ℤ earlier.high) cs
+pub falls_apart : (cs : List Reservation) → FallsStrictly cs → AllPairs (λ earlier later. later.high <ℤ earlier.high) cs
 falls_apart [] falls = λ i j d lt within. absurd (omega arith)
 falls_apart (c ∷ cs) falls = grind (arith, common_steps, falls_apart cs falls.1)
 
-stands : (cs : List Reservation) (earlier later : Reservation) → FallsStrictly cs
-    → Contains cs earlier → Contains cs later → later.high <ℤ earlier.high
-    → StandsBefore cs earlier later
-stands cs earlier later falls (i, i_in, i_is) (j, j_in, j_is) lower = let at_j = get_or_default cs j earlier later j_in in let pairs = falls_apart cs falls j i earlier in search (rules, slice_get-get_or)
+stands : (cs : List Reservation) (earlier later : Reservation) → FallsStrictly cs → Contains cs earlier
+    → Contains cs later → later.high <ℤ earlier.high → StandsBefore cs earlier later
+stands cs earlier later falls (i, i_in, i_is) (j, j_in, j_is) lower =
+    let at_j = get_or_default cs j earlier later j_in in
+    let pairs = falls_apart cs falls j i earlier in
+    search (rules, slice_get-get_or)
 
 after_one : (cs before : List Reservation) (later : Reservation) → FallsStrictly cs
     → All (λ (c : Reservation). 0 < c.requested) cs → All (Contains cs) before → Contains cs later
-    → All (λ (earlier : Reservation). later.high ≤ℤ low earlier) before
-    → All (λ (earlier : Reservation). StandsBefore cs earlier later) before
-after_one cs before later falls requests in_before in_later order i d lt = let x : Reservation = get_or before i d in let inside = in_before i d lt in let some_request = All-contains (λ (c : Reservation). 0 < c.requested) cs x requests inside in let le = order i d lt in search (rules, stands)
+    → All (λ (earlier : Reservation). later.high ≤ℤ low earlier) before → All (λ (earlier : Reservation). StandsBefore
+    cs earlier later) before
+after_one cs before later falls requests in_before in_later order i d lt =
+    let x : Reservation = get_or before i d in
+    let inside = in_before i d lt in
+    let some_request = All-contains (λ (c : Reservation). 0 < c.requested) cs x requests inside in
+    let le = order i d lt in
+    search (rules, stands)
 
 -- what a record knew before its own calls stands before them
 follows : (cs : List Reservation) (es : List RecordEntry) → FallsStrictly cs
-    → All (λ (c : Reservation). 0 < c.requested) cs → All (Contains cs) (known_reservations es)
-    → InOrder es → FollowsEntries cs es
+    → All (λ (c : Reservation). 0 < c.requested) cs → All (Contains cs) (known_reservations es) → InOrder es
+    → FollowsEntries cs es
 follows cs [] falls requests known order = tt
-follows cs (e ∷ es) falls requests known order = let rest = All-right (Contains cs) (reservations_in e) (known_reservations es) known in let more = follows cs es falls requests rest order.1 in let before = All-left (Contains cs) (reservations_in e) (known_reservations es) known in let after = all_own (Contains cs) es rest in search (rules, after_one)
+follows cs (e ∷ es) falls requests known order =
+    let rest = All-right (Contains cs) (reservations_in e) (known_reservations es) known in
+    let more = follows cs es falls requests rest order.1 in
+    let before = All-left (Contains cs) (reservations_in e) (known_reservations es) known in
+    let after = all_own (Contains cs) es rest in
+    search (rules, after_one)
 
 -- a record's own calls fall
-own_fall : (es : List RecordEntry) → All (λ (c : Reservation). 0 < c.requested)
-    (own_reservations es) → InOrder es → Falls (own_reservations es)
+own_fall : (es : List RecordEntry) → All (λ (c : Reservation). 0 < c.requested) (own_reservations es) → InOrder es
+    → Falls (own_reservations es)
 own_fall [] requests order = tt
 own_fall (Met cs ∷ es) requests order = own_fall es requests order.1
-own_fall (Own c ∷ es) requests order = let rest = own_fall es (λ i d lt. requests (suc i) d (omega arith)) order.1 in (λ i d lt. let le = order.0 i d lt 0 d (omega arith) in omega (arith, ints), rest)
+own_fall (Own c ∷ es) requests order =
+    let rest = own_fall es (λ i d lt. requests (suc i) d (omega arith)) order.1 in
+    (λ i d lt. let le = order.0 i d lt 0 d (omega arith) in omega (arith, ints), rest)
 
-strictly_by : (caller : ℕ) (cs : List Reservation) → FallsStrictly cs
-    → FallsStrictly (reservations_by caller cs)
+strictly_by : (caller : ℕ) (cs : List Reservation) → FallsStrictly cs → FallsStrictly (reservations_by caller cs)
 strictly_by caller [] falls = tt
 strictly_by caller (c ∷ cs) falls =
     let rest = strictly_by caller cs falls.1 in
-    let here = All-filter (λ (d : Reservation). d.caller == caller)
-    (λ (d : Reservation). d.high <ℤ c.high) cs falls.0 in
+    let here = All-filter (λ (d : Reservation). d.caller == caller) (λ (d : Reservation). d.high <ℤ c.high) cs
+    falls.0 in
     search (rules, here, rest)
 
-contains_by : (caller : ℕ) (cs : List Reservation) (c : Reservation) → Contains cs c → c.caller
-    ≡ caller → Contains (reservations_by caller cs) c
+contains_by : (caller : ℕ) (cs : List Reservation) (c : Reservation) → Contains cs c → c.caller ≡ caller
+    → Contains (reservations_by caller cs) c
 contains_by caller [] c inside is = absurd (omega arith)
 contains_by caller (d ∷ cs) c inside is =
-    let goal : Bool → Type 0 = λ b.
-    Contains (cond b (d ∷ reservations_by caller cs) (reservations_by caller cs)) c in
-    ⊎_elim (search (rules, goal)) (λ (behind : Contains cs c).
-    let rest = contains_by caller cs c behind is in
-    elim (d.caller == caller) as goal [ true ↦ (suc rest.0, omega arith, rest.2) | false ↦ rest ])
+    let goal : Bool → Type 0 = λ b. Contains (cond b (d ∷ reservations_by caller cs) (reservations_by caller cs)) c in
+    ⊎_elim (search (rules, goal)) (λ (behind : Contains cs c). let rest = contains_by caller cs c behind is in elim
+    (d.caller == caller) as goal [ true ↦ (suc rest.0, omega arith, rest.2) | false ↦ rest ])
     (contains_cases d cs c inside)
 
-sum_same : (g h : Record → ℕ) (rs : List Record) → All (λ (r : Record). g r ≡ h r) rs → sum_by g rs
-    ≡ sum_by h rs
+sum_same : (g h : Record → ℕ) (rs : List Record) → All (λ (r : Record). g r ≡ h r) rs → sum_by g rs ≡ sum_by h rs
 sum_same g h [] all = refl
 sum_same g h (r ∷ rs) all =
     let rest = sum_same g h rs (λ i d lt. all (suc i) d (omega arith)) in
     search (rules, sum_by-cons, all 0 r (omega arith))
 
-module _ (start : Allocator) (count : ℕ) (records : List Record) (at : ℤ)
-    (k : IsClosed start count records at) (whole : length records ≡ count) where
+module _ (start : Allocator) (count : ℕ) (records : List Record) (at : ℤ) (k : IsClosed start count records at)
+    (whole : length records ≡ count) where
   respects_one : (r : Record) → Contains records r → Respects (reservations_of records) r
   respects_one r inside =
       let log : List Reservation = k.log in
@@ -112,18 +115,17 @@ module _ (start : Allocator) (count : ℕ) (records : List Record) (at : ℤ)
       let falls = follow_falls (cursor start) log at k.follow in
       let requests = follow_requests (cursor start) log at k.follow in
       let own_in = all_own (Contains log) r.entries kept.marks.known in
-      let own_requests : All (λ (c : Reservation). 0 < c.requested) own = λ i c lt.
-      All-contains (λ (d : Reservation). 0 < d.requested) log _ requests (own_in i c lt) in
-      let weighs : WeighSame own (reservations_by r.number log) = λ f.
-      let g : Record → ℕ = λ (x : Record). sum_by f (own_reservations x.entries) in
-      let h : Record → ℕ = λ (x : Record). sum_by (only r.number f) (own_reservations x.entries) in
-      let parted : sum_by h records ≡ sum_by (of_number r.number g) records =
-      search (rules, sum_same, of_number, All-weaker, own_by_caller) in
-      let alone = one_of_number r.number g records r (k.numbers r.number) inside refl in
-      search (rules, only, sum_by_caller) in
-      let same = same_fall own (reservations_by r.number log)
-      (own_fall r.entries own_requests kept.marks.order) (strictly_by r.number log falls)
-      (λ i c lt. contains_by r.number log _ (own_in i c lt) (kept.caller i c lt)) weighs in
+      let own_requests : All (λ (c : Reservation). 0 < c.requested) own = λ i c lt. All-contains
+      (λ (d : Reservation). 0 < d.requested) log _ requests (own_in i c lt) in
+      let weighs : WeighSame own (reservations_by r.number log) = λ f. let g : Record
+      → ℕ = λ (x : Record). sum_by f (own_reservations x.entries) in let h : Record
+      → ℕ = λ (x : Record). sum_by (only r.number f) (own_reservations x.entries) in let parted : sum_by h records
+      ≡ sum_by (of_number r.number g) records = search (rules, sum_same, of_number, All-weaker, own_by_caller) in let
+      alone = one_of_number r.number g records r (k.numbers r.number) inside refl in search
+      (rules, only, sum_by_caller) in
+      let same = same_fall own (reservations_by r.number log) (own_fall r.entries own_requests kept.marks.order)
+      (strictly_by r.number log falls) (λ i c lt. contains_by r.number log _ (own_in i c lt) (kept.caller i c lt))
+      weighs in
       record {
         own = ap (reservations_by r.number) is ∙ sym same;
         after = rw is (follows log r.entries falls requests kept.marks.known kept.marks.order);

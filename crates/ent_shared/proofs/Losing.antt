@@ -1,15 +1,11 @@
 -- The end of a phase where some reservers are lost: the front of the pool counts as reserved.
 use Rattle.std.proofs.lemmas.Bool.{cases_eq}
-use Rattle.std.proofs.Common.{rules, ◌≡◌, ℕ, ◌+◌, ◌-◌, ◌*◌, ◌^◌, ◌<◌, ◌≤◌, ℤ, pos, ◌+ℤ◌, ◌-ℤ◌, ◌≤ℤ◌}
-use Rattle.std.proofs.Common.{get_or, List, [], ◌∷◌, length, take, drop, sym, ap, subst, ◌∙◌, arith}
-use Rattle.std.proofs.Common.{All, AllPairs, Contains, ◌⊎◌, ◌≢◌, neg_ℤ, zero-add, refl, map, Ok, Err}
+use Rattle.std.proofs.Common.{rules, ◌≡◌, ℕ, ◌+◌, ◌-◌, ◌*◌, ◌^◌, ◌<◌, ◌≤◌, ℤ, pos, ◌+ℤ◌, ◌-ℤ◌, ◌≤ℤ◌, get_or, List, [], ◌∷◌, length, take, drop, sym, ap, subst, ◌∙◌, arith, All, AllPairs, Contains, ◌⊎◌, ◌≢◌, neg_ℤ, zero-add, refl, map, Ok, Err}
 use Rattle.std.proofs.lemmas.Grind.{common_steps}
 use Rattle.std.specs.Prelude.{Result, Bool, true, false, cond, nat_le}
 use Rattle.std.specs.List.{sum_by}
-use Rattle.std.proofs.lemmas.List.{drop-take, take-take, take_all, drop_all, length-take}
-use Rattle.std.proofs.lemmas.List.{take-append-drop}
-use Rattle.std.proofs.lemmas.List.Elements.{All-head, All-tail, All-nil, All-append, All-take}
-use Rattle.std.proofs.lemmas.List.Elements.{All-drop, All-contains, All-contains_itself}
+use Rattle.std.proofs.lemmas.List.{drop-take, take-take, take_all, drop_all, length-take, take-append-drop}
+use Rattle.std.proofs.lemmas.List.Elements.{All-head, All-tail, All-nil, All-append, All-take, All-drop, All-contains, All-contains_itself}
 use Rattle.std.proofs.lemmas.List.Sorted.{All-permutation}
 use Rattle.std.specs.Int.{int_max}
 use Rattle.std.proofs.lemmas.Int.{ints}
@@ -19,8 +15,7 @@ use Rattle.ent_handle.specs.Handle.{Handle}
 use Rattle.ent_alloc.specs.declared.space.Space.{Space}
 use Rattle.ent_alloc.specs.Entities.{Entities}
 use Rattle.ent_alloc.specs.Limits.{quota}
-use Rattle.ent_alloc.specs.Sequential.{Allocator, available, cursor, top, asked_at, pool_at, listed}
-use Rattle.ent_alloc.specs.Sequential.{settled}
+use Rattle.ent_alloc.specs.Sequential.{Allocator, available, cursor, top, asked_at, pool_at, listed, settled}
 use Rattle.ent_alloc.specs.Sound.{IsSound, IsLive}
 use Rattle.ent_alloc.specs.History as history
 use Rattle.ent_alloc.proofs.Taken.{length-available}
@@ -42,8 +37,8 @@ use Rattle.ent_shared.proofs.GivenApart.{some_differ}
 use Rattle.ent_shared.proofs.Settling.{IsLater, legal_from}
 
 -- what lies inside the front of a list is in it
-front_contains : (xs : List Handle) (k n asked : ℕ) → k + n ≤ asked → All (Contains (take asked xs))
-    (take n (drop k xs))
+front_contains : (xs : List Handle) (k n asked : ℕ) → k + n ≤ asked
+    → All (Contains (take asked xs)) (take n (drop k xs))
 front_contains xs k n asked le =
     let P : Handle → Type 0 = Contains (take asked xs) in
     let all = All-take P (k + n) (take asked xs) (All-contains_itself (take asked xs)) in
@@ -52,22 +47,21 @@ front_contains xs k n asked le =
 
 -- the handles of a call are in the front that reaches as far
 reservation_contains : (start : Allocator) (c : Reservation) (asked : ℕ) → HasItsReply start c
-    → asked_at (top start) c.high + c.requested ≤ asked
-    → All (Contains (take asked (available start))) (history.handles_in c.reply)
+    → asked_at (top start) c.high + c.requested ≤ asked → All (Contains (take asked (available start)))
+    (history.handles_in c.reply)
 reservation_contains start c asked replied le =
     let pool : List Handle = pool_at start c.high in
     let given : List Handle = listed start.made (take c.requested pool) in
     let P : Handle → Type 0 = Contains (take asked (available start)) in
-    let all = All-permutation P (take c.requested pool) given
-    (listed-IsPermutation start.made (take c.requested pool))
+    let all = All-permutation P (take c.requested pool) given (listed-IsPermutation start.made (take c.requested pool))
     (front_contains (available start) (asked_at (top start) c.high) c.requested asked le) in
-    let goal : Bool → Type 0 = λ b. All P (history.handles_in (cond {A = Result (List Handle) Space}
-    b (Ok given) (Err (record { wanted = c.requested; left = length pool })))) in
+    let goal : Bool → Type 0 = λ b. All P (history.handles_in (cond {A = Result (List Handle) Space} b (Ok given)
+    (Err (record { wanted = c.requested; left = length pool })))) in
     rw replied (elim (nat_le c.requested (length pool)) as goal [ true ↦ all | false ↦ All-nil P ])
 
-reservations_contain : (start : Allocator) (asked : ℕ) (cs : List Reservation)
-    → All (HasItsReply start) cs → All (λ (c : Reservation). asked_at (top start) c.high
-    + c.requested ≤ asked) cs → All (Contains (take asked (available start))) (handles_of cs)
+reservations_contain : (start : Allocator) (asked : ℕ) (cs : List Reservation) → All (HasItsReply start) cs
+    → All (λ (c : Reservation). asked_at (top start) c.high + c.requested ≤ asked) cs
+    → All (Contains (take asked (available start))) (handles_of cs)
 reservations_contain start asked [] replied within = search (rules, All-nil)
 reservations_contain start asked (c ∷ cs) replied within =
     let here = reservation_contains start c asked in
@@ -77,11 +71,10 @@ reservations_contain start asked (c ∷ cs) replied within =
 -- each call lies between the top and the cursor
 reservations_within : (start : Allocator) (high : ℤ) (cs : List Reservation) (end : ℤ) (asked : ℕ)
     → high ≤ℤ pos (top start) → pos (top start) ≡ end +ℤ pos asked → Follow high cs end
-    → All (λ (c : Reservation). asked_at (top start) c.high + c.requested ≤ asked) cs
-    × (end ≤ℤ high)
+    → All (λ (c : Reservation). asked_at (top start) c.high + c.requested ≤ asked) cs × (end ≤ℤ high)
 reservations_within start high [] end asked up is f = grind (arith, common_steps)
-reservations_within start high (c ∷ cs) end asked up is f =
-    grind (arith, common_steps, reservations_within start (low c) cs end asked (omega (arith, ints)) is f.2)
+reservations_within start high (c ∷ cs) end asked up is f = grind
+    (arith, common_steps, reservations_within start (low c) cs end asked (omega (arith, ints)) is f.2)
 
 -- what the closing call with lost reservers owes and gives
 pub record Lost (here start : Allocator) (count : ℕ) (records : List Record) (at floor : ℤ) : Type 0
@@ -113,8 +106,7 @@ module _ (start : Allocator) (sound : IsSound start) (flushed : start.asked ≡ 
 
   loss_is : (given asked : ℕ) → given ≤ asked → (given ≡ asked) ⊎ (given ≡ length start.pool)
       → settled start given asked ≡ after_loss start asked
-  loss_is given asked le which = search
-      (rules, flushed-laid_out, take_all, length-take, drop_all, zero-add)
+  loss_is given asked le which = search (rules, flushed-laid_out, take_all, length-take, drop_all, zero-add)
 
   -- none of the pool is alive
   pool_not_live : All (λ h. ¬ (IsLive start h)) start.pool
@@ -124,19 +116,66 @@ module _ (start : Allocator) (sound : IsSound start) (flushed : start.asked ≡ 
   cursor-loss : (asked : ℕ) → cursor (after_loss start asked) ≡ cursor start -ℤ pos asked
   cursor-loss asked = search (rules, take-append-drop, all_pool, ints)
 
-  lost_at : (count : ℕ) (records : List Record) (at floor : ℤ) → count ≤ 1024
-      → IsClosed start count records at
-      → floor ≡ int_max at (neg_ℤ (pos (start.limits.slots - start.made)))
-      → Lost start start count records at floor
-  lost_at count records at floor few k is = let asked : ℕ = sum_by requested k.log in let all = asked_in_all start count records at k sound flushed in let below = cursor_greatest start count records at k sound flushed in let within : pos (top start) ≡ at +ℤ pos asked = omega (arith, ints) in let pool = length_pool in let floor_in : floor ≤ℤ pos (top start) = grind (arith, ints) in let a = asked_at-is (top start) at below in let g = asked_at-is (top start) floor floor_in in let given : ℕ = asked_at (top start) floor in let asked_is : asked_at (top start) at ≡ asked = omega (arith, ints) in let some : ¬ (given ≡ asked) → given ≡ length start.pool = grind (arith, ints) in let cases : (given ≡ asked) ⊎ (given ≡ length start.pool) = search (rules, cases_eq, some) in let W : Reservation → Type 0 = λ (c : Reservation). asked_at (top start) c.high + c.requested ≤ asked in let log_within : All W k.log = (reservations_within start (cursor start) k.log at asked (omega (arith, ints)) within k.follow).0 in let left = cursor-loss asked in record { asked = asked; some_asked = k.some requested; all_asked = λ all_here. k.all all_here requested; most_asked = k.quota; reached = λ i d lt. let mark = (k.each i d lt).marks.mark in omega (arith, ints); whole = λ all_here. let other = final_cursor start count records at k sound flushed all_here in omega (arith, ints); least = cursor_least start count records at k sound flushed few; greatest = floor_in; all_given = λ room. grind (arith, ints); after = search (rules, loss_is); given = λ i d lt. let own = all_own (Contains k.log) (get_or records i d).entries (k.each i d lt).marks.known in rw (sym all_pool) (reservations_contain start asked _ (λ j c l. All-contains (HasItsReply start) k.log _ k.replied (own j c l)) (λ j c l. All-contains W k.log _ log_within (own j c l))); none_live = All-take (λ h. ¬ (IsLive start h)) asked start.pool pool_not_live; distinct = let itself : IsLater start start = record { sound = sound; available_is = refl; made_is = refl } in some_differ records k.log k.some (given_in-distinct start (map as_call k.log) sound (legal_from start start k.log at itself k.follow k.replied)) }
+  lost_at : (count : ℕ) (records : List Record) (at floor : ℤ) → count ≤ 1024 → IsClosed start count records at
+      → floor ≡ int_max at (neg_ℤ (pos (start.limits.slots - start.made))) → Lost start start count records at floor
+  lost_at count records at floor few k is =
+      let asked : ℕ = sum_by requested k.log in
+      let all = asked_in_all start count records at k sound flushed in
+      let below = cursor_greatest start count records at k sound flushed in
+      let within : pos (top start) ≡ at +ℤ pos asked = omega (arith, ints) in
+      let pool = length_pool in
+      let floor_in : floor ≤ℤ pos (top start) = grind (arith, ints) in
+      let a = asked_at-is (top start) at below in
+      let g = asked_at-is (top start) floor floor_in in
+      let given : ℕ = asked_at (top start) floor in
+      let asked_is : asked_at (top start) at ≡ asked = omega (arith, ints) in
+      let some : ¬ (given ≡ asked) → given ≡ length start.pool = grind (arith, ints) in
+      let cases : (given ≡ asked) ⊎ (given ≡ length start.pool) = search (rules, cases_eq, some) in
+      let W : Reservation → Type 0 = λ (c : Reservation). asked_at (top start) c.high + c.requested ≤ asked in
+      let log_within : All W k.log = (reservations_within start (cursor start) k.log at asked (omega (arith, ints))
+      within k.follow).0 in
+      let left = cursor-loss asked in
+      record {
+        asked = asked;
+        some_asked = k.some requested;
+        all_asked = λ all_here. k.all all_here requested;
+        most_asked = k.quota;
+        reached = λ i d lt. let mark = (k.each i d lt).marks.mark in omega (arith, ints);
+        whole = λ all_here. let other = final_cursor start count records at k sound flushed all_here in omega
+            (arith, ints);
+        least = cursor_least start count records at k sound flushed few;
+        greatest = floor_in;
+        all_given = λ room. grind (arith, ints);
+        after = search (rules, loss_is);
+        given = λ i d lt. let own = all_own (Contains k.log) (get_or records i d).entries (k.each i d lt).marks.known in
+            rw (sym all_pool) (reservations_contain start asked _ (λ j c l. All-contains (HasItsReply start) k.log _
+            k.replied (own j c l)) (λ j c l. All-contains W k.log _ log_within (own j c l)));
+        none_live = All-take (λ h. ¬ (IsLive start h)) asked start.pool pool_not_live;
+        distinct =
+            let itself : IsLater start start = record { sound = sound; available_is = refl; made_is = refl } in
+            some_differ records k.log k.some (given_in-distinct start (map as_call k.log) sound
+            (legal_from start start k.log at itself k.follow k.replied));
+      }
 
-pub lost : (entities : Entities) (start : Allocator) (n count room : ℕ) (key : Opening)
-    (records : List Record) (at floor roomed : ℤ) → IsStart entities.allocator
-    → IsSound entities.allocator → n ≤ 1024 → key ≡ record { entities = entities; count = n }
-    → entities.allocator ≡ start → n ≡ count → IsClosed key.entities.allocator key.count records at
-    → room ≡ entities.allocator.limits.slots - entities.allocator.made → room < 2 ^ 32
-    → roomed ≡ pos room → floor ≡ int_max (to_z w64 (of_z w64 at))
-    (to_z w64 (of_z w64 (pos 0 -ℤ to_z w64 (of_z w64 roomed))))
-    → Lost entities.allocator start count records (to_z w64 (of_z w64 at))
-    (to_z w64 (of_z w64 floor))
-lost entities start n count room key records at floor roomed begins sound few key_is here_is n_is closed room_is room_small roomed_is floor_is = let here : Allocator = entities.allocator in let small = begins.top in let flushed = begins.flushed in let k : IsClosed here n records at = subst (λ (o : Opening). IsClosed o.entities.allocator o.count records at) key_is closed in let least = cursor_least here n records at k sound flushed few in let greatest = cursor_greatest here n records at k sound flushed in let at_word : to_z w64 (of_z w64 at) ≡ at = omega (arith, ints) in let end_word : to_z w64 (of_z w64 (pos 0 -ℤ to_z w64 (of_z w64 roomed))) ≡ neg_ℤ (pos (here.limits.slots - here.made)) = omega (arith, ints) in let max_is = floor_is ∙ (λ i. int_max (at_word i) (end_word i)) in let floor_word : to_z w64 (of_z w64 floor) ≡ floor = grind (arith, ints) in search (rules, lost_at)
+pub lost : (entities : Entities) (start : Allocator) (n count room : ℕ) (key : Opening) (records : List Record)
+    (at floor roomed : ℤ) → IsStart entities.allocator → IsSound entities.allocator → n ≤ 1024
+    → key ≡ record { entities = entities; count = n } → entities.allocator ≡ start → n ≡ count
+    → IsClosed key.entities.allocator key.count records at
+    → room ≡ entities.allocator.limits.slots - entities.allocator.made → room < 2 ^ 32 → roomed ≡ pos room
+    → floor ≡ int_max (to_z w64 (of_z w64 at)) (to_z w64 (of_z w64 (pos 0 -ℤ to_z w64 (of_z w64 roomed))))
+    → Lost entities.allocator start count records (to_z w64 (of_z w64 at)) (to_z w64 (of_z w64 floor))
+lost entities start n count room key records at floor roomed begins sound few key_is here_is n_is closed room_is
+    room_small roomed_is floor_is =
+    let here : Allocator = entities.allocator in
+    let small = begins.top in
+    let flushed = begins.flushed in
+    let k : IsClosed here n records at = subst (λ (o : Opening). IsClosed o.entities.allocator o.count records at)
+    key_is closed in
+    let least = cursor_least here n records at k sound flushed few in
+    let greatest = cursor_greatest here n records at k sound flushed in
+    let at_word : to_z w64 (of_z w64 at) ≡ at = omega (arith, ints) in
+    let end_word : to_z w64 (of_z w64 (pos 0 -ℤ to_z w64 (of_z w64 roomed)))
+    ≡ neg_ℤ (pos (here.limits.slots - here.made)) = omega (arith, ints) in
+    let max_is = floor_is ∙ (λ i. int_max (at_word i) (end_word i)) in
+    let floor_word : to_z w64 (of_z w64 floor) ≡ floor = grind (arith, ints) in
+    search (rules, lost_at)

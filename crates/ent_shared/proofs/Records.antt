@@ -1,12 +1,10 @@
 -- What a reservation and a meeting add to a record.
-use Rattle.std.proofs.Common.{rules, ◌≡◌, ℕ, ◌+◌, ◌≤◌, ℤ, pos, ◌-ℤ◌, ◌≤ℤ◌, List, [], ◌∷◌, ◌++◌}
-use Rattle.std.proofs.Common.{length, sym, refl, ap, subst, ◌∙◌, arith, append-nil, add-zero}
+use Rattle.std.proofs.Common.{rules, ◌≡◌, ℕ, ◌+◌, ◌≤◌, ℤ, pos, ◌-ℤ◌, ◌≤ℤ◌, List, [], ◌∷◌, ◌++◌, length, sym, refl, ap, subst, ◌∙◌, arith, append-nil, add-zero}
 use Rattle.std.proofs.lemmas.Grind.{common_steps}
 use Rattle.std.specs.Prelude.{nat_le, cond, Bool, true, false}
 use Rattle.std.specs.List.{All, Contains}
 use Rattle.std.specs.Int.{int_min}
-use Rattle.std.proofs.lemmas.List.Elements.{All-head, All-tail, All-nil, All-cons, All-append}
-use Rattle.std.proofs.lemmas.List.Elements.{All-weaker, Contains-append_left, Contains-push}
+use Rattle.std.proofs.lemmas.List.Elements.{All-head, All-tail, All-nil, All-cons, All-append, All-weaker, Contains-append_left, Contains-push}
 use Rattle.std.proofs.lemmas.List.Sums.{sum_by-cons, sum_by-append}
 use Rattle.std.proofs.lemmas.Int.{ints, int_min_is}
 use Rattle.ent_shared.proofs.Weighing.{all_one}
@@ -17,58 +15,54 @@ use Rattle.ent_shared.specs.declared.record.RecordEntry.{RecordEntry}
 use Rattle.ent_shared.specs.declared.record.RecordEntry.TheVariants.{Own, Met}
 use Rattle.ent_shared.specs.declared.record.Record.{Record}
 use Rattle.ent_alloc.specs.Limits.{quota}
-use Rattle.ent_shared.specs.Record.{low, reservations_in, own_reservations, known_reservations}
-use Rattle.ent_shared.specs.Record.{requested_by, reservation_at, after_reservation}
+use Rattle.ent_shared.specs.Record.{low, reservations_in, own_reservations, known_reservations, requested_by, reservation_at, after_reservation}
 use Rattle.ent_shared.specs.Moves.{after_meeting}
 use Rattle.ent_shared.specs.Rule.{floor_after, floor_of, InOrder, IsKept}
 
-pub own-made : (es : List RecordEntry) (c : Reservation) → own_reservations (es ++ Own c ∷ [])
-    ≡ own_reservations es ++ c ∷ []
+pub own-made : (es : List RecordEntry) (c : Reservation) → own_reservations (es ++ Own c ∷ []) ≡ own_reservations es
+    ++ c ∷ []
 own-made [] c = refl
 own-made (Own d ∷ es) c = ap (λ ds. d ∷ ds) (own-made es c)
 own-made (Met ds ∷ es) c = own-made es c
 
-pub own-met : (es : List RecordEntry) (cs : List Reservation) → own_reservations (es ++ Met cs ∷ [])
-    ≡ own_reservations es
+pub own-met : (es : List RecordEntry) (cs : List Reservation) → own_reservations (es ++ Met cs ∷ []) ≡ own_reservations
+    es
 own-met [] cs = refl
 own-met (Own d ∷ es) cs = ap (λ ds. d ∷ ds) (own-met es cs)
 own-met (Met ds ∷ es) cs = own-met es cs
 
-pub known-more : (es : List RecordEntry) (e : RecordEntry) → known_reservations (es ++ e ∷ [])
-    ≡ known_reservations es ++ reservations_in e
+pub known-more : (es : List RecordEntry) (e : RecordEntry) → known_reservations (es ++ e ∷ []) ≡ known_reservations es
+    ++ reservations_in e
 known-more [] e = append-nil (reservations_in e)
 known-more (d ∷ es) e = grind (arith, common_steps, known-more es e)
 
 -- how much a reserver has requested after a reservation and after a meeting
-pub requested-reserved : (r : Record) (high : ℤ) (n : ℕ) → requested_by (after_reservation r high n)
-    ≡ requested_by r + n
+pub requested-reserved : (r : Record) (high : ℤ) (n : ℕ) → requested_by (after_reservation r high n) ≡ requested_by r
+    + n
 requested-reserved r high n = search (rules, sum_by-append, sum_by-cons, add-zero, own-made)
 
 pub requested-met : (r met : Record) → requested_by (after_meeting r met) ≡ requested_by r
 requested-met r met = search (rules, own-met)
 
-pub quota-reserved : (r : Record) (high : ℤ) (n : ℕ) → n ≤ r.left → r.left + requested_by r
-    ≡ quota → (after_reservation r high n).left + requested_by (after_reservation r high n)
-    ≡ quota
+pub quota-reserved : (r : Record) (high : ℤ) (n : ℕ) → n ≤ r.left → r.left + requested_by r ≡ quota
+    → (after_reservation r high n).left + requested_by (after_reservation r high n) ≡ quota
 quota-reserved r high n within adds_up = let more = requested-reserved r high n in omega arith
 
-pub quota-met : (r met : Record) → r.left + requested_by r ≡ quota → (after_meeting r met).left
-    + requested_by (after_meeting r met) ≡ quota
+pub quota-met : (r met : Record) → r.left + requested_by r ≡ quota
+    → (after_meeting r met).left + requested_by (after_meeting r met) ≡ quota
 quota-met r met adds_up = ap (λ (k : ℕ). r.left + k) (requested-met r met) ∙ adds_up
 
 -- own reservations are known
 pub all_own : (P : Reservation → Type 0) (es : List RecordEntry) → All P (known_reservations es)
     → All P (own_reservations es)
 all_own P [] all = All-nil P
-all_own P (Own c ∷ es) all = All-cons P c (own_reservations es)
-    (All-head P c (known_reservations es) all)
+all_own P (Own c ∷ es) all = All-cons P c (own_reservations es) (All-head P c (known_reservations es) all)
     (all_own P es (All-tail P c (known_reservations es) all))
 all_own P (Met cs ∷ es) all = all_own P es (All-right P cs (known_reservations es) all)
 
 -- a reservation after all others
 pub order-made : (es : List RecordEntry) (c : Reservation) → InOrder es
-    → All (λ (d : Reservation). c.high ≤ℤ low d) (known_reservations es)
-    → InOrder (es ++ Own c ∷ [])
+    → All (λ (d : Reservation). c.high ≤ℤ low d) (known_reservations es) → InOrder (es ++ Own c ∷ [])
 order-made [] c order below = search (rules, All-nil)
 order-made (e ∷ es) c order below =
     let P : Reservation → Type 0 = λ (d : Reservation). c.high ≤ℤ low d in
@@ -79,14 +73,12 @@ order-made (e ∷ es) c order below =
       order-made es c order.1 (All-right P (reservations_in e) (known_reservations es) below),
     )
 
-pub order-met : (es : List RecordEntry) (cs : List Reservation) → InOrder es
-    → InOrder (es ++ Met cs ∷ [])
+pub order-met : (es : List RecordEntry) (cs : List Reservation) → InOrder es → InOrder (es ++ Met cs ∷ [])
 order-met [] cs order = search (rules, All-nil)
 order-met (e ∷ es) cs order = search (rules, own-met, order-met es cs order.1)
 
 -- the least of a reservation that is lower than all others
-lower_first : (a b c : ℤ) (served : Bool) → b ≤ℤ a → int_min a (cond served b c)
-    ≡ cond served b (int_min a c)
+lower_first : (a b c : ℤ) (served : Bool) → b ≤ℤ a → int_min a (cond served b c) ≡ cond served b (int_min a c)
 lower_first a b c true le = grind (arith, ints)
 lower_first a b c false le = refl
 
@@ -96,45 +88,89 @@ least_after start at c le top = search (rules)
 
 pub floor-made : (start : Allocator) (cs : List Reservation) (c : Reservation)
     → All (λ (d : Reservation). low c ≤ℤ low d) cs → low c ≤ℤ cursor start
-    → floor_of start (cs ++ c ∷ []) ≡ cond (nat_le c.requested (length (pool_at start c.high)))
-    (low c) (floor_of start cs)
+    → floor_of start (cs ++ c ∷ []) ≡ cond (nat_le c.requested (length (pool_at start c.high))) (low c)
+    (floor_of start cs)
 floor-made start [] c below top = search (rules, ints)
 floor-made start (d ∷ cs) c below top =
     let P : Reservation → Type 0 = λ (e : Reservation). low c ≤ℤ low e in
     let rest = floor-made start cs c (All-tail P d cs below) top in
-    ap (int_min (floor_after start d)) rest
-    ∙ lower_first (floor_after start d) (low c) (floor_of start cs)
-    (nat_le c.requested (length (pool_at start c.high)))
-    (least_after start (low c) d (All-head P d cs below) top)
+    ap (int_min (floor_after start d)) rest ∙ lower_first (floor_after start d) (low c) (floor_of start cs)
+    (nat_le c.requested (length (pool_at start c.high))) (least_after start (low c) d (All-head P d cs below) top)
 
 -- a record stays kept while the cursor goes down and the log grows
-pub kept_on : (start : Allocator) (at now : ℤ) (log more : List Reservation) (r : Record)
-    → now ≤ℤ at → IsKept start at log r → IsKept start now (log ++ more) r
+pub kept_on : (start : Allocator) (at now : ℤ) (log more : List Reservation) (r : Record) → now ≤ℤ at
+    → IsKept start at log r → IsKept start now (log ++ more) r
 kept_on start at now log more r le k = search (rules, ints, All-weaker, Contains-append_left)
 
-pub kept_reserved : (start : Allocator) (at : ℤ) (log : List Reservation) (n : ℕ) (r : Record) → n
-    ≤ r.left → at ≤ℤ cursor start → IsKept start at log r
-    → IsKept start (at -ℤ pos n) (log ++ reservation_at r at n ∷ []) (after_reservation r at n)
-kept_reserved start at log n r within top k = let c : Reservation = reservation_at r at n in let es : List RecordEntry = r.entries in let own : List Reservation = own_reservations es in let mark = k.marks.mark in let P : Reservation → Type 0 = λ (d : Reservation). at ≤ℤ low d in let below : All P (known_reservations es) = All-weaker (λ (d : Reservation). r.mark ≤ℤ low d) P (λ d h. omega (arith, ints)) (known_reservations es) k.marks.below in let Q : Reservation → Type 0 = λ (d : Reservation). (at -ℤ pos n) ≤ℤ low d in let lower : All Q (known_reservations es) = All-weaker P Q (λ d h. omega (arith, ints)) (known_reservations es) below in record { start_is = k.start_is; caller = grind (arith, common_steps, own-made, All-append, all_one); quota = record { quota = quota-reserved r at n within k.quota.quota; floor = rw (own-made es c, floor-made start own c (all_own Q es lower) (omega (arith, ints))) (rw (k.start_is, k.quota.floor) refl) }; marks = record { mark = omega (arith, ints); below = subst (All Q) (sym (known-more es (Own c))) (All-append Q (known_reservations es) (c ∷ []) lower (all_one Q c (omega (arith, ints)))); order = order-made es c k.marks.order below; known = subst (All (Contains (log ++ c ∷ []))) (sym (known-more es (Own c))) (All-append (Contains (log ++ c ∷ [])) (known_reservations es) (c ∷ []) (All-weaker (Contains log) (Contains (log ++ c ∷ [])) (λ d h. Contains-append_left log (c ∷ []) d h) (known_reservations es) k.marks.known) (all_one (Contains (log ++ c ∷ [])) c (Contains-push log c))) } }
+pub kept_reserved : (start : Allocator) (at : ℤ) (log : List Reservation) (n : ℕ) (r : Record) → n ≤ r.left
+    → at ≤ℤ cursor start → IsKept start at log r → IsKept start (at -ℤ pos n) (log ++ reservation_at r at n ∷ [])
+    (after_reservation r at n)
+kept_reserved start at log n r within top k =
+    let c : Reservation = reservation_at r at n in
+    let es : List RecordEntry = r.entries in
+    let own : List Reservation = own_reservations es in
+    let mark = k.marks.mark in
+    let P : Reservation → Type 0 = λ (d : Reservation). at ≤ℤ low d in
+    let below : All P (known_reservations es) = All-weaker (λ (d : Reservation). r.mark ≤ℤ low d) P
+    (λ d h. omega (arith, ints)) (known_reservations es) k.marks.below in
+    let Q : Reservation → Type 0 = λ (d : Reservation). (at -ℤ pos n) ≤ℤ low d in
+    let lower : All Q (known_reservations es) = All-weaker P Q (λ d h. omega (arith, ints)) (known_reservations es)
+    below in
+    record {
+      start_is = k.start_is;
+      caller = grind (arith, common_steps, own-made, All-append, all_one);
+      quota = record {
+        quota = quota-reserved r at n within k.quota.quota;
+        floor = rw (own-made es c, floor-made start own c (all_own Q es lower) (omega (arith, ints)))
+            (rw (k.start_is, k.quota.floor) refl);
+      };
+      marks = record {
+        mark = omega (arith, ints);
+        below = subst (All Q) (sym (known-more es (Own c))) (All-append Q (known_reservations es) (c ∷ []) lower
+            (all_one Q c (omega (arith, ints))));
+        order = order-made es c k.marks.order below;
+        known = subst (All (Contains (log ++ c ∷ []))) (sym (known-more es (Own c)))
+            (All-append (Contains (log ++ c ∷ [])) (known_reservations es) (c ∷ [])
+            (All-weaker (Contains log) (Contains (log ++ c ∷ [])) (λ d h. Contains-append_left log (c ∷ []) d h)
+            (known_reservations es) k.marks.known) (all_one (Contains (log ++ c ∷ [])) c (Contains-push log c)));
+      };
+    }
 
-pub kept_met : (start : Allocator) (at : ℤ) (log : List Reservation) (r met : Record)
-    → IsKept start at log r → IsKept start at log met → IsKept start at log (after_meeting r met)
-kept_met start at log r met k m = let es : List RecordEntry = r.entries in let cs : List Reservation = known_reservations met.entries in let here = k.marks.mark in let there = m.marks.mark in let lesser = int_min_is r.mark met.mark in let P : Reservation → Type 0 = λ (d : Reservation). int_min r.mark met.mark ≤ℤ low d in record { start_is = k.start_is; caller = search (rules, own-met); quota = record { quota = quota-met r met k.quota.quota; floor = rw (own-met es cs) k.quota.floor }; marks = record { mark = grind (arith, ints); below = subst (All P) (sym (known-more es (Met cs))) (All-append P (known_reservations es) cs (All-weaker (λ (d : Reservation). r.mark ≤ℤ low d) P (λ d h. grind (arith, ints)) (known_reservations es) k.marks.below) (All-weaker (λ (d : Reservation). met.mark ≤ℤ low d) P (λ d h. grind (arith, ints)) cs m.marks.below)); order = order-met es cs k.marks.order; known = subst (All (Contains log)) (sym (known-more es (Met cs))) (All-append (Contains log) (known_reservations es) cs k.marks.known m.marks.known) } }
+pub kept_met : (start : Allocator) (at : ℤ) (log : List Reservation) (r met : Record) → IsKept start at log r
+    → IsKept start at log met → IsKept start at log (after_meeting r met)
+kept_met start at log r met k m =
+    let es : List RecordEntry = r.entries in
+    let cs : List Reservation = known_reservations met.entries in
+    let here = k.marks.mark in
+    let there = m.marks.mark in
+    let lesser = int_min_is r.mark met.mark in
+    let P : Reservation → Type 0 = λ (d : Reservation). int_min r.mark met.mark ≤ℤ low d in
+    record {
+      start_is = k.start_is;
+      caller = search (rules, own-met);
+      quota = record { quota = quota-met r met k.quota.quota; floor = rw (own-met es cs) k.quota.floor };
+      marks = record {
+        mark = grind (arith, ints);
+        below = subst (All P) (sym (known-more es (Met cs)))
+            (All-append P (known_reservations es) cs (All-weaker (λ (d : Reservation). r.mark ≤ℤ low d) P
+            (λ d h. grind (arith, ints)) (known_reservations es) k.marks.below)
+            (All-weaker (λ (d : Reservation). met.mark ≤ℤ low d) P (λ d h. grind (arith, ints)) cs m.marks.below));
+        order = order-met es cs k.marks.order;
+        known = subst (All (Contains log)) (sym (known-more es (Met cs)))
+            (All-append (Contains log) (known_reservations es) cs k.marks.known m.marks.known);
+      };
+    }
 
-pub met_below : (r met : Record) → All (λ (c : Reservation). met.mark ≤ℤ low c)
-    (known_reservations met.entries)
-    → All (λ (c : Reservation). (after_meeting r met).mark ≤ℤ low c)
-    (known_reservations met.entries)
+pub met_below : (r met : Record) → All (λ (c : Reservation). met.mark ≤ℤ low c) (known_reservations met.entries)
+    → All (λ (c : Reservation). (after_meeting r met).mark ≤ℤ low c) (known_reservations met.entries)
 met_below r met theirs = grind (arith, common_steps)
 
-pub below_meeting : (r met : Record) → All (λ (c : Reservation). r.mark ≤ℤ low c)
-    (known_reservations r.entries) → All (λ (c : Reservation). met.mark ≤ℤ low c)
-    (known_reservations met.entries)
-    → All (λ (c : Reservation). (after_meeting r met).mark ≤ℤ low c)
-    (known_reservations (after_meeting r met).entries)
+pub below_meeting : (r met : Record) → All (λ (c : Reservation). r.mark ≤ℤ low c) (known_reservations r.entries)
+    → All (λ (c : Reservation). met.mark ≤ℤ low c) (known_reservations met.entries)
+    → All (λ (c : Reservation). (after_meeting r met).mark ≤ℤ low c) (known_reservations (after_meeting r met).entries)
 below_meeting r met mine theirs =
     let P : Reservation → Type 0 = λ (d : Reservation). int_min r.mark met.mark ≤ℤ low d in
     subst (All P) (sym (known-more r.entries (Met (known_reservations met.entries))))
     (All-append P (known_reservations r.entries) (known_reservations met.entries)
-    (All-weaker (λ (d : Reservation). r.mark ≤ℤ low d) P (λ d h. grind (arith, ints))
-    (known_reservations r.entries) mine) (met_below r met theirs))
+    (All-weaker (λ (d : Reservation). r.mark ≤ℤ low d) P (λ d h. grind (arith, ints)) (known_reservations r.entries)
+    mine) (met_below r met theirs))

@@ -1,18 +1,12 @@
 -- Seats that share out the same records in two ways: what the records weigh and what holds of each.
 use Rattle.std.proofs.lemmas.Grind.{common_steps}
-use Rattle.std.proofs.Common.{rules, arith, ◌≡◌, ℕ, zero, suc, List, [], ◌∷◌, ◌++◌, length, set}
-use Rattle.std.proofs.Common.{sym, subst, ◌∙◌, append_assoc, append-nil}
+use Rattle.std.proofs.Common.{rules, arith, ◌≡◌, ℕ, zero, suc, List, [], ◌∷◌, ◌++◌, length, set, sym, subst, ◌∙◌, append_assoc, append-nil}
 use Rattle.std.specs.Prelude.{IsPermutation}
 use Rattle.std.specs.List.{sum_by, All, Contains}
 use Rattle.std.proofs.lemmas.List.{set_comm}
 use Rattle.std.proofs.lemmas.List.Concat.{flat_map-append, length-flat_map}
-use Rattle.std.proofs.lemmas.List.Elements.{All-nil, All-cons, All-weaker, All-contains}
-use Rattle.std.proofs.lemmas.List.Elements.{All-contains_itself, Contains-append_left}
-use Rattle.std.proofs.lemmas.List.Elements.{Contains-append_right}
-use Rattle.std.proofs.lemmas.List.Sorted.{IsPermutation-refl, IsPermutation-sym}
-use Rattle.std.proofs.lemmas.List.Sorted.{IsPermutation-trans, IsPermutation-append}
-use Rattle.std.proofs.lemmas.List.Sorted.{IsPermutation-append_comm, sum_by-IsPermutation}
-use Rattle.std.proofs.lemmas.List.Sorted.{All-permutation, length_permutation}
+use Rattle.std.proofs.lemmas.List.Elements.{All-nil, All-cons, All-weaker, All-contains, All-contains_itself, Contains-append_left, Contains-append_right}
+use Rattle.std.proofs.lemmas.List.Sorted.{IsPermutation-refl, IsPermutation-sym, IsPermutation-trans, IsPermutation-append, IsPermutation-append_comm, sum_by-IsPermutation, All-permutation, length_permutation}
 use mathlib.Core.Option.{some, some-ne-none}
 use lib.ListN.{get_elem?}
 use Rattle.atomic_table.proofs.Lists.{set_else, set_again}
@@ -32,14 +26,12 @@ module _ {R : Type 0} where
   all_out P [] all = All-nil (All P)
   all_out P (v ∷ views) all =
       let rest : List R = records_in views in
-      All-cons (All P) v views
-      (All-weaker (Contains v) P (λ r h. All-contains P (v ++ rest) r all
+      All-cons (All P) v views (All-weaker (Contains v) P (λ r h. All-contains P (v ++ rest) r all
       (Contains-append_left v rest r h)) v (All-contains_itself v))
       (all_out P views (All-weaker (Contains rest) P (λ r h. All-contains P (v ++ rest) r all
       (Contains-append_right v rest r h)) rest (All-contains_itself rest)))
 
-  module _ (before after : List (List R))
-      (same : IsPermutation (records_in before) (records_in after)) where
+  module _ (before after : List (List R)) (same : IsPermutation (records_in before) (records_in after)) where
     pub sum_regrouped : (f : R → ℕ) → sum_by (λ (v : List R). sum_by f v) after
         ≡ sum_by (λ (v : List R). sum_by f v) before
     sum_regrouped f = search (rules, sum_by-records, sum_by-IsPermutation)
@@ -63,28 +55,48 @@ module _ {R : Type 0} where
   set_first (x ∷ views) zero v w at = IsPermutation-refl (w ++ records_in views)
   set_first (x ∷ views) (suc id) v w at =
       let others : List R = records_in (set views id []) in
-      IsPermutation-trans (x ++ records_in (set views id w)) (x ++ (w ++ others))
-      (w ++ (x ++ others))
+      IsPermutation-trans (x ++ records_in (set views id w)) (x ++ (w ++ others)) (w ++ (x ++ others))
       (IsPermutation-append x x (records_in (set views id w)) (w ++ others) (IsPermutation-refl x)
-      (set_first views id v w at))
-      (turned x w others)
+      (set_first views id v w at)) (turned x w others)
 
   seat_first : (views : List (List R)) (id : ℕ) (v : List R) → get_elem? views id ≡ some v
       → IsPermutation (records_in views) (v ++ records_in (set views id []))
   seat_first views id v at = search (rules, set_again views id v, set_first views id v v)
 
   -- a seat's records in two seats
-  pub same_split : (views : List (List R)) (id : ℕ) (v left right : List R)
-      → get_elem? views id ≡ some v → IsPermutation v (left ++ right)
-      → IsPermutation (records_in views) (records_in (set views id left ++ right ∷ []))
-  same_split views id v left right at parts = let others : List R = records_in (set views id []) in let first : IsPermutation (records_in views) ((left ++ right) ++ others) = search (rules, IsPermutation-trans, seat_first, IsPermutation-append, IsPermutation-refl) in let second : IsPermutation ((left ++ right) ++ others) (right ++ (left ++ others)) = subst (λ (l : List R). IsPermutation l (right ++ (left ++ others))) (sym (append_assoc left right others)) (turned left right others) in let third : IsPermutation (right ++ (left ++ others)) ((left ++ others) ++ right) = IsPermutation-append_comm right (left ++ others) in let fourth : IsPermutation ((left ++ others) ++ right) (records_in (set views id left) ++ right) = search (rules, IsPermutation-append, IsPermutation-sym, set_first, IsPermutation-refl) in search (rules, append-nil, flat_map-append, IsPermutation-trans)
+  pub same_split : (views : List (List R)) (id : ℕ) (v left right : List R) → get_elem? views id ≡ some v
+      → IsPermutation v (left ++ right) → IsPermutation (records_in views)
+      (records_in (set views id left ++ right ∷ []))
+  same_split views id v left right at parts =
+      let others : List R = records_in (set views id []) in
+      let first : IsPermutation (records_in views) ((left ++ right) ++ others) = search
+      (rules, IsPermutation-trans, seat_first, IsPermutation-append, IsPermutation-refl) in
+      let second : IsPermutation ((left ++ right) ++ others) (right ++ (left ++ others)) = subst
+      (λ (l : List R). IsPermutation l (right ++ (left ++ others))) (sym (append_assoc left right others))
+      (turned left right others) in
+      let third : IsPermutation (right ++ (left ++ others)) ((left ++ others) ++ right) = IsPermutation-append_comm
+      right (left ++ others) in
+      let fourth : IsPermutation ((left ++ others) ++ right) (records_in (set views id left) ++ right) = search
+      (rules, IsPermutation-append, IsPermutation-sym, set_first, IsPermutation-refl) in
+      search (rules, append-nil, flat_map-append, IsPermutation-trans)
 
   -- two seats' records in one
-  pub same_join : (views : List (List R)) (id other : ℕ) (v w both : List R)
-      → get_elem? views id ≡ some v → ¬ (other ≡ id)
-      → get_elem? (set views id both) other ≡ some w → IsPermutation (v ++ w) both
+  pub same_join : (views : List (List R)) (id other : ℕ) (v w both : List R) → get_elem? views id ≡ some v
+      → ¬ (other ≡ id) → get_elem? (set views id both) other ≡ some w → IsPermutation (v ++ w) both
       → IsPermutation (records_in views) (records_in (set (set views id both) other []))
-  same_join views id other v w both at apart there parts = let bare : List (List R) = set views other [] in let others : List R = records_in (set bare id []) in let second : get_elem? views other ≡ some w = sym (set_else views id other both apart) ∙ there in let first : get_elem? bare id ≡ some v = set_else views other id [] (λ e. apart (sym e)) ∙ at in let two : IsPermutation (records_in views) (w ++ (v ++ others)) = search (rules, IsPermutation-trans, seat_first, IsPermutation-append, IsPermutation-refl) in let one : IsPermutation (w ++ (v ++ others)) (both ++ others) = IsPermutation-trans (w ++ (v ++ others)) ((v ++ w) ++ others) (both ++ others) (subst (IsPermutation (w ++ (v ++ others))) (sym (append_assoc v w others)) (turned w v others)) (IsPermutation-append (v ++ w) both others others parts (IsPermutation-refl others)) in let set_both : IsPermutation (both ++ others) (records_in (set bare id both)) = search (rules, IsPermutation-sym, set_first) in grind (arith, common_steps, set_comm, IsPermutation-trans)
+  same_join views id other v w both at apart there parts =
+      let bare : List (List R) = set views other [] in
+      let others : List R = records_in (set bare id []) in
+      let second : get_elem? views other ≡ some w = sym (set_else views id other both apart) ∙ there in
+      let first : get_elem? bare id ≡ some v = set_else views other id [] (λ e. apart (sym e)) ∙ at in
+      let two : IsPermutation (records_in views) (w ++ (v ++ others)) = search
+      (rules, IsPermutation-trans, seat_first, IsPermutation-append, IsPermutation-refl) in
+      let one : IsPermutation (w ++ (v ++ others)) (both ++ others) = IsPermutation-trans (w ++ (v ++ others))
+      ((v ++ w) ++ others) (both ++ others) (subst (IsPermutation (w ++ (v ++ others))) (sym (append_assoc v w others))
+      (turned w v others)) (IsPermutation-append (v ++ w) both others others parts (IsPermutation-refl others)) in
+      let set_both : IsPermutation (both ++ others) (records_in (set bare id both)) = search
+      (rules, IsPermutation-sym, set_first) in
+      grind (arith, common_steps, set_comm, IsPermutation-trans)
 
   -- one more seat, which has no record
   pub same_entered : (views : List (List R)) → records_in (views ++ [] ∷ []) ≡ records_in views

@@ -1,8 +1,6 @@
 -- Calls that lead from the top down to the cursor are a legal history, and two numbers tell the
 -- allocator after it.
-use Rattle.std.proofs.Common.{rules, ◌≡◌, ℕ, ◌+◌, ◌<◌, ◌≤◌, ⊎_elim, ℤ, pos, ◌-ℤ◌, ◌≤ℤ◌, List, []}
-use Rattle.std.proofs.Common.{◌∷◌, ◌++◌, length, map, take, refl, sym, ap, subst, ◌∙◌, arith}
-use Rattle.std.proofs.Common.{le-leb, length-append}
+use Rattle.std.proofs.Common.{rules, ◌≡◌, ℕ, ◌+◌, ◌<◌, ◌≤◌, ⊎_elim, ℤ, pos, ◌-ℤ◌, ◌≤ℤ◌, List, [], ◌∷◌, ◌++◌, length, map, take, refl, sym, ap, subst, ◌∙◌, arith, le-leb, length-append}
 use Rattle.std.proofs.lemmas.Grind.{common_steps}
 use Rattle.std.specs.Prelude.{Bool, true, false, cond, nat_le}
 use Rattle.std.specs.List.{All, flat_map}
@@ -12,15 +10,12 @@ use Rattle.std.proofs.lemmas.List.{length-take-le}
 use Rattle.std.proofs.lemmas.List.Elements.{All-head, All-tail}
 use Rattle.std.proofs.lemmas.Int.{ints}
 use Rattle.ent_handle.specs.Handle.{Handle}
-use Rattle.ent_alloc.specs.Sequential.{Allocator, available, cursor, top, pool_at}
-use Rattle.ent_alloc.specs.Sequential.{reply_from, after_take}
+use Rattle.ent_alloc.specs.Sequential.{Allocator, available, cursor, top, pool_at, reply_from, after_take}
 use Rattle.ent_alloc.specs.Sound.{IsSound}
 use Rattle.ent_alloc.specs.History as history
 use Rattle.ent_alloc.proofs.Soundness.{after_take-sound}
-use Rattle.ent_alloc.proofs.Taken.{available-after_take, after_take-served, after_take-refused}
-use Rattle.ent_alloc.proofs.Taken.{length-pool}
-use Rattle.ent_alloc.proofs.PoolLaw.{made-after_take, cursor-after_take, pool_at-cursor}
-use Rattle.ent_alloc.proofs.PoolLaw.{length-taken}
+use Rattle.ent_alloc.proofs.Taken.{available-after_take, after_take-served, after_take-refused, length-pool}
+use Rattle.ent_alloc.proofs.PoolLaw.{made-after_take, cursor-after_take, pool_at-cursor, length-taken}
 use Rattle.ent_shared.specs.declared.record.Reservation.{Reservation}
 use Rattle.ent_shared.specs.declared.record.Record.{Record}
 use Rattle.ent_shared.specs.Record.{low, own_reservations}
@@ -47,14 +42,20 @@ pool_there : (start s : Allocator) (c : Reservation) → IsLater start s → c.h
     → pool_at start c.high ≡ s.pool
 pool_there start s c l at = ap (pool_at start) at ∙ pool_later start s l
 
-follow_on : (s : Allocator) (c : Reservation) (cs : List Reservation) (end : ℤ) → IsSound s → c.high
-    ≡ cursor s → Follow (low c) cs end → Follow (cursor (after_take s c.requested)) cs end
+follow_on : (s : Allocator) (c : Reservation) (cs : List Reservation) (end : ℤ) → IsSound s → c.high ≡ cursor s
+    → Follow (low c) cs end → Follow (cursor (after_take s c.requested)) cs end
 follow_on s c cs end sound at f = search (rules, cursor-after_take)
 
-pub legal_from : (start s : Allocator) (cs : List Reservation) (end : ℤ) → IsLater start s
-    → Follow (cursor s) cs end → All (HasItsReply start) cs → history.IsLegal s (map as_call cs)
+pub legal_from : (start s : Allocator) (cs : List Reservation) (end : ℤ) → IsLater start s → Follow (cursor s) cs end
+    → All (HasItsReply start) cs → history.IsLegal s (map as_call cs)
 legal_from start s [] end l f replied = tt
-legal_from start s (c ∷ cs) end l f replied = let here : c.reply ≡ reply_from start.made (pool_at start c.high) c.requested = search (rules, All-head) in (f.1, here ∙ (λ i. reply_from (sym l.made_is i) (pool_there start s c l f.0 i) c.requested), legal_from start (after_take s c.requested) cs end (later_take start s c.requested l) (follow_on s c cs end l.sound f.0 f.2) (All-tail (HasItsReply start) c cs replied))
+legal_from start s (c ∷ cs) end l f replied =
+    let here : c.reply ≡ reply_from start.made (pool_at start c.high) c.requested = search (rules, All-head) in (
+      f.1,
+      here ∙ (λ i. reply_from (sym l.made_is i) (pool_there start s c l f.0 i) c.requested),
+      legal_from start (after_take s c.requested) cs end (later_take start s c.requested l)
+          (follow_on s c cs end l.sound f.0 f.2) (All-tail (HasItsReply start) c cs replied),
+    )
 
 -- the lesser of two that is known
 pub min_right : (a b : ℤ) → b ≤ℤ a → int_min a b ≡ b
@@ -74,16 +75,44 @@ floor_below start [] = omega (arith, ints)
 floor_below start (c ∷ cs) = grind (arith, common_steps, floor_below start cs)
 
 -- where the least of these calls ends is told by how many handles are taken after them
-pub taken_floor : (start s : Allocator) (cs : List Reservation) (end : ℤ) → start.asked ≡ 0
-    → IsLater start s → Follow (cursor s) cs end
-    → int_min (pos (top start) -ℤ pos (length s.taken)) (floor_of start cs)
+pub taken_floor : (start s : Allocator) (cs : List Reservation) (end : ℤ) → start.asked ≡ 0 → IsLater start s
+    → Follow (cursor s) cs end → int_min (pos (top start) -ℤ pos (length s.taken)) (floor_of start cs)
     ≡ pos (top start) -ℤ pos (length (history.after_history s (map as_call cs)).taken)
 taken_floor start s [] end flushed l f = grind (arith, common_steps)
-taken_floor start s (c ∷ cs) end flushed l f = let n : ℕ = c.requested in let t : Allocator = after_take s n in let a : ℤ = pos (top start) -ℤ pos (length s.taken) in let rest = taken_floor start t cs end flushed (later_take start s n l) (follow_on s c cs end l.sound f.0 f.2) in let tops = top_later start s l in let pool : pool_at start c.high ≡ s.pool = pool_there start s c l f.0 in let some_request : 0 < n = f.1 in let goal : ℤ → Type 0 = λ z. int_min a (int_min z (floor_of start cs)) ≡ pos (top start) -ℤ pos (length (history.after_history t (map as_call cs)).taken) in ⊎_elim (λ (short : length s.pool < n). let test : nat_le n (length (pool_at start c.high)) ≡ false = ap (λ (hs : List Handle). nat_le n (length hs)) pool ∙ lt-leb n (length s.pool) short in let same : length t.taken ≡ length s.taken = ap (λ (x : Allocator). length x.taken) (after_take-refused s n short) in let at_top : a ≤ℤ cursor start = omega (arith, ints) in let begins : int_min a (int_min (cursor start) (floor_of start cs)) ≡ int_min a (floor_of start cs) = sym (min_assoc a (cursor start) (floor_of start cs)) ∙ ap (λ (z : ℤ). int_min z (floor_of start cs)) (min_left a (cursor start) at_top) in subst goal (sym (ap (λ (b : Bool). cond b (low c) (cursor start)) test)) (begins ∙ (ap (λ (k : ℕ). int_min (pos (top start) -ℤ pos k) (floor_of start cs)) (sym same) ∙ rest))) (λ (enough : n ≤ length s.pool). let test : nat_le n (length (pool_at start c.high)) ≡ true = ap (λ (hs : List Handle). nat_le n (length hs)) pool ∙ le-leb n (length s.pool) enough in let left = length-pool s l.sound in let taken : length s.taken ≡ s.asked = length-taken s l.sound (omega arith) in let joined : length t.taken ≡ length (s.taken ++ take n s.pool) = ap (λ (x : Allocator). length x.taken) (after_take-served s n enough) in let more : length (s.taken ++ take n s.pool) ≡ length s.taken + length (take n s.pool) = length-append s.taken (take n s.pool) in let long : length (take n s.pool) ≡ n = length-take-le n s.pool enough in let here : low c ≡ pos (top start) -ℤ pos (length t.taken) = omega (arith, ints) in let down : low c ≤ℤ a = omega (arith, ints) in let begins : int_min a (int_min (low c) (floor_of start cs)) ≡ int_min (low c) (floor_of start cs) = sym (min_assoc a (low c) (floor_of start cs)) ∙ ap (λ (z : ℤ). int_min z (floor_of start cs)) (min_right a (low c) down) in subst goal (sym (ap (λ (b : Bool). cond b (low c) (cursor start)) test)) (begins ∙ (ap (λ (z : ℤ). int_min z (floor_of start cs)) here ∙ rest))) (cases_lt (length s.pool) n)
+taken_floor start s (c ∷ cs) end flushed l f =
+    let n : ℕ = c.requested in
+    let t : Allocator = after_take s n in
+    let a : ℤ = pos (top start) -ℤ pos (length s.taken) in
+    let rest = taken_floor start t cs end flushed (later_take start s n l) (follow_on s c cs end l.sound f.0 f.2) in
+    let tops = top_later start s l in
+    let pool : pool_at start c.high ≡ s.pool = pool_there start s c l f.0 in
+    let some_request : 0 < n = f.1 in
+    let goal : ℤ → Type 0 = λ z. int_min a (int_min z (floor_of start cs))
+    ≡ pos (top start) -ℤ pos (length (history.after_history t (map as_call cs)).taken) in
+    ⊎_elim (λ (short : length s.pool < n). let test : nat_le n (length (pool_at start c.high))
+    ≡ false = ap (λ (hs : List Handle). nat_le n (length hs)) pool ∙ lt-leb n (length s.pool) short in let same : length
+    t.taken ≡ length s.taken = ap (λ (x : Allocator). length x.taken) (after_take-refused s n short) in let at_top : a
+    ≤ℤ cursor start = omega (arith, ints) in let begins : int_min a (int_min (cursor start) (floor_of start cs))
+    ≡ int_min a (floor_of start cs) = sym (min_assoc a (cursor start) (floor_of start cs))
+    ∙ ap (λ (z : ℤ). int_min z (floor_of start cs)) (min_left a (cursor start) at_top) in subst goal
+    (sym (ap (λ (b : Bool). cond b (low c) (cursor start)) test))
+    (begins ∙ (ap (λ (k : ℕ). int_min (pos (top start) -ℤ pos k) (floor_of start cs)) (sym same) ∙ rest)))
+    (λ (enough : n ≤ length s.pool). let test : nat_le n (length (pool_at start c.high))
+    ≡ true = ap (λ (hs : List Handle). nat_le n (length hs)) pool ∙ le-leb n (length s.pool) enough in let left =
+    length-pool s l.sound in let taken : length s.taken ≡ s.asked = length-taken s l.sound (omega arith) in let joined :
+    length t.taken ≡ length (s.taken ++ take n s.pool) = ap (λ (x : Allocator). length x.taken)
+    (after_take-served s n enough) in let more : length (s.taken ++ take n s.pool) ≡ length s.taken
+    + length (take n s.pool) = length-append s.taken (take n s.pool) in let long : length (take n s.pool)
+    ≡ n = length-take-le n s.pool enough in let here : low c ≡ pos (top start) -ℤ pos (length t.taken) = omega
+    (arith, ints) in let down : low c ≤ℤ a = omega (arith, ints) in let begins : int_min a
+    (int_min (low c) (floor_of start cs)) ≡ int_min (low c) (floor_of start cs) = sym
+    (min_assoc a (low c) (floor_of start cs)) ∙ ap (λ (z : ℤ). int_min z (floor_of start cs))
+    (min_right a (low c) down) in subst goal (sym (ap (λ (b : Bool). cond b (low c) (cursor start)) test))
+    (begins ∙ (ap (λ (z : ℤ). int_min z (floor_of start cs)) here ∙ rest))) (cases_lt (length s.pool) n)
 
 -- the floor of a list does not depend on its order
-floor-append : (start : Allocator) (xs ys : List Reservation) → floor_of start (xs ++ ys)
-    ≡ int_min (floor_of start xs) (floor_of start ys)
+floor-append : (start : Allocator) (xs ys : List Reservation) → floor_of start (xs ++ ys) ≡ int_min (floor_of start xs)
+    (floor_of start ys)
 floor-append start [] ys = search (rules, min_right, floor_below)
 floor-append start (x ∷ xs) ys = search (rules, min_assoc, floor-append start xs ys)
 
@@ -92,8 +121,7 @@ floor_inserted : (start : Allocator) (c : Reservation) (cs : List Reservation)
 floor_inserted start c [] = refl
 floor_inserted start c (d ∷ ds) = search (rules, min_assoc, min_comm, floor_inserted start c ds)
 
-pub floor_sorted : (start : Allocator) (cs : List Reservation) → floor_of start (by_falling_high cs)
-    ≡ floor_of start cs
+pub floor_sorted : (start : Allocator) (cs : List Reservation) → floor_of start (by_falling_high cs) ≡ floor_of start cs
 floor_sorted start [] = refl
 floor_sorted start (c ∷ cs) = search (rules, floor_inserted, floor_sorted start cs)
 
@@ -101,9 +129,12 @@ pub floor_of_all : (start : Allocator) (at : ℤ) (log : List Reservation) (reco
     → All (IsKept start at log) records → least_floor (cursor start) records
     ≡ floor_of start (flat_map (λ (r : Record). own_reservations r.entries) records)
 floor_of_all start at log [] all = refl
-floor_of_all start at log (r ∷ records) all = let kept = All-head (IsKept start at log) r records all in let rest = floor_of_all start at log records (All-tail (IsKept start at log) r records all) in search (rules, floor-append)
+floor_of_all start at log (r ∷ records) all =
+    let kept = All-head (IsKept start at log) r records all in
+    let rest = floor_of_all start at log records (All-tail (IsKept start at log) r records all) in
+    search (rules, floor-append)
 
-pub least_floor-more : (high : ℤ) (rs : List Record) (r : Record) → least_floor high (rs ++ r ∷ [])
-    ≡ int_min (least_floor high rs) r.floor
+pub least_floor-more : (high : ℤ) (rs : List Record) (r : Record)
+    → least_floor high (rs ++ r ∷ []) ≡ int_min (least_floor high rs) r.floor
 least_floor-more high [] r = min_comm r.floor high
 least_floor-more high (x ∷ rs) r = search (rules, min_assoc, least_floor-more high rs r)

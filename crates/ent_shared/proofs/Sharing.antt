@@ -1,6 +1,5 @@
 -- The reservers of a phase, as they are made one by one.
-use Rattle.std.proofs.Common.{rules, ◌≡◌, ℕ, zero, suc, ◌+◌, ◌-◌, ◌<◌, ◌≤◌, ℤ, List, [], ◌∷◌, ◌++◌}
-use Rattle.std.proofs.Common.{map, take, drop, refl, ap, arith}
+use Rattle.std.proofs.Common.{rules, ◌≡◌, ℕ, zero, suc, ◌+◌, ◌-◌, ◌<◌, ◌≤◌, ℤ, List, [], ◌∷◌, ◌++◌, map, take, drop, refl, ap, arith}
 use Rattle.std.specs.FinMap as maps
 use Rattle.std.specs.List.{All}
 use Rattle.std.proofs.lemmas.List.{map-append}
@@ -24,8 +23,8 @@ pub record AreShared (start : Allocator) (n number : ℕ) (word : TableId) (made
   pub left : me ≡ (opened_records start number (n - number), [])
   pub made_is : made ≡ map (seated word) (opened_records start 0 number)
 
-pub opened-first : (start : Allocator) (number n : ℕ) → number < n → opened_records start number
-    (n - number) ≡ opened start number ∷ opened_records start (number + 1) (n - (number + 1))
+pub opened-first : (start : Allocator) (number n : ℕ) → number < n → opened_records start number (n - number) ≡ opened
+    start number ∷ opened_records start (number + 1) (n - (number + 1))
 unfolding opened_records
 opened-first start number n below = search rules
 
@@ -38,46 +37,43 @@ opened-last start from (suc many) =
     search (rules, opened-last start (from + 1) many, same)
 
 pub none_shared : (start : Allocator) (n : ℕ) (word seat : TableId) (made : List Reserver)
-    (me : Me (Unit {0}) (List Record)) → made ≡ [] → seat ≡ word → me
-    ≡ (opened_records start 0 n, []) → AreShared start n 0 word made seat me
+    (me : Me (Unit {0}) (List Record)) → made ≡ [] → seat ≡ word → me ≡ (opened_records start 0 n, [])
+    → AreShared start n 0 word made seat me
 unfolding opened_records
 none_shared start n word seat made me bare same left = search (rules, bare, same, left)
 
 module _ (start : Allocator) (n number : ℕ) (word seat : TableId) (made : List Reserver)
-    (me : Me (Unit {0}) (List Record)) (below : number < n) (d : AreShared start n number word made
-    seat me) where
+    (me : Me (Unit {0}) (List Record)) (below : number < n) (d : AreShared start n number word made seat me) where
   pub next_is : me.0 ≡ opened start number ∷ opened_records start (number + 1) (n - (number + 1))
   next_is = search (rules, opened-first)
 
-  pub next_seated : (views : List (List Record)) (floor : ℤ) → views ≡ take 1 me.0 ∷ [] → floor
-      ≡ cursor start → IsSeated views number quota floor
+  pub next_seated : (views : List (List Record)) (floor : ℤ) → views ≡ take 1 me.0 ∷ [] → floor ≡ cursor start
+      → IsSeated views number quota floor
   next_seated views floor is at = search (rules, next_is)
 
-  pub shared_more : (later : TableId) (after : Me (Unit {0}) (List Record)) (r : Reserver) → later
-      ≡ seat → after ≡ (drop 1 me.0, []) → (views : List (List Record)) → views ≡ take 1 me.0 ∷ []
-      → r ≡ record { word = seat; own = own_of views } → (now : List Reserver) → now ≡ made ++ r
-      ∷ [] → AreShared start n (number + 1) word now later after
-  shared_more later after r same left views is r_is now now_is = let one = next_seated views in let first = opened-last start 0 number in search (rules, next_is, map-append, d.made_is, d.seat_is)
+  pub shared_more : (later : TableId) (after : Me (Unit {0}) (List Record)) (r : Reserver) → later ≡ seat
+      → after ≡ (drop 1 me.0, []) → (views : List (List Record)) → views ≡ take 1 me.0 ∷ []
+      → r ≡ record { word = seat; own = own_of views } → (now : List Reserver) → now ≡ made ++ r ∷ []
+      → AreShared start n (number + 1) word now later after
+  shared_more later after r same left views is r_is now now_is =
+      let one = next_seated views in
+      let first = opened-last start 0 number in
+      search (rules, next_is, map-append, d.made_is, d.seat_is)
 
-pub own_again : (word : TableId) (rs : List Record) → map (λ (r : Reserver). r.own)
-    (map (seated word) rs) ≡ rs
+pub own_again : (word : TableId) (rs : List Record) → map (λ (r : Reserver). r.own) (map (seated word) rs) ≡ rs
 own_again word [] = refl
 own_again word (r ∷ rs) = search (rules, own_again word rs)
 
-pub all_of : (start : Allocator) (rows : maps.FinMap handle_cmp ℕ) (count : ℕ) (word : TableId)
-    (number many : ℕ) → number + many ≤ count
-    → All (IsOf (record { word = word; start = start; rows = rows; count = count }))
+pub all_of : (start : Allocator) (rows : maps.FinMap handle_cmp ℕ) (count : ℕ) (word : TableId) (number many : ℕ)
+    → number + many ≤ count → All (IsOf (record { word = word; start = start; rows = rows; count = count }))
     (map (seated word) (opened_records start number many))
 unfolding opened_records
 all_of start rows count word number zero within = search (rules, All-nil)
 all_of start rows count word number (suc many) within =
-    let rest = all_of start rows count word (number + 1) many (omega arith) in
-    search (rules, All-cons, rest)
+    let rest = all_of start rows count word (number + 1) many (omega arith) in search (rules, All-cons, rest)
 
-pub none_used : (start : Allocator) (word : TableId) (number many : ℕ)
-    → All (λ (r : Reserver). r.own.entries ≡ [])
-    (map (seated word) (opened_records start number many))
+pub none_used : (start : Allocator) (word : TableId) (number many : ℕ) → All (λ (r : Reserver). r.own.entries ≡ []) (map
+    (seated word) (opened_records start number many))
 unfolding opened_records
 none_used start word number zero = search (rules, All-nil)
-none_used start word number (suc many) =
-    search (rules, All-cons, none_used start word (number + 1) many)
+none_used start word number (suc many) = search (rules, All-cons, none_used start word (number + 1) many)

@@ -1,9 +1,6 @@
 -- Each step keeps the rule over the cursor word and the records.
-use Rattle.ent_shared.specs.Record.{known_reservations, low, own_reservations, reservation_at}
-use Rattle.ent_shared.specs.Record.{after_reservation}
-use Rattle.std.proofs.Common.{rules, ◌≡◌, ℕ, ◌+◌, ◌-◌, ◌%◌, ◌^◌, ◌<◌, ◌≤◌, ℤ, pos, ◌-ℤ◌, ◌≤ℤ◌, List}
-use Rattle.std.proofs.Common.{[], ◌∷◌, ◌++◌, length, set, get_or, take, drop, sym, refl, ap, subst}
-use Rattle.std.proofs.Common.{◌∙◌, arith, take-append-drop}
+use Rattle.ent_shared.specs.Record.{known_reservations, low, own_reservations, reservation_at, after_reservation}
+use Rattle.std.proofs.Common.{rules, ◌≡◌, ℕ, ◌+◌, ◌-◌, ◌%◌, ◌^◌, ◌<◌, ◌≤◌, ℤ, pos, ◌-ℤ◌, ◌≤ℤ◌, List, [], ◌∷◌, ◌++◌, length, set, get_or, take, drop, sym, refl, ap, subst, ◌∙◌, arith, take-append-drop}
 use Rattle.std.specs.Prelude.{◌==◌, cond}
 use Rattle.std.specs.List.{sum_by, All}
 use Rattle.std.proofs.lemmas.List.Elements.{All-head, All-nil, All-cons, All-append, All-set}
@@ -23,17 +20,14 @@ use Rattle.ent_alloc.specs.Sequential.{Allocator, cursor}
 use Rattle.ent_shared.specs.declared.record.Reservation.{Reservation}
 use Rattle.ent_shared.specs.declared.record.Record.{Record}
 use Rattle.ent_shared.specs.Moves.{after_meeting, met_in}
-use Rattle.ent_shared.specs.Rule.{cursor_of, Follow, HasItsReply, IsKept, IsRuled, AfterReserve}
-use Rattle.ent_shared.specs.Rule.{ReserveTells}
+use Rattle.ent_shared.specs.Rule.{cursor_of, Follow, HasItsReply, IsKept, IsRuled, AfterReserve, ReserveTells}
 use Rattle.ent_shared.proofs.Records.{own-made, own-met, kept_on, kept_reserved, kept_met}
-use Rattle.ent_shared.proofs.Words.{follow_asked, word_least, word_greatest, lowered}
-use Rattle.ent_shared.proofs.Words.{lowered_cursor, numbered}
+use Rattle.ent_shared.proofs.Words.{follow_asked, word_least, word_greatest, lowered, lowered_cursor, numbered}
 
-follow-snoc : (high : ℤ) (cs : List Reservation) (c : Reservation) (end : ℤ)
-    → Follow high cs end → c.high ≡ end → 0 < c.requested → Follow high (cs ++ c ∷ []) (low c)
+follow-snoc : (high : ℤ) (cs : List Reservation) (c : Reservation) (end : ℤ) → Follow high cs end → c.high ≡ end
+    → 0 < c.requested → Follow high (cs ++ c ∷ []) (low c)
 follow-snoc high [] c end f is some_request = (is ∙ sym f, some_request, refl)
-follow-snoc high (d ∷ cs) c end f is some_request =
-    (f.0, f.1, follow-snoc (low d) cs c end f.2 is some_request)
+follow-snoc high (d ∷ cs) c end f is some_request = (f.0, f.1, follow-snoc (low d) cs c end f.2 is some_request)
 
 module _ (start : Allocator) (count : ℕ) where
   abbrev St : Type 0
@@ -43,13 +37,65 @@ module _ (start : Allocator) (count : ℕ) where
   Rule = IsRuled start count
 
   pub reserves : (slots id : ℕ) (r : Record) (n : ℕ) → 0 < n → n ≤ r.left
-      → Allows Rule slots id (r ∷ [], []) 0 (λ word. (word + (2 ^ 64 - n)) % 2 ^ 64)
-      (ReserveTells n (r ∷ [], []))
-  reserves slots id r n some_request within s k _ at _ = let word : ℕ = k.word in let found : get_or s.words 0 0 ≡ word = ap (λ (ws : List ℕ). get_or ws 0 0) k.words in let log : List Reservation = k.spans.log in let high : ℤ = cursor_of word in let c : Reservation = reservation_at r high n in let w : List Record = after_reservation r high n ∷ [] in let mine = all_at (All (IsKept start high log)) s.views id (r ∷ []) at k.each in let kept : IsKept start high log r = mine 0 r (omega arith) in let mark = kept.marks.mark in let sum = kept.quota.quota in let small : n ≤ quota = omega arith in let least = word_least start count s k in let greatest = word_greatest start count s k in let next : (get_or s.words 0 0 + (2 ^ 64 - n)) % 2 ^ 64 ≡ word - n = ap (λ (x : ℕ). (x + (2 ^ 64 - n)) % 2 ^ 64) found ∙ lowered word n least greatest small in let now : cursor_of (word - n) ≡ high -ℤ pos n = lowered_cursor word n least small in let f = follow_asked (cursor start) log high k.spans.follow in let down : (high -ℤ pos n) ≤ℤ high = omega (arith, ints) in let up : high ≤ℤ cursor start = omega (arith, ints) in let K : ℤ → List Record → Type 0 = λ z v. All (IsKept start z (log ++ c ∷ [])) v in let others : All (K (high -ℤ pos n)) s.views = λ i v l j x m. kept_on start high (high -ℤ pos n) log (c ∷ []) _ down (k.each i v l j x m) in let told : AfterReserve n r (get_or s.words 0 0) w = search rules in let own : K (high -ℤ pos n) w = all_one (IsKept start (high -ℤ pos n) (log ++ c ∷ [])) (after_reservation r high n) (kept_reserved start high log n r within up kept) in (w, keeps, tt, record { begins = k.begins; few = k.few; word = word - n; words = search rules; spans = record { log = log ++ c ∷ []; follow = subst (Follow (cursor start) (log ++ c ∷ [])) (sym now) (follow-snoc (cursor start) log c high k.spans.follow refl some_request); all = λ f. search (rules, sum_at, own-made, sum_by-append, sum_by-cons) }; replied = All-append (HasItsReply start) log (c ∷ []) k.replied (search (rules, all_one, kept.start_is)); records = (let changed = sum_at length s.views id (r ∷ []) w at in let was = k.records in omega arith); numbers = λ number. let same = sum_at (numbered number) s.views id (r ∷ []) w at in let was = k.numbers number in omega arith; each = subst (λ z. All (K z) (set s.views id w)) (sym now) (All-set (K (high -ℤ pos n)) s.views id w own others) }, (refl, λ x is. search (rules, is, told)))
+      → Allows Rule slots id (r ∷ [], []) 0 (λ word. (word + (2 ^ 64 - n)) % 2 ^ 64) (ReserveTells n (r ∷ [], []))
+  reserves slots id r n some_request within s k _ at _ =
+      let word : ℕ = k.word in
+      let found : get_or s.words 0 0 ≡ word = ap (λ (ws : List ℕ). get_or ws 0 0) k.words in
+      let log : List Reservation = k.spans.log in
+      let high : ℤ = cursor_of word in
+      let c : Reservation = reservation_at r high n in
+      let w : List Record = after_reservation r high n ∷ [] in
+      let mine = all_at (All (IsKept start high log)) s.views id (r ∷ []) at k.each in
+      let kept : IsKept start high log r = mine 0 r (omega arith) in
+      let mark = kept.marks.mark in
+      let sum = kept.quota.quota in
+      let small : n ≤ quota = omega arith in
+      let least = word_least start count s k in
+      let greatest = word_greatest start count s k in
+      let next : (get_or s.words 0 0 + (2 ^ 64 - n)) % 2 ^ 64 ≡ word - n = ap (λ (x : ℕ). (x + (2 ^ 64 - n)) % 2 ^ 64)
+      found ∙ lowered word n least greatest small in
+      let now : cursor_of (word - n) ≡ high -ℤ pos n = lowered_cursor word n least small in
+      let f = follow_asked (cursor start) log high k.spans.follow in
+      let down : (high -ℤ pos n) ≤ℤ high = omega (arith, ints) in
+      let up : high ≤ℤ cursor start = omega (arith, ints) in
+      let K : ℤ → List Record → Type 0 = λ z v. All (IsKept start z (log ++ c ∷ [])) v in
+      let others : All (K (high -ℤ pos n)) s.views = λ i v l j x m. kept_on start high (high -ℤ pos n) log (c ∷ []) _
+      down (k.each i v l j x m) in
+      let told : AfterReserve n r (get_or s.words 0 0) w = search rules in
+      let own : K (high -ℤ pos n) w = all_one (IsKept start (high -ℤ pos n) (log ++ c ∷ []))
+      (after_reservation r high n) (kept_reserved start high log n r within up kept) in (
+        w,
+        keeps,
+        tt,
+        record {
+          begins = k.begins;
+          few = k.few;
+          word = word - n;
+          words = search rules;
+          spans = record {
+            log = log ++ c
+                ∷ [];
+            follow = subst (Follow (cursor start) (log ++ c ∷ [])) (sym now)
+                (follow-snoc (cursor start) log c high k.spans.follow refl some_request);
+            all = λ f. search
+                (rules, sum_at, own-made, sum_by-append, sum_by-cons);
+          };
+          replied = All-append (HasItsReply start) log
+              (c ∷ []) k.replied (search (rules, all_one, kept.start_is));
+          records =
+              (let changed = sum_at length s.views id (r ∷ []) w at in let was = k.records in omega arith);
+          numbers =
+              λ number. let same = sum_at (numbered number) s.views id (r ∷ []) w at in let was = k.numbers number in
+              omega arith;
+          each = subst (λ z. All (K z) (set s.views id w)) (sym now)
+              (All-set (K (high -ℤ pos n)) s.views id w own others);
+        },
+        (refl, λ x is. search (rules, is, told)),
+      )
 
-  pub reserves_at : (slots id : ℕ) (me : Me (Unit {0}) (List Record)) (r : Record) (n m : ℕ) → me.0
-      ≡ r ∷ [] → me.1 ≡ [] → m ≡ n → 0 < n → n ≤ r.left
-      → Allows Rule slots id me 0 (λ word. (word + (2 ^ 64 - m)) % 2 ^ 64) (ReserveTells m me)
+  pub reserves_at : (slots id : ℕ) (me : Me (Unit {0}) (List Record)) (r : Record) (n m : ℕ) → me.0 ≡ r ∷ [] → me.1 ≡ []
+      → m ≡ n → 0 < n → n ≤ r.left → Allows Rule slots id me 0 (λ word. (word + (2 ^ 64 - m)) % 2 ^ 64)
+      (ReserveTells m me)
   reserves_at slots id me r n m view bare same some_request within =
       let A : Me (Unit {0}) (List Record) × ℕ → Type 0 = λ p. Allows Rule slots id p.0 0
       (λ word. (word + (2 ^ 64 - p.1)) % 2 ^ 64) (ReserveTells p.1 p.0) in
@@ -57,11 +103,47 @@ module _ (start : Allocator) (count : ℕ) where
 
   -- the rule goes by the records, and not by which seat has which
   pub goes_by_records : GoesByRecords Rule
-  goes_by_records s views same k = record { begins = k.begins; few = k.few; word = k.word; words = k.words; spans = record { log = k.spans.log; follow = k.spans.follow; all = λ f. sum_regrouped s.views views same (λ (r : Record). sum_by f (own_reservations r.entries)) ∙ k.spans.all f }; replied = k.replied; records = length-regrouped s.views views same ∙ k.records; numbers = λ a. omega (arith, k.numbers a, sum_regrouped s.views views same (λ (r : Record). cond (r.number == a) 1 0)); each = search (rules, all_regrouped) }
+  goes_by_records s views same k = record {
+    begins = k.begins;
+    few = k.few;
+    word = k.word;
+    words = k.words;
+    spans = record {
+      log = k.spans.log;
+      follow = k.spans.follow;
+      all = λ f. sum_regrouped s.views views same (λ (r : Record). sum_by f (own_reservations r.entries))
+          ∙ k.spans.all f;
+    };
+    replied = k.replied;
+    records = length-regrouped s.views views same ∙ k.records;
+    numbers = λ a. omega
+        (arith, k.numbers a, sum_regrouped s.views views same (λ (r : Record). cond (r.number == a) 1 0));
+    each = search (rules, all_regrouped);
+  }
 
-  pub meets : (id other : ℕ) (r met : Record) → Joins Rule id (r ∷ []) other (met ∷ [])
-      (met_in (r ∷ []) (met ∷ [])) []
-  meets id other r met s k at apart there = let both : List Record = after_meeting r met ∷ met ∷ [] in let views : List (List Record) = set s.views id both in let P : List Record → Type 0 = All (IsKept start (cursor_of k.word) k.spans.log) in let between : get_elem? s.views other ≡ some (met ∷ []) = search (rules, set_else) in let mine = all_at P s.views id (r ∷ []) at k.each in let theirs = all_at P s.views other (met ∷ []) between k.each in let first = λ (f : List Record → ℕ). sum_at f s.views id (r ∷ []) both at in let second = λ (f : List Record → ℕ). sum_at f views other (met ∷ []) [] there in let same = own-met r.entries (known_reservations met.entries) in record { begins = k.begins; few = k.few; word = k.word; words = k.words; spans = search (rules, sum_at, same, sum_by-cons); replied = k.replied; records = omega (arith, first length, second length, k.records); numbers = λ a. omega (arith, first (numbered a), second (numbered a), k.numbers a); each = All-set P views other [] (All-nil (IsKept start (cursor_of k.word) k.spans.log)) (All-set P s.views id both (search (rules, All-cons, kept_met, All-head)) k.each) }
+  pub meets : (id other : ℕ) (r met : Record) → Joins Rule id (r ∷ []) other (met ∷ []) (met_in (r ∷ []) (met ∷ [])) []
+  meets id other r met s k at apart there =
+      let both : List Record = after_meeting r met ∷ met ∷ [] in
+      let views : List (List Record) = set s.views id both in
+      let P : List Record → Type 0 = All (IsKept start (cursor_of k.word) k.spans.log) in
+      let between : get_elem? s.views other ≡ some (met ∷ []) = search (rules, set_else) in
+      let mine = all_at P s.views id (r ∷ []) at k.each in
+      let theirs = all_at P s.views other (met ∷ []) between k.each in
+      let first = λ (f : List Record → ℕ). sum_at f s.views id (r ∷ []) both at in
+      let second = λ (f : List Record → ℕ). sum_at f views other (met ∷ []) [] there in
+      let same = own-met r.entries (known_reservations met.entries) in
+      record {
+        begins = k.begins;
+        few = k.few;
+        word = k.word;
+        words = k.words;
+        spans = search (rules, sum_at, same, sum_by-cons);
+        replied = k.replied;
+        records = omega (arith, first length, second length, k.records);
+        numbers = λ a. omega (arith, first (numbered a), second (numbered a), k.numbers a);
+        each = All-set P views other [] (All-nil (IsKept start (cursor_of k.word) k.spans.log))
+            (All-set P s.views id both (search (rules, All-cons, kept_met, All-head)) k.each);
+      }
 
   pub meets_at : (id other : ℕ) (v w : List Record) (r met : Record) → v ≡ r ∷ [] → w ≡ met ∷ []
       → Joins Rule id v other w (met_in v w) []

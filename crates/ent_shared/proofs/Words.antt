@@ -1,6 +1,5 @@
 -- The cursor word stays in its range, and what the code makes of it.
-use Rattle.std.proofs.Common.{suc, rules, ◌≡◌, ℕ, ◌+◌, ◌*◌, ◌-◌, ◌%◌, ◌^◌, ◌<◌, ◌≤◌, ℤ, pos, ◌+ℤ◌}
-use Rattle.std.proofs.Common.{◌-ℤ◌, ◌≤ℤ◌, List, [], ◌∷◌, length, arith, suc-mul, add-mul}
+use Rattle.std.proofs.Common.{suc, rules, ◌≡◌, ℕ, ◌+◌, ◌*◌, ◌-◌, ◌%◌, ◌^◌, ◌<◌, ◌≤◌, ℤ, pos, ◌+ℤ◌, ◌-ℤ◌, ◌≤ℤ◌, List, [], ◌∷◌, length, arith, suc-mul, add-mul}
 use Rattle.std.proofs.lemmas.Grind.{common_steps}
 use Rattle.std.specs.Prelude.{◌==◌, count_by}
 use Rattle.std.specs.List.{sum_by, All}
@@ -22,11 +21,11 @@ abbrev pub requested : Reservation → ℕ
 requested c = c.requested
 
 -- how much was requested by reservations that follow each other
-pub follow_asked : (high : ℤ) (cs : List Reservation) (end : ℤ) → Follow high cs end → high
-    ≡ end +ℤ pos (sum_by requested cs)
+pub follow_asked : (high : ℤ) (cs : List Reservation) (end : ℤ) → Follow high cs end
+    → high ≡ end +ℤ pos (sum_by requested cs)
 follow_asked high [] end f = omega (arith, ints, f)
-follow_asked high (c ∷ cs) end f =
-    search (rules, c.requested, sum_by-cons, c.high, ints, follow_asked (low c) cs end f.2)
+follow_asked high (c ∷ cs) end f = search
+    (rules, c.requested, sum_by-cons, c.high, ints, follow_asked (low c) cs end f.2)
 
 -- the word as the code turns it into a cursor
 pub word_fits : (word : ℕ) → word < offset + 2 ^ 32 → SFits w64 (pos word)
@@ -49,8 +48,7 @@ least_cursor word least = omega (arith, ints)
 
 -- the word that the code makes of a cursor
 pub word_is : (at : ℤ) (top : ℕ) → top < 2 ^ 32 → at ≡ pos top
-    → cursor_of (nat_abs (to_z w64 (of_z w64 (to_z w64 (of_z w64 at) +ℤ pos 4611686018427387904))))
-    ≡ at
+    → cursor_of (nat_abs (to_z w64 (of_z w64 (to_z w64 (of_z w64 at) +ℤ pos 4611686018427387904)))) ≡ at
 unfolding offset
 word_is at top few is = omega (arith, ints)
 
@@ -60,8 +58,7 @@ pub lowered : (word n : ℕ) → offset ≤ word + 2 ^ 50 → word < offset + 2 
 unfolding offset quota
 lowered word n least greatest within = omega arith
 
-pub lowered_cursor : (word n : ℕ) → offset ≤ word + 2 ^ 50 → n ≤ quota → cursor_of (word - n)
-    ≡ cursor_of word -ℤ pos n
+pub lowered_cursor : (word n : ℕ) → offset ≤ word + 2 ^ 50 → n ≤ quota → cursor_of (word - n) ≡ cursor_of word -ℤ pos n
 unfolding offset quota
 lowered_cursor word n least within = omega (arith, ints)
 
@@ -95,8 +92,8 @@ module _ (start : Allocator) (count : ℕ) where
   Rule = IsRuled start count
 
   -- what the records of a seat have left and what they have requested is their quota
-  view_quota : (at : ℤ) (log : List Reservation) (view : List Record)
-      → All (IsKept start at log) view → left_of view + weigh requested view ≡ length view * quota
+  view_quota : (at : ℤ) (log : List Reservation) (view : List Record) → All (IsKept start at log) view
+      → left_of view + weigh requested view ≡ length view * quota
   view_quota at log [] all = omega arith
   view_quota at log (r ∷ view) all =
       let here = (all 0 r (omega arith)).quota.quota in
@@ -104,8 +101,7 @@ module _ (start : Allocator) (count : ℕ) where
       search (rules, sum_by-cons, suc-mul)
 
   -- and so it is with the records of all seats
-  pub all_quota : (s : St) (k : Rule s) → sum_by left_of s.views + sum_by requested k.spans.log
-      ≡ count * quota
+  pub all_quota : (s : St) (k : Rule s) → sum_by left_of s.views + sum_by requested k.spans.log ≡ count * quota
   all_quota s k =
       let each = All-weaker (All (IsKept start (cursor_of k.word) k.spans.log))
       (λ (v : List Record). left_of v + weigh requested v ≡ length v * quota)

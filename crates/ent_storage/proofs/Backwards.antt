@@ -1,6 +1,5 @@
 -- The last of some slots, from which a walk goes backwards.
-use Rattle.std.proofs.Common.{rules}
-use Rattle.std.proofs.Common.{◌≡◌, ℕ, ◌+◌, ◌-◌, ◌≤◌, List, [], ◌∷◌, ◌++◌, length}
+use Rattle.std.proofs.Common.{rules, ◌≡◌, ℕ, ◌+◌, ◌-◌, ◌≤◌, List, [], ◌∷◌, ◌++◌, length}
 use Rattle.std.proofs.lemmas.List.{append-nil, length_push}
 use Rattle.ent_handle.specs.Handle.{Handle}
 use Rattle.ent_storage.specs.Slots.{entries_from, AreCounted}
@@ -18,16 +17,13 @@ module _ {X : Type 0} where
     pub entries : all ≡ entries_from index front ++ entry ∷ []
     pub fewer : length all ≡ length (entries_from index front) + 1
 
-  pub last_occupied : (slots front : List (Slot X)) (index left generation : ℕ) (value : X)
-      (all : List (Handle × X)) → slots ≡ front ++ Occupied generation value ∷ []
-      → AreCounted index slots left × (entries_from index slots ≡ all)
-      → LastGone index left front (record { index = index + length front; generation = generation }, value)
-      all
+  pub last_occupied : (slots front : List (Slot X)) (index left generation : ℕ) (value : X) (all : List (Handle × X))
+      → slots ≡ front ++ Occupied generation value ∷ [] → AreCounted index slots left × (entries_from index slots ≡ all)
+      → LastGone index left front (record { index = index + length front; generation = generation }, value) all
   last_occupied slots front index left generation value all split kept = search (rules, entries-append, length_push)
 
   -- it is vacant
   pub last_vacant : (slots front : List (Slot X)) (index left : ℕ) (all : List (Handle × X))
-      → slots ≡ front ++ Vacant ∷ []
-      → AreCounted index slots left × (entries_from index slots ≡ all)
+      → slots ≡ front ++ Vacant ∷ [] → AreCounted index slots left × (entries_from index slots ≡ all)
       → AreCounted index front left × (entries_from index front ≡ all)
   last_vacant slots front index left all split kept = search (rules, entries-append, append-nil, length_push)

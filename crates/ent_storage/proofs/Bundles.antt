@@ -14,9 +14,8 @@ use Rattle.ent_storage.specs.Bundle.{Bundle, IsItem, IsBundle}
 
 module _ (id : ComponentId) (value : ℤ) where
   abbrev putting : ComponentId × ℤ → Bundle → Ordering → Bundle
-  putting item items r =
-      by_order r ((id, value) ∷ item ∷ items) ((item.0, value) ∷ items) (item
-      ∷ put component_cmp id value items)
+  putting item items r = by_order r ((id, value) ∷ item ∷ items) ((item.0, value) ∷ items)
+      (item ∷ put component_cmp id value items)
 
   all_put : id.0 < 2 ^ 8 → FitsSigned w64 value → (items : Bundle) → All IsItem items
       → All IsItem (put component_cmp id value items)
@@ -25,9 +24,9 @@ module _ (id : ComponentId) (value : ℤ) where
       let first = All-head IsItem item items all in
       let others = All-tail IsItem item items all in
       elim (component_cmp id item.0) as (λ r. All IsItem (putting item items r)) [
-        | Less ↦ All-cons IsItem (id, value) (item ∷ items) (record { id = small; value = fits })
-            all
-        | Equal ↦ search (rules, All-cons)
+        | Less ↦ All-cons IsItem (id, value) (item ∷ items) (record { id = small; value = fits }) all
+        | Equal ↦ search
+            (rules, All-cons)
         | Greater ↦ All-cons IsItem item (put component_cmp id value items) first
             (all_put small fits items others)
       ]

@@ -1,7 +1,5 @@
 -- The handles of the living entities that pass, by birth and then by handle.
-use Rattle.std.proofs.Common.{rules, ◌≡◌, ◌≢◌, ℕ, zero, suc, ◌<◌, Bool, true, false, cond, List}
-use Rattle.std.proofs.Common.{[], ◌∷◌, map, length, get_or, Option, Some, None, Contains, IsSomeAnd}
-use Rattle.std.proofs.Common.{IsTrue, refl, sym, ap, subst, ◌∙◌, arith}
+use Rattle.std.proofs.Common.{rules, ◌≡◌, ◌≢◌, ℕ, zero, suc, ◌<◌, Bool, true, false, cond, List, [], ◌∷◌, map, length, get_or, Option, Some, None, Contains, IsSomeAnd, IsTrue, refl, sym, ap, subst, ◌∙◌, arith}
 use Rattle.std.proofs.lemmas.Grind.{common_steps}
 use Rattle.std.specs.declared.cmp.Ordering.{Ordering}
 use Rattle.std.specs.declared.cmp.Ordering.TheVariants.{Less, Equal}
@@ -9,18 +7,15 @@ use Rattle.std.specs.Ordering.{is_lt, is_eq, eq_by_cmp, ordering_then, ordering_
 use Rattle.std.specs.Cmp.{IsTotalOrder, then_total, on_total, eq_by_cmp_equiv}
 use Rattle.std.specs.List.{All, AllPairs, filter, IsDistinct}
 use Rattle.std.proofs.lemmas.List.{get_or-map, get_or_default, length-map}
-use Rattle.std.proofs.lemmas.List.Sorted.{sorted_far, ranks_by, All-permutation}
-use Rattle.std.proofs.lemmas.List.Sorted.{Contains-permutation}
+use Rattle.std.proofs.lemmas.List.Sorted.{sorted_far, ranks_by, All-permutation, Contains-permutation}
 use Rattle.std.proofs.lemmas.List.Elements.{All-filter, filter_passes}
 use Rattle.std.proofs.lemmas.List.Kept.{AllPairs-filter}
-use Rattle.std.proofs.lemmas.Map.Keys.{IsDistinct-from_apart, IsDistinct-IsPermutation}
-use Rattle.std.proofs.lemmas.Map.Keys.{apart_from_distinct}
+use Rattle.std.proofs.lemmas.Map.Keys.{IsDistinct-from_apart, IsDistinct-IsPermutation, apart_from_distinct}
 use Rattle.std.specs.FinMap as finite
 use Rattle.std.specs.FinMap.{FinMap}
 use Rattle.ent_handle.specs.declared.birth.Birth.{Birth}
 use Rattle.ent_handle.specs.Birth.{birth_cmp_total}
-use Rattle.ent_handle.specs.Handle.{Handle, handle_cmp, handle_cmp_total}
-use Rattle.ent_handle.specs.Handle.{handle_cmp-IsAntisymmetric}
+use Rattle.ent_handle.specs.Handle.{Handle, handle_cmp, handle_cmp_total, handle_cmp-IsAntisymmetric}
 use Rattle.ent_storage.specs.Living.{LivingEntity}
 use Rattle.ent_storage.specs.EntityMap.{Entity}
 use Rattle.ent_storage.specs.Indexed.{entity_of, map_of, IsIndexed}
@@ -31,8 +26,7 @@ use Rattle.ent_storage.proofs.Indexed.{some_entity, get_placed, placed_from_get,
 -- ---- the order is total
 
 pair_cmp_total : IsTotalOrder pair_cmp
-pair_cmp_total =
-    then_total (on_total (λ (b : Birth × Handle). b.0) birth_cmp_total)
+pair_cmp_total = then_total (on_total (λ (b : Birth × Handle). b.0) birth_cmp_total)
     (on_total (λ (b : Birth × Handle). b.1) handle_cmp_total)
 
 -- an order that does not turn, at handles that differ
@@ -44,21 +38,19 @@ strictly r s h n = cc
 
 -- ---- membership
 
-contains_map : {X Y : Type 0} (f : X → Y) (xs : List X) (x : X) → Contains xs x
-    → Contains (map f xs) (f x)
+contains_map : {X Y : Type 0} (f : X → Y) (xs : List X) (x : X) → Contains xs x → Contains (map f xs) (f x)
 contains_map f xs x h = grind (arith, common_steps)
 
 later : {X : Type 0} (xs : List X) (y x : X) → Contains xs x → Contains (y ∷ xs) x
 later xs y x h = (suc h.0, omega (arith, h.1), h.2)
 
-contains_filter : {X : Type 0} (p : X → Bool) (xs : List X) (x : X) (k : ℕ) → k < length xs
-    → get_or xs k x ≡ x → p x ≡ true → Contains (filter p xs) x
+contains_filter : {X : Type 0} (p : X → Bool) (xs : List X) (x : X) (k : ℕ) → k < length xs → get_or xs k x ≡ x
+    → p x ≡ true → Contains (filter p xs) x
 contains_filter p [] x k l e pass = absurd (omega arith)
 contains_filter p (y ∷ ys) x zero l e pass = search (rules)
 contains_filter p (y ∷ ys) x (suc k) l e pass =
     let rest = contains_filter p ys x k (omega arith) e pass in
-    elim (p y) as (λ b. Contains (cond b (y ∷ filter p ys) (filter p ys)) x)
-    [ true ↦ later _ y x rest | false ↦ rest ]
+    elim (p y) as (λ b. Contains (cond b (y ∷ filter p ys) (filter p ys)) x) [ true ↦ later _ y x rest | false ↦ rest ]
 
 pub filter-all : {X : Type 0} (xs : List X) → filter (λ _. true) xs ≡ xs
 filter-all [] = refl
@@ -69,8 +61,8 @@ filter-all (x ∷ xs) = search (rules, filter-all xs)
 abbrev pub born_of : LivingEntity → Birth × Handle
 born_of entity = (entity.birth, entity.handle)
 
-module _ (living : List LivingEntity) (index : FinMap handle_cmp ℕ)
-    (indexed : IsIndexed living index) (passes : Entity → Bool) where
+module _ (living : List LivingEntity) (index : FinMap handle_cmp ℕ) (indexed : IsIndexed living index)
+    (passes : Entity → Bool) where
   -- an entity that passes has this birth and this handle
   pub record IsBorn (b : Birth × Handle) : Type 0 where
     pub entity : Entity
@@ -81,17 +73,14 @@ module _ (living : List LivingEntity) (index : FinMap handle_cmp ℕ)
   abbrev pub alike : Birth × Handle → Birth × Handle → Bool
   alike a b = eq_by_cmp handle_cmp a.1 b.1
 
-  pub all_there : All (λ entity. finite.get (map_of living) entity.handle
-      ≡ Some (entity_of entity)) living
+  pub all_there : All (λ entity. finite.get (map_of living) entity.handle ≡ Some (entity_of entity)) living
   all_there k d l = search (rules, get_placed)
 
   -- the births are those of the entities that pass, each once
-  module _ (births : List (Birth × Handle)) (all_born : All IsBorn births)
-      (births_apart : IsDistinct alike births)
-      (complete : (i : ℕ) (r : LivingEntity) → i < length living
-      → passes (entity_of (get_or living i r)) ≡ true
-      → Contains births (born_of (get_or living i r)))
-      (handles : List Handle) (ordered : IsInOrder births handles) where
+  module _ (births : List (Birth × Handle)) (all_born : All IsBorn births) (births_apart : IsDistinct alike births)
+      (complete : (i : ℕ) (r : LivingEntity) → i < length living → passes (entity_of (get_or living i r)) ≡ true
+      → Contains births (born_of (get_or living i r))) (handles : List Handle)
+      (ordered : IsInOrder births handles) where
     abbrev sorted : List (Birth × Handle)
     sorted = ordered.sorted
 
@@ -99,29 +88,52 @@ module _ (living : List LivingEntity) (index : FinMap handle_cmp ℕ)
     all_sorted = search (rules, All-permutation)
 
     sorted_apart : IsDistinct alike sorted
-    sorted_apart =
-        IsDistinct-IsPermutation alike (λ x y. (eq_by_cmp_equiv handle_cmp_total).symm x.1 y.1)
-        births sorted ordered.permutation births_apart
+    sorted_apart = IsDistinct-IsPermutation alike (λ x y. (eq_by_cmp_equiv handle_cmp_total).symm x.1 y.1) births sorted
+        ordered.permutation births_apart
 
-    in_order : (i j : ℕ) (b : Birth × Handle) → i < j → j < length sorted
-        → birth_order (map_of living) (get_or sorted i b).1 (get_or sorted j b).1 ≡ Less
-    in_order i j b l k = let x = get_or sorted i b in let y = get_or sorted j b in let born_x : IsBorn (get_or sorted i b) = all_sorted i b (omega arith) in let born_y : IsBorn (get_or sorted j b) = all_sorted j b k in let unturned = sorted_far (λ (p q : Birth × Handle). is_lt (pair_cmp p q)) (ranks_by pair_cmp_total (λ p. p)) sorted ordered.in_order i j b (omega arith) k in let turned = ap is_lt (sym (pair_cmp_total.antisymm y x)) ∙ unturned in let differ = apart_from_distinct alike sorted i j b sorted_apart l k in search (rules, strictly)
+    in_order : (i j : ℕ) (b : Birth × Handle) → i < j → j < length sorted → birth_order (map_of living) (get_or sorted i
+        b).1 (get_or sorted j b).1 ≡ Less
+    in_order i j b l k =
+        let x = get_or sorted i b in
+        let y = get_or sorted j b in
+        let born_x : IsBorn (get_or sorted i b) = all_sorted i b (omega arith) in
+        let born_y : IsBorn (get_or sorted j b) = all_sorted j b k in
+        let unturned = sorted_far (λ (p q : Birth × Handle). is_lt (pair_cmp p q)) (ranks_by pair_cmp_total (λ p. p))
+        sorted ordered.in_order i j b (omega arith) k in
+        let turned = ap is_lt (sym (pair_cmp_total.antisymm y x)) ∙ unturned in
+        let differ = apart_from_distinct alike sorted i j b sorted_apart l k in
+        search (rules, strictly)
 
-    rising : AllPairs (λ a b. birth_order (map_of living) a b ≡ Less)
-        (map (λ (born : Birth × Handle). born.1) sorted)
-    rising i j d l k = let b : Birth × Handle = search rules in let below : j < length sorted = omega (arith, length-map {B = Handle} sorted (λ born. born.1)) in let at_i = get_or-map (λ (born : Birth × Handle). born.1) sorted i b d (omega arith) in let at_j = get_or-map (λ (born : Birth × Handle). born.1) sorted j b d below in rw (at_i, at_j) (in_order i j b l below)
+    rising : AllPairs (λ a b. birth_order (map_of living) a b ≡ Less) (map (λ (born : Birth × Handle). born.1) sorted)
+    rising i j d l k =
+        let b : Birth × Handle = search rules in
+        let below : j < length sorted = omega (arith, length-map {B = Handle} sorted (λ born. born.1)) in
+        let at_i = get_or-map (λ (born : Birth × Handle). born.1) sorted i b d (omega arith) in
+        let at_j = get_or-map (λ (born : Birth × Handle). born.1) sorted j b d below in
+        rw (at_i, at_j) (in_order i j b l below)
 
     from_list : (h : Handle) → Contains (map (λ (born : Birth × Handle). born.1) sorted) h
         → IsSomeAnd (finite.get (map_of living) h) (λ e. IsTrue (passes e))
-    from_list h at = let b : Birth × Handle = search rules in let below : at.0 < length sorted = omega (arith, length-map {B = Handle} sorted (λ born. born.1), at.1) in let is = get_or-map (λ (born : Birth × Handle). born.1) sorted at.0 b h below in let born : IsBorn (get_or sorted at.0 b) = all_sorted at.0 b below in search (rules, is, at.2, born.there, born.pass)
+    from_list h at =
+        let b : Birth × Handle = search rules in
+        let below : at.0 < length sorted = omega (arith, length-map {B = Handle} sorted (λ born. born.1), at.1) in
+        let is = get_or-map (λ (born : Birth × Handle). born.1) sorted at.0 b h below in
+        let born : IsBorn (get_or sorted at.0 b) = all_sorted at.0 b below in
+        search (rules, is, at.2, born.there, born.pass)
 
-    of_entity : (h : Handle) (e : Entity) (i : ℕ) → finite.get (map_of living) h ≡ Some e
-        → finite.get index h ≡ Some i → passes e ≡ true
-        → Contains (map (λ (born : Birth × Handle). born.1) sorted) h
-    of_entity h e i found placed pass = let r : LivingEntity = some_entity h in let at = indexed.each_place h i placed in let here = get_placed living index indexed h i r placed in let entity : LivingEntity = get_or living i r in let is : entity_of entity ≡ e = cc in let listed = Contains-permutation births sorted (born_of entity) ordered.permutation (complete i r at.0 (ap passes is ∙ pass)) in grind (arith, common_steps, contains_map)
+    of_entity : (h : Handle) (e : Entity) (i : ℕ) → finite.get (map_of living) h ≡ Some e → finite.get index h ≡ Some i
+        → passes e ≡ true → Contains (map (λ (born : Birth × Handle). born.1) sorted) h
+    of_entity h e i found placed pass =
+        let r : LivingEntity = some_entity h in
+        let at = indexed.each_place h i placed in
+        let here = get_placed living index indexed h i r placed in
+        let entity : LivingEntity = get_or living i r in
+        let is : entity_of entity ≡ e = cc in
+        let listed = Contains-permutation births sorted (born_of entity) ordered.permutation
+        (complete i r at.0 (ap passes is ∙ pass)) in
+        grind (arith, common_steps, contains_map)
 
-    to_list : (h : Handle) (o : Option Entity) → finite.get (map_of living) h ≡ o
-        → IsSomeAnd o (λ e. IsTrue (passes e))
+    to_list : (h : Handle) (o : Option Entity) → finite.get (map_of living) h ≡ o → IsSomeAnd o (λ e. IsTrue (passes e))
         → Contains (map (λ (born : Birth × Handle). born.1) sorted) h
     to_list h None found pass = absurd pass
     to_list h (Some e) found pass = search (rules, placed_from_get, of_entity)
@@ -141,27 +153,31 @@ module _ (living : List LivingEntity) (index : FinMap handle_cmp ℕ)
   births = map born_of chosen
 
   all_born : All IsBorn births
-  all_born k d l = let r : LivingEntity = some_entity d.1 in let below : k < length chosen = omega (arith, length-map {B = Birth × Handle} chosen born_of) in rw (get_or-map born_of chosen k r d below) (record { entity = entity_of (get_or chosen k r); there = All-filter (λ entity. passes (entity_of entity)) (λ entity. finite.get (map_of living) entity.handle ≡ Some (entity_of entity)) living all_there k r below; birth = refl; pass = search (rules, filter_passes) })
+  all_born k d l =
+      let r : LivingEntity = some_entity d.1 in
+      let below : k < length chosen = omega (arith, length-map {B = Birth × Handle} chosen born_of) in
+      rw (get_or-map born_of chosen k r d below) (record {
+        entity = entity_of (get_or chosen k r);
+        there = All-filter (λ entity. passes (entity_of entity)) (λ entity. finite.get (map_of living) entity.handle
+            ≡ Some (entity_of entity)) living all_there k r below;
+        birth = refl;
+        pass = search (rules, filter_passes);
+      })
 
   births_apart : IsDistinct alike births
-  births_apart = IsDistinct-from_apart alike births (λ i j d l k.
-      let r : LivingEntity = some_entity d.1 in
-      let below : j < length chosen = omega (arith, length-map {B = Birth × Handle} chosen born_of)
-      in
-      let at_i = get_or-map born_of chosen i r d (omega arith) in
-      let at_j = get_or-map born_of chosen j r d below in
-      let differ = AllPairs-filter (λ (a b : LivingEntity). a.handle ≢ b.handle)
-      (λ entity. passes (entity_of entity)) living (λ i j d l k e.
-      omega (arith, distinct living index indexed i j d (omega arith) k e)) i j r l below in
-      rw (at_i, at_j) (apart handle_cmp_total handle_cmp-IsAntisymmetric _ _ differ))
+  births_apart = IsDistinct-from_apart alike births (λ i j d l k. let r : LivingEntity = some_entity d.1 in let below :
+      j < length chosen = omega (arith, length-map {B = Birth × Handle} chosen born_of) in let at_i = get_or-map born_of
+      chosen i r d (omega arith) in let at_j = get_or-map born_of chosen j r d below in let differ = AllPairs-filter
+      (λ (a b : LivingEntity). a.handle ≢ b.handle) (λ entity. passes (entity_of entity)) living
+      (λ i j d l k e. omega (arith, distinct living index indexed i j d (omega arith) k e)) i j r l below in rw
+      (at_i, at_j) (apart handle_cmp_total handle_cmp-IsAntisymmetric _ _ differ))
 
-  complete : (i : ℕ) (r : LivingEntity) → i < length living → passes (entity_of (get_or living i r))
-      ≡ true → Contains births (born_of (get_or living i r))
+  complete : (i : ℕ) (r : LivingEntity) → i < length living → passes (entity_of (get_or living i r)) ≡ true
+      → Contains births (born_of (get_or living i r))
   complete i r l pass =
       let entity : LivingEntity = get_or living i r in
-      contains_map born_of chosen entity (contains_filter (λ entity. passes (entity_of entity))
-      living entity i l (get_or_default living i entity r l) pass)
+      contains_map born_of chosen entity (contains_filter (λ entity. passes (entity_of entity)) living entity i l
+      (get_or_default living i entity r l) pass)
 
-  pub lists : (handles : List Handle) → IsInOrder births handles
-      → ListsByBirth passes (map_of living) handles
+  pub lists : (handles : List Handle) → IsInOrder births handles → ListsByBirth passes (map_of living) handles
   lists = lists_of births all_born births_apart complete

@@ -1,7 +1,5 @@
 -- The components of the entity at a place are changed.
-use Rattle.std.proofs.Common.{rules}
-use Rattle.std.proofs.Common.{◌≡◌, ℕ, zero, suc, ◌-◌, ◌<◌, List, [], ◌∷◌, length, get_or, set, Some}
-use Rattle.std.proofs.Common.{min, refl, sym, ap, subst, ◌∙◌, arith}
+use Rattle.std.proofs.Common.{rules, ◌≡◌, ℕ, zero, suc, ◌-◌, ◌<◌, List, [], ◌∷◌, length, get_or, set, Some, min, refl, sym, ap, subst, ◌∙◌, arith}
 use Rattle.std.proofs.lemmas.List.{get_or_default}
 use Rattle.std.specs.FinMap as finite
 use Rattle.std.specs.FinMap.{FinMap}
@@ -14,11 +12,11 @@ use Rattle.ent_storage.proofs.Indexed.{some_entity, entities_changed, read_handl
 use Rattle.ent_storage.proofs.Counted.{kept_set}
 use Rattle.ent_storage.proofs.Placed.{handles_changed}
 
-as_set : (living : List LivingEntity) (i : ℕ) (d : LivingEntity) (change : Components → Components)
-    → i < length living → change_at living i change
-    ≡ set living i (record {
+as_set : (living : List LivingEntity) (i : ℕ) (d : LivingEntity) (change : Components → Components) → i < length living
+    → change_at living i change ≡ set living i (record {
       handle = (get_or living i d).handle;
-      birth = (get_or living i d).birth;
+      birth =
+          (get_or living i d).birth;
       components = change (get_or living i d).components;
     })
 as_set [] i d change l = absurd (omega arith)
@@ -39,11 +37,9 @@ pub record IsChanged (s : Store) (h : Handle) (change : Components → Component
   pub kept : IsKeptIndex living index room
 
 module _ (living : List LivingEntity) (index : FinMap handle_cmp ℕ) (room others : ℕ) (s : Store)
-    (kept : IsKeptIndex living index (min room others)) (view : record {
-      entities = map_of living;
-      places = handles_by_place living;
-      spare = min room others - length living;
-    } ≡ s) (h : Handle) (i : ℕ) (placed : finite.get (counted living index) h ≡ Some i) where
+    (kept : IsKeptIndex living index (min room others)) (view : record
+    { entities = map_of living; places = handles_by_place living; spare = min room others - length living }
+    ≡ s) (h : Handle) (i : ℕ) (placed : finite.get (counted living index) h ≡ Some i) where
   abbrev was : LivingEntity
   was = get_or living i (some_entity h)
 
@@ -53,8 +49,8 @@ module _ (living : List LivingEntity) (index : FinMap handle_cmp ℕ) (room othe
   read : was ≡ get_or living i was
   read = search (rules, get_or_default, some_entity, inside)
 
-  pub changed : (change : Components → Components) (after : List LivingEntity) (now : ℕ) → after
-      ≡ change_at living i change → now ≡ room → IsChanged s h change after index (min now others)
+  pub changed : (change : Components → Components) (after : List LivingEntity) (now : ℕ)
+      → after ≡ change_at living i change → now ≡ room → IsChanged s h change after index (min now others)
   changed change after now is same = rw (is, same) (record {
     entities = ap map_of is_set
         ∙ entities_changed living (counted living index) kept.indexed h i placed was read

@@ -1,7 +1,6 @@
 -- Slots that are clones of others, one by one: their maps have the same handles, and each value is a
 -- clone of the other's.
-use Rattle.std.proofs.Common.{rules, ◌≡◌, ℕ, ◌+◌, List, [], ◌∷◌, length, map}
-use Rattle.std.proofs.Common.{refl, ap, ◌∙◌, sym}
+use Rattle.std.proofs.Common.{rules, ◌≡◌, ℕ, ◌+◌, List, [], ◌∷◌, length, map, refl, ap, ◌∙◌, sym}
 use Rattle.std.proofs.lemmas.List.{length-map}
 use Rattle.std.proofs.lemmas.List.Elements.{length_all_zip}
 use Rattle.std.specs.List.{AllZip}
@@ -17,8 +16,8 @@ module _ {X : Type 0} (is_clone : X → X → Type 0) where
       → map (λ e. e.0) (entries_from index new) ≡ map (λ e. e.0) (entries_from index old)
   keys_from index [] [] all = refl
   keys_from index (Vacant ∷ old) (Vacant ∷ new) all = keys_from (index + 1) old new all.1
-  keys_from index (Occupied generation v ∷ old) (Occupied other w ∷ new) all =
-      search (rules, all.0.0, keys_from (index + 1) old new all.1)
+  keys_from index (Occupied generation v ∷ old) (Occupied other w ∷ new) all = search
+      (rules, all.0.0, keys_from (index + 1) old new all.1)
   keys_from index old new all = search rules
 
   values_from : (index : ℕ) (old new : List (Slot X)) → AreSlotClones is_clone old new
@@ -34,10 +33,8 @@ module _ {X : Type 0} (is_clone : X → X → Type 0) where
 
   count_from : (index : ℕ) (old new : List (Slot X)) → AreSlotClones is_clone old new
       → length (entries_from index new) ≡ length (entries_from index old)
-  count_from index old new all =
-      sym (length-map (entries_from index new) (λ (e : Handle × X). e.0))
-      ∙ ap length (keys_from index old new all)
-      ∙ length-map (entries_from index old) (λ (e : Handle × X). e.0)
+  count_from index old new all = sym (length-map (entries_from index new) (λ (e : Handle × X). e.0))
+      ∙ ap length (keys_from index old new all) ∙ length-map (entries_from index old) (λ (e : Handle × X). e.0)
 
   pub cloned_keys : (old new : List (Slot X)) → AreSlotClones is_clone old new
       → finite.keys (map_of_slots new) ≡ finite.keys (map_of_slots old)
@@ -47,6 +44,6 @@ module _ {X : Type 0} (is_clone : X → X → Type 0) where
       → AllZip is_clone (finite.values (map_of_slots old)) (finite.values (map_of_slots new))
   cloned_values old new all = search (rules, entries_map, values_from)
 
-  pub cloned_counted : (old new : List (Slot X)) (count : ℕ) → AreSlotClones is_clone old new
-      → AreCounted 0 old count → AreCounted 0 new count
+  pub cloned_counted : (old new : List (Slot X)) (count : ℕ) → AreSlotClones is_clone old new → AreCounted 0 old count
+      → AreCounted 0 new count
   cloned_counted old new count all counted = search (rules, length_from, count_from)

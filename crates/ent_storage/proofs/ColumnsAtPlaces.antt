@@ -1,7 +1,5 @@
 -- What columns have at a place, and after each change.
-use Rattle.std.proofs.Common.{rules, ◌≡◌, ◌≢◌, ℕ, ℤ, zero, suc, ◌+◌, ◌<◌, ◌≤◌, cond, T, ◌⊎◌, inl}
-use Rattle.std.proofs.Common.{inr, List, [], ◌∷◌, length, get_or, set, Option, Some, None, refl}
-use Rattle.std.proofs.Common.{sym, ap, subst, ◌∙◌, arith}
+use Rattle.std.proofs.Common.{rules, ◌≡◌, ◌≢◌, ℕ, ℤ, zero, suc, ◌+◌, ◌<◌, ◌≤◌, cond, T, ◌⊎◌, inl, inr, List, [], ◌∷◌, length, get_or, set, Option, Some, None, refl, sym, ap, subst, ◌∙◌, arith}
 use Rattle.std.proofs.lemmas.Grind.{common_steps}
 use Rattle.std.proofs.lemmas.Option.{none-some}
 use Rattle.std.proofs.lemmas.List.{get_or_past, get_or-set_same, get_or-set_other}
@@ -12,13 +10,11 @@ use Rattle.std.specs.FinMap as map
 use Rattle.std.specs.FinMap.{find, is_sorted}
 use Rattle.std.specs.FinMap.Entries.{below_all}
 use Rattle.ent_handle.specs.declared.component.ComponentId.{ComponentId}
-use Rattle.ent_handle.specs.Component.{component_cmp, component_cmp_total as total}
-use Rattle.ent_handle.specs.Component.{component_cmp-IsAntisymmetric as same}
+use Rattle.ent_handle.specs.Component.{component_cmp, component_cmp_total as total, component_cmp-IsAntisymmetric as same}
 use Rattle.ent_storage.specs.SparseSet.{Column, no_column, HasRoomAt, IsMovedDown}
 use Rattle.ent_storage.specs.Living.{column_at, value_at, with_value, items_from, components_at}
 use Rattle.ent_storage.proofs.Rising.{both}
-use Rattle.ent_storage.proofs.Keys.{tied, apart, same_or_apart, get-insert_same, get-insert_other}
-use Rattle.ent_storage.proofs.Keys.{get-remove_same, get-remove_other, remove_absent}
+use Rattle.ent_storage.proofs.Keys.{tied, apart, same_or_apart, get-insert_same, get-insert_other, get-remove_same, get-remove_other, remove_absent}
 
 id_of : ℕ → ComponentId
 id_of n = record { 0 = n }
@@ -29,8 +25,7 @@ below_less : (a b : ℕ) → a < b → T (is_lt (nat_cmp a b))
 below_less a b l = search (rules)
 
 all_above_value : (k n : ℕ) (o : Option ℤ) (items : List (ComponentId × ℤ)) → k < n
-    → T (below_all component_cmp (id_of k) items)
-    → T (below_all component_cmp (id_of k) (with_value o n items))
+    → T (below_all component_cmp (id_of k) items) → T (below_all component_cmp (id_of k) (with_value o n items))
 unfolding id_of
 all_above_value k n None items l rest = rest
 all_above_value k n (Some v) items l rest = both _ _ (below_less k n l) rest
@@ -38,12 +33,11 @@ all_above_value k n (Some v) items l rest = both _ _ (below_less k n l) rest
 all_above : (k n : ℕ) (columns : List Column) (place : ℕ) → k < n
     → T (below_all component_cmp (id_of k) (items_from n columns place))
 all_above k n [] place l = tt
-all_above k n (column ∷ columns) place l =
-    search (rules, all_above_value, all_above k (suc n) columns place (omega arith))
+all_above k n (column ∷ columns) place l = search
+    (rules, all_above_value, all_above k (suc n) columns place (omega arith))
 
-rising_value : (n : ℕ) (o : Option ℤ) (items : List (ComponentId × ℤ))
-    → T (below_all component_cmp (id_of n) items) → T (is_sorted component_cmp items)
-    → T (is_sorted component_cmp (with_value o n items))
+rising_value : (n : ℕ) (o : Option ℤ) (items : List (ComponentId × ℤ)) → T (below_all component_cmp (id_of n) items)
+    → T (is_sorted component_cmp items) → T (is_sorted component_cmp (with_value o n items))
 unfolding id_of
 rising_value n None items above rest = rest
 rising_value n (Some v) items above rest = both _ _ above rest
@@ -51,15 +45,13 @@ rising_value n (Some v) items above rest = both _ _ above rest
 pub items_rising : (n : ℕ) (columns : List Column) (place : ℕ)
     → T (is_sorted component_cmp (items_from n columns place))
 items_rising n [] place = tt
-items_rising n (column ∷ columns) place =
-    search (rules, rising_value, all_above, items_rising (suc n) columns place)
+items_rising n (column ∷ columns) place = search (rules, rising_value, all_above, items_rising (suc n) columns place)
 
 -- ---- the value of each component
 
-find_value : (n : ℕ) (o : Option ℤ) (items : List (ComponentId × ℤ)) (id : ComponentId) → (n ≡ id.0)
-    ⊎ (n ≢ id.0) → (n ≡ id.0 → find component_cmp id items ≡ None)
-    → find component_cmp id (with_value o n items) ≡ cond (eq_by_cmp nat_cmp id.0 n) o
-    (find component_cmp id items)
+find_value : (n : ℕ) (o : Option ℤ) (items : List (ComponentId × ℤ)) (id : ComponentId) → (n ≡ id.0) ⊎ (n ≢ id.0)
+    → (n ≡ id.0 → find component_cmp id items ≡ None) → find component_cmp id (with_value o n items)
+    ≡ cond (eq_by_cmp nat_cmp id.0 n) o (find component_cmp id items)
 find_value n None items id (inl e) none = search (rules, tied)
 find_value n None items id (inr a) none = search (rules, apart)
 find_value n (Some v) items id c none = refl
@@ -68,85 +60,73 @@ find_value n (Some v) items id c none = refl
 find_below : (n : ℕ) (columns : List Column) (place : ℕ) (id : ComponentId) → id.0 < n
     → find component_cmp id (items_from n columns place) ≡ None
 find_below n [] place id l = refl
-find_below n (column ∷ columns) place id l =
-    grind (arith, common_steps, find_below (suc n) columns place id (omega arith))
+find_below n (column ∷ columns) place id l = grind
+    (arith, common_steps, find_below (suc n) columns place id (omega arith))
 
 find_items : (n : ℕ) (columns : List Column) (place : ℕ) (id : ComponentId) (k : ℕ) → n + k ≡ id.0
-    → find component_cmp id (items_from n columns place) ≡ map.get (column_at columns k).values
-    place
+    → find component_cmp id (items_from n columns place) ≡ map.get (column_at columns k).values place
 find_items n [] place id k e = sym (map.get-empty nat_cmp place)
-find_items n (column ∷ columns) place id zero e =
-    search (rules, find_value, cases_eq, find_below, tied)
-find_items n (column ∷ columns) place id (suc k) e =
-    grind (arith, common_steps, find_items (suc n) columns place id k (omega arith))
+find_items n (column ∷ columns) place id zero e = search (rules, find_value, cases_eq, find_below, tied)
+find_items n (column ∷ columns) place id (suc k) e = grind
+    (arith, common_steps, find_items (suc n) columns place id k (omega arith))
 
 pub get_components : (columns : List Column) (place : ℕ) (id : ComponentId)
     → map.get (components_at columns place) id ≡ value_at columns place id
-get_components columns place id =
-    map.get-from_sorted component_cmp _ id (items_rising 0 columns place)
+get_components columns place id = map.get-from_sorted component_cmp _ id (items_rising 0 columns place)
     ∙ find_items 0 columns place id id.0 (omega arith)
 
-pub entries_components : (columns : List Column) (place : ℕ)
-    → map.entries (components_at columns place) ≡ items_from 0 columns place
-entries_components columns place = map.entries-from_sorted component_cmp _
-    (items_rising 0 columns place)
+pub entries_components : (columns : List Column) (place : ℕ) → map.entries (components_at columns place) ≡ items_from 0
+    columns place
+entries_components columns place = map.entries-from_sorted component_cmp _ (items_rising 0 columns place)
 
 -- ---- components of two places, or before and after a change
 
-pub same_components : (old new : List Column) (p q : ℕ) → ((id : ComponentId) → value_at new q id
-    ≡ value_at old p id) → components_at new q ≡ components_at old p
+pub same_components : (old new : List Column) (p q : ℕ) → ((id : ComponentId) → value_at new q id ≡ value_at old p id)
+    → components_at new q ≡ components_at old p
 same_components old new p q are = map.same_map total same _ _ (search (rules, get_components))
 
-pub no_components : (columns : List Column) (place : ℕ)
-    → ((id : ComponentId) → value_at columns place id ≡ None) → components_at columns place
-    ≡ map.empty
-no_components columns place none = map.same_map total same _ _
-    (search (rules, get_components, map.get-empty))
+pub no_components : (columns : List Column) (place : ℕ) → ((id : ComponentId) → value_at columns place id ≡ None)
+    → components_at columns place ≡ map.empty
+no_components columns place none = map.same_map total same _ _ (search (rules, get_components, map.get-empty))
 
 -- ---- one column is changed
 
-pub column_past : (columns : List Column) (n : ℕ) → length columns ≤ n → column_at columns n
-    ≡ no_column
+pub column_past : (columns : List Column) (n : ℕ) → length columns ≤ n → column_at columns n ≡ no_column
 column_past columns n l = get_or_past columns n no_column l
 
 -- a column with room is one of the list
-pub room_inside : (columns : List Column) (n place : ℕ) → HasRoomAt (column_at columns n) place → n
-    < length columns
-room_inside columns n place room = search
-    (rules, cases_lt n (length columns), column_past, map.get-empty)
+pub room_inside : (columns : List Column) (n place : ℕ) → HasRoomAt (column_at columns n) place → n < length columns
+room_inside columns n place room = search (rules, cases_lt n (length columns), column_past, map.get-empty)
 
 -- so is one with a value
-pub value_inside : (columns : List Column) (place : ℕ) (id : ComponentId) (v : ℤ)
-    → value_at columns place id ≡ Some v → id.0 < length columns
+pub value_inside : (columns : List Column) (place : ℕ) (id : ComponentId) (v : ℤ) → value_at columns place id ≡ Some v
+    → id.0 < length columns
 value_inside columns place id v at = elim (cases_lt id.0 (length columns)) [
   | inl lt ↦ lt
-  | inr past ↦ absurd (none-some v (sym (ap (λ (c : Column). map.get c.values place)
-      (column_past columns id.0 past) ∙ map.get-empty nat_cmp place) ∙ at))
+  | inr past ↦ absurd (none-some v (sym
+      (ap (λ (c : Column). map.get c.values place) (column_past columns id.0 past) ∙ map.get-empty nat_cmp place) ∙ at))
 ]
 
 same_id : (a b : ComponentId) → a.0 ≡ b.0 → a ≡ b
 same_id a b e = λ i. record { 0 = e i }
 
-module _ (old new : List Column) (place : ℕ) (id : ComponentId) (others : (n : ℕ) → n ≢ id.0
-    → column_at new n ≡ column_at old n) where
+module _ (old new : List Column) (place : ℕ) (id : ComponentId)
+    (others : (n : ℕ) → n ≢ id.0 → column_at new n ≡ column_at old n) where
   value_apart : (p : ℕ) (q : ComponentId) → q ≢ id → value_at new p q ≡ value_at old p q
   value_apart p q n = search (rules, same_id)
 
   -- a value is set at the place
-  module _ (v : ℤ) (set_to : (column_at new id.0).values ≡ map.insert (column_at old id.0).values
-      place v) where
+  module _ (v : ℤ) (set_to : (column_at new id.0).values ≡ map.insert (column_at old id.0).values place v) where
     value_set : (q : ComponentId) → (q ≡ id) ⊎ (q ≢ id) → value_at new place q
         ≡ map.get (map.insert (components_at old place) id v) q
     value_set q (inl e) =
-        let here = get-insert_same nat_cmp_total map.nat_cmp-IsAntisymmetric
-        (column_at old id.0).values place v place refl in
+        let here = get-insert_same nat_cmp_total map.nat_cmp-IsAntisymmetric (column_at old id.0).values place v place
+        refl in
         grind (arith, get-insert_same total same)
-    value_set q (inr n) =
-        grind (arith, value_apart, get_components, get-insert_other total same)
+    value_set q (inr n) = grind (arith, value_apart, get_components, get-insert_other total same)
 
     pub components_insert : components_at new place ≡ map.insert (components_at old place) id v
-    components_insert =
-        map.same_map total same _ _ (search (rules, get_components, value_set, same_or_apart))
+    components_insert = map.same_map total same _ _ (search (rules, get_components, value_set, same_or_apart))
 
     value_elsewhere : (p : ℕ) → p ≢ place → (q : ComponentId) → (q ≡ id) ⊎ (q ≢ id)
         → value_at new p q ≡ value_at old p q
@@ -156,43 +136,37 @@ module _ (old new : List Column) (place : ℕ) (id : ComponentId) (others : (n :
     pub insert_others : (p : ℕ) (q : ComponentId) → p ≢ place → value_at new p q ≡ value_at old p q
     insert_others p q far = value_elsewhere p far q (same_or_apart total same q id)
 
-    room_by : (n : ℕ) → (n ≡ id.0) ⊎ (n ≢ id.0) → HasRoomAt (column_at old n) place
-        → HasRoomAt (column_at new n) place
+    room_by : (n : ℕ) → (n ≡ id.0) ⊎ (n ≢ id.0) → HasRoomAt (column_at old n) place → HasRoomAt (column_at new n) place
     room_by n (inl e) room = search (rules, get-insert_same, nat_cmp_total, none-some)
     room_by n (inr far) room = subst (λ c. HasRoomAt c place) (sym (others n far)) room
 
-    pub insert_room : (n : ℕ) → HasRoomAt (column_at old n) place → HasRoomAt (column_at new n)
-        place
+    pub insert_room : (n : ℕ) → HasRoomAt (column_at old n) place → HasRoomAt (column_at new n) place
     insert_room n = room_by n (cases_eq n id.0)
 
   -- a value is taken out at the place
   module _ (taken : (column_at new id.0).values ≡ map.remove (column_at old id.0).values place)
     where
-      value_taken : (q : ComponentId) → (q ≡ id) ⊎ (q ≢ id) → value_at new place q
-          ≡ map.get (map.remove (components_at old place) id) q
+      value_taken : (q : ComponentId) → (q ≡ id) ⊎ (q ≢ id)
+          → value_at new place q ≡ map.get (map.remove (components_at old place) id) q
       value_taken q (inl e) = search (rules, get-remove_same)
-      value_taken q (inr n) =
-          grind (arith, value_apart, get_components, get-remove_other total same)
+      value_taken q (inr n) = grind (arith, value_apart, get_components, get-remove_other total same)
 
       pub components_remove : components_at new place ≡ map.remove (components_at old place) id
-      components_remove =
-          map.same_map total same _ _ (search (rules, get_components, value_taken, same_or_apart))
+      components_remove = map.same_map total same _ _ (search (rules, get_components, value_taken, same_or_apart))
 
-      value_left : (p : ℕ) → p ≢ place → (q : ComponentId) → (q ≡ id) ⊎ (q ≢ id) → value_at new p q
-          ≡ value_at old p q
+      value_left : (p : ℕ) → p ≢ place → (q : ComponentId) → (q ≡ id) ⊎ (q ≢ id) → value_at new p q ≡ value_at old p q
       value_left p far q (inl e) =
-          let left = get-remove_other nat_cmp_total map.nat_cmp-IsAntisymmetric
-          (column_at old id.0).values place p far in
+          let left = get-remove_other nat_cmp_total map.nat_cmp-IsAntisymmetric (column_at old id.0).values place p
+          far in
           grind arith
       value_left p far q (inr n) = value_apart p q n
 
-      pub remove_others : (p : ℕ) (q : ComponentId) → p ≢ place → value_at new p q
-          ≡ value_at old p q
+      pub remove_others : (p : ℕ) (q : ComponentId) → p ≢ place → value_at new p q ≡ value_at old p q
       remove_others p q far = value_left p far q (same_or_apart total same q id)
 
 -- the column at the number is written over
-module _ (columns : List Column) (n : ℕ) (was is : Column) (inside : n < length columns) (read : was
-    ≡ get_or columns n was) where
+module _ (columns : List Column) (n : ℕ) (was is : Column) (inside : n < length columns)
+    (read : was ≡ get_or columns n was) where
   pub column_set : column_at (set columns n is) n ≡ is
   column_set = get_or-set_same columns n is no_column inside
 
@@ -201,8 +175,7 @@ module _ (columns : List Column) (n : ℕ) (was is : Column) (inside : n < lengt
 
 -- what is not there stays out
 pub taken_none : (columns : List Column) (place : ℕ) (id : ComponentId) → length columns ≤ id.0
-    → (value_at columns place id ≡ None)
-    × (components_at columns place ≡ map.remove (components_at columns place) id)
+    → (value_at columns place id ≡ None) × (components_at columns place ≡ map.remove (components_at columns place) id)
 taken_none columns place id l =
     let none : value_at columns place id ≡ None = search (rules, column_past, map.get-empty) in
     (none, sym (remove_absent total same _ _ (get_components columns place id ∙ none)))

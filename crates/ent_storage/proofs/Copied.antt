@@ -1,8 +1,6 @@
 -- What a storage takes over from another one.
-use Rattle.std.proofs.Common.{rules}
+use Rattle.std.proofs.Common.{rules, ◌≡◌, ◌≢◌, ℕ, ℤ, zero, suc, ◌+◌, ◌<◌, ◌≤◌, Bool, List, [], ◌∷◌, length, filter, take, get_or, set, subst, refl, ap, sym, ◌∙◌, arith, inl, inr, ◌⊎◌, None}
 use Rattle.std.proofs.lemmas.Grind.{common_steps}
-use Rattle.std.proofs.Common.{◌≡◌, ◌≢◌, ℕ, ℤ, zero, suc, ◌+◌, ◌<◌, ◌≤◌, Bool, List, [], ◌∷◌, length}
-use Rattle.std.proofs.Common.{filter, take, get_or, set, subst, refl, ap, sym, ◌∙◌, arith, inl, inr, ◌⊎◌, None}
 use Rattle.std.proofs.lemmas.Option.{none-some}
 use Rattle.std.proofs.lemmas.Bool.{cases_lt, cases_eq}
 use Rattle.std.proofs.lemmas.List.{get_or_default}
@@ -18,8 +16,7 @@ use Rattle.ent_storage.specs.declared.living.Resident.{Resident}
 use Rattle.ent_storage.specs.Components.{Components}
 use Rattle.ent_storage.specs.EntityMap.{AreBare}
 use Rattle.ent_storage.specs.Indexed.{map_of, entity_of, IsIndexed}
-use Rattle.ent_storage.specs.Living.{LivingEntity, column_at, value_at, components_at, entities_from}
-use Rattle.ent_storage.specs.Living.{AreColumnsOf}
+use Rattle.ent_storage.specs.Living.{LivingEntity, column_at, value_at, components_at, entities_from, AreColumnsOf}
 use Rattle.ent_storage.specs.SparseSet.{Column, Values, IsDense, HasRoomFor, Fits, no_column}
 use Rattle.ent_storage.proofs.ColumnsAtPlaces.{get_components, column_set, column_kept}
 use Rattle.ent_storage.proofs.Dense.{has}
@@ -27,24 +24,21 @@ use Rattle.ent_storage.proofs.EntitiesOfResidents.{at_from, length_from, same_fr
 use Rattle.ent_storage.proofs.Indexed.{get_placed, some_entity}
 
 -- a dense vector of some pairs stands for some values
-pub some_values : (dense : List (ℕ × ℤ)) (sparse : List ℕ) → IsDense dense sparse
-    → length dense ≢ 0 → map.from_entries {R = nat_cmp} dense ≢ map.empty
+pub some_values : (dense : List (ℕ × ℤ)) (sparse : List ℕ) → IsDense dense sparse → length dense ≢ 0
+    → map.from_entries {R = nat_cmp} dense ≢ map.empty
 some_values [] sparse is more none = more refl
-some_values ((p, v) ∷ dense) sparse is more none =
-    none-some v
+some_values ((p, v) ∷ dense) sparse is more none = none-some v
     (sym (map.get-empty nat_cmp p) ∙ ap (λ (m : Values). map.get m p) (sym none)
     ∙ has ((p, v) ∷ dense) sparse is 0 p v refl)
 
-pub fits : (column source : Column) → HasRoomFor column source → source.values ≢ map.empty
-    → Fits column source
+pub fits : (column source : Column) → HasRoomFor column source → source.values ≢ map.empty → Fits column source
 fits column source (inl none) some = absurd (some none)
 fits column source (inr vectors) some = vectors
 
 -- a column has got more room
 pub room_kept : (columns : List Column) (number : ℕ) (is : Column) → number < length columns
-    → ((c : Column) → HasRoomFor (column_at columns number) c → HasRoomFor is c) → (other : ℕ)
-    (c : Column) → HasRoomFor (column_at columns other) c
-    → HasRoomFor (column_at (set columns number is) other) c
+    → ((c : Column) → HasRoomFor (column_at columns number) c → HasRoomFor is c) → (other : ℕ) (c : Column)
+    → HasRoomFor (column_at columns other) c → HasRoomFor (column_at (set columns number is) other) c
 room_kept columns number is inside kept other c room = by (cases_eq other number)
   where
     was : Column
@@ -62,13 +56,11 @@ room_kept columns number is inside kept other c room = by (cases_eq other number
 
 -- ---- columns with the same values
 
-module _ (old new : List Column)
-    (values : (n : ℕ) → (column_at new n).values ≡ (column_at old n).values) where
+module _ (old new : List Column) (values : (n : ℕ) → (column_at new n).values ≡ (column_at old n).values) where
   same_value : (p : ℕ) (id : ComponentId) → value_at new p id ≡ value_at old p id
   same_value p id = ap (λ (m : Values). map.get m p) (values id.0)
 
-  pub entities_same : (residents : List Resident)
-      → entities_from 0 residents new ≡ entities_from 0 residents old
+  pub entities_same : (residents : List Resident) → entities_from 0 residents new ≡ entities_from 0 residents old
   entities_same residents = search (rules, same_from, same_value)
 
 -- ---- entities without components
@@ -80,8 +72,7 @@ no_resident : Resident
 no_resident = record { handle = unused; birth = record { frame = 0; system = 0; ordinal = 0 } }
 
 -- their columns have no values
-pub bare_columns : (residents : List Resident) (columns : List Column)
-    → AreColumnsOf (length residents) columns
+pub bare_columns : (residents : List Resident) (columns : List Column) → AreColumnsOf (length residents) columns
     → All (λ entity. entity.components ≡ map.empty) (entities_from 0 residents columns) → (n : ℕ)
     → (column_at columns n).values ≡ map.empty
 bare_columns residents columns are bare n = map.same_map total same _ _ (λ p. by p
@@ -98,23 +89,19 @@ bare_columns residents columns are bare n = map.same_map total same _ _ (λ p. b
         ∙ bare p (some_entity unused) (omega (arith, l, length_from 0 residents columns))
 
     by : (p : ℕ) → (p < length residents) ⊎ (length residents ≤ p) → value_at columns p id ≡ None
-    by p (inl l) =
-        sym (get_components columns p id) ∙ ap (λ (m : Components). map.get m id) (none_at p l)
+    by p (inl l) = sym (get_components columns p id) ∙ ap (λ (m : Components). map.get m id) (none_at p l)
         ∙ map.get-empty component_cmp id
     by p (inr beyond) = are.none_beyond p id beyond
 
 -- the list has none, if the map has none
-pub bare_list : (living : List LivingEntity) (index : map.FinMap handle_cmp ℕ)
-    → IsIndexed living index → AreBare (map_of living)
-    → All (λ entity. entity.components ≡ map.empty) living
-bare_list living index indexed bare i d l =
-    bare (get_or living i d).handle (entity_of (get_or living i d))
+pub bare_list : (living : List LivingEntity) (index : map.FinMap handle_cmp ℕ) → IsIndexed living index
+    → AreBare (map_of living) → All (λ entity. entity.components ≡ map.empty) living
+bare_list living index indexed bare i d l = bare (get_or living i d).handle (entity_of (get_or living i d))
     (get_placed living index indexed (get_or living i d).handle i d (indexed.each_entity i l d))
 
 -- ---- the first pairs of an index
 
-pub first_fit : {X : Type 0} (p : X → Bool) (xs : List X) (i : ℕ)
-    → length (filter p (take i xs)) ≤ length (filter p xs)
+pub first_fit : {X : Type 0} (p : X → Bool) (xs : List X) (i : ℕ) → length (filter p (take i xs)) ≤ length (filter p xs)
 first_fit p xs zero = omega arith
 first_fit p [] (suc i) = omega arith
 first_fit p (x ∷ xs) (suc i) = grind (arith, common_steps, first_fit p xs i)

@@ -1,7 +1,5 @@
 -- Copies of columns, and the entities that they stand for.
-use Rattle.std.proofs.Common.{rules}
-use Rattle.std.proofs.Common.{◌≡◌, ℕ, ℤ, zero, suc, ◌≤◌, List, [], ◌∷◌, length, refl, sym}
-use Rattle.std.proofs.Common.{arith, inr, suc-ne-zero}
+use Rattle.std.proofs.Common.{rules, ◌≡◌, ℕ, ℤ, zero, suc, ◌≤◌, List, [], ◌∷◌, length, refl, sym, arith, inr, suc-ne-zero}
 use Rattle.std.proofs.lemmas.Option.{none-some}
 use Rattle.std.specs.List.{AllZip}
 use Rattle.std.proofs.lemmas.List.Elements.{length_all_zip}
@@ -36,8 +34,7 @@ module _ (old new : List Column) (all : AllZip IsCopy old new) where
   value_copied : (p : ℕ) (id : ComponentId) → value_at new p id ≡ value_at old p id
   value_copied p id = search (rules, copy_at)
 
-  pub entities_copied : (residents : List Resident)
-      → entities_from 0 residents new ≡ entities_from 0 residents old
+  pub entities_copied : (residents : List Resident) → entities_from 0 residents new ≡ entities_from 0 residents old
   entities_copied residents = search (rules, same_from, value_copied)
 
   pub columns_copied : (count : ℕ) → AreColumnsOf count old → AreColumnsOf count new

@@ -1,8 +1,5 @@
 -- The places of an index that count.
-use Rattle.std.proofs.Common.{rules, ◌≡◌, ◌≢◌, ℕ, zero, suc, ◌<◌, ◌≤◌, Bool, true, false, cond, T}
-use Rattle.std.proofs.Common.{List, [], ◌∷◌, ◌+◌, map, ◌++◌, length, get_or, set, filter, Option}
-use Rattle.std.proofs.Common.{Some, None, is_some, Contains, refl, sym, ap, ◌∙◌, arith, eqb}
-use Rattle.std.proofs.Common.{eqb-true}
+use Rattle.std.proofs.Common.{rules, ◌≡◌, ◌≢◌, ℕ, zero, suc, ◌<◌, ◌≤◌, Bool, true, false, cond, T, List, [], ◌∷◌, ◌+◌, map, ◌++◌, length, get_or, set, filter, Option, Some, None, is_some, Contains, refl, sym, ap, ◌∙◌, arith, eqb, eqb-true}
 use Rattle.std.specs.declared.cmp.Ordering.TheVariants.{Less, Greater}
 use Rattle.std.specs.Cmp.{tied_itself}
 use Rattle.std.proofs.lemmas.Bool.{false≢true, false_from_ne_true}
@@ -15,28 +12,24 @@ use Rattle.std.proofs.lemmas.Map.Views.{Contains-from_any}
 use Rattle.std.proofs.lemmas.Map.Steps.{length-le_from_distinct_below}
 use Rattle.std.specs.FinMap as finite
 use Rattle.std.specs.FinMap.{FinMap, find, is_sorted}
-use Rattle.ent_handle.specs.Handle.{Handle, handle_cmp, handle_cmp_total as total}
-use Rattle.ent_handle.specs.Handle.{handle_cmp-IsAntisymmetric as same}
+use Rattle.ent_handle.specs.Handle.{Handle, handle_cmp, handle_cmp_total as total, handle_cmp-IsAntisymmetric as same}
 use Rattle.ent_storage.specs.Living.{LivingEntity, IsMovedInto}
-use Rattle.ent_storage.specs.Indexed.{IsFree, IsIndexed, IsKeptIndex, has_handle_at, counted, Keeps}
-use Rattle.ent_storage.specs.Indexed.{HasAll}
+use Rattle.ent_storage.specs.Indexed.{IsFree, IsIndexed, IsKeptIndex, has_handle_at, counted, Keeps, HasAll}
 use Rattle.ent_storage.proofs.Keys.{tied, insert_tells, remove_tells}
-use Rattle.ent_storage.proofs.Indexed.{some_not_none, some_entity, indexed_set, indexed_push}
-use Rattle.ent_storage.proofs.Indexed.{indexed_none}
+use Rattle.ent_storage.proofs.Indexed.{some_not_none, some_entity, indexed_set, indexed_push, indexed_none}
 use Rattle.ent_storage.proofs.Positions.{rising_at}
 use Rattle.ent_storage.proofs.Rising.{equal, get_at, map_insert, rising_insert}
-use Rattle.ent_storage.proofs.Overwritten.{is_sorted-filter, find-filter, passed, is_sorted-set}
-use Rattle.ent_storage.proofs.Overwritten.{find-set_same, find-set_other}
+use Rattle.ent_storage.proofs.Overwritten.{is_sorted-filter, find-filter, passed, is_sorted-set, find-set_same, find-set_other}
 use Rattle.ent_storage.proofs.TakenOut.{indexed_moved, indexed_popped}
 
-pub stands : (living : List LivingEntity) (q : Handle) (i : ℕ) → has_handle_at living q (Some i)
-    ≡ true → (i < length living) × ((d : LivingEntity) → (get_or living i d).handle ≡ q)
+pub stands : (living : List LivingEntity) (q : Handle) (i : ℕ) → has_handle_at living q (Some i) ≡ true
+    → (i < length living) × ((d : LivingEntity) → (get_or living i d).handle ≡ q)
 stands [] q i e = absurd (false≢true e)
 stands (x ∷ living) q zero e = search (rules, equal)
 stands (x ∷ living) q (suc i) e = search (rules, stands living q i e)
 
-pub stands_from : (living : List LivingEntity) (q : Handle) (i : ℕ) (d : LivingEntity) → i
-    < length living → (get_or living i d).handle ≡ q → has_handle_at living q (Some i) ≡ true
+pub stands_from : (living : List LivingEntity) (q : Handle) (i : ℕ) (d : LivingEntity) → i < length living
+    → (get_or living i d).handle ≡ q → has_handle_at living q (Some i) ≡ true
 stands_from [] q i d l e = absurd (omega arith)
 stands_from (x ∷ living) q zero d l e = tied total same x.handle q e
 stands_from (x ∷ living) q (suc i) d l e = search (rules, stands_from living)
@@ -44,8 +37,7 @@ stands_from (x ∷ living) q (suc i) d l e = search (rules, stands_from living)
 module _ (living : List LivingEntity) (index : FinMap handle_cmp ℕ) where
   pub get_counted : (q : Handle) → finite.get (counted living index) q
       ≡ cond (has_handle_at living q (finite.get index q)) (finite.get index q) None
-  get_counted q =
-      finite.get-retain_keys index (λ h. has_handle_at living h (finite.get index h)) q
+  get_counted q = finite.get-retain_keys index (λ h. has_handle_at living h (finite.get index h)) q
       (λ x e. ap (λ h. has_handle_at living h (finite.get index h)) (sym (same q x e)))
 
   -- a place that counts is in the index, and has the handle
@@ -53,16 +45,15 @@ module _ (living : List LivingEntity) (index : FinMap handle_cmp ℕ) where
       → (finite.get index q ≡ Some i) × (has_handle_at living q (Some i) ≡ true)
   counted_gives q i e = grind (arith, get_counted q)
 
-  pub counted_has : (q : Handle) (i : ℕ) → finite.get index q ≡ Some i
-      → has_handle_at living q (Some i) ≡ true → finite.get (counted living index) q ≡ Some i
+  pub counted_has : (q : Handle) (i : ℕ) → finite.get index q ≡ Some i → has_handle_at living q (Some i) ≡ true
+      → finite.get (counted living index) q ≡ Some i
   counted_has q i at is = search (rules, get_counted)
 
-  pub counted_none : (q : Handle) → finite.get index q ≡ None → finite.get (counted living index) q
-      ≡ None
+  pub counted_none : (q : Handle) → finite.get index q ≡ None → finite.get (counted living index) q ≡ None
   counted_none q at = search (rules, get_counted)
 
-  pub counted_not : (q : Handle) (i : ℕ) → finite.get index q ≡ Some i
-      → has_handle_at living q (Some i) ≡ false → finite.get (counted living index) q ≡ None
+  pub counted_not : (q : Handle) (i : ℕ) → finite.get index q ≡ Some i → has_handle_at living q (Some i) ≡ false
+      → finite.get (counted living index) q ≡ None
   counted_not q i at is = search (rules, get_counted)
 
   -- residents with an exact index are indexed by each index that has those places too
@@ -70,29 +61,24 @@ module _ (living : List LivingEntity) (index : FinMap handle_cmp ℕ) where
       → ((q : Handle) (i : ℕ) → finite.get exact q ≡ Some i → finite.get index q ≡ Some i)
       → IsIndexed living (counted living index)
   indexed_counted exact indexed has = record {
-    each_entity = λ i l d. counted_has _ i (has _ i (indexed.each_entity i l d))
-        (stands_from living _ i d l refl);
+    each_entity = λ i l d. counted_has _ i (has _ i (indexed.each_entity i l d)) (stands_from living _ i d l refl);
     each_place = λ q i at. stands living q i (counted_gives q i at).1;
   }
 
 -- the index after an entity has gone, and after the last one has moved
-pub removed_has : (living : List LivingEntity) (index : FinMap handle_cmp ℕ) (h : Handle)
-    (q : Handle) (i : ℕ) → finite.get (finite.remove (counted living index) h) q ≡ Some i
-    → finite.get index q ≡ Some i
-removed_has living index h q i at =
-    let old = counted_gives living index q i in grind (arith, remove_tells total same)
+pub removed_has : (living : List LivingEntity) (index : FinMap handle_cmp ℕ) (h : Handle) (q : Handle) (i : ℕ)
+    → finite.get (finite.remove (counted living index) h) q ≡ Some i → finite.get index q ≡ Some i
+removed_has living index h q i at = let old = counted_gives living index q i in grind (arith, remove_tells total same)
 
 -- a handle that is there without another one is in the index
 pub moved_counts : (living : List LivingEntity) (index : FinMap handle_cmp ℕ) (h m : Handle)
-    → is_some (finite.get (finite.remove (counted living index) h) m) ≡ true
-    → is_some (finite.get index m) ≡ true
+    → is_some (finite.get (finite.remove (counted living index) h) m) ≡ true → is_some (finite.get index m) ≡ true
 moved_counts living index h m is = search (rules, false≢true, removed_has)
 
 -- what is left after a sweep counts still
 pub swept_has : (living : List LivingEntity) (index : FinMap handle_cmp ℕ)
     → HasAll (counted living index) (counted living (counted living index))
-swept_has living index q i at =
-    counted_has living (counted living index) q i at (counted_gives living index q i at).1
+swept_has living index q i at = counted_has living (counted living index) q i at (counted_gives living index q i at).1
 
 -- ---- the residents and their index, after each change
 
@@ -101,26 +87,21 @@ kept_none index room = search (rules, indexed_counted, indexed_none, some_not_no
 
 -- another index has all places that count
 pub kept_copied : (living : List LivingEntity) (old new : FinMap handle_cmp ℕ) (room more : ℕ)
-    → IsKeptIndex living old room → HasAll (counted living old) new → length living ≤ more
-    → IsKeptIndex living new more
+    → IsKeptIndex living old room → HasAll (counted living old) new → length living ≤ more → IsKeptIndex living new more
 kept_copied living old new room more kept all fits = search (rules, indexed_counted)
 
 module _ (living : List LivingEntity) (index : FinMap handle_cmp ℕ) (room : ℕ)
     (kept : IsKeptIndex living index room) where
-  pub kept_push : (entity : LivingEntity) (new : FinMap handle_cmp ℕ)
-      → finite.get (counted living index) entity.handle ≡ None → length living < room
-      → finite.get new entity.handle ≡ Some (length living)
-      → Keeps entity.handle (counted living index) new → IsKeptIndex (living ++ entity ∷ []) new
-      room
+  pub kept_push : (entity : LivingEntity) (new : FinMap handle_cmp ℕ) → finite.get (counted living index) entity.handle
+      ≡ None → length living < room → finite.get new entity.handle ≡ Some (length living)
+      → Keeps entity.handle (counted living index) new → IsKeptIndex (living ++ entity ∷ []) new room
   kept_push entity new none fits placed keeps = record {
-    indexed = indexed_counted (living ++ entity ∷ []) new _
-        (indexed_push living (counted living index) kept.indexed entity none)
-        (λ q i at. grind (arith, insert_tells total same, keeps q i));
+    indexed = indexed_counted (living ++ entity ∷ []) new _ (indexed_push living (counted living index) kept.indexed
+        entity none) (λ q i at. grind (arith, insert_tells total same, keeps q i));
     fits = omega (arith, length_push living entity, fits);
   }
 
-  pub kept_set : (i : ℕ) (entity : LivingEntity)
-      → finite.get (counted living index) entity.handle ≡ Some i
+  pub kept_set : (i : ℕ) (entity : LivingEntity) → finite.get (counted living index) entity.handle ≡ Some i
       → IsKeptIndex (set living i entity) index room
   kept_set i entity at = record {
     indexed = indexed_counted (set living i entity) index (counted living index)
@@ -135,16 +116,15 @@ module _ (living : List LivingEntity) (index : FinMap handle_cmp ℕ) (room : �
           → IsKeptIndex left (finite.insert index entity.handle i) room
       kept_moved inside entity read = record {
         indexed = indexed_counted left (finite.insert index entity.handle i)
-            (finite.insert (finite.remove (counted living index) h) entity.handle i)
-            (search (rules, indexed_moved))
+            (finite.insert (finite.remove (counted living index) h) entity.handle i) (search (rules, indexed_moved))
             (λ q j at. grind (arith, insert_tells total same, removed_has));
         fits = omega (arith, rest.one_less, kept.fits);
       }
 
       pub kept_popped : length left ≤ i → IsKeptIndex left index room
       kept_popped last = record {
-        indexed = indexed_counted left index _ (indexed_popped living (counted living index)
-            kept.indexed h i placed left rest last) (removed_has living index h);
+        indexed = indexed_counted left index _ (indexed_popped living (counted living index) kept.indexed h i placed
+            left rest last) (removed_has living index h);
         fits = omega (arith, rest.one_less, kept.fits);
       }
 
@@ -153,8 +133,7 @@ module _ (living : List LivingEntity) (index : FinMap handle_cmp ℕ) (room : �
 abbrev pub counts : List LivingEntity → Handle × ℕ → Bool
 counts living pair = has_handle_at living pair.0 (Some pair.1)
 
-module _ (living : List LivingEntity) (pairs : List (Handle × ℕ))
-    (rising : T (is_sorted handle_cmp pairs)) where
+module _ (living : List LivingEntity) (pairs : List (Handle × ℕ)) (rising : T (is_sorted handle_cmp pairs)) where
   abbrev left : List (Handle × ℕ)
   left = filter (counts living) pairs
 
@@ -165,30 +144,39 @@ module _ (living : List LivingEntity) (pairs : List (Handle × ℕ))
 
   pub from_sorted_left : finite.from_sorted {R = handle_cmp} (filter (counts living) pairs)
       ≡ counted living (finite.from_sorted pairs)
-  from_sorted_left =
-      finite.same_map total same _ _ (λ q.
-      finite.get-from_sorted handle_cmp _ q (is_sorted-filter total same (counts living) pairs
-      rising)
-      ∙ find-filter total same (counts living) pairs q rising
-      ∙ passed_is q (find handle_cmp q pairs)
-      ∙ sym (get_counted living (finite.from_sorted pairs) q
-      ∙ ap (λ o. cond (has_handle_at living q o) o None) (finite.get-from_sorted handle_cmp
-      pairs q rising)))
+  from_sorted_left = finite.same_map total same _ _ (λ q. finite.get-from_sorted handle_cmp _ q
+      (is_sorted-filter total same (counts living) pairs rising) ∙ find-filter total same (counts living) pairs q rising
+      ∙ passed_is q (find handle_cmp q pairs) ∙ sym (get_counted living (finite.from_sorted pairs) q
+      ∙ ap (λ o. cond (has_handle_at living q o) o None) (finite.get-from_sorted handle_cmp pairs q rising)))
 
   -- no two of them have the same place
   apart_places : (i j : ℕ) (d : ℕ) → i < j → j < length (map (λ e. e.1) left)
       → eqb (get_or (map (λ e. e.1) left) i d) (get_or (map (λ e. e.1) left) j d) ≡ false
-  apart_places i j d l k = let unused : Handle × ℕ = (record { index = 0; generation = 0 }, d) in let inside : j < length left = omega (arith, length-map left (λ (e : Handle × ℕ). e.1), k) in let at_i = get_or-map (λ (e : Handle × ℕ). e.1) left i unused d (omega arith) in let at_j = get_or-map (λ (e : Handle × ℕ). e.1) left j unused d inside in let resident_i = (stands living (get_or left i unused).0 (get_or left i unused).1 (filter_passes (counts living) pairs i unused (omega arith))).1 (some_entity unused.0) in let resident_j = (stands living (get_or left j unused).0 (get_or left j unused).1 (filter_passes (counts living) pairs j unused inside)).1 (some_entity unused.0) in let less = rising_at total left i j unused (is_sorted-filter total same (counts living) pairs rising) l inside in let equals = tied_itself total (get_or left i unused).0 in search (rules, false_from_ne_true, eqb-true)
+  apart_places i j d l k =
+      let unused : Handle × ℕ = (record { index = 0; generation = 0 }, d) in
+      let inside : j < length left = omega (arith, length-map left (λ (e : Handle × ℕ). e.1), k) in
+      let at_i = get_or-map (λ (e : Handle × ℕ). e.1) left i unused d (omega arith) in
+      let at_j = get_or-map (λ (e : Handle × ℕ). e.1) left j unused d inside in
+      let resident_i = (stands living (get_or left i unused).0 (get_or left i unused).1
+      (filter_passes (counts living) pairs i unused (omega arith))).1 (some_entity unused.0) in
+      let resident_j = (stands living (get_or left j unused).0 (get_or left j unused).1
+      (filter_passes (counts living) pairs j unused inside)).1 (some_entity unused.0) in
+      let less = rising_at total left i j unused (is_sorted-filter total same (counts living) pairs rising) l inside in
+      let equals = tied_itself total (get_or left i unused).0 in
+      search (rules, false_from_ne_true, eqb-true)
 
   place_below : (q : ℕ) → Contains (map (λ e. e.1) left) q → q < length living
-  place_below q at = let unused : Handle × ℕ = search rules in let inside : at.0 < length left = search (rules, length-map) in let resident = stands living _ _ (filter_passes (counts living) pairs at.0 unused inside) in search (rules, get_or-map, resident)
+  place_below q at =
+      let unused : Handle × ℕ = search rules in
+      let inside : at.0 < length left = search (rules, length-map) in
+      let resident = stands living _ _ (filter_passes (counts living) pairs at.0 unused inside) in
+      search (rules, get_or-map, resident)
 
   -- so there are no more of them than residents
   pub left_fits : length (filter (counts living) pairs) ≤ length living
   left_fits =
       let counted_places = length-le_from_distinct_below (map (λ e. e.1) left) (length living)
-      (IsDistinct-from_apart eqb _ apart_places)
-      (λ q any. place_below q (Contains-from_any eqb-true q _ any)) in
+      (IsDistinct-from_apart eqb _ apart_places) (λ q any. place_below q (Contains-from_any eqb-true q _ any)) in
       search (rules, length-map, counted_places)
 
 -- ---- a pair is put over one that does not count, or into its gap
@@ -200,11 +188,10 @@ pub record IsPut (living : List LivingEntity) (old new : List (Handle × ℕ)) (
   pub placed : finite.get (finite.from_sorted {R = handle_cmp} new) k ≡ Some v
   pub kept : Keeps k (counted living (finite.from_sorted old)) (finite.from_sorted new)
 
-module _ (living : List LivingEntity) (pairs : List (Handle × ℕ))
-    (rising : T (is_sorted handle_cmp pairs)) (k : Handle) (v : ℕ) (p : ℕ) where
-  pub put_over : AllWithin (λ e. handle_cmp e.0 k ≡ Less) pairs 0 p
-      → AllWithin (λ e. handle_cmp e.0 k ≡ Greater) pairs (p + 1) (length pairs)
-      → IsFree living pairs p → IsPut living pairs (set pairs p (k, v)) k v
+module _ (living : List LivingEntity) (pairs : List (Handle × ℕ)) (rising : T (is_sorted handle_cmp pairs)) (k : Handle)
+    (v : ℕ) (p : ℕ) where
+  pub put_over : AllWithin (λ e. handle_cmp e.0 k ≡ Less) pairs 0 p → AllWithin (λ e. handle_cmp e.0 k ≡ Greater) pairs
+      (p + 1) (length pairs) → IsFree living pairs p → IsPut living pairs (set pairs p (k, v)) k v
   put_over below above free = record {
     sorted = over_sorted;
     placed = finite.get-from_sorted handle_cmp _ k over_sorted ∙ find-set_same total same k v pairs
@@ -220,12 +207,11 @@ module _ (living : List LivingEntity) (pairs : List (Handle × ℕ))
       over_sorted = is_sorted-set total same k v pairs p rising free.inside below above
 
       -- a handle that counts is not the one put over
-      other_key : (q : Handle) (i : ℕ) → finite.get (finite.from_sorted {R = handle_cmp} pairs) q
-          ≡ Some i → has_handle_at living q (Some i) ≡ true → (f : Handle × ℕ)
-          → (get_or pairs p f).0 ≢ q
+      other_key : (q : Handle) (i : ℕ) → finite.get (finite.from_sorted {R = handle_cmp} pairs) q ≡ Some i
+          → has_handle_at living q (Some i) ≡ true → (f : Handle × ℕ) → (get_or pairs p f).0 ≢ q
       other_key q i at is f e =
-          let here : (g : Handle × ℕ) → get_or pairs p g ≡ get_or pairs p f = λ g.
-          get_or_default pairs p g f free.inside in
+          let here : (g : Handle × ℕ) → get_or pairs p g ≡ get_or pairs p f = λ g. get_or_default pairs p g f
+          free.inside in
           let found = get_at total same pairs rising q p f (search rules) in
           search (rules, false≢true)
 
@@ -233,7 +219,6 @@ module _ (living : List LivingEntity) (pairs : List (Handle × ℕ))
   put_between gap = record {
     sorted = rising_insert total same pairs rising k p v gap;
     placed = grind (arith, map_insert total same pairs rising k p v gap, insert_tells total same);
-    kept = λ q i n at.
-        let old = counted_gives living _ q i at in
-        grind (arith, map_insert total same pairs rising k p v gap, insert_tells total same);
+    kept = λ q i n at. let old = counted_gives living _ q i at in grind
+        (arith, map_insert total same pairs rising k p v gap, insert_tells total same);
   }

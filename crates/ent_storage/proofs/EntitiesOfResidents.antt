@@ -1,7 +1,5 @@
 -- The living entities that residents and columns stand for, after each change.
-use Rattle.std.proofs.Common.{rules, ◌≡◌, ◌≢◌, ℕ, zero, suc, ◌+◌, ◌-◌, ◌<◌, ◌≤◌, false, List, []}
-use Rattle.std.proofs.Common.{◌∷◌, ◌++◌, map, length, get_or, Option, Some, None, slice_get}
-use Rattle.std.proofs.Common.{option_and_then, take, drop, refl, ap, arith}
+use Rattle.std.proofs.Common.{rules, ◌≡◌, ◌≢◌, ℕ, zero, suc, ◌+◌, ◌-◌, ◌<◌, ◌≤◌, false, List, [], ◌∷◌, ◌++◌, map, length, get_or, Option, Some, None, slice_get, option_and_then, take, drop, refl, ap, arith}
 use Rattle.std.proofs.lemmas.Grind.{common_steps}
 use Rattle.std.proofs.lemmas.Option.{slice_get_past}
 use Rattle.std.proofs.lemmas.Bool.{cases_lt, cases_eq}
@@ -14,34 +12,31 @@ use Rattle.ent_handle.specs.Handle.{Handle, handle_cmp}
 use Rattle.ent_storage.specs.Components.{Components}
 use Rattle.ent_storage.specs.SparseSet.{Column, IsMovedDown}
 use Rattle.ent_storage.specs.declared.living.Resident.{Resident}
-use Rattle.ent_storage.specs.Living.{LivingEntity, Living, IsMovedInto, AreColumnsOf, change_at}
-use Rattle.ent_storage.specs.Living.{column_at, value_at, components_at, entities_from, born_at}
+use Rattle.ent_storage.specs.Living.{LivingEntity, Living, IsMovedInto, AreColumnsOf, change_at, column_at, value_at, components_at, entities_from, born_at}
 use Rattle.ent_storage.specs.Indexed.{has_handle_at}
 use Rattle.ent_storage.proofs.ColumnsAtPlaces.{same_components, no_components, get_components}
 
 -- ---- the entity at a place
 
 abbrev pub entity_at : List Column → ℕ → Resident → LivingEntity
-entity_at columns place resident =
-    record {
-      handle = resident.handle;
-      birth = resident.birth;
-      components = components_at columns place;
-    }
+entity_at columns place resident = record {
+  handle = resident.handle;
+  birth = resident.birth;
+  components = components_at columns place;
+}
 
 pub length_from : (n : ℕ) (residents : List Resident) (columns : List Column)
     → length (entities_from n residents columns) ≡ length residents
 length_from n [] columns = refl
 length_from n (resident ∷ residents) columns = ap suc (length_from (suc n) residents columns)
 
-pub at_from : (n : ℕ) (residents : List Resident) (columns : List Column) (i : ℕ)
-    (resident : Resident) (d : LivingEntity) → i < length residents
-    → get_or (entities_from n residents columns) i d
+pub at_from : (n : ℕ) (residents : List Resident) (columns : List Column) (i : ℕ) (resident : Resident)
+    (d : LivingEntity) → i < length residents → get_or (entities_from n residents columns) i d
     ≡ entity_at columns (n + i) (get_or residents i resident)
 at_from n [] columns i resident d l = absurd (omega arith)
 at_from n (r ∷ residents) columns zero resident d l = search rules
-at_from n (r ∷ residents) columns (suc i) resident d l =
-    search (rules, at_from (suc n) residents columns i resident d (omega arith))
+at_from n (r ∷ residents) columns (suc i) resident d l = search
+    (rules, at_from (suc n) residents columns i resident d (omega arith))
 
 -- and that at a place of what contracts see
 module _ (residents : List Resident) (columns : List Column) (room : ℕ) (living : Living) (i : ℕ)
@@ -50,28 +45,26 @@ module _ (residents : List Resident) (columns : List Column) (room : ℕ) (livin
   pub inside_from : i < length residents
   inside_from = search (rules, length_from)
 
-  pub read_from : (resident : Resident) (d : LivingEntity) → get_or living.entities i d
-      ≡ entity_at columns i (get_or residents i resident)
+  pub read_from : (resident : Resident) (d : LivingEntity) → get_or living.entities i d ≡ entity_at columns i (get_or
+      residents i resident)
   read_from resident d = search (rules, at_from, inside_from)
 
 -- ---- the columns are changed
 
 pub same_from : (n : ℕ) (residents : List Resident) (old new : List Column)
-    → ((p : ℕ) (id : ComponentId) → n ≤ p → p < n + length residents → value_at new p id
-    ≡ value_at old p id) → entities_from n residents new ≡ entities_from n residents old
+    → ((p : ℕ) (id : ComponentId) → n ≤ p → p < n + length residents → value_at new p id ≡ value_at old p id)
+    → entities_from n residents new ≡ entities_from n residents old
 same_from n [] old new are = refl
 same_from n (resident ∷ residents) old new are =
     let rest = same_from (suc n) residents old new (grind (arith, common_steps)) in
     grind (arith, common_steps, same_components)
 
 pub changed_from : (n : ℕ) (residents : List Resident) (old new : List Column) (i p : ℕ)
-    (change : Components → Components) → n + i ≡ p → components_at new p
-    ≡ change (components_at old p) → ((q : ℕ) (id : ComponentId) → q ≢ p → value_at new q id
-    ≡ value_at old q id) → entities_from n residents new ≡ change_at (entities_from n residents old)
-    i change
+    (change : Components → Components) → n + i ≡ p → components_at new p ≡ change (components_at old p)
+    → ((q : ℕ) (id : ComponentId) → q ≢ p → value_at new q id ≡ value_at old q id)
+    → entities_from n residents new ≡ change_at (entities_from n residents old) i change
 changed_from n [] old new i p change e here others = refl
-changed_from n (resident ∷ residents) old new zero p change e here others =
-    search (rules, same_from)
+changed_from n (resident ∷ residents) old new zero p change e here others = search (rules, same_from)
 changed_from n (resident ∷ residents) old new (suc i) p change e here others =
     let first = same_components old new n n (λ id. others n id (λ f. absurd (omega arith))) in
     search (rules, changed_from (suc n) residents old new i p change (omega arith) here others)
@@ -83,17 +76,15 @@ pub pushed_from : (n : ℕ) (residents : List Resident) (columns : List Column) 
     → entities_from n (residents ++ resident ∷ []) columns ≡ entities_from n residents columns
     ++ record { handle = resident.handle; birth = resident.birth; components = finite.empty } ∷ []
 pushed_from n [] columns resident none = search (rules, no_components)
-pushed_from n (r ∷ residents) columns resident none =
-    search (rules, pushed_from (suc n) residents columns resident)
+pushed_from n (r ∷ residents) columns resident none = search (rules, pushed_from (suc n) residents columns resident)
 
 -- ---- an entity is taken out, and the last one moves to its place
 
-module _ (residents left : List Resident) (i n m : ℕ) (whole : n ≡ length residents) (rest : m
-    ≡ length left) (one_less : m + 1 ≡ n) (inside : i < n)
-    (by_index : ((d : Resident) → i + 1 < n → get_or left i d ≡ get_or residents (n - 1) d)
-    × ((k : ℕ) (d : Resident) → k ≢ i → k + 1 < n → get_or left k d ≡ get_or residents k d))
-    (old new : List Column) (down : (number : ℕ)
-    → IsMovedDown i (n - 1) (column_at old number).values (column_at new number).values) where
+module _ (residents left : List Resident) (i n m : ℕ) (whole : n ≡ length residents) (rest : m ≡ length left)
+    (one_less : m + 1 ≡ n) (inside : i < n) (by_index : ((d : Resident) → i + 1 < n
+    → get_or left i d ≡ get_or residents (n - 1) d) × ((k : ℕ) (d : Resident) → k ≢ i → k + 1 < n
+    → get_or left k d ≡ get_or residents k d)) (old new : List Column)
+    (down : (number : ℕ) → IsMovedDown i (n - 1) (column_at old number).values (column_at new number).values) where
   components_moved : i + 1 < n → components_at new i ≡ components_at old (n - 1)
   components_moved room = search (rules, same_components)
 
@@ -103,29 +94,22 @@ module _ (residents left : List Resident) (i n m : ℕ) (whole : n ≡ length re
   moved_from : IsMovedInto (entities_from 0 residents old) i (entities_from 0 left new)
   moved_from = record {
     one_less = omega (arith, length_from 0 left new, length_from 0 residents old);
-    moved = λ d room.
-        let below : i + 1 < n = omega (arith, length_from 0 residents old) in
-        let last : length (entities_from 0 residents old) - 1 ≡ n - 1 =
-        omega (arith, length_from 0 residents old) in
-        let resident : Resident = record { handle = d.handle; birth = d.birth } in
-        let now = at_from 0 left new i resident d (omega arith) in
-        let was = at_from 0 residents old (n - 1) resident d (omega arith) in
-        search (rules, by_index.0 resident below, components_moved below);
-    others = λ k d far room.
-        let below : k + 1 < n = omega (arith, length_from 0 residents old) in
-        let resident : Resident = record { handle = d.handle; birth = d.birth } in
-        let now = at_from 0 left new k resident d (omega arith) in
-        let was = at_from 0 residents old k resident d (omega arith) in
-        search (rules, by_index.1 k resident far below, components_others k far below);
+    moved = λ d room. let below : i + 1 < n = omega (arith, length_from 0 residents old) in let last : length
+        (entities_from 0 residents old) - 1 ≡ n - 1 = omega (arith, length_from 0 residents old) in let resident :
+        Resident = record { handle = d.handle; birth = d.birth } in let now = at_from 0 left new i resident d
+        (omega arith) in let was = at_from 0 residents old (n - 1) resident d (omega arith) in search
+        (rules, by_index.0 resident below, components_moved below);
+    others = λ k d far room. let below : k + 1 < n = omega (arith, length_from 0 residents old) in let resident :
+        Resident = record { handle = d.handle; birth = d.birth } in let now = at_from 0 left new k resident d
+        (omega arith) in let was = at_from 0 residents old k resident d (omega arith) in search
+        (rules, by_index.1 k resident far below, components_others k far below);
   }
 
-  moved_within : length new ≡ length old → AreColumnsOf (length residents) old
-      → AreColumnsOf (length left) new
+  moved_within : length new ≡ length old → AreColumnsOf (length residents) old → AreColumnsOf (length left) new
   moved_within len within = search (rules, cases_eq)
 
   pub moved : length new ≡ length old → AreColumnsOf (length residents) old
-      → IsMovedInto (entities_from 0 residents old) i (entities_from 0 left new)
-      × AreColumnsOf (length left) new
+      → IsMovedInto (entities_from 0 residents old) i (entities_from 0 left new) × AreColumnsOf (length left) new
   moved len within = (moved_from, moved_within len within)
 
 -- ---- what stays within the residents
@@ -134,13 +118,13 @@ pub none_within : AreColumnsOf 0 []
 none_within = record { none_beyond = λ p id l. finite.get-empty _ p; numbered = omega arith }
 
 pub changed_within : (count place : ℕ) (old new : List Column) → place < count → length new ≤ 256
-    → ((p : ℕ) (id : ComponentId) → p ≢ place → value_at new p id ≡ value_at old p id)
-    → AreColumnsOf count old → AreColumnsOf count new
+    → ((p : ℕ) (id : ComponentId) → p ≢ place → value_at new p id ≡ value_at old p id) → AreColumnsOf count old
+    → AreColumnsOf count new
 changed_within count place old new inside numbered others within = search (rules)
 
 -- a slice of a whole vector, written back
-pub written_back : {X : Type 0} (new old : List X) (n : ℕ) → length new ≡ length old → n
-    ≡ length old → take n (new ++ drop (length new) old) ≡ new
+pub written_back : {X : Type 0} (new old : List X) (n : ℕ) → length new ≡ length old → n ≡ length old
+    → take n (new ++ drop (length new) old) ≡ new
 written_back new old n same whole = grind (arith, common_steps)
 
 -- what the entity at a place is tested for
@@ -159,37 +143,33 @@ born_get (resident ∷ residents) columns n zero = refl
 born_get (resident ∷ residents) columns n (suc i) = born_get residents columns (suc n) i
 
 -- the value of a component of the entity at a place
-pub value_get : (residents : List Resident) (columns : List Column) (n i : ℕ) (id : ComponentId) → i
-    < length residents → option_and_then (λ (e : LivingEntity). finite.get e.components id)
-    (slice_get (entities_from n residents columns) i) ≡ value_at columns (n + i) id
+pub value_get : (residents : List Resident) (columns : List Column) (n i : ℕ) (id : ComponentId) → i < length residents
+    → option_and_then (λ (e : LivingEntity). finite.get e.components id) (slice_get (entities_from n residents columns)
+    i) ≡ value_at columns (n + i) id
 value_get [] columns n i id l = absurd (omega arith)
 value_get (resident ∷ residents) columns n zero id l = search (rules, get_components)
-value_get (resident ∷ residents) columns n (suc i) id l =
-    search (rules, value_get residents columns (suc n) i id (omega arith))
+value_get (resident ∷ residents) columns n (suc i) id l = search
+    (rules, value_get residents columns (suc n) i id (omega arith))
 
 pub value_from : (residents : List Resident) (columns : List Column) (i : ℕ) (id : ComponentId)
-    → AreColumnsOf (length residents) columns
-    → option_and_then (λ (e : LivingEntity). finite.get e.components id)
+    → AreColumnsOf (length residents) columns → option_and_then (λ (e : LivingEntity). finite.get e.components id)
     (slice_get (entities_from 0 residents columns) i) ≡ value_at columns i id
-value_from residents columns i id within =
-    search (rules, cases_lt, value_get, slice_get_past, length_from)
+value_from residents columns i id within = search (rules, cases_lt, value_get, slice_get_past, length_from)
 
 -- a test of the handle at a place
-test_of : (o : Option LivingEntity) (h : Handle)
-    → option_map_or (λ (e : LivingEntity). eq_by_cmp handle_cmp e.handle h) o false
-    ≡ option_map_or (λ (g : Handle). eq_by_cmp handle_cmp g h) (option_map (λ e. e.handle) o) false
+test_of : (o : Option LivingEntity) (h : Handle) → option_map_or (λ (e : LivingEntity). eq_by_cmp handle_cmp e.handle h)
+    o false ≡ option_map_or (λ (g : Handle). eq_by_cmp handle_cmp g h) (option_map (λ e. e.handle) o) false
 test_of None h = refl
 test_of (Some x) h = refl
 
-pub test_at : (residents : List Resident) (columns : List Column) (i : ℕ) (resident : Resident)
-    (h : Handle) → slice_get residents i ≡ Some resident
-    → has_handle_at (entities_from 0 residents columns) h (Some i)
+pub test_at : (residents : List Resident) (columns : List Column) (i : ℕ) (resident : Resident) (h : Handle)
+    → slice_get residents i ≡ Some resident → has_handle_at (entities_from 0 residents columns) h (Some i)
     ≡ eq_by_cmp handle_cmp resident.handle h
-test_at residents columns i resident h at =
-    search (rules, test_of (slice_get (entities_from 0 residents columns) i) h, handle_get)
+test_at residents columns i resident h at = search
+    (rules, test_of (slice_get (entities_from 0 residents columns) i) h, handle_get)
 
-pub test_past : (residents : List Resident) (columns : List Column) (i : ℕ) (h : Handle)
-    → length residents ≤ i → has_handle_at (entities_from 0 residents columns) h (Some i) ≡ false
+pub test_past : (residents : List Resident) (columns : List Column) (i : ℕ) (h : Handle) → length residents ≤ i
+    → has_handle_at (entities_from 0 residents columns) h (Some i) ≡ false
 test_past residents columns i h l = search (rules, test_of, handle_get, slice_get_past)
 
 -- the birth and the handle of each resident

@@ -1,7 +1,5 @@
 -- The map that slots stand for: its entries, and what it has at each handle.
-use Rattle.std.proofs.Common.{rules, ◌≡◌, ◌≢◌, ℕ, zero, suc, ◌+◌, ◌-◌, ◌<◌, ◌≤◌, Bool, true, false}
-use Rattle.std.proofs.Common.{cond, ◌&&◌, inl, inr, eqb, T, List, [], ◌∷◌, ◌++◌, length, get_or}
-use Rattle.std.proofs.Common.{set, replicate, None, Some, refl, arith, not, All, AllPairs}
+use Rattle.std.proofs.Common.{rules, ◌≡◌, ◌≢◌, ℕ, zero, suc, ◌+◌, ◌-◌, ◌<◌, ◌≤◌, Bool, true, false, cond, ◌&&◌, inl, inr, eqb, T, List, [], ◌∷◌, ◌++◌, length, get_or, set, replicate, None, Some, refl, arith, not, All, AllPairs}
 use Rattle.std.proofs.lemmas.Grind.{common_steps}
 use Rattle.std.proofs.lemmas.List.Kept.{AllPairs-cons}
 use Rattle.std.proofs.lemmas.Bool.{cases_eq, eq-eqb}
@@ -12,11 +10,9 @@ use Rattle.std.specs.Ordering.{eq_by_cmp, is_lt}
 use Rattle.std.specs.FinMap as map
 use Rattle.std.specs.FinMap.{find, is_sorted}
 use Rattle.std.specs.FinMap.Entries.{below_all}
-use Rattle.ent_handle.specs.Handle.{Handle, handle_cmp, handle_cmp_total}
-use Rattle.ent_handle.specs.Handle.{handle_cmp-IsAntisymmetric}
+use Rattle.ent_handle.specs.Handle.{Handle, handle_cmp, handle_cmp_total, handle_cmp-IsAntisymmetric}
 use Rattle.ent_storage.specs.HandleMap.{HandleMap, HandleValues, without_slot}
-use Rattle.ent_storage.specs.Slots.{value_under, slot_at, value_in, entries_from, map_of_slots, padded}
-use Rattle.ent_storage.specs.Slots.{count_at}
+use Rattle.ent_storage.specs.Slots.{value_under, slot_at, value_in, entries_from, map_of_slots, padded, count_at}
 use Rattle.ent_storage.specs.declared.handle_map.slot.Slot.{Slot}
 use Rattle.ent_storage.specs.declared.handle_map.slot.Slot.TheVariants.{Vacant, Occupied}
 
@@ -31,13 +27,11 @@ less_by_index : (g h : Handle) → g.index < h.index → T (is_lt (handle_cmp g 
 less_by_index g h l = search (rules)
 
 -- two handles tie where both numbers are equal
-ties : (a b : Handle) → eq_by_cmp handle_cmp a b
-    ≡ (eqb a.index b.index && eqb a.generation b.generation)
+ties : (a b : Handle) → eq_by_cmp handle_cmp a b ≡ (eqb a.index b.index && eqb a.generation b.generation)
 ties a b = grind (arith, common_steps)
 
 -- of count_at slot
-ties_here : (a b : Handle) → a.index ≡ b.index → eq_by_cmp handle_cmp a b
-    ≡ eqb a.generation b.generation
+ties_here : (a b : Handle) → a.index ≡ b.index → eq_by_cmp handle_cmp a b ≡ eqb a.generation b.generation
 ties_here a b e = search (rules, ties a b, eq-eqb)
 
 -- of two
@@ -47,8 +41,7 @@ ties_apart a b ne = grind (arith, common_steps)
 eqb_sym : (a b : ℕ) → eqb a b ≡ eqb b a
 eqb_sym a b = grind (arith, nat_tests)
 
-alike : (h : Handle) (q x : Handle) → handle_cmp q x ≡ Equal
-    → not (eqb x.index h.index) ≡ not (eqb q.index h.index)
+alike : (h : Handle) (q x : Handle) → handle_cmp q x ≡ Equal → not (eqb x.index h.index) ≡ not (eqb q.index h.index)
 alike h q x e = grind (arith, common_steps)
 
 module _ {X : Type 0} where
@@ -58,15 +51,13 @@ module _ {X : Type 0} where
       → T (below_all handle_cmp h (entries_from index slots))
   above h index [] l = tt
   above h index (Vacant ∷ slots) l = above h (index + 1) slots (omega arith)
-  above h index (Occupied generation value ∷ slots) l =
-      search (rules, both, less_by_index, above h (index + 1) slots (omega arith))
+  above h index (Occupied generation value ∷ slots) l = search
+      (rules, both, less_by_index, above h (index + 1) slots (omega arith))
 
-  pub rising : (index : ℕ) (slots : List (Slot X))
-      → T (is_sorted handle_cmp (entries_from index slots))
+  pub rising : (index : ℕ) (slots : List (Slot X)) → T (is_sorted handle_cmp (entries_from index slots))
   rising index [] = tt
   rising index (Vacant ∷ slots) = rising (index + 1) slots
-  rising index (Occupied generation value ∷ slots) =
-      search (rules, both, above, rising (index + 1) slots)
+  rising index (Occupied generation value ∷ slots) = search (rules, both, above, rising (index + 1) slots)
 
   -- ---- what a handle finds
 
@@ -74,8 +65,8 @@ module _ {X : Type 0} where
       → find handle_cmp q (entries_from index slots) ≡ None
   find_before q index [] l = refl
   find_before q index (Vacant ∷ slots) l = find_before q (index + 1) slots (omega arith)
-  find_before q index (Occupied generation value ∷ slots) l =
-      search (rules, find_before q (index + 1) slots (omega arith))
+  find_before q index (Occupied generation value ∷ slots) l = search
+      (rules, find_before q (index + 1) slots (omega arith))
 
   vacant_past : (at wanted : ℕ) → value_under (slot_at {T = X} [] at) wanted ≡ None
   vacant_past at wanted = search (rules, get_or_past)
@@ -88,60 +79,57 @@ module _ {X : Type 0} where
 
   -- it is
   first_one : (slot : Slot X) (slots : List (Slot X)) (q : Handle) (index : ℕ) → q.index ≡ index
-      → value_under slot q.generation
-      ≡ value_under (get_or (slot ∷ slots) (q.index - index) Vacant) q.generation
+      → value_under slot q.generation ≡ value_under (get_or (slot ∷ slots) (q.index - index) Vacant) q.generation
   first_one slot slots q index e = search rules
 
   find_from : (q : Handle) (index : ℕ) (slots : List (Slot X)) → index ≤ q.index
-      → find handle_cmp q (entries_from index slots)
-      ≡ value_under (get_or slots (q.index - index) Vacant) q.generation
+      → find handle_cmp q (entries_from index slots) ≡ value_under (get_or slots (q.index - index) Vacant) q.generation
   find_from q index [] l = search (rules, vacant_past)
   find_from q index (Vacant ∷ slots) l = elim (cases_eq q.index index) [
     | inl e ↦ search (rules, find_before, first_one)
-    | inr ne ↦ search (rules, later, find_from q (index + 1) slots (omega (arith, ne)))
+    | inr ne ↦ search
+        (rules, later, find_from q (index + 1) slots (omega (arith, ne)))
   ]
-  find_from q index (Occupied generation value ∷ slots) l = let here : Handle = search rules in elim (cases_eq q.index index) [ | inl e ↦ search (rules, ties_here, here, find_before, eqb_sym, first_one) | inr ne ↦ search (rules, ties_apart, here, later, find_from q (index + 1) slots (omega (arith, ne))) ]
+  find_from q index (Occupied generation value ∷ slots) l =
+      let here : Handle = search rules in
+      elim (cases_eq q.index index) [
+        | inl e ↦ search (rules, ties_here, here, find_before, eqb_sym, first_one)
+        | inr
+            ne ↦ search (rules, ties_apart, here, later, find_from q (index + 1) slots (omega (arith, ne)))
+      ]
 
   -- what the map has at a handle
-  pub get_map : (slots : List (Slot X)) (q : Handle) → map.get (map_of_slots slots) q ≡ value_in
-      slots q
+  pub get_map : (slots : List (Slot X)) (q : Handle) → map.get (map_of_slots slots) q ≡ value_in slots q
   get_map slots q = search (rules, map.get-from_sorted, rising, find_from q 0 slots (omega arith))
 
   -- the entries of the map
-  pub entries_map : (slots : List (Slot X)) → map.entries (map_of_slots slots) ≡ entries_from 0
-      slots
+  pub entries_map : (slots : List (Slot X)) → map.entries (map_of_slots slots) ≡ entries_from 0 slots
   entries_map slots = search (rules, map.entries-from_sorted, rising)
 
-  pub len_map : (slots : List (Slot X)) → map.len (map_of_slots slots) ≡ length
-      (entries_from 0 slots)
+  pub len_map : (slots : List (Slot X)) → map.len (map_of_slots slots) ≡ length (entries_from 0 slots)
   len_map slots = search (rules, map.len-entries, entries_map)
 
   -- no slots have no values
   pub map_none : map_of_slots {T = X} [] ≡ map.empty
   map_none = map.empty_of_len (map_of_slots []) (len_map [])
 
-  pub map_emptied : (slots : List (Slot X)) (len room limit other : ℕ) → slots ≡ [] → len ≡ 0
-      → limit ≡ other
-      → ◌≡◌ {A = HandleMap X}
-      (record { values = map_of_slots slots; slots = len; room = room; limit = limit })
+  pub map_emptied : (slots : List (Slot X)) (len room limit other : ℕ) → slots ≡ [] → len ≡ 0 → limit ≡ other
+      → ◌≡◌ {A = HandleMap X} (record { values = map_of_slots slots; slots = len; room = room; limit = limit })
       (record { values = map.empty; slots = 0; room = room; limit = other })
   map_emptied slots len room limit other none no_slots same = search (rules, map_none)
 
   -- ---- count_at slot set
 
-  set_here : (slots : List (Slot X)) (h : Handle) (slot : Slot X) → h.index < length slots
-      → (q : Handle) → q.index ≡ h.index
-      → map.get (map_of_slots (set slots h.index slot)) q ≡ value_under slot q.generation
+  set_here : (slots : List (Slot X)) (h : Handle) (slot : Slot X) → h.index < length slots → (q : Handle)
+      → q.index ≡ h.index → map.get (map_of_slots (set slots h.index slot)) q ≡ value_under slot q.generation
   set_here slots h slot within q e = search (rules, get_map, get_or-set_same)
 
-  set_elsewhere : (slots : List (Slot X)) (h : Handle) (slot : Slot X) (q : Handle)
-      → q.index ≢ h.index
+  set_elsewhere : (slots : List (Slot X)) (h : Handle) (slot : Slot X) (q : Handle) → q.index ≢ h.index
       → map.get (map_of_slots (set slots h.index slot)) q ≡ map.get (map_of_slots slots) q
   set_elsewhere slots h slot q ne = search (rules, get_map, get_or-set_other)
 
   -- a slot that has nothing of the slot's handles but the value of one
-  here_alone : (h q : Handle) (value : X) → q.index ≡ h.index
-      → value_under (Occupied h.generation value) q.generation
+  here_alone : (h q : Handle) (value : X) → q.index ≡ h.index → value_under (Occupied h.generation value) q.generation
       ≡ cond (eq_by_cmp handle_cmp q h) (Some value) None
   here_alone h q value e = search (rules, eqb_sym, ties_here)
 
@@ -151,34 +139,29 @@ module _ {X : Type 0} where
 
   -- in the slot of h, the map has but the value of h
   abbrev pub IsAlone : HandleValues X → Handle → X → Type 0
-  IsAlone m h v = (q : Handle) → q.index ≡ h.index
-      → map.get m q ≡ cond (eq_by_cmp handle_cmp q h) (Some v) None
+  IsAlone m h v = (q : Handle) → q.index ≡ h.index → map.get m q ≡ cond (eq_by_cmp handle_cmp q h) (Some v) None
 
   -- two maps that differ in the slot of h alone
-  module _ (m n : HandleValues X) (h : Handle)
-      (elsewhere : (q : Handle) → q.index ≢ h.index → map.get n q ≡ map.get m q) where
+  module _ (m n : HandleValues X) (h : Handle) (elsewhere : (q : Handle) → q.index ≢ h.index
+      → map.get n q ≡ map.get m q) where
     -- a value is put into the slot
     pub is_put : (v : X) → IsAlone n h v → n ≡ map.insert (without_slot m h.index) h v
-    is_put v here = map.same_map handle_cmp_total handle_cmp-IsAntisymmetric _ _ (λ q.
-        let put = map.get-insert handle_cmp_total (without_slot m h.index) h v q in
-        let less = get-without m h q in
-        let tie = ties_apart q h in
-        grind (arith, nat_tests, here q, elsewhere q))
+    is_put v here = map.same_map handle_cmp_total handle_cmp-IsAntisymmetric _ _
+        (λ q. let put = map.get-insert handle_cmp_total (without_slot m h.index) h v q in let less = get-without m h
+        q in let tie = ties_apart q h in grind (arith, nat_tests, here q, elsewhere q))
 
     -- the value of h is written over
     pub is_written : (u v : X) → IsAlone m h u → IsAlone n h v → n ≡ map.insert m h v
-    is_written u v was here = map.same_map handle_cmp_total handle_cmp-IsAntisymmetric _ _ (λ q.
-        let put = map.get-insert handle_cmp_total m h v q in
-        let tie = ties_apart q h in
-        grind (arith, nat_tests, was q, here q, elsewhere q))
+    is_written u v was here = map.same_map handle_cmp_total handle_cmp-IsAntisymmetric _ _
+        (λ q. let put = map.get-insert handle_cmp_total m h v q in let tie = ties_apart q h in grind
+        (arith, nat_tests, was q, here q, elsewhere q))
 
     -- it is taken out
-    pub is_taken : (u : X) → IsAlone m h u
-        → ((q : Handle) → q.index ≡ h.index → map.get n q ≡ None) → n ≡ map.remove m h
-    is_taken u was none = map.same_map handle_cmp_total handle_cmp-IsAntisymmetric _ _ (λ q.
-        let put = map.get-remove handle_cmp_total m h q in
-        let tie = ties_apart q h in
-        grind (arith, nat_tests, was q, none q, elsewhere q))
+    pub is_taken : (u : X) → IsAlone m h u → ((q : Handle) → q.index ≡ h.index → map.get n q ≡ None)
+        → n ≡ map.remove m h
+    is_taken u was none = map.same_map handle_cmp_total handle_cmp-IsAntisymmetric _ _
+        (λ q. let put = map.get-remove handle_cmp_total m h q in let tie = ties_apart q h in grind
+        (arith, nat_tests, was q, none q, elsewhere q))
 
   -- a slot has the value of the handle
   abbrev pub HasValue : List (Slot X) → Handle → X → Type 0
@@ -193,39 +176,32 @@ module _ {X : Type 0} where
   alone_set slots h value within q e = search (rules, set_here, here_alone)
 
   pub map-put : (slots : List (Slot X)) (h : Handle) (value : X) → h.index < length slots
-      → map_of_slots (set slots h.index (Occupied h.generation value))
-      ≡ map.insert (without_slot (map_of_slots slots) h.index) h value
+      → map_of_slots (set slots h.index (Occupied h.generation value)) ≡ map.insert (without_slot (map_of_slots slots)
+      h.index) h value
   map-put slots h value within = search (rules, is_put, set_elsewhere, alone_set)
 
-  pub map-write : (slots : List (Slot X)) (h : Handle) (old value : X) → h.index < length slots
-      → HasValue slots h old → map_of_slots (set slots h.index (Occupied h.generation value))
-      ≡ map.insert (map_of_slots slots) h value
-  map-write slots h old value within has =
-      is_written _ _ h (set_elsewhere slots h _) old value (alone slots h old has)
+  pub map-write : (slots : List (Slot X)) (h : Handle) (old value : X) → h.index < length slots → HasValue slots h old
+      → map_of_slots (set slots h.index (Occupied h.generation value)) ≡ map.insert (map_of_slots slots) h value
+  map-write slots h old value within has = is_written _ _ h (set_elsewhere slots h _) old value (alone slots h old has)
       (alone_set slots h value within)
 
-  pub map-take : (slots : List (Slot X)) (h : Handle) (value : X) → h.index < length slots
-      → HasValue slots h value → map_of_slots (set slots h.index Vacant) ≡ map.remove
-      (map_of_slots slots) h
-  map-take slots h value within has =
-      is_taken _ _ h (set_elsewhere slots h _) value (alone slots h value has)
+  pub map-take : (slots : List (Slot X)) (h : Handle) (value : X) → h.index < length slots → HasValue slots h value
+      → map_of_slots (set slots h.index Vacant) ≡ map.remove (map_of_slots slots) h
+  map-take slots h value within has = is_taken _ _ h (set_elsewhere slots h _) value (alone slots h value has)
       (set_here slots h Vacant within)
 
-  one_more : (index : ℕ) (slot : Slot X) (slots : List (Slot X))
-      → length (entries_from index (slot ∷ slots)) ≡ count_at slot + length
-      (entries_from (index + 1) slots)
+  one_more : (index : ℕ) (slot : Slot X) (slots : List (Slot X)) → length (entries_from index (slot ∷ slots)) ≡ count_at
+      slot + length (entries_from (index + 1) slots)
   one_more index Vacant slots = omega arith
   one_more index (Occupied generation value) slots = omega arith
 
   -- how many there are after count_at slot is set
-  pub length-set_slot : (index : ℕ) (slots : List (Slot X)) (at : ℕ) (slot : Slot X)
-      → at < length slots → length (entries_from index (set slots at slot)) + count_at
-      (slot_at slots at)
+  pub length-set_slot : (index : ℕ) (slots : List (Slot X)) (at : ℕ) (slot : Slot X) → at < length slots
+      → length (entries_from index (set slots at slot)) + count_at (slot_at slots at)
       ≡ length (entries_from index slots) + count_at slot
   length-set_slot index [] at slot within = absurd (omega arith)
   length-set_slot index (x ∷ slots) zero slot within = search (rules, one_more)
-  length-set_slot index (x ∷ slots) (suc at) slot within =
-      search (rules, one_more, length-set_slot (index + 1) slots)
+  length-set_slot index (x ∷ slots) (suc at) slot within = search (rules, one_more, length-set_slot (index + 1) slots)
 
   -- ---- vacant slots behind
 
@@ -233,40 +209,36 @@ module _ {X : Type 0} where
   entries_vacant index zero = refl
   entries_vacant index (suc count) = entries_vacant (index + 1) count
 
-  entries_more : (index : ℕ) (slots : List (Slot X)) (count : ℕ)
-      → entries_from index (slots ++ replicate count Vacant) ≡ entries_from index slots
+  entries_more : (index : ℕ) (slots : List (Slot X)) (count : ℕ) → entries_from index (slots ++ replicate count Vacant)
+      ≡ entries_from index slots
   entries_more index [] count = entries_vacant index count
   entries_more index (Vacant ∷ slots) count = entries_more (index + 1) slots count
-  entries_more index (Occupied generation value ∷ slots) count =
-      search (rules, entries_more (index + 1) slots count)
+  entries_more index (Occupied generation value ∷ slots) count = search (rules, entries_more (index + 1) slots count)
 
-  pub entries_padded : (slots : List (Slot X)) (count : ℕ)
-      → entries_from 0 (padded slots count) ≡ entries_from 0 slots
+  pub entries_padded : (slots : List (Slot X)) (count : ℕ) → entries_from 0 (padded slots count) ≡ entries_from 0 slots
   entries_padded slots count = entries_more 0 slots (count - length slots)
 
-  pub map_padded : (slots : List (Slot X)) (count : ℕ) → map_of_slots (padded slots count) ≡
-      map_of_slots slots
+  pub map_padded : (slots : List (Slot X)) (count : ℕ) → map_of_slots (padded slots count) ≡ map_of_slots slots
   map_padded slots count = search (rules, entries_padded)
 
   -- ---- in pairs
 
-  here : (from : ℕ) (e : Handle × X) (es : List (Handle × X)) → from ≤ e.0.index
-      → All (λ x. from ≤ x.0.index) es → All (λ x. from ≤ x.0.index) (e ∷ es)
+  here : (from : ℕ) (e : Handle × X) (es : List (Handle × X)) → from ≤ e.0.index → All (λ x. from ≤ x.0.index) es
+      → All (λ x. from ≤ x.0.index) (e ∷ es)
   here from e es first rest zero d l = first
   here from e es first rest (suc k) d l = rest k d (omega (arith, l))
 
   entries_after : (from index : ℕ) (slots : List (Slot X)) → from ≤ index
       → All (λ e. from ≤ e.0.index) (entries_from index slots)
   entries_after from index [] least = λ k d l. absurd (omega (arith, l))
-  entries_after from index (Vacant ∷ slots) least = entries_after from (index + 1) slots
-      (omega arith)
-  entries_after from index (Occupied generation value ∷ slots) least =
-      here from (record { index = index; generation = generation }, value)
-      (entries_from (index + 1) slots) least (entries_after from (index + 1) slots (omega arith))
+  entries_after from index (Vacant ∷ slots) least = entries_after from (index + 1) slots (omega arith)
+  entries_after from index (Occupied generation value ∷ slots) least = here from
+      (record { index = index; generation = generation }, value) (entries_from (index + 1) slots) least
+      (entries_after from (index + 1) slots (omega arith))
 
-  pub pairs_rising : (index : ℕ) (slots : List (Slot X))
-      → AllPairs (λ a b. a.0.index < b.0.index) (entries_from index slots)
+  pub pairs_rising : (index : ℕ) (slots : List (Slot X)) → AllPairs (λ a b. a.0.index < b.0.index) (entries_from index
+      slots)
   pairs_rising index [] = λ i j d l m. absurd (omega (arith, m))
   pairs_rising index (Vacant ∷ slots) = pairs_rising (index + 1) slots
-  pairs_rising index (Occupied generation value ∷ slots) =
-      search (rules, AllPairs-cons, entries_after, pairs_rising (index + 1) slots)
+  pairs_rising index (Occupied generation value ∷ slots) = search
+      (rules, AllPairs-cons, entries_after, pairs_rising (index + 1) slots)

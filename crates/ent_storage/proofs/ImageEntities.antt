@@ -1,12 +1,8 @@
 -- Entities, one by one: what is written of them tells them.
 use Rattle.std.proofs.lemmas.Grind.{common_steps}
-use Rattle.std.proofs.Common.{rules, ◌≡◌, ◌≢◌, refl, sym, ap, ◌∙◌, ℕ, zero, suc, ℤ, ◌+◌, ◌*◌}
-use Rattle.std.proofs.Common.{◌<◌, ◌≤◌, Bool, true, false, IsTrue, List, [], ◌∷◌, ◌++◌, length, arith}
-use Rattle.std.proofs.Common.{Option, None, Some, IsSomeAnd, is_some, Contains, ◌||◌}
-use Rattle.std.proofs.Common.{◌⊎◌, inl, inr}
-use Rattle.std.specs.Prelude.{if◌then◌else◌}
+use Rattle.std.proofs.Common.{rules, ◌≡◌, ◌≢◌, refl, sym, ap, ◌∙◌, ℕ, zero, suc, ℤ, ◌+◌, ◌*◌, ◌<◌, ◌≤◌, Bool, true, false, IsTrue, List, [], ◌∷◌, ◌++◌, length, arith, Option, None, Some, IsSomeAnd, is_some, Contains, ◌||◌, ◌⊎◌, inl, inr}
+use Rattle.std.specs.Prelude.{if◌then◌else◌, option_and_then}
 use Rattle.std.specs.List.{flat_map, list_any}
-use Rattle.std.specs.Prelude.{option_and_then}
 use Rattle.std.specs.FinMap as map
 use Rattle.std.proofs.lemmas.Bool.{cases_eq, cases_lt, false≢true}
 use Rattle.std.proofs.lemmas.List.{append_assoc, length-append}
@@ -15,9 +11,7 @@ use Rattle.ent_handle.specs.declared.component.ComponentId.{ComponentId}
 use Rattle.ent_handle.specs.Component.{component_cmp_total, component_cmp-IsAntisymmetric}
 use Rattle.ent_handle.specs.Handle.{Handle, handle_cmp_total, handle_cmp-IsAntisymmetric}
 use Rattle.ent_storage.specs.EntityMap.{Entity, EntityMap, birth_of, value_of}
-use Rattle.ent_storage.specs.Image.{word, long, birth_bytes, values_bytes, component}
-use Rattle.ent_storage.specs.Image.{entity_bytes, entities_bytes, is_held, width_below, width, IsBirth}
-use Rattle.ent_storage.specs.Image.{IsStored, AreStored}
+use Rattle.ent_storage.specs.Image.{word, long, birth_bytes, values_bytes, component, entity_bytes, entities_bytes, is_held, width_below, width, IsBirth, IsStored, AreStored}
 use Rattle.ent_storage.proofs.ImageBytes.{length-word, length-long, same_words, same_longs}
 use Rattle.ent_storage.proofs.ImageValues.{AllFit, same_values}
 
@@ -26,12 +20,12 @@ use Rattle.ent_storage.proofs.ImageValues.{AllFit, same_values}
 length-birth_bytes : (b : Birth) → length (birth_bytes b) ≡ 16
 length-birth_bytes b = search (rules, length-append, length-long, length-word)
 
-birth_then : (b : Birth) (rest : List ℕ) → birth_bytes b ++ rest
-    ≡ long b.frame ++ (word b.system ++ (word b.ordinal ++ rest))
+birth_then : (b : Birth) (rest : List ℕ) → birth_bytes b ++ rest ≡ long b.frame
+    ++ (word b.system ++ (word b.ordinal ++ rest))
 birth_then b rest = search (rules, append_assoc)
 
-same_births : (a b : Birth) (xs ys : List ℕ) → IsBirth a → IsBirth b → birth_bytes a ++ xs
-    ≡ birth_bytes b ++ ys → (a ≡ b) × (xs ≡ ys)
+same_births : (a b : Birth) (xs ys : List ℕ) → IsBirth a → IsBirth b → birth_bytes a ++ xs ≡ birth_bytes b ++ ys
+    → (a ≡ b) × (xs ≡ ys)
 same_births a b xs ys fa fb same = search (rules, same_longs, birth_then, same_words)
 
 -- ---- one entity
@@ -41,12 +35,10 @@ known None is = absurd is
 known (Some b) is = (b, (refl, is))
 
 -- the birth of an entity that is there
-pub birth_known : (m : EntityMap) (h : Handle) → IsStored m h
-    → (b : Birth) × ((birth_of m h ≡ Some b) × IsBirth b)
+pub birth_known : (m : EntityMap) (h : Handle) → IsStored m h → (b : Birth) × ((birth_of m h ≡ Some b) × IsBirth b)
 birth_known m h is = known (birth_of m h) is.birth
 
-pub entity_is : (n : ℕ) (m : EntityMap) (h : Handle) (b : Birth) (rest : List ℕ)
-    → birth_of m h ≡ Some b
+pub entity_is : (n : ℕ) (m : EntityMap) (h : Handle) (b : Birth) (rest : List ℕ) → birth_of m h ≡ Some b
     → entity_bytes n m h ++ rest ≡ birth_bytes b ++ (values_bytes (value_of m h) n ++ rest)
 unfolding entity_bytes
 entity_is n m h b rest is = search (rules, append_assoc)
@@ -57,14 +49,13 @@ unfolding entity_bytes
 entity_alone n m h b is = search rules
 
 -- an entity that was read
-pub entity_read : (n : ℕ) (m : EntityMap) (h : Handle) (b : Birth) (bytes left rest : List ℕ)
-    → birth_of m h ≡ Some b → bytes ≡ birth_bytes b ++ left
-    → left ≡ values_bytes (value_of m h) n ++ rest → bytes ≡ entity_bytes n m h ++ rest
+pub entity_read : (n : ℕ) (m : EntityMap) (h : Handle) (b : Birth) (bytes left rest : List ℕ) → birth_of m h ≡ Some b
+    → bytes ≡ birth_bytes b ++ left → left ≡ values_bytes (value_of m h) n ++ rest → bytes ≡ entity_bytes n m h ++ rest
 entity_read n m h b bytes left rest is first second = search (rules, entity_is)
 
 -- no entity has fewer than 16 bytes
-pub entity_short : (n : ℕ) (m : EntityMap) (h : Handle) (bytes rest : List ℕ) → length bytes < 16
-    → IsStored m h → bytes ≢ entity_bytes n m h ++ rest
+pub entity_short : (n : ℕ) (m : EntityMap) (h : Handle) (bytes rest : List ℕ) → length bytes < 16 → IsStored m h
+    → bytes ≢ entity_bytes n m h ++ rest
 entity_short n m h bytes rest short is same =
     let birth = birth_known m h is in
     let all = ap length (same ∙ entity_is n m h birth.0 rest birth.1.0) in
@@ -75,12 +66,14 @@ fit_all : (m : EntityMap) (h : Handle) → IsStored m h → AllFit (value_of m h
 fit_all m h is id v at = is.values id v at
 
 -- where no values are written, no entity is
-pub entity_refused : (n : ℕ) (m : EntityMap) (h : Handle) (b : Birth) (bytes left rest : List ℕ)
-    → IsBirth b → bytes ≡ birth_bytes b ++ left
-    → ((value : ComponentId → Option ℤ) (more : List ℕ) → AllFit value
-    → left ≢ values_bytes value n ++ more)
-    → IsStored m h → bytes ≢ entity_bytes n m h ++ rest
-entity_refused n m h b bytes left rest fits first none is same = let birth = birth_known m h is in let parts = same_births b birth.0 left (values_bytes (value_of m h) n ++ rest) fits birth.1.1 (sym first ∙ same ∙ entity_is n m h birth.0 rest birth.1.0) in search (rules, fit_all)
+pub entity_refused : (n : ℕ) (m : EntityMap) (h : Handle) (b : Birth) (bytes left rest : List ℕ) → IsBirth b
+    → bytes ≡ birth_bytes b ++ left → ((value : ComponentId → Option ℤ) (more : List ℕ) → AllFit value
+    → left ≢ values_bytes value n ++ more) → IsStored m h → bytes ≢ entity_bytes n m h ++ rest
+entity_refused n m h b bytes left rest fits first none is same =
+    let birth = birth_known m h is in
+    let parts = same_births b birth.0 left (values_bytes (value_of m h) n ++ rest) fits birth.1.1
+    (sym first ∙ same ∙ entity_is n m h birth.0 rest birth.1.0) in
+    search (rules, fit_all)
 
 -- the two maps have the same birth under the handle, and the same first values
 pub record IsAlike (n : ℕ) (a b : EntityMap) (h : Handle) : Type 0 where
@@ -89,11 +82,17 @@ pub record IsAlike (n : ℕ) (a b : EntityMap) (h : Handle) : Type 0 where
 
 same_entity : (n : ℕ) (a b : EntityMap) (h : Handle) (xs ys : List ℕ) → IsStored a h → IsStored b h
     → entity_bytes n a h ++ xs ≡ entity_bytes n b h ++ ys → IsAlike n a b h × (xs ≡ ys)
-same_entity n a b h xs ys is_a is_b same = let birth_a = birth_known a h is_a in let birth_b = birth_known b h is_b in let births = same_births birth_a.0 birth_b.0 (values_bytes (value_of a h) n ++ xs) (values_bytes (value_of b h) n ++ ys) birth_a.1.1 birth_b.1.1 (sym (entity_is n a h birth_a.0 xs birth_a.1.0) ∙ same ∙ entity_is n b h birth_b.0 ys birth_b.1.0) in let values = same_values (value_of a h) (value_of b h) n xs ys (fit_all a h is_a) (fit_all b h is_b) births.1 in search rules
+same_entity n a b h xs ys is_a is_b same =
+    let birth_a = birth_known a h is_a in
+    let birth_b = birth_known b h is_b in
+    let births = same_births birth_a.0 birth_b.0 (values_bytes (value_of a h) n ++ xs)
+    (values_bytes (value_of b h) n ++ ys) birth_a.1.1 birth_b.1.1 (sym (entity_is n a h birth_a.0 xs birth_a.1.0) ∙ same
+    ∙ entity_is n b h birth_b.0 ys birth_b.1.0) in
+    let values = same_values (value_of a h) (value_of b h) n xs ys (fit_all a h is_a) (fit_all b h is_b) births.1 in
+    search rules
 
 -- it has at least 16 bytes
-entity_least : (n : ℕ) (m : EntityMap) (h : Handle) → IsStored m h
-    → 16 ≤ length (entity_bytes n m h)
+entity_least : (n : ℕ) (m : EntityMap) (h : Handle) → IsStored m h → 16 ≤ length (entity_bytes n m h)
 entity_least n m h is =
     let birth = birth_known m h is in
     let all = ap length (entity_alone n m h birth.0 birth.1.0) in
@@ -106,8 +105,7 @@ pub written_alike : (n : ℕ) (a b : EntityMap) (h : Handle) → map.get a h ≡
 unfolding entity_bytes
 written_alike n a b h same = search rules
 
-pub stored_alike : (a b : EntityMap) (h : Handle) → map.get a h ≡ map.get b h → IsStored a h
-    → IsStored b h
+pub stored_alike : (a b : EntityMap) (h : Handle) → map.get a h ≡ map.get b h → IsStored a h → IsStored b h
 stored_alike a b h same is = search (rules)
 
 -- ---- entities
@@ -118,17 +116,15 @@ first_in h hs = (0, omega arith, refl)
 later_in : (g h : Handle) (hs : List Handle) → Contains hs h → Contains (g ∷ hs) h
 later_in g h hs is = (suc is.0, omega (arith, is.1), is.2)
 
-pub all_alike : (n : ℕ) (a b : EntityMap) (hs : List Handle)
-    → ((h : Handle) → Contains hs h → map.get a h ≡ map.get b h)
-    → flat_map (entity_bytes n a) hs ≡ flat_map (entity_bytes n b) hs
+pub all_alike : (n : ℕ) (a b : EntityMap) (hs : List Handle) → ((h : Handle) → Contains hs h → map.get a h ≡ map.get b
+    h) → flat_map (entity_bytes n a) hs ≡ flat_map (entity_bytes n b) hs
 all_alike n a b [] each = refl
 all_alike n a b (h ∷ hs) each =
     let here = written_alike n a b h (each h (first_in h hs)) in
     let rest = all_alike n a b hs (λ g is. each g (later_in h g hs is)) in
     λ i. here i ++ rest i
 
-listed_least : (n : ℕ) (m : EntityMap) (hs : List Handle)
-    → ((h : Handle) → Contains hs h → IsStored m h)
+listed_least : (n : ℕ) (m : EntityMap) (hs : List Handle) → ((h : Handle) → Contains hs h → IsStored m h)
     → 16 * length hs ≤ length (flat_map (entity_bytes n m) hs)
 listed_least n m [] stored = omega arith
 listed_least n m (h ∷ hs) stored =
@@ -142,8 +138,7 @@ pub entities_least : (m : EntityMap) (hs : List Handle) → AreStored m hs
 entities_least m hs stored = search (rules, listed_least, length-append, length-word)
 
 -- the first handle, or a later one
-cases_in : (g : Handle) (hs : List Handle) (h : Handle) → Contains (g ∷ hs) h
-    → (g ≡ h) ⊎ Contains hs h
+cases_in : (g : Handle) (hs : List Handle) (h : Handle) → Contains (g ∷ hs) h → (g ≡ h) ⊎ Contains hs h
 cases_in g hs h (zero, lt, at) = inl at
 cases_in g hs h (suc k, lt, at) = inr (k, omega (arith, lt), at)
 
@@ -152,7 +147,14 @@ pub same_listed : (n : ℕ) (a b : EntityMap) (hs : List Handle) (xs ys : List �
     → flat_map (entity_bytes n a) hs ++ xs ≡ flat_map (entity_bytes n b) hs ++ ys
     → ((h : Handle) → Contains hs h → IsAlike n a b h) × (xs ≡ ys)
 same_listed n a b [] xs ys in_a in_b same = ((λ h is. absurd (omega (arith, is.1))), same)
-same_listed n a b (h ∷ hs) xs ys in_a in_b same = let rest_a = flat_map (entity_bytes n a) hs in let rest_b = flat_map (entity_bytes n b) hs in let one = same_entity n a b h (rest_a ++ xs) (rest_b ++ ys) (in_a h (first_in h hs)) (in_b h (first_in h hs)) (sym (append_assoc (entity_bytes n a h) rest_a xs) ∙ same ∙ append_assoc (entity_bytes n b h) rest_b ys) in let rest = same_listed n a b hs xs ys (λ g is. in_a g (later_in h g hs is)) (λ g is. in_b g (later_in h g hs is)) one.1 in search (rules, cases_in)
+same_listed n a b (h ∷ hs) xs ys in_a in_b same =
+    let rest_a = flat_map (entity_bytes n a) hs in
+    let rest_b = flat_map (entity_bytes n b) hs in
+    let one = same_entity n a b h (rest_a ++ xs) (rest_b ++ ys) (in_a h (first_in h hs)) (in_b h (first_in h hs))
+    (sym (append_assoc (entity_bytes n a h) rest_a xs) ∙ same ∙ append_assoc (entity_bytes n b h) rest_b ys) in
+    let rest = same_listed n a b hs xs ys (λ g is. in_a g (later_in h g hs is)) (λ g is. in_b g (later_in h g hs is))
+    one.1 in
+    search (rules, cases_in)
 
 -- ---- the width
 
@@ -169,23 +171,20 @@ unfolding width
 width_few m hs = width_most m hs 256
 
 by_last : (m : EntityMap) (hs : List Handle) (n k : ℕ) (held : Bool) → is_held m hs n ≡ held
-    → (width_below m hs n ≤ k → k < n → is_held m hs k ≡ false)
-    → (if held then suc n else width_below m hs n) ≤ k → k < suc n → is_held m hs k ≡ false
+    → (width_below m hs n ≤ k → k < n → is_held m hs k ≡ false) → (if held then suc n else width_below m hs n) ≤ k
+    → k < suc n → is_held m hs k ≡ false
 by_last m hs n k true is rest least below = absurd (omega arith)
 by_last m hs n k false is rest least below = search (rules, cases_eq)
 
-pub not_held : (m : EntityMap) (hs : List Handle) (n k : ℕ) → width_below m hs n ≤ k → k < n
-    → is_held m hs k ≡ false
+pub not_held : (m : EntityMap) (hs : List Handle) (n k : ℕ) → width_below m hs n ≤ k → k < n → is_held m hs k ≡ false
 not_held m hs zero k least below = absurd (omega arith)
-not_held m hs (suc n) k least below =
-    by_last m hs n k (is_held m hs n) refl (not_held m hs n k) least below
+not_held m hs (suc n) k least below = by_last m hs n k (is_held m hs n) refl (not_held m hs n k) least below
 
 or_false : (a b : Bool) → a || b ≡ false → (a ≡ false) × (b ≡ false)
 or_false true b is = absurd (false≢true (sym is))
 or_false false b is = (refl, is)
 
-any_false : (p : Handle → Bool) (hs : List Handle) → list_any p hs ≡ false → (h : Handle)
-    → Contains hs h → p h ≡ false
+any_false : (p : Handle → Bool) (hs : List Handle) → list_any p hs ≡ false → (h : Handle) → Contains hs h → p h ≡ false
 any_false p [] none h is = absurd (omega (arith, is.1))
 any_false p (g ∷ hs) none h is = grind (arith, common_steps, or_false, cases_in)
 
@@ -197,10 +196,9 @@ none_from (Some v) never = absurd (never v refl)
 pub value_beyond : (m : EntityMap) (hs : List Handle) → AreStored m hs → (h : Handle) → Contains hs h
     → (id : ComponentId) → width m hs ≤ id.0 → value_of m h id ≡ None
 unfolding width
-value_beyond m hs stored h is id least = none_from (value_of m h id) (λ v at.
-    let none = any_false (λ g. is_some (value_of m g (component id.0))) hs
-    (not_held m hs 256 id.0 least ((stored.each h is).numbered id v at)) h is in
-    false≢true (sym none ∙ ap is_some at))
+value_beyond m hs stored h is id least = none_from (value_of m h id)
+    (λ v at. let none = any_false (λ g. is_some (value_of m g (component id.0))) hs
+    (not_held m hs 256 id.0 least ((stored.each h is).numbered id v at)) h is in false≢true (sym none ∙ ap is_some at))
 
 -- ---- all of them
 
@@ -208,20 +206,18 @@ unwrapped : (o : Option Birth) → Birth → Birth
 unwrapped None b = b
 unwrapped (Some c) b = c
 
-inside : (m : EntityMap) (h : Handle) (o : Option Entity) → map.get m h ≡ o → (e : Entity)
-    → o ≡ Some e → IsTrue (map.contains_key m h)
+inside : (m : EntityMap) (h : Handle) (o : Option Entity) → map.get m h ≡ o → (e : Entity) → o ≡ Some e
+    → IsTrue (map.contains_key m h)
 inside m h o is e some = ap is_some (is ∙ some)
 
 pub never_stored : (m : EntityMap) (h : Handle) → map.get m h ≡ None → IsStored m h → ⊥
 never_stored m h none is = search rules
 
-module _ (a b : EntityMap) (hs : List Handle) (in_a : AreStored a hs) (in_b : AreStored b hs)
-    (n : ℕ) (beyond_a : (h : Handle) → Contains hs h → (id : ComponentId) → n ≤ id.0
-    → value_of a h id ≡ None)
+module _ (a b : EntityMap) (hs : List Handle) (in_a : AreStored a hs) (in_b : AreStored b hs) (n : ℕ)
+    (beyond_a : (h : Handle) → Contains hs h → (id : ComponentId) → n ≤ id.0 → value_of a h id ≡ None)
     (beyond_b : (h : Handle) → Contains hs h → (id : ComponentId) → n ≤ id.0 → value_of b h id ≡ None)
     (alike : (h : Handle) → Contains hs h → IsAlike n a b h) where
-  same_values_of : (h : Handle) → Contains hs h → (id : ComponentId)
-      → value_of a h id ≡ value_of b h id
+  same_values_of : (h : Handle) → Contains hs h → (id : ComponentId) → value_of a h id ≡ value_of b h id
   same_values_of h is id = search (rules, cases_lt)
 
   same_at : (h : Handle) (o p : Option Entity) → map.get a h ≡ o → map.get b h ≡ p → o ≡ p
@@ -229,8 +225,14 @@ module _ (a b : EntityMap) (hs : List Handle) (in_a : AreStored a hs) (in_b : Ar
   same_at h None None is_a is_b = refl
   same_at h None (Some f) is_a is_b = search (rules, never_stored, inside)
   same_at h (Some e) None is_a is_b = search (rules, never_stored, inside)
-  same_at h (Some e) (Some f) is_a is_b = let listed = in_a.only h (inside a h (Some e) is_a e refl) in let births : e.birth ≡ f.birth = search (rules, unwrapped) in let components : e.components ≡ f.components = map.same_map component_cmp_total component_cmp-IsAntisymmetric e.components f.components (λ id. sym (ap (option_and_then (λ (x : Entity). map.get x.components id)) is_a) ∙ same_values_of h listed id ∙ ap (option_and_then (λ (x : Entity). map.get x.components id)) is_b) in λ i. Some (record { birth = births i; components = components i })
+  same_at h (Some e) (Some f) is_a is_b =
+      let listed = in_a.only h (inside a h (Some e) is_a e refl) in
+      let births : e.birth ≡ f.birth = search (rules, unwrapped) in
+      let components : e.components ≡ f.components = map.same_map component_cmp_total component_cmp-IsAntisymmetric
+      e.components f.components (λ id. sym (ap (option_and_then (λ (x : Entity). map.get x.components id)) is_a)
+      ∙ same_values_of h listed id ∙ ap (option_and_then (λ (x : Entity). map.get x.components id)) is_b) in
+      λ i. Some (record { birth = births i; components = components i })
 
   pub same_all : a ≡ b
-  same_all = map.same_map handle_cmp_total handle_cmp-IsAntisymmetric a b (λ h.
-      same_at h (map.get a h) (map.get b h) refl refl)
+  same_all = map.same_map handle_cmp_total handle_cmp-IsAntisymmetric a b
+      (λ h. same_at h (map.get a h) (map.get b h) refl refl)

@@ -1,7 +1,5 @@
 -- An entity that was given a component.
-use Rattle.std.proofs.Common.{rules}
-use Rattle.std.proofs.Common.{◌≡◌, ◌≢◌, refl, sym, ap, ◌∙◌, ℤ, true, [], ◌∷◌, Option, None, Some}
-use Rattle.std.proofs.Common.{is_some}
+use Rattle.std.proofs.Common.{rules, ◌≡◌, ◌≢◌, refl, sym, ap, ◌∙◌, ℤ, true, [], ◌∷◌, Option, None, Some, is_some}
 use Rattle.std.specs.Prelude.{option_and_then}
 use Rattle.std.specs.FinMap as map
 use Rattle.std.proofs.lemmas.Bool.{false≢true}
@@ -23,11 +21,10 @@ module _ (m : EntityMap) (h : Handle) (id : ComponentId) (v : ℤ) where
   given_is e at = search rules
 
   get_here : (e : Entity) → map.get m h ≡ Some e → map.get given h ≡ Some (with_one e)
-  get_here e at = ap (λ x. map.get x h) (given_is e at)
-      ∙ get-insert_same handle_cmp_total handle_cmp-IsAntisymmetric m h (with_one e) h refl
+  get_here e at = ap (λ x. map.get x h) (given_is e at) ∙ get-insert_same handle_cmp_total handle_cmp-IsAntisymmetric m
+      h (with_one e) h refl
 
-  other_at : (q : Handle) → q ≢ h → (o : Option Entity) → map.get m h ≡ o
-      → map.get given q ≡ map.get m q
+  other_at : (q : Handle) → q ≢ h → (o : Option Entity) → map.get m h ≡ o → map.get given q ≡ map.get m q
   other_at q other None at = search rules
   other_at q other (Some e) at = ap (λ x. map.get x q) (given_is e at)
       ∙ get-insert_other handle_cmp_total handle_cmp-IsAntisymmetric m h (with_one e) q other
@@ -44,17 +41,14 @@ module _ (m : EntityMap) (h : Handle) (id : ComponentId) (v : ℤ) where
     entity = there_at (map.get m h) refl
 
     pub given_value : value_of given h id ≡ Some v
-    given_value =
-        ap (option_and_then (λ (e : Entity). map.get e.components id)) (get_here entity.0 entity.1)
-        ∙ get-insert_same component_cmp_total component_cmp-IsAntisymmetric entity.0.components id v id
-        refl
+    given_value = ap (option_and_then (λ (e : Entity). map.get e.components id)) (get_here entity.0 entity.1)
+        ∙ get-insert_same component_cmp_total component_cmp-IsAntisymmetric entity.0.components id v id refl
 
     pub given_others : (other : ComponentId) → other ≢ id → value_of given h other ≡ value_of m h other
-    given_others other apart =
-        ap (option_and_then (λ (e : Entity). map.get e.components other)) (get_here entity.0 entity.1)
-        ∙ get-insert_other component_cmp_total component_cmp-IsAntisymmetric entity.0.components id v
-        other apart
-        ∙ sym (ap (option_and_then (λ (e : Entity). map.get e.components other)) entity.1)
+    given_others other apart = ap (option_and_then (λ (e : Entity). map.get e.components other))
+        (get_here entity.0 entity.1) ∙ get-insert_other component_cmp_total component_cmp-IsAntisymmetric
+        entity.0.components id v other apart ∙ sym (ap (option_and_then (λ (e : Entity). map.get e.components other))
+        entity.1)
 
     pub given_birth : birth_of given h ≡ birth_of m h
     given_birth = search (rules, get_here)

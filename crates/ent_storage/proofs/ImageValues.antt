@@ -1,8 +1,5 @@
 -- The values of an entity, one by one: what is written tells them.
-use Rattle.std.proofs.Common.{rules}
-use Rattle.std.proofs.Common.{◌≡◌, ◌≢◌, refl, sym, ap, ◌∙◌, ℕ, zero, suc, ℤ, ◌+◌, ◌^◌, ◌<◌, ◌≤◌}
-use Rattle.std.proofs.Common.{List, ◌++◌, drop, Option, None, Some, add-one}
-use Rattle.std.proofs.Common.{arith}
+use Rattle.std.proofs.Common.{rules, ◌≡◌, ◌≢◌, refl, sym, ap, ◌∙◌, ℕ, zero, suc, ℤ, ◌+◌, ◌^◌, ◌<◌, ◌≤◌, List, ◌++◌, drop, Option, None, Some, add-one, arith}
 use Rattle.std.specs.Int.{w64, cast_unsigned}
 use Rattle.std.specs.Int.RustNames.{FitsSigned}
 use Rattle.std.specs.List.{flat_map, range_with_len}
@@ -16,13 +13,11 @@ use Rattle.ent_storage.proofs.ImageBytes.{same_longs}
 -- ---- pieces, one for each number
 
 module _ (f : ℕ → List ℕ) where
-  pieces_more : (a n : ℕ) → flat_map f (range_with_len a (suc n))
-      ≡ flat_map f (range_with_len a n) ++ f (a + n)
+  pieces_more : (a n : ℕ) → flat_map f (range_with_len a (suc n)) ≡ flat_map f (range_with_len a n) ++ f (a + n)
   pieces_more a zero = search (rules, append-nil)
   pieces_more a (suc n) =
       let at : a + 1 + n ≡ a + suc n = omega arith in
-      ap (f a ++◌) (pieces_more (a + 1) n
-      ∙ ap (λ k. flat_map f (range_with_len (a + 1) n) ++ f k) at)
+      ap (f a ++◌) (pieces_more (a + 1) n ∙ ap (λ k. flat_map f (range_with_len (a + 1) n) ++ f k) at)
       ∙ sym (append_assoc (f a) (flat_map f (range_with_len (a + 1) n)) (f (a + suc n)))
 
   -- the piece of one number, and those before and after it
@@ -33,7 +28,11 @@ module _ (f : ℕ → List ℕ) where
       let at : a ≡ a + 0 = omega arith in
       let rest = flat_map f (range_with_len (a + 1) n) in
       (rest, ap (λ k. f k ++ rest) at)
-  pieces_split a (suc n) (suc k) lt = let inner = pieces_split (a + 1) n k (omega arith) in let at : a + 1 + k ≡ a + suc k = omega arith in let before = flat_map f (range_with_len (a + 1) k) in search (rules, append_assoc)
+  pieces_split a (suc n) (suc k) lt =
+      let inner = pieces_split (a + 1) n k (omega arith) in
+      let at : a + 1 + k ≡ a + suc k = omega arith in
+      let before = flat_map f (range_with_len (a + 1) k) in
+      search (rules, append_assoc)
 
 -- pieces that are alike one by one
 pieces_alike : (f g : ℕ → List ℕ) (a n : ℕ) → ((k : ℕ) → a ≤ k → k < a + n → f k ≡ g k)
@@ -59,8 +58,8 @@ unsigned_below z fits = Fits-lt-pow (Fits-of_z fits)
 not_below : (m n : ℕ) → m ≡ n → m < n → ⊥
 not_below m n is lt = omega arith
 
-same_value : (v w : Option ℤ) (xs ys : List ℕ) → Fits v → Fits w → value_bytes v ++ xs
-    ≡ value_bytes w ++ ys → (v ≡ w) × (xs ≡ ys)
+same_value : (v w : Option ℤ) (xs ys : List ℕ) → Fits v → Fits w → value_bytes v ++ xs ≡ value_bytes w ++ ys
+    → (v ≡ w) × (xs ≡ ys)
 same_value None None xs ys fv fw same = (refl, ap (drop 1) same)
 same_value None (Some w) xs ys fv fw same = search (rules, not_below)
 same_value (Some v) None xs ys fv fw same = search (rules, not_below)
@@ -71,23 +70,29 @@ same_value (Some v) (Some w) xs ys fv fw same = search (rules, same_longs, unsig
 abbrev piece : (ComponentId → Option ℤ) → ℕ → List ℕ
 piece value k = value_bytes (value (component k))
 
-pub values_more : (value : ComponentId → Option ℤ) (n : ℕ) → values_bytes value (n + 1)
-    ≡ values_bytes value n ++ value_bytes (value (component n))
+pub values_more : (value : ComponentId → Option ℤ) (n : ℕ) → values_bytes value (n + 1) ≡ values_bytes value n
+    ++ value_bytes (value (component n))
 values_more value n =
     let at : 0 + n ≡ n = omega arith in
-    ap (values_bytes value) (add-one n) ∙ pieces_more (piece value) 0 n
-    ∙ ap (λ k. values_bytes value n ++ piece value k) at
+    ap (values_bytes value) (add-one n) ∙ pieces_more (piece value) 0 n ∙ ap (λ k. values_bytes value n ++ piece value
+    k) at
 
 same_pieces : (f g : ComponentId → Option ℤ) (a n : ℕ) (xs ys : List ℕ) → AllFit f → AllFit g
     → flat_map (piece f) (range_with_len a n) ++ xs ≡ flat_map (piece g) (range_with_len a n) ++ ys
     → ((k : ℕ) → a ≤ k → k < a + n → f (component k) ≡ g (component k)) × (xs ≡ ys)
 same_pieces f g a zero xs ys ff fg same = ((λ k least below. absurd (omega arith)), same)
-same_pieces f g a (suc n) xs ys ff fg same = let rest_f = flat_map (piece f) (range_with_len (a + 1) n) in let rest_g = flat_map (piece g) (range_with_len (a + 1) n) in let one = same_value (f (component a)) (g (component a)) (rest_f ++ xs) (rest_g ++ ys) (ff (component a)) (fg (component a)) (sym (append_assoc (piece f a) rest_f xs) ∙ same ∙ append_assoc (piece g a) rest_g ys) in let rest = same_pieces f g (a + 1) n xs ys ff fg one.1 in search (rules, cases_eq)
+same_pieces f g a (suc n) xs ys ff fg same =
+    let rest_f = flat_map (piece f) (range_with_len (a + 1) n) in
+    let rest_g = flat_map (piece g) (range_with_len (a + 1) n) in
+    let one = same_value (f (component a)) (g (component a)) (rest_f ++ xs) (rest_g ++ ys) (ff (component a))
+    (fg (component a)) (sym (append_assoc (piece f a) rest_f xs) ∙ same ∙ append_assoc (piece g a) rest_g ys) in
+    let rest = same_pieces f g (a + 1) n xs ys ff fg one.1 in
+    search (rules, cases_eq)
 
 -- values that are written alike are the same
 pub same_values : (f g : ComponentId → Option ℤ) (n : ℕ) (xs ys : List ℕ) → AllFit f → AllFit g
-    → values_bytes f n ++ xs ≡ values_bytes g n ++ ys
-    → ((k : ℕ) → k < n → f (component k) ≡ g (component k)) × (xs ≡ ys)
+    → values_bytes f n ++ xs ≡ values_bytes g n ++ ys → ((k : ℕ) → k < n → f (component k) ≡ g (component k))
+    × (xs ≡ ys)
 same_values f g n xs ys ff fg same = search (rules, same_pieces)
 
 -- ---- values that are read
@@ -95,16 +100,14 @@ same_values f g n xs ys ff fg same = search (rules, same_pieces)
 apart_by_number : (id : ComponentId) (n : ℕ) → id.0 ≢ n → id ≢ component n
 apart_by_number id n other is = other (ap (λ (c : ComponentId). c.0) is)
 
-module _ (old new : ComponentId → Option ℤ) (n : ℕ) (value : Option ℤ)
-    (here : new (component n) ≡ value)
+module _ (old new : ComponentId → Option ℤ) (n : ℕ) (value : Option ℤ) (here : new (component n) ≡ value)
     (others : (id : ComponentId) → id ≢ component n → new id ≡ old id) where
   -- the next one
-  pub read_more : (bytes rest left : List ℕ) → bytes ≡ values_bytes old n ++ rest
-      → rest ≡ value_bytes value ++ left → bytes ≡ values_bytes new (n + 1) ++ left
+  pub read_more : (bytes rest left : List ℕ) → bytes ≡ values_bytes old n ++ rest → rest ≡ value_bytes value ++ left
+      → bytes ≡ values_bytes new (n + 1) ++ left
   read_more bytes rest left before next = search (rules, pieces_alike, apart_by_number, append_assoc, values_more)
 
-  pub free_more : ((id : ComponentId) → n ≤ id.0 → old id ≡ None) → (id : ComponentId)
-      → n + 1 ≤ id.0 → new id ≡ None
+  pub free_more : ((id : ComponentId) → n ≤ id.0 → old id ≡ None) → (id : ComponentId) → n + 1 ≤ id.0 → new id ≡ None
   free_more free id least = search (rules, apart_by_number)
 
   pub fits_more : (P : ℕ → ℤ → Type 0) → ((id : ComponentId) (v : ℤ) → old id ≡ Some v → P id.0 v)
@@ -112,13 +115,16 @@ module _ (old new : ComponentId → Option ℤ) (n : ℕ) (value : Option ℤ)
   fits_more P each last id v is = search (rules, cases_eq, apart_by_number)
 
 -- where no value is next, no values are written
-pub none_next : (f g : ComponentId → Option ℤ) (width n : ℕ) (bytes rest more : List ℕ) → n < width
-    → AllFit f → AllFit g → bytes ≡ values_bytes f n ++ rest
-    → ((value : Option ℤ) (left : List ℕ) → rest ≢ value_bytes value ++ left)
-    → bytes ≢ values_bytes g width ++ more
-none_next f g width n bytes rest more lt ff fg before none same = let split = pieces_split (piece g) 0 width n lt in let whole : values_bytes f n ++ rest ≡ values_bytes g n ++ (piece g (0 + n) ++ (split.0 ++ more)) = search (rules, append_assoc) in let parts = same_values f g n rest (piece g (0 + n) ++ (split.0 ++ more)) ff fg whole in none (g (component (0 + n))) (split.0 ++ more) parts.1
+pub none_next : (f g : ComponentId → Option ℤ) (width n : ℕ) (bytes rest more : List ℕ) → n < width → AllFit f
+    → AllFit g → bytes ≡ values_bytes f n ++ rest → ((value : Option ℤ) (left : List ℕ)
+    → rest ≢ value_bytes value ++ left) → bytes ≢ values_bytes g width ++ more
+none_next f g width n bytes rest more lt ff fg before none same =
+    let split = pieces_split (piece g) 0 width n lt in
+    let whole : values_bytes f n ++ rest ≡ values_bytes g n ++ (piece g (0 + n) ++ (split.0 ++ more)) = search
+    (rules, append_assoc) in
+    let parts = same_values f g n rest (piece g (0 + n) ++ (split.0 ++ more)) ff fg whole in
+    none (g (component (0 + n))) (split.0 ++ more) parts.1
 
-pub below_more : (P : ComponentId → Type 0) (n : ℕ)
-    → ((id : ComponentId) → id.0 < n → P id) → P (component n)
+pub below_more : (P : ComponentId → Type 0) (n : ℕ) → ((id : ComponentId) → id.0 < n → P id) → P (component n)
     → (id : ComponentId) → id.0 < n + 1 → P id
 below_more P n each last id below = search (rules, cases_eq)

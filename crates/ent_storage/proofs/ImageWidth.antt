@@ -1,6 +1,5 @@
 -- Each component that an entity has is below the width.
-use Rattle.std.proofs.Common.{◌≡◌, refl, sym, ap, ◌∙◌, ℕ, ℤ, ◌<◌, ◌≤◌, List, Option, Some, None}
-use Rattle.std.proofs.Common.{arith, inl, inr, slice_get}
+use Rattle.std.proofs.Common.{◌≡◌, refl, sym, ap, ◌∙◌, ℕ, ℤ, ◌<◌, ◌≤◌, List, Option, Some, None, arith, inl, inr, slice_get}
 use Rattle.std.specs.List.{All}
 use Rattle.std.specs.Prelude.{option_and_then}
 use Rattle.std.specs.FinMap as finite
@@ -19,8 +18,7 @@ use Rattle.ent_storage.proofs.Indexed.{some_entity, placed_from_get}
 use Rattle.ent_storage.proofs.Placed.{entity_placed, place_from_placed}
 
 -- the entity whose component has the value
-known : (o : Option Entity) (id : ComponentId) (v : ℤ)
-    → option_and_then (λ e. finite.get e.components id) o ≡ Some v
+known : (o : Option Entity) (id : ComponentId) (v : ℤ) → option_and_then (λ e. finite.get e.components id) o ≡ Some v
     → (e : Entity) × ((o ≡ Some e) × (finite.get e.components id ≡ Some v))
 known None id v is = absurd (none-some v is)
 known (Some e) id v is = (e, (refl, is))
@@ -30,8 +28,7 @@ module _ (living : List LivingEntity) (index : FinMap handle_cmp ℕ) (spare : �
       entities = map_of living;
       places = handles_by_place living;
       spare = spare;
-    } ≡ s) (count : ℕ) (few : count ≤ 256)
-    (inside : All (λ (e : LivingEntity). (id : ComponentId) (v : ℤ)
+    } ≡ s) (count : ℕ) (few : count ≤ 256) (inside : All (λ (e : LivingEntity). (id : ComponentId) (v : ℤ)
     → finite.get e.components id ≡ Some v → id.0 < count) living) where
   pub within : (h : Handle) (id : ComponentId) (v : ℤ) → value_of s.entities h id ≡ Some v
       → id.0 < width s.entities s.places
@@ -43,14 +40,14 @@ module _ (living : List LivingEntity) (index : FinMap handle_cmp ℕ) (spare : �
       let i = place.0 in
       let at = entity_placed living index spare s indexed view h i place.1 in
       let same = same_Some _ _ (sym e.1.0 ∙ at.found) in
-      let below = inside i (some_entity h) at.inside id v
-      (sym (ap (λ (x : Entity). finite.get x.components id) same) ∙ e.1.1) in
+      let below = inside i (some_entity h) at.inside id v (sym (ap (λ (x : Entity). finite.get x.components id) same)
+      ∙ e.1.1) in
       let stands = ap (λ (t : Store). slice_get t.places i) (sym view)
       ∙ place_from_placed living index indexed h i place.1 in
       let held = some_held (λ g. value_of s.entities g id) s.places i v
       (ap (option_and_then (λ g. value_of s.entities g id)) stands ∙ is) in
       elim (cases_lt id.0 (width s.entities s.places)) [
         | inl lt ↦ lt
-        | inr least ↦ absurd (false≢true
-            (sym (not_held s.entities s.places 256 id.0 least (omega (arith, few, below))) ∙ held))
+        | inr least ↦ absurd
+            (false≢true (sym (not_held s.entities s.places 256 id.0 least (omega (arith, few, below))) ∙ held))
       ]

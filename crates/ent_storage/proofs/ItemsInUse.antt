@@ -1,6 +1,5 @@
 -- The items of the columns in use are all items at a place.
-use Rattle.std.proofs.Common.{rules, ◌≡◌, ◌≢◌, ℕ, zero, suc, ◌+◌, ◌<◌, ◌≤◌, ◌⊎◌, inl, inr, List, []}
-use Rattle.std.proofs.Common.{◌∷◌, length, Contains, None, is_some, refl, arith}
+use Rattle.std.proofs.Common.{rules, ◌≡◌, ◌≢◌, ℕ, zero, suc, ◌+◌, ◌<◌, ◌≤◌, ◌⊎◌, inl, inr, List, [], ◌∷◌, length, Contains, None, is_some, refl, arith}
 use Rattle.std.proofs.lemmas.Grind.{common_steps}
 use Rattle.std.proofs.lemmas.Bool.{cases_eq}
 use Rattle.std.specs.List.{All, AllPairs, count_by}
@@ -36,8 +35,8 @@ module _ (columns : List Column) (place : ℕ) where
     here : (used : List ℕ) → AreLeft n used (column ∷ left) → column ≡ column_at columns n
     here used are = grind (arith, are.same 0)
 
-    module _ (rest : (used : List ℕ) → AreLeft (suc n) used left → items_of used columns place
-        ≡ items_from (suc n) left place) where
+    module _ (rest : (used : List ℕ) → AreLeft (suc n) used left → items_of used columns place ≡ items_from (suc n) left
+        place) where
       -- the column is not in use
       items_unused : (used : List ℕ) → AreLeft n used (column ∷ left) → All (λ u. n < u) used
           → items_of used columns place ≡ items_from n (column ∷ left) place
@@ -54,8 +53,10 @@ module _ (columns : List Column) (place : ℕ) where
 
           none : map.get column.values place ≡ None
           none = elim (are.rest n (omega arith)) [
-            | inl there ↦ absurd (omega (arith, above there.0 n there.1, there.2))
-            | inr is ↦ search (rules, here used are, map.get-empty)
+            | inl there ↦ absurd
+                (omega (arith, above there.0 n there.1, there.2))
+            | inr is ↦ search
+                (rules, here used are, map.get-empty)
           ]
 
       -- the column is the first in use
@@ -80,8 +81,8 @@ module _ (columns : List Column) (place : ℕ) where
             ];
           }
 
-      items_next : (used : List ℕ) → AreLeft n used (column ∷ left) → items_of used columns place
-          ≡ items_from n (column ∷ left) place
+      items_next : (used : List ℕ) → AreLeft n used (column ∷ left) → items_of used columns place ≡ items_from n (column
+          ∷ left) place
       items_next [] are = items_unused [] are (λ k d l. absurd (omega arith))
       items_next (u ∷ used) are = elim (cases_eq u n) [
         | inl first ↦ items_used u used first are
@@ -97,10 +98,8 @@ module _ (columns : List Column) (place : ℕ) where
       → items_of used columns place ≡ items_from n left place
   items_left [] n [] are = refl
   items_left [] n (u ∷ used) are = absurd (omega (arith, are.within 0 u (omega arith)))
-  items_left (column ∷ left) n used are =
-      items_next n column left (λ next. items_left left (suc n) next) used are
+  items_left (column ∷ left) n used are = items_next n column left (λ next. items_left left (suc n) next) used are
 
   -- the law
-  pub items_in_use : (used : List ℕ) → AreInUse used columns → items_of used columns place
-      ≡ items_from 0 columns place
+  pub items_in_use : (used : List ℕ) → AreInUse used columns → items_of used columns place ≡ items_from 0 columns place
   items_in_use used in_use = search (rules, items_left)

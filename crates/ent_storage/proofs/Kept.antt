@@ -1,14 +1,10 @@
 -- How a walk over the slots keeps some of their values.
 use Rattle.std.proofs.lemmas.Grind.{common_steps}
-use Rattle.std.proofs.Common.{rules, ◌≡◌, ℕ, ◌+◌, ◌<◌, ◌≤◌, Bool, true, false, MutBor, List}
-use Rattle.std.proofs.Common.{[], ◌∷◌, ◌++◌, length, get_or, set, take, drop, Some}
-use Rattle.std.proofs.Common.{arith, length-set}
-use Rattle.std.proofs.lemmas.List.{append-nil, append_assoc, take_all, take_more_set, drop_all}
-use Rattle.std.proofs.lemmas.List.{drop_more, drop-set-lt, length-take-le}
+use Rattle.std.proofs.Common.{rules, ◌≡◌, ℕ, ◌+◌, ◌<◌, ◌≤◌, Bool, true, false, MutBor, List, [], ◌∷◌, ◌++◌, length, get_or, set, take, drop, Some, arith, length-set}
+use Rattle.std.proofs.lemmas.List.{append-nil, append_assoc, take_all, take_more_set, drop_all, drop_more, drop-set-lt, length-take-le}
 use Rattle.ent_handle.specs.Handle.{Handle}
 use Rattle.ent_storage.specs.Retained.{CalledAt, Retains, RetainsSlot}
-use Rattle.ent_storage.specs.Slots.{entries_from, count_at, handle_in, any_value, generation_of}
-use Rattle.ent_storage.specs.Slots.{AreCounted}
+use Rattle.ent_storage.specs.Slots.{entries_from, count_at, handle_in, any_value, generation_of, AreCounted}
 use Rattle.ent_storage.proofs.Entries.{length-set_slot}
 use Rattle.ent_storage.proofs.Found.{read}
 use Rattle.ent_storage.specs.declared.handle_map.slot.Slot.{Slot}
@@ -17,34 +13,30 @@ use Rattle.ent_storage.specs.declared.handle_map.slot.Slot.TheVariants.{Vacant, 
 module _ {X : Type 0} where
   -- ---- entries of two parts
 
-  pub entries-append : (index : ℕ) (front back : List (Slot X)) → entries_from index (front ++ back)
-      ≡ entries_from index front ++ entries_from (index + length front) back
+  pub entries-append : (index : ℕ) (front back : List (Slot X)) → entries_from index (front ++ back) ≡ entries_from
+      index front ++ entries_from (index + length front) back
   entries-append index [] back = search rules
   entries-append index (Vacant ∷ front) back = search (rules, entries-append (index + 1) front back)
-  entries-append index (Occupied generation value ∷ front) back =
-      search (rules, entries-append (index + 1) front back)
+  entries-append index (Occupied generation value ∷ front) back = search (rules, entries-append (index + 1) front back)
 
   -- the entries up to a slot that was just set
   pub entries-upto : (slots : List (Slot X)) (index : ℕ) (slot : Slot X) → index < length slots
-      → entries_from 0 (take (index + 1) (set slots index slot))
-      ≡ entries_from 0 (take index slots) ++ entries_from index (slot ∷ [])
-  entries-upto slots index slot within =
-      search (rules, length-take-le, take_more_set, entries-append)
+      → entries_from 0 (take (index + 1) (set slots index slot)) ≡ entries_from 0 (take index slots)
+      ++ entries_from index (slot ∷ [])
+  entries-upto slots index slot within = search (rules, length-take-le, take_more_set, entries-append)
 
   -- ---- how many there are
 
-  pub counts_one : (slots : List (Slot X)) (count index : ℕ) (slot : Slot X)
-      → AreCounted 0 slots count → index < length slots → slot ≡ get_or slots index slot
-      → count_at slot ≤ count
-  counts_one slots count index slot are within e =
-      search (rules, length-set_slot 0 slots index Vacant within, read slots index slot within e)
+  pub counts_one : (slots : List (Slot X)) (count index : ℕ) (slot : Slot X) → AreCounted 0 slots count
+      → index < length slots → slot ≡ get_or slots index slot → count_at slot ≤ count
+  counts_one slots count index slot are within e = search
+      (rules, length-set_slot 0 slots index Vacant within, read slots index slot within e)
 
   -- after a slot was set
-  pub counted-slot : (slots : List (Slot X)) (count left index : ℕ) (slot new : Slot X)
-      → AreCounted 0 slots count → index < length slots → slot ≡ get_or slots index slot
-      → left + count_at slot ≡ count + count_at new → AreCounted 0 (set slots index new) left
-  counted-slot slots count left index slot new are within e moved =
-      search (rules, length-set_slot, read, length-set)
+  pub counted-slot : (slots : List (Slot X)) (count left index : ℕ) (slot new : Slot X) → AreCounted 0 slots count
+      → index < length slots → slot ≡ get_or slots index slot → left + count_at slot ≡ count + count_at new
+      → AreCounted 0 (set slots index new) left
+  counted-slot slots count left index slot new are within e moved = search (rules, length-set_slot, read, length-set)
   -- ---- one slot
 
 module _ {X F : Type 0} (step : F → Handle → MutBor X → Bool → MutBor X → F → Type 0) where
@@ -53,28 +45,25 @@ module _ {X F : Type 0} (step : F → Handle → MutBor X → Bool → MutBor X 
   called_at f h shown keep left next called = search rules
 
   -- f was called at the value of a slot, and kept it
-  pub kept_slot : (f next : F) (index : ℕ) (slot : Slot X) (h : Handle) (shown left : MutBor X)
-      (keep : Bool) → handle_in slot index ≡ Some h → any_value slot ≡ Some shown.now
-      → step f h shown keep left next → keep ≡ true
+  pub kept_slot : (f next : F) (index : ℕ) (slot : Slot X) (h : Handle) (shown left : MutBor X) (keep : Bool)
+      → handle_in slot index ≡ Some h → any_value slot ≡ Some shown.now → step f h shown keep left next → keep ≡ true
       → RetainsSlot step f index slot (Occupied (generation_of slot) left.now) next
-  kept_slot f next index slot h shown left keep has value called is =
-      search (rules, called_at f h shown keep left next called)
+  kept_slot f next index slot h shown left keep has value called is = search
+      (rules, called_at f h shown keep left next called)
 
   -- it didn't
-  pub gone_slot : (f next : F) (index : ℕ) (slot : Slot X) (h : Handle) (shown left : MutBor X)
-      (keep : Bool) → handle_in slot index ≡ Some h → any_value slot ≡ Some shown.now
-      → step f h shown keep left next → keep ≡ false → RetainsSlot step f index slot Vacant next
-  gone_slot f next index slot h shown left keep has value called is =
-      search (rules, called_at f h shown keep left next called)
+  pub gone_slot : (f next : F) (index : ℕ) (slot : Slot X) (h : Handle) (shown left : MutBor X) (keep : Bool)
+      → handle_in slot index ≡ Some h → any_value slot ≡ Some shown.now → step f h shown keep left next → keep ≡ false
+      → RetainsSlot step f index slot Vacant next
+  gone_slot f next index slot h shown left keep has value called is = search
+      (rules, called_at f h shown keep left next called)
 
   -- a slot in front of the others
-  in_front : (f next : F) (index : ℕ) (slot new : Slot X) (slots : List (Slot X))
-      (later : List (Handle × X)) → RetainsSlot step f index slot new next
-      → Retains step next (entries_from (index + 1) slots) later
+  in_front : (f next : F) (index : ℕ) (slot new : Slot X) (slots : List (Slot X)) (later : List (Handle × X))
+      → RetainsSlot step f index slot new next → Retains step next (entries_from (index + 1) slots) later
       → Retains step f (entries_from index (slot ∷ slots)) (entries_from index (new ∷ []) ++ later)
   in_front f next index Vacant new slots later kept rest = search (rules)
-  in_front f next index (Occupied generation old) new slots later (keep, left, called, is) rest =
-      search (rules)
+  in_front f next index (Occupied generation old) new slots later (keep, left, called, is) rest = search (rules)
 
   -- The walk has come to a slot: those from it on are as they were, and whatever f makes of them
   -- completes its work.
@@ -87,15 +76,14 @@ module _ {X F : Type 0} (step : F → Handle → MutBor X → Bool → MutBor X 
         → Retains step f (entries_from index (drop index old)) later
         → Retains step first (entries_from 0 old) (entries_from 0 (take index now) ++ later)
 
-  pub retained-more : (first : F) (old now : List (Slot X)) (f next : F) (index : ℕ)
-      (slot new : Slot X) → index < length now → slot ≡ get_or now index slot
-      → RetainsSlot step f index slot new next → RetainedBelow first old f now index
-      → RetainedBelow first old next (set now index new) (index + 1)
-  retained-more first old now f next index slot new within read kept below = grind (arith, common_steps, drop_more, read, length-set, drop-set-lt, append_assoc, entries-upto, in_front)
+  pub retained-more : (first : F) (old now : List (Slot X)) (f next : F) (index : ℕ) (slot new : Slot X)
+      → index < length now → slot ≡ get_or now index slot → RetainsSlot step f index slot new next
+      → RetainedBelow first old f now index → RetainedBelow first old next (set now index new) (index + 1)
+  retained-more first old now f next index slot new within read kept below = grind
+      (arith, common_steps, drop_more, read, length-set, drop-set-lt, append_assoc, entries-upto, in_front)
 
   pub retained-done : (first : F) (old now : List (Slot X)) (f : F) (index : ℕ) → length old ≤ index
-      → RetainedBelow first old f now index
-      → Retains step first (entries_from 0 old) (entries_from 0 now)
+      → RetainedBelow first old f now index → Retains step first (entries_from 0 old) (entries_from 0 now)
   retained-done first old now f index past below =
       let all = take_all index now (omega (arith, below.long)) in
       let done = below.done [] (search (rules, drop_all)) in

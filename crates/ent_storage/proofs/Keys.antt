@@ -1,6 +1,5 @@
 -- Keys of a map that are the same or apart, and what a map has at them after a change.
-use Rattle.std.proofs.Common.{◌≡◌, ◌≢◌, Bool, true, false, T, ◌⊎◌, inl, inr, Some, None, Ordering}
-use Rattle.std.proofs.Common.{refl, sym, subst, ◌∙◌, rules, arith}
+use Rattle.std.proofs.Common.{◌≡◌, ◌≢◌, Bool, true, false, T, ◌⊎◌, inl, inr, Some, None, Ordering, refl, sym, subst, ◌∙◌, rules, arith}
 use Rattle.std.specs.Ordering.{eq_by_cmp}
 use Rattle.std.specs.Cmp.{IsTotalOrder}
 use Rattle.ent_storage.proofs.Rising.{equal}

@@ -1,14 +1,13 @@
 -- How many items set a component that is not there.
 use Rattle.std.proofs.lemmas.Grind.{common_steps}
-use Rattle.std.proofs.Common.{◌≡◌, ℕ, None, ℤ, ◌<◌, List, length, get_or}
-use Rattle.std.proofs.Common.{arith, Result, Ok, Err, OnErr}
+use Rattle.std.proofs.Common.{◌≡◌, ℕ, None, ℤ, ◌<◌, List, length, get_or, arith, Result, Ok, Err, OnErr}
 use Rattle.std.specs.FinMap as map
 use Rattle.ent_handle.specs.declared.component.ComponentId.{ComponentId}
 use Rattle.ent_storage.specs.Components.{Components, missing}
 
 -- a component is missing that one of the items sets
-pub missing_at : (m : Components) (items : List (ComponentId × ℤ)) (i : ℕ) (d : ComponentId × ℤ) → i
-    < length items → map.get m (get_or items i d).0 ≡ None → 0 < missing m items
+pub missing_at : (m : Components) (items : List (ComponentId × ℤ)) (i : ℕ) (d : ComponentId × ℤ) → i < length items
+    → map.get m (get_or items i d).0 ≡ None → 0 < missing m items
 missing_at m items i d l none = grind (arith, common_steps)
 
 -- what holds, holds also if a call was refused

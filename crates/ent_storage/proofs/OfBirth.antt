@@ -1,8 +1,6 @@
 -- The least handle of a birth, among pairs and in the map.
 use Rattle.std.proofs.lemmas.Grind.{common_steps}
-use Rattle.std.proofs.Common.{rules, ◌≡◌, ◌≢◌, ◌⊎◌, inl, inr, List, [], ◌∷◌, ◌++◌, map, length}
-use Rattle.std.proofs.Common.{Option, Some, None, IfSome, IfNone, IsSomeAnd, Contains, true, ℕ}
-use Rattle.std.proofs.Common.{false, ◌<◌, refl, sym, ap, subst, ◌∙◌, arith}
+use Rattle.std.proofs.Common.{rules, ◌≡◌, ◌≢◌, ◌⊎◌, inl, inr, List, [], ◌∷◌, ◌++◌, map, length, Option, Some, None, IfSome, IfNone, IsSomeAnd, Contains, true, ℕ, false, ◌<◌, refl, sym, ap, subst, ◌∙◌, arith}
 use Rattle.std.specs.declared.cmp.Ordering.{Ordering}
 use Rattle.std.specs.declared.cmp.Ordering.TheVariants.{Less, Equal, Greater}
 use Rattle.std.specs.Ordering.{eq_by_cmp}
@@ -15,8 +13,7 @@ use Rattle.std.specs.FinMap as finite
 use Rattle.std.specs.FinMap.{FinMap}
 use Rattle.ent_handle.specs.declared.birth.Birth.{Birth}
 use Rattle.ent_handle.specs.Birth.{birth_cmp}
-use Rattle.ent_handle.specs.Handle.{Handle, handle_cmp, handle_cmp_total as total}
-use Rattle.ent_handle.specs.Handle.{handle_cmp-IsAntisymmetric as same}
+use Rattle.ent_handle.specs.Handle.{Handle, handle_cmp, handle_cmp_total as total, handle_cmp-IsAntisymmetric as same}
 use Rattle.ent_storage.specs.Living.{LivingEntity}
 use Rattle.ent_storage.specs.EntityMap.{Entity, birth_of}
 use Rattle.ent_storage.specs.Indexed.{map_of, IsIndexed}
@@ -38,16 +35,15 @@ other_birth a b e is = search (rules, false≢true)
 less_not : (r : Ordering) → r ≡ Less → r ≢ Greater
 less_not r p q = cc
 
-by_cases : (a b c : Handle) (r s : Ordering) → handle_cmp a b ≡ r → handle_cmp b c ≡ s
-    → r ≢ Greater → s ≢ Greater → handle_cmp a c ≢ Greater
+by_cases : (a b c : Handle) (r s : Ordering) → handle_cmp a b ≡ r → handle_cmp b c ≡ s → r ≢ Greater → s ≢ Greater
+    → handle_cmp a c ≢ Greater
 by_cases a b c Less Less p q n m = less_not _ (total.trans a b c p q)
 by_cases a b c Less Equal p q n m = less_not _ (ap (handle_cmp a) (sym (same b c q)) ∙ p)
 by_cases a b c Less Greater p q n m = absurd (m refl)
 by_cases a b c Equal s p q n m = λ e. m (sym q ∙ sym (total.congr a b c p) ∙ e)
 by_cases a b c Greater s p q n m = absurd (n refl)
 
-not_after : (a b c : Handle) → handle_cmp a b ≢ Greater → handle_cmp b c ≢ Greater
-    → handle_cmp a c ≢ Greater
+not_after : (a b c : Handle) → handle_cmp a b ≢ Greater → handle_cmp b c ≢ Greater → handle_cmp a c ≢ Greater
 not_after a b c n m = by_cases a b c _ _ refl refl n m
 
 -- ---- one pair more
@@ -57,47 +53,42 @@ from_least : (o : Option Handle) (k q : Handle) → IfSome o (λ l. handle_cmp k
 from_least None k q below at = absurd at
 from_least (Some l) k q below at = not_after k l q below at
 
-module _ (birth : Birth) (pairs : List (Birth × Handle)) (o : Option Handle)
-    (is : IsLeastOf birth pairs o) where
+module _ (birth : Birth) (pairs : List (Birth × Handle)) (o : Option Handle) (is : IsLeastOf birth pairs o) where
   pub least_other : (p : Birth × Handle) → p.0 ≢ birth → IsLeastOf birth (pairs ++ p ∷ []) o
   least_other p n = grind (arith, common_steps)
 
   pub least_this : (h k : Handle) → (k ≡ h) ⊎ (o ≡ Some k) → handle_cmp k h ≢ Greater
-      → IfSome o (λ l. handle_cmp k l ≢ Greater)
-      → IsLeastOf birth (pairs ++ (birth, h) ∷ []) (Some k)
+      → IfSome o (λ l. handle_cmp k l ≢ Greater) → IsLeastOf birth (pairs ++ (birth, h) ∷ []) (Some k)
   least_this h k one here below = record {
     listed = grind (arith, common_steps, Contains-push pairs (birth, h));
     before = λ q at. elim (Contains-push_cases pairs (birth, h) (birth, q) at) [
       | inl old ↦ from_least o k q below (is.before q old)
-      | inr e ↦ subst (λ x. handle_cmp k x ≢ Greater) (ap (λ (p : Birth × Handle). p.1) e) here
+      | inr e ↦ subst (λ x. handle_cmp k x ≢ Greater)
+          (ap (λ (p : Birth × Handle). p.1) e) here
     ];
   }
 
 -- ---- in the map
 
-module _ (living : List LivingEntity) (index : FinMap handle_cmp ℕ)
-    (indexed : IsIndexed living index) (birth : Birth) where
-  pub to_map : (h : Handle) → Contains (map born_of living) (birth, h)
-      → birth_of (map_of living) h ≡ Some birth
+module _ (living : List LivingEntity) (index : FinMap handle_cmp ℕ) (indexed : IsIndexed living index)
+    (birth : Birth) where
+  pub to_map : (h : Handle) → Contains (map born_of living) (birth, h) → birth_of (map_of living) h ≡ Some birth
   to_map h at =
       let r : LivingEntity = some_entity h in
-      let below : at.0 < length living =
-      omega (arith, length-map {B = Birth × Handle} living born_of, at.1) in
+      let below : at.0 < length living = omega (arith, length-map {B = Birth × Handle} living born_of, at.1) in
       search (rules, get_or-map born_of living at.0 r (birth, h) below, get_placed, r, below)
 
-  found : (h : Handle) (o : Option Entity) → finite.get (map_of living) h ≡ o
-      → option_map (λ e. e.birth) o ≡ Some birth → Contains (map born_of living) (birth, h)
+  found : (h : Handle) (o : Option Entity) → finite.get (map_of living) h ≡ o → option_map (λ e. e.birth) o ≡ Some birth
+      → Contains (map born_of living) (birth, h)
   found h None at is = absurd (none-some birth is)
   found h (Some e) at is =
       let r : LivingEntity = some_entity h in
       let place = placed_from_get living index indexed h e at in
       let born = same_Some _ _ (sym (ap (option_map (λ (e : Entity). e.birth))
-      (get_placed living index indexed h place.0 r place.1))
-      ∙ ap (option_map (λ (e : Entity). e.birth)) at ∙ is) in
+      (get_placed living index indexed h place.0 r place.1)) ∙ ap (option_map (λ (e : Entity). e.birth)) at ∙ is) in
       search (rules, length-map, born_of, get_or-map)
 
-  pub from_map : (h : Handle) → birth_of (map_of living) h ≡ Some birth
-      → Contains (map born_of living) (birth, h)
+  pub from_map : (h : Handle) → birth_of (map_of living) h ≡ Some birth → Contains (map born_of living) (birth, h)
   from_map h is = found h _ refl is
 
 -- ---- what the clauses say
@@ -109,7 +100,6 @@ least_if None P f = tt
 least_if (Some l) P f = f
 
 pub none_if : (o : Option Handle) (P : Handle → Type 0)
-    → ((h : Handle) → P h → IsSomeAnd o (λ l. handle_cmp l h ≢ Greater))
-    → IfNone o ((h : Handle) → P h → ⊥)
+    → ((h : Handle) → P h → IsSomeAnd o (λ l. handle_cmp l h ≢ Greater)) → IfNone o ((h : Handle) → P h → ⊥)
 none_if None P f = f
 none_if (Some l) P f = tt

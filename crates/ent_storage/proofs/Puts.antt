@@ -1,6 +1,5 @@
 -- Components that are put one after the other.
-use Rattle.std.proofs.Common.{rules, ◌≡◌, ◌∙◌, refl, ap, arith, ◌+◌, ◌<◌, ◌≤◌, ℕ, ℤ, List, [], ◌∷◌}
-use Rattle.std.proofs.Common.{length, reverse, T, cond, is_some, Some, None}
+use Rattle.std.proofs.Common.{rules, ◌≡◌, ◌∙◌, refl, ap, arith, ◌+◌, ◌<◌, ◌≤◌, ℕ, ℤ, List, [], ◌∷◌, length, reverse, T, cond, is_some, Some, None}
 use mathlib.Core.List.{reverse_aux}
 use Rattle.std.specs.FinMap.{put, find, is_sorted}
 use Rattle.std.specs.FinMap.Entries.{find-put, length-put, is_sorted-put}
@@ -11,27 +10,24 @@ use Rattle.ent_storage.specs.Bundle.{Bundle, with_put, bundle_of}
 
 -- A later item counts before an earlier one, and before what was held.
 find_with : (id : ComponentId) (held earlier items : List (ComponentId × ℤ))
-    → find component_cmp id held ≡ find component_cmp id earlier
-    → find component_cmp id (with_put held items)
-    ≡ find component_cmp id (reverse_aux items earlier)
+    → find component_cmp id held ≡ find component_cmp id earlier → find component_cmp id (with_put held items) ≡ find
+    component_cmp id (reverse_aux items earlier)
 find_with id held earlier [] same = same
-find_with id held earlier (item ∷ items) same =
-    find_with id (put component_cmp item.0 item.1 held) (item ∷ earlier) items
-    (find-put component_cmp component_cmp_total id item.0 item.1 held
+find_with id held earlier (item ∷ items) same = find_with id (put component_cmp item.0 item.1 held) (item ∷ earlier)
+    items (find-put component_cmp component_cmp_total id item.0 item.1 held
     ∙ ap (cond (eq_by_cmp component_cmp id item.0) (Some item.1)) same)
 
 -- Each component has its last value.
-pub last_value : (id : ComponentId) (items : List (ComponentId × ℤ))
-    → find component_cmp id (bundle_of items) ≡ find component_cmp id (reverse items)
+pub last_value : (id : ComponentId) (items : List (ComponentId × ℤ)) → find component_cmp id (bundle_of items) ≡ find
+    component_cmp id (reverse items)
 last_value id items = find_with id [] [] items refl
 
-module _ (id : ComponentId) (value : ℤ) (held : Bundle)
-    (rising : T (is_sorted component_cmp held)) where
+module _ (id : ComponentId) (value : ℤ) (held : Bundle) (rising : T (is_sorted component_cmp held)) where
   pub still_rising : T (is_sorted component_cmp (put component_cmp id value held))
   still_rising = is_sorted-put component_cmp component_cmp_total id value held rising
 
-  grown : length (put component_cmp id value held)
-      ≡ cond (is_some (find component_cmp id held)) (length held) (length held + 1)
+  grown : length (put component_cmp id value held) ≡ cond (is_some (find component_cmp id held)) (length held)
+      (length held + 1)
   grown = length-put component_cmp component_cmp_total id value held rising
 
   no_shorter_by_one : length held ≤ length (put component_cmp id value held)
@@ -43,13 +39,11 @@ no_shorter : (held : Bundle) (items : List (ComponentId × ℤ)) → T (is_sorte
 no_shorter held [] rising = omega arith
 no_shorter held (item ∷ items) rising =
     let one = no_shorter_by_one item.0 item.1 held rising in
-    let others = no_shorter (put component_cmp item.0 item.1 held) items
-    (still_rising item.0 item.1 held rising) in
+    let others = no_shorter (put component_cmp item.0 item.1 held) items (still_rising item.0 item.1 held rising) in
     omega arith
 
 -- Where at least n are held, one that is not there makes more than n.
-pub more_than : (n : ℕ) (held : Bundle) (id : ComponentId) (value : ℤ)
-    (items : List (ComponentId × ℤ)) → T (is_sorted component_cmp held)
-    → n ≤ length held → find component_cmp id held ≡ None
+pub more_than : (n : ℕ) (held : Bundle) (id : ComponentId) (value : ℤ) (items : List (ComponentId × ℤ))
+    → T (is_sorted component_cmp held) → n ≤ length held → find component_cmp id held ≡ None
     → n < length (with_put (put component_cmp id value held) items)
 more_than n held id value items rising full absent = search (rules, grown, no_shorter, still_rising)

@@ -1,6 +1,5 @@
 -- The birth of the entity at a place is changed.
-use Rattle.std.proofs.Common.{rules, ◌≡◌, ℕ, zero, suc, ◌<◌, List, [], ◌∷◌, length, get_or, set}
-use Rattle.std.proofs.Common.{Some, refl, ap, ◌∙◌, arith}
+use Rattle.std.proofs.Common.{rules, ◌≡◌, ℕ, zero, suc, ◌<◌, List, [], ◌∷◌, length, get_or, set, Some, refl, ap, ◌∙◌, arith}
 use Rattle.std.proofs.lemmas.List.{get_or_default}
 use Rattle.std.specs.FinMap as finite
 use Rattle.std.specs.FinMap.{FinMap}
@@ -16,15 +15,14 @@ use Rattle.ent_storage.proofs.Counted.{kept_set}
 use Rattle.ent_storage.proofs.Placed.{handles_set}
 
 -- the resident at the place is written again with another birth
-pub reborn_from : (n : ℕ) (residents : List Resident) (columns : List Column) (i : ℕ)
-    (birth : Birth) (resident : Resident) → i < length residents → resident
-    ≡ get_or residents i resident
+pub reborn_from : (n : ℕ) (residents : List Resident) (columns : List Column) (i : ℕ) (birth : Birth)
+    (resident : Resident) → i < length residents → resident ≡ get_or residents i resident
     → entities_from n (set residents i (record resident { birth = birth })) columns
     ≡ with_birth_at (entities_from n residents columns) i birth
 reborn_from n [] columns i birth resident l read = absurd (omega arith)
 reborn_from n (r ∷ residents) columns zero birth resident l read = search (rules)
-reborn_from n (r ∷ residents) columns (suc i) birth resident l read =
-    search (rules, reborn_from (suc n) residents columns i birth resident (omega arith) read)
+reborn_from n (r ∷ residents) columns (suc i) birth resident l read = search
+    (rules, reborn_from (suc n) residents columns i birth resident (omega arith) read)
 
 pub length_reborn : (living : List LivingEntity) (i : ℕ) (birth : Birth)
     → length (with_birth_at living i birth) ≡ length living
@@ -32,8 +30,7 @@ length_reborn (e ∷ living) (suc i) birth = ap suc (length_reborn living i birt
 length_reborn living i birth = refl
 
 as_set : (living : List LivingEntity) (i : ℕ) (d : LivingEntity) (birth : Birth) → i < length living
-    → with_birth_at living i birth
-    ≡ set living i (record {
+    → with_birth_at living i birth ≡ set living i (record {
       handle = (get_or living i d).handle;
       birth = birth;
       components = (get_or living i d).components;
@@ -42,9 +39,8 @@ as_set [] i d birth l = absurd (omega arith)
 as_set (e ∷ living) zero d birth l = refl
 as_set (e ∷ living) (suc i) d birth l = ap (λ es. e ∷ es) (as_set living i d birth (omega arith))
 
-module _ (living : List LivingEntity) (index : FinMap handle_cmp ℕ) (room : ℕ)
-    (kept : IsKeptIndex living index room) (h : Handle) (i : ℕ)
-    (placed : finite.get (counted living index) h ≡ Some i) (birth : Birth) where
+module _ (living : List LivingEntity) (index : FinMap handle_cmp ℕ) (room : ℕ) (kept : IsKeptIndex living index room)
+    (h : Handle) (i : ℕ) (placed : finite.get (counted living index) h ≡ Some i) (birth : Birth) where
   abbrev was : LivingEntity
   was = get_or living i (some_entity h)
 

@@ -1,8 +1,6 @@
 -- Lists of pairs whose keys strictly rise, as maps: what an edit at a position leaves.
 use Rattle.std.proofs.lemmas.Grind.{common_steps}
-use Rattle.std.proofs.Common.{rules, ◌≡◌, ℕ, zero, suc, ◌+◌, ◌-◌, ◌<◌, ◌≤◌, inl, inr, Bool, true}
-use Rattle.std.proofs.Common.{false, cond, T, ◌&&◌, List, [], ◌∷◌, length, get_or, set, Some, None}
-use Rattle.std.proofs.Common.{Ordering, refl, sym, ap, subst, ◌∙◌, arith}
+use Rattle.std.proofs.Common.{rules, ◌≡◌, ℕ, zero, suc, ◌+◌, ◌-◌, ◌<◌, ◌≤◌, inl, inr, Bool, true, false, cond, T, ◌&&◌, List, [], ◌∷◌, length, get_or, set, Some, None, Ordering, refl, sym, ap, subst, ◌∙◌, arith}
 use Rattle.std.specs.declared.cmp.Ordering.TheVariants.{Less, Equal, Greater}
 use Rattle.std.specs.Ordering.{is_eq}
 use Rattle.std.specs.Cmp.{IsTotalOrder}
@@ -29,22 +27,18 @@ module _ {K X : Type 0} {R : K → K → Ordering} (o : IsTotalOrder R) where
       → R (get_or es i d).0 k ≡ Equal → find R k es ≡ Some (get_or es i d).1
   find_at [] k i d h l t = absurd (omega arith)
   find_at (e ∷ es) k zero d h l t = grind (arith, common_steps, turn)
-  find_at (e ∷ es) k (suc i) d h l t =
-      ap (λ r. cond (is_eq r) (Some e.1) (find R k es)) (above_head o k e es i d h (omega arith) t)
-      ∙ find_at es k i d (second _ _ h) (omega arith) t
+  find_at (e ∷ es) k (suc i) d h l t = ap (λ r. cond (is_eq r) (Some e.1) (find R k es))
+      (above_head o k e es i d h (omega arith) t) ∙ find_at es k i d (second _ _ h) (omega arith) t
 
   -- the maps of the edited lists
   pub from_sorted-put : (es : List (K × X)) (k : K) (v : X) → T (is_sorted R es)
       → map.from_sorted {R = R} (put R k v es) ≡ map.insert (map.from_sorted es) k v
-  from_sorted-put es k v h =
-      map.same_entries_map _ _ (map.entries-from_sorted R _ (is_sorted-put R o k v es h)
-      ∙ sym (map.entries-insert o (map.from_sorted es) k v
-      ∙ ap (put R k v) (map.entries-from_sorted R es h)))
+  from_sorted-put es k v h = map.same_entries_map _ _ (map.entries-from_sorted R _ (is_sorted-put R o k v es h)
+      ∙ sym (map.entries-insert o (map.from_sorted es) k v ∙ ap (put R k v) (map.entries-from_sorted R es h)))
 
 -- a key between two neighbours is between all pairs before and all after
-pub gap_from_neighbours : {K X : Type 0} {R : K → K → Ordering} (o : IsTotalOrder R)
-    (es : List (K × X)) (k : K) (p : ℕ) → T (is_sorted R es) → p ≤ length es
-    → ((j : ℕ) → j + 1 ≡ p → HoldsAt (λ e. R e.0 k ≡ Less) es j)
+pub gap_from_neighbours : {K X : Type 0} {R : K → K → Ordering} (o : IsTotalOrder R) (es : List (K × X)) (k : K) (p : ℕ)
+    → T (is_sorted R es) → p ≤ length es → ((j : ℕ) → j + 1 ≡ p → HoldsAt (λ e. R e.0 k ≡ Less) es j)
     → (p < length es → HoldsAt (λ e. R e.0 k ≡ Greater) es p) → IsGapFor R es k p
 gap_from_neighbours {K = K} {X = X} {R = R} o es k p rising l before after = record {
   in_range = l;
@@ -57,30 +51,25 @@ gap_from_neighbours {K = K} {X = X} {R = R} o es k p rising l before after = rec
     | inl far ↦ turn o k (get_or es j d).0 Less
         (o.trans _ _ _ (turn o (get_or es p d).0 k Greater (after (omega arith) d))
         (rising_at o es p j d rising far high))
-    | inr near ↦
-        let same : j ≡ p = omega arith in
-        rw same (after (omega arith) d)
+    | inr near ↦ let same : j
+        ≡ p = omega arith in rw same (after (omega arith) d)
   ];
 }
 
-pub from_sorted-nil : {K X : Type 0} (R : K → K → Ordering) → map.from_sorted {X = X} {R = R} []
-    ≡ map.empty
-from_sorted-nil R = map.empty_of_len _ (map.len-entries _
-    ∙ ap length (map.entries-from_sorted R [] tt))
+pub from_sorted-nil : {K X : Type 0} (R : K → K → Ordering) → map.from_sorted {X = X} {R = R} [] ≡ map.empty
+from_sorted-nil R = map.empty_of_len _ (map.len-entries _ ∙ ap length (map.entries-from_sorted R [] tt))
 
 -- what an edit leaves, if the pairs stand for a map
-module _ {K X : Type 0} {R : K → K → Ordering} (o : IsTotalOrder R) (same : IsAntisymmetric R)
-    (es : List (K × X)) (h : T (is_sorted R es)) (k : K) (i : ℕ) where
-  pub get_at : (d : K × X) → IsAt R es k i → map.get (map.from_sorted {R = R} es) k
-      ≡ Some (get_or es i d).1
+module _ {K X : Type 0} {R : K → K → Ordering} (o : IsTotalOrder R) (same : IsAntisymmetric R) (es : List (K × X))
+    (h : T (is_sorted R es)) (k : K) (i : ℕ) where
+  pub get_at : (d : K × X) → IsAt R es k i → map.get (map.from_sorted {R = R} es) k ≡ Some (get_or es i d).1
   get_at d at = map.get-from_sorted R es k h ∙ find_at o es k i d h at.in_range (at.has_key d)
 
   pub get_in_gap : IsGapFor R es k i → map.get (map.from_sorted {R = R} es) k ≡ None
   get_in_gap gap = map.get-from_sorted R es k h ∙ find_in_gap o es k i gap
 
   pub rising_insert : (v : X) → IsGapFor R es k i → T (is_sorted R (insert es i (k, v)))
-  rising_insert v gap =
-      subst (λ fs. T (is_sorted R fs)) (sym (inserted o es k v i v gap refl))
+  rising_insert v gap = subst (λ fs. T (is_sorted R fs)) (sym (inserted o es k v i v gap refl))
       (is_sorted-put R o k v es h)
 
   pub map_insert : (v : X) → IsGapFor R es k i → map.from_sorted {R = R} (insert es i (k, v))

@@ -1,13 +1,10 @@
 -- A map after a write to the value of a handle.
-use Rattle.std.proofs.Common.{rules}
-use Rattle.std.proofs.Common.{◌≡◌, Bool, true, false, cond, Some, IsSome, refl, sym, ap, ◌∙◌}
+use Rattle.std.proofs.Common.{rules, ◌≡◌, Bool, true, false, cond, Some, IsSome, refl, sym, ap, ◌∙◌}
 use mathlib.Core.Bool.{Bool-set}
 use Rattle.std.specs.Ordering.{eq_by_cmp}
 use Rattle.std.specs.FinMap as map
-use Rattle.ent_handle.specs.Handle.{Handle, handle_cmp, handle_cmp_total}
-use Rattle.ent_handle.specs.Handle.{handle_cmp-IsAntisymmetric}
-use Rattle.ent_storage.specs.HandleMap.{HandleMap, HandleValues, with_written, same_handle}
-use Rattle.ent_storage.specs.HandleMap.{some_written}
+use Rattle.ent_handle.specs.Handle.{Handle, handle_cmp, handle_cmp_total, handle_cmp-IsAntisymmetric}
+use Rattle.ent_storage.specs.HandleMap.{HandleMap, HandleValues, with_written, same_handle, some_written}
 use Rattle.ent_storage.specs.Entry.{with_value, IsFilled}
 use Rattle.ent_storage.specs.SparseEntry as in_sparse
 use Rattle.ent_storage.specs.SparseMap as some_written_in
@@ -21,43 +18,35 @@ last false x y z = refl
 
 module _ {T : Type 0} where
   -- the last of two writes counts
-  pub insert_twice : (m : HandleValues T) (h : Handle) (v w : T)
-      → map.insert (map.insert m h v) h w ≡ map.insert m h w
-  insert_twice m h v w =
-      map.same_map handle_cmp_total handle_cmp-IsAntisymmetric _ _
-      (λ q. map.get-insert handle_cmp_total (map.insert m h v) h w q
-      ∙ ap (cond (eq_by_cmp handle_cmp q h) (Some w)) (map.get-insert handle_cmp_total m h v q)
-      ∙ last (eq_by_cmp handle_cmp q h) _ _ _
+  pub insert_twice : (m : HandleValues T) (h : Handle) (v w : T) → map.insert (map.insert m h v) h w ≡ map.insert m h w
+  insert_twice m h v w = map.same_map handle_cmp_total handle_cmp-IsAntisymmetric _ _
+      (λ q. map.get-insert handle_cmp_total (map.insert m h v) h w q ∙ ap (cond (eq_by_cmp handle_cmp q h) (Some w))
+      (map.get-insert handle_cmp_total m h v q) ∙ last (eq_by_cmp handle_cmp q h) _ _ _
       ∙ sym (map.get-insert handle_cmp_total m h w q))
 
-  pub written_twice : (m : HandleMap T) (h : Handle) (v w : T)
-      → with_written (with_written m h v) h w ≡ with_written m h w
+  pub written_twice : (m : HandleMap T) (h : Handle) (v w : T) → with_written (with_written m h v) h w ≡ with_written m
+      h w
   written_twice m h v w = search (rules, insert_twice)
 
   -- what was written is there
   pub got_inserted : (m : HandleValues T) (h : Handle) (v : T) → map.get (map.insert m h v) h ≡ Some v
-  got_inserted m h v =
-      map.get-insert handle_cmp_total m h v h
-      ∙ ap (λ same. cond same (Some v) (map.get m h)) (same_handle h)
+  got_inserted m h v = map.get-insert handle_cmp_total m h v h ∙ ap (λ same. cond same (Some v) (map.get m h))
+      (same_handle h)
 
   -- a written entry is the same, whatever shows that it is occupied
-  pub occupied_written : (o : OccupiedEntry T) (v : T)
-      (p : IsSome (map.get (with_written o.map.now o.handle v).values o.handle))
-      → record {
+  pub occupied_written : (o : OccupiedEntry T) (v : T) (p : IsSome (map.get (with_written o.map.now o.handle v).values
+      o.handle)) → record {
         map = record o.map { now = with_written o.map.now o.handle v };
         handle = o.handle;
-        present = p;
+        present =
+            p;
       } ≡ with_value o v
-  occupied_written o v p =
-      ap (λ (q : IsSome (map.get (with_written o.map.now o.handle v).values o.handle)). record {
-        map = record o.map { now = with_written o.map.now o.handle v };
-        handle = o.handle;
-        present = q;
-      }) (Bool-set _ _ p (some_written o.map.now o.handle v))
+  occupied_written o v p = ap (λ (q : IsSome (map.get (with_written o.map.now o.handle v).values o.handle)). record
+      { map = record o.map { now = with_written o.map.now o.handle v }; handle = o.handle; present = q })
+      (Bool-set _ _ p (some_written o.map.now o.handle v))
 
   -- a filled map, once the value is written over
-  pub filled_over : (m n : HandleMap T) (h : Handle) (v w : T) → IsFilled m h v n
-      → IsFilled m h w (with_written n h w)
+  pub filled_over : (m n : HandleMap T) (h : Handle) (v w : T) → IsFilled m h v n → IsFilled m h w (with_written n h w)
   filled_over m n h v w is = search (rules, insert_twice)
 
   -- ---- the same of a sparse map
@@ -68,13 +57,10 @@ module _ {T : Type 0} where
 
   pub occupied_written_in : (o : sparse.OccupiedEntry T) (v : T)
       (p : IsSome (map.get (with_written_in o.map.now o.handle v).values o.handle))
-      → record {
-        map = record o.map { now = with_written_in o.map.now o.handle v };
-        handle = o.handle;
-        present = p;
-      } ≡ in_sparse.with_value o v
-  occupied_written_in o v p =
-      ap (λ (q : IsSome (map.get (with_written_in o.map.now o.handle v).values o.handle)). record {
+      → record { map = record o.map { now = with_written_in o.map.now o.handle v }; handle = o.handle; present = p }
+      ≡ in_sparse.with_value o v
+  occupied_written_in o v p = ap (λ (q : IsSome (map.get (with_written_in o.map.now o.handle v).values
+      o.handle)). record {
         map = record o.map { now = with_written_in o.map.now o.handle v };
         handle = o.handle;
         present = q;

@@ -9,9 +9,7 @@ use Rattle.ent_world.specs.declared.fault.SyncReport.{SyncReport}
 use Rattle.ent_total.specs.Framing.{HasStop}
 
 pub stop_of : (why : SyncFault) (queues : List (List Command)) (before after : World)
-    → ((system command done : ℕ) (so_far : SyncReport)
-    → why ≡ fault.Memory system command done so_far
+    → ((system command done : ℕ) (so_far : SyncReport) → why ≡ fault.Memory system command done so_far
     → IsHalf queues before system command done so_far after) → HasStop why queues
 stop_of fault.FlushMemory queues before after half = tt
-stop_of (fault.Memory system command done so_far) queues before after half =
-    (half system command done so_far refl).stop
+stop_of (fault.Memory system command done so_far) queues before after half = (half system command done so_far refl).stop

@@ -13,11 +13,9 @@ use Rattle.ent_total.specs.Issuing.{IsRefused}
 
 module _ (s : Shared) (b a : Reserver) where
   abbrev RepliesOne : Result Handle ReserveError → Type 0
-  RepliesOne r = (reply : Result Handle Refused) → r ≡ queued reply
-      → IsReturned s b a 1 (listed_alone reply)
+  RepliesOne r = (reply : Result Handle Refused) → r ≡ queued reply → IsReturned s b a 1 (listed_alone reply)
 
-  pub given_one : (r : Result Handle ReserveError) → RepliesOne r
-      → IfOk r (λ h. IsReturned s b a 1 (Ok (h ∷ [])))
+  pub given_one : (r : Result Handle ReserveError) → RepliesOne r → IfOk r (λ h. IsReturned s b a 1 (Ok (h ∷ [])))
   given_one (Ok h) replies = replies (Ok h) refl
   given_one (Err why) replies = tt
 

@@ -11,10 +11,8 @@ IsUnused r = r.own.entries ≡ []
 
 own-none : (rs : List Reserver) → All IsUnused rs → own_of_all (records_of rs) ≡ []
 own-none [] unused = refl
-own-none (r ∷ rs) unused =
-    search (rules, own_of_all, All-head, All-tail, own-none rs (All-tail IsUnused r rs unused))
+own-none (r ∷ rs) unused = search (rules, own_of_all, All-head, All-tail, own-none rs (All-tail IsUnused r rs unused))
 
-pub nothing-reserved : (s : Allocator) (rs : List Reserver)
-    → All (λ (r : Reserver). r.own.entries ≡ []) rs
+pub nothing-reserved : (s : Allocator) (rs : List Reserver) → All (λ (r : Reserver). r.own.entries ≡ []) rs
     → after_history s (history_of (records_of rs)) ≡ s
 nothing-reserved s rs unused = search (rules, own-none)

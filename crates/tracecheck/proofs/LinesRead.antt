@@ -1,6 +1,5 @@
 -- Lines that end with a line feed, and the last, which may have no end.
-use Rattle.std.proofs.Common.{rules, ◌≡◌, ◌≢◌, ℕ, ◌<◌, eqb, false, List, [], ◌∷◌, ◌++◌, length, All}
-use Rattle.std.proofs.Common.{refl, sym, ap, ◌∙◌, append_assoc, arith}
+use Rattle.std.proofs.Common.{rules, ◌≡◌, ◌≢◌, ℕ, ◌<◌, eqb, false, List, [], ◌∷◌, ◌++◌, length, All, refl, sym, ap, ◌∙◌, append_assoc, arith}
 use Rattle.std.proofs.lemmas.Grind.{common_steps}
 use Rattle.std.proofs.lemmas.Bool.{cond-false, ne_eqb}
 use Rattle.std.proofs.lemmas.List.{append-nil, nil_from_length}
@@ -21,12 +20,11 @@ without_return-return [] = refl
 without_return-return (byte ∷ []) = refl
 without_return-return (byte ∷ next ∷ more) = search (rules, without_return-return (next ∷ more))
 
-pub without_return-other : (front : List ℕ) (last : ℕ) → last ≢ 13
-    → without_return (front ++ last ∷ []) ≡ front ++ last ∷ []
+pub without_return-other : (front : List ℕ) (last : ℕ) → last ≢ 13 → without_return (front ++ last ∷ []) ≡ front ++ last
+    ∷ []
 without_return-other [] last other = search (rules, cond-false, ne_eqb)
 without_return-other (byte ∷ []) last other = search (rules, without_return-other [] last other)
-without_return-other (byte ∷ next ∷ more) last other =
-    search (rules, without_return-other (next ∷ more) last other)
+without_return-other (byte ∷ next ∷ more) last other = search (rules, without_return-other (next ∷ more) last other)
 
 -- ---- lines
 
@@ -34,61 +32,52 @@ ended-cons : (part : List ℕ) (parts : List (List ℕ)) → 0 < length parts
     → ended (part ∷ parts) ≡ without_return part ∷ ended parts
 ended-cons part more long = search rules
 
-pub lines_first : (line others : List ℕ) → IsUnended line
-    → lines_of (line ++ 10 ∷ others) ≡ without_return line ∷ lines_of others
-lines_first line others all =
-    ap ended (parts_first 10 (line ++ 10 ∷ others) line others refl all)
+pub lines_first : (line others : List ℕ) → IsUnended line → lines_of (line ++ 10 ∷ others) ≡ without_return line
+    ∷ lines_of others
+lines_first line others all = ap ended (parts_first 10 (line ++ 10 ∷ others) line others refl all)
     ∙ ended-cons line _ (parts_nonempty 10 others)
 
 pub lines_none : (bytes : List ℕ) → length bytes ≡ 0 → lines_of bytes ≡ []
 lines_none bytes none = ap lines_of (nil_from_length bytes none)
 
-pub lines_last : (line : List ℕ) → eqb (length line) 0 ≡ false → IsUnended line
-    → lines_of line ≡ line ∷ []
-lines_last line long all =
-    ap ended (parts_whole 10 line all) ∙ cond-false (eqb (length line) 0) [] (line ∷ []) long
+pub lines_last : (line : List ℕ) → eqb (length line) 0 ≡ false → IsUnended line → lines_of line ≡ line ∷ []
+lines_last line long all = ap ended (parts_whole 10 line all) ∙ cond-false (eqb (length line) 0) [] (line ∷ []) long
 
 -- ---- what was read
 
-pub cut_line : (begin : Allocator) (text : List ℕ) (old : Checking) (pending bytes : List ℕ)
-    → IsUnended bytes → (h : HasRead begin text old pending) → (more : List ℕ)
-    → lines_of (text ++ bytes ++ 10 ∷ more)
-    ≡ h.texts ++ without_return (pending ++ bytes) ∷ lines_of more
-cut_line begin text old pending bytes all h more =
-    ap lines_of (append_assoc text bytes (10 ∷ more)) ∙ h.lines (bytes ++ 10 ∷ more)
-    ∙ ap (λ (bs : List ℕ). h.texts ++ lines_of bs) (sym (append_assoc pending bytes (10 ∷ more)))
-    ∙ ap (λ (ls : List (List ℕ)). h.texts ++ ls)
-    (lines_first (pending ++ bytes) more
-    (All-append (λ byte. byte ≢ 10) pending bytes h.unended all))
+pub cut_line : (begin : Allocator) (text : List ℕ) (old : Checking) (pending bytes : List ℕ) → IsUnended bytes
+    → (h : HasRead begin text old pending) → (more : List ℕ) → lines_of (text ++ bytes ++ 10 ∷ more) ≡ h.texts
+    ++ without_return (pending ++ bytes) ∷ lines_of more
+cut_line begin text old pending bytes all h more = ap lines_of (append_assoc text bytes (10 ∷ more))
+    ∙ h.lines (bytes ++ 10 ∷ more) ∙ ap (λ (bs : List ℕ). h.texts ++ lines_of bs)
+    (sym (append_assoc pending bytes (10 ∷ more))) ∙ ap (λ (ls : List (List ℕ)). h.texts ++ ls)
+    (lines_first (pending ++ bytes) more (All-append (λ byte. byte ≢ 10) pending bytes h.unended all))
 
-pub HasRead-line : (begin : Allocator) (text : List ℕ) (old new : Checking)
-    (pending bytes : List ℕ) → IsUnended bytes → (h : HasRead begin text old pending)
-    → HasTaken begin (h.texts ++ without_return (pending ++ bytes) ∷ []) new
+pub HasRead-line : (begin : Allocator) (text : List ℕ) (old new : Checking) (pending bytes : List ℕ) → IsUnended bytes
+    → (h : HasRead begin text old pending) → HasTaken begin (h.texts ++ without_return (pending ++ bytes) ∷ []) new
     → HasRead begin (text ++ bytes ++ 10 ∷ []) new []
 HasRead-line begin text old new pending bytes all h taken = record {
   texts = h.texts ++ without_return (pending ++ bytes) ∷ [];
   taken = taken;
   unended = λ k d lt. absurd (omega (arith, lt));
   lines = λ more. ap lines_of (append_assoc (text ++ bytes) (10 ∷ []) more)
-      ∙ cut_line begin text old pending bytes all h more
-      ∙ sym (append_assoc h.texts (without_return (pending ++ bytes) ∷ []) (lines_of more));
+      ∙ cut_line begin text old pending bytes all h more ∙ sym
+      (append_assoc h.texts (without_return (pending ++ bytes) ∷ []) (lines_of more));
 }
 
 -- all lines of the text, if nothing comes any more
 pub lines_now : (begin : Allocator) (text : List ℕ) (old : Checking) (pending : List ℕ)
     → (h : HasRead begin text old pending) → lines_of text ≡ h.texts ++ lines_of pending
-lines_now begin text old pending h =
-    grind (arith, common_steps, append-nil text, append-nil pending, h.lines, h.texts)
+lines_now begin text old pending h = grind (arith, common_steps, append-nil text, append-nil pending, h.lines, h.texts)
 
 -- ---- a piece
 
 -- one more line of the piece is taken
-pub piece_front : (piece front rest line others : List ℕ) → piece ≡ front ++ rest
-    → rest ≡ line ++ 10 ∷ others → piece ≡ (front ++ line ++ 10 ∷ []) ++ others
+pub piece_front : (piece front rest line others : List ℕ) → piece ≡ front ++ rest → rest ≡ line ++ 10 ∷ others
+    → piece ≡ (front ++ line ++ 10 ∷ []) ++ others
 piece_front piece front rest line others whole parts = grind (arith, common_steps)
 
 -- what comes after a line of a piece
-pub piece_rest : (text piece front rest line others more : List ℕ) → piece ≡ front ++ rest
-    → rest ≡ line ++ 10 ∷ others
+pub piece_rest : (text piece front rest line others more : List ℕ) → piece ≡ front ++ rest → rest ≡ line ++ 10 ∷ others
     → text ++ piece ++ more ≡ text ++ front ++ line ++ 10 ∷ (others ++ more)
 piece_rest text piece front rest line others more whole parts = grind (arith, common_steps)

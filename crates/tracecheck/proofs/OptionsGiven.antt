@@ -1,8 +1,6 @@
 -- What clap's facts of a parse say of an option with a default: it has a number in its range.
 use Rattle.std.proofs.lemmas.Grind.{common_steps}
-use Rattle.std.proofs.Common.{rules, ◌≡◌, ◌∙◌, ◌⊎◌, ◌<◌, ◌≤◌, ℕ, Bool, true, false, List, [], ◌∷◌}
-use Rattle.std.proofs.Common.{cond, length, zero, suc, refl, sym, ap, subst, inl, inr, codes, arith}
-use Rattle.std.proofs.Common.{map, Option, Some, None, is_some}
+use Rattle.std.proofs.Common.{rules, ◌≡◌, ◌∙◌, ◌⊎◌, ◌<◌, ◌≤◌, ℕ, Bool, true, false, List, [], ◌∷◌, cond, length, zero, suc, refl, sym, ap, subst, inl, inr, codes, arith, map, Option, Some, None, is_some}
 use Rattle.std.proofs.lemmas.Bool.{false≢true}
 use Rattle.std.proofs.lemmas.Slice.Eq.{bytes_eq-Decides}
 use Rattle.std.specs.Borrow.{Bor}
@@ -10,9 +8,7 @@ use Rattle.std.specs.List.{All, find, list_all, slice_index_or}
 use Rattle.std.specs.Prelude.{option_map, pos}
 use Rattle.std.specs.Str.{bytes_eq}
 use Rattle.clap.specs.Built.{IsAuto, IsParsedFrom, SameRules}
-use Rattle.clap.specs.Facts.{Entry, EntryPasses, HasId, HasReading, IsFilledEntry, IsKnownGroup}
-use Rattle.clap.specs.Facts.{MayBeEmpty, PassesArg, ValuesPass, WantsDefault, args_of, groups_of}
-use Rattle.clap.specs.Facts.{least_values, unwrap_or_range}
+use Rattle.clap.specs.Facts.{Entry, EntryPasses, HasId, HasReading, IsFilledEntry, IsKnownGroup, MayBeEmpty, PassesArg, ValuesPass, WantsDefault, args_of, groups_of, least_values, unwrap_or_range}
 use Rattle.clap.specs.Matches.{found_of, matched_of}
 use Rattle.clap.specs.Simple.{App, IsSimple, IsSimpleArg, app_of, is_ready, is_ready_leaf}
 use Rattle.clap.specs.Values.{IsSignedIn}
@@ -36,8 +32,8 @@ use Rattle.tracecheck.specs.CommandLine.{program}
 
 -- ---- the arguments of the program's command
 
-rule_at : (xs : List Arg) (k : ℕ) (d : Arg) → k < length xs
-    → rule_of (slice_index_or xs k d) ≡ slice_index_or (map rule_of xs) k (rule_of d)
+rule_at : (xs : List Arg) (k : ℕ) (d : Arg) → k < length xs → rule_of (slice_index_or xs k d) ≡ slice_index_or (map
+    rule_of xs) k (rule_of d)
 rule_at [] k d lt = absurd (omega arith)
 rule_at (x ∷ xs) zero d lt = refl
 rule_at (x ∷ xs) (suc k) d lt = rule_at xs k d (omega arith)
@@ -66,8 +62,7 @@ record TakesNumber (most : ℕ) (a : Arg) : Type 0 where
 -- an id is found where an entry has it
 has-found : (xs : List Entry) (id : Text) (i : ℕ) → i < length xs
     → ((d : Entry) → bytes_eq (slice_index_or xs i d).0.now id ≡ true)
-    → is_some (option_map (λ (e : Entry). e.1) (find (λ (e : Entry). bytes_eq e.0.now id) xs)) ≡
-    true
+    → is_some (option_map (λ (e : Entry). e.1) (find (λ (e : Entry). bytes_eq e.0.now id) xs)) ≡ true
 has-found [] id i lt at = absurd (omega arith)
 has-found (x ∷ xs) id i lt at = go (bytes_eq x.0.now id) refl i lt at (has-found xs id)
   where
@@ -83,8 +78,7 @@ has-found (x ∷ xs) id i lt at = go (bytes_eq x.0.now id) refl i lt at (has-fou
     go false is zero lt at rest = absurd (false≢true (sym is ∙ at x))
     go false is (suc j) lt at rest = rest j (omega arith) at
 
-module _ (c : Command) (id : Text) (most : ℕ) (no_groups : groups_of c ≡ [])
-    (named : id ≡ [] → ⊥)
+module _ (c : Command) (id : Text) (most : ℕ) (no_groups : groups_of c ≡ []) (named : id ≡ [] → ⊥)
     (only : (j : ℕ) (a : Arg) → j < length (args_of c) → slice_index_or (args_of c) j a ≡ a
     → bytes_eq a.id.now id ≡ true → TakesNumber most a) where
   no_group : IsKnownGroup c id → ⊥
@@ -106,15 +100,14 @@ module _ (c : Command) (id : Text) (most : ℕ) (no_groups : groups_of c ≡ [])
   accepted text any = search rules
 
   number_in : (f : Found) (x : MatchedArg) → matched_of f id ≡ Some x → x.reading ≡ WithoutMinus
-      → (vs : List (Bor Text)) → x.vals.items ≡ vs → All (λ v. PassesArg c id v.now) vs
-      → 0 < length vs → HasNumber id most (rows_of f)
+      → (vs : List (Bor Text)) → x.vals.items ≡ vs → All (λ v. PassesArg c id v.now) vs → 0 < length vs
+      → HasNumber id most (rows_of f)
   number_in f x found reading [] is all some = absurd (omega arith)
-  number_in f x found reading (v ∷ vs) is all some =
-      search (rules, one_text-rows f id, accepted v.now (all 0 v (omega arith)))
+  number_in f x found reading (v ∷ vs) is all some = search
+      (rules, one_text-rows f id, accepted v.now (all 0 v (omega arith)))
 
   entry-number : (f : Found) (x : MatchedArg) → matched_of f id ≡ Some x
-      → ((e : Entry) × (e.1 ≡ x) × (bytes_eq e.0.now id ≡ true) × EntryPasses c e)
-      → HasNumber id most (rows_of f)
+      → ((e : Entry) × (e.1 ≡ x) × (bytes_eq e.0.now id ≡ true) × EntryPasses c e) → HasNumber id most (rows_of f)
   entry-number f x found got =
       let e = got.0 in
       let key : e.0.now ≡ id = (bytes_eq-Decides e.0.now id).0 got.2 in
@@ -146,17 +139,15 @@ module _ (c : Command) (id : Text) (most : ℕ) (no_groups : groups_of c ≡ [])
 
 -- two options of the program are never one
 abbrev Alone : ℕ → Text → Type 0
-Alone k option = (j : ℕ) (e : Rule) → j < 3
-    → bytes_eq (slice_index_or program.top.rules j e).id option ≡ true → j ≡ k
+Alone k option = (j : ℕ) (e : Rule) → j < 3 → bytes_eq (slice_index_or program.top.rules j e).id option ≡ true → j ≡ k
 
 program-ready : is_ready program.top ≡ true
 unfolding clap_on_literals
 program-ready = refl
 
 number-given : (cmd : Command) (m : ArgMatches) → app_of cmd ≡ program → IsParsedFrom cmd m
-    → (k : ℕ) (option : Text) (most : ℕ) (default : Text) → k < 3
-    → ((e : Rule) → slice_index_or program.top.rules k e ≡ number_option option most default)
-    → Alone k option → (option ≡ [] → ⊥)
+    → (k : ℕ) (option : Text) (most : ℕ) (default : Text) → k < 3 → ((e : Rule) → slice_index_or program.top.rules k e
+    ≡ number_option option most default) → Alone k option → (option ≡ [] → ⊥)
     → ((option ≡ codes "help") ⊎ (option ≡ codes "version") → ⊥) → HasNumber option most (given m)
 number-given cmd m is p k option most default below at alone named own =
     let rules : map rule_of (args_of cmd) ≡ program.top.rules = ap (λ (a : App). a.top.rules) is in
@@ -233,12 +224,10 @@ generations-alone (suc (suc (suc j))) e lt same = absurd (omega arith)
 
 pub slots-given : (cmd : Command) (m : ArgMatches) → app_of cmd ≡ program → IsParsedFrom cmd m
     → HasNumber (codes "slots") 4294967295 (given m)
-slots-given cmd m is p = number-given cmd m is p 0 (codes "slots") 4294967295 (codes "4294967295")
-    (omega arith) (λ e. refl) slots-alone (differs (codes "slots") [] refl refl)
-    (search (rules, differs))
+slots-given cmd m is p = number-given cmd m is p 0 (codes "slots") 4294967295 (codes "4294967295") (omega arith)
+    (λ e. refl) slots-alone (differs (codes "slots") [] refl refl) (search (rules, differs))
 
-pub generations-given : (cmd : Command) (m : ArgMatches) → app_of cmd ≡ program
-    → IsParsedFrom cmd m → HasNumber (codes "generations") 2147483647 (given m)
-generations-given cmd m is p = number-given cmd m is p 1 (codes "generations") 2147483647
-    (codes "2147483647") (omega arith) (λ e. refl) generations-alone
-    (differs (codes "generations") [] refl refl) (search (rules, differs))
+pub generations-given : (cmd : Command) (m : ArgMatches) → app_of cmd ≡ program → IsParsedFrom cmd m
+    → HasNumber (codes "generations") 2147483647 (given m)
+generations-given cmd m is p = number-given cmd m is p 1 (codes "generations") 2147483647 (codes "2147483647")
+    (omega arith) (λ e. refl) generations-alone (differs (codes "generations") [] refl refl) (search (rules, differs))

@@ -1,7 +1,5 @@
 -- What is said of a trace whose first line can't be. The edits in must-fail/ say something else of it.
-use Rattle.std.proofs.Common.{rules}
-use Rattle.std.proofs.Common.{◌≡◌, ℕ, ◌+◌, ◌^◌, ◌<◌, List, [], ◌∷◌, ◌++◌, length, take, None}
-use Rattle.std.proofs.Common.{Some, Ok, Err, refl, sym, ap, subst, arith}
+use Rattle.std.proofs.Common.{rules, ◌≡◌, ℕ, ◌+◌, ◌^◌, ◌<◌, List, [], ◌∷◌, ◌++◌, length, take, None, Some, Ok, Err, refl, sym, ap, subst, arith}
 use Rattle.std.specs.Prelude.{Bool, true, false, if◌then◌else◌}
 use Rattle.std.proofs.lemmas.Grind.{common_steps}
 use Rattle.ent_handle.specs.Handle.{Handle}
@@ -34,8 +32,8 @@ IsCons (x ∷ xs) = Unit {0}
 abbrev pub never : ℕ → ℕ → Reservation
 never number caller = record { number = number; caller = caller; requested = 0; reply = reserve.Space }
 
-none_refused : (b : Bool) (x : List Handle) (e : Space) → b ≡ true
-    → FitsReserved reserve.Space (if b then Ok x else Err e) → ⊥
+none_refused : (b : Bool) (x : List Handle) (e : Space) → b ≡ true → FitsReserved reserve.Space (if b then Ok x else Err
+    e) → ⊥
 none_refused true x e is fits = fits
 none_refused false x e is fits = grind arith
 
@@ -47,9 +45,8 @@ dead : (l : Call) → ((s : Allocator) → Fits s l → ⊥) → (order rest : L
     → IsOrderOf (l ∷ rest) order → AreAnswered s order → ⊥
 dead l unfit [] rest s is answered = subst IsCons is tt
 dead l unfit (k ∷ order) rest s ([], after, parts, passes, more) answered = search rules
-dead l unfit (k ∷ order) rest s (x ∷ before, after, parts, passes, more) answered =
-    dead l unfit order (before ++ after) (after_line s k)
-    (subst (λ (y : Call). IsOrderOf (y ∷ (before ++ after)) order) (sym (ap (first_of l) parts)) more)
+dead l unfit (k ∷ order) rest s (x ∷ before, after, parts, passes, more) answered = dead l unfit order (before ++ after)
+    (after_line s k) (subst (λ (y : Call). IsOrderOf (y ∷ (before ++ after)) order) (sym (ap (first_of l) parts)) more)
     answered.1
 
 -- the first line of the trace, and the line that is named
@@ -59,8 +56,7 @@ first = never 1 1
 abbrev named : Reservation
 named = never 1 1
 
-no_order : (s : Allocator) (order : List Call) → IsOrderOf (line.Reserve named ∷ []) order
-    → AreAnswered s order → ⊥
+no_order : (s : Allocator) (order : List Call) → IsOrderOf (line.Reserve named ∷ []) order → AreAnswered s order → ⊥
 no_order s order is answered = search (rules, dead, never_fits)
 
 abbrev rest_of : List Call → List Call
@@ -68,10 +64,9 @@ rest_of [] = []
 rest_of (x ∷ xs) = xs
 
 -- of the two lines only the first may come next
-only_first : (s : Allocator) (next : Call) (left : List Call)
-    → IsOrderOf (line.Reserve named ∷ line.Flush None ∷ []) (next ∷ left) → Fits s next → ⊥
-only_first s next left ([], after, parts, passes, more) fits =
-    never_fits named.number named.caller s
+only_first : (s : Allocator) (next : Call) (left : List Call) → IsOrderOf (line.Reserve named ∷ line.Flush None ∷ [])
+    (next ∷ left) → Fits s next → ⊥
+only_first s next left ([], after, parts, passes, more) fits = never_fits named.number named.caller s
     (subst (Fits s) (sym (ap (first_of (line.Flush None)) parts)) fits)
 only_first s next left (b ∷ [], after, parts, passes, more) fits =
     let one : line.Flush None ≡ next = ap (λ ls. first_of (line.Flush None) (rest_of ls)) parts in
@@ -102,17 +97,47 @@ said limits = record {
   cursor = cursor (state limits);
 }
 
-module _ (limits : Limits) (one two : List ℕ)
-    (read : calls_from 1 (one ∷ []) ≡ Ok (line.Reserve first ∷ [])) where
+module _ (limits : Limits) (one two : List ℕ) (read : calls_from 1 (one ∷ []) ≡ Ok (line.Reserve first ∷ [])) where
   pub names_the_first : line_of 2 (words_of two) ≡ Ok (Some (line.Flush None))
       → IsVerdict (opening limits) (one ∷ two ∷ []) (verdict.Differs (said limits))
-  names_the_first is = differs (said limits) (record { number = 2; calls = line.Reserve first ∷ []; next = line.Flush None; stands = record { before = one ∷ []; text = two; after = []; is = refl; number_is = refl; read = read; named = is }; checked = record { allocator = state limits; run = named ∷ [] }; reached = (record { allocator = opening limits; run = first ∷ [] }, refl, refl); shows = record { placed = []; next = line.Reserve named; left = line.Flush None ∷ []; is_order = ([], line.Flush None ∷ [], refl, tt, ([], [], refl, tt, refl)); answered = tt; differs = record { unlike = never_fits named.number named.caller (state limits); expected = grind (arith, common_steps); number_is = refl; told_is = refl; front_is = refl; cursor_is = refl }; stuck = only_first (state limits); blamed = no_order (state limits) }; none = search (rules, dead, never_fits) })
+  names_the_first is = differs (said limits) (record {
+    number = 2;
+    calls = line.Reserve first ∷ [];
+    next = line.Flush None;
+    stands = record { before = one ∷ []; text = two; after = []; is = refl; number_is = refl; read = read; named = is };
+    checked = record { allocator = state limits; run = named ∷ [] };
+    reached = (record { allocator = opening limits; run = first ∷ [] }, refl, refl);
+    shows = record {
+      placed = [];
+      next = line.Reserve named;
+      left = line.Flush None ∷ [];
+      is_order = ([], line.Flush None ∷ [], refl, tt, ([], [], refl, tt, refl));
+      answered = tt;
+      differs = record {
+        unlike = never_fits named.number named.caller (state limits);
+        expected = grind (arith, common_steps);
+        number_is = refl;
+        told_is = refl;
+        front_is = refl;
+        cursor_is = refl;
+      };
+      stuck = only_first (state limits);
+      blamed = no_order (state limits);
+    };
+    none = search (rules, dead, never_fits);
+  })
 
 -- a trace is refused for its requests since the last flush
 pub refuses_too_many : (limits : Limits) (texts after : List (List ℕ)) (text : List ℕ) (r : Reservation)
-    (old : Checking) (h : HasTaken (opening limits) texts old)
-    → line_of (length texts + 1) (words_of text) ≡ Ok (Some (line.Reserve r))
-    → 2 ^ 50 < requested_from 0 (h.calls ++ line.Reserve r ∷ [])
-    → IsVerdict (opening limits) (texts ++ text ∷ after)
-    (verdict.Refused (length texts + 1) refusal.Requests)
-refuses_too_many limits texts after text r old h named many = asks_too_many (length texts + 1) (record { calls = h.calls; next = line.Reserve r; stands = search rules; checked = old.comparer; reached = h.reached; few = h.few; many = many })
+    (old : Checking) (h : HasTaken (opening limits) texts old) → line_of (length texts + 1) (words_of text) ≡ Ok (Some
+    (line.Reserve r)) → 2 ^ 50 < requested_from 0 (h.calls ++ line.Reserve r ∷ [])
+    → IsVerdict (opening limits) (texts ++ text ∷ after) (verdict.Refused (length texts + 1) refusal.Requests)
+refuses_too_many limits texts after text r old h named many = asks_too_many (length texts + 1) (record {
+  calls = h.calls;
+  next = line.Reserve r;
+  stands = search rules;
+  checked = old.comparer;
+  reached = h.reached;
+  few = h.few;
+  many = many;
+})

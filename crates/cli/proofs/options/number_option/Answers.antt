@@ -7,8 +7,8 @@ use Rattle.cli.proofs.options.number_option.Goals as goal
 
 -- the range narrows the numbers that the type has
 narrowed : (parser : ValueParser) (from start end : ℤ) (most : ℕ) → most < 4294967296
-    → NarrowsTo (Signed (pos 0) (pos 4294967295)) (Some start) (Some end) parser → start ≡ pos 1
-    → from ≡ pos most → end ≡ to_z w64 (of_z w64 from) → parser ≡ Signed (pos 1) (pos most)
+    → NarrowsTo (Signed (pos 0) (pos 4294967295)) (Some start) (Some end) parser → start ≡ pos 1 → from ≡ pos most
+    → end ≡ to_z w64 (of_z w64 from) → parser ≡ Signed (pos 1) (pos most)
 narrowed parser from start end most fits narrow starts is ends = search rules
 
 pub returns-clause-rule : goal.returns-clause-rule
@@ -16,9 +16,8 @@ returns-clause-rule c =
     let given = c.value_parser-2.ensures.given in
     let narrow = rw c.value_parser.ensures at c.range-range.ensures in
     let new = c.new.ensures in
-    let parser : c.value_parser-2.result.value_parser ≡ Some (Signed (pos 1) (pos c.args.most)) =
-    given.1 ∙ ap Some (given.2
-    ∙ narrowed _ c.from.result _ _ _ c.ranges.most.fits narrow new.start c.from.ensures new.end) in
+    let parser : c.value_parser-2.result.value_parser ≡ Some (Signed (pos 1) (pos c.args.most)) = given.1
+    ∙ ap Some (given.2 ∙ narrowed _ c.from.result _ _ _ c.ranges.most.fits narrow new.start c.from.ensures new.end) in
     rw (
       c.help.ensures,
       c.default_value.ensures,
@@ -27,11 +26,11 @@ returns-clause-rule c =
       c.value_name.ensures,
       c.action.ensures,
       c.long.ensures,
-    )
-    (ap (λ (rule : Rule). record rule {
+    ) (ap (λ (rule : Rule). record rule {
       long = Some c.args.name.now;
       action = Some Set;
       value_names = 1;
-      parser = Some (Signed (pos 1) (pos c.args.most));
+      parser = Some
+          (Signed (pos 1) (pos c.args.most));
       defaults = c.args.default.now ∷ [];
     }) c.new-2.ensures.rule)

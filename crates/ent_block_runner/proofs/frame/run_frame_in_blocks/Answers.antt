@@ -21,14 +21,12 @@ pub returns-in-Err-close-clause-whole : goal.returns-in-Err-close-clause-whole
 returns-in-Err-close-clause-whole g c all =
     let e = c.in-Err-close.ensures in
     let left = c.in-Ok.filled.1.items in
-    whole c.args.opened.blocks.phase.blocks (blocks_of c.args.reservers.items) (blocks_of left)
-    c.in-Ok.filled.0.items c.in-Err-close.unended.error (length left)
-    (All (λ (r : Reserver). r.number ≡ c.args.opened.blocks.number) left)
+    whole c.args.opened.blocks.phase.blocks (blocks_of c.args.reservers.items) (blocks_of left) c.in-Ok.filled.0.items
+    c.in-Err-close.unended.error (length left) (All (λ (r : Reserver). r.number ≡ c.args.opened.blocks.number) left)
     (rw c.blocks-2.ensures at c.in-Ok.ensures.of) all c.in-Ok.ensures.ok.used
-    (length-map left (λ (r : Reserver). r.block)) e.other_phase.0 (λ is. (e.order.0 is).1)
-    e.missing_count (λ is. (e.missing.0 is).1.1)
+    (length-map left (λ (r : Reserver). r.block)) e.other_phase.0 (λ is. (e.order.0 is).1) e.missing_count
+    (λ is. (e.missing.0 is).1.1)
 
 pub returns-in-Ok-apply-clause-all : goal.returns-in-Ok-apply-clause-all
-returns-in-Ok-apply-clause-all g c =
-    sym (unused_used (blocks_of c.args.reservers.items) c.in-Ok.filled.0.items)
+returns-in-Ok-apply-clause-all g c = sym (unused_used (blocks_of c.args.reservers.items) c.in-Ok.filled.0.items)
     ∙ ap (map unused) (sym c.in-Ok.ensures.ok.used) ∙ c.in-Ok-close.ensures.all

@@ -9,8 +9,7 @@ abbrev pub invariant-loop-part : goal.invariant-loop-part
 invariant-loop-part l = record {
   dealer : l.dealer ≡ l.initial.dealer;
   blocks : blocks_of l.callers.items ≡ take l.part-index l.parts;
-  own : All (IsOf (record { shared = l.shared; dealer = l.initial.dealer; blocks = l.parts }))
-      l.callers.items;
+  own : All (IsOf (record { shared = l.shared; dealer = l.initial.dealer; blocks = l.parts })) l.callers.items;
   unused : All IsUnused l.callers.items;
   fresh : All (IsFresh l.shared) l.reservers.items;
   left : length l.reservers.items + l.part-index ≡ length l.parts;

@@ -1,5 +1,4 @@
-use Rattle.std.proofs.Common.{rules}
-use Rattle.std.proofs.Common.{◌∙◌, ◌<◌, ◌^◌, sym, ap, subst, List}
+use Rattle.std.proofs.Common.{rules, ◌∙◌, ◌<◌, ◌^◌, sym, ap, subst, List}
 use Rattle.std.proofs.lemmas.List.{length-append}
 use Rattle.ent_blocks.specs.Blocks.{Block, dealt}
 use Rattle.ent_blocks.proofs.Openings.{length-from}
@@ -7,12 +6,14 @@ use Rattle.ent_overflow.proofs.Dealers.{opened, all_fresh, others_fresh}
 use Rattle.ent_overflow.proofs.opening.open_with_overflow.Goals as goal
 
 pub hand_out-requires-clause-phase : goal.hand_out-requires-clause-phase
-hand_out-requires-clause-phase c = let s = c.args.entities.allocator in let is = c.deref-2.ensures.value ∙ c.in-Ok.ensures.blocks in search (rules, opened)
+hand_out-requires-clause-phase c =
+    let s = c.args.entities.allocator in
+    let is = c.deref-2.ensures.value ∙ c.in-Ok.ensures.blocks in
+    search (rules, opened)
 
 pub hand_out-requires-clause-fresh : goal.hand_out-requires-clause-fresh
-hand_out-requires-clause-fresh c =
-    others_fresh c.in_ok-shared.shared c.in_ok-shared.reservers.items c.pop.new.self.items
-    c.in-Some.dealer c.in-Some.ensures.items
+hand_out-requires-clause-fresh c = others_fresh c.in_ok-shared.shared c.in_ok-shared.reservers.items
+    c.pop.new.self.items c.in-Some.dealer c.in-Some.ensures.items
     (all_fresh c.in_ok-shared.shared c.in_ok-shared.reservers.items c.in_ok-shared.ensures.own
     c.in_ok-shared.ensures.unused)
 
@@ -23,7 +24,14 @@ pub hand_out-requires-clause-room : goal.hand_out-requires-clause-room
 hand_out-requires-clause-room c = search (rules, length-from)
 
 pub new-requires-clause-phase : goal.new-requires-clause-phase
-new-requires-clause-phase c = let s = c.args.entities.allocator in let is = c.deref-2.ensures.value ∙ c.in-Ok.ensures.blocks in let phase = opened s c.args.sizes.now c.in_ok-shared.shared c.deal.new.dealer c.deref-2.result.now c.dealt.result c.requires.flushed c.in_ok-shared.ensures.sound c.in_ok-shared.ensures.shared.0 (c.in_ok-shared.ensures.shared.1) is (subst (λ (bs : List Block). dealt bs < 2 ^ 32) (sym c.deref-2.ensures.value) c.in-Ok.ensures.few) c.deal.ensures.of (c.dealt.ensures ∙ ap dealt (c.deref.ensures.value ∙ sym c.deref-2.ensures.value)) c.deal.ensures.dealt in search rules
+new-requires-clause-phase c =
+    let s = c.args.entities.allocator in
+    let is = c.deref-2.ensures.value ∙ c.in-Ok.ensures.blocks in
+    let phase = opened s c.args.sizes.now c.in_ok-shared.shared c.deal.new.dealer c.deref-2.result.now c.dealt.result
+    c.requires.flushed c.in_ok-shared.ensures.sound c.in_ok-shared.ensures.shared.0 (c.in_ok-shared.ensures.shared.1) is
+    (subst (λ (bs : List Block). dealt bs < 2 ^ 32) (sym c.deref-2.ensures.value) c.in-Ok.ensures.few) c.deal.ensures.of
+    (c.dealt.ensures ∙ ap dealt (c.deref.ensures.value ∙ sym c.deref-2.ensures.value)) c.deal.ensures.dealt in
+    search rules
 
 pub new-requires-clause-ends : goal.new-requires-clause-ends
 new-requires-clause-ends c = search (rules, length-from)

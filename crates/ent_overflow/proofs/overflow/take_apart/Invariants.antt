@@ -10,7 +10,6 @@ invariant-loop-caller l = record {
   ends : l.ends.items ≡ l.initial.ends.items ++ blocks_of l.yielded;
   reservers : l.reservers.items ≡ l.initial.reservers.items ++ past_of l.yielded;
   ends_fit : vec_len l.ends + length l.caller-iterator.rest.items ≤ vec_capacity l.ends;
-  reservers_fit : vec_len l.reservers + length l.caller-iterator.rest.items
-      ≤ vec_capacity l.reservers;
+  reservers_fit : vec_len l.reservers + length l.caller-iterator.rest.items ≤ vec_capacity l.reservers;
   room : vec_capacity l.ends ≡ vec_capacity l.initial.ends;
 }

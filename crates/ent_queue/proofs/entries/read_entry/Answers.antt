@@ -1,8 +1,7 @@
 use Rattle.std.proofs.Common.{rules, arith, drop, sym, ◌∙◌, ◌<◌, slice_index}
 use Rattle.std.proofs.lemmas.Grind.{common_steps}
 use Rattle.ent_queue.specs.Unpacking.{after_first}
-use Rattle.ent_queue.proofs.Fronts.{HandleAndBundle, HandlesAndBundle, HandleAndComponent}
-use Rattle.ent_queue.proofs.Fronts.{OneHandle, Reason, begins_kinds}
+use Rattle.ent_queue.proofs.Fronts.{HandleAndBundle, HandlesAndBundle, HandleAndComponent, OneHandle, Reason, begins_kinds}
 use Rattle.ent_queue.proofs.entries.read_entry.Goals.{In-0, In-1, In-2, In-3, In-4, In_default}
 use Rattle.ent_queue.proofs.entries.read_entry.Goals as goal
 
@@ -17,12 +16,10 @@ insert : (c : In-2) → HandleAndBundle (drop 1 c.args.bytes.now) (after_first c
 insert c = grind (arith, common_steps, begins_kinds)
 
 remove : (c : In-3) → HandleAndComponent (drop 1 c.args.bytes.now) (after_first c.args.bytes.now)
-remove c = (begins_kinds c.args.bytes.now c.requires).remove (sym c.read_u8-kind.ensures.value
-    ∙ c.in-3.is)
+remove c = (begins_kinds c.args.bytes.now c.requires).remove (sym c.read_u8-kind.ensures.value ∙ c.in-3.is)
 
 despawn : (c : In-4) → OneHandle (drop 1 c.args.bytes.now) (after_first c.args.bytes.now)
-despawn c = (begins_kinds c.args.bytes.now c.requires).despawn (sym c.read_u8-kind.ensures.value
-    ∙ c.in-4.is)
+despawn c = (begins_kinds c.args.bytes.now c.requires).despawn (sym c.read_u8-kind.ensures.value ∙ c.in-4.is)
 
 refused : (c : In_default) → Reason (drop 1 c.args.bytes.now) (after_first c.args.bytes.now)
 refused c =
@@ -42,8 +39,7 @@ read-bundle-requires c =
 pub returns-in-0-clause-rest : goal.returns-in-0-clause-rest
 returns-in-0-clause-rest c =
     let f = spawn (goal.at.returns-in-0-clause-rest c).In-0 in
-    c.read-bundle.ensures.rest ∙ rw (c.read_handle-handle.ensures.rest, c.read_u8-kind.ensures.rest)
-    f.bundle.rest_is
+    c.read-bundle.ensures.rest ∙ rw (c.read_handle-handle.ensures.rest, c.read_u8-kind.ensures.rest) f.bundle.rest_is
 
 pub read_u32-count-requires : goal.read_u32-count-requires
 read_u32-count-requires c = search (rules, spawn_many)
@@ -87,8 +83,8 @@ read-bundle-requires-in-2 c =
 pub returns-in-2-clause-rest : goal.returns-in-2-clause-rest
 returns-in-2-clause-rest c =
     let f = insert (goal.at.returns-in-2-clause-rest c).In-2 in
-    c.read-bundle-in-2.ensures.rest
-    ∙ rw (c.read_handle-handle-in-2.ensures.rest, c.read_u8-kind.ensures.rest) f.bundle.rest_is
+    c.read-bundle-in-2.ensures.rest ∙ rw (c.read_handle-handle-in-2.ensures.rest, c.read_u8-kind.ensures.rest)
+    f.bundle.rest_is
 
 pub read_handle-handle-requires-in-3 : goal.read_handle-handle-requires-in-3
 read_handle-handle-requires-in-3 c = search (rules, remove)
@@ -101,8 +97,7 @@ read_u8-id-requires c =
 pub returns-in-3-clause-rest : goal.returns-in-3-clause-rest
 returns-in-3-clause-rest c =
     let f = remove (goal.at.returns-in-3-clause-rest c).In-3 in
-    c.read_u8-id.ensures.rest
-    ∙ rw (c.read_handle-handle-in-3.ensures.rest, c.read_u8-kind.ensures.rest) f.rest_is
+    c.read_u8-id.ensures.rest ∙ rw (c.read_handle-handle-in-3.ensures.rest, c.read_u8-kind.ensures.rest) f.rest_is
 
 pub read_handle-handle-requires-in-4 : goal.read_handle-handle-requires-in-4
 read_handle-handle-requires-in-4 c = search (rules, despawn)
@@ -118,14 +113,12 @@ read_u32-wanted-requires c = search (rules, refused)
 pub read_reason-why-requires : goal.read_reason-why-requires
 read_reason-why-requires c =
     let f = refused (goal.at.read_reason-why-requires c).In_default in
-    rw (
-      c.read_u32-wanted.ensures.value,
-      c.read_u32-wanted.ensures.rest,
-      c.read_u8-kind.ensures.rest,
-    ) (record { long = f.long; is = f.is })
+    rw (c.read_u32-wanted.ensures.value, c.read_u32-wanted.ensures.rest, c.read_u8-kind.ensures.rest) (record {
+      long = f.long;
+      is = f.is;
+    })
 
 pub returns-in_default-clause-rest : goal.returns-in_default-clause-rest
 returns-in_default-clause-rest c =
     let f = refused (goal.at.returns-in_default-clause-rest c).In_default in
-    c.read_reason-why.ensures.rest
-    ∙ rw (c.read_u32-wanted.ensures.rest, c.read_u8-kind.ensures.rest) f.rest_is
+    c.read_reason-why.ensures.rest ∙ rw (c.read_u32-wanted.ensures.rest, c.read_u8-kind.ensures.rest) f.rest_is

@@ -8,10 +8,8 @@ abbrev pub invariant-loop-worker : goal.invariant-loop-worker
 invariant-loop-worker g l = record {
   all : l.yielded ++ l.worker-iterator.rest.items ≡ l.fn.workers.items;
   claimers : l.claimers.items ≡ map (λ w. w.claimer) l.yielded;
-  by_number : outputs_put (flat_map (λ w. w.done.items) l.worker-iterator.rest.items)
-      l.by_number ≡ outputs_put (flat_map (λ w. w.done.items) l.fn.workers.items)
-      l.initial.by_number;
-  inside : All (λ w. All (λ d. d.number < length l.by_number)
-      w.done.items) l.worker-iterator.rest.items;
+  by_number : outputs_put (flat_map (λ w. w.done.items) l.worker-iterator.rest.items) l.by_number
+      ≡ outputs_put (flat_map (λ w. w.done.items) l.fn.workers.items) l.initial.by_number;
+  inside : All (λ w. All (λ d. d.number < length l.by_number) w.done.items) l.worker-iterator.rest.items;
   claimers_fit : vec_len l.claimers + length l.worker-iterator.rest.items ≤ vec_capacity l.claimers;
 }

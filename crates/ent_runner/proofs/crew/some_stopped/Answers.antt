@@ -1,6 +1,5 @@
-use Rattle.std.proofs.Common.{rules}
+use Rattle.std.proofs.Common.{rules, arith}
 use Rattle.std.proofs.lemmas.Grind.{common_steps}
-use Rattle.std.proofs.Common.{arith}
 use Rattle.ent_runner.proofs.crew.some_stopped.Goals as goal
 
 pub loop-worker-preserved : goal.loop-worker-preserved

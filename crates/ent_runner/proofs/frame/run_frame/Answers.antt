@@ -13,19 +13,16 @@ use Rattle.ent_runner.proofs.frame.run_frame.Goals.{In-Ok-open, After-work-queue
 use Rattle.ent_runner.proofs.frame.run_frame.Goals as goal
 
 -- the world that was opened is the one before
-same : (g : given.Over) (c : In-Ok-open g) → world_at_start c.in-Ok-open.made.0
-    ≡ c.args.world.now
+same : (g : given.Over) (c : In-Ok-open g) → world_at_start c.in-Ok-open.made.0 ≡ c.args.world.now
 same g c = search rules
 
 -- the reservers are written back
 back : (g : given.Over) (c : After-work-queues g) → take c.in-Ok-open.made.1.len
-    (c.work-queues.new.lent ++ drop (length c.work-queues.new.lent)
-    c.in-Ok-open.made.1.items) ≡ c.work-queues.new.lent
+    (c.work-queues.new.lent ++ drop (length c.work-queues.new.lent) c.in-Ok-open.made.1.items) ≡ c.work-queues.new.lent
 back g c = search (rules, written_back)
 
 back_end : (g : given.Over) (c : After-close g) → take c.in-Ok-open.made.1.len
-    (c.work-queues.new.lent ++ drop (length c.work-queues.new.lent)
-    c.in-Ok-open.made.1.items) ≡ c.work-queues.new.lent
+    (c.work-queues.new.lent ++ drop (length c.work-queues.new.lent) c.in-Ok-open.made.1.items) ≡ c.work-queues.new.lent
 back_end g c = search (rules, written_back)
 
 opened : (g : given.Over) (c : After-close g) → records_of c.deref_mut.result.now
@@ -33,14 +30,25 @@ opened : (g : given.Over) (c : After-close g) → records_of c.deref_mut.result.
 opened g c = rw c.deref_mut.ensures.value (search rules)
 
 -- so many reservers there are
-many : (g : given.Over) (c : After-close g) → length c.deref_mut.result.now
-    ≡ c.in-Ok-open.made.0.shared.count
+many : (g : given.Over) (c : After-close g) → length c.deref_mut.result.now ≡ c.in-Ok-open.made.0.shared.count
 many g c = rw c.deref_mut.ensures.value (search rules)
 
 -- the crew has worked, and the world was closed
-closed : (g : given.Over) (c : After-close g) → ClosedAgain g.S.System.may_issue
-    g.S.System.may_leave c.args.systems.now c.in-Ok-open.made.0 c.close.result c.work-queues.result
-closed g c = search (rules, closed_again, view_is, opened, length-map, many, some_weaker, done_seen, none_weaker, broken_off_seen, back_end)
+closed : (g : given.Over) (c : After-close g) → ClosedAgain g.S.System.may_issue g.S.System.may_leave c.args.systems.now
+    c.in-Ok-open.made.0 c.close.result c.work-queues.result
+closed g c = search (
+  rules,
+  closed_again,
+  view_is,
+  opened,
+  length-map,
+  many,
+  some_weaker,
+  done_seen,
+  none_weaker,
+  broken_off_seen,
+  back_end,
+)
 
 pub close-requires-clause-own : goal.close-requires-clause-own
 close-requires-clause-own g c = search (rules, back)

@@ -5,16 +5,15 @@ use Rattle.ent_runner.proofs.Steps.{claims_at}
 use Rattle.ent_runner.proofs.word.claim.Goals as goal
 
 -- the seat has the badge's record alone
-seat : (c : goal.After-seat-1) → c.into_seat-seat.result.me.0 ≡ claims_of c.args.badge.now.views
-    ∷ []
+seat : (c : goal.After-seat-1) → c.into_seat-seat.result.me.0 ≡ claims_of c.args.badge.now.views ∷ []
 seat c = search rules
 
 pub fetch_add-found-requires : goal.fetch_add-found-requires
 fetch_add-found-requires c = search (rules, claims_at, seat)
 
 -- what the step tells
-told : (c : goal.After-drop-badge) → AfterClaim (claims_of c.args.badge.now.views)
-    c.fetch_add-found.result c.fetch_add-found.new.seat.me.0
+told : (c : goal.After-drop-badge) → AfterClaim (claims_of c.args.badge.now.views) c.fetch_add-found.result
+    c.fetch_add-found.new.seat.me.0
 told c = search rules
 
 pub returns-clause-claims : goal.returns-clause-claims

@@ -7,8 +7,7 @@ use Rattle.json.specs.Reads.{token_of}
 use Rattle.serde_json.specs.Data.{string, object}
 use Rattle.serde_json.specs.declared.value.Value.{the_lemmas}
 use Rattle.ent_script.proofs.Turns.{converted-object, member_read, member_refused, key_refused}
-use Rattle.ent_script.proofs.Cuts.{view-Array, view-Object, members_view-insert_entry}
-use Rattle.ent_script.proofs.Cuts.{cut_members-put, opened_array, opened_object}
+use Rattle.ent_script.proofs.Cuts.{view-Array, view-Object, members_view-insert_entry, cut_members-put, opened_array, opened_object}
 use Rattle.ent_script.proofs.Openings.{passed_nested}
 use Rattle.ent_script.specs.Cut.{cut, cut_members}
 use Rattle.ent_script.proofs.cutting.+read.Goals as goal
@@ -22,11 +21,10 @@ read_cut-returns-then-depth-eq0-clause-json t c never = grind (arith, common_ste
 
 pub read_cut-returns-in_err-cut_members-in-BeginObject-clause-json :
     goal.read_cut-returns-in_err-cut_members-in-BeginObject-clause-json
-read_cut-returns-in_err-cut_members-in-BeginObject-clause-json t c refused =
-    search (rules, value-begin_object, converted-object)
+read_cut-returns-in_err-cut_members-in-BeginObject-clause-json t c refused = search
+    (rules, value-begin_object, converted-object)
 
-pub read_cut-returns-in_ok-from_str-in-String-clause-ok :
-    goal.read_cut-returns-in_ok-from_str-in-String-clause-ok
+pub read_cut-returns-in_ok-from_str-in-String-clause-ok : goal.read_cut-returns-in_ok-from_str-in-String-clause-ok
 read_cut-returns-in_ok-from_str-in-String-clause-ok t c =
     (string c.in-String.text.now, search (rules, value_is), search (rules, the_lemmas))
 
@@ -52,12 +50,9 @@ read_cut-returns-in_ok-cut_members-in-BeginObject-clause-ok t c =
     let found = c.in_ok-cut_members-in-BeginObject in
     let ms = found.ensures.ok.0 in
     let deeper : c.args.levels ≡ suc (c.args.levels - 1) = omega arith in
-    let seen : cut c.args.levels (object ms) ≡ object (cut_members (c.args.levels - 1) ms) =
-    ap (λ l. cut l (object ms)) deeper in (
-      object ms,
-      search (rules, is, value-begin_object, converted-object),
-      search (rules, seen, view-Object),
-    )
+    let seen : cut c.args.levels (object ms) ≡ object (cut_members (c.args.levels - 1) ms) = ap (λ l. cut l (object ms))
+    deeper in
+    (object ms, search (rules, is, value-begin_object, converted-object), search (rules, seen, view-Object))
 
 pub cut_members-members-init : goal.cut_members-members-init
 cut_members-members-init t c = search rules
@@ -65,12 +60,12 @@ cut_members-members-init t c = search rules
 pub cut_members-returns-in_err-name-clause-json : goal.cut_members-returns-in_err-name-clause-json
 cut_members-returns-in_err-name-clause-json t c refused = search (rules, key_refused)
 
-pub cut_members-returns-in_err-member-clause-json :
-    goal.cut_members-returns-in_err-member-clause-json
+pub cut_members-returns-in_err-member-clause-json : goal.cut_members-returns-in_err-member-clause-json
 cut_members-returns-in_err-member-clause-json t c refused = search (rules, member_refused)
 
 pub cut_members-members-preserved : goal.cut_members-members-preserved
-cut_members-members-preserved t c = search (rules, read_key-shorter, member_read, members_view-insert_entry, cut_members-put)
+cut_members-members-preserved t c = search
+    (rules, read_key-shorter, member_read, members_view-insert_entry, cut_members-put)
 
 pub cut_members-returns-clause-ok : goal.cut_members-returns-clause-ok
 cut_members-returns-clause-ok t c = search (rules, members_end)
@@ -81,8 +76,8 @@ read_cut-returns-then-levels-eq0-clause-ok t c = search (rules, passed_nested, o
 pub read_cut-returns-in_ok-pass_rest-in-BeginArray-clause-ok :
     goal.read_cut-returns-in_ok-pass_rest-in-BeginArray-clause-ok
 read_cut-returns-in_ok-pass_rest-in-BeginArray-clause-ok t c =
-    let d = passed_nested c.args.depth (token_of c.in_ok-token.token) Token.begin_array
-    c.args.reader.now c.next.new.self c.pass_rest.new.reader (grind arith)
-    (ap token_of c.in-BeginArray.is) c.in_ok-pass_rest-in-BeginArray.ensures.value in
+    let d = passed_nested c.args.depth (token_of c.in_ok-token.token) Token.begin_array c.args.reader.now
+    c.next.new.self c.pass_rest.new.reader (grind arith) (ap token_of c.in-BeginArray.is)
+    c.in_ok-pass_rest-in-BeginArray.ensures.value in
     let ds = opened_array c.args.depth c.next.new.self c.pass_rest.new.reader d.0 d.2 in
     (d.0, d.1, search (rules, view-Array, ds))

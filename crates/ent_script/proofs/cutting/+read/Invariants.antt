@@ -13,13 +13,10 @@ abbrev pub decreases-cut_members : goal.decreases-cut_members
 decreases-cut_members l = 2 * l.depth + 1
 
 abbrev pub invariant-cut_members-members : goal.invariant-cut_members-members
-invariant-cut_members-members l =
-    (n : ℕ) × (length l.reader ≤ n)
-    × ((old : Members) × (converted (λ ms. of_members ms no_members)
-    (members (value l.depth) (length l.initial.reader) l.initial.reader)
-    ≡ converted (λ ms. of_members ms old) (members (value l.depth) n l.reader))
-    × (members_view l.found.entries ≡ cut_members l.levels old))
-    × (length l.reader ≤ length l.initial.reader)
+invariant-cut_members-members l = (n : ℕ) × (length l.reader ≤ n)
+    × ((old : Members) × (converted (λ ms. of_members ms no_members) (members (value l.depth) (length l.initial.reader)
+    l.initial.reader) ≡ converted (λ ms. of_members ms old) (members (value l.depth) n l.reader))
+    × (members_view l.found.entries ≡ cut_members l.levels old)) × (length l.reader ≤ length l.initial.reader)
 
 abbrev pub decreases-cut_members-members : goal.decreases-cut_members-members
 decreases-cut_members-members l = length l.reader

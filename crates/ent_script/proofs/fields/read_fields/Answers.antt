@@ -1,5 +1,4 @@
-use Rattle.std.proofs.Common.{rules}
-use Rattle.std.proofs.Common.{◌-◌}
+use Rattle.std.proofs.Common.{rules, ◌-◌}
 use Rattle.json.proofs.Grammar.{read_key-shorter}
 use Rattle.ent_script.proofs.Finding.{next_member, last_member, no_key}
 use Rattle.ent_script.proofs.Operations.{cut_read}

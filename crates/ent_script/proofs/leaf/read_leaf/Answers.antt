@@ -27,20 +27,18 @@ returns-in-None-clause-refused c = search (rules, value_is)
 pub returns-in-EndObject-clause-refused : goal.returns-in-EndObject-clause-refused
 returns-in-EndObject-clause-refused c = search (rules, value_is)
 
-pub returns-in_ok-pass_rest-in-BeginArray-clause-ok :
-    goal.returns-in_ok-pass_rest-in-BeginArray-clause-ok
+pub returns-in_ok-pass_rest-in-BeginArray-clause-ok : goal.returns-in_ok-pass_rest-in-BeginArray-clause-ok
 returns-in_ok-pass_rest-in-BeginArray-clause-ok c =
-    let d = passed_nested c.args.depth (token_of c.in_ok-token.token) Token.begin_array
-    c.args.reader.now c.next.new.self c.pass_rest.new.reader (grind arith)
-    (ap token_of c.in-BeginArray.is) c.in_ok-pass_rest-in-BeginArray.ensures.value in
+    let d = passed_nested c.args.depth (token_of c.in_ok-token.token) Token.begin_array c.args.reader.now
+    c.next.new.self c.pass_rest.new.reader (grind arith) (ap token_of c.in-BeginArray.is)
+    c.in_ok-pass_rest-in-BeginArray.ensures.value in
     let ds = opened_array c.args.depth c.next.new.self c.pass_rest.new.reader d.0 d.2 in
     (d.0, d.1, search (rules, ds))
 
-pub returns-in_ok-pass_rest-in-BeginObject-clause-ok :
-    goal.returns-in_ok-pass_rest-in-BeginObject-clause-ok
+pub returns-in_ok-pass_rest-in-BeginObject-clause-ok : goal.returns-in_ok-pass_rest-in-BeginObject-clause-ok
 returns-in_ok-pass_rest-in-BeginObject-clause-ok c =
-    let d = passed_nested c.args.depth (token_of c.in_ok-token.token) Token.begin_object
-    c.args.reader.now c.next.new.self c.pass_rest-in-BeginObject.new.reader (grind arith)
-    (ap token_of c.in-BeginObject.is) c.in_ok-pass_rest-in-BeginObject.ensures.value in
+    let d = passed_nested c.args.depth (token_of c.in_ok-token.token) Token.begin_object c.args.reader.now
+    c.next.new.self c.pass_rest-in-BeginObject.new.reader (grind arith) (ap token_of c.in-BeginObject.is)
+    c.in_ok-pass_rest-in-BeginObject.ensures.value in
     let ms = opened_object c.args.depth c.next.new.self c.pass_rest-in-BeginObject.new.reader d.0 d.2 in
     (d.0, d.1, search (rules, ms))

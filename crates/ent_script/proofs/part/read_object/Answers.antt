@@ -10,8 +10,7 @@ members-init c = search rules
 pub returns-in_err-name-clause-json : goal.returns-in_err-name-clause-json
 returns-in_err-name-clause-json c refused = search (rules, key_refused)
 
-pub returns-in_err-leaf-clause-json :
-    goal.returns-in_err-leaf-clause-json
+pub returns-in_err-leaf-clause-json : goal.returns-in_err-leaf-clause-json
 returns-in_err-leaf-clause-json c refused = search (rules, member_refused)
 
 pub members-preserved : goal.members-preserved

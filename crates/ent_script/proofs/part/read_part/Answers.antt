@@ -17,15 +17,11 @@ pub returns-then-depth-eq0-clause-json : goal.returns-then-depth-eq0-clause-json
 unfolding value
 returns-then-depth-eq0-clause-json c never = grind (arith, common_steps)
 
-pub returns-in_err-read_object-in-BeginObject-clause-json :
-    goal.returns-in_err-read_object-in-BeginObject-clause-json
-returns-in_err-read_object-in-BeginObject-clause-json c refused =
-    search (rules, value-begin_object, converted-object)
+pub returns-in_err-read_object-in-BeginObject-clause-json : goal.returns-in_err-read_object-in-BeginObject-clause-json
+returns-in_err-read_object-in-BeginObject-clause-json c refused = search (rules, value-begin_object, converted-object)
 
-pub returns-in-String-clause-ok :
-    goal.returns-in-String-clause-ok
-returns-in-String-clause-ok c =
-    (string c.in-String.text.now, search (rules, value_is), refl)
+pub returns-in-String-clause-ok : goal.returns-in-String-clause-ok
+returns-in-String-clause-ok c = (string c.in-String.text.now, search (rules, value_is), refl)
 
 pub returns-in-Bool-clause-ok : goal.returns-in-Bool-clause-ok
 returns-in-Bool-clause-ok c = search (rules, value_is)
@@ -42,18 +38,16 @@ returns-in-None-clause-json c refused = search (rules, value_is)
 pub returns-in-EndObject-clause-json : goal.returns-in-EndObject-clause-json
 returns-in-EndObject-clause-json c refused = search (rules, value_is)
 
-pub returns-in_ok-read_object-in-BeginObject-clause-ok :
-    goal.returns-in_ok-read_object-in-BeginObject-clause-ok
+pub returns-in_ok-read_object-in-BeginObject-clause-ok : goal.returns-in_ok-read_object-in-BeginObject-clause-ok
 returns-in_ok-read_object-in-BeginObject-clause-ok c =
     let is : c.args.reader.now ≡ Token.begin_object ∷ c.next.new.self = grind arith in
     let ms = c.in_ok-read_object-in-BeginObject.ensures.ok in
     (object ms.0, search (rules, is, value-begin_object, converted-object), ap object ms.2)
 
-pub returns-in_ok-pass_rest-in-BeginArray-clause-ok :
-    goal.returns-in_ok-pass_rest-in-BeginArray-clause-ok
+pub returns-in_ok-pass_rest-in-BeginArray-clause-ok : goal.returns-in_ok-pass_rest-in-BeginArray-clause-ok
 returns-in_ok-pass_rest-in-BeginArray-clause-ok c =
-    let d = passed_nested c.args.depth (token_of c.in_ok-token.token) Token.begin_array
-    c.args.reader.now c.next.new.self c.pass_rest.new.reader (grind arith)
-    (ap token_of c.in-BeginArray.is) c.in_ok-pass_rest-in-BeginArray.ensures.value in
+    let d = passed_nested c.args.depth (token_of c.in_ok-token.token) Token.begin_array c.args.reader.now
+    c.next.new.self c.pass_rest.new.reader (grind arith) (ap token_of c.in-BeginArray.is)
+    c.in_ok-pass_rest-in-BeginArray.ensures.value in
     let ds = opened_array c.args.depth c.next.new.self c.pass_rest.new.reader d.0 d.2 in
     (d.0, d.1, search (rules, ds))

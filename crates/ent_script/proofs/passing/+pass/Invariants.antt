@@ -18,18 +18,15 @@ abbrev pub decreases-pass_members : goal.decreases-pass_members
 decreases-pass_members l = 3 * l.depth + 2
 
 abbrev pub invariant-pass_items-loop-reader : goal.invariant-pass_items-loop-reader
-invariant-pass_items-loop-reader l =
-    (n : ℕ) × (length l.reader ≤ n)
-    × (after_items l.depth l.initial.reader
-    ≡ left (converted of_items (items (value l.depth) n l.reader)))
+invariant-pass_items-loop-reader l = (n : ℕ) × (length l.reader ≤ n)
+    × (after_items l.depth l.initial.reader ≡ left (converted of_items (items (value l.depth) n l.reader)))
     × (length l.reader ≤ length l.initial.reader)
 
 abbrev pub decreases-pass_items-loop-reader : goal.decreases-pass_items-loop-reader
 decreases-pass_items-loop-reader l = length l.reader
 
 abbrev pub invariant-pass_members-loop-reader : goal.invariant-pass_members-loop-reader
-invariant-pass_members-loop-reader l =
-    (n : ℕ) × (length l.reader ≤ n)
+invariant-pass_members-loop-reader l = (n : ℕ) × (length l.reader ≤ n)
     × ((old : Members) × (after_members l.depth l.initial.reader
     ≡ left (converted (λ ms. of_members ms old) (members (value l.depth) n l.reader))))
     × (length l.reader ≤ length l.initial.reader)

@@ -1,5 +1,4 @@
-use Rattle.std.proofs.Common.{length-append}
-use Rattle.std.proofs.Common.{rules}
+use Rattle.std.proofs.Common.{length-append, rules}
 use Rattle.ent_script.proofs.NamesLaws.{new_name_is, with_new}
 use Rattle.ent_script.proofs.Numbering.{goes_on, stops, names_on}
 use Rattle.ent_script.proofs.reading.different_names.Goals as goal

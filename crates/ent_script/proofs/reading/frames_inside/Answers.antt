@@ -1,5 +1,4 @@
-use Rattle.std.proofs.Common.{rules}
-use Rattle.std.proofs.Common.{◌-◌, refl}
+use Rattle.std.proofs.Common.{rules, ◌-◌, refl}
 use Rattle.serde_json.specs.Data.{no_members}
 use Rattle.ent_script.proofs.Finding.{next_member, last_member, no_key}
 use Rattle.ent_script.proofs.PassedOver.{member_over, member_not_over}

@@ -15,8 +15,7 @@ returns-in_err-top-clause-front c = grind (arith, common_steps)
 pub returns-then-is_some-clause-front : goal.returns-then-is_some-clause-front
 returns-then-is_some-clause-front c = grind (arith, common_steps)
 
-meant : (text : List ℕ) (was : Data) (v : Value) → read text ≡ Some was
-    → heading_of (view v) ≡ heading_of was
+meant : (text : List ℕ) (was : Data) (v : Value) → read text ≡ Some was → heading_of (view v) ≡ heading_of was
     → headed (read text) ≡ in_script (heading_of (view v))
 meant text was v is seen = ap headed is ∙ ap (in_script {A = Heading}) (sym seen)
 

@@ -11,8 +11,7 @@ pub returns-in_default-clause-exact : goal.returns-in_default-clause-exact
 returns-in_default-clause-exact c = search (rules, json_none)
 
 pub returns-in_err-front-clause-exact : goal.returns-in_err-front-clause-exact
-returns-in_err-front-clause-exact c =
-    grind (arith, common_steps, json_is, returned, passes_on, headed, heading_refused)
+returns-in_err-front-clause-exact c = grind (arith, common_steps, json_is, returned, passes_on, headed, heading_refused)
 
 pub returns-clause-exact : goal.returns-clause-exact
 returns-clause-exact c = search (rules, json_is, found)

@@ -14,8 +14,8 @@ Part d = get (codes "components") d
 
 -- the names are those that the text means
 same_names : (c : After-deref) (d : Data) → IsFront c.args.front d
-    → in_script (numbered (component_at (map view c.deref.result.now)) 0
-    (map view c.deref.result.now)) ≡ in_script (component_names (Part d))
+    → in_script (numbered (component_at (map view c.deref.result.now)) 0 (map view c.deref.result.now))
+    ≡ in_script (component_names (Part d))
 same_names c d is = search (rules, names_meant)
 
 pub returns-in_err-values : goal.returns-in_err-values

@@ -27,5 +27,4 @@ unfolding value
 returns-then-depth-eq0-clause-passes c = grind (arith, common_steps)
 
 pub returns-in-BeginArray-clause-passes : goal.returns-in-BeginArray-clause-passes
-returns-in-BeginArray-clause-passes c =
-    search (rules, value-begin_array, converted-array, left-parse_map)
+returns-in-BeginArray-clause-passes c = search (rules, value-begin_array, converted-array, left-parse_map)

@@ -1,5 +1,4 @@
-use Rattle.std.proofs.Common.{rules, ◌≡◌, ℕ, ◌+◌, ◌<◌, List, length, Bool, true, false, refl}
-use Rattle.std.proofs.Common.{arith}
+use Rattle.std.proofs.Common.{rules, ◌≡◌, ℕ, ◌+◌, ◌<◌, List, length, Bool, true, false, refl, arith}
 use Rattle.std.specs.Prelude.{Ok}
 use Rattle.json.specs.Token.{Token}
 use Rattle.serde_json.specs.Data.{Items}
@@ -10,15 +9,14 @@ use Rattle.ent_script.proofs.PassedOver.{item_over}
 use Rattle.ent_script.proofs.Stepping.{goes_on, goes_stuck, goes_over}
 use Rattle.ent_script.proofs.streaming.passes_at_most.Goals as goal
 
-few : (fits : Bool) (all room most later : ℕ) → room ≡ 0 → 0 < later →
-    (fits ≡ true → all + room ≡ most + later) → (fits ≡ false → most < all) → most < all
+few : (fits : Bool) (all room most later : ℕ) → room ≡ 0 → 0 < later → (fits ≡ true → all + room ≡ most + later)
+    → (fits ≡ false → most < all) → most < all
 few true all room most later none some fitting full = omega (arith, none, some, fitting refl)
 few false all room most later none some fitting full = full refl
 
-verdict : (fits : Bool) (most room later : ℕ) (left : List Token) (ds : Items) (rest : List Token) →
-    later ≡ 0 → (fits ≡ true → length (list_of ds) + room ≡ most + later) →
-    (fits ≡ false → most < length (list_of ds)) → left ≡ rest
-    → PassesAtMost most (Ok fits) left ds rest
+verdict : (fits : Bool) (most room later : ℕ) (left : List Token) (ds : Items) (rest : List Token) → later ≡ 0
+    → (fits ≡ true → length (list_of ds) + room ≡ most + later) → (fits ≡ false → most < length (list_of ds))
+    → left ≡ rest → PassesAtMost most (Ok fits) left ds rest
 verdict true most room later left ds rest none fitting full same = search rules
 verdict false most room later left ds rest none fitting full same = (full refl, same)
 

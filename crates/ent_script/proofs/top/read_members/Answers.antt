@@ -20,7 +20,8 @@ pub returns-in_err-components-clause-json : goal.returns-in_err-components-claus
 returns-in_err-components-clause-json c refused = search (rules, passes_json, member_refused, left_none)
 
 pub members-preserved-then-eq : goal.members-preserved-then-eq
-members-preserved-then-eq c = search (rules, read_key-shorter, read_there, member_read, members_view-insert_entry, heads-put, found_here)
+members-preserved-then-eq c = search
+    (rules, read_key-shorter, read_there, member_read, members_view-insert_entry, heads-put, found_here)
 
 pub members-preserved : goal.members-preserved
 members-preserved c = search (rules, read_key-shorter, member_read, members_view-insert_entry, heads-put, found_before)

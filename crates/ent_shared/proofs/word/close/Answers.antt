@@ -24,6 +24,5 @@ overflow_sub-result c = cursor_fits c.word-last.result (least c) (greatest c)
 pub returns : goal.returns
 returns c =
     let f = c.close_with-closed.ensures.values.2 in
-    rw (cursor_is c.word-last.result (least c) (greatest c))
-    (ends _ _ f.0 f.1.0 c.args.all.id c.args.all.me.0 f.1.1 (cursor_of c.word-last.result)
-    (ap cursor_of (search rules)))
+    rw (cursor_is c.word-last.result (least c) (greatest c)) (ends _ _ f.0 f.1.0 c.args.all.id c.args.all.me.0 f.1.1
+    (cursor_of c.word-last.result) (ap cursor_of (search rules)))

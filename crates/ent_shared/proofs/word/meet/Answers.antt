@@ -11,8 +11,8 @@ second c = search (rules)
 
 pub join_seat-requires : goal.join_seat-requires
 join_seat-requires c =
-    let meets = meets_at _ _ _ _ c.into_seat-seat.result.me.0 c.into_seat-other.result.me.0
-    (own_of c.args.a.now.views) (own_of c.args.b.now.views) (first c) (second c) in
+    let meets = meets_at _ _ _ _ c.into_seat-seat.result.me.0 c.into_seat-other.result.me.0 (own_of c.args.a.now.views)
+    (own_of c.args.b.now.views) (first c) (second c) in
     (search rules, search rules, search rules, search rules, meets)
 
 pub split_seat-requires : goal.split_seat-requires

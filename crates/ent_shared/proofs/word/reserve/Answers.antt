@@ -13,20 +13,18 @@ pub fetch_sub-found-requires : goal.fetch_sub-found-requires
 fetch_sub-found-requires c = (
   search rules,
   search rules,
-  reserves_at _ _ _ _ _ _ _ _ (seat c) c.into_seat-seat.ensures.3 c.into.ensures c.requires.some
-      c.requires.quota,
+  reserves_at _ _ _ _ _ _ _ _ (seat c) c.into_seat-seat.ensures.3 c.into.ensures c.requires.some c.requires.quota,
 )
 
 -- what the step tells
-told : (c : goal.After-drop-badge) → AfterReserve c.args.n (own_of c.args.badge.now.views)
-    c.fetch_sub-found.result c.fetch_sub-found.new.seat.me.0
+told : (c : goal.After-drop-badge) → AfterReserve c.args.n (own_of c.args.badge.now.views) c.fetch_sub-found.result
+    c.fetch_sub-found.new.seat.me.0
 told c =
     let same = c.replace.ensures.value in
     let alone = c.requires.alone in
     let n = c.into.ensures in
-    subst (λ k. AfterReserve k (own_of c.args.badge.now.views) c.fetch_sub-found.result
-    c.fetch_sub-found.new.seat.me.0) n
-    (c.fetch_sub-found.ensures.2.1 (own_of c.args.badge.now.views) cc)
+    subst (λ k. AfterReserve k (own_of c.args.badge.now.views) c.fetch_sub-found.result c.fetch_sub-found.new.seat.me.0)
+    n (c.fetch_sub-found.ensures.2.1 (own_of c.args.badge.now.views) cc)
 
 pub overflow_cast-result : goal.overflow_cast-result
 overflow_cast-result c = word_fits c.fetch_sub-found.result (told c).greatest
@@ -38,14 +36,10 @@ pub returns-clause-gains : goal.returns-clause-gains
 returns-clause-gains c = search (rules, told, cursor_is)
 
 pub returns-clause-mark : goal.returns-clause-mark
-returns-clause-mark c =
-    let d = told c in
-    search (rules, cursor_is, c.fetch_sub-found.result)
+returns-clause-mark c = let d = told c in search (rules, cursor_is, c.fetch_sub-found.result)
 
 pub returns-clause-least : goal.returns-clause-least
-returns-clause-least c =
-    let d = told c in
-    search (rules, cursor_is, c.fetch_sub-found.result, least_cursor)
+returns-clause-least c = let d = told c in search (rules, cursor_is, c.fetch_sub-found.result, least_cursor)
 
 pub returns-clause-greatest : goal.returns-clause-greatest
 returns-clause-greatest c = search (rules, told, cursor_is)

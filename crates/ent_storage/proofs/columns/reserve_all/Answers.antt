@@ -11,14 +11,12 @@ use Rattle.ent_storage.proofs.columns.reserve_all.Goals as goal
 -- the item for which memory was refused is missing
 pub returns-in_err-reserve-clause-growing : goal.returns-in_err-reserve-clause-growing
 returns-in_err-reserve-clause-growing c =
-    let item : ComponentId × ℤ = get_or c.args.items.now c.loop-item.item-index
-    (record { 0 = 0 }, pos 0) in
-    let same = ap (λ (m : Values). map.get m c.args.place) (c.loop-item.invariant.values item.0.0)
-    in
+    let item : ComponentId × ℤ = get_or c.args.items.now c.loop-item.item-index (record { 0 = 0 }, pos 0) in
+    let same = ap (λ (m : Values). map.get m c.args.place) (c.loop-item.invariant.values item.0.0) in
     let none = get_components c.args.columns.now.items c.args.place item.0 ∙ sym same
     ∙ c.in_err-reserve.ensures.growing in
-    on_err _ (missing_at (components_at c.args.columns.now.items c.args.place) c.args.items.now
-    c.loop-item.item-index (record { 0 = 0 }, pos 0) (omega arith) none)
+    on_err _ (missing_at (components_at c.args.columns.now.items c.args.place) c.args.items.now c.loop-item.item-index
+    (record { 0 = 0 }, pos 0) (omega arith) none)
 
 pub loop-item-preserved : goal.loop-item-preserved
 loop-item-preserved c = grind (arith, common_steps)

@@ -1,6 +1,5 @@
-use Rattle.std.proofs.Common.{◌≡◌, ◌≢◌, ◌<◌, ℕ, length, drop, get_or}
+use Rattle.std.proofs.Common.{◌≡◌, ◌≢◌, ◌<◌, ℕ, length, drop, get_or, ℤ}
 use Rattle.ent_handle.specs.declared.component.ComponentId.{ComponentId}
-use Rattle.std.proofs.Common.{ℤ}
 use Rattle.ent_storage.specs.Components.{with_items}
 use Rattle.ent_storage.specs.SparseSet.{HasRoomAt, no_column}
 use Rattle.ent_storage.specs.Living.{column_at, value_at, components_at}
@@ -11,10 +10,9 @@ abbrev pub invariant-loop-item : goal.invariant-loop-item
 invariant-loop-item l = record {
   here : with_items (components_at l.columns l.place) (drop l.item-index l.items)
       ≡ with_items (components_at l.initial.columns l.place) l.items;
-  others : (other : ℕ) (id : ComponentId) → other ≢ l.place → value_at l.columns other id
-      ≡ value_at l.initial.columns other id;
-  room : (k : ℕ) (d : ComponentId × ℤ) → k < length l.items
-      → HasRoomAt (column_at l.columns (get_or l.items k d).0.0) l.place;
-  rest : (number : ℕ) → column_at l.initial.columns number ≡ no_column → column_at l.columns number
-      ≡ no_column;
+  others : (other : ℕ) (id : ComponentId) → other ≢ l.place → value_at l.columns other id ≡ value_at l.initial.columns
+      other id;
+  room : (k : ℕ) (d : ComponentId × ℤ) → k < length l.items → HasRoomAt (column_at l.columns (get_or l.items k d).0.0)
+      l.place;
+  rest : (number : ℕ) → column_at l.initial.columns number ≡ no_column → column_at l.columns number ≡ no_column;
 }

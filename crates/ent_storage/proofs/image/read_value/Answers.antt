@@ -1,5 +1,4 @@
-use Rattle.std.proofs.Common.{rules, ◌≡◌, ◌≢◌, ◌<◌, ◌++◌, ℕ, ℤ, List, Option, None, Some, ◌∷◌}
-use Rattle.std.proofs.Common.{length, ap, ◌∙◌, arith, get_or}
+use Rattle.std.proofs.Common.{rules, ◌≡◌, ◌≢◌, ◌<◌, ◌++◌, ℕ, ℤ, List, Option, None, Some, ◌∷◌, length, ap, ◌∙◌, arith, get_or}
 use Rattle.std.specs.Int.{w64, cast_unsigned}
 use Rattle.std.proofs.lemmas.List.{length-append}
 use Rattle.ent_storage.specs.Image.{value_bytes, long}
@@ -12,8 +11,8 @@ other_flag : (flag : ℕ) (bytes : List ℕ) (value : Option ℤ) (rest : List �
 other_flag flag bytes None rest not_0 not_1 same = not_0 (ap (λ xs. get_or xs 0 0) same)
 other_flag flag bytes (Some v) rest not_0 not_1 same = not_1 (ap (λ xs. get_or xs 0 0) same)
 
-too_short : (flag : ℕ) (bytes : List ℕ) (value : Option ℤ) (rest : List ℕ) → flag ≢ 0
-    → length bytes < 8 → flag ∷ bytes ≢ value_bytes value ++ rest
+too_short : (flag : ℕ) (bytes : List ℕ) (value : Option ℤ) (rest : List ℕ) → flag ≢ 0 → length bytes < 8
+    → flag ∷ bytes ≢ value_bytes value ++ rest
 too_short flag bytes None rest not_0 short same = not_0 (ap (λ xs. get_or xs 0 0) same)
 too_short flag bytes (Some v) rest not_0 short same =
     let long_enough = length-append (long (cast_unsigned w64 v)) rest in
@@ -23,11 +22,11 @@ too_short flag bytes (Some v) rest not_0 short same =
 pub returns-then-flag-ne1-clause-none : goal.returns-then-flag-ne1-clause-none
 returns-then-flag-ne1-clause-none c value rest same =
     let whole : c.in_ok-flag.flag.now ∷ c.in_ok-flag.rest.now ≡ c.args.bytes.now = search rules in
-    other_flag c.in_ok-flag.flag.now c.in_ok-flag.rest.now value rest c.if-flag-eq0.false
-    c.if-flag-ne1.true (whole ∙ same)
+    other_flag c.in_ok-flag.flag.now c.in_ok-flag.rest.now value rest c.if-flag-eq0.false c.if-flag-ne1.true
+    (whole ∙ same)
 
 pub returns-then-rest-lt8-clause-none : goal.returns-then-rest-lt8-clause-none
 returns-then-rest-lt8-clause-none c value rest same =
     let whole : c.in_ok-flag.flag.now ∷ c.in_ok-flag.rest.now ≡ c.args.bytes.now = search rules in
-    too_short c.in_ok-flag.flag.now c.in_ok-flag.rest.now value rest c.if-flag-eq0.false
-    c.if-rest-lt8.true (whole ∙ same)
+    too_short c.in_ok-flag.flag.now c.in_ok-flag.rest.now value rest c.if-flag-eq0.false c.if-rest-lt8.true
+    (whole ∙ same)

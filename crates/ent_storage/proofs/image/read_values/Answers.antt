@@ -8,13 +8,12 @@ use Rattle.ent_storage.proofs.image.read_values.Goals as goal
 pub returns-in_default-clause-none : goal.returns-in_default-clause-none
 returns-in_default-clause-none c value rest fits same =
     let loop = c.loop-number.invariant in
-    none_next (value_of c.loop-number.storage.entities c.args.handle) value c.args.width
-    c.loop-number.number c.args.bytes.now c.loop-number.rest.now rest c.loop-number-test.true
-    (λ id v at. (loop.fits id v at).1) fits loop.bytes c.in_default.ensures.none same
+    none_next (value_of c.loop-number.storage.entities c.args.handle) value c.args.width c.loop-number.number
+    c.args.bytes.now c.loop-number.rest.now rest c.loop-number-test.true (λ id v at. (loop.fits id v at).1) fits
+    loop.bytes c.in_default.ensures.none same
 
 pub returns-in_err-give-clause-fits : goal.returns-in_err-give-clause-fits
-returns-in_err-give-clause-fits c id v at =
-    c.loop-number.invariant.fits id v
+returns-in_err-give-clause-fits c id v at = c.loop-number.invariant.fits id v
     (ap (λ (s : Store). value_of s.entities c.args.handle id) (sym c.in_err-give.ensures.err) ∙ at)
 
 pub loop-number-preserved : goal.loop-number-preserved
@@ -27,8 +26,8 @@ loop-number-preserved c =
     let here = c.in_ok-give.ensures.here in
     let others = c.in_ok-give.ensures.others in
     record {
-      bytes = read_more old new n value here others c.args.bytes.now c.loop-number.rest.now
-          c.in-Some.left.now loop.bytes c.in-Some.ensures.found;
+      bytes = read_more old new n value here others c.args.bytes.now c.loop-number.rest.now c.in-Some.left.now
+          loop.bytes c.in-Some.ensures.found;
       free = free_more old new n value here others loop.free;
       fits = fits_more old new n value here others (λ k v. (k < 256) × FitsSigned w64 v) loop.fits
           (λ v is. (

@@ -12,13 +12,11 @@ use Rattle.ent_storage.proofs.image.read_values.Given as goal
 abbrev pub invariant-loop-number : goal.invariant-loop-number
 invariant-loop-number l = record {
   bytes : l.bytes ≡ values_bytes (value_of l.storage.entities l.handle) l.number ++ l.rest;
-  free : (id : ComponentId) → l.number ≤ id.0
-      → value_of l.storage.entities l.handle id ≡ None;
+  free : (id : ComponentId) → l.number ≤ id.0 → value_of l.storage.entities l.handle id ≡ None;
   fits : (id : ComponentId) (v : ℤ) → value_of l.storage.entities l.handle id ≡ Some v
       → (id.0 < 256) × FitsSigned w64 v;
   birth : birth_of l.storage.entities l.handle ≡ birth_of l.fn.storage.entities l.handle;
-  others : (h : Handle) → h ≢ l.handle
-      → map.get l.storage.entities h ≡ map.get l.fn.storage.entities h;
+  others : (h : Handle) → h ≢ l.handle → map.get l.storage.entities h ≡ map.get l.fn.storage.entities h;
   places : l.storage.places ≡ l.fn.storage.places;
   spare : l.storage.spare ≡ l.fn.storage.spare;
 }

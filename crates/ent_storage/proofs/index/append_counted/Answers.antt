@@ -34,8 +34,7 @@ pub returns-clause-sorted : goal.returns-clause-sorted
 returns-clause-sorted c =
     let whole = c.loop-pair.invariant.items ∙ ap (filter (counts c.args.living.now.entities))
     (take_all c.loop-pair.pair-index c.args.source.now (omega (arith, c.loop-pair-test.false))) in
-    rw whole
-    (is_sorted-filter total same (counts c.args.living.now.entities) _ c.requires.sorted)
+    rw whole (is_sorted-filter total same (counts c.args.living.now.entities) _ c.requires.sorted)
 
 pub returns-clause-counted : goal.returns-clause-counted
 returns-clause-counted c =

@@ -1,7 +1,6 @@
 use Rattle.std.proofs.Common.{ap, refl, ◌∙◌}
 use Rattle.std.specs.FinMap as map
-use Rattle.ent_handle.specs.Handle.{handle_cmp_total as total}
-use Rattle.ent_handle.specs.Handle.{handle_cmp-IsAntisymmetric as same}
+use Rattle.ent_handle.specs.Handle.{handle_cmp_total as total, handle_cmp-IsAntisymmetric as same}
 use Rattle.ent_storage.proofs.Keys.{get-insert_same, get-insert_other}
 use Rattle.ent_storage.proofs.Counted.{counted_gives}
 use Rattle.ent_storage.proofs.Rising.{rising_set, map_set}
@@ -11,21 +10,18 @@ use Rattle.ent_storage.proofs.index.put_at.Goals as goal
 pub returns-in-Ok-clause-sorted : goal.returns-in-Ok-clause-sorted
 returns-in-Ok-clause-sorted c =
     let at = rw c.in-Ok.is at c.requires.found in
-    rising_set total same c.args.pairs.now.items c.requires.sorted c.args.pair.0
-    c.in-Ok.position c.args.pair.1 at
+    rising_set total same c.args.pairs.now.items c.requires.sorted c.args.pair.0 c.in-Ok.position c.args.pair.1 at
 
 pub returns-in-Ok-clause-placed : goal.returns-in-Ok-clause-placed
 returns-in-Ok-clause-placed c =
     let at = rw c.in-Ok.is at c.requires.found in
-    ap (λ m. map.get m c.args.pair.0) (map_set total same c.args.pairs.now.items
-    c.requires.sorted c.args.pair.0 c.in-Ok.position c.args.pair.1 at)
-    ∙ get-insert_same total same _ c.args.pair.0 c.args.pair.1 c.args.pair.0 refl
+    ap (λ m. map.get m c.args.pair.0) (map_set total same c.args.pairs.now.items c.requires.sorted c.args.pair.0
+    c.in-Ok.position c.args.pair.1 at) ∙ get-insert_same total same _ c.args.pair.0 c.args.pair.1 c.args.pair.0 refl
 
 -- what counted counts still
 pub returns-in-Ok-clause-kept : goal.returns-in-Ok-clause-kept
 returns-in-Ok-clause-kept c q i n old =
     let at = rw c.in-Ok.is at c.requires.found in
-    ap (λ m. map.get m q) (map_set total same c.args.pairs.now.items c.requires.sorted
-    c.args.pair.0 c.in-Ok.position c.args.pair.1 at)
-    ∙ get-insert_other total same _ c.args.pair.0 c.args.pair.1 q n
+    ap (λ m. map.get m q) (map_set total same c.args.pairs.now.items c.requires.sorted c.args.pair.0 c.in-Ok.position
+    c.args.pair.1 at) ∙ get-insert_other total same _ c.args.pair.0 c.args.pair.1 q n
     ∙ (counted_gives c.args.living.now.entities _ q i old).0

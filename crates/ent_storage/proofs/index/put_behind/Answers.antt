@@ -1,7 +1,6 @@
 use Rattle.std.proofs.Common.{rules, ◌≡◌, length, arith}
 use Rattle.std.specs.List.{insert}
-use Rattle.ent_handle.specs.Handle.{handle_cmp, handle_cmp_total as total}
-use Rattle.ent_handle.specs.Handle.{handle_cmp-IsAntisymmetric as same}
+use Rattle.ent_handle.specs.Handle.{handle_cmp, handle_cmp_total as total, handle_cmp-IsAntisymmetric as same}
 use Rattle.ent_storage.specs.Position.{IsGapFor}
 use Rattle.ent_storage.proofs.Counted.{put_between, counted_none}
 use Rattle.ent_storage.proofs.Rising.{get_in_gap}
@@ -14,14 +13,14 @@ module _ (c : goal.After-push_reserved) where
 
   end : insert c.args.pairs.now.items c.len-end.result c.args.pair ≡ c.push_reserved.new.self.items
   end =
-      let position : c.len-end.result ≡ length c.args.pairs.now.items =
-      omega (arith, c.len-end.ensures, c.args.pairs.now.ok.0) in
+      let position : c.len-end.result ≡ length c.args.pairs.now.items = omega
+      (arith, c.len-end.ensures, c.args.pairs.now.ok.0) in
       search (rules, c.args.pairs.now.items, c.args.pair, insert_end, c.push_reserved.ensures.items)
 
 pub returns-then-is_gap : goal.returns-then-is_gap
 returns-then-is_gap c =
     let new = counted_none c.args.living.now.entities _ c.args.pair.0
     (get_in_gap total same _ c.requires _ _ (gap c)) in
-    let put = rw (end c) at (put_between c.args.living.now.entities c.args.pairs.now.items
-    c.requires c.args.pair.0 c.args.pair.1 c.len-end.result (gap c)) in
+    let put = rw (end c) at (put_between c.args.living.now.entities c.args.pairs.now.items c.requires c.args.pair.0
+    c.args.pair.1 c.len-end.result (gap c)) in
     search (rules, new, put)

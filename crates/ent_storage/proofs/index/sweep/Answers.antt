@@ -1,7 +1,6 @@
 use Rattle.std.proofs.Common.{◌≡◌, filter, length, ap, arith, rules}
 use Rattle.std.proofs.lemmas.Fn.{filter_same}
-use Rattle.ent_handle.specs.Handle.{handle_cmp_total as total}
-use Rattle.ent_handle.specs.Handle.{handle_cmp-IsAntisymmetric as same}
+use Rattle.ent_handle.specs.Handle.{handle_cmp_total as total, handle_cmp-IsAntisymmetric as same}
 use Rattle.ent_storage.proofs.Counted.{counts, from_sorted_left, left_fits}
 use Rattle.ent_storage.proofs.Overwritten.{is_sorted-filter}
 use Rattle.ent_storage.proofs.index.sweep.Goals as goal
@@ -12,8 +11,7 @@ left : (c : goal.After-retain) → c.retain.new.self.items
 left c = filter_same _ _ _ (λ x b f' k. search rules) _ _ c.retain.ensures.filtered
 
 pub returns-clause-sorted : goal.returns-clause-sorted
-returns-clause-sorted c =
-    rw (left c) (is_sorted-filter total same (counts c.args.living.now.entities) _ c.requires)
+returns-clause-sorted c = rw (left c) (is_sorted-filter total same (counts c.args.living.now.entities) _ c.requires)
 
 pub returns-clause-counted : goal.returns-clause-counted
 returns-clause-counted c = rw (left c) (from_sorted_left c.args.living.now.entities _ c.requires)

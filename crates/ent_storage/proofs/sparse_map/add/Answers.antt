@@ -13,24 +13,23 @@ overflow_cast-len g c =
 
 pub returns-clause-positioned : goal.returns-clause-positioned
 returns-clause-positioned g c =
-    let items : c.push_reserved.new.self.items
-    ≡ c.args.entries.now.items ++ (c.args.handle, c.args.value) ∷ [] = search rules in
+    let items : c.push_reserved.new.self.items ≡ c.args.entries.now.items ++ (c.args.handle, c.args.value)
+    ∷ [] = search rules in
     let index : c.index-index.result ≡ c.args.handle.index = search rules in
     let len : c.len.result ≡ length c.args.entries.now.items = search rules in
     let room : c.args.handle.index < length c.make_position.new.positions.items = search rules in
     let is = more_slots c.args.entries.now.items c.args.positions.now.items _ c.requires.positioned
     c.make_position.ensures.few c.make_position.ensures.kept in
-    rw (items, index, len) (pushed_positioned c.args.entries.now.items _ is c.args.handle
-    c.args.value c.requires.free room)
+    rw (items, index, len) (pushed_positioned c.args.entries.now.items _ is c.args.handle c.args.value c.requires.free
+    room)
 
 pub returns-clause-ok : goal.returns-clause-ok
 returns-clause-ok g c =
-    let items : c.push_reserved.new.self.items
-    ≡ c.args.entries.now.items ++ (c.args.handle, c.args.value) ∷ [] = search rules in
+    let items : c.push_reserved.new.self.items ≡ c.args.entries.now.items ++ (c.args.handle, c.args.value)
+    ∷ [] = search rules in
     let index : c.index-index.result ≡ c.args.handle.index = search rules in
     let len : c.len.result ≡ length c.args.entries.now.items = search rules in
     let room : c.args.handle.index < length c.make_position.new.positions.items = search rules in
     let is = more_slots c.args.entries.now.items c.args.positions.now.items _ c.requires.positioned
     c.make_position.ensures.few c.make_position.ensures.kept in
-    ap values_of items
-    ∙ pushed_values c.args.entries.now.items _ is c.args.handle c.args.value c.requires.free room
+    ap values_of items ∙ pushed_values c.args.entries.now.items _ is c.args.handle c.args.value c.requires.free room

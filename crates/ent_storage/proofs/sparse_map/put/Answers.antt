@@ -1,11 +1,8 @@
-use Rattle.std.proofs.Common.{rules, ◌≡◌, ◌≤◌, ◌∙◌, Some, refl, sym, ap, get_or, slice_get}
-use Rattle.std.proofs.Common.{arith, List, ℕ}
+use Rattle.std.proofs.Common.{rules, ◌≡◌, ◌≤◌, ◌∙◌, Some, refl, sym, ap, get_or, slice_get, arith, List, ℕ}
 use Rattle.std.proofs.lemmas.Option.{slice_get_read, none-some, same_Some}
 use Rattle.ent_handle.specs.Handle.{Handle}
 use Rattle.ent_storage.specs.SparseMap.{IsFree}
-use Rattle.ent_storage.proofs.Sparse.{none_free, free_no_later, before_none, not_later, has_later}
-use Rattle.ent_storage.proofs.Sparse.{has_no_later, had, had_other, is_handle, not_handle}
-use Rattle.ent_storage.proofs.Sparse.{over_positioned, over_values}
+use Rattle.ent_storage.proofs.Sparse.{none_free, free_no_later, before_none, not_later, has_later, has_no_later, had, had_other, is_handle, not_handle, over_positioned, over_values}
 use Rattle.ent_storage.proofs.sparse_map.put.Given.{Over}
 use Rattle.ent_storage.proofs.sparse_map.put.Goals.{After-replace-standing}
 use Rattle.ent_storage.proofs.sparse_map.put.Goals as goal
@@ -13,14 +10,15 @@ use Rattle.ent_storage.proofs.sparse_map.put.Goals as goal
 pub returns-in_default-clause-before : goal.returns-in_default-clause-before
 returns-in_default-clause-before g c =
     let free : IsFree c.args.entries.now.items c.args.handle.index = search rules in
-    before_none _ _ (none_free c.args.entries.now.items c.args.positions.now.items c.requires.positioned c.args.handle free)
-    c.add.ensures.before
+    before_none _ _ (none_free c.args.entries.now.items c.args.positions.now.items c.requires.positioned c.args.handle
+    free) c.add.ensures.before
 
 pub returns-in_default-clause-later : goal.returns-in_default-clause-later
 returns-in_default-clause-later g c =
     let free : IsFree c.args.entries.now.items c.args.handle.index = search rules in (
       λ e. absurd (not_later _ c.add.ensures.memory e),
-      λ l. absurd (free_no_later c.args.entries.now.items c.args.positions.now.items c.requires.positioned c.args.handle free l),
+      λ l. absurd (free_no_later c.args.entries.now.items c.args.positions.now.items c.requires.positioned c.args.handle
+          free l),
     )
 
 pub returns-then-generation-clause-later : goal.returns-then-generation-clause-later
@@ -31,11 +29,10 @@ returns-then-generation-clause-later g c =
     let inside = rw c.deref.ensures.value at c.in-Some.ensures.inside in
     let found = rw c.deref.ensures.value at c.in-Some.ensures.found in
     let here = slice_get_read D _ k x refl inside c.index.ensures in
-    let slot : x.0.index ≡ c.args.handle.index =
-    ap (λ (y : Handle × g.row.T.Denot). y.0.index) c.index.ensures ∙ found x
-    ∙ c.index_of-index.ensures.value in (
-      λ _. has_later c.args.entries.now.items c.args.positions.now.items c.requires.positioned k x here c.args.handle slot
-          (omega (arith, c.generation.ensures, c.generation-2.ensures, c.if-generation.true)),
+    let slot : x.0.index ≡ c.args.handle.index = ap (λ (y : Handle × g.row.T.Denot). y.0.index) c.index.ensures
+    ∙ found x ∙ c.index_of-index.ensures.value in (
+      λ _. has_later c.args.entries.now.items c.args.positions.now.items c.requires.positioned k x here c.args.handle
+          slot (omega (arith, c.generation.ensures, c.generation-2.ensures, c.if-generation.true)),
       λ _. refl,
     )
 
@@ -45,8 +42,8 @@ record Stood {X : Type 0} (D : List (Handle × X)) (k : ℕ) (x : Handle × X) (
   slot : x.0.index ≡ h.index
   least : x.0.generation ≤ h.generation
 
-stood : (g : Over) (c : After-replace-standing g)
-    → Stood c.args.entries.now.items c.in-Some.position c.replace-standing.result c.args.handle
+stood : (g : Over) (c : After-replace-standing g) → Stood c.args.entries.now.items c.in-Some.position
+    c.replace-standing.result c.args.handle
 stood g c =
     let D = c.args.entries.now.items in
     let k = c.in-Some.position in
@@ -60,21 +57,18 @@ stood g c =
     let generation = ap (λ (y : Handle × g.row.T.Denot). y.0.generation) (same_Some _ _ (sym read ∙ here)) in
     record {
       here = here;
-      slot = ap (λ (y : Handle × g.row.T.Denot). y.0.index) was ∙ found x
-          ∙ c.index_of-index.ensures.value;
+      slot = ap (λ (y : Handle × g.row.T.Denot). y.0.index) was ∙ found x ∙ c.index_of-index.ensures.value;
       least = omega (arith, generation, c.generation.ensures, c.generation-2.ensures, c.if-generation.false);
     }
 
 pub returns-then-eq-clause-positioned : goal.returns-then-eq-clause-positioned
 returns-then-eq-clause-positioned g c =
     let was = stood g (goal.at.returns-then-eq-clause-positioned g c).After-replace-standing in
-    rw c.replace-standing.ensures.after
-    (over_positioned _ _ c.requires.positioned _ _ _ was.here _ _ was.slot)
+    rw c.replace-standing.ensures.after (over_positioned _ _ c.requires.positioned _ _ _ was.here _ _ was.slot)
 
 pub returns-then-eq-clause-ok : goal.returns-then-eq-clause-ok
 returns-then-eq-clause-ok g c =
-    let was = stood g (goal.at.returns-then-eq-clause-ok g c).After-replace-standing in
-    search (rules, over_values, was)
+    let was = stood g (goal.at.returns-then-eq-clause-ok g c).After-replace-standing in search (rules, over_values, was)
 
 pub returns-then-eq-clause-before : goal.returns-then-eq-clause-before
 returns-then-eq-clause-before g c =
@@ -91,13 +85,11 @@ returns-then-eq-clause-later g c =
 pub returns-else-eq-clause-positioned : goal.returns-else-eq-clause-positioned
 returns-else-eq-clause-positioned g c =
     let was = stood g (goal.at.returns-else-eq-clause-positioned g c).After-replace-standing in
-    rw c.replace-standing.ensures.after
-    (over_positioned _ _ c.requires.positioned _ _ _ was.here _ _ was.slot)
+    rw c.replace-standing.ensures.after (over_positioned _ _ c.requires.positioned _ _ _ was.here _ _ was.slot)
 
 pub returns-else-eq-clause-ok : goal.returns-else-eq-clause-ok
 returns-else-eq-clause-ok g c =
-    let was = stood g (goal.at.returns-else-eq-clause-ok g c).After-replace-standing in
-    search (rules, over_values, was)
+    let was = stood g (goal.at.returns-else-eq-clause-ok g c).After-replace-standing in search (rules, over_values, was)
 
 pub returns-else-eq-clause-before : goal.returns-else-eq-clause-before
 returns-else-eq-clause-before g c =

@@ -9,8 +9,7 @@ returns-in_err-position-clause-absent c _ = search (rules, missing, not_past, sl
 
 -- the dense vector ends before the position
 pub returns-in_err-pair-clause-absent : goal.returns-in_err-pair-clause-absent
-returns-in_err-pair-clause-absent c _ =
-    search (rules, missing, get_or_from_slice_get, slice_get_within)
+returns-in_err-pair-clause-absent c _ = search (rules, missing, get_or_from_slice_get, slice_get_within)
 
 -- the pair there has another place
 pub returns-else-pair-place-clause-absent : goal.returns-else-pair-place-clause-absent

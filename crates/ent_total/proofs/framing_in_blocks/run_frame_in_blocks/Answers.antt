@@ -8,8 +8,7 @@ hold-requires-clause-stop g c =
     stop_of c.in-Err-Sync.fault c.in-Err-Sync.queues.items _ _ stopped.memory
 
 pub returns-in-Err-Unrun-clause-other_phase : goal.returns-in-Err-Unrun-clause-other_phase
-returns-in-Err-Unrun-clause-other_phase g c =
-    rw c.in-Err-Unrun.field-0-is at c.in-Err-Unrun.ensures.other_phase
+returns-in-Err-Unrun-clause-other_phase g c = rw c.in-Err-Unrun.field-0-is at c.in-Err-Unrun.ensures.other_phase
 
 -- The systems ran, so no reserver was of another phase.
 pub returns-in-Err-Sync-clause-other_phase : goal.returns-in-Err-Sync-clause-other_phase

@@ -2,8 +2,7 @@ use Rattle.std.proofs.Common.{◌≡◌, ◌∙◌, [], ◌∷◌, ◌++◌, ap,
 use Rattle.std.proofs.lemmas.List.Elements.{All-push, All-same}
 use Rattle.ent_shared.specs.Phase.{Shared, IsOf}
 use Rattle.ent_total.specs.Sharing.{Reserver}
-use Rattle.ent_total.proofs.Walking.{stand_for_one, walked_on, first_has, left_have, one_less}
-use Rattle.ent_total.proofs.Walking.{moved_on}
+use Rattle.ent_total.proofs.Walking.{stand_for_one, walked_on, first_has, left_have, one_less, moved_on}
 use Rattle.ent_total.proofs.returning.bring_back.Goals as goal
 
 pub loop-reserver-preserved : goal.loop-reserver-preserved
@@ -21,17 +20,15 @@ loop-reserver-preserved g c =
     let p = c.push_reserved.ensures in
     let view_is = c.reserver.view_is in
     let P = λ (d : Reserver). d.number ≡ c.args.number in
-    let same = stand_for_one g.J.Numbering.shared_of c.args.number c.reserver.inside.number s _
-    c.requires.stands_for c.reserver.invariant.0 (ap (λ (d : Reserver). d.number) view_is
-    ∙ first_has yielded old rest x front P i.of) in
+    let same = stand_for_one g.J.Numbering.shared_of c.args.number c.reserver.inside.number s _ c.requires.stands_for
+    c.reserver.invariant.0 (ap (λ (d : Reserver). d.number) view_is ∙ first_has yielded old rest x front P i.of) in
     let less = one_less yielded old rest x front in
     record {
       all = walked_on yielded old rest x front c.args.reservers.items i.all;
-      items = moved_on yielded old rest x front (λ (d : Reserver). d.reserver)
-          c.args.returned.now.items returned next i.items
-          (p.items ∙ ap (λ (d : Reserver). returned ++ d.reserver ∷ []) view_is);
-      own = All-same (IsOf s) next (returned ++ r ∷ []) p.items (All-push (IsOf s) returned r i.own
-          (subst (λ (t : Shared). IsOf t r) same c.reserver.invariant.1));
+      items = moved_on yielded old rest x front (λ (d : Reserver). d.reserver) c.args.returned.now.items returned next
+          i.items (p.items ∙ ap (λ (d : Reserver). returned ++ d.reserver ∷ []) view_is);
+      own = All-same (IsOf s) next (returned ++ r ∷ []) p.items
+          (All-push (IsOf s) returned r i.own (subst (λ (t : Shared). IsOf t r) same c.reserver.invariant.1));
       of = left_have yielded old rest x front P i.of;
       room = omega (arith, less, p.len, p.capacity, i.room);
       capacity = p.capacity ∙ i.capacity;

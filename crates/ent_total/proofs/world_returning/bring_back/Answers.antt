@@ -3,8 +3,7 @@ use Rattle.std.proofs.lemmas.List.Elements.{All-push, All-same}
 use Rattle.ent_shared.specs.Phase.{IsOf}
 use Rattle.ent_world.specs.OpenWorld.{OpenWorld}
 use Rattle.ent_total.specs.Issuing.{Commands}
-use Rattle.ent_total.proofs.Walking.{stand_for_one, walked_on, first_has, left_have, one_less}
-use Rattle.ent_total.proofs.Walking.{moved_on}
+use Rattle.ent_total.proofs.Walking.{stand_for_one, walked_on, first_has, left_have, one_less, moved_on}
 use Rattle.ent_total.proofs.world_returning.bring_back.Goals as goal
 
 pub loop-one-preserved : goal.loop-one-preserved
@@ -24,22 +23,19 @@ loop-one-preserved g c =
     let q = c.push_reserved-in-loop-one.ensures in
     let view_is = ap (λ w. w.commands) c.one-inside.view_is ∙ c.one.view_is in
     let P = λ (i : Commands). i.number ≡ c.args.number in
-    let same = stand_for_one g.J.Numbering.world_of c.args.number inside.number world _
-    c.requires.stands_for c.one-inside.invariant.0 (ap (λ (i : Commands). i.number) view_is
-    ∙ first_has yielded old rest x front P i.of) in
+    let same = stand_for_one g.J.Numbering.world_of c.args.number inside.number world _ c.requires.stands_for
+    c.one-inside.invariant.0 (ap (λ (i : Commands). i.number) view_is ∙ first_has yielded old rest x front P i.of) in
     let less = one_less yielded old rest x front in
     record {
       all = walked_on yielded old rest x front c.args.queues.items i.all;
-      returned = moved_on yielded old rest x front (λ (i : Commands). i.reserver)
-          c.args.returned.now.items returned next i.returned
-          (p.items ∙ ap (λ (i : Commands). returned ++ i.reserver ∷ []) view_is);
-      queues = moved_on yielded old rest x front (λ (i : Commands). i.queue)
-          c.args.queues_returned.now.items queues c.push_reserved-in-loop-one.new.self.items i.queues
-          (q.items ∙ ap (λ (i : Commands). queues ++ i.queue ∷ []) view_is);
+      returned = moved_on yielded old rest x front (λ (i : Commands). i.reserver) c.args.returned.now.items returned
+          next i.returned (p.items ∙ ap (λ (i : Commands). returned ++ i.reserver ∷ []) view_is);
+      queues = moved_on yielded old rest x front (λ (i : Commands). i.queue) c.args.queues_returned.now.items queues
+          c.push_reserved-in-loop-one.new.self.items i.queues (q.items ∙ ap (λ (i : Commands). queues ++ i.queue ∷ [])
+          view_is);
       own = All-same (IsOf world.shared) next (returned ++ inside.reserver ∷ []) p.items
           (All-push (IsOf world.shared) returned inside.reserver i.own
-          (subst (λ (w : OpenWorld). IsOf w.shared inside.reserver) same
-          c.one-inside.invariant.1));
+          (subst (λ (w : OpenWorld). IsOf w.shared inside.reserver) same c.one-inside.invariant.1));
       of = left_have yielded old rest x front P i.of;
       room = omega (arith, less, p.len, p.capacity, i.room);
       queue_room = omega (arith, less, q.len, q.capacity, i.queue_room);

@@ -13,8 +13,7 @@ invariant-loop-one g l = record {
   own : All (IsOf l.fn.world.shared) l.returned.items;
   of : AreCommandsOf l.fn.number l.one-iterator.rest.items;
   room : vec_len l.returned + length l.one-iterator.rest.items ≤ vec_capacity l.returned;
-  queue_room : vec_len l.queues_returned + length l.one-iterator.rest.items
-      ≤ vec_capacity l.queues_returned;
+  queue_room : vec_len l.queues_returned + length l.one-iterator.rest.items ≤ vec_capacity l.queues_returned;
   capacity : vec_capacity l.returned ≡ vec_capacity l.initial.returned;
   queue_capacity : vec_capacity l.queues_returned ≡ vec_capacity l.initial.queues_returned;
 }

@@ -1,19 +1,16 @@
-use Rattle.std.proofs.Common.{rules}
-use Rattle.std.proofs.Common.{arith}
+use Rattle.std.proofs.Common.{rules, arith, List, ℕ, map}
 use Rattle.std.proofs.lemmas.Grind.{common_steps}
-use Rattle.std.proofs.Common.{List, ℕ, map}
 use Rattle.cli.proofs.Faults.{only_memory}
-use Rattle.tracecheck.proofs.Beginnings.{both_not_taken, clap_fault, faultless, faultless_of_one}
-use Rattle.tracecheck.proofs.Beginnings.{faulty_of_both, is_taken-takes, rows_asked}
+use Rattle.tracecheck.proofs.Beginnings.{both_not_taken, clap_fault, faultless, faultless_of_one, faulty_of_both, is_taken-takes, rows_asked}
 use Rattle.tracecheck.proofs.OptionsGiven.{generations-given, slots-given}
 use Rattle.tracecheck.proofs.command_line.command_line.Goals as goal
 
 pub returns-in_err-matches-clause-refused : goal.returns-in_err-matches-clause-refused
-returns-in_err-matches-clause-refused g c = let words : List (List ℕ) = map g.S.AsStr.text c.args.words.now in search (rules, only_memory, is_taken-takes)
+returns-in_err-matches-clause-refused g c =
+    let words : List (List ℕ) = map g.S.AsStr.text c.args.words.now in search (rules, only_memory, is_taken-takes)
 
 pub returns-in_err-matches-clause-fault : goal.returns-in_err-matches-clause-fault
-returns-in_err-matches-clause-fault g c =
-    clap_fault _ _ _ (map g.S.AsStr.text c.args.words.now) c.in_ok-program.ensures
+returns-in_err-matches-clause-fault g c = clap_fault _ _ _ (map g.S.AsStr.text c.args.words.now) c.in_ok-program.ensures
     c.from_residual-in_err-matches.ensures.1 c.in_err-matches.ensures.kinds
 
 pub beginning_of-requires-clause-slots : goal.beginning_of-requires-clause-slots
@@ -26,10 +23,15 @@ pub returns-clause-asked : goal.returns-clause-asked
 returns-clause-asked g c = grind (arith, common_steps, rows_asked)
 
 pub returns-clause-taken : goal.returns-clause-taken
-returns-clause-taken g c = let words : List (List ℕ) = map g.S.AsStr.text c.args.words.now in search (rules, faultless_of_one, rows_asked, faultless)
+returns-clause-taken g c =
+    let words : List (List ℕ) = map g.S.AsStr.text c.args.words.now in
+    search (rules, faultless_of_one, rows_asked, faultless)
 
 pub returns-clause-fault : goal.returns-clause-fault
-returns-clause-fault g c = let words : List (List ℕ) = map g.S.AsStr.text c.args.words.now in search (rules, faulty_of_both, rows_asked, faultless)
+returns-clause-fault g c =
+    let words : List (List ℕ) = map g.S.AsStr.text c.args.words.now in
+    search (rules, faulty_of_both, rows_asked, faultless)
 
 pub returns-clause-refused : goal.returns-clause-refused
-returns-clause-refused g c = let words : List (List ℕ) = map g.S.AsStr.text c.args.words.now in search (rules, both_not_taken, rows_asked)
+returns-clause-refused g c =
+    let words : List (List ℕ) = map g.S.AsStr.text c.args.words.now in search (rules, both_not_taken, rows_asked)

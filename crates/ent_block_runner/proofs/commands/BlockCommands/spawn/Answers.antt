@@ -7,19 +7,15 @@ use Rattle.ent_block_runner.proofs.commands.BlockCommands.spawn.Goals as goal
 pub returns-clause-extends : goal.returns-clause-extends
 returns-clause-extends g c =
     let s = c.spawn.ensures in
-    let after : Filling g.row.C.Denot = record { source = c.spawn.new.source; log = c.spawn.new.self }
-    in
+    let after : Filling g.row.C.Denot = record { source = c.spawn.new.source; log = c.spawn.new.self } in
     subst (λ (before : Filling g.row.C.Denot). Extends before after) c.self.view_is
-    (extends_spawn (record { source = c.self.inside.source; log = c.self.inside.log }) after
-    c.spawn.result s.ok s.err s.replies (refused_still c.self.inside.source c.spawn.new.source
-    c.spawn.result s.replies s.memory))
+    (extends_spawn (record { source = c.self.inside.source; log = c.self.inside.log }) after c.spawn.result s.ok s.err
+    s.replies (refused_still c.self.inside.source c.spawn.new.source c.spawn.result s.replies s.memory))
 
 pub returns-clause-err : goal.returns-clause-err
 returns-clause-err g c =
     let s = c.spawn.ensures in
-    let after : Filling g.row.C.Denot = record { source = c.spawn.new.source; log = c.spawn.new.self }
-    in
+    let after : Filling g.row.C.Denot = record { source = c.spawn.new.source; log = c.spawn.new.self } in
     subst (λ (before : Filling g.row.C.Denot). OnErr c.spawn.result (after ≡ before)) c.self.view_is
-    (same_err (record { source = c.self.inside.source; log = c.self.inside.log }) after
-    c.spawn.result s.err (refused_still c.self.inside.source c.spawn.new.source c.spawn.result
-    s.replies s.memory))
+    (same_err (record { source = c.self.inside.source; log = c.self.inside.log }) after c.spawn.result s.err
+    (refused_still c.self.inside.source c.spawn.new.source c.spawn.result s.replies s.memory))

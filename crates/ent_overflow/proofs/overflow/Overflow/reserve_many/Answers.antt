@@ -13,4 +13,8 @@ pub take_many-requires-clause-few : goal.take_many-requires-clause-few
 take_many-requires-clause-few c = search (rules, here, lies_few)
 
 pub returns-clause-stays : goal.returns-clause-stays
-returns-clause-stays c = let r : Caller = record { block = c.caller.inside.part; past = c.caller.inside.past } in let of = here c.args.self.now c.args.self.now r c.args.caller.now (λ i. c.args.self.now) c.caller.view_is c.requires in search (rules, used_on)
+returns-clause-stays c =
+    let r : Caller = record { block = c.caller.inside.part; past = c.caller.inside.past } in
+    let of = here c.args.self.now c.args.self.now r c.args.caller.now (λ i. c.args.self.now) c.caller.view_is
+    c.requires in
+    search (rules, used_on)

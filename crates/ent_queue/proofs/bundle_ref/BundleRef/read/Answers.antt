@@ -4,8 +4,8 @@ use Rattle.ent_queue.specs.Unpacking.{unpacked_item, number_2}
 use Rattle.ent_queue.proofs.Chunks.{chunks_of_front}
 use Rattle.ent_queue.proofs.bundle_ref.BundleRef.read.Goals as goal
 
-chunks : (c : goal.After-items-2-1) → c.as_chunks.result.0.now
-    ≡ first_chunks 9 (number_2 c.args.bytes.now) (drop 2 c.args.bytes.now)
+chunks : (c : goal.After-items-2-1) → c.as_chunks.result.0.now ≡ first_chunks 9 (number_2 c.args.bytes.now) (drop 2
+    c.args.bytes.now)
 chunks c = search (rules, chunks_of_front)
 
 pub invariant_of-result : goal.invariant_of-result

@@ -5,8 +5,6 @@ use Rattle.ent_queue.specs.Command.{Despawn}
 use Rattle.ent_queue.specs.Commands.{queue_of, reserver_of}
 
 pub returns-clause-extends : goal.returns-clause-extends
-returns-clause-extends c =
-    extends_added c.args.self.now _ refl refl c.requires
-    (added_none (reserver_of c.args.self.now).own (Despawn c.args.handle) c.despawn.result
-    (queue_of c.args.self.now) c.despawn.new.self refl tt c.despawn.ensures.ok
-    c.despawn.ensures.err)
+returns-clause-extends c = extends_added c.args.self.now _ refl refl c.requires
+    (added_none (reserver_of c.args.self.now).own (Despawn c.args.handle) c.despawn.result (queue_of c.args.self.now)
+    c.despawn.new.self refl tt c.despawn.ensures.ok c.despawn.ensures.err)

@@ -5,8 +5,6 @@ use Rattle.ent_queue.specs.Command.{Insert}
 use Rattle.ent_queue.specs.Commands.{queue_of, reserver_of}
 
 pub returns-clause-extends : goal.returns-clause-extends
-returns-clause-extends g c =
-    extends_added c.args.self.now _ refl refl c.requires
-    (added_none (reserver_of c.args.self.now).own (Insert c.args.handle c.items.result.now)
-    c.insert.result (queue_of c.args.self.now) c.insert.new.self refl tt c.insert.ensures.ok
-    c.insert.ensures.err)
+returns-clause-extends g c = extends_added c.args.self.now _ refl refl c.requires
+    (added_none (reserver_of c.args.self.now).own (Insert c.args.handle c.items.result.now) c.insert.result
+    (queue_of c.args.self.now) c.insert.new.self refl tt c.insert.ensures.ok c.insert.ensures.err)

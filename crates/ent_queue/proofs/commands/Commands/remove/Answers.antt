@@ -5,8 +5,6 @@ use Rattle.ent_queue.specs.Command.{Remove}
 use Rattle.ent_queue.specs.Commands.{queue_of, reserver_of}
 
 pub returns-clause-extends : goal.returns-clause-extends
-returns-clause-extends c =
-    extends_added c.args.self.now _ refl refl c.requires
-    (added_none (reserver_of c.args.self.now).own (Remove c.args.handle c.args.id)
-    c.remove.result (queue_of c.args.self.now) c.remove.new.self refl tt c.remove.ensures.ok
-    c.remove.ensures.err)
+returns-clause-extends c = extends_added c.args.self.now _ refl refl c.requires
+    (added_none (reserver_of c.args.self.now).own (Remove c.args.handle c.args.id) c.remove.result
+    (queue_of c.args.self.now) c.remove.new.self refl tt c.remove.ensures.ok c.remove.ensures.err)

@@ -11,11 +11,7 @@ returns-clause-extends g c =
       reserver = c.self.inside.reserver;
       queue = c.self.inside.queue;
     } in
-    let after : Issuing = record {
-      phase = before.phase;
-      reserver = c.spawn.new.reserver;
-      queue = c.spawn.new.self;
-    } in
+    let after : Issuing = record { phase = before.phase; reserver = c.spawn.new.reserver; queue = c.spawn.new.self } in
     subst (λ (b : Issuing). ExtendsInBlocks b after) c.self.view_is
-    (extends_in_blocks before after refl (spawn_added before.phase before.queue after.queue
-    before.reserver after.reserver c.items.result.now c.spawn.result s.ok s.refused s.memory s.replies))
+    (extends_in_blocks before after refl (spawn_added before.phase before.queue after.queue before.reserver
+    after.reserver c.items.result.now c.spawn.result s.ok s.refused s.memory s.replies))

@@ -17,6 +17,5 @@ returns-clause-extends g c =
       queue = c.spawn_many.new.self;
     } in
     subst (λ (b : Issuing). ExtendsInBlocks b after) c.self.view_is
-    (extends_in_blocks before after refl (many_added before.phase before.queue after.queue
-    before.reserver after.reserver c.args.n c.items.result.now c.spawn_many.result s.ok s.refused
-    s.memory s.replies))
+    (extends_in_blocks before after refl (many_added before.phase before.queue after.queue before.reserver
+    after.reserver c.args.n c.items.result.now c.spawn_many.result s.ok s.refused s.memory s.replies))

@@ -1,8 +1,7 @@
 use Rattle.std.proofs.Common.{rules, ◌≡◌, suc, ◌-◌, ◌∷◌, arith}
 use Rattle.ent_queue.specs.Entry.{command_of}
 use Rattle.ent_queue.specs.Unpacking.{unpacked_commands}
-use Rattle.ent_queue.proofs.Queues.{no_commands, first_of_commands, some_command_begins}
-use Rattle.ent_queue.proofs.Queues.{others_are_packed}
+use Rattle.ent_queue.proofs.Queues.{no_commands, first_of_commands, some_command_begins, others_are_packed}
 use Rattle.ent_queue.proofs.entries.EntriesIterator.next.Goals as goal
 
 pub returns-then-self-eq0-clause-steps : goal.returns-then-self-eq0-clause-steps
@@ -13,8 +12,7 @@ read_entry-entry-requires c =
     let some : suc (c.self.inside.left - 1) ≡ c.self.inside.left = omega arith in (
       _,
       _,
-      some_command_begins c.self.inside.left (c.self.inside.left - 1) c.self.inside.bytes.now
-          some c.self.invariant,
+      some_command_begins c.self.inside.left (c.self.inside.left - 1) c.self.inside.bytes.now some c.self.invariant,
     )
 
 pub invariant_of-self : goal.invariant_of-self

@@ -4,8 +4,7 @@ use Rattle.ent_queue.specs.Unpacking.{unpacked_handle}
 use Rattle.ent_queue.proofs.Chunks.{chunks_of_front}
 use Rattle.ent_queue.proofs.handles_ref.HandlesRef.read.Goals as goal
 
-chunks : (c : goal.After-handles-2-1) → c.as_chunks.result.0.now ≡ first_chunks 8 c.args.count
-    c.args.bytes.now
+chunks : (c : goal.After-handles-2-1) → c.as_chunks.result.0.now ≡ first_chunks 8 c.args.count c.args.bytes.now
 chunks c = search (rules, chunks_of_front)
 
 pub invariant_of-result : goal.invariant_of-result

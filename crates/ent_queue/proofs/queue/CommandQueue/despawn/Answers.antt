@@ -1,5 +1,4 @@
-use Rattle.std.proofs.Common.{rules}
-use Rattle.std.proofs.Common.{◌++◌, ◌∷◌, [], ap, ◌∙◌}
+use Rattle.std.proofs.Common.{rules, ◌++◌, ◌∷◌, [], ap, ◌∙◌}
 use Rattle.ent_queue.specs.Command.{Despawn}
 use Rattle.ent_queue.proofs.Pushes.{Pushed, pushed, count_fits}
 use Rattle.ent_queue.proofs.queue.CommandQueue.despawn.Goals.{After-write_despawn}
@@ -10,13 +9,12 @@ pub overflow_add-self : goal.overflow_add-self
 overflow_add-self c = search (rules, count_fits)
 
 -- the bytes after the command
-after : (c : After-write_despawn) → Pushed c.self.inside.count c.self.inside.bytes.items
-    c.write_despawn.new.bytes.items (Despawn c.args.handle)
+after : (c : After-write_despawn) → Pushed c.self.inside.count c.self.inside.bytes.items c.write_despawn.new.bytes.items
+    (Despawn c.args.handle)
 after c =
     let command = Despawn c.args.handle in
-    pushed c.self.inside.count c.self.inside.bytes.items c.write_despawn.new.bytes.items command
-    c.self.invariant c.write_despawn.ensures.handle
-    (c.write_despawn.ensures.items ∙ ap (λ bytes. bytes ++ command_bytes command)
+    pushed c.self.inside.count c.self.inside.bytes.items c.write_despawn.new.bytes.items command c.self.invariant
+    c.write_despawn.ensures.handle (c.write_despawn.ensures.items ∙ ap (λ bytes. bytes ++ command_bytes command)
     c.in_ok-reserve.ensures.items)
 
 pub invariant_of-self-2 : goal.invariant_of-self-2

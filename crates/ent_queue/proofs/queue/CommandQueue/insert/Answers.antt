@@ -1,5 +1,4 @@
-use Rattle.std.proofs.Common.{rules}
-use Rattle.std.proofs.Common.{◌++◌, ◌∷◌, [], ap, ◌∙◌}
+use Rattle.std.proofs.Common.{rules, ◌++◌, ◌∷◌, [], ap, ◌∙◌}
 use Rattle.ent_queue.specs.Command.{Insert}
 use Rattle.ent_queue.proofs.Pushes.{Pushed, pushed, count_fits}
 use Rattle.ent_queue.proofs.queue.CommandQueue.insert.Goals.{After-write_with_bundle}
@@ -14,10 +13,9 @@ after : (c : After-write_with_bundle) → Pushed c.self.inside.count c.self.insi
     c.write_with_bundle.new.bytes.items (Insert c.args.handle c.args.items.now)
 after c =
     let command = Insert c.args.handle c.args.items.now in
-    pushed c.self.inside.count c.self.inside.bytes.items c.write_with_bundle.new.bytes.items command
-    c.self.invariant (c.write_with_bundle.ensures.handle, c.requires)
-    (c.write_with_bundle.ensures.items ∙ ap (λ bytes. bytes ++ command_bytes command)
-    c.in_ok-reserve.ensures.items)
+    pushed c.self.inside.count c.self.inside.bytes.items c.write_with_bundle.new.bytes.items command c.self.invariant
+    (c.write_with_bundle.ensures.handle, c.requires) (c.write_with_bundle.ensures.items
+    ∙ ap (λ bytes. bytes ++ command_bytes command) c.in_ok-reserve.ensures.items)
 
 pub invariant_of-self-2 : goal.invariant_of-self-2
 invariant_of-self-2 c = search (rules, after)

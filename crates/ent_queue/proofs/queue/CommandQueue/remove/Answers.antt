@@ -1,5 +1,4 @@
-use Rattle.std.proofs.Common.{rules}
-use Rattle.std.proofs.Common.{◌++◌, ◌∷◌, [], ap, ◌∙◌}
+use Rattle.std.proofs.Common.{rules, ◌++◌, ◌∷◌, [], ap, ◌∙◌}
 use Rattle.ent_queue.specs.Command.{Remove}
 use Rattle.ent_queue.proofs.Pushes.{Pushed, pushed, count_fits}
 use Rattle.ent_queue.proofs.queue.CommandQueue.remove.Goals.{After-write_remove}
@@ -10,14 +9,13 @@ pub overflow_add-self : goal.overflow_add-self
 overflow_add-self c = search (rules, count_fits)
 
 -- the bytes after the command
-after : (c : After-write_remove) → Pushed c.self.inside.count c.self.inside.bytes.items
-    c.write_remove.new.bytes.items (Remove c.args.handle c.args.id)
+after : (c : After-write_remove) → Pushed c.self.inside.count c.self.inside.bytes.items c.write_remove.new.bytes.items
+    (Remove c.args.handle c.args.id)
 after c =
     let command = Remove c.args.handle c.args.id in
-    pushed c.self.inside.count c.self.inside.bytes.items c.write_remove.new.bytes.items command
-    c.self.invariant (c.write_remove.ensures.handle, c.write_remove.ensures.id)
-    (c.write_remove.ensures.items ∙ ap (λ bytes. bytes ++ command_bytes command)
-    c.in_ok-reserve.ensures.items)
+    pushed c.self.inside.count c.self.inside.bytes.items c.write_remove.new.bytes.items command c.self.invariant
+    (c.write_remove.ensures.handle, c.write_remove.ensures.id)
+    (c.write_remove.ensures.items ∙ ap (λ bytes. bytes ++ command_bytes command) c.in_ok-reserve.ensures.items)
 
 pub invariant_of-self-2 : goal.invariant_of-self-2
 invariant_of-self-2 c = search (rules, after)

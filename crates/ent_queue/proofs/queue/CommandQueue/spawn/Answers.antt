@@ -1,10 +1,8 @@
-use Rattle.std.proofs.Common.{rules}
-use Rattle.std.proofs.Common.{◌++◌, ◌∷◌, [], ap, sym, ◌∙◌}
+use Rattle.std.proofs.Common.{rules, ◌++◌, ◌∷◌, [], ap, sym, ◌∙◌}
 use Rattle.ent_queue.specs.Command.{Spawn, Refused}
 use Rattle.ent_queue.proofs.Pushes.{Pushed, pushed, count_fits}
 use Rattle.ent_queue.proofs.Gaining.{is_refusal, refused_by_fault}
-use Rattle.ent_queue.proofs.queue.CommandQueue.spawn.Goals.{After-write_with_bundle}
-use Rattle.ent_queue.proofs.queue.CommandQueue.spawn.Goals.{After-write_refused}
+use Rattle.ent_queue.proofs.queue.CommandQueue.spawn.Goals.{After-write_with_bundle, After-write_refused}
 use Rattle.ent_queue.proofs.queue.CommandQueue.spawn.Given as given
 use Rattle.ent_queue.proofs.queue.CommandQueue.spawn.Goals as goal
 use Rattle.ent_queue.specs.Packing.{command_bytes}
@@ -21,18 +19,15 @@ served : (g : given.Over) (c : After-write_with_bundle g) → Pushed c.self.insi
     c.write_with_bundle.new.bytes.items (Spawn c.in-Ok.handle c.args.items.now)
 served g c =
     let command = Spawn c.in-Ok.handle c.args.items.now in
-    pushed c.self.inside.count c.self.inside.bytes.items c.write_with_bundle.new.bytes.items command
-    c.self.invariant (c.write_with_bundle.ensures.handle, c.requires.is)
-    (c.write_with_bundle.ensures.items ∙ ap (λ bytes. bytes ++ command_bytes command)
-    c.in_ok-reserve.ensures.items)
+    pushed c.self.inside.count c.self.inside.bytes.items c.write_with_bundle.new.bytes.items command c.self.invariant
+    (c.write_with_bundle.ensures.handle, c.requires.is) (c.write_with_bundle.ensures.items
+    ∙ ap (λ bytes. bytes ++ command_bytes command) c.in_ok-reserve.ensures.items)
 
 pub invariant_of-self-in-Ok : goal.invariant_of-self-in-Ok
-invariant_of-self-in-Ok g c =
-    (served g (goal.at.invariant_of-self-in-Ok g c).After-write_with_bundle).packed
+invariant_of-self-in-Ok g c = (served g (goal.at.invariant_of-self-in-Ok g c).After-write_with_bundle).packed
 
 pub returns-in-Ok-clause-ok : goal.returns-in-Ok-clause-ok
-returns-in-Ok-clause-ok g c =
-    (served g (goal.at.returns-in-Ok-clause-ok g c).After-write_with_bundle).commands
+returns-in-Ok-clause-ok g c = (served g (goal.at.returns-in-Ok-clause-ok g c).After-write_with_bundle).commands
     ∙ ap (λ commands. commands ++ Spawn c.in-Ok.handle c.args.items.now ∷ []) c.self.view_is
 
 -- and after a refusal
@@ -41,18 +36,14 @@ refused : (g : given.Over) (c : After-write_refused g) → Pushed c.self.inside.
 refused g c =
     let command = Refused 1 c.in-Err.why in
     let is = is_refusal 1 c.in-Err.why c.in-Err.ensures.wanted c.write_refused.ensures.why in
-    pushed c.self.inside.count c.self.inside.bytes.items c.write_refused.new.bytes.items command
-    c.self.invariant (c.write_refused.ensures.wanted, is)
-    (c.write_refused.ensures.items ∙ ap (λ bytes. bytes ++ command_bytes command)
+    pushed c.self.inside.count c.self.inside.bytes.items c.write_refused.new.bytes.items command c.self.invariant
+    (c.write_refused.ensures.wanted, is) (c.write_refused.ensures.items ∙ ap (λ bytes. bytes ++ command_bytes command)
     c.in_ok-reserve.ensures.items)
 
 pub invariant_of-self-in-Err : goal.invariant_of-self-in-Err
-invariant_of-self-in-Err g c =
-    (refused g (goal.at.invariant_of-self-in-Err g c).After-write_refused).packed
+invariant_of-self-in-Err g c = (refused g (goal.at.invariant_of-self-in-Err g c).After-write_refused).packed
 
 pub returns-in-Err-clause-refused : goal.returns-in-Err-clause-refused
-returns-in-Err-clause-refused g c =
-    (refused g (goal.at.returns-in-Err-clause-refused g c).After-write_refused).commands
+returns-in-Err-clause-refused g c = (refused g (goal.at.returns-in-Err-clause-refused g c).After-write_refused).commands
     ∙ ap (λ commands. commands ++ Refused 1 c.in-Err.why ∷ []) c.self.view_is
-    ∙ ap (λ more. c.args.self.now ++ more)
-    (sym (ap (refused_by 1) c.from.ensures ∙ refused_by_fault 1 c.in-Err.why))
+    ∙ ap (λ more. c.args.self.now ++ more) (sym (ap (refused_by 1) c.from.ensures ∙ refused_by_fault 1 c.in-Err.why))

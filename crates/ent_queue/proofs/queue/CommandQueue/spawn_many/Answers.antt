@@ -1,11 +1,9 @@
-use Rattle.std.proofs.Common.{rules}
-use Rattle.std.proofs.Common.{◌++◌, ◌∷◌, [], ap, sym, subst, ◌∙◌, length, ◌<◌, ◌^◌}
+use Rattle.std.proofs.Common.{rules, ◌++◌, ◌∷◌, [], ap, sym, subst, ◌∙◌, length, ◌<◌, ◌^◌}
 use Rattle.ent_queue.specs.Command.{SpawnMany, Refused}
 use Rattle.ent_queue.proofs.Pushes.{Pushed, pushed, count_fits, many_written}
 use Rattle.ent_queue.proofs.Issuing.{queued_ok}
 use Rattle.ent_queue.proofs.Gaining.{is_refusal, refused_by_fault}
-use Rattle.ent_queue.proofs.queue.CommandQueue.spawn_many.Goals.{After-write_bundle}
-use Rattle.ent_queue.proofs.queue.CommandQueue.spawn_many.Goals.{After-write_refused}
+use Rattle.ent_queue.proofs.queue.CommandQueue.spawn_many.Goals.{After-write_bundle, After-write_refused}
 use Rattle.ent_queue.proofs.queue.CommandQueue.spawn_many.Given as given
 use Rattle.ent_queue.proofs.queue.CommandQueue.spawn_many.Goals as goal
 use Rattle.ent_queue.specs.Packing.{command_bytes, bundle_bytes}
@@ -23,11 +21,9 @@ served : (g : given.Over) (c : After-write_bundle g) → Pushed c.self.inside.co
 served g c =
     let hs = c.in-Ok.given in
     let command = SpawnMany hs c.args.items.now in
-    let few : length hs < 2 ^ 32 = subst (λ k. k < 2 ^ 32) (sym c.in-Ok.ensures.length)
-    c.write_many.ensures.number in
-    pushed c.self.inside.count c.self.inside.bytes.items c.write_bundle.new.bytes.items command
-    c.self.invariant (few, c.write_many.ensures.each, c.requires.is)
-    (c.write_bundle.ensures.items
+    let few : length hs < 2 ^ 32 = subst (λ k. k < 2 ^ 32) (sym c.in-Ok.ensures.length) c.write_many.ensures.number in
+    pushed c.self.inside.count c.self.inside.bytes.items c.write_bundle.new.bytes.items command c.self.invariant
+    (few, c.write_many.ensures.each, c.requires.is) (c.write_bundle.ensures.items
     ∙ ap (λ bytes. bytes ++ bundle_bytes c.args.items.now) c.write_many.ensures.items
     ∙ many_written c.reserve.new.self.items hs c.args.items.now c.args.n c.in-Ok.ensures.length
     ∙ ap (λ bytes. bytes ++ command_bytes command) c.in_ok-reserve.ensures.items)
@@ -49,18 +45,15 @@ refused : (g : given.Over) (c : After-write_refused g) → Pushed c.self.inside.
 refused g c =
     let command = Refused c.args.n c.in-Err.why in
     let is = is_refusal c.args.n c.in-Err.why c.in-Err.ensures.wanted c.write_refused.ensures.why in
-    pushed c.self.inside.count c.self.inside.bytes.items c.write_refused.new.bytes.items command
-    c.self.invariant (c.write_refused.ensures.wanted, is)
-    (c.write_refused.ensures.items ∙ ap (λ bytes. bytes ++ command_bytes command)
+    pushed c.self.inside.count c.self.inside.bytes.items c.write_refused.new.bytes.items command c.self.invariant
+    (c.write_refused.ensures.wanted, is) (c.write_refused.ensures.items ∙ ap (λ bytes. bytes ++ command_bytes command)
     c.in_ok-reserve.ensures.items)
 
 pub invariant_of-self-in-Err-1 : goal.invariant_of-self-in-Err-1
-invariant_of-self-in-Err-1 g c =
-    (refused g (goal.at.invariant_of-self-in-Err-1 g c).After-write_refused).packed
+invariant_of-self-in-Err-1 g c = (refused g (goal.at.invariant_of-self-in-Err-1 g c).After-write_refused).packed
 
 pub returns-in-Err-clause-refused : goal.returns-in-Err-clause-refused
-returns-in-Err-clause-refused g c =
-    (refused g (goal.at.returns-in-Err-clause-refused g c).After-write_refused).commands
+returns-in-Err-clause-refused g c = (refused g (goal.at.returns-in-Err-clause-refused g c).After-write_refused).commands
     ∙ ap (λ commands. commands ++ Refused c.args.n c.in-Err.why ∷ []) c.self.view_is
     ∙ ap (λ more. c.args.self.now ++ more) (sym (ap (refused_by c.args.n) c.from.ensures
     ∙ refused_by_fault c.args.n c.in-Err.why))

@@ -1,6 +1,5 @@
 use Rattle.std.proofs.Common.{rules}
-use Rattle.ent_runner.proofs.Working.{numbers_more, ended_more, stopped_at, of_ok, of_err, on_ok}
-use Rattle.ent_runner.proofs.Working.{on_err, claims_more}
+use Rattle.ent_runner.proofs.Working.{numbers_more, ended_more, stopped_at, of_ok, of_err, on_ok, on_err, claims_more}
 use Rattle.ent_runner.proofs.worker.Worker.work.Goals as goal
 
 pub loop-number-preserved : goal.loop-number-preserved

@@ -1,5 +1,4 @@
-use Rattle.std.proofs.Common.{take, rules, arith, ◌≡◌, ◌≤ℤ◌, ap, ◌∙◌, to_z, of_z, w64, All}
-use Rattle.std.proofs.Common.{Contains, List}
+use Rattle.std.proofs.Common.{take, rules, arith, ◌≡◌, ◌≤ℤ◌, ap, ◌∙◌, to_z, of_z, w64, All, Contains, List}
 use Rattle.std.proofs.lemmas.Grind.{common_steps}
 use Rattle.ent_handle.specs.Handle.{Handle}
 use Rattle.ent_alloc.specs.Sequential.{cursor}
@@ -19,17 +18,15 @@ known : (c : After-max-end) → Lost c.self.inside.entities.allocator c.args.sel
     (to_z w64 (of_z w64 c.max-end.result))
 known c =
     let phase = c.self.invariant in
-    lost _ _ _ _ c.room.result c.self.inside.word.shared.key _ _ _ c.from-2.result phase.begins
-    phase.sound phase.few phase.key_is (ap (λ (s : Shared). s.start) c.self.view_is)
-    (ap (λ (s : Shared). s.count) c.self.view_is) c.end_phase-cursor.ensures.cursor c.room.ensures
-    c.room.type_inv c.from-2.ensures c.max-end.ensures.value
+    lost _ _ _ _ c.room.result c.self.inside.word.shared.key _ _ _ c.from-2.result phase.begins phase.sound phase.few
+    phase.key_is (ap (λ (s : Shared). s.start) c.self.view_is) (ap (λ (s : Shared). s.count) c.self.view_is)
+    c.end_phase-cursor.ensures.cursor c.room.ensures c.room.type_inv c.from-2.ensures c.max-end.ensures.value
 
 pub settle-requires-clause-least : goal.settle-requires-clause-least
 settle-requires-clause-least c = (known (goal.at.settle-requires-clause-least c).After-max-end).least
 
 pub settle-requires-clause-greatest : goal.settle-requires-clause-greatest
-settle-requires-clause-greatest c =
-    (known (goal.at.settle-requires-clause-greatest c).After-max-end).greatest
+settle-requires-clause-greatest c = (known (goal.at.settle-requires-clause-greatest c).After-max-end).greatest
 
 pub settle-requires-clause-all_given : goal.settle-requires-clause-all_given
 settle-requires-clause-all_given c = search (rules, known)
@@ -47,10 +44,9 @@ returns-clause-least c =
     search (rules, c.args.reservers.items, sum_by-records_of, left)
 
 pub returns-clause-asked : goal.returns-clause-asked
-returns-clause-asked c = λ all_here.
-    let l = known (goal.at.returns-clause-asked c).After-max-end in
-    let left = c.settle.ensures.settled ∙ l.after in
-    search (rules, c.args.reservers.items, sum_by-records_of, length-records_of, left)
+returns-clause-asked c = λ all_here. let l = known (goal.at.returns-clause-asked c).After-max-end in let left =
+    c.settle.ensures.settled
+    ∙ l.after in search (rules, c.args.reservers.items, sum_by-records_of, length-records_of, left)
 
 pub returns-clause-most : goal.returns-clause-most
 returns-clause-most c =
@@ -66,20 +62,17 @@ returns-clause-reached c =
     (search (rules, c.args.reservers.items, left))
 
 pub returns-clause-whole : goal.returns-clause-whole
-returns-clause-whole c = λ all_here.
-    let l = known (goal.at.returns-clause-whole c).After-max-end in
-    let left = c.settle.ensures.settled ∙ l.after in
-    ap cursor left ∙ l.whole (length-records_of c.args.reservers.items ∙ all_here)
+returns-clause-whole c = λ all_here. let l = known (goal.at.returns-clause-whole c).After-max-end in let left =
+    c.settle.ensures.settled ∙ l.after in ap cursor left ∙ l.whole (length-records_of c.args.reservers.items ∙ all_here)
 
 -- what the reservers were given is the front of the pool
-all_reserved : (c : After-max-end) (l : Lost c.self.inside.entities.allocator c.args.self.start
-    c.args.self.count (records_of c.args.reservers.items)
-    (to_z w64 (of_z w64 c.end_phase-cursor.result.0)) (to_z w64 (of_z w64 c.max-end.result)))
-    → (taken : List Handle) → taken ≡ take l.asked c.args.self.start.pool
+all_reserved : (c : After-max-end) (l : Lost c.self.inside.entities.allocator c.args.self.start c.args.self.count
+    (records_of c.args.reservers.items) (to_z w64 (of_z w64 c.end_phase-cursor.result.0))
+    (to_z w64 (of_z w64 c.max-end.result))) → (taken : List Handle) → taken ≡ take l.asked c.args.self.start.pool
     → All (λ o. All (Contains taken) (handles_given o.own)) c.args.reservers.items
-all_reserved c l taken front = rw front
-    (all_owners (λ (o : Record). All (Contains (take l.asked c.args.self.start.pool))
-    (handles_of (own_reservations o.entries))) c.args.reservers.items l.given)
+all_reserved c l taken front = rw front (all_owners (λ (o : Record). All
+    (Contains (take l.asked c.args.self.start.pool)) (handles_of (own_reservations o.entries))) c.args.reservers.items
+    l.given)
 
 pub returns-clause-given : goal.returns-clause-given
 returns-clause-given c =

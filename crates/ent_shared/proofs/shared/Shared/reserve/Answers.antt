@@ -1,5 +1,4 @@
-use Rattle.std.proofs.Common.{rules, ◌≡◌, refl, ◌-ℤ◌, pos, ap, ◌∙◌, arith, to_z, of_z, w64}
-use Rattle.std.proofs.Common.{◌++◌, append-nil, ℕ}
+use Rattle.std.proofs.Common.{rules, ◌≡◌, refl, ◌-ℤ◌, pos, ap, ◌∙◌, arith, to_z, of_z, w64, ◌++◌, append-nil, ℕ}
 use Rattle.std.proofs.lemmas.Int.{ints}
 use Rattle.ent_alloc.specs.History.{handles_in}
 use Rattle.ent_alloc.specs.Sequential.{pool_at, reply_from, listed_alone}
@@ -15,8 +14,8 @@ started : (c : After-reply_one) → c.args.reserver.now.own.start ≡ c.self.ins
 started c = search rules
 
 -- the reply is the allocator's at the cursor that the step found
-replied : (c : After-reply_one) → (k : ℕ) → c.reserve-high.result -ℤ pos 1 ≡ c.reserve-high.result
-    -ℤ pos k → listed_alone c.reply_one.result ≡ reply_from c.self.inside.entities.allocator.made
+replied : (c : After-reply_one) → (k : ℕ) → c.reserve-high.result -ℤ pos 1 ≡ c.reserve-high.result -ℤ pos k
+    → listed_alone c.reply_one.result ≡ reply_from c.self.inside.entities.allocator.made
     (pool_at c.self.inside.entities.allocator c.reserve-high.result) k
 replied c = search (rules, ints)
 
@@ -26,25 +25,22 @@ given : (c : After-reply_one) → handles_given (own_of c.reserve-high.new.badge
 given c =
     let high = c.reserve-high.result in
     given_now c.reserver.inside.badge.views c.reserve-high.new.badge.views _ _ _ high 1
-    (record { high = high; low = high -ℤ pos 1 }) (listed_alone c.reply_one.result)
-    c.reserver.view_is c.reserve-high.ensures.gains (started c) refl (replied c)
+    (record { high = high; low = high -ℤ pos 1 }) (listed_alone c.reply_one.result) c.reserver.view_is
+    c.reserve-high.ensures.gains (started c) refl (replied c)
 
 pub invariant_of-reserver : goal.invariant_of-reserver
 invariant_of-reserver c =
     let at = (goal.at.invariant_of-reserver c).After-reply_one in
     let high = c.reserve-high.result in
-    seated_reservation _ _ _ _ 1 _ high _ c.reserver.invariant c.reserve-high.ensures.gains
-    c.reserve-high.ensures.mark (omega arith)
-    (c.reserver.invariant.floor_is ∙ refused_floor (own_of c.reserver.inside.badge.views) _ high 1
+    seated_reservation _ _ _ _ 1 _ high _ c.reserver.invariant c.reserve-high.ensures.gains c.reserve-high.ensures.mark
+    (omega arith) (c.reserver.invariant.floor_is ∙ refused_floor (own_of c.reserver.inside.badge.views) _ high 1
     (record { high = high; low = high -ℤ pos 1 }) (listed_alone c.reply_one.result)
     (ap (λ (r : Reserver). r.own.start) c.reserver.view_is ∙ started at) refl (replied at) _
     (ap listed_alone c.in_err-handle.was))
 
 pub returns-in_err-handle-clause-stays : goal.returns-in_err-handle-clause-stays
-returns-in_err-handle-clause-stays c =
-    of_stepped _ _ _ _ _ _ 1 _ _ _ _ c.reserver.view_is c.reserver.invariant c.requires
-    (omega arith)
-    c.reserve-high.ensures.same c.reserve-high.ensures.gains
+returns-in_err-handle-clause-stays c = of_stepped _ _ _ _ _ _ 1 _ _ _ _ c.reserver.view_is c.reserver.invariant
+    c.requires (omega arith) c.reserve-high.ensures.same c.reserve-high.ensures.gains
 
 pub returns-in_err-handle-clause-refused : goal.returns-in_err-handle-clause-refused
 returns-in_err-handle-clause-refused c = search (rules, given, append-nil)
@@ -55,20 +51,16 @@ invariant_of-reserver-2 c =
     let high = c.reserve-high.result in
     let fits = c.reserve-high.type_inv in
     let least = c.reserve-high.ensures.least in
-    let low : to_z w64 (of_z w64 (to_z w64 (of_z w64 high) -ℤ pos 1)) ≡ high -ℤ pos 1 =
-    omega (arith, ints) in
-    seated_reservation _ _ _ _ 1 _ high _ c.reserver.invariant c.reserve-high.ensures.gains
-    c.reserve-high.ensures.mark (omega arith)
-    (low ∙ served_floor (own_of c.reserver.inside.badge.views) _ high 1
+    let low : to_z w64 (of_z w64 (to_z w64 (of_z w64 high) -ℤ pos 1)) ≡ high -ℤ pos 1 = omega (arith, ints) in
+    seated_reservation _ _ _ _ 1 _ high _ c.reserver.invariant c.reserve-high.ensures.gains c.reserve-high.ensures.mark
+    (omega arith) (low ∙ served_floor (own_of c.reserver.inside.badge.views) _ high 1
     (record { high = high; low = high -ℤ pos 1 }) (listed_alone c.reply_one.result)
     (ap (λ (r : Reserver). r.own.start) c.reserver.view_is ∙ started at) refl (replied at) _
     (ap listed_alone c.in_ok-handle.was))
 
 pub returns-clause-stays : goal.returns-clause-stays
-returns-clause-stays c =
-    of_stepped _ _ _ _ _ _ 1 _ _ _ _ c.reserver.view_is c.reserver.invariant c.requires
-    (omega arith)
-    c.reserve-high.ensures.same c.reserve-high.ensures.gains
+returns-clause-stays c = of_stepped _ _ _ _ _ _ 1 _ _ _ _ c.reserver.view_is c.reserver.invariant c.requires
+    (omega arith) c.reserve-high.ensures.same c.reserve-high.ensures.gains
 
 pub returns-clause-given : goal.returns-clause-given
 returns-clause-given c = search (rules, given)

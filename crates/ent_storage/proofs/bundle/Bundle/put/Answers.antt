@@ -1,5 +1,4 @@
-use Rattle.std.proofs.Common.{◌≡◌, ◌+◌, ◌≤◌, ap, sym, subst, ◌∙◌, arith, length, get_or, set, pos}
-use Rattle.std.proofs.Common.{inl, inr, refl, rules}
+use Rattle.std.proofs.Common.{◌≡◌, ◌+◌, ◌≤◌, ap, sym, subst, ◌∙◌, arith, length, get_or, set, pos, inl, inr, refl, rules}
 use Rattle.std.specs.List.{refill}
 use Rattle.std.specs.Int.{w64, cast_signed, cast_unsigned}
 use Rattle.std.proofs.Math.ListN.{length-set}
@@ -15,26 +14,21 @@ use Rattle.ent_storage.proofs.bundle.Bundle.put.Goals as goal
 use Rattle.ent_storage.proofs.bundle.Bundle.put.Given.{Over}
 
 -- what is written over
-over : (g : Over) (c : goal.After-self-1 g) → refill (length c.self.inside.items.items)
-    c.self.inside.items.items
+over : (g : Over) (c : goal.After-self-1 g) → refill (length c.self.inside.items.items) c.self.inside.items.items
     (set c.deref_mut.result.now c.in-Ok.index (
       (get_or c.deref_mut.result.now c.in-Ok.index (record { 0 = 0 }, pos 0)).0,
-      cast_signed w64
-          (cast_unsigned w64 c.args.value),
-    )) ≡ put component_cmp c.args.id c.args.value
-    c.self.inside.items.items
+      cast_signed w64 (cast_unsigned w64 c.args.value),
+    )) ≡ put component_cmp c.args.id c.args.value c.self.inside.items.items
 over g c =
     let es = c.self.inside.items.items in
     let index = c.in-Ok.index in
-    let at = subst (λ (b : Bundle). IsAt component_cmp b c.args.id index) c.as_slice.ensures
-    c.in-Ok.ensures.found in
+    let at = subst (λ (b : Bundle). IsAt component_cmp b c.args.id index) c.as_slice.ensures c.in-Ok.ensures.found in
     let value = cast_signed w64 (cast_unsigned w64 c.args.value) in
     let item = get_or es index (record { 0 = 0 }, pos 0) in
-    ap (λ xs. refill (length es) es
-    (set xs index ((get_or xs index (record { 0 = 0 }, pos 0)).0, value))) c.deref_mut.ensures.value
-    ∙ refill_whole es (set es index (item.0, value)) (length-set es index _)
-    ∙ written total es c.args.id c.args.value index (record { 0 = 0 }, pos 0) item value
-    c.self.invariant.0.rising at refl (to_z-of_z w64 c.args.value c.ranges.value)
+    ap (λ xs. refill (length es) es (set xs index ((get_or xs index (record { 0 = 0 }, pos 0)).0, value)))
+    c.deref_mut.ensures.value ∙ refill_whole es (set es index (item.0, value)) (length-set es index _)
+    ∙ written total es c.args.id c.args.value index (record { 0 = 0 }, pos 0) item value c.self.invariant.0.rising at
+    refl (to_z-of_z w64 c.args.value c.ranges.value)
 
 pub invariant_of-self : goal.invariant_of-self
 invariant_of-self g c = (
@@ -44,19 +38,16 @@ invariant_of-self g c = (
 )
 
 pub returns-in-Ok-clause-ok : goal.returns-in-Ok-clause-ok
-returns-in-Ok-clause-ok g c = over g c ∙ ap (put component_cmp c.args.id c.args.value)
-    c.self.view_is
+returns-in-Ok-clause-ok g c = over g c ∙ ap (put component_cmp c.args.id c.args.value) c.self.view_is
 
 -- what is added
-added : (g : Over) (c : goal.In_ok-insert-in-Err g) → c.insert.new.self.items ≡ put component_cmp
-    c.args.id
-    c.args.value c.self.inside.items.items
+added : (g : Over) (c : goal.In_ok-insert-in-Err g) → c.insert.new.self.items
+    ≡ put component_cmp c.args.id c.args.value c.self.inside.items.items
 added g c =
-    let gap = subst (λ (b : Bundle). IsGapFor component_cmp b c.args.id c.in-Err.index)
-    c.as_slice.ensures c.in-Err.ensures.absent in
-    c.in_ok-insert-in-Err.ensures.ok
-    ∙ inserted total c.self.inside.items.items c.args.id c.args.value c.in-Err.index _ gap
-    (to_z-of_z w64 c.args.value c.ranges.value)
+    let gap = subst (λ (b : Bundle). IsGapFor component_cmp b c.args.id c.in-Err.index) c.as_slice.ensures
+    c.in-Err.ensures.absent in
+    c.in_ok-insert-in-Err.ensures.ok ∙ inserted total c.self.inside.items.items c.args.id c.args.value c.in-Err.index _
+    gap (to_z-of_z w64 c.args.value c.ranges.value)
 
 pub invariant_of-self-in-Continue-1 : goal.invariant_of-self-in-Continue-1
 invariant_of-self-in-Continue-1 g c = (
@@ -66,20 +57,18 @@ invariant_of-self-in-Continue-1 g c = (
 )
 
 pub returns-in_ok-insert-in-Err-clause-ok : goal.returns-in_ok-insert-in-Err-clause-ok
-returns-in_ok-insert-in-Err-clause-ok g c = added g c ∙ ap
-    (put component_cmp c.args.id c.args.value)
-    c.self.view_is
+returns-in_ok-insert-in-Err-clause-ok g c = added g c ∙ ap (put component_cmp c.args.id c.args.value) c.self.view_is
 
 pub returns-in_err-insert-in-Err-clause-memory : goal.returns-in_err-insert-in-Err-clause-memory
 returns-in_err-insert-in-Err-clause-memory g c =
     let es = c.self.inside.items.items in
-    let gap = subst (λ (b : Bundle). IsGapFor component_cmp b c.args.id c.in-Err.index)
-    c.as_slice.ensures c.in-Err.ensures.absent in
+    let gap = subst (λ (b : Bundle). IsGapFor component_cmp b c.args.id c.in-Err.index) c.as_slice.ensures
+    c.in-Err.ensures.absent in
     let none = find_in_gap total es c.args.id c.in-Err.index gap in
-    let full : g.row.INLINE ≤ length es =
-    elim (cases_lt c.self.inside.items.capacity (length es + 1)) [
+    let full : g.row.INLINE ≤ length es = elim (cases_lt c.self.inside.items.capacity (length es + 1)) [
       | inl below ↦ omega (arith, below, c.self.invariant.1)
-      | inr room ↦ absurd (false≢true (c.in_err-insert-in-Err.ensures.succeeds room))
+      | inr room ↦ absurd
+          (false≢true (c.in_err-insert-in-Err.ensures.succeeds room))
     ] in
     search (rules, c.from_residual.result, c.args.id, c.self.view_is, none, full)
 

@@ -5,23 +5,15 @@ use Rattle.ent_storage.specs.Slots.{value_under, generation_of, slot_at}
 use Rattle.ent_storage.proofs.Found.{later, no_later, few_values, put-map, put-before, put-counted}
 use Rattle.ent_storage.proofs.handle_map.HandleMap.insert.Goals as goal
 
-pub returns-then-generation-standing-clause-later :
-    goal.returns-then-generation-standing-clause-later
+pub returns-then-generation-standing-clause-later : goal.returns-then-generation-standing-clause-later
 returns-then-generation-standing-clause-later g c =
     let h = c.args.handle in
     let slots = c.self.inside.slots.items in
     let values = ap (λ (m : HandleMap g.row.T.Denot). m.values) c.self.view_is in
     let stands : c.generation_in-standing.result ≡ generation_of (slot_at slots h.index) =
-    c.generation_in-standing.ensures
-    ∙ (λ i. generation_of (slot_at (c.deref.ensures.value i) (c.index_of-index.ensures.value i)))
-    in
-    let is = later slots _ h values (omega (
-      arith,
-      stands,
-      c.generation.ensures,
-      c.if-generation-standing.true,
-    ))
-    in
+    c.generation_in-standing.ensures ∙ (λ i. generation_of
+    (slot_at (c.deref.ensures.value i) (c.index_of-index.ensures.value i))) in
+    let is = later slots _ h values (omega (arith, stands, c.generation.ensures, c.if-generation-standing.true)) in
     (λ _. (λ beyond. grind (arith, common_steps), is), λ _. refl)
 
 pub returns-in_default-clause-later : goal.returns-in_default-clause-later
@@ -36,10 +28,9 @@ invariant_of-self-2 g c =
     let at = c.index_of-index.result in
     let was = c.replace-before.ensures.value ∙ c.index_mut.ensures.value
     ∙ ap (get_or all at) (sym c.replace-before.ensures.value) in
-    put-counted c.self.inside.slots.items all c.args.handle at c.replace-before.result
-    c.replace-before.new.dest c.args.value c.index_of-index.ensures.value c.in-Ok.ensures.ok was
-    (c.replace-before.ensures.after ∙ c.of.ensures) c.self.inside.len c.lacking.result
-    c.self.invariant c.index_of-index.ensures.in_range c.lacking.ensures
+    put-counted c.self.inside.slots.items all c.args.handle at c.replace-before.result c.replace-before.new.dest
+    c.args.value c.index_of-index.ensures.value c.in-Ok.ensures.ok was (c.replace-before.ensures.after ∙ c.of.ensures)
+    c.self.inside.len c.lacking.result c.self.invariant c.index_of-index.ensures.in_range c.lacking.ensures
 
 pub returns-clause-ok : goal.returns-clause-ok
 returns-clause-ok g c = search (rules, put-map)
@@ -50,11 +41,9 @@ returns-clause-before g c =
     let at = c.index_of-index.result in
     let was = c.replace-before.ensures.value ∙ c.index_mut.ensures.value
     ∙ ap (get_or all at) (sym c.replace-before.ensures.value) in
-    c.into_value.ensures
-    ∙ ap (value_under c.replace-before.result) c.generation-2.ensures
-    ∙ put-before c.self.inside.slots.items all c.args.handle at c.replace-before.result
-    c.replace-before.new.dest c.args.value c.index_of-index.ensures.value c.in-Ok.ensures.ok was
-    (c.replace-before.ensures.after ∙ c.of.ensures) _
+    c.into_value.ensures ∙ ap (value_under c.replace-before.result) c.generation-2.ensures
+    ∙ put-before c.self.inside.slots.items all c.args.handle at c.replace-before.result c.replace-before.new.dest
+    c.args.value c.index_of-index.ensures.value c.in-Ok.ensures.ok was (c.replace-before.ensures.after ∙ c.of.ensures) _
     (ap (λ (m : HandleMap g.row.T.Denot). m.values) c.self.view_is)
 
 pub returns-clause-later : goal.returns-clause-later
@@ -63,16 +52,12 @@ returns-clause-later g c =
     let slots = c.self.inside.slots.items in
     let values = ap (λ (m : HandleMap g.row.T.Denot). m.values) c.self.view_is in
     let stands : c.generation_in-standing.result ≡ generation_of (slot_at slots h.index) =
-    c.generation_in-standing.ensures
-    ∙ (λ i. generation_of (slot_at (c.deref.ensures.value i) (c.index_of-index.ensures.value i)))
-    in (
+    c.generation_in-standing.ensures ∙ (λ i. generation_of
+    (slot_at (c.deref.ensures.value i) (c.index_of-index.ensures.value i))) in (
       λ e. absurd (cc),
-      λ is. absurd (no_later slots _ h values (omega (
-        arith,
-        stands,
-        c.generation.ensures,
-        c.if-generation-standing.false,
-      )) is.1),
+      λ is. absurd
+          (no_later slots _ h values (omega (arith, stands, c.generation.ensures, c.if-generation-standing.false))
+          is.1),
     )
 
 pub index_mut-requires : goal.index_mut-requires

@@ -5,8 +5,7 @@ use Rattle.ent_storage.proofs.handle_map.HandleMap.into_entries.Goals as goal
 
 pub returns-in_err-all-clause-memory : goal.returns-in_err-all-clause-memory
 returns-in_err-all-clause-memory g c =
-    let count : c.self.inside.len ≡ finite.len c.args.self.values = search (rules, len_map) in
-    search (rules, count)
+    let count : c.self.inside.len ≡ finite.len c.args.self.values = search (rules, len_map) in search (rules, count)
 
 pub returns-clause-entries : goal.returns-clause-entries
 returns-clause-entries g c = search (rules, entries_map)

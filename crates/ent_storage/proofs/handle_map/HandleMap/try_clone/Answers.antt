@@ -5,8 +5,8 @@ use Rattle.ent_storage.proofs.handle_map.HandleMap.try_clone.Given.{Over}
 use Rattle.ent_storage.proofs.handle_map.HandleMap.try_clone.Goals as goal
 
 -- the new slots are clones of the old ones
-clones : (g : Over) (c : goal.After-of g)
-    → AreSlotClones g.T.Clone.is_clone c.self.inside.slots.items c.append_clones.new.slots.items
+clones : (g : Over) (c : goal.After-of g) → AreSlotClones g.T.Clone.is_clone c.self.inside.slots.items
+    c.append_clones.new.slots.items
 clones g c = search rules
 
 pub invariant_of-result : goal.invariant_of-result

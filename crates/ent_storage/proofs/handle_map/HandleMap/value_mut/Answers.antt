@@ -17,8 +17,7 @@ invariant_of-self-lent g c w =
     let slots = c.self.inside.slots.items in
     let values = ap (λ (m : HandleMap g.row.T.Denot). m.values) c.self.view_is in
     let f = found slots _ h values c.requires in
-    let is = read_of slots h f.0 c.index.result c.index_mut.result.now f.1 c.index.ensures
-    c.index_mut.ensures.value in
+    let is = read_of slots h f.0 c.index.result c.index_mut.result.now f.1 c.index.ensures c.index_mut.ensures.value in
     rw (c.index.ensures, is) (counted-write slots h f.0 w c.self.inside.len f.1 c.self.invariant)
 
 pub returns : goal.returns

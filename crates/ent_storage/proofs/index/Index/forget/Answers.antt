@@ -1,7 +1,6 @@
 use Rattle.std.proofs.Common.{ap, sym, ◌∙◌}
 use Rattle.std.specs.FinMap as map
-use Rattle.ent_handle.specs.Handle.{handle_cmp, handle_cmp_total as total}
-use Rattle.ent_handle.specs.Handle.{handle_cmp-IsAntisymmetric as same}
+use Rattle.ent_handle.specs.Handle.{handle_cmp, handle_cmp_total as total, handle_cmp-IsAntisymmetric as same}
 use Rattle.ent_storage.specs.Position.{IsAt}
 use Rattle.ent_storage.specs.Places.{Places}
 use Rattle.ent_storage.proofs.Keys.{get-insert_other}
@@ -10,14 +9,14 @@ use Rattle.ent_storage.proofs.index.Index.forget.Goals as goal
 
 pub invariant_of-self : goal.invariant_of-self
 invariant_of-self c =
-    let at : IsAt handle_cmp c.self.inside.pairs.items c.of.result c.in-Some.position =
-    rw (c.of.ensures, sym c.deref.ensures.value) c.in-Some.ensures in
+    let at : IsAt handle_cmp c.self.inside.pairs.items c.of.result c.in-Some.position = rw
+    (c.of.ensures, sym c.deref.ensures.value) c.in-Some.ensures in
     rising_set total same _ c.self.invariant _ _ 4294967295 at
 
 pub returns-in-Some-clause-kept : goal.returns-in-Some-clause-kept
 returns-in-Some-clause-kept c q i n old =
-    let at : IsAt handle_cmp c.self.inside.pairs.items c.of.result c.in-Some.position =
-    rw (c.of.ensures, sym c.deref.ensures.value) c.in-Some.ensures in
+    let at : IsAt handle_cmp c.self.inside.pairs.items c.of.result c.in-Some.position = rw
+    (c.of.ensures, sym c.deref.ensures.value) c.in-Some.ensures in
     ap (λ m. map.get m q) (map_set total same _ c.self.invariant _ _ 4294967295 at)
     ∙ get-insert_other total same _ c.of.result 4294967295 q (λ is. n (is ∙ c.of.ensures))
     ∙ ap (λ (p : Places). map.get p.by_handle q) c.self.view_is ∙ old

@@ -1,7 +1,6 @@
 use Rattle.std.proofs.Common.{sym, rules}
 use Rattle.std.proofs.lemmas.Bool.{false≢true}
-use Rattle.ent_handle.specs.Handle.{handle_cmp, handle_cmp_total as total}
-use Rattle.ent_handle.specs.Handle.{handle_cmp-IsAntisymmetric as same}
+use Rattle.ent_handle.specs.Handle.{handle_cmp, handle_cmp_total as total, handle_cmp-IsAntisymmetric as same}
 use Rattle.ent_storage.specs.Position.{IsAt}
 use Rattle.ent_storage.proofs.Rising.{get_in_gap, rising_set, map_set}
 use Rattle.ent_storage.proofs.SamePlaces.{same_places}
@@ -9,14 +8,14 @@ use Rattle.ent_storage.proofs.index.Index.set_place.Goals as goal
 
 pub invariant_of-self : goal.invariant_of-self
 invariant_of-self c =
-    let at : IsAt handle_cmp c.self.inside.pairs.items c.of.result c.in-Ok.position =
-    rw (c.of.ensures, sym c.deref.ensures.value) c.in-Ok.ensures.found in
+    let at : IsAt handle_cmp c.self.inside.pairs.items c.of.result c.in-Ok.position = rw
+    (c.of.ensures, sym c.deref.ensures.value) c.in-Ok.ensures.found in
     rising_set total same _ c.self.invariant _ _ c.args.place at
 
 pub returns-in-Ok : goal.returns-in-Ok
 returns-in-Ok c =
-    let at : IsAt handle_cmp c.self.inside.pairs.items c.of.result c.in-Ok.position =
-    rw (c.of.ensures, sym c.deref.ensures.value) c.in-Ok.ensures.found in
+    let at : IsAt handle_cmp c.self.inside.pairs.items c.of.result c.in-Ok.position = rw
+    (c.of.ensures, sym c.deref.ensures.value) c.in-Ok.ensures.found in
     let by_handle = map_set total same _ c.self.invariant _ _ c.args.place at in
     search (rules, same_places, by_handle, c.of.ensures, c.self.view_is)
 

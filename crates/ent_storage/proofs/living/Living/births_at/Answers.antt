@@ -12,8 +12,8 @@ use Rattle.ent_storage.proofs.living.Living.births_at.Goals as goal
 
 pub index-resident-requires : goal.index-resident-requires
 index-resident-requires c =
-    let inside = inside_from c.self.inside.residents.items c.self.inside.columns.items _
-    c.args.self.now _ c.self.view_is (c.requires c.loop-pair.pair-index (0, pos 0) (omega arith)) in
+    let inside = inside_from c.self.inside.residents.items c.self.inside.columns.items _ c.args.self.now _
+    c.self.view_is (c.requires c.loop-pair.pair-index (0, pos 0) (omega arith)) in
     omega (arith, inside, c.self.inside.residents.ok.0)
 
 pub loop-pair-preserved : goal.loop-pair-preserved
@@ -24,17 +24,14 @@ loop-pair-preserved c =
     let p = (get_or pairs i (0, pos 0)).0 in
     let resident = c.index-resident.result.now in
     let born : Birth × Handle = (resident.birth, resident.handle) in
-    let inside = inside_from residents c.self.inside.columns.items _ c.args.self.now p
-    c.self.view_is (c.requires i (0, pos 0) (omega arith)) in
-    let at = slice_get-get_or residents p resident inside ∙ ap Some (sym c.index-resident.ensures)
-    in
+    let inside = inside_from residents c.self.inside.columns.items _ c.args.self.now p c.self.view_is
+    (c.requires i (0, pos 0) (omega arith)) in
+    let at = slice_get-get_or residents p resident inside ∙ ap Some (sym c.index-resident.ensures) in
     let here = ap (λ (l : Living). born_at l.entities p) (sym c.self.view_is)
-    ∙ born_get residents c.self.inside.columns.items 0 p
-    ∙ ap (option_map {U = Birth × Handle} (λ (r : Resident). (r.birth, r.handle))) at in
-    let more = map_more (λ (pair : ℕ × ℤ). born_at c.args.self.now.entities pair.0) pairs i
-    (0, pos 0) (omega arith) in
-    let push = map_push {X = Birth × Handle} {Y = Option (Birth × Handle)} Some
-    c.loop-pair.births.items born in
+    ∙ born_get residents c.self.inside.columns.items 0 p ∙ ap
+    (option_map {U = Birth × Handle} (λ (r : Resident). (r.birth, r.handle))) at in
+    let more = map_more (λ (pair : ℕ × ℤ). born_at c.args.self.now.entities pair.0) pairs i (0, pos 0) (omega arith) in
+    let push = map_push {X = Birth × Handle} {Y = Option (Birth × Handle)} Some c.loop-pair.births.items born in
     rw (c.in_ok-push.ensures.items, push, c.loop-pair.invariant, sym here) (sym more)
 
 pub returns-clause-ok : goal.returns-clause-ok

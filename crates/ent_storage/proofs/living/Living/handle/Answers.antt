@@ -6,13 +6,11 @@ use Rattle.ent_storage.proofs.living.Living.handle.Goals as goal
 
 pub index-requires : goal.index-requires
 index-requires c =
-    let inside = inside_from c.self.inside.residents.items c.self.inside.columns.items _
-    c.args.self.now c.args.place c.self.view_is c.requires in
+    let inside = inside_from c.self.inside.residents.items c.self.inside.columns.items _ c.args.self.now c.args.place
+    c.self.view_is c.requires in
     omega (arith, inside, c.self.inside.residents.ok.0)
 
 pub returns : goal.returns
-returns c d =
-    ap (λ (resident : Resident). resident.handle) c.index.ensures
-    ∙ sym (ap (λ (e : LivingEntity). e.handle) (read_from c.self.inside.residents.items
-    c.self.inside.columns.items _ c.args.self.now c.args.place c.self.view_is c.requires
-    c.index.result.now d))
+returns c d = ap (λ (resident : Resident). resident.handle) c.index.ensures
+    ∙ sym (ap (λ (e : LivingEntity). e.handle) (read_from c.self.inside.residents.items c.self.inside.columns.items _
+    c.args.self.now c.args.place c.self.view_is c.requires c.index.result.now d))

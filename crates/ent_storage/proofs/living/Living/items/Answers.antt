@@ -9,6 +9,6 @@ new-requires c = rw (c.deref.ensures.value, c.deref-2.ensures.value) c.self.inva
 pub returns : goal.returns
 returns c d =
     let resident : Resident = record { handle = d.handle; birth = d.birth } in
-    let read = read_from c.self.inside.residents.items c.self.inside.columns.items _ c.args.self.now
-    c.args.place c.self.view_is c.requires resident d in
+    let read = read_from c.self.inside.residents.items c.self.inside.columns.items _ c.args.self.now c.args.place
+    c.self.view_is c.requires resident d in
     search (rules, read, c.new.ensures, c.deref.ensures.value)

@@ -10,30 +10,24 @@ use Rattle.ent_storage.proofs.EntitiesOfResidents.{value_from}
 use Rattle.ent_storage.proofs.living.Living.pairs.Goals as goal
 
 -- the entity has the value that the columns have at its place
-is_value : (residents : List Resident) (columns : List Column) (room : ℕ) (living : Living)
-    (place : ℕ) (id : ComponentId) → record {
-      entities = entities_from 0 residents columns;
-      room = room;
-    } ≡ living → AreColumnsOf (length residents) columns
-    → option_and_then (λ (e : LivingEntity). finite.get e.components id)
+is_value : (residents : List Resident) (columns : List Column) (room : ℕ) (living : Living) (place : ℕ)
+    (id : ComponentId) → record { entities = entities_from 0 residents columns; room = room } ≡ living
+    → AreColumnsOf (length residents) columns → option_and_then (λ (e : LivingEntity). finite.get e.components id)
     (slice_get living.entities place) ≡ value_at columns place id
 is_value residents columns room living place id is within = search (rules, value_from)
 
 pub returns-in-Some-clause-has : goal.returns-in-Some-clause-has
 returns-in-Some-clause-has c place v at =
     let column = (rw c.deref.ensures.value at c.in-Some.ensures.lookup).3.1 no_column in
-    is_value c.self.inside.residents.items c.self.inside.columns.items _ c.args.self.now place
-    c.args.id c.self.view_is c.self.invariant.0
-    ∙ ap (λ (m : Column). finite.get m.values place) (sym column)
-    ∙ c.pairs.ensures.has place v at
+    is_value c.self.inside.residents.items c.self.inside.columns.items _ c.args.self.now place c.args.id c.self.view_is
+    c.self.invariant.0 ∙ ap (λ (m : Column). finite.get m.values place) (sym column) ∙ c.pairs.ensures.has place v at
 
 pub returns-in-Some-clause-all : goal.returns-in-Some-clause-all
 returns-in-Some-clause-all c place v is =
     let column = (rw c.deref.ensures.value at c.in-Some.ensures.lookup).3.1 no_column in
-    c.pairs.ensures.all place v
-    (ap (λ (m : Column). finite.get m.values place) column
-    ∙ sym (is_value c.self.inside.residents.items c.self.inside.columns.items _ c.args.self.now
-    place c.args.id c.self.view_is c.self.invariant.0) ∙ is)
+    c.pairs.ensures.all place v (ap (λ (m : Column). finite.get m.values place) column
+    ∙ sym (is_value c.self.inside.residents.items c.self.inside.columns.items _ c.args.self.now place c.args.id
+    c.self.view_is c.self.invariant.0) ∙ is)
 
 pub returns-in-Some-clause-once : goal.returns-in-Some-clause-once
 returns-in-Some-clause-once c i j d l k e = search (rules, slice_get-get_or)
@@ -42,5 +36,5 @@ pub returns-in-None-clause-all : goal.returns-in-None-clause-all
 returns-in-None-clause-all c place v is =
     let past = (rw c.deref.ensures.value at c.in-None.ensures.lookup).3 in
     absurd (none-some v (sym (taken_none c.self.inside.columns.items place c.args.id past).0
-    ∙ sym (is_value c.self.inside.residents.items c.self.inside.columns.items _ c.args.self.now
-    place c.args.id c.self.view_is c.self.invariant.0) ∙ is))
+    ∙ sym (is_value c.self.inside.residents.items c.self.inside.columns.items _ c.args.self.now place c.args.id
+    c.self.view_is c.self.invariant.0) ∙ is))

@@ -1,8 +1,7 @@
 use Rattle.std.proofs.Common.{rules, length, inr, arith}
 use Rattle.ent_storage.specs.declared.living.Resident.{Resident}
 use Rattle.ent_storage.proofs.ColumnsAtPlaces.{get_components}
-use Rattle.ent_storage.proofs.EntitiesOfResidents.{read_from, inside_from, changed_from}
-use Rattle.ent_storage.proofs.EntitiesOfResidents.{changed_within, written_back}
+use Rattle.ent_storage.proofs.EntitiesOfResidents.{read_from, inside_from, changed_from, changed_within, written_back}
 use Rattle.ent_storage.proofs.InUse.{in_use_changed}
 use Rattle.ent_storage.proofs.living.Living.remove.Goals as goal
 
@@ -25,8 +24,8 @@ invariant_of-self c =
 pub returns-clause-value : goal.returns-clause-value
 returns-clause-value c d =
     let resident : Resident = record { handle = d.handle; birth = d.birth } in
-    let read = read_from c.self.inside.residents.items c.self.inside.columns.items _ c.args.self.now
-    c.args.place c.self.view_is c.requires resident d in
+    let read = read_from c.self.inside.residents.items c.self.inside.columns.items _ c.args.self.now c.args.place
+    c.self.view_is c.requires resident d in
     search (rules, read, get_components, c.remove.ensures.value, c.deref_mut.ensures.value)
 
 pub returns-clause-entities : goal.returns-clause-entities

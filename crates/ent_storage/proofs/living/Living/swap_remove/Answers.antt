@@ -7,8 +7,8 @@ use Rattle.ent_storage.proofs.living.Living.swap_remove.Goals as goal
 -- the place is one of the residents'
 inside : (c : After-self) → c.args.place < vec_len c.self.inside.residents
 inside c =
-    let within = inside_from c.self.inside.residents.items c.self.inside.columns.items _
-    c.args.self.now c.args.place c.self.view_is c.requires in
+    let within = inside_from c.self.inside.residents.items c.self.inside.columns.items _ c.args.self.now c.args.place
+    c.self.view_is c.requires in
     omega (arith, c.self.inside.residents.ok.0)
 
 pub swap_remove-requires : goal.swap_remove-requires
@@ -23,15 +23,14 @@ swap_remove-requires-2 c = inside (goal.at.swap_remove-requires-2 c).After-self
 -- the last entity has moved into the place
 after : (c : After-swap_remove-2) → c.args.place < vec_len c.self.inside.residents
     → length c.swap_remove.new.columns ≡ length c.self.inside.columns.items
-    → IsMovedInto (entities_from 0 c.self.inside.residents.items c.self.inside.columns.items)
-    c.args.place (entities_from 0 c.swap_remove-2.new.self.items c.swap_remove.new.columns)
+    → IsMovedInto (entities_from 0 c.self.inside.residents.items c.self.inside.columns.items) c.args.place
+    (entities_from 0 c.swap_remove-2.new.self.items c.swap_remove.new.columns)
     × AreColumnsOf (length c.swap_remove-2.new.self.items) c.swap_remove.new.columns
 after c inside as_many =
     let down = rw (c.deref_mut.ensures.value, c.len-last.ensures) at c.swap_remove.ensures.moved in
-    moved c.self.inside.residents.items c.swap_remove-2.new.self.items c.args.place _ _
-    c.self.inside.residents.ok.0 c.swap_remove-2.new.self.ok.0 c.swap_remove-2.ensures.len
-    inside c.swap_remove-2.ensures.by_index c.self.inside.columns.items
-    c.swap_remove.new.columns down as_many c.self.invariant.0
+    moved c.self.inside.residents.items c.swap_remove-2.new.self.items c.args.place _ _ c.self.inside.residents.ok.0
+    c.swap_remove-2.new.self.ok.0 c.swap_remove-2.ensures.len inside c.swap_remove-2.ensures.by_index
+    c.self.inside.columns.items c.swap_remove.new.columns down as_many c.self.invariant.0
 
 pub invariant_of-self : goal.invariant_of-self
 invariant_of-self c =

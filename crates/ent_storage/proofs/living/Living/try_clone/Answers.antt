@@ -6,10 +6,8 @@ use Rattle.ent_storage.proofs.living.Living.try_clone.Goals as goal
 
 pub invariant_of-result : goal.invariant_of-result
 invariant_of-result c =
-    let copies : AllZip IsCopy c.self.inside.columns.items c.in_ok-try_clone.field-0.items =
-    search rules in
-    let residents : c.extend_from_slice.new.self.items ≡ c.self.inside.residents.items =
-    search rules in
+    let copies : AllZip IsCopy c.self.inside.columns.items c.in_ok-try_clone.field-0.items = search rules in
+    let residents : c.extend_from_slice.new.self.items ≡ c.self.inside.residents.items = search rules in
     let used : c.extend_from_slice-2.new.self.items ≡ c.self.inside.used.items = search rules in
     rw (residents, used) (
       columns_copied _ _ copies (length c.self.inside.residents.items) c.self.invariant.0,
@@ -18,13 +16,6 @@ invariant_of-result c =
 
 pub returns-clause-entities : goal.returns-clause-entities
 returns-clause-entities c =
-    let copies : AllZip IsCopy c.self.inside.columns.items c.in_ok-try_clone.field-0.items =
-    search rules in
-    let residents : c.extend_from_slice.new.self.items ≡ c.self.inside.residents.items =
-    search rules in
-    search (
-      rules,
-      residents,
-      entities_copied _ _ copies c.self.inside.residents.items,
-      c.self.view_is,
-    )
+    let copies : AllZip IsCopy c.self.inside.columns.items c.in_ok-try_clone.field-0.items = search rules in
+    let residents : c.extend_from_slice.new.self.items ≡ c.self.inside.residents.items = search rules in
+    search (rules, residents, entities_copied _ _ copies c.self.inside.residents.items, c.self.view_is)

@@ -4,12 +4,10 @@ use Rattle.ent_storage.proofs.sparse_map.SparseMap.shrink_to_fit.Goals as goal
 
 pub returns-clause-fits : goal.returns-clause-fits
 returns-clause-fits g c =
-    let count = counted c.self.inside.entries.items c.self.inside.positions.items
-    c.self.invariant in
+    let count = counted c.self.inside.entries.items c.self.inside.positions.items c.self.invariant in
     search (rules, count, c.self.view_is)
 
 pub returns-clause-frees : goal.returns-clause-frees
 returns-clause-frees g c =
-    let count = counted c.self.inside.entries.items c.self.inside.positions.items
-    c.self.invariant in
+    let count = counted c.self.inside.entries.items c.self.inside.positions.items c.self.invariant in
     search (rules, count, c.self.view_is)

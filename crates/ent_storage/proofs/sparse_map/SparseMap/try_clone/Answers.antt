@@ -6,8 +6,7 @@ use Rattle.ent_storage.proofs.sparse_map.SparseMap.try_clone.Given.{Over}
 use Rattle.ent_storage.proofs.sparse_map.SparseMap.try_clone.Goals as goal
 
 -- the new entries are clones of the old ones
-clones : (g : Over) (c : goal.After-of g)
-    → AllZip (IsEntryClone g.T.Clone.is_clone) c.self.inside.entries.items
+clones : (g : Over) (c : goal.After-of g) → AllZip (IsEntryClone g.T.Clone.is_clone) c.self.inside.entries.items
     c.append_entries.new.entries.items
 clones g c = search rules
 
@@ -22,13 +21,10 @@ returns-in_err-append_entries-clause-memory g c =
     search (rules, some, c.self.view_is)
 
 pub invariant_of-result : goal.invariant_of-result
-invariant_of-result g c =
-    cloned_positioned g.T.Clone.is_clone c.self.inside.entries.items _
+invariant_of-result g c = cloned_positioned g.T.Clone.is_clone c.self.inside.entries.items _
     c.self.inside.positions.items _ (clones g c) c.self.invariant (search rules)
 
 pub returns-clause-clones : goal.returns-clause-clones
-returns-clause-clones g c =
-    cloned g.T.Clone.is_clone c.self.inside.entries.items c.append_entries.new.entries.items
-    c.self.inside.positions.items c.extend_from_slice.new.self.items (clones g c)
-    c.self.invariant (search rules) _
+returns-clause-clones g c = cloned g.T.Clone.is_clone c.self.inside.entries.items c.append_entries.new.entries.items
+    c.self.inside.positions.items c.extend_from_slice.new.self.items (clones g c) c.self.invariant (search rules) _
     (ap (λ (m : SparseMap g.row.T.Denot). m.values) c.self.view_is)

@@ -30,14 +30,11 @@ returns-in_err-cloned-clause-refused g c =
 
 -- the new entries are clones of the source's
 pub invariant_of-self-2 : goal.invariant_of-self-2
-invariant_of-self-2 g c =
-    cloned_positioned g.T.Clone.is_clone c.source.inside.entries.items
-    c.append_entries-cloned.new.entries.items c.source.inside.positions.items
-    c.overwrite.new.list.items (search rules) c.source.invariant (search rules)
+invariant_of-self-2 g c = cloned_positioned g.T.Clone.is_clone c.source.inside.entries.items
+    c.append_entries-cloned.new.entries.items c.source.inside.positions.items c.overwrite.new.list.items (search rules)
+    c.source.invariant (search rules)
 
 pub returns-clause-clones : goal.returns-clause-clones
-returns-clause-clones g c =
-    cloned g.T.Clone.is_clone c.source.inside.entries.items
-    c.append_entries-cloned.new.entries.items c.source.inside.positions.items
-    c.overwrite.new.list.items (search rules) c.source.invariant (search rules) _
-    (ap (λ (m : SparseMap g.row.T.Denot). m.values) c.source.view_is)
+returns-clause-clones g c = cloned g.T.Clone.is_clone c.source.inside.entries.items
+    c.append_entries-cloned.new.entries.items c.source.inside.positions.items c.overwrite.new.list.items (search rules)
+    c.source.invariant (search rules) _ (ap (λ (m : SparseMap g.row.T.Denot). m.values) c.source.view_is)

@@ -11,8 +11,8 @@ index_mut-requires-in-Some c =
     let inside = rw c.deref.ensures.value at c.in-Some.ensures.inside in
     let here = pair_here D c.in-Some.position c.args.from inside at c.index_mut.result.now in
     let free = ap (λ (m : Column). map.get m.values c.args.to) c.self.view_is ∙ c.requires.free in
-    let room = place_inside D c.self.inside.sparse.items c.self.invariant c.in-Some.position
-    c.args.from c.args.to _ here free c.requires.before in
+    let room = place_inside D c.self.inside.sparse.items c.self.invariant c.in-Some.position c.args.from c.args.to _
+    here free c.requires.before in
     omega (arith, room, c.self.inside.sparse.ok.0)
 
 -- the pair that is written has the value that was read
@@ -24,8 +24,8 @@ invariant_of-self c =
     let here = pair_here D c.in-Some.position c.args.from inside at c.index_mut.result.now in
     let free = ap (λ (m : Column). map.get m.values c.args.to) c.self.view_is ∙ c.requires.free in
     let read = ap (λ (x : ℕ × ℤ). x.1) c.index_mut.ensures.value in
-    rw read (renamed_dense D c.self.inside.sparse.items c.self.invariant c.in-Some.position
-    c.args.from c.args.to _ here free c.requires.before)
+    rw read (renamed_dense D c.self.inside.sparse.items c.self.invariant c.in-Some.position c.args.from c.args.to _ here
+    free c.requires.before)
 
 pub returns-in-Some : goal.returns-in-Some
 returns-in-Some c =
@@ -36,5 +36,5 @@ returns-in-Some c =
     let free = ap (λ (m : Column). map.get m.values c.args.to) c.self.view_is ∙ c.requires.free in
     let read = ap (λ (x : ℕ × ℤ). x.1) c.index_mut.ensures.value in
     let old = ap (λ (m : Column). m.values) c.self.view_is in
-    rw (← old, read) (renamed_values D c.self.inside.sparse.items c.self.invariant
-    c.in-Some.position c.args.from c.args.to _ here free c.requires.before)
+    rw (← old, read) (renamed_values D c.self.inside.sparse.items c.self.invariant c.in-Some.position c.args.from
+    c.args.to _ here free c.requires.before)

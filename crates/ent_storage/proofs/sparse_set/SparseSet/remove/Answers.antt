@@ -5,10 +5,8 @@ use Rattle.std.proofs.lemmas.Option.{slice_get-get_or}
 use Rattle.std.specs.FinMap as map
 use Rattle.ent_storage.specs.SparseSet.{Column, IsDense}
 use Rattle.ent_storage.proofs.ElementsAt.{IsFilled, filled}
-use Rattle.ent_storage.proofs.Dense.{has, pair_here, removed_values, popped_dense}
-use Rattle.ent_storage.proofs.Dense.{refilled_dense, in_sparse, removed_none}
-use Rattle.ent_storage.proofs.sparse_set.SparseSet.remove.Goals.{After-swap_remove-value}
-use Rattle.ent_storage.proofs.sparse_set.SparseSet.remove.Goals.{After-index, Else-position-len}
+use Rattle.ent_storage.proofs.Dense.{has, pair_here, removed_values, popped_dense, refilled_dense, in_sparse, removed_none}
+use Rattle.ent_storage.proofs.sparse_set.SparseSet.remove.Goals.{After-swap_remove-value, After-index, Else-position-len}
 use Rattle.ent_storage.proofs.sparse_set.SparseSet.remove.Goals as goal
 
 pub returns-in_err-position-clause-after : goal.returns-in_err-position-clause-after
@@ -16,15 +14,11 @@ returns-in_err-position-clause-after c = search (rules, removed_none)
 
 -- a pair of this place stood at the position
 here : (c : After-swap_remove-value) → slice_get c.self.inside.dense.items c.in_ok-position.position
-    ≡ Some (
-      c.args.place,
-      (get_or c.self.inside.dense.items c.in_ok-position.position c.swap_remove-value.result).1,
-    )
+    ≡ Some (c.args.place, (get_or c.self.inside.dense.items c.in_ok-position.position c.swap_remove-value.result).1)
 here c =
     let at = rw c.deref.ensures.value at c.in_ok-position.ensures.found in
     let inside = rw c.deref.ensures.value at c.in_ok-position.ensures.inside in
-    pair_here c.self.inside.dense.items c.in_ok-position.position c.args.place inside at
-    c.swap_remove-value.result
+    pair_here c.self.inside.dense.items c.in_ok-position.position c.args.place inside at c.swap_remove-value.result
 
 -- and the last one has filled it
 rest : (c : After-swap_remove-value) → IsFilled c.self.inside.dense.items c.in_ok-position.position
@@ -32,20 +26,16 @@ rest : (c : After-swap_remove-value) → IsFilled c.self.inside.dense.items c.in
 rest c = search (rules, filled)
 
 -- it had the value that is returned
-value : (c : After-swap_remove-value) → Some c.swap_remove-value.result.1
-    ≡ map.get c.args.self.now.values c.args.place
+value : (c : After-swap_remove-value) → Some c.swap_remove-value.result.1 ≡ map.get c.args.self.now.values c.args.place
 value c =
-    let found = has c.self.inside.dense.items c.self.inside.sparse.items c.self.invariant
-    c.in_ok-position.position c.args.place _ (here c) in
+    let found = has c.self.inside.dense.items c.self.inside.sparse.items c.self.invariant c.in_ok-position.position
+    c.args.place _ (here c) in
     search (rules, found, c.swap_remove-value.ensures.value, c.self.view_is)
 
 -- what is left is as the map without the place, whatever the sparse vector has then
-without : (c : After-swap_remove-value) (sparse : List ℕ)
-    → IsDense c.swap_remove-value.new.self.items sparse
-    → map.from_entries {R = nat_cmp} c.swap_remove-value.new.self.items
-    ≡ map.remove c.args.self.now.values c.args.place
-without c sparse dense =
-    removed_values _ _ c.self.invariant _ c.args.place _ (here c) _ (rest c) sparse dense
+without : (c : After-swap_remove-value) (sparse : List ℕ) → IsDense c.swap_remove-value.new.self.items sparse
+    → map.from_entries {R = nat_cmp} c.swap_remove-value.new.self.items ≡ map.remove c.args.self.now.values c.args.place
+without c sparse dense = removed_values _ _ c.self.invariant _ c.args.place _ (here c) _ (rest c) sparse dense
     ∙ ap (λ (column : Column). map.remove column.values c.args.place) c.self.view_is
 
 -- the pair that now stands there
@@ -54,8 +44,7 @@ read : (c : After-index) → slice_get c.swap_remove-value.new.self.items c.in_o
 read c = search (rules, slice_get-get_or)
 
 -- the pair was the last
-last : (c : Else-position-len) → length c.swap_remove-value.new.self.items
-    ≤ c.in_ok-position.position
+last : (c : Else-position-len) → length c.swap_remove-value.new.self.items ≤ c.in_ok-position.position
 last c = omega (arith, c.if-position-len.false, c.len.ensures, c.swap_remove-value.new.self.ok.0)
 
 -- the place of the pair that fills the hole
@@ -85,10 +74,9 @@ returns-then-position-len c =
     let at = (goal.at.returns-then-position-len c).After-swap_remove-value in
     record {
       value = search (rules, to_z-of_z, value);
-      after = without at _ (refilled_dense c.self.inside.dense.items c.self.inside.sparse.items
-          c.self.invariant c.in_ok-position.position c.args.place _ (here at)
-          c.swap_remove-value.new.self.items (rest at) c.index.result.now.0 c.index.result.now.1
-          (read (goal.at.returns-then-position-len c).After-index));
+      after = without at _ (refilled_dense c.self.inside.dense.items c.self.inside.sparse.items c.self.invariant
+          c.in_ok-position.position c.args.place _ (here at) c.swap_remove-value.new.self.items (rest at)
+          c.index.result.now.0 c.index.result.now.1 (read (goal.at.returns-then-position-len c).After-index));
       absent = search rules;
     }
 
@@ -97,9 +85,8 @@ returns-else-position-len c =
     let at = (goal.at.returns-else-position-len c).After-swap_remove-value in
     record {
       value = search (rules, to_z-of_z, value);
-      after = without at _ (popped_dense c.self.inside.dense.items c.self.inside.sparse.items
-          c.self.invariant c.in_ok-position.position c.args.place _ (here at)
-          c.swap_remove-value.new.self.items (rest at)
+      after = without at _ (popped_dense c.self.inside.dense.items c.self.inside.sparse.items c.self.invariant
+          c.in_ok-position.position c.args.place _ (here at) c.swap_remove-value.new.self.items (rest at)
           (last (goal.at.returns-else-position-len c).Else-position-len));
       absent = search rules;
     }

@@ -12,13 +12,13 @@ returns-in-Some c =
     let at = rw c.deref.ensures.value at c.in-Some.ensures.found in
     let inside = rw c.deref.ensures.value at c.in-Some.ensures.inside in
     let here = pair_here D c.in-Some.position c.args.place inside at (c.args.place, c.args.value) in
-    let over = over_values D c.self.inside.sparse.items c.self.invariant c.in-Some.position
-    c.args.place _ c.args.value here in
+    let over = over_values D c.self.inside.sparse.items c.self.invariant c.in-Some.position c.args.place _ c.args.value
+    here in
     search (rules, is, over, c.self.view_is)
 
 -- the place has no value
-none_there : (c : goal.After-push_reserved)
-    → map.get (map.from_entries {R = nat_cmp} c.self.inside.dense.items) c.args.place ≡ None
+none_there : (c : goal.After-push_reserved) → map.get (map.from_entries {R = nat_cmp} c.self.inside.dense.items)
+    c.args.place ≡ None
 none_there c = rw c.deref.ensures.value at (c.in-None.ensures.absent refl)
 
 in_sparse : (c : goal.After-push_reserved) → c.args.place < length c.self.inside.sparse.items
@@ -30,6 +30,6 @@ invariant_of-self-in-None c = search (rules, to_z-of_z, pushed_dense, none_there
 pub returns-in-None : goal.returns-in-None
 returns-in-None c =
     let is = to_z-of_z w64 c.args.value (search rules) in
-    let put = pushed_values c.self.inside.dense.items c.self.inside.sparse.items c.self.invariant
-    c.args.place c.args.value (none_there c) (in_sparse c) in
+    let put = pushed_values c.self.inside.dense.items c.self.inside.sparse.items c.self.invariant c.args.place
+    c.args.value (none_there c) (in_sparse c) in
     search (rules, is, put, c.push_reserved.ensures.items, c.self.view_is)

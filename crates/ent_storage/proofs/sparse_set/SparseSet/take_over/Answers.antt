@@ -7,8 +7,7 @@ use Rattle.ent_storage.proofs.sparse_set.SparseSet.take_over.Goals as goal
 
 -- the source has values
 some : (c : Then-not-is_empty) → c.args.source.now.values ≢ map.empty
-some c none =
-    some_values c.source.inside.dense.items c.source.inside.sparse.items c.source.invariant
+some c none = some_values c.source.inside.dense.items c.source.inside.sparse.items c.source.invariant
     (λ zero. search (rules, zero, c.source.inside.dense.ok.0, c.if-not-is_empty.true))
     (ap (λ (m : Column). m.values) c.source.view_is ∙ none)
 
@@ -36,14 +35,8 @@ overwrite-requires-then-not-is_empty c =
     let fits = its (goal.at.overwrite-requires-then-not-is_empty c).Then-not-is_empty in
     let places = ap (λ (m : Column). m.places) c.source.view_is in
     let room = ap (λ (m : Column). m.place_room) c.self.view_is in
-    omega (
-      arith,
-      fits.places,
-      places,
-      room,
-      ap length c.deref-then-not-is_empty.ensures.value,
-      c.source.inside.sparse.ok.0,
-    )
+    omega
+    (arith, fits.places, places, room, ap length c.deref-then-not-is_empty.ensures.value, c.source.inside.sparse.ok.0)
 
 -- a set without room takes over none
 pub returns-then-not-is_empty-clause-none : goal.returns-then-not-is_empty-clause-none

@@ -5,8 +5,7 @@ use Rattle.ent_storage.proofs.storage.Storage.birth.Goals.{After-self}
 use Rattle.ent_storage.proofs.storage.Storage.birth.Goals as goal
 
 -- the place is that of the handle
-at : (c : After-self) → IsEntityAt c.self.inside.living.entities c.args.self.now c.args.handle
-    c.in_ok-place.place
+at : (c : After-self) → IsEntityAt c.self.inside.living.entities c.args.self.now c.args.handle c.in_ok-place.place
 at c = entity_at _ _ _ _ c.self.invariant.indexed c.self.view_is c.args.handle c.in_ok-place.place
     ((c.in_ok-place.ensures.at c.in_ok-place.place).0 refl)
 

@@ -1,5 +1,4 @@
-use Rattle.std.proofs.Common.{rules, ◌≡◌, ◌<◌, length, min, Some, None, Option, is_none, is_some}
-use Rattle.std.proofs.Common.{true, false, refl, sym, ap, ◌∙◌, arith}
+use Rattle.std.proofs.Common.{rules, ◌≡◌, ◌<◌, length, min, Some, None, Option, is_none, is_some, true, false, refl, sym, ap, ◌∙◌, arith}
 use Rattle.std.proofs.lemmas.Bool.{false≢true}
 use Rattle.std.specs.FinMap as map
 use Rattle.ent_storage.specs.Living.{LivingEntity}
@@ -21,19 +20,15 @@ some_from_test (Some x) e = refl
 pub invariant_of-self : goal.invariant_of-self
 invariant_of-self c =
     let new = none_from_test _ (sym c.put.ensures.new ∙ c.if-put.true) in
-    let entity : LivingEntity = record {
-      handle = c.args.handle;
-      birth = c.args.birth;
-      components = map.empty;
-    } in
+    let entity : LivingEntity = record { handle = c.args.handle; birth = c.args.birth; components = map.empty } in
     let room = ap (λ (s : Store). s.spare) c.self.view_is in
-    let fits : length c.self.inside.living.entities < min c.self.inside.living.room
-    c.self.inside.index.room = omega (arith, room, c.requires) in
+    let fits : length c.self.inside.living.entities < min c.self.inside.living.room c.self.inside.index.room = omega
+    (arith, room, c.requires) in
     let keeps = c.put.ensures.kept c.if-put.true in
     rw (c.push.ensures.entities, c.push.ensures.room, c.put.ensures.room)
     (kept_push c.self.inside.living.entities c.self.inside.index.by_handle
-    (min c.self.inside.living.room c.self.inside.index.room) c.self.invariant entity
-    c.put.new.self.by_handle new fits (c.put.ensures.placed c.if-put.true) keeps)
+    (min c.self.inside.living.room c.self.inside.index.room) c.self.invariant entity c.put.new.self.by_handle new fits
+    (c.put.ensures.placed c.if-put.true) keeps)
 
 pub returns-then-put-clause-ok : goal.returns-then-put-clause-ok
 returns-then-put-clause-ok c = search (rules, none_from_test, entities_push)

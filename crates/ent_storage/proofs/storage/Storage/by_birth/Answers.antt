@@ -1,5 +1,4 @@
-use Rattle.std.proofs.Common.{rules, ◌≡◌, ◌≢◌, ◌<◌, ℕ, List, length, true, map as mapped, ap, sym}
-use Rattle.std.proofs.Common.{◌∙◌}
+use Rattle.std.proofs.Common.{rules, ◌≡◌, ◌≢◌, ◌<◌, ℕ, List, length, true, map as mapped, ap, sym, ◌∙◌}
 use Rattle.std.proofs.lemmas.List.{length-map}
 use Rattle.std.specs.FinMap as map
 use Rattle.ent_handle.specs.Handle.{handle_cmp}
@@ -15,24 +14,20 @@ use Rattle.ent_storage.proofs.storage.Storage.by_birth.Goals as goal
 pub returns-clause-ok : goal.returns-clause-ok
 returns-clause-ok c =
     let living = c.self.inside.living.entities in
-    let births = c.in_ok-births.ensures.ok
-    ∙ ap (mapped (λ (entity : LivingEntity). (entity.birth, entity.handle)))
+    let births = c.in_ok-births.ensures.ok ∙ ap (mapped (λ (entity : LivingEntity). (entity.birth, entity.handle)))
     (sym (filter-all living)) in
     let are = ap (λ (s : Store). s.entities) c.self.view_is in
     rw (← are) (lists living (counted c.self.inside.living.entities c.self.inside.index.by_handle)
     c.self.invariant.indexed (λ _. true) _ (rw births at c.in_ok-handles_in_order.ensures.ok))
 
 -- a map of somebody is not the empty one
-not_empty : (living : List LivingEntity) (index : map.FinMap handle_cmp ℕ)
-    → IsIndexed living index → (m : EntityMap) → map_of living ≡ m → 0 < length living → m
-    ≢ map.empty
+not_empty : (living : List LivingEntity) (index : map.FinMap handle_cmp ℕ) → IsIndexed living index → (m : EntityMap)
+    → map_of living ≡ m → 0 < length living → m ≢ map.empty
 not_empty living index indexed m view some none =
-    let len : map.len m ≡ 0 = ap map.len none ∙ map.len-empty handle_cmp Entity in
-    search (rules, len_living)
+    let len : map.len m ≡ 0 = ap map.len none ∙ map.len-empty handle_cmp Entity in search (rules, len_living)
 
 pub returns-in_err-births-clause-memory : goal.returns-in_err-births-clause-memory
 returns-in_err-births-clause-memory c = search (rules, on_err, not_empty)
 
-pub returns-in_err-handles_in_order-clause-memory :
-    goal.returns-in_err-handles_in_order-clause-memory
+pub returns-in_err-handles_in_order-clause-memory : goal.returns-in_err-handles_in_order-clause-memory
 returns-in_err-handles_in_order-clause-memory c = search (rules, length-map, on_err, not_empty)

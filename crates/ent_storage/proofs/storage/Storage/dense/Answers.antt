@@ -9,7 +9,5 @@ returns-clause-has c place value =
     let living = c.self.inside.living.entities in
     let index = counted living c.self.inside.index.by_handle in
     let same = same_value living index c.self.invariant.indexed c.args.id place
-    ∙ ap (λ (s : Store). value_at_place s place c.args.id) c.self.view_is in (
-      λ at. sym same ∙ c.pairs.ensures.has place value at,
-      λ is. c.pairs.ensures.all place value (same ∙ is),
-    )
+    ∙ ap (λ (s : Store). value_at_place s place c.args.id) c.self.view_is in
+    (λ at. sym same ∙ c.pairs.ensures.has place value at, λ is. c.pairs.ensures.all place value (same ∙ is))

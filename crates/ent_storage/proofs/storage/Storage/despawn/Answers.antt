@@ -7,8 +7,7 @@ use Rattle.ent_storage.proofs.storage.Storage.despawn.Goals as goal
 
 -- who was taken out is not there
 pub forget-requires : goal.forget-requires
-forget-requires c =
-    ap (λ m. map.get m c.args.handle) c.despawn_at.ensures.entities
+forget-requires c = ap (λ m. map.get m c.args.handle) c.despawn_at.ensures.entities
     ∙ get-remove_same total same _ c.args.handle c.args.handle refl
 
 -- it was taken out at its place

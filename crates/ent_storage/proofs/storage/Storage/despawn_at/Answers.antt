@@ -1,5 +1,4 @@
-use Rattle.std.proofs.Common.{rules, ◌≡◌, ℕ, ◌<◌, ◌≤◌, List, length, get_or, min, Some, slice_get}
-use Rattle.std.proofs.Common.{ap, ◌∙◌, arith}
+use Rattle.std.proofs.Common.{rules, ◌≡◌, ℕ, ◌<◌, ◌≤◌, List, length, get_or, min, Some, slice_get, ap, ◌∙◌, arith}
 use Rattle.std.proofs.lemmas.Grind.{common_steps}
 use Rattle.std.specs.FinMap as map
 use Rattle.std.proofs.lemmas.List.{length-map}
@@ -12,17 +11,15 @@ use Rattle.ent_storage.proofs.Indexed.{some_entity}
 use Rattle.ent_storage.proofs.Counted.{kept_moved, kept_popped, moved_counts}
 use Rattle.ent_storage.proofs.Placed.{placed_from_place, from_place, handles_without, at_place}
 use Rattle.ent_storage.proofs.TakenOut.{moved_is_there, entities_moved, entities_popped}
-use Rattle.ent_storage.proofs.storage.Storage.despawn_at.Goals.{After-self, After-handle-moved}
-use Rattle.ent_storage.proofs.storage.Storage.despawn_at.Goals.{Else-place-len}
+use Rattle.ent_storage.proofs.storage.Storage.despawn_at.Goals.{After-self, After-handle-moved, Else-place-len}
 use Rattle.ent_storage.proofs.storage.Storage.despawn_at.Goals as goal
 
 -- the place is one of the entities', and the index has it
-at : (c : After-self) → slice_get (handles_by_place c.self.inside.living.entities) c.args.place
-    ≡ Some c.args.handle
+at : (c : After-self) → slice_get (handles_by_place c.self.inside.living.entities) c.args.place ≡ Some c.args.handle
 at c = ap (λ (s : Store). slice_get s.places c.args.place) c.self.view_is ∙ c.requires
 
-placed : (c : After-self) → map.get (counted c.self.inside.living.entities
-    c.self.inside.index.by_handle) c.args.handle ≡ Some c.args.place
+placed : (c : After-self) → map.get (counted c.self.inside.living.entities c.self.inside.index.by_handle) c.args.handle
+    ≡ Some c.args.place
 placed c = search (rules, placed_from_place)
 
 -- the entity that is now in the place was the last
@@ -34,8 +31,8 @@ record IsMoved (left : List LivingEntity) (h moved : Handle) (place : ℕ) : Typ
   read : now_at left h place ≡ get_or left place (now_at left h place)
   is : moved ≡ (now_at left h place).handle
 
-moved : (c : After-handle-moved) → IsMoved c.swap_remove.new.self.entities c.args.handle
-    c.handle-moved.result c.args.place
+moved : (c : After-handle-moved) → IsMoved c.swap_remove.new.self.entities c.args.handle c.handle-moved.result
+    c.args.place
 moved c = grind (arith, common_steps)
 
 -- or the one that is gone was
@@ -52,10 +49,9 @@ pub set_place-requires-clause-there : goal.set_place-requires-clause-there
 set_place-requires-clause-there c =
     let at = goal.at.set_place-requires-clause-there c in
     let moved = moved at.After-handle-moved in
-    rw moved.is
-    (moved_counts c.self.inside.living.entities c.self.inside.index.by_handle c.args.handle _
-    (moved_is_there c.self.inside.living.entities _ c.self.invariant.indexed c.args.handle
-    c.args.place (placed at.After-self) _ c.swap_remove.ensures.entities moved.room _ moved.read))
+    rw moved.is (moved_counts c.self.inside.living.entities c.self.inside.index.by_handle c.args.handle _
+    (moved_is_there c.self.inside.living.entities _ c.self.invariant.indexed c.args.handle c.args.place
+    (placed at.After-self) _ c.swap_remove.ensures.entities moved.room _ moved.read))
 
 pub invariant_of-self : goal.invariant_of-self
 invariant_of-self c =
@@ -63,19 +59,17 @@ invariant_of-self c =
     let moved = moved at.After-handle-moved in
     rw (c.set_place.ensures, moved.is, c.swap_remove.ensures.room)
     (kept_moved c.self.inside.living.entities c.self.inside.index.by_handle
-    (min c.self.inside.living.room c.self.inside.index.room) c.self.invariant c.args.handle
-    c.args.place (placed at.After-self) _ c.swap_remove.ensures.entities moved.room _ moved.read)
+    (min c.self.inside.living.room c.self.inside.index.room) c.self.invariant c.args.handle c.args.place
+    (placed at.After-self) _ c.swap_remove.ensures.entities moved.room _ moved.read)
 
 pub returns-then-place-len-clause-entities : goal.returns-then-place-len-clause-entities
 returns-then-place-len-clause-entities c = search (rules, entities_moved, placed, moved)
 
 pub returns-then-place-len-clause-places : goal.returns-then-place-len-clause-places
-returns-then-place-len-clause-places c =
-    rw (← ap (λ (s : Store). s.places) c.self.view_is)
-    (handles_without c.self.inside.living.entities c.swap_remove.new.self.entities c.args.place
-    c.args.handle (at_place c.self.inside.living.entities c.args.place c.args.handle
-    (at (goal.at.returns-then-place-len-clause-places c).After-self)).0
-    c.swap_remove.ensures.entities)
+returns-then-place-len-clause-places c = rw (← ap (λ (s : Store). s.places) c.self.view_is)
+    (handles_without c.self.inside.living.entities c.swap_remove.new.self.entities c.args.place c.args.handle
+    (at_place c.self.inside.living.entities c.args.place c.args.handle
+    (at (goal.at.returns-then-place-len-clause-places c).After-self)).0 c.swap_remove.ensures.entities)
 
 pub returns-then-place-len-clause-moved : goal.returns-then-place-len-clause-moved
 returns-then-place-len-clause-moved c = search (rules, moved, from_place)
@@ -83,21 +77,18 @@ returns-then-place-len-clause-moved c = search (rules, moved, from_place)
 pub invariant_of-self-else-place-len : goal.invariant_of-self-else-place-len
 invariant_of-self-else-place-len c =
     let at = goal.at.invariant_of-self-else-place-len c in
-    rw c.swap_remove.ensures.room
-    (kept_popped c.self.inside.living.entities c.self.inside.index.by_handle
-    (min c.self.inside.living.room c.self.inside.index.room) c.self.invariant c.args.handle
-    c.args.place (placed at.After-self) _ c.swap_remove.ensures.entities (last at.Else-place-len))
+    rw c.swap_remove.ensures.room (kept_popped c.self.inside.living.entities c.self.inside.index.by_handle
+    (min c.self.inside.living.room c.self.inside.index.room) c.self.invariant c.args.handle c.args.place
+    (placed at.After-self) _ c.swap_remove.ensures.entities (last at.Else-place-len))
 
 pub returns-else-place-len-clause-entities : goal.returns-else-place-len-clause-entities
 returns-else-place-len-clause-entities c = search (rules, entities_popped, placed, last)
 
 pub returns-else-place-len-clause-places : goal.returns-else-place-len-clause-places
-returns-else-place-len-clause-places c =
-    rw (← ap (λ (s : Store). s.places) c.self.view_is)
-    (handles_without c.self.inside.living.entities c.swap_remove.new.self.entities c.args.place
-    c.args.handle (at_place c.self.inside.living.entities c.args.place c.args.handle
-    (at (goal.at.returns-else-place-len-clause-places c).After-self)).0
-    c.swap_remove.ensures.entities)
+returns-else-place-len-clause-places c = rw (← ap (λ (s : Store). s.places) c.self.view_is)
+    (handles_without c.self.inside.living.entities c.swap_remove.new.self.entities c.args.place c.args.handle
+    (at_place c.self.inside.living.entities c.args.place c.args.handle
+    (at (goal.at.returns-else-place-len-clause-places c).After-self)).0 c.swap_remove.ensures.entities)
 
 pub returns-else-place-len-clause-moved : goal.returns-else-place-len-clause-moved
 returns-else-place-len-clause-moved c = search (rules, last, slice_get_past, length-map)

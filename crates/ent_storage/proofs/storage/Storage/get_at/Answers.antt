@@ -5,8 +5,7 @@ use Rattle.ent_storage.proofs.storage.Storage.get_at.Goals.{After-self}
 use Rattle.ent_storage.proofs.storage.Storage.get_at.Goals as goal
 
 -- the place is that of the handle
-at : (c : After-self) → IsEntityAt c.self.inside.living.entities c.args.self.now c.args.handle
-    c.args.place
+at : (c : After-self) → IsEntityAt c.self.inside.living.entities c.args.self.now c.args.handle c.args.place
 at c = search (rules, entity_at)
 
 pub value-requires : goal.value-requires

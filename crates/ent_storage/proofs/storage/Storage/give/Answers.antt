@@ -8,8 +8,7 @@ use Rattle.ent_storage.proofs.ImageGiven.{given, given_value, given_others, give
 use Rattle.ent_storage.proofs.storage.Storage.give.Goals.{After-give_one}
 use Rattle.ent_storage.proofs.storage.Storage.give.Goals as goal
 
-either : {T E A B : Type 0} (P : Type 0) (r : Result T E) → (A → P) → (B → P) → OnOk r A → OnErr r B
-    → P
+either : {T E A B : Type 0} (P : Type 0) (r : Result T E) → (A → P) → (B → P) → OnOk r A → OnErr r B → P
 either P (Ok x) f g a b = f a
 either P (Err e) f g a b = g b
 
@@ -18,33 +17,30 @@ if_ok (Ok x) f a = f a
 if_ok (Err e) f a = tt
 
 -- the entity was given the component, if there was memory
-is_given : (c : After-give_one) → OnOk c.give_one.result (c.give_one.new.self.entities
-    ≡ given c.args.self.now.entities c.args.handle c.args.id c.in-Some.value)
+is_given : (c : After-give_one) → OnOk c.give_one.result (c.give_one.new.self.entities ≡ given c.args.self.now.entities
+    c.args.handle c.args.id c.in-Some.value)
 is_given c =
     let pair : c.item_of-item.result ≡ (c.args.id, c.in-Some.value) = search (rules, to_z-of_z) in
-    if_ok c.give_one.result (λ is. is ∙ ap (λ (it : ComponentId × ℤ). with_components
-    c.args.self.now.entities c.args.handle (λ held. with_items held (it ∷ []))) pair)
-    c.give_one.ensures.ok
+    if_ok c.give_one.result (λ is. is ∙ ap (λ (it : ComponentId × ℤ). with_components c.args.self.now.entities
+    c.args.handle (λ held. with_items held (it ∷ []))) pair) c.give_one.ensures.ok
 
 -- what holds with the component and without it
-holds : (c : After-give_one) (P : EntityMap → Type 0)
-    → P (given c.args.self.now.entities c.args.handle c.args.id c.in-Some.value)
-    → P c.args.self.now.entities → P c.give_one.new.self.entities
+holds : (c : After-give_one) (P : EntityMap → Type 0) → P (given c.args.self.now.entities c.args.handle c.args.id
+    c.in-Some.value) → P c.args.self.now.entities → P c.give_one.new.self.entities
 holds c P new old = either _ c.give_one.result (λ is. subst P (sym is) new)
     (λ is. subst (λ (s : Store). P s.entities) (sym is) old) (is_given c) c.give_one.ensures.err
 
 pub returns-in-Some-clause-here : goal.returns-in-Some-clause-here
-returns-in-Some-clause-here c =
-    if_ok c.give_one.result (λ is. ap (λ (m : EntityMap). value_of m c.args.handle c.args.id) is
+returns-in-Some-clause-here c = if_ok c.give_one.result
+    (λ is. ap (λ (m : EntityMap). value_of m c.args.handle c.args.id) is
     ∙ given_value c.args.self.now.entities c.args.handle c.args.id c.in-Some.value c.requires.there
     ∙ sym c.in-Some.is) (is_given (goal.at.returns-in-Some-clause-here c).After-give_one)
 
 pub returns-in-Some-clause-others : goal.returns-in-Some-clause-others
 returns-in-Some-clause-others c other apart =
     let old = c.args.self.now.entities in
-    holds (goal.at.returns-in-Some-clause-others c).After-give_one
-    (λ m. value_of m c.args.handle other ≡ value_of old c.args.handle other)
-    (given_others old c.args.handle c.args.id c.in-Some.value c.requires.there other apart) refl
+    holds (goal.at.returns-in-Some-clause-others c).After-give_one (λ m. value_of m c.args.handle other ≡ value_of old
+    c.args.handle other) (given_others old c.args.handle c.args.id c.in-Some.value c.requires.there other apart) refl
 
 pub returns-in-Some-clause-birth : goal.returns-in-Some-clause-birth
 returns-in-Some-clause-birth c =

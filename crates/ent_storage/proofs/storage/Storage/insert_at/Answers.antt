@@ -10,17 +10,15 @@ use Rattle.ent_storage.proofs.storage.Storage.insert_at.Goals.{After-self, In_ok
 use Rattle.ent_storage.proofs.storage.Storage.insert_at.Goals as goal
 
 -- the place is that of the handle
-at : (c : After-self) → IsEntityAt c.self.inside.living.entities c.args.self.now c.args.handle
-    c.args.place
+at : (c : After-self) → IsEntityAt c.self.inside.living.entities c.args.self.now c.args.handle c.args.place
 at c = search (rules, entity_at)
 
 pub insert-requires : goal.insert-requires
 insert-requires c = (at (goal.at.insert-requires c).After-self).inside
 
 -- the entity has the new components
-after : (c : In_ok-insert) → IsChanged c.args.self.now c.args.handle
-    (λ held. with_items held c.args.items.now) c.insert.new.self.entities
-    c.self.inside.index.by_handle (min c.insert.new.self.room c.self.inside.index.room)
+after : (c : In_ok-insert) → IsChanged c.args.self.now c.args.handle (λ held. with_items held c.args.items.now)
+    c.insert.new.self.entities c.self.inside.index.by_handle (min c.insert.new.self.room c.self.inside.index.room)
 after c = search (rules, changed, placed_at, c.in_ok-insert.ensures.ok)
 
 -- memory was refused, for a component that is missing
@@ -29,8 +27,8 @@ returns-in_err-insert-clause-memory_to_grow c =
     let held = ap (option_map (λ (e : Entity). e.components))
     (at (goal.at.returns-in_err-insert-clause-memory_to_grow c).After-self).found in
     on_err {P = IfSome (components_of c.args.self.now.entities c.args.handle)
-    (λ held. 0 < missing held c.args.items.now)} _
-    (rw held (c.in_err-insert.ensures.growing (some_entity c.args.handle)))
+    (λ held. 0 < missing held c.args.items.now)} _ (rw held
+    (c.in_err-insert.ensures.growing (some_entity c.args.handle)))
 
 pub returns : goal.returns
 returns c = let now = after (goal.at.returns c).In_ok-insert in search (rules, now)

@@ -11,11 +11,10 @@ use Rattle.ent_storage.proofs.storage.Storage.is_empty.Goals as goal
 pub returns : goal.returns
 returns c =
     let living = c.self.inside.living.entities in
-    let counted = len_living living (counted c.self.inside.living.entities
-    c.self.inside.index.by_handle) c.self.invariant.indexed in
+    let counted = len_living living (counted c.self.inside.living.entities c.self.inside.index.by_handle)
+    c.self.invariant.indexed in
     let view = ap (λ (s : Store). map.len s.entities) c.self.view_is in (
       grind (arith, common_steps, c.self.inside.living.entities, c.is_empty.ensures),
-      λ empty.
-          let none = ap map.len empty ∙ map.len-empty handle_cmp Entity in
-          c.is_empty.ensures ∙ eq-eqb _ _ (omega (arith, counted, view, none)),
+      λ empty. let none = ap map.len empty ∙ map.len-empty handle_cmp Entity in c.is_empty.ensures
+          ∙ eq-eqb _ _ (omega (arith, counted, view, none)),
     )

@@ -1,5 +1,4 @@
-use Rattle.std.proofs.Common.{rules, ◌≡◌, sym, ap, ◌∙◌, arith, length, subst, is_some, false}
-use Rattle.std.proofs.Common.{inl, inr, refl}
+use Rattle.std.proofs.Common.{rules, ◌≡◌, sym, ap, ◌∙◌, arith, length, subst, is_some, false, inl, inr, refl}
 use Rattle.std.specs.FinMap as map
 use Rattle.std.proofs.lemmas.Bool.{false≢true}
 use Rattle.std.proofs.lemmas.List.{get_or_default, nil_from_length, length-take-le}
@@ -8,9 +7,7 @@ use Rattle.ent_handle.specs.Handle.{handle_cmp}
 use Rattle.ent_storage.specs.EntityMap.{EntityMap}
 use Rattle.ent_storage.specs.FirstFault.{IsNoEntity, HasFault}
 use Rattle.ent_storage.specs.declared.image_fault.StorageImageFault.TheVariants.{Entity}
-use Rattle.ent_storage.proofs.ImageRead.{too_few, too_wide, damaged, read_more, places_more}
-use Rattle.ent_storage.proofs.ImageRead.{first_read, all_read, all_first, are_stored, is_read}
-use Rattle.ent_storage.proofs.ImageRead.{nothing_left, width_told, width_placed}
+use Rattle.ent_storage.proofs.ImageRead.{too_few, too_wide, damaged, read_more, places_more, first_read, all_read, all_first, are_stored, is_read, nothing_left, width_told, width_placed}
 use Rattle.ent_storage.proofs.storage.Storage.read_image.Goals as goal
 
 pub returns-then-bytes-lt4-clause-refused : goal.returns-then-bytes-lt4-clause-refused
@@ -37,8 +34,8 @@ loop-handle-init c =
 pub returns-in_default-clause-refused : goal.returns-in_default-clause-refused
 returns-in_default-clause-refused c other m stored same =
     let none = rw c.in_default.is at c.in_ok-left.ensures.none in
-    damaged c.args.handles.now c.loop-handle.handle-index c.loop-handle.invariant.read
-    c.handle-item.result c.loop-handle-test.true c.handle-item.is m (search rules) none stored same
+    damaged c.args.handles.now c.loop-handle.handle-index c.loop-handle.invariant.read c.handle-item.result
+    c.loop-handle-test.true c.handle-item.is m (search rules) none stored same
 
 pub loop-handle-preserved : goal.loop-handle-preserved
 loop-handle-preserved c =
@@ -53,9 +50,8 @@ loop-handle-preserved c =
     let places = rw c.in-Some.is at c.in_ok-left.ensures.places in
     let spare = rw c.in-Some.is at c.in_ok-left.ensures.spare in
     record {
-      read = read_more hs i loop.read h lt c.handle-item.is c.requires.apart
-          c.read_entity.new.storage.entities c.in_ok-left.ensures.rest c.in-Some.left.now found stored
-          beyond;
+      read = read_more hs i loop.read h lt c.handle-item.is c.requires.apart c.read_entity.new.storage.entities
+          c.in_ok-left.ensures.rest c.in-Some.left.now found stored beyond;
       places = places_more hs i loop.read h lt c.handle-item.is c.loop-handle.storage.places
           c.read_entity.new.storage.places loop.places places;
       spare = omega (arith, loop.spare, spare);
@@ -72,13 +68,13 @@ pub returns-then-width-clause-refused : goal.returns-then-width-clause-refused
 returns-then-width-clause-refused c other m stored same =
     let read = all_read c.args.handles.now c.loop-handle.handle-index c.loop-handle-test.false
     c.loop-handle.invariant.read in
-    c.if-width.true (c.width.ensures.value
-    ∙ width_placed c.loop-handle.storage.entities c.args.handles.now c.loop-handle.handle-index c.loop-handle-test.false c.loop-handle.invariant.places
+    c.if-width.true (c.width.ensures.value ∙ width_placed c.loop-handle.storage.entities c.args.handles.now
+    c.loop-handle.handle-index c.loop-handle-test.false c.loop-handle.invariant.places
     ∙ width_told read m (search rules) stored same)
 
 pub returns-clause-stored : goal.returns-clause-stored
-returns-clause-stored c = are_stored (all_read c.args.handles.now c.loop-handle.handle-index
-    c.loop-handle-test.false c.loop-handle.invariant.read)
+returns-clause-stored c = are_stored (all_read c.args.handles.now c.loop-handle.handle-index c.loop-handle-test.false
+    c.loop-handle.invariant.read)
 
 pub returns-clause-exact : goal.returns-clause-exact
 returns-clause-exact c m stored same =
@@ -92,11 +88,8 @@ pub returns-then-bytes-lt4-clause-fault : goal.returns-then-bytes-lt4-clause-fau
 returns-then-bytes-lt4-clause-fault c other = inl c.if-bytes-lt4.true
 
 pub returns-then-width-gt256-clause-fault : goal.returns-then-width-gt256-clause-fault
-returns-then-width-gt256-clause-fault c other = inl (
-  c.if-width-gt256.true,
-  search rules,
-  (c.read_word-width.result.1.now, c.read_word-width.ensures.bytes),
-)
+returns-then-width-gt256-clause-fault c other = inl
+    (c.if-width-gt256.true, search rules, (c.read_word-width.result.1.now, c.read_word-width.ensures.bytes))
 
 pub returns-in_default-clause-fault : goal.returns-in_default-clause-fault
 returns-in_default-clause-fault c other =
@@ -132,8 +125,7 @@ returns-then-width-clause-fault c other =
     c.loop-handle.invariant.read in
     inr (
       all_first read c.if-width-gt256.false,
-      nil_from_length c.loop-handle.rest.now
-          (grind (arith, common_steps, c.is_empty.ensures, c.if-not-is_empty.false)),
+      nil_from_length c.loop-handle.rest.now (grind (arith, common_steps, c.is_empty.ensures, c.if-not-is_empty.false)),
       refl,
       λ same. c.if-width.true (c.width.ensures.value ∙ width_placed c.loop-handle.storage.entities c.args.handles.now
           c.loop-handle.handle-index c.loop-handle-test.false c.loop-handle.invariant.places ∙ same),

@@ -8,23 +8,20 @@ use Rattle.ent_storage.proofs.storage.Storage.remove_at.Goals.{After-self, After
 use Rattle.ent_storage.proofs.storage.Storage.remove_at.Goals as goal
 
 -- the place is that of the handle
-at : (c : After-self) → IsEntityAt c.self.inside.living.entities c.args.self.now c.args.handle
-    c.args.place
+at : (c : After-self) → IsEntityAt c.self.inside.living.entities c.args.self.now c.args.handle c.args.place
 at c = search (rules, entity_at)
 
 pub remove-requires : goal.remove-requires
 remove-requires c = (at (goal.at.remove-requires c).After-self).inside
 
 -- the entity has the new components
-after : (c : After-remove) → IsChanged c.args.self.now c.args.handle
-    (λ held. map.remove held c.args.id) c.remove.new.self.entities
-    c.self.inside.index.by_handle (min c.remove.new.self.room c.self.inside.index.room)
+after : (c : After-remove) → IsChanged c.args.self.now c.args.handle (λ held. map.remove held c.args.id)
+    c.remove.new.self.entities c.self.inside.index.by_handle (min c.remove.new.self.room c.self.inside.index.room)
 after c = search (rules, changed, placed_at)
 
 -- the component is that of the entity
 pub returns-clause-value : goal.returns-clause-value
-returns-clause-value c =
-    c.remove.ensures.value (some_entity c.args.handle)
+returns-clause-value c = c.remove.ensures.value (some_entity c.args.handle)
     ∙ sym (ap (λ (o : Option Entity). option_and_then (λ e. map.get e.components c.args.id) o)
     (at (goal.at.returns-clause-value c).After-self).found)
 

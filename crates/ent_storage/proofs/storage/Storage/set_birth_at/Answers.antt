@@ -7,26 +7,24 @@ use Rattle.ent_storage.proofs.Reborn.{reborn_entities, reborn_handles, reborn_ke
 use Rattle.ent_storage.proofs.storage.Storage.set_birth_at.Goals.{After-self}
 use Rattle.ent_storage.proofs.storage.Storage.set_birth_at.Goals as goal
 
-placed : (c : After-self) → map.get (counted c.self.inside.living.entities
-    c.self.inside.index.by_handle) c.args.handle ≡ Some c.args.place
+placed : (c : After-self) → map.get (counted c.self.inside.living.entities c.self.inside.index.by_handle) c.args.handle
+    ≡ Some c.args.place
 placed c = search (rules, placed_from_place)
 
 pub set_birth-requires : goal.set_birth-requires
 set_birth-requires c = search (rules, at_place)
 
 pub invariant_of-self : goal.invariant_of-self
-invariant_of-self c =
-    rw (c.set_birth.ensures.entities, c.set_birth.ensures.room)
+invariant_of-self c = rw (c.set_birth.ensures.entities, c.set_birth.ensures.room)
     (reborn_kept c.self.inside.living.entities c.self.inside.index.by_handle
-    (min c.self.inside.living.room c.self.inside.index.room) c.self.invariant c.args.handle
-    c.args.place (placed (goal.at.invariant_of-self c).After-self) c.args.birth)
+    (min c.self.inside.living.room c.self.inside.index.room) c.self.invariant c.args.handle c.args.place
+    (placed (goal.at.invariant_of-self c).After-self) c.args.birth)
 
 -- the entity has the new birth
 pub returns-clause-entities : goal.returns-clause-entities
-returns-clause-entities c =
-    rw c.set_birth.ensures.entities (reborn_entities c.self.inside.living.entities
-    c.self.inside.index.by_handle (min c.self.inside.living.room c.self.inside.index.room)
-    c.self.invariant c.args.handle c.args.place
+returns-clause-entities c = rw c.set_birth.ensures.entities
+    (reborn_entities c.self.inside.living.entities c.self.inside.index.by_handle
+    (min c.self.inside.living.room c.self.inside.index.room) c.self.invariant c.args.handle c.args.place
     (placed (goal.at.returns-clause-entities c).After-self) c.args.birth)
     ∙ ap (λ (s : Store). with_birth s.entities c.args.handle c.args.birth) c.self.view_is
 
@@ -35,9 +33,7 @@ returns-clause-spare c = search (rules, length_reborn)
 
 -- no handle is changed
 pub returns-clause-places : goal.returns-clause-places
-returns-clause-places c =
-    rw c.set_birth.ensures.entities (reborn_handles c.self.inside.living.entities
-    c.self.inside.index.by_handle (min c.self.inside.living.room c.self.inside.index.room)
-    c.self.invariant c.args.handle c.args.place
-    (placed (goal.at.returns-clause-places c).After-self) c.args.birth)
-    ∙ ap (λ (s : Store). s.places) c.self.view_is
+returns-clause-places c = rw c.set_birth.ensures.entities
+    (reborn_handles c.self.inside.living.entities c.self.inside.index.by_handle
+    (min c.self.inside.living.room c.self.inside.index.room) c.self.invariant c.args.handle c.args.place
+    (placed (goal.at.returns-clause-places c).After-self) c.args.birth) ∙ ap (λ (s : Store). s.places) c.self.view_is

@@ -12,5 +12,4 @@ returns-clause-items c =
     let values = values_bytes (value_of m c.args.handle) c.args.width in
     c.write_values.ensures.items ∙ ap (◌++ values) c.write_birth.ensures.items
     ∙ append_assoc old (birth_bytes c.birth_at.result) values
-    ∙ ap (old ++◌) (sym (entity_alone c.args.width m c.args.handle c.birth_at.result
-    c.birth_at.ensures))
+    ∙ ap (old ++◌) (sym (entity_alone c.args.width m c.args.handle c.birth_at.result c.birth_at.ensures))

@@ -14,20 +14,13 @@ loop-number-preserved c =
     let n = c.loop-number.number in
     let old = c.args.out.now.items in
     record {
-      items = c.write_value.ensures.items
-          ∙ (λ i. loop.items i ++ value_bytes (c.get_at.ensures i))
+      items = c.write_value.ensures.items ∙ (λ i. loop.items i ++ value_bytes (c.get_at.ensures i))
           ∙ append_assoc old (values_bytes value n) (value_bytes (value (component n)))
           ∙ ap (old ++◌) (sym (values_more value n));
       values = below_more (λ id. IfSome (value id) (FitsSigned w64)) n loop.values
-          (subst (λ (o : Option ℤ). IfSome o (FitsSigned w64)) c.get_at.ensures
-          c.write_value.ensures.fits);
-      room = omega (
-        arith,
-        loop.room,
-        c.write_value.ensures.len,
-        c.write_value.ensures.capacity,
-        c.loop-number-test.true,
-      );
+          (subst (λ (o : Option ℤ). IfSome o (FitsSigned w64)) c.get_at.ensures c.write_value.ensures.fits);
+      room = omega
+          (arith, loop.room, c.write_value.ensures.len, c.write_value.ensures.capacity, c.loop-number-test.true);
       len = omega (arith, loop.len, c.write_value.ensures.len);
       capacity = omega (arith, loop.capacity, c.write_value.ensures.capacity);
     }

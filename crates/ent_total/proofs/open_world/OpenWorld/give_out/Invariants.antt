@@ -10,8 +10,8 @@ decreases-loop-system g l = length l.self.returned
 -- those that were given out so far, and those that are left
 abbrev pub invariant-loop-system : goal.invariant-loop-system
 invariant-loop-system g l = record {
-  given : issuing l.systems.items ++ reverse l.self.returned
-      ≡ issuing l.initial.systems.items ++ reverse l.initial.self.returned;
+  given : issuing l.systems.items ++ reverse l.self.returned ≡ issuing l.initial.systems.items
+      ++ reverse l.initial.self.returned;
   new : AreNew l.self.number l.self.world l.systems.items;
   room : vec_len l.systems + length l.self.returned ≤ vec_capacity l.systems;
   phase : l.self ≡ record l.initial.self { returned = l.self.returned };

@@ -7,6 +7,5 @@ use Rattle.ent_total.proofs.shared.Shared.close_lost.Goals as goal
 pub returns-in-Ok-clause-given : goal.returns-in-Ok-clause-given
 returns-in-Ok-clause-given g c =
     let all : c.in-Ok.returned.items ≡ all_returned c.args.self c.args.reservers.items = search rules in
-    subst (λ (rs : List Reserver).
-    All (λ (r : Reserver). All (Contains c.close_lost.result.allocator.taken) (handles_given r.own))
-    rs) all c.close_lost.ensures.given
+    subst (λ (rs : List Reserver). All (λ (r : Reserver). All (Contains c.close_lost.result.allocator.taken)
+    (handles_given r.own)) rs) all c.close_lost.ensures.given

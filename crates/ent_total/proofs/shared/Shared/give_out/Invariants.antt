@@ -10,8 +10,8 @@ decreases-loop-reserver g l = length l.self.returned
 -- those that were given out so far, and those that are left
 abbrev pub invariant-loop-reserver : goal.invariant-loop-reserver
 invariant-loop-reserver g l = record {
-  given : reservers_of l.reservers.items ++ reverse l.self.returned
-      ≡ reservers_of l.initial.reservers.items ++ reverse l.initial.self.returned;
+  given : reservers_of l.reservers.items ++ reverse l.self.returned ≡ reservers_of l.initial.reservers.items
+      ++ reverse l.initial.self.returned;
   of : AreOf l.self.number l.reservers.items;
   same : All (λ (r : Reserver). r.shared ≡ l.initial.self.shared) l.reservers.items;
   room : vec_len l.reservers + length l.self.returned ≤ vec_capacity l.reservers;

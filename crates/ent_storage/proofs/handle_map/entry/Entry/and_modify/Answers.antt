@@ -20,8 +20,7 @@ returns-in-Occupied-clause-value g c =
 pub returns-in-Occupied-clause-gives : goal.returns-in-Occupied-clause-gives
 returns-in-Occupied-clause-gives g c w m is =
     let o = c.in-Occupied.entry in
-    subst (λ e. Gives e w m) (sym c.in-Occupied.is)
-    (is ∙ written_twice o.map.now o.handle c.change.new.arg2 w)
+    subst (λ e. Gives e w m) (sym c.in-Occupied.is) (is ∙ written_twice o.map.now o.handle c.change.new.arg2 w)
 
 pub returns-in-Vacant-clause-value : goal.returns-in-Vacant-clause-value
 returns-in-Vacant-clause-value g c = rw (ap entry_value c.in-Vacant.is) refl

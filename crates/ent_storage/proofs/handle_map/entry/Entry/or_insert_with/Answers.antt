@@ -9,11 +9,7 @@ pub returns-in-Occupied : goal.returns-in-Occupied
 returns-in-Occupied g c =
     let o = c.in-Occupied.occupied in
     let old = ap entry_value c.in-Occupied.is ∙ c.into_mut.ensures.value in (
-      (
-        refl,
-        λ w _. subst (λ e. Gives e w (with_written o.map.now o.handle w)) (sym c.in-Occupied.is) refl,
-        tt,
-      ),
+      (refl, λ w _. subst (λ e. Gives e w (with_written o.map.now o.handle w)) (sym c.in-Occupied.is) refl, tt),
       record {
         writes_back = tt;
         value = subst (λ r. UnwrapsOrElse r (goal.F-post g c.args.make) c.into_mut.result.now) (sym old) refl;

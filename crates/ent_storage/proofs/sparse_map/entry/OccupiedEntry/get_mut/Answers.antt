@@ -7,8 +7,7 @@ pub value_mut-requires : goal.value_mut-requires
 value_mut-requires g c = c.args.self.now.present
 
 pub invariant_of-self-lent : goal.invariant_of-self-lent
-invariant_of-self-lent g c w =
-    let o = c.args.self.now in (some_written o.map.now o.handle w, tt)
+invariant_of-self-lent g c w = let o = c.args.self.now in (some_written o.map.now o.handle w, tt)
 
 pub returns : goal.returns
 returns g c =

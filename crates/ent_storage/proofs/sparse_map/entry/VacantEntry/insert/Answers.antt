@@ -9,8 +9,7 @@ pub value_mut-requires : goal.value_mut-requires
 value_mut-requires g c =
     let m = c.args.self.map.now in
     let h = c.args.self.handle in
-    rw c.in-Ok.ensures.ok
-    (ap is_some (got_inserted (without_slot m.values h.index) h c.args.value))
+    rw c.in-Ok.ensures.ok (ap is_some (got_inserted (without_slot m.values h.index) h c.args.value))
 
 pub returns : goal.returns
 returns g c =
@@ -33,7 +32,8 @@ returns g c =
         value = same_Some _ _ (sym c.value_mut.ensures.value
             ∙ ap (λ (values : HandleValues g.row.T.Denot). finite.get values h) put.ok
             ∙ got_inserted (without_slot m.values h.index) h v);
-        refused = record { limit = put.limit; later = put.later; memory = put.memory };
+        refused = record
+            { limit = put.limit; later = put.later; memory = put.memory };
         back = tt;
       },
     )

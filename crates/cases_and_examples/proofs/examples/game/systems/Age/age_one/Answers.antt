@@ -7,20 +7,16 @@ use Rattle.cases_and_examples.specs.Issuing.{IsOnProjectile}
 use Rattle.cases_and_examples.proofs.examples.game.systems.Age.age_one.Goals as goal
 
 -- one command more, on a projectile
-one_more : (view : View) (before after : List Command) (last : Command) → after ≡ before
-    ++ last ∷ [] → IsOnProjectile view last → All (IsOnProjectile view) before
-    → All (IsOnProjectile view) after
-one_more view before after last added on all =
-    subst (All (IsOnProjectile view)) (sym added)
+one_more : (view : View) (before after : List Command) (last : Command) → after ≡ before ++ last ∷ []
+    → IsOnProjectile view last → All (IsOnProjectile view) before → All (IsOnProjectile view) after
+one_more view before after last added on all = subst (All (IsOnProjectile view)) (sym added)
     (All-append (IsOnProjectile view) before (last ∷ []) all
     (All-cons (IsOnProjectile view) last [] on (All-nil (IsOnProjectile view))))
 
 pub returns-in_ok-one-in-Some-clause-may : goal.returns-in_ok-one-in-Some-clause-may
-returns-in_ok-one-in-Some-clause-may c =
-    on_ok_weaker c.insert-in-Some.result (λ added. one_more c.args.view.now _ _ _ added (search rules))
-    c.insert-in-Some.ensures.ok
+returns-in_ok-one-in-Some-clause-may c = on_ok_weaker c.insert-in-Some.result
+    (λ added. one_more c.args.view.now _ _ _ added (search rules)) c.insert-in-Some.ensures.ok
 
 pub returns-in-Some-2-clause-may : goal.returns-in-Some-2-clause-may
-returns-in-Some-2-clause-may c =
-    on_ok_weaker c.despawn.result (λ added. one_more c.args.view.now _ _ _ added (search rules))
-    c.despawn.ensures.ok
+returns-in-Some-2-clause-may c = on_ok_weaker c.despawn.result
+    (λ added. one_more c.args.view.now _ _ _ added (search rules)) c.despawn.ensures.ok
