@@ -1,6 +1,6 @@
 -- What is left of a list after a stop, one element after the other: none before the stop, the rest
 -- of the element at the stop, and each later one whole.
-use Rattle.std.proofs.Common.{rules, ◌≡◌, ap, ◌∙◌, ℕ, ◌+◌, ◌<◌, ◌≤◌, List, [], ◌∷◌, ◌++◌}
+use Rattle.std.proofs.Common.{rules, ◌≡◌, ap, ◌∙◌, ℕ, ◌+◌, ◌<◌, ◌≤◌, List, ◌∷◌, ◌++◌}
 use Rattle.std.proofs.Common.{length, take, drop, arith}
 use Rattle.std.proofs.lemmas.Grind.{common_steps}
 use Rattle.std.specs.Prelude.{◌⊎◌}
@@ -100,7 +100,7 @@ module _ (system from done : ℕ) (q rest : List Command) (k : ℕ) (c : Command
   -- the queue that is cut in this command
   module _ (stop : ℕ) where
     cut_here : cut_commands k stop q ≡ take k q ++ first_part stop (c ∷ [])
-    cut_here = ap (λ cs. take k q ++ cs) (ap (first_part stop) left ∙ first_alone stop c rest)
+    cut_here = search (rules, left, first_alone)
 
     pub commands_cut-first : k ≡ from
         → after_commands system from (left_commands from done (cut_commands k stop q)) a

@@ -1,9 +1,10 @@
 -- Entering one by one, with room for all, and who stands from a place on.
 use Rattle.std.proofs.lemmas.Grind.{common_steps}
-use Rattle.std.proofs.Common.{rules, ◌≡◌, ◌≢◌, refl, sym, ap, ◌∙◌, ◌+◌, ◌<◌, ◌≤◌, Bool, true, false}
-use Rattle.std.proofs.Common.{cond, true≢false, ℕ, zero, suc, ◌-◌, List, [], ◌∷◌, drop}
-use Rattle.std.proofs.Common.{slice_get, is_some, arith, Some, ◌||◌}
+use Rattle.std.proofs.Common.{rules, ◌≡◌, ◌≢◌, refl, sym, ap, ◌∙◌, ◌+◌, ◌<◌, ◌≤◌, true, false}
+use Rattle.std.proofs.Common.{true≢false, ℕ, zero, suc, ◌-◌, List, ◌∷◌, drop}
+use Rattle.std.proofs.Common.{slice_get, arith, Some, ◌||◌}
 use Rattle.std.proofs.lemmas.Option.{none-some, same_Some}
+use Rattle.std.proofs.lemmas.Bool.{or_parts}
 use Rattle.std.specs.Ordering.{eq_by_cmp}
 use Rattle.std.specs.FinMap as map
 use Rattle.ent_handle.specs.Handle.{Handle, handle_cmp, handle_cmp_total}
@@ -17,23 +18,11 @@ pub new_later : (h : Handle) (e : Entity) (hs : List Handle) (m : EntityMap) →
     ≡ false → AreNew hs m → AreNew hs (map.insert m h e)
 new_later h e [] m none new = tt
 new_later h e (g ∷ hs) m none new =
-    let both = neither (eq_by_cmp handle_cmp h g) (stands_in hs h) none in (
-      ap is_some (map.get-insert handle_cmp_total m h e g)
-          ∙ by_test (eq_by_cmp handle_cmp g h) refl both.0,
+    let both = or_parts (eq_by_cmp handle_cmp h g) (stands_in hs h) none in (
+      grind (arith, common_steps, map.get-insert handle_cmp_total m h e g, same_handle g h, itself h),
       new.1,
       new_later h e hs m both.1 new.2,
     )
-  where
-    neither : (a b : Bool) → (a || b) ≡ false → (a ≡ false) × (b ≡ false)
-    neither t b some = grind (arith, common_steps, true≢false)
-
-    turned : eq_by_cmp handle_cmp g h ≡ true → eq_by_cmp handle_cmp h g ≡ true
-    turned tied = ap (eq_by_cmp handle_cmp h) (same_handle g h tied) ∙ itself h
-
-    by_test : (b : Bool) → eq_by_cmp handle_cmp g h ≡ b → eq_by_cmp handle_cmp h g ≡ false
-        → is_some (cond b (Some e) (map.get m g)) ≡ false
-    by_test true tied apart = absurd (true≢false (sym (turned tied) ∙ apart))
-    by_test false _ apart = new.0
 
 -- The places from one on.
 
