@@ -1,6 +1,6 @@
 -- What queues list gets its births: the first queue that lists a handle counts.
 use Rattle.std.proofs.lemmas.Grind.{common_steps}
-use Rattle.std.proofs.Common.{rules, ◌≡◌, refl, sym, ap, ◌∙◌, ℕ, ◌+◌, ◌<◌, ◌≤◌, ◌^◌, Bool}
+use Rattle.std.proofs.Common.{[], rules, ◌≡◌, refl, sym, ap, ◌∙◌, ℕ, ◌+◌, ◌<◌, ◌≤◌, ◌^◌, Bool}
 use Rattle.std.proofs.Common.{true, false, cond, ◌≢◌, eqb, eq-eqb, List, ◌∷◌, ◌++◌, length}
 use Rattle.std.proofs.Common.{Option, Some, None, arith}
 use Rattle.std.proofs.lemmas.Option.{none-some, same_Some}

@@ -1,7 +1,7 @@
 -- What enters the map after a flush is each handle that is born, with its birth.
 use Rattle.std.proofs.lemmas.Bool.{or_left}
 use Rattle.std.proofs.lemmas.Grind.{common_steps}
-use Rattle.std.proofs.Common.{rules, ◌≡◌, refl, sym, ap, ◌∙◌, ℕ, ◌+◌, ◌≤◌, ◌^◌, Bool, true, false}
+use Rattle.std.proofs.Common.{[], rules, ◌≡◌, refl, sym, ap, ◌∙◌, ℕ, ◌+◌, ◌≤◌, ◌^◌, Bool, true, false}
 use Rattle.std.proofs.Common.{cond, not, ◌&&◌, true≢false, List, ◌∷◌, ◌++◌, length, drop}
 use Rattle.std.proofs.Common.{eqb, Option, Some, None, is_some, is_none, unwrap_or, arith}
 use Rattle.std.proofs.lemmas.Bool.{or_right}

@@ -1,6 +1,6 @@
 -- Over the frames of a run no handle is given twice: each frame keeps the list of all given handles
 -- free of repetitions.
-use Rattle.std.proofs.Common.{rules, ◌≡◌, sym, ◌∙◌, subst, append-nil, append_assoc, ℕ, true, List}
+use Rattle.std.proofs.Common.{[], rules, ◌≡◌, sym, ◌∙◌, subst, append-nil, append_assoc, ℕ, true, List}
 use Rattle.std.proofs.Common.{◌∷◌, ◌++◌, Result, Ok, Err}
 use Rattle.std.proofs.lemmas.List.Elements.{All-nil}
 use Rattle.ent_handle.specs.Handle.{Handle}

@@ -1,5 +1,5 @@
 -- A list of handles that rises by slot, and has just those of a map, has the keys of the map.
-use Rattle.std.proofs.Common.{rules, ◌≡◌, ◌≢◌, refl, sym, ap, subst, ◌∙◌, ℕ, suc, ◌<◌, Bool}
+use Rattle.std.proofs.Common.{[], rules, ◌≡◌, ◌≢◌, refl, sym, ap, subst, ◌∙◌, ℕ, suc, ◌<◌, Bool}
 use Rattle.std.proofs.Common.{T, ◌&&◌, List, ◌∷◌, map, length, get_or, arith, Contains}
 use Rattle.std.proofs.Common.{Option, is_some, IsTrue, AllPairs, true≢false}
 use Rattle.std.specs.List.{list_any}

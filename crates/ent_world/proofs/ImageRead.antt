@@ -1,6 +1,6 @@
 -- What the bytes of an image tell, and the world that is read of them.
 use Rattle.std.proofs.lemmas.List.Elements.{All-contains}
-use Rattle.std.proofs.Common.{rules}
+use Rattle.std.proofs.Common.{[], rules}
 use Rattle.ent_world.proofs.PlacedRows.{rows_stand}
 use Rattle.ent_alloc.proofs.HandleSets.{same_handle}
 use Rattle.std.proofs.Common.{◌≡◌, ◌≢◌, refl, sym, ap, ◌∙◌, ℕ, suc, ◌+◌, ◌*◌, ◌^◌}

@@ -1,5 +1,5 @@
 -- What each change of a living entity keeps, commands keep, and so do queues of them.
-use Rattle.std.proofs.Common.{rules, ◌≡◌, ℕ, ◌+◌, true, List, ◌∷◌}
+use Rattle.std.proofs.Common.{[], rules, ◌≡◌, ℕ, ◌+◌, true, List, ◌∷◌}
 use Rattle.ent_handle.specs.Handle.{Handle}
 use Rattle.ent_storage.specs.Components.{Components, with_items}
 use Rattle.ent_storage.specs.EntityMap.{with_components}

@@ -1,5 +1,5 @@
 -- The handle that is given next, and an entity that is made or taken back.
-use Rattle.std.proofs.Common.{rules, ◌≡◌, refl, sym, ℕ, ◌<◌, true, false}
+use Rattle.std.proofs.Common.{[], rules, ◌≡◌, refl, sym, ℕ, ◌<◌, true, false}
 use Rattle.std.proofs.Common.{true≢false, List, ◌∷◌, ◌++◌, length, slice_get, arith, suc}
 use Rattle.std.proofs.Common.{ℤ, ◌⊎◌, length-append, Some, None, IfSome, Result, Ok, Err}
 use Rattle.std.proofs.Common.{OnOk, OnErr, is_err}

@@ -1,7 +1,7 @@
 -- One induction over queues, and so one file of more than 400 lines: queues do to a world what the
 -- same queues by births do to births alone. If the births told what the world was, they tell what
 -- it is afterwards, and the faults are the same.
-use Rattle.std.proofs.Common.{arith, rules, ◌≡◌, refl, sym, ap, ◌∙◌, subst, ℕ, ◌+◌, Bool, true}
+use Rattle.std.proofs.Common.{[], arith, rules, ◌≡◌, refl, sym, ap, ◌∙◌, subst, ℕ, ◌+◌, Bool, true}
 use Rattle.std.proofs.Common.{false, cond, not, T, true≢false, List, ◌∷◌, ◌++◌, map, filter}
 use Rattle.std.proofs.Common.{All, Option, Some, None, is_some, option_map}
 use Rattle.std.proofs.lemmas.Grind.{common_steps}

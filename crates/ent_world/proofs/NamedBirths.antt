@@ -1,7 +1,7 @@
 -- What comes to life enters a world and births alone in the same way, and so a whole frame does to
 -- births alone what it does to the world.
 use Rattle.std.proofs.lemmas.Grind.{common_steps}
-use Rattle.std.proofs.Common.{rules, ◌≡◌, refl, sym, ap, ◌∙◌, Bool, true, false, cond, ◌||◌, T}
+use Rattle.std.proofs.Common.{[], rules, ◌≡◌, refl, sym, ap, ◌∙◌, Bool, true, false, cond, ◌||◌, T}
 use Rattle.std.proofs.Common.{true≢false, List, ◌∷◌, map, length, ℤ, ◌⊎◌, Some, None}
 use Rattle.std.proofs.Common.{option_map, arith}
 use Rattle.std.proofs.lemmas.Bool.{or_right}

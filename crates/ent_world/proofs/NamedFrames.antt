@@ -3,7 +3,7 @@
 -- by where it stands in a queue.
 use Rattle.std.proofs.lemmas.List.Sorted.{list_any-IsPermutation}
 use Rattle.std.proofs.lemmas.Grind.{common_steps}
-use Rattle.std.proofs.Common.{rules, ◌≡◌, refl, sym, ap, ◌∙◌, subst, ℕ, ◌+◌, ◌^◌, ◌<◌, ◌≤◌, Bool}
+use Rattle.std.proofs.Common.{[], rules, ◌≡◌, refl, sym, ap, ◌∙◌, subst, ℕ, ◌+◌, ◌^◌, ◌<◌, ◌≤◌, Bool}
 use Rattle.std.proofs.Common.{true, cond, List, ◌∷◌, map, length, All}
 use Rattle.std.proofs.Common.{flat_map, Some, None, is_some, unwrap_or, arith}
 use Rattle.std.specs.List.{AllZip, list_any, position_from}

@@ -1,6 +1,6 @@
 -- The entities of a world in the order of births are those of the births that tell it, in order.
 use Rattle.std.proofs.lemmas.Grind.{common_steps}
-use Rattle.std.proofs.Common.{arith, rules, ◌≡◌, refl, sym, ap, ◌∙◌, Bool, true, cond}
+use Rattle.std.proofs.Common.{[], arith, rules, ◌≡◌, refl, sym, ap, ◌∙◌, Bool, true, cond}
 use Rattle.std.proofs.Common.{◌&&◌, T, true≢false, List, ◌∷◌, map, filter, All, AllPairs}
 use Rattle.std.proofs.Common.{Option, Some, None, is_some, option_map, unwrap_or, IsSomeAnd, IsTrue}
 use Rattle.std.proofs.lemmas.Bool.{or_right}

@@ -1,5 +1,5 @@
 -- The handles that no queue lists: each gets the birth of its ordinal among them.
-use Rattle.std.proofs.Common.{arith, rules, ◌≡◌, refl, sym, ap, ◌∙◌, ℕ, ◌+◌, Bool, true, false}
+use Rattle.std.proofs.Common.{[], arith, rules, ◌≡◌, refl, sym, ap, ◌∙◌, ℕ, ◌+◌, Bool, true, false}
 use Rattle.std.proofs.Common.{cond, eqb, ◌||◌, true≢false, List, ◌∷◌, filter, All, AllPairs}
 use Rattle.std.proofs.Common.{Option, Some, None}
 use Rattle.std.proofs.lemmas.Grind.{common_steps}

@@ -1,5 +1,5 @@
 -- How many slots wait after each step of an allocator, against the room that a storage has.
-use Rattle.std.proofs.Common.{rules, ◌≡◌, sym, ap, ◌∙◌, ℕ, zero, suc, ◌+◌, ◌-◌, ◌≤◌, ◌<◌, true, false, List}
+use Rattle.std.proofs.Common.{[], rules, ◌≡◌, sym, ap, ◌∙◌, ℕ, zero, suc, ◌+◌, ◌-◌, ◌≤◌, ◌<◌, true, false, List}
 use Rattle.std.proofs.Common.{◌∷◌, ◌++◌, length, drop, filter, slice_get, arith, Some, All}
 use Rattle.std.proofs.Common.{length-append}
 use Rattle.std.proofs.lemmas.Grind.{common_steps}

@@ -1,4 +1,4 @@
-use Rattle.std.proofs.Common.{rules, ◌≡◌, ap, ℕ, List}
+use Rattle.std.proofs.Common.{rules, ◌≡◌, ap, ℕ, List, []}
 use Rattle.ent_world.specs.declared.fault.Fault.{Fault}
 use Rattle.ent_world.specs.Effects.{Applied, applied}
 use Rattle.ent_world.specs.Sync.{after_births, sync}
