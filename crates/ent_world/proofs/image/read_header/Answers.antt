@@ -6,17 +6,13 @@ use Rattle.ent_world.proofs.ImageHeader.{part_missing, begins, short_letters, ot
 use Rattle.ent_world.proofs.image.read_header.Goals as goal
 
 pub returns-then-bytes-lt8-clause-refused : goal.returns-then-bytes-lt8-clause-refused
-returns-then-bytes-lt8-clause-refused c phase part rest fits_p fits is =
-    too_short c.args.bytes.now (omega (arith, c.if-bytes-lt8.true)) phase part rest is
+returns-then-bytes-lt8-clause-refused c phase part rest fits_p fits is = search (rules, too_short)
 
 pub returns-then-magic-ne-MAGIC-clause-refused : goal.returns-then-magic-ne-MAGIC-clause-refused
-returns-then-magic-ne-MAGIC-clause-refused c phase part rest fits_p fits is =
-    other_magic c.read_long-magic.result.0 c.args.bytes.now c.read_long-magic.result.1.now
-    (search rules) c.if-magic-ne-MAGIC.true c.read_long-magic.ensures.bytes phase part rest is
+returns-then-magic-ne-MAGIC-clause-refused c phase part rest fits_p fits is = search (rules, other_magic)
 
 pub returns-then-bytes-lt-HEADER-clause-refused : goal.returns-then-bytes-lt-HEADER-clause-refused
-returns-then-bytes-lt-HEADER-clause-refused c phase part rest fits_p fits is =
-    too_short c.args.bytes.now (omega (arith, c.if-bytes-lt-HEADER.true)) phase part rest is
+returns-then-bytes-lt-HEADER-clause-refused c phase part rest fits_p fits is = search (rules, too_short)
 
 pub returns-then-version-ne-VERSION-clause-refused :
     goal.returns-then-version-ne-VERSION-clause-refused
@@ -31,22 +27,15 @@ returns-then-rest-len-clause-refused c phase part rest fits_p fits is =
     phase part rest fits_p fits is
 
 pub returns-clause-found : goal.returns-clause-found
-returns-clause-found c =
-    let part = c.split_at.result.0.now in
-    let rest = c.split_at.result.1.now in
-    cc (header_is c.read_long-phase.result.0 (length part) (part ++ rest),
-    take-append-drop c.read_long-len.result.0 c.read_long-len.result.1.now)
+returns-clause-found c = search (rules, header_is, take-append-drop)
 
 -- ---- the first fault
 
 pub returns-then-bytes-lt8-clause-fault : goal.returns-then-bytes-lt8-clause-fault
-returns-then-bytes-lt8-clause-fault c =
-    short_letters c.args.bytes.now (omega (arith, c.if-bytes-lt8.true))
+returns-then-bytes-lt8-clause-fault c = search (rules, short_letters)
 
 pub returns-then-magic-ne-MAGIC-clause-fault : goal.returns-then-magic-ne-MAGIC-clause-fault
-returns-then-magic-ne-MAGIC-clause-fault c =
-    other_letters c.read_long-magic.result.0 c.args.bytes.now c.read_long-magic.result.1.now
-    (search rules) c.if-magic-ne-MAGIC.true c.read_long-magic.ensures.bytes
+returns-then-magic-ne-MAGIC-clause-fault c = search (rules, other_letters)
 
 pub returns-then-bytes-lt-HEADER-clause-fault : goal.returns-then-bytes-lt-HEADER-clause-fault
 returns-then-bytes-lt-HEADER-clause-fault c =

@@ -1,3 +1,4 @@
+use Rattle.std.proofs.Common.{rules}
 use Rattle.std.proofs.Common.{◌≡◌, ◌+◌, ◌<◌, ◌∙◌, ap, sym, subst, arith, inl, Ok, List, AllPairs, ℕ, length}
 use Rattle.std.specs.FinMap as map
 use Rattle.std.specs.FinSet as set
@@ -20,9 +21,7 @@ use Rattle.ent_world.proofs.world.World.of_image.Goals as goal
 -- what the bytes tell of a world whose image they are
 told_of : (c : In_ok-phase) (w : World) → HasImage w → image w ≡ c.args.bytes.now
     → AreParts w c.in_ok-phase.phase c.in_ok-phase.part.now c.in_ok-phase.rest.now
-told_of c w has is = told w has c.args.bytes.now c.in_ok-phase.phase c.in_ok-phase.part.now
-    c.in_ok-phase.rest.now c.in_ok-phase.ensures.phase c.in_ok-phase.ensures.fits
-    c.in_ok-phase.ensures.found is
+told_of c w has is = search (rules, told)
 
 -- its allocator was read
 allocator_is : (c : In_ok-entities) (w : World) → HasImage w
@@ -51,14 +50,13 @@ returns-in_err-handles-clause-exact c w has is =
 -- the handles that were listed
 lists : (c : In_ok-handles) → set.from_list c.in_ok-handles.handles.items
     ≡ c.in_ok-entities.entities.allocator.live
-lists c = ap set.from_list c.in_ok-handles.ensures.items ∙ c.iter.ensures.living
+lists c = search rules
 
 rising : (c : In_ok-handles) → AllPairs (λ g h. g.index < h.index) c.in_ok-handles.handles.items
 rising c = rw c.in_ok-handles.ensures.items c.iter.ensures.rising
 
 bare : (c : In_ok-handles) → c.in_ok-entities.entities.rows ≡ map.empty
-bare c = no_rows c.in_ok-entities.entities c.in_ok-entities.ensures.has_image c.iter.result
-    c.iter.ensures.living c.in_ok-handles.ensures.bare
+bare c = search (rules, no_rows)
 
 pub returns-in_err-storage-clause-exact : goal.returns-in_err-storage-clause-exact
 returns-in_err-storage-clause-exact c w has is =
@@ -73,9 +71,7 @@ returns-in_err-storage-clause-exact c w has is =
     (ap (entities_bytes w.entities) (sym same) ∙ parts.rest_is)) w
 
 pub set_rows-requires-clause-living : goal.set_rows-requires-clause-living
-set_rows-requires-clause-living c = rw c.deref-2.ensures.value
-    (all_live c.in_ok-entities.entities.allocator.live c.in_ok-handles.handles.items
-    (lists (goal.at.set_rows-requires-clause-living c).In_ok-handles))
+set_rows-requires-clause-living c = search (rules, all_live, lists)
 
 -- what was read of the entities
 stored : (c : In_ok-storage) → AreStored c.in_ok-storage.storage.entities
@@ -154,14 +150,10 @@ parts_of c = framed_by c.args.bytes.now c.in_ok-phase.phase c.in_ok-phase.part.n
     c.in_ok-phase.ensures.found
 
 pub returns-in_err-phase-clause-fault : goal.returns-in_err-phase-clause-fault
-returns-in_err-phase-clause-fault c =
-    handed_on c.from_residual.result c.in_err-phase.field-0.0 _ c.from_residual.ensures.1
-    (λ other. c.in_err-phase.ensures.fault)
+returns-in_err-phase-clause-fault c = search (rules, handed_on)
 
 pub returns-in_err-phase-clause-memory : goal.returns-in_err-phase-clause-memory
-returns-in_err-phase-clause-memory c =
-    handed_on c.from_residual.result c.in_err-phase.field-0.0 _ c.from_residual.ensures.1
-    (λ is. absurd (c.in_err-phase.ensures.no_memory is))
+returns-in_err-phase-clause-memory c = search (rules, handed_on)
 
 pub returns-in_err-entities-clause-fault : goal.returns-in_err-entities-clause-fault
 returns-in_err-entities-clause-fault c =
@@ -239,5 +231,4 @@ returns-in_err-storage-clause-memory c =
     (omega (arith, c.in_err-storage.ensures.memory is, c.len.ensures, c.top.ensures)))
 
 pub read_storage-requires-clause-apart : goal.read_storage-requires-clause-apart
-read_storage-requires-clause-apart c = rw c.deref.ensures.value (rising_apart
-    c.in_ok-handles.handles.items (rising (goal.at.read_storage-requires-clause-apart c).In_ok-handles))
+read_storage-requires-clause-apart c = search (rules, rising_apart, rising)
