@@ -127,8 +127,7 @@ pub get-named_handles : (born : List Handle) (phase system index : ℕ) (hs : Li
     → map.get (named_handles born (birth_at phase system index) hs m) q ≡ or_named (map.get m q)
     (given (stands_in born q)
     (birth_by_index phase system (position_from (eq_by_cmp handle_cmp q) index hs)))
-get-named_handles born phase system index [] m q is =
-    sym (ap (or_named (map.get m q)) (given-none (stands_in born q)) ∙ or_named-none (map.get m q))
+get-named_handles born phase system index [] m q is = search (rules, given-none, or_named-none)
 get-named_handles born phase system index (h ∷ hs) m q is =
     let t = stands_in born q in
     let one = given (eq_by_cmp handle_cmp q h) (Some (birth_at phase system index)) in

@@ -78,9 +78,7 @@ module _ (s : Allocator) (m : EntityMap) (sound : IsSound s) (living : AreLiving
   -- the map after a flush has those that live then
   pub living-after : (birth : Handle → Birth)
       → AreLiving (after_flush s) (with_born m birth (born s))
-  living-after birth h =
-      let lives = living h in let got = get-with_born birth (born s) m h in
-      grind (arith, common_steps, born-alive h, lived-before h, live-stays s h)
+  living-after birth h = search (rules, get-with_born, born-alive, lived-before, live-stays)
 
 -- all have entered, then the queues have named those that they list
 module _ (m : EntityMap) (phase : ℕ) (queues : List (List Command)) (hs : List Handle)
@@ -100,15 +98,11 @@ module _ (m : EntityMap) (phase : ℕ) (queues : List (List Command)) (hs : List
   listed-get : (q : Handle) → map.get listed q
       ≡ or_named (cond (stands_in hs q) (Some bare) (map.get m q)) (given (stands_in hs q) (By q))
   unfolding listed
-  listed-get q =
-      get-named_queues hs phase 0 queues all q (omega (arith, few))
-      ∙ ap (λ o. or_named o (given (stands_in hs q) (By q)))
-      (get-with_born (λ _. first_birth phase no_system) hs m q)
+  listed-get q = search (rules, get-named_queues, or_named, given, get-with_born)
 
   listed-born : (q : Handle) → stands_in hs q ≡ true → map.get listed q
       ≡ or_named (Some bare) (By q)
-  listed-born q there = listed-get q
-      ∙ ap (λ t. or_named (cond t (Some bare) (map.get m q)) (given t (By q))) there
+  listed-born q there = search (rules, listed-get, or_named, given)
 
   abbrev others : List Handle
   others = unlisted queues hs
@@ -137,8 +131,7 @@ module _ (m : EntityMap) (phase : ℕ) (queues : List (List Command)) (hs : List
 
   among_others : (q : Handle) (b : Option Birth) → stands_in hs q ≡ true → By q ≡ b
       → stands_in others q ≡ not (is_some b)
-  among_others q b there is =
-      let any = listed_anyhow queues phase 0 0 q in let at = among q in grind (arith, common_steps)
+  among_others q b there is = search (rules, listed_anyhow, among)
 
   not_among : (q : Handle) → stands_in hs q ≡ false → stands_in others q ≡ false
   not_among q none = let at = among q in grind (arith, common_steps)

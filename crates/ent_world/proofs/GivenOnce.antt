@@ -144,8 +144,7 @@ pub frame-living : (queues : List (List Command)) (history : List Call) (w : Wor
     → IsSound w.allocator → AreLiving w.allocator w.entities
     → AreLiving (sync queues (after_calls history w)).world.allocator
     (sync queues (after_calls history w)).world.entities
-frame-living queues history w sound living = sync-living queues (after_calls history w)
-    (history-sound w.allocator history sound) (calls-living history w living)
+frame-living queues history w sound living = search (rules, sync-living, history-sound, calls-living)
 
 -- ---- at the start
 

@@ -83,10 +83,7 @@ living_keys m live hs rising lists living =
 -- who rises by slot is apart from the others
 pub rising_apart : (hs : List Handle) → AllPairs (λ g h. g.index < h.index) hs
     → AllPairs (λ g h. g ≢ h) hs
-rising_apart hs rising i j d before l is =
-    let less = rising i j d before l in
-    let index = ap (λ (h : Handle). h.index) is in
-    omega (arith, less, index)
+rising_apart hs rising i j d before l is = search rules
 
 pub in_map : (m : EntityMap) (h : Handle) → IsTrue (maps.contains_key m h)
     → Contains (maps.keys m) h

@@ -48,11 +48,7 @@ allocator_has w has = record {
 }
 
 pub allocator_len : (e : Allocator) → length (allocator_image e) ≡ 40 + 12 * e.allocator.made
-allocator_len e =
-    let front = length-header_bytes (header e) in
-    let rest = length-slots_bytes (roster e) in
-    let all = length-append (allocator_header (header e)) (slots_bytes (roster e)) in
-    omega (arith, all, front, rest)
+allocator_len e = search (rules, length-header_bytes, length-slots_bytes, length-append)
 
 pub allocator_short : (e : Allocator) → HasAllocatorImage e → length (allocator_image e) < 2 ^ 64
 allocator_short e has =
@@ -138,9 +134,7 @@ bounded bytes (Err fault) found has = tt
 pub listed : (w : World) → HasImage w → (e : Allocator) → e ≡ allocator_of w → (hs : List Handle)
     → AllPairs (λ g h. g.index < h.index) hs → set.from_list hs ≡ e.allocator.live
     → living w ≡ hs
-listed w has e is hs rising lists =
-    living_keys w.entities w.allocator.live hs rising
-    (lists ∙ ap (λ (x : Allocator). x.allocator.live) is) has.world.living
+listed w has e is hs rising lists = search (rules, living_keys)
 
 -- none has a row
 pub no_rows : (e : Allocator) → HasAllocatorImage e → (hs : List Handle)
@@ -204,8 +198,7 @@ all_live live hs lists k d lt =
 pub living_is : (m : EntityMap) (hs : List Handle) (live : set.FinSet handle_cmp)
     → AreStored m hs → AllPairs (λ g h. g.index < h.index) hs → set.from_list hs ≡ live
     → map.keys m ≡ hs
-living_is m hs live stored rising lists =
-    living_keys m live hs rising lists (stored_living m hs stored live lists)
+living_is m hs live stored rising lists = search (rules, living_keys, stored_living)
 
 -- who lives or waits has a slot, and its bytes
 pub slots_made : (e : Allocator) → HasAllocatorImage e → (hs : List Handle)

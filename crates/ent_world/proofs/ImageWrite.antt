@@ -1,4 +1,5 @@
 -- What is written of a world's entities: the order in which they lie doesn't matter.
+use Rattle.std.proofs.Common.{rules}
 use Rattle.std.proofs.Common.{◌≡◌, refl, sym, ap, subst, ◌∙◌, ℕ, ℤ, zero, suc, ◌<◌, ◌≤◌, Bool, true}
 use Rattle.std.proofs.Common.{List, get_or, arith, Contains, Option, Some}
 use Rattle.std.proofs.Common.{is_some, IfSome, IsSomeAnd, AllPairs, All}
@@ -57,17 +58,13 @@ module _ (rows : Rows) (places : List Handle) (m : EntityMap) (are : AreRows row
   width_listed = below_same m places hs alike 256
 
   pub have_rows : All (λ h. is_some (map.get rows h) ≡ true) hs
-  have_rows k d lt =
-      let h = get_or hs k d in
-      are.each h ∙ living h ∙ all_live live hs lists k d lt
+  have_rows k d lt = search (rules, all_live)
 
   pub keys_listed : map.keys m ≡ hs
   keys_listed = living_keys m live hs rising lists living
 
   contained : (P : Handle → Type 0) → All P hs → (h : Handle) → Contains (map.keys m) h → P h
-  contained P all h is =
-      let listed = subst (λ hs. Contains hs h) keys_listed is in
-      subst P listed.2 (all listed.0 h listed.1)
+  contained P all h is = search (rules, keys_listed)
 
   -- what was written of them says that they are stored
   pub are_stored : (n : ℕ) → n ≤ 256

@@ -1,4 +1,5 @@
 -- The room that a world in blocks has for the slots that wait.
+use Rattle.std.proofs.Common.{rules}
 use Rattle.std.proofs.Common.{[], ◌≡◌, ◌⊎◌, inl, inr, ℕ, ◌+◌, ◌-◌, ◌^◌, ◌<◌, ◌≤◌, List, ◌∷◌, length, min, arith, ap, ◌∙◌}
 use Rattle.std.specs.List.{sum_by}
 use Rattle.std.proofs.lemmas.Grind.{common_steps}
@@ -48,11 +49,4 @@ pub kept : (d : Blocks) (s : Allocator) (rows : Rows) (phase : ℕ) (before stor
     → before.spare ≤ store.spare → min wanted (length s.pool) ≤ store.spare
     → length s.pool < 2 ^ 32 → (sum_by (λ n. n) sizes ≤ wanted) ⊎ (wanted ≡ 2 ^ 32 - 1)
     → IsKeptInBlocks d phase store
-kept d s rows phase before store sizes wanted start rows_are blocks world at room flushed entities
-    places grows spare few most = record {
-      world = rw (start, entities) world;
-      flushed = ap (λ (s : Allocator). s.asked) start ∙ flushed;
-      rows = rw (rows_are, places, entities) at;
-      room = omega (arith, ap top start, room, grows);
-      room_dealt = omega (arith, ap dealt blocks, enough (length s.pool) wanted sizes few most, spare);
-    }
+kept d s rows phase before store sizes wanted start rows_are blocks world at room flushed entities places grows spare few most = search (rules, enough)

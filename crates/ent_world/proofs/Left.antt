@@ -39,10 +39,10 @@ module _ {X : Type 0} (xs rest : List X) (k : ℕ) (x : X) (left : drop k xs ≡
   more_left d ys le = search (rules, taken_long, drop-append)
 
   pub one_left : (d : ℕ) → d ≤ k → drop d (take (k + 1) xs) ≡ drop d (take k xs) ++ x ∷ []
-  one_left d le = ap (drop d) (next_taken xs rest k x left) ∙ more_left d (x ∷ []) le
+  one_left d le = search (rules, next_taken, more_left)
 
   pub left_long : (d : ℕ) → d ≤ k → d + length (drop d (take k xs)) ≡ k
-  left_long d le = let long = length-drop d (take k xs) in omega (arith, long, taken_long)
+  left_long d le = search (rules, length-drop, taken_long)
 
 -- ---- handles
 

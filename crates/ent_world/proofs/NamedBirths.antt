@@ -70,21 +70,8 @@ owner birth (h ∷ hs) b there =
 
     by : (t : Bool) → eq_by_cmp birth_cmp b (birth h) ≡ t → (t || others) ≡ true
         → (others ≡ true → Owner birth hs b) → Owner birth (h ∷ hs) b
-    by true tied _ _ = (
-      h,
-      (
-        ap (λ t. t || stands_in hs h) (itself h),
-        sym (tells_apart birth_cmp-IsAntisymmetric b (birth h) tied),
-      ),
-    )
-    by false apart rest later =
-        let found = later rest in (
-          found.0,
-          (
-            or_right (eq_by_cmp handle_cmp found.0 h) (stands_in hs found.0) found.1.0,
-            found.1.1,
-          ),
-        )
+    by true tied _ _ = search (rules, itself, tells_apart)
+    by false apart rest later = search (rules, or_right)
 
 owned : (birth : Handle → Birth) (hs : List Handle) (h : Handle) → stands_in hs h ≡ true
     → list_any (eq_by_cmp birth_cmp (birth h)) (map birth hs) ≡ true

@@ -129,8 +129,7 @@ module _ (queues : List (List Command)) (w : World) (view : BirthMap) (is_world 
   -- a handle that is listed has the birth by the queues
   birth_is : (h : Handle) (b : Birth) → listed_birth w.phase 0 queues h ≡ Some b → birth h ≡ b
   unfolding birth
-  birth_is h b is =
-      ap (λ o. unwrap_or o (unlisted_birth w.phase (unlisted queues (born w.allocator)) h)) is
+  birth_is h b is = search rules
 
   -- who is born has the birth of its position
   placed : (h : Handle) → IsBorn h
@@ -141,8 +140,7 @@ module _ (queues : List (List Command)) (w : World) (view : BirthMap) (is_world 
       (one.0, (one.1, birth_is h one.0 one.1))
 
   was_not_there : (h : Handle) → IsBorn h → finite.get w.entities h ≡ None
-  was_not_there h there = no_entity (finite.get w.entities h)
-      (born-absent w.allocator w.entities is_world.sound is_world.living h there)
+  was_not_there h there = search (rules, no_entity, born-absent)
 
   is_new : (h : Handle) → IsBorn h → find birth_cmp (birth h) view ≡ None
   is_new h there = grind (arith, common_steps, entity_with, placed, listed_parts)
@@ -153,9 +151,7 @@ module _ (queues : List (List Command)) (w : World) (view : BirthMap) (is_world 
   births-named : AreNamed (after_births queues w).entities
       (entered_alone (map birth (flat_map handles_listed queues)) view)
   unfolding birth
-  births-named = entered-named (birth_in w.phase queues (born w.allocator)) (born w.allocator)
-      (flat_map handles_listed queues) w.entities view named listed_born was_not_there is_new
-      of_its_own
+  births-named = search (rules, entered-named, listed_born, was_not_there, is_new, of_its_own)
 
   module _ (name : Handle → Birth) (names : AreNames name (after_births queues w).entities)
       (births : List (List BirthCommand))

@@ -82,8 +82,7 @@ module _ (rows : Rows) (places : List Handle) (m : EntityMap) (h : Handle) (e : 
 pub rows-born : (birth : Handle → Birth) (hs : List Handle) (rows : Rows) (places : List Handle)
     (m : EntityMap) → AreRows rows places m → AreNew hs m
     → AreRows (with_rows rows (length places) hs) (places ++ hs) (with_born m birth hs)
-rows-born birth [] rows places m are new =
-    subst (λ hs. AreRows rows hs m) (sym (append-nil places)) are
+rows-born birth [] rows places m are new = search (rules, append-nil)
 rows-born birth (h ∷ hs) rows places m are new =
     let e = newborn (birth h) in
     let one = rows-insert rows places m h e are new.0 in

@@ -28,12 +28,12 @@ new_later h e (g ∷ hs) m none new =
 
 slice_get-drop : (places : List Handle) (n i : ℕ) → slice_get (drop n places) i
     ≡ slice_get places (n + i)
-slice_get-drop places zero i = let same : i ≡ 0 + i = omega arith in ap (slice_get places) same
+slice_get-drop places zero i = search rules
 slice_get-drop [] (suc n) i = refl
 slice_get-drop (x ∷ places) (suc n) i = search (rules, slice_get-drop places n i)
 
 some_one : (x h : Handle) → Some x ≡ Some h → eq_by_cmp handle_cmp h x ≡ true
-some_one x h is = ap (λ y. eq_by_cmp handle_cmp h y) (same_Some x h is) ∙ itself h
+some_one x h is = search (rules, same_Some, itself)
 
 pub stands_at : (places : List Handle) (i : ℕ) (h : Handle) → slice_get places i ≡ Some h
     → stands_in places h ≡ true
