@@ -1,11 +1,11 @@
 -- What queues list gets its births: the first queue that lists a handle counts.
 use Rattle.std.proofs.lemmas.Grind.{common_steps}
-use Rattle.std.proofs.Common.{rules, ◌≡◌, refl, sym, ap, ◌∙◌, subst, ℕ, ◌+◌, ◌<◌, ◌≤◌, ◌^◌, Bool}
-use Rattle.std.proofs.Common.{true, false, cond, ◌≢◌, eqb, eq-eqb, List, [], ◌∷◌, ◌++◌, length}
+use Rattle.std.proofs.Common.{[], rules, ◌≡◌, refl, sym, ap, ◌∙◌, ℕ, ◌+◌, ◌<◌, ◌≤◌, ◌^◌, Bool}
+use Rattle.std.proofs.Common.{true, false, cond, ◌≢◌, eqb, eq-eqb, List, ◌∷◌, ◌++◌, length}
 use Rattle.std.proofs.Common.{Option, Some, None, arith}
 use Rattle.std.proofs.lemmas.Option.{none-some, same_Some}
 use Rattle.std.specs.Ordering.{eq_by_cmp}
-use Rattle.std.specs.Option.{option_map, option_map_or}
+use Rattle.std.specs.Option.{option_map}
 use Rattle.std.specs.List.{position_from}
 use Rattle.std.specs.FinMap as map
 use Rattle.ent_handle.specs.declared.birth.Birth.{Birth}
@@ -89,32 +89,7 @@ reborn birth e = record e { birth = birth }
 pub get-with_birth : (m : EntityMap) (h : Handle) (birth : Birth) (q : Handle)
     → map.get (with_birth m h birth) q
     ≡ cond (eq_by_cmp handle_cmp q h) (option_map (reborn birth) (map.get m q)) (map.get m q)
-get-with_birth m h birth q = by_test (eq_by_cmp handle_cmp q h) refl
-  where
-    at_key : (e : Entity) (k : Handle) → map.get (map.insert m h e) k
-        ≡ cond (eq_by_cmp handle_cmp k h) (Some e) (map.get m k)
-    at_key e k = map.get-insert handle_cmp_total m h e k
-
-    here : (o : Option Entity) → map.get m h ≡ o
-        → map.get (option_map_or (λ e. map.insert m h (reborn birth e)) o m) h
-        ≡ option_map (reborn birth) o
-    here None at = at
-    here (Some e) at = at_key (reborn birth e) h
-        ∙ ap (λ b. cond b (Some (reborn birth e)) (map.get m h)) (itself h)
-
-    elsewhere : (o : Option Entity) → eq_by_cmp handle_cmp q h ≡ false
-        → map.get (option_map_or (λ e. map.insert m h (reborn birth e)) o m) q
-        ≡ map.get m q
-    elsewhere None apart = refl
-    elsewhere (Some e) apart = at_key (reborn birth e) q
-        ∙ ap (λ b. cond b (Some (reborn birth e)) (map.get m q)) apart
-
-    by_test : (b : Bool) → eq_by_cmp handle_cmp q h ≡ b → map.get (with_birth m h birth) q
-        ≡ cond b (option_map (reborn birth) (map.get m q)) (map.get m q)
-    by_test true tied = subst (λ k. map.get (with_birth m h birth) k
-        ≡ option_map (reborn birth) (map.get m k))
-        (sym (same_handle q h tied)) (here (map.get m h) refl)
-    by_test false apart = elsewhere (map.get m h) apart
+get-with_birth m h birth q = grind (arith, common_steps, same_handle q h, itself h, map.get-insert handle_cmp_total m h)
 
 pub get-named : (born : List Handle) (h : Handle) (birth : Birth) (m : EntityMap) (q : Handle)
     → map.get (named born h birth m) q ≡ or_named (map.get m q)
@@ -152,8 +127,7 @@ pub get-named_handles : (born : List Handle) (phase system index : ℕ) (hs : Li
     → map.get (named_handles born (birth_at phase system index) hs m) q ≡ or_named (map.get m q)
     (given (stands_in born q)
     (birth_by_index phase system (position_from (eq_by_cmp handle_cmp q) index hs)))
-get-named_handles born phase system index [] m q is =
-    sym (ap (or_named (map.get m q)) (given-none (stands_in born q)) ∙ or_named-none (map.get m q))
+get-named_handles born phase system index [] m q is = search (rules, given-none, or_named-none)
 get-named_handles born phase system index (h ∷ hs) m q is =
     let t = stands_in born q in
     let one = given (eq_by_cmp handle_cmp q h) (Some (birth_at phase system index)) in

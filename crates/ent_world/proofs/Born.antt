@@ -1,8 +1,10 @@
 -- What enters the map after a flush is each handle that is born, with its birth.
+use Rattle.std.proofs.lemmas.Bool.{or_left}
 use Rattle.std.proofs.lemmas.Grind.{common_steps}
-use Rattle.std.proofs.Common.{rules, ◌≡◌, refl, sym, ap, ◌∙◌, ℕ, ◌+◌, ◌≤◌, ◌^◌, Bool, true, false}
-use Rattle.std.proofs.Common.{cond, not, ◌&&◌, ◌||◌, true≢false, List, [], ◌∷◌, ◌++◌, length, drop}
-use Rattle.std.proofs.Common.{eqb, Option, Some, None, is_some, is_none, inl, inr, unwrap_or, arith}
+use Rattle.std.proofs.Common.{[], rules, ◌≡◌, refl, sym, ap, ◌∙◌, ℕ, ◌+◌, ◌≤◌, ◌^◌, Bool, true, false}
+use Rattle.std.proofs.Common.{cond, not, ◌&&◌, true≢false, List, ◌∷◌, ◌++◌, length, drop}
+use Rattle.std.proofs.Common.{eqb, Option, Some, None, is_some, is_none, unwrap_or, arith}
+use Rattle.std.proofs.lemmas.Bool.{or_right}
 use Rattle.std.specs.Ordering.{eq_by_cmp}
 use Rattle.std.specs.Option.{option_map_or}
 use Rattle.std.specs.List.{position_from}
@@ -63,35 +65,20 @@ module _ (s : Allocator) (m : EntityMap) (sound : IsSound s) (living : AreLiving
   pub born-new : AreNew (born s) m
   born-new = all_new (born s) (distinct (born s) (born-apart s sound)) born-absent
     where
-      later : (a b : Bool) → b ≡ true → (a || b) ≡ true
-      later t b there = grind (arith, common_steps)
-
       all_new : (hs : List Handle) → AreDistinct hs → ((h : Handle) → stands_in hs h ≡ true
           → map.contains_key m h ≡ false) → AreNew hs m
       all_new [] once absent = tt
-      all_new (h ∷ hs) once absent = (
-        absent h (ap (λ b. b || stands_in hs h) (itself h)),
-        once.0,
-        all_new hs once.1
-            (λ g there. absent g (later (eq_by_cmp handle_cmp g h) (stands_in hs g) there)),
-      )
+      all_new (h ∷ hs) once absent = search (rules, itself, or_left, or_right, all_new hs once.1)
 
   -- who lives and is not born was there
   lived-before : (h : Handle) → stands_in (born s) h ≡ false → set.contains (after_flush s).live h
       ≡ true → set.contains s.live h ≡ true
-  lived-before h none lives = elim (live-after_flush s h lives) [
-    | inl before ↦ before
-    | inr taken ↦ absurd
-        (true≢false (sym (stands_in-from_Contains (born s) h (Contains-permutation s.taken (born s)
-        h (born-IsPermutation s) taken)) ∙ none))
-  ]
+  lived-before h none lives = grind (arith, common_steps, live-after_flush s h, stands_in-from_Contains (born s) h, Contains-permutation s.taken (born s) h (born-IsPermutation s))
 
   -- the map after a flush has those that live then
   pub living-after : (birth : Handle → Birth)
       → AreLiving (after_flush s) (with_born m birth (born s))
-  living-after birth h =
-      let lives = living h in let got = get-with_born birth (born s) m h in
-      grind (arith, common_steps, born-alive h, lived-before h, live-stays s h)
+  living-after birth h = search (rules, get-with_born, born-alive, lived-before, live-stays)
 
 -- all have entered, then the queues have named those that they list
 module _ (m : EntityMap) (phase : ℕ) (queues : List (List Command)) (hs : List Handle)
@@ -111,15 +98,11 @@ module _ (m : EntityMap) (phase : ℕ) (queues : List (List Command)) (hs : List
   listed-get : (q : Handle) → map.get listed q
       ≡ or_named (cond (stands_in hs q) (Some bare) (map.get m q)) (given (stands_in hs q) (By q))
   unfolding listed
-  listed-get q =
-      get-named_queues hs phase 0 queues all q (omega (arith, few))
-      ∙ ap (λ o. or_named o (given (stands_in hs q) (By q)))
-      (get-with_born (λ _. first_birth phase no_system) hs m q)
+  listed-get q = search (rules, get-named_queues, or_named, given, get-with_born)
 
   listed-born : (q : Handle) → stands_in hs q ≡ true → map.get listed q
       ≡ or_named (Some bare) (By q)
-  listed-born q there = listed-get q
-      ∙ ap (λ t. or_named (cond t (Some bare) (map.get m q)) (given t (By q))) there
+  listed-born q there = search (rules, listed-get, or_named, given)
 
   abbrev others : List Handle
   others = unlisted queues hs
@@ -148,8 +131,7 @@ module _ (m : EntityMap) (phase : ℕ) (queues : List (List Command)) (hs : List
 
   among_others : (q : Handle) (b : Option Birth) → stands_in hs q ≡ true → By q ≡ b
       → stands_in others q ≡ not (is_some b)
-  among_others q b there is =
-      let any = listed_anyhow queues phase 0 0 q in let at = among q in grind (arith, common_steps)
+  among_others q b there is = search (rules, listed_anyhow, among)
 
   not_among : (q : Handle) → stands_in hs q ≡ false → stands_in others q ≡ false
   not_among q none = let at = among q in grind (arith, common_steps)
@@ -175,15 +157,8 @@ module _ (m : EntityMap) (phase : ℕ) (queues : List (List Command)) (hs : List
       by_test : (q : Handle) (b : Bool) → stands_in hs q ≡ b
           → or_numbered (map.get listed q) (birth_by_index phase no_system (index q))
           ≡ cond b (Some (newborn (birth_in phase queues hs q))) (map.get m q)
-      by_test q true there = ap (λ o. or_numbered o (birth_by_index phase no_system (index q)))
-          (listed-born q there) ∙ of_born q there (By q) refl
-      by_test q false none =
-          ap (λ p. or_numbered (map.get listed q) (birth_by_index phase no_system p))
-          (no_index q 0 others (not_among q none))
-          ∙ or_numbered-none (map.get listed q)
-          ∙ listed-get q
-          ∙ ap (λ t. or_named (cond t (Some bare) (map.get m q)) (given t (By q))) none
-          ∙ or_named-none (map.get m q)
+      by_test q true there = cc (listed-born q there, of_born q there (By q) refl)
+      by_test q false none = grind (arith, common_steps, no_index q 0 others (not_among q none), listed-get q, or_numbered-none, or_named-none)
 
 -- the places of those that have entered at the end
 drop_all_before : (xs ys : List Handle) → drop (length xs) (xs ++ ys) ≡ ys

@@ -1,5 +1,5 @@
 -- Commands in order: what was applied so far, one more, and where it stopped.
-use Rattle.std.proofs.Common.{rules, ◌≡◌, refl, ℕ, ◌+◌, ◌<◌, List, [], ◌∷◌, ◌++◌, length, take}
+use Rattle.std.proofs.Common.{[], rules, ◌≡◌, refl, ℕ, ◌+◌, ◌<◌, List, ◌∷◌, ◌++◌, length, take}
 use Rattle.std.proofs.Common.{drop, arith}
 use Rattle.std.proofs.lemmas.Grind.{common_steps}
 use Rattle.std.proofs.lemmas.List.{take_more, drop_more, length-drop}

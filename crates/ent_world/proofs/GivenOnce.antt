@@ -1,7 +1,7 @@
 -- Over the frames of a run no handle is given twice: each frame keeps the list of all given handles
 -- free of repetitions.
-use Rattle.std.proofs.Common.{rules, ◌≡◌, sym, ◌∙◌, subst, append-nil, append_assoc, ℕ, true, List}
-use Rattle.std.proofs.Common.{[], ◌∷◌, ◌++◌, Result, Ok, Err}
+use Rattle.std.proofs.Common.{[], rules, ◌≡◌, sym, ◌∙◌, subst, append-nil, append_assoc, ℕ, true, List}
+use Rattle.std.proofs.Common.{◌∷◌, ◌++◌, Result, Ok, Err}
 use Rattle.std.proofs.lemmas.List.Elements.{All-nil}
 use Rattle.ent_handle.specs.Handle.{Handle}
 use Rattle.ent_alloc.specs.Limits.{Limits, AreLimits}
@@ -64,17 +64,8 @@ alive w h living there = sym (living h) ∙ there
 
 pub flushed-kept : IsKept IsFlushed
 flushed-kept = record {
-  components = λ change h w there before. record {
-    asked = before.asked;
-    sound = before.sound;
-    living = keys-components w.allocator.live w.entities h change before.living;
-  };
-  despawn = λ h w there before. record {
-    asked = before.asked;
-    sound = after_free-sound w.allocator h before.sound before.asked
-        (alive w h before.living there);
-    living = keys-remove w.allocator.live w.entities h before.living;
-  };
+  components = λ change h w there before. search (rules, keys-components);
+  despawn = λ h w there before. search (rules, after_free-sound, alive, keys-remove);
 }
 
 -- ---- what was given stays spent
@@ -118,14 +109,11 @@ module _ (queues : List (List Command)) (w : World) (sound : IsSound w.allocator
 pub sync-given : (queues : List (List Command)) (w : World) (given : List Handle)
     → IsSound w.allocator → AreLiving w.allocator w.entities → AreSpent w.allocator given
     → AreSpent (sync queues w).world.allocator given
-sync-given queues w given sound living once = at_end.spent
+sync-given queues w given sound living once = (after_queues-keeps (IsOnTheWay given)
+    (on_the_way-kept given) 0 queues (applied (after_births queues w) []) at_start).spent
   where
     at_start : IsOnTheWay given (after_births queues w)
     at_start = search (rules, births-flushed, flush-given)
-
-    at_end : IsOnTheWay given (sync queues w).world
-    at_end = after_queues-keeps (IsOnTheWay given) (on_the_way-kept given) 0 queues
-        (applied (after_births queues w) []) at_start
 
 -- ---- a frame: reservations, and the sync after them
 
@@ -156,8 +144,7 @@ pub frame-living : (queues : List (List Command)) (history : List Call) (w : Wor
     → IsSound w.allocator → AreLiving w.allocator w.entities
     → AreLiving (sync queues (after_calls history w)).world.allocator
     (sync queues (after_calls history w)).world.entities
-frame-living queues history w sound living = sync-living queues (after_calls history w)
-    (history-sound w.allocator history sound) (calls-living history w living)
+frame-living queues history w sound living = search (rules, sync-living, history-sound, calls-living)
 
 -- ---- at the start
 

@@ -17,16 +17,12 @@ letters_are = refl
 pub header_is : (phase len : ℕ) (rest : List ℕ) → header_bytes phase len ++ rest
     ≡ long letters ++ (word version ++ (long phase ++ (long len ++ rest)))
 unfolding header_bytes
-header_is phase len rest =
-    ap (λ ms. (ms ++ (word version ++ (long phase ++ long len))) ++ rest) (sym letters_are)
-    ∙ append_assoc (long letters) (word version ++ (long phase ++ long len)) rest
-    ∙ ap (long letters ++◌) (append_assoc (word version) (long phase ++ long len) rest
-    ∙ ap (word version ++◌) (append_assoc (long phase) (long len) rest))
+header_is phase len rest = search (rules, letters_are, append_assoc)
 
 pub header_alone : (phase len : ℕ) → header_bytes phase len
     ≡ long letters ++ (word version ++ (long phase ++ long len))
 unfolding header_bytes
-header_alone phase len = ap (λ ms. ms ++ (word version ++ (long phase ++ long len))) (sym letters_are)
+header_alone phase len = search (rules, letters_are)
 
 pub length-header : (phase len : ℕ) → length (header_bytes phase len) ≡ 28
 unfolding header_bytes
@@ -36,51 +32,28 @@ length-header phase len = search (rules, length-append, length-word, length-long
 pub same_framed : (phase other : ℕ) (part rest q s : List ℕ) → phase < 2 ^ 64 → other < 2 ^ 64
     → length part < 2 ^ 64 → length q < 2 ^ 64 → framed phase part rest ≡ framed other q s
     → (phase ≡ other) × ((part ≡ q) × (rest ≡ s))
-same_framed phase other part rest q s fits_p fits_o fits_part fits_q is =
-    let spelled = sym (header_is phase (length part) (part ++ rest)) ∙ is
-    ∙ header_is other (length q) (q ++ s) in
-    let first = same_longs letters letters _ _ (omega arith) (omega arith) spelled in
-    let second = same_words version version _ _ (omega arith) (omega arith) first.1 in
-    let phases = same_longs phase other _ _ fits_p fits_o second.1 in
-    let lens = same_longs (length part) (length q) _ _ fits_part fits_q phases.1 in
-    let parts = same_parts (length q) part rest q s lens.0 refl lens.1 in
-    (phases.0, (parts.0, parts.1))
+same_framed phase other part rest q s fits_p fits_o fits_part fits_q is = search (rules, header_is, same_longs, same_words, same_parts)
 
 -- ---- what is no header
 
 pub too_short : (bytes : List ℕ) → length bytes < 28 → (phase : ℕ) (part rest : List ℕ)
     → bytes ≢ framed phase part rest
-too_short bytes short phase part rest is =
-    let all = ap length is ∙ length-append (header_bytes phase (length part)) (part ++ rest) in
-    let front = length-header phase (length part) in
-    omega (arith, all, front)
+too_short bytes short phase part rest is = search (rules, length-append, length-header)
 
 pub other_magic : (number : ℕ) (bytes left : List ℕ) → number < 2 ^ 64 → number ≢ letters
     → bytes ≡ long number ++ left → (phase : ℕ) (part rest : List ℕ) → bytes ≢ framed phase part rest
-other_magic number bytes left fits other found phase part rest is =
-    other (same_longs number letters _ _ fits (omega arith)
-    (sym found ∙ is ∙ header_is phase (length part) (part ++ rest))).0
+other_magic number bytes left fits other found phase part rest is = search (rules, same_longs, header_is)
 
 pub other_version : (number : ℕ) (bytes left : List ℕ) → number < 2 ^ 32 → number ≢ version
     → bytes ≡ long letters ++ (word number ++ left) → (phase : ℕ) (part rest : List ℕ)
     → bytes ≢ framed phase part rest
-other_version number bytes left fits other found phase part rest is =
-    let first = same_longs letters letters _ _ (omega arith) (omega arith)
-    (sym found ∙ is ∙ header_is phase (length part) (part ++ rest)) in
-    other (same_words number version _ _ fits (omega arith) first.1).0
+other_version number bytes left fits other found phase part rest is = search (rules, same_longs, header_is, same_words)
 
 pub part_missing : (number len : ℕ) (bytes left : List ℕ) → number < 2 ^ 64 → len < 2 ^ 64
     → length left < len → bytes ≡ long letters ++ (word version ++ (long number ++ (long len ++ left)))
     → (phase : ℕ) (part rest : List ℕ) → phase < 2 ^ 64 → length part < 2 ^ 64
     → bytes ≢ framed phase part rest
-part_missing number len bytes left fits_n fits_l less found phase part rest fits_p fits is =
-    let first = same_longs letters letters _ _ (omega arith) (omega arith)
-    (sym found ∙ is ∙ header_is phase (length part) (part ++ rest)) in
-    let second = same_words version version _ _ (omega arith) (omega arith) first.1 in
-    let phases = same_longs number phase _ _ fits_n fits_p second.1 in
-    let lens = same_longs len (length part) _ _ fits_l fits phases.1 in
-    let long = ap length lens.1 ∙ length-append part rest in
-    omega (arith, lens.0, long, less)
+part_missing number len bytes left fits_n fits_l less found phase part rest fits_p fits is = search (rules, same_longs, header_is, same_words, length-append)
 
 -- ---- parts that are appended one by one
 
@@ -93,8 +66,7 @@ pub begins : (bytes left : List ℕ) → bytes ≡ long letters ++ left → byte
 begins bytes left is = is ∙ ap (λ ms. ms ++ left) letters_are
 
 pub short_letters : (bytes : List ℕ) → length bytes < 8 → (rest : List ℕ) → bytes ≢ magic ++ rest
-short_letters bytes short rest is =
-    let joined = ap length is ∙ length-append magic rest in omega (arith, short, joined)
+short_letters bytes short rest is = search (rules, length-append)
 
 pub other_letters : (number : ℕ) (bytes left : List ℕ) → number < 2 ^ 64 → number ≢ letters
     → bytes ≡ long number ++ left → (rest : List ℕ) → bytes ≢ magic ++ rest

@@ -1,7 +1,7 @@
 -- A list of handles that rises by slot, and has just those of a map, has the keys of the map.
-use Rattle.std.proofs.Common.{rules, ◌≡◌, ◌≢◌, refl, sym, ap, subst, ◌∙◌, ℕ, suc, ◌<◌, Bool}
-use Rattle.std.proofs.Common.{true, false, T, ◌&&◌, List, [], ◌∷◌, map, length, get_or, arith, Contains}
-use Rattle.std.proofs.Common.{Option, None, Some, is_some, IsTrue, AllPairs, true≢false}
+use Rattle.std.proofs.Common.{[], rules, ◌≡◌, ◌≢◌, refl, sym, ap, subst, ◌∙◌, ℕ, suc, ◌<◌, Bool}
+use Rattle.std.proofs.Common.{T, ◌&&◌, List, ◌∷◌, map, length, get_or, arith, Contains}
+use Rattle.std.proofs.Common.{Option, is_some, IsTrue, AllPairs, true≢false}
 use Rattle.std.specs.List.{list_any}
 use Rattle.std.specs.Ordering.{eq_by_cmp, is_lt}
 use Rattle.std.specs.FinMap as maps
@@ -23,8 +23,7 @@ unmarked [] = refl
 unmarked (h ∷ hs) = ap (h ∷◌) (unmarked hs)
 
 both : (a b : Bool) → T a → T b → T (a && b)
-both true b p q = q
-both false b p q = p
+both b b2 p q = search rules
 
 -- ---- they are sorted
 
@@ -36,10 +35,7 @@ below_marks k (e ∷ es) = ap (is_lt (handle_cmp k e.0) &&◌) (below_marks k es
 sorted_marks : (es : List (Handle × Entity))
     → is_sorted handle_cmp (marks (map (λ e. e.0) es)) ≡ is_sorted handle_cmp es
 sorted_marks [] = refl
-sorted_marks (e ∷ es) =
-    let here = below_marks e.0 es in
-    let rest = sorted_marks es in
-    λ i. here i && rest i
+sorted_marks (e ∷ es) = search (rules, below_marks e.0 es, sorted_marks es)
 
 below_less : (g h : Handle) → g.index < h.index → T (is_lt (handle_cmp g h))
 below_less g h l = search (rules)
@@ -48,9 +44,7 @@ rising_below : (g : Handle) (hs : List Handle)
     → ((j : ℕ) (d : Handle) → j < length hs → g.index < (get_or hs j d).index)
     → T (below_all handle_cmp g (marks hs))
 rising_below g [] less = tt
-rising_below g (h ∷ hs) less =
-    both _ _ (below_less g h (less 0 g (omega arith)))
-    (rising_below g hs (λ j d l. less (suc j) d (omega arith)))
+rising_below g (h ∷ hs) less = search (rules, both, below_less, less 0 g (omega arith), rising_below g hs (λ j d l. less (suc j) d (omega arith)))
 
 rising_sorted : (hs : List Handle) → AllPairs (λ g h. g.index < h.index) hs
     → T (is_sorted handle_cmp (marks hs))
@@ -62,10 +56,7 @@ rising_sorted (h ∷ hs) rising =
 -- ---- they have the same keys
 
 one_mark : (a b : Option (Unit {0})) → is_some a ≡ is_some b → a ≡ b
-one_mark None None is = refl
-one_mark None (Some x) is = absurd (true≢false (sym is))
-one_mark (Some x) None is = absurd (true≢false is)
-one_mark (Some x) (Some y) is = refl
+one_mark it other is = search (rules, true≢false)
 
 found : (q : Handle) (hs : List Handle)
     → is_some (find handle_cmp q (marks hs)) ≡ list_any (eq_by_cmp handle_cmp q) hs
@@ -75,13 +66,10 @@ pub keys_are : (m : EntityMap) (hs : List Handle) → AllPairs (λ g h. g.index 
     → ((q : Handle) → maps.contains_key m q ≡ list_any (eq_by_cmp handle_cmp q) hs)
     → maps.keys m ≡ hs
 keys_are m hs rising members =
-    let alike : (q : Handle) → find handle_cmp q (marks (maps.keys m))
-    ≡ find handle_cmp q (marks hs) = λ q. one_mark (find handle_cmp q (marks (maps.keys m)))
-    (find handle_cmp q (marks hs))
-    (found q (maps.keys m) ∙ sym (maps.contains_key-keys m q) ∙ members q ∙ sym (found q hs)) in
     let marked = same_entries handle_cmp total same (marks (maps.keys m)) (marks hs)
-    (subst T (sym (sorted_marks (maps.entries m))) (maps.entries_sorted m))
-    (rising_sorted hs rising) alike in
+    (subst T (sym (sorted_marks (maps.entries m))) (maps.entries_sorted m)) (rising_sorted hs rising)
+    (λ q. one_mark (find handle_cmp q (marks (maps.keys m))) (find handle_cmp q (marks hs))
+    (found q (maps.keys m) ∙ sym (maps.contains_key-keys m q) ∙ members q ∙ sym (found q hs))) in
     sym (unmarked (maps.keys m)) ∙ ap (map (λ e. e.0)) marked ∙ unmarked hs
 
 -- the keys of the living ones, listed by rising slot
@@ -95,10 +83,7 @@ living_keys m live hs rising lists living =
 -- who rises by slot is apart from the others
 pub rising_apart : (hs : List Handle) → AllPairs (λ g h. g.index < h.index) hs
     → AllPairs (λ g h. g ≢ h) hs
-rising_apart hs rising i j d before l is =
-    let less = rising i j d before l in
-    let index = ap (λ (h : Handle). h.index) is in
-    omega (arith, less, index)
+rising_apart hs rising i j d before l is = search rules
 
 pub in_map : (m : EntityMap) (h : Handle) → IsTrue (maps.contains_key m h)
     → Contains (maps.keys m) h

@@ -1,8 +1,12 @@
 -- What the bytes of an image tell, and the world that is read of them.
-use Rattle.std.proofs.Common.{◌≡◌, ◌≢◌, refl, sym, ap, subst, ◌∙◌, ℕ, suc, ◌+◌, ◌*◌, ◌^◌}
-use Rattle.std.proofs.Common.{◌<◌, ◌≤◌, Bool, true, false, List, [], ◌∷◌, ◌++◌, length, get_or, arith}
-use Rattle.std.proofs.Common.{Contains, Option, None, Some, is_some, AllPairs, All, Result, Ok}
-use Rattle.std.proofs.Common.{Err, IfErr, IfOk, IsErrAnd, ◌⊎◌, inl, inr}
+use Rattle.std.proofs.lemmas.List.Elements.{All-contains}
+use Rattle.std.proofs.Common.{[], rules}
+use Rattle.ent_world.proofs.PlacedRows.{rows_stand}
+use Rattle.ent_alloc.proofs.HandleSets.{same_handle}
+use Rattle.std.proofs.Common.{◌≡◌, ◌≢◌, refl, sym, ap, ◌∙◌, ℕ, suc, ◌+◌, ◌*◌, ◌^◌}
+use Rattle.std.proofs.Common.{◌<◌, ◌≤◌, Bool, true, false, List, ◌∷◌, ◌++◌, length, get_or, arith}
+use Rattle.std.proofs.Common.{Option, None, is_some, AllPairs, All, Result, Ok}
+use Rattle.std.proofs.Common.{Err, IfErr, IfOk, IsErrAnd, ◌⊎◌}
 use Rattle.std.specs.FinMap as map
 use Rattle.std.specs.FinSet as set
 use Rattle.std.proofs.lemmas.Grind.{common_steps}
@@ -22,20 +26,16 @@ use Rattle.ent_alloc.proofs.ImageSound.{roster_slots}
 use Rattle.ent_storage.specs.EntityMap.{Entity, EntityMap}
 use Rattle.ent_storage.specs.Image.{entities_bytes, AreStored, IsStored}
 use Rattle.ent_storage.proofs.ImageEntities.{never_stored, entities_least}
-use Rattle.ent_storage.proofs.Keys.{apart}
 use Rattle.ent_world.specs.World.{World}
-use Rattle.ent_world.specs.Rows.{Rows, AreRows, with_rows}
+use Rattle.ent_world.specs.Rows.{AreRows, with_rows}
 use Rattle.ent_world.specs.Entering.{AreNew}
 use Rattle.ent_world.specs.Image.{allocator_of, living, header_bytes, framed, image, least, HasImage}
 use Rattle.ent_world.specs.FirstFault.{AreFramed}
 use Rattle.ent_world.specs.declared.image_fault.WorldImageFault.{WorldImageFault}
-use Rattle.ent_world.specs.declared.image_fault.WorldImageFault.TheVariants.{Magic, Version, Length}
-use Rattle.ent_world.specs.declared.image_fault.WorldImageFault.TheVariants.{Entities, Row, Storage}
 use Rattle.ent_world.specs.declared.image_fault.WorldImageFault.TheVariants.{Memory}
 use Rattle.ent_world.proofs.ImageHeader.{same_framed, length-header}
 use Rattle.ent_world.proofs.ImageKeys.{living_keys}
 use Rattle.ent_world.proofs.PlacedRows.{rows-empty, rows-born}
-use Rattle.ent_world.proofs.Room.{stands_at, place_of}
 
 -- ---- the allocator's part
 
@@ -48,11 +48,7 @@ allocator_has w has = record {
 }
 
 pub allocator_len : (e : Allocator) → length (allocator_image e) ≡ 40 + 12 * e.allocator.made
-allocator_len e =
-    let front = length-header_bytes (header e) in
-    let rest = length-slots_bytes (roster e) in
-    let all = length-append (allocator_header (header e)) (slots_bytes (roster e)) in
-    omega (arith, all, front, rest)
+allocator_len e = search (rules, length-header_bytes, length-slots_bytes, length-append)
 
 pub allocator_short : (e : Allocator) → HasAllocatorImage e → length (allocator_image e) < 2 ^ 64
 allocator_short e has =
@@ -76,20 +72,8 @@ told w has bytes phase part rest fits_p fits found is =
 
 -- ---- results
 
-memory_or_not : (fault : WorldImageFault) → (fault ≡ Memory) ⊎ (fault ≢ Memory)
-memory_or_not Magic = inr (λ is. grind (arith, common_steps))
-memory_or_not (Version version) = inr (λ is. grind (arith, common_steps))
-memory_or_not Length = inr (λ is. grind (arith, common_steps))
-memory_or_not (Entities fault) = inr (λ is. grind (arith, common_steps))
-memory_or_not (Row index) = inr (λ is. grind (arith, common_steps))
-memory_or_not (Storage fault) = inr (λ is. grind (arith, common_steps))
-memory_or_not Memory = inl refl
-
 pub memory_from_not : (fault : WorldImageFault) → ((fault ≢ Memory) → ⊥) → fault ≡ Memory
-memory_from_not fault never = elim (memory_or_not fault) [
-  | inl is ↦ is
-  | inr other ↦ absurd (never other)
-]
+memory_from_not it never = search rules
 
 abbrev read : {T : Type 0} → T → Result T WorldImageFault
 read x = Ok x
@@ -98,41 +82,33 @@ abbrev refused : {T : Type 0} → WorldImageFault → Result T WorldImageFault
 refused fault = Err fault
 
 pub read_is : {T : Type 0} (x e : T) → (read x ≡ Ok e) ⊎ (read x ≡ Err Memory) → x ≡ e
-read_is x e (inl is) = cc
-read_is x e (inr is) = absurd cc
+read_is x e which = grind (arith, common_steps)
 
 pub refused_is : {T : Type 0} (fault : WorldImageFault) (e : T)
     → (refused {T = T} fault ≡ Ok e) ⊎ (refused {T = T} fault ≡ Err Memory) → fault ≡ Memory
-refused_is fault e (inl is) = absurd cc
-refused_is fault e (inr is) = cc
+refused_is fault e which = grind (arith, common_steps)
 
 -- a fault that is handed on
 pub handed : (result : Result World WorldImageFault) (fault : WorldImageFault)
     → IsErrAnd result (λ y. y ≡ fault) → fault ≡ Memory → (w : World)
     → (result ≡ Ok w) ⊎ (result ≡ Err Memory)
-handed (Ok x) fault is memory w = absurd is
-handed (Err y) fault is memory w = inr (ap Err (is ∙ memory))
+handed it fault is memory w = search rules
 
 pub handed_on : (result : Result World WorldImageFault) (fault : WorldImageFault)
     (P : WorldImageFault → Type 0) → IsErrAnd result (λ y. y ≡ fault) → P fault → IfErr result P
-handed_on (Ok x) fault P is holds = tt
-handed_on (Err y) fault P is holds = subst P (sym is) holds
+handed_on it fault P is holds = search rules
 
 -- what is exact refuses no image
 pub refused_from_exact : (bytes : List ℕ) (result : Result World WorldImageFault)
     → ((w : World) → HasImage w → image w ≡ bytes → (result ≡ Ok w) ⊎ (result ≡ Err Memory))
     → IfErr result (λ fault. fault ≢ Memory → (w : World) → HasImage w → image w ≢ bytes)
-refused_from_exact bytes (Ok x) exact = tt
-refused_from_exact bytes (Err fault) exact = λ other w has is.
-    other (refused_is fault w (exact w has is))
+refused_from_exact bytes it exact = search (rules, refused_is)
 
 -- and keeps what the world had
 pub kept_by_image : (P : World → Type 0) (bytes : List ℕ) (result : Result World WorldImageFault)
     → ((w : World) → HasImage w → image w ≡ bytes → (result ≡ Ok w) ⊎ (result ≡ Err Memory))
     → (w : World) → HasImage w → image w ≡ bytes → P w → IfOk result P
-kept_by_image P bytes (Ok x) exact w has is holds =
-    subst P (sym (read_is x w (exact w has is))) holds
-kept_by_image P bytes (Err fault) exact w has is holds = tt
+kept_by_image P bytes it exact w has is holds = search (rules, read_is)
 
 -- an image has a slot's bytes for each slot, and at least 16 for each entity
 pub bounded : (bytes : List ℕ) (result : Result World WorldImageFault)
@@ -158,9 +134,7 @@ bounded bytes (Err fault) found has = tt
 pub listed : (w : World) → HasImage w → (e : Allocator) → e ≡ allocator_of w → (hs : List Handle)
     → AllPairs (λ g h. g.index < h.index) hs → set.from_list hs ≡ e.allocator.live
     → living w ≡ hs
-listed w has e is hs rising lists =
-    living_keys w.entities w.allocator.live hs rising
-    (lists ∙ ap (λ (x : Allocator). x.allocator.live) is) has.world.living
+listed w has e is hs rising lists = search (rules, living_keys)
 
 -- none has a row
 pub no_rows : (e : Allocator) → HasAllocatorImage e → (hs : List Handle)
@@ -169,36 +143,18 @@ pub no_rows : (e : Allocator) → HasAllocatorImage e → (hs : List Handle)
 no_rows e has hs lists bare = map.same_map total same e.rows map.empty (λ h.
     none_at h (stands_in hs h) refl ∙ sym (map.get-empty handle_cmp h))
   where
-    listed_at : (h : Handle) → Contains hs h → map.get e.rows h ≡ None
-    listed_at h is = ap (map.get e.rows) (sym is.2) ∙ bare is.0 h is.1
-
     none_at : (h : Handle) (b : Bool) → stands_in hs h ≡ b → map.get e.rows h ≡ None
-    none_at h true is = listed_at h (Contains-from_stands_in hs h is)
-    none_at h false is = has.rows_of_living h (λ alive. grind (
-      arith,
-      common_steps,
-      is,
-      set.contains-from_list total hs h,
-      ap (λ s. set.contains s h) lists,
-    ))
+    none_at h true is = All-contains (λ h. map.get e.rows h ≡ None) hs h bare (Contains-from_stands_in hs h is)
+    none_at h false is = has.rows_of_living h (λ alive. grind (arith, common_steps, set.contains-from_list total hs h, ap (λ s. set.contains s h) lists))
 
 pub same_answer : (a b : Bool) → (a ≡ true → b ≡ true) → (b ≡ true → a ≡ true) → a ≡ b
-same_answer true b there back = sym (there refl)
-same_answer false true there back = back refl
-same_answer false false there back = refl
+same_answer b b2 there back = grind (arith, common_steps)
 
 -- ---- the world that is read
 
 module _ (m : EntityMap) (hs : List Handle) (stored : AreStored m hs) where
-  stored_at : (h : Handle) (o : Option Entity) → map.get m h ≡ o → IsStored m h
-      → is_some o ≡ true
-  stored_at h None is stored = absurd (never_stored m h is stored)
-  stored_at h (Some e) is stored = refl
-
   pub members : (h : Handle) → map.contains_key m h ≡ stands_in hs h
-  members h = same_answer (map.contains_key m h) (stands_in hs h)
-      (λ is. stands_in-from_Contains hs h (stored.only h is))
-      (λ is. stored_at h (map.get m h) refl (stored.each h (Contains-from_stands_in hs h is)))
+  members h = grind (arith, common_steps, stands_in-from_Contains hs h, stored.only h, never_stored m h, stored.each h, Contains-from_stands_in hs h)
 
   pub stored_living : (live : set.FinSet handle_cmp) → set.from_list hs ≡ live → (h : Handle)
       → map.contains_key m h ≡ set.contains live h
@@ -211,11 +167,9 @@ not_later : (h : Handle) (hs : List Handle)
     → stands_in hs h ≡ false
 not_later h [] less = refl
 not_later h (g ∷ hs) less =
-    let far = apart total same h g (λ is.
-    let index = ap (λ (x : Handle). x.index) is in
-    let first = less 0 g (omega arith) in omega (arith, index, first)) in
+    let first = less 0 g (omega arith) in
     let rest = not_later h hs (λ j d l. less (suc j) d (omega arith)) in
-    grind (arith, common_steps, far, rest)
+    grind (arith, common_steps, same_handle h g)
 
 new_ones : (hs : List Handle) → AllPairs (λ g h. g.index < h.index) hs → AreNew hs map.empty
 new_ones [] rising = tt
@@ -232,22 +186,7 @@ pub rows_read : (m : EntityMap) (hs : List Handle) → AreStored m hs
     → AllPairs (λ g h. g.index < h.index) hs → AreRows (with_rows map.empty 0 hs) hs m
 rows_read m hs stored rising =
     let born = rows-born nowhere hs map.empty [] map.empty rows-empty (new_ones hs rising) in
-    let rows : Rows = with_rows map.empty 0 hs in
-    record {
-      at = born.at;
-      each = λ h. same_answer (map.contains_key rows h) (map.contains_key m h)
-          (λ is. members m hs stored h ∙ there h (map.get rows h) refl is)
-          (λ is.
-          let place = place_of hs h (sym (members m hs stored h) ∙ is) in
-          ap is_some ((born.at h place.0).1 place.1));
-    }
-  where
-    there : (h : Handle) (o : Option ℕ) → map.get (with_rows map.empty 0 hs) h ≡ o
-        → is_some (map.get (with_rows map.empty 0 hs) h) ≡ true → stands_in hs h ≡ true
-    there h None none is = absurd (grind (arith, common_steps))
-    there h (Some place) at is =
-        let born = rows-born nowhere hs map.empty [] map.empty rows-empty (new_ones hs rising) in
-        stands_at hs place h ((born.at h place).0 at)
+    record { at = born.at; each = λ h. rows_stand (with_rows map.empty 0 hs) hs born.at h ∙ sym (members m hs stored h) }
 
 pub all_live : (live : set.FinSet handle_cmp) (hs : List Handle) → set.from_list hs ≡ live
     → All (λ h. set.contains live h ≡ true) hs
@@ -259,8 +198,7 @@ all_live live hs lists k d lt =
 pub living_is : (m : EntityMap) (hs : List Handle) (live : set.FinSet handle_cmp)
     → AreStored m hs → AllPairs (λ g h. g.index < h.index) hs → set.from_list hs ≡ live
     → map.keys m ≡ hs
-living_is m hs live stored rising lists =
-    living_keys m live hs rising lists (stored_living m hs stored live lists)
+living_is m hs live stored rising lists = search (rules, living_keys, stored_living)
 
 -- who lives or waits has a slot, and its bytes
 pub slots_made : (e : Allocator) → HasAllocatorImage e → (hs : List Handle)

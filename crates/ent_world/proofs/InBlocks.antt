@@ -1,5 +1,6 @@
 -- The room that a world in blocks has for the slots that wait.
-use Rattle.std.proofs.Common.{◌≡◌, ◌⊎◌, inl, inr, ℕ, ◌+◌, ◌-◌, ◌^◌, ◌<◌, ◌≤◌, List, [], ◌∷◌, length, min, arith, ap, ◌∙◌}
+use Rattle.std.proofs.Common.{rules}
+use Rattle.std.proofs.Common.{[], ◌≡◌, ◌⊎◌, inl, inr, ℕ, ◌+◌, ◌-◌, ◌^◌, ◌<◌, ◌≤◌, List, ◌∷◌, length, min, arith, ap, ◌∙◌}
 use Rattle.std.specs.List.{sum_by}
 use Rattle.std.proofs.lemmas.Grind.{common_steps}
 use Rattle.std.proofs.lemmas.List.Sums.{sum_by-cons}
@@ -11,16 +12,12 @@ use Rattle.ent_world.specs.InBlocks.{IsKeptInBlocks}
 use Rattle.ent_world.specs.Rows.{AreRows, Rows}
 use Rattle.ent_world.specs.World.{IsWorld}
 
-lesser_first : (n left : ℕ) → lesser n left ≤ n
-lesser_first n left = grind (arith, common_steps)
-
 dealt_wanted : (before left : ℕ) (sizes : List ℕ)
     → dealt (blocks_from before left sizes) ≤ sum_by (λ n. n) sizes
 dealt_wanted before left [] = omega arith
 dealt_wanted before left (n ∷ sizes) =
-    let first = lesser_first n left in
     let rest = dealt_wanted (before + lesser n left) (left - lesser n left) sizes in
-    omega (arith, first, rest, sum_by-cons (λ n. n) n sizes)
+    grind (arith, common_steps, sum_by-cons (λ n. n) n sizes)
 
 -- so much room is enough for all that is dealt
 pub enough : (left wanted : ℕ) (sizes : List ℕ) → left < 2 ^ 32
@@ -52,11 +49,4 @@ pub kept : (d : Blocks) (s : Allocator) (rows : Rows) (phase : ℕ) (before stor
     → before.spare ≤ store.spare → min wanted (length s.pool) ≤ store.spare
     → length s.pool < 2 ^ 32 → (sum_by (λ n. n) sizes ≤ wanted) ⊎ (wanted ≡ 2 ^ 32 - 1)
     → IsKeptInBlocks d phase store
-kept d s rows phase before store sizes wanted start rows_are blocks world at room flushed entities
-    places grows spare few most = record {
-      world = rw (start, entities) world;
-      flushed = ap (λ (s : Allocator). s.asked) start ∙ flushed;
-      rows = rw (rows_are, places, entities) at;
-      room = omega (arith, ap top start, room, grows);
-      room_dealt = omega (arith, ap dealt blocks, enough (length s.pool) wanted sizes few most, spare);
-    }
+kept d s rows phase before store sizes wanted start rows_are blocks world at room flushed entities places grows spare few most = search (rules, enough)

@@ -1,12 +1,11 @@
 -- What each change of a living entity keeps, commands keep, and so do queues of them.
-use Rattle.std.proofs.Common.{rules, ◌≡◌, ℕ, ◌+◌, true, List, [], ◌∷◌}
-use Rattle.std.specs.FinMap as map
+use Rattle.std.proofs.Common.{[], rules, ◌≡◌, ℕ, ◌+◌, true, List, ◌∷◌}
 use Rattle.ent_handle.specs.Handle.{Handle}
 use Rattle.ent_storage.specs.Components.{Components, with_items}
 use Rattle.ent_storage.specs.EntityMap.{with_components}
-use Rattle.ent_queue.specs.Command.{Command, Spawn, SpawnMany, Insert, Remove, Despawn, Refused}
+use Rattle.ent_queue.specs.Command.{Command, SpawnMany}
 use Rattle.ent_world.specs.World.{World, lives_in}
-use Rattle.ent_world.specs.Effects.{Applied, on_entity, on_each, after_insert, after_remove}
+use Rattle.ent_world.specs.Effects.{Applied, on_entity, on_each, after_insert}
 use Rattle.ent_world.specs.Effects.{after_despawn, after_command, after_commands, after_queues}
 
 -- A fact about worlds that holds after each change of a living entity, if it held before.
@@ -34,16 +33,9 @@ on_each-keeps P system command change keeps (h ∷ hs) a before =
 module _ (P : World → Type 0) (kept : IsKept P) where
   pub after_command-keeps : (system command : ℕ) (c : Command) (a : Applied) → P a.world
       → P (after_command system command c a).world
-  after_command-keeps system command (Spawn h items) a before = search rules
   after_command-keeps system command (SpawnMany hs items) a before = on_each-keeps P system command
       (after_insert items) (kept.components (λ held. with_items held items)) hs a before
-  after_command-keeps system command (Insert h items) a before = on_entity-keeps P system command
-      (after_insert items) (kept.components (λ held. with_items held items)) h a before
-  after_command-keeps system command (Remove h id) a before = on_entity-keeps P system command
-      (after_remove id) (kept.components (λ held. map.remove held id)) h a before
-  after_command-keeps system command (Despawn h) a before = on_entity-keeps P system command
-      after_despawn kept.despawn h a before
-  after_command-keeps system command (Refused wanted why) a before = before
+  after_command-keeps system command it a before = search rules
 
   pub after_commands-keeps : (system command : ℕ) (q : List Command) (a : Applied) → P a.world
       → P (after_commands system command q a).world

@@ -1,6 +1,6 @@
 -- What is left of a list after a stop, one element after the other: none before the stop, the rest
 -- of the element at the stop, and each later one whole.
-use Rattle.std.proofs.Common.{rules, ◌≡◌, ap, ◌∙◌, ℕ, ◌+◌, ◌<◌, ◌≤◌, List, [], ◌∷◌, ◌++◌}
+use Rattle.std.proofs.Common.{[], rules, ◌≡◌, ap, ◌∙◌, ℕ, ◌+◌, ◌<◌, ◌≤◌, List, ◌∷◌, ◌++◌}
 use Rattle.std.proofs.Common.{length, take, drop, arith}
 use Rattle.std.proofs.lemmas.Grind.{common_steps}
 use Rattle.std.specs.Prelude.{◌⊎◌}
@@ -39,10 +39,10 @@ module _ {X : Type 0} (xs rest : List X) (k : ℕ) (x : X) (left : drop k xs ≡
   more_left d ys le = search (rules, taken_long, drop-append)
 
   pub one_left : (d : ℕ) → d ≤ k → drop d (take (k + 1) xs) ≡ drop d (take k xs) ++ x ∷ []
-  one_left d le = ap (drop d) (next_taken xs rest k x left) ∙ more_left d (x ∷ []) le
+  one_left d le = search (rules, next_taken, more_left)
 
   pub left_long : (d : ℕ) → d ≤ k → d + length (drop d (take k xs)) ≡ k
-  left_long d le = let long = length-drop d (take k xs) in omega (arith, long, taken_long)
+  left_long d le = search (rules, length-drop, taken_long)
 
 -- ---- handles
 
@@ -100,7 +100,7 @@ module _ (system from done : ℕ) (q rest : List Command) (k : ℕ) (c : Command
   -- the queue that is cut in this command
   module _ (stop : ℕ) where
     cut_here : cut_commands k stop q ≡ take k q ++ first_part stop (c ∷ [])
-    cut_here = ap (λ cs. take k q ++ cs) (ap (first_part stop) left ∙ first_alone stop c rest)
+    cut_here = search (rules, left, first_alone)
 
     pub commands_cut-first : k ≡ from
         → after_commands system from (left_commands from done (cut_commands k stop q)) a

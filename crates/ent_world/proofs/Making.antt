@@ -1,16 +1,15 @@
 -- The handle that is given next, and an entity that is made or taken back.
-use Rattle.std.proofs.Common.{rules, ◌≡◌, refl, sym, ap, ◌∙◌, ℕ, ◌<◌, Bool, true, false, cond}
-use Rattle.std.proofs.Common.{true≢false, List, [], ◌∷◌, ◌++◌, length, slice_get, arith, suc}
-use Rattle.std.proofs.Common.{ℤ, ◌⊎◌, length-append, Option, Some, None, IfSome, Result, Ok, Err}
+use Rattle.std.proofs.Common.{[], rules, ◌≡◌, refl, sym, ℕ, ◌<◌, true, false}
+use Rattle.std.proofs.Common.{true≢false, List, ◌∷◌, ◌++◌, length, slice_get, arith, suc}
+use Rattle.std.proofs.Common.{ℤ, ◌⊎◌, length-append, Some, None, IfSome, Result, Ok, Err}
 use Rattle.std.proofs.Common.{OnOk, OnErr, is_err}
 use Rattle.std.proofs.lemmas.Grind.{common_steps}
-use Rattle.std.specs.Ordering.{eq_by_cmp}
 use Rattle.std.specs.FinSet as set
 use Rattle.std.specs.FinMap as map
 use Rattle.std.proofs.lemmas.Bool.{cases_lt}
 use Rattle.std.proofs.lemmas.Option.{none-some, same_Some, slice_get_past}
 use Rattle.ent_handle.specs.declared.birth.Birth.{Birth}
-use Rattle.ent_handle.specs.Handle.{Handle, handle_cmp, handle_cmp_total}
+use Rattle.ent_handle.specs.Handle.{Handle, handle_cmp_total}
 use Rattle.ent_handle.specs.Handle.{handle_cmp-IsAntisymmetric}
 use Rattle.ent_alloc.specs.declared.space.Space.{Space}
 use Rattle.ent_alloc.specs.Sequential.{Allocator, listed_alone, reply_to, reply_from, pool_at}
@@ -62,18 +61,11 @@ reply_at_top s high reply sound at is = search (rules, reply-cursor s 1 sound)
 
 -- An entity.
 
-overwritten : (b : Bool) (e f : Entity) (o : Option Entity) → cond b (Some f) (cond b (Some e) o)
-    ≡ cond b (Some f) o
-overwritten b e f o = search rules
-
 -- the second of two entities under one handle
 insert_twice : (m : EntityMap) (h : Handle) (e f : Entity) → map.insert (map.insert m h e) h f
     ≡ map.insert m h f
 insert_twice m h e f = map.same_map handle_cmp_total handle_cmp-IsAntisymmetric _ _ (λ q.
-    map.get-insert handle_cmp_total (map.insert m h e) h f q
-    ∙ ap (cond (eq_by_cmp handle_cmp q h) (Some f)) (map.get-insert handle_cmp_total m h e q)
-    ∙ overwritten (eq_by_cmp handle_cmp q h) e f (map.get m q)
-    ∙ sym (map.get-insert handle_cmp_total m h f q))
+    grind (arith, common_steps, map.get-insert handle_cmp_total (map.insert m h e) h f q, map.get-insert handle_cmp_total m h e q, map.get-insert handle_cmp_total m h f q))
 
 pub get_inserted : (m : EntityMap) (h : Handle) (e : Entity) → map.get (map.insert m h e) h ≡ Some e
 get_inserted m h e = grind (arith, common_steps, map.get-insert handle_cmp_total m h e h, itself h)
@@ -100,10 +92,7 @@ same_lists : (xs ys : List Handle) → ((k : ℕ) → slice_get xs k ≡ slice_g
 same_lists [] [] each = refl
 same_lists [] (y ∷ ys) each = absurd (none-some y (each 0))
 same_lists (x ∷ xs) [] each = absurd (none-some x (sym (each 0)))
-same_lists (x ∷ xs) (y ∷ ys) each =
-    let first = same_Some x y (each 0) in
-    let rest = same_lists xs ys (λ k. each (suc k)) in
-    λ i. first i ∷ rest i
+same_lists (x ∷ xs) (y ∷ ys) each = search (rules, same_Some x y (each 0), same_lists xs ys (λ k. each (suc k)))
 
 -- a handle that came to the end of the places and went
 pub end_taken_back : (places left : List Handle) (h : Handle)

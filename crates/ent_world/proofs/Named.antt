@@ -1,8 +1,8 @@
 -- One induction over queues, and so one file of more than 400 lines: queues do to a world what the
 -- same queues by births do to births alone. If the births told what the world was, they tell what
 -- it is afterwards, and the faults are the same.
-use Rattle.std.proofs.Common.{arith, rules, ◌≡◌, refl, sym, ap, ◌∙◌, subst, ℕ, ◌+◌, Bool, true}
-use Rattle.std.proofs.Common.{false, cond, not, T, true≢false, List, [], ◌∷◌, ◌++◌, map, filter}
+use Rattle.std.proofs.Common.{[], arith, rules, ◌≡◌, refl, sym, ap, ◌∙◌, subst, ℕ, ◌+◌, Bool, true}
+use Rattle.std.proofs.Common.{false, cond, not, T, true≢false, List, ◌∷◌, ◌++◌, map, filter}
 use Rattle.std.proofs.Common.{All, Option, Some, None, is_some, option_map}
 use Rattle.std.proofs.lemmas.Grind.{common_steps}
 use Rattle.std.specs.List.{AllZip}
@@ -18,6 +18,7 @@ use Rattle.std.proofs.lemmas.Cmp.{eq_by_cmp_equiv}
 use Rattle.std.proofs.lemmas.Map.Views.{tells_apart}
 use Rattle.std.proofs.lemmas.Option.{none-some, same_Some}
 use Rattle.std.proofs.lemmas.List.Elements.{All-head, All-tail}
+use Rattle.std.proofs.lemmas.Slice.Zip.{all_zipped_more}
 use Rattle.ent_handle.specs.declared.birth.Birth.{Birth}
 use Rattle.ent_handle.specs.declared.component.ComponentId.{ComponentId}
 use Rattle.ent_handle.specs.Birth.{birth_cmp, birth_cmp_total, birth_cmp-IsAntisymmetric}
@@ -44,18 +45,12 @@ use Rattle.ent_world.specs.Named.{AreNamedAfter}
 
 -- ---- lists of entries in order
 
-turned : {X : Type 0} (b : Bool) (x y : X) → cond (not b) x y ≡ cond b y x
-turned b x y = search rules
-
 module _ {K X : Type 0} {R : K → K → Ordering} (o : IsTotalOrder R) (same : IsAntisymmetric R) where
   -- a key that was filtered out is not found
   pub find-without : (k q : K) (es : List (K × X))
       → find R q (filter (λ e. not (eq_by_cmp R e.0 k)) es)
       ≡ cond (eq_by_cmp R q k) None (find R q es)
-  find-without k q es =
-      find-where_key R (λ x. not (eq_by_cmp R x k)) q
-      (λ x tied. ap (λ y. not (eq_by_cmp R y k)) (sym (same q x tied))) es
-      ∙ turned (eq_by_cmp R q k) (find R q es) None
+  find-without k q es = search (rules, find-where_key R (λ x. not (eq_by_cmp R x k)) q (λ x tied. ap (λ y. not (eq_by_cmp R y k)) (sym (same q x tied))) es)
 
   -- a map without a key has the entries without that key
   pub entries-remove : (m : finite.FinMap R X) (k : K) → finite.entries (finite.remove m k)
@@ -63,11 +58,8 @@ module _ {K X : Type 0} {R : K → K → Ordering} (o : IsTotalOrder R) (same : 
   entries-remove m k =
       same_entries R o same _ _ (finite.entries_sorted (finite.remove m k))
       (is_sorted-where_key R (λ x. not (eq_by_cmp R x k)) (finite.entries m)
-      (finite.entries_sorted m))
-      (λ q. sym (finite.get-entries (finite.remove m k) q)
-      ∙ finite.get-remove o m k q
-      ∙ ap (cond (eq_by_cmp R q k) None) (finite.get-entries m q)
-      ∙ sym (find-without k q (finite.entries m)))
+      (finite.entries_sorted m)) (λ q. cc (finite.get-entries (finite.remove m k) q,
+      finite.get-remove o m k q, finite.get-entries m q, find-without k q (finite.entries m)))
 
 -- the components of an entity and a bundle, after the same items
 entries-with_items : (held : Components) (items : Bundle)
@@ -86,14 +78,14 @@ told o = option_map (λ e. finite.entries e.components) o
 told_some : (o : Option Entity) → is_some (told o) ≡ is_some o
 told_some it = search rules
 
+-- what there is
+pub some_there : {X : Type 0} (o : Option X) → is_some o ≡ true → (x : X) × (o ≡ Some x)
+some_there it there = search (rules, true≢false)
+
 -- the entity that is there
 pub entity_there : (m : EntityMap) (h : Handle) → IsThere m h
     → (e : Entity) × (finite.get m h ≡ Some e)
-entity_there m h there = by (finite.get m h) refl
-  where
-    by : (o : Option Entity) → finite.get m h ≡ o → (e : Entity) × (finite.get m h ≡ Some e)
-    by None none = absurd (true≢false (sym there ∙ ap is_some none))
-    by (Some e) is = (e, is)
+entity_there m h there = some_there (finite.get m h) there
 
 -- The births tell the map, by the names of the handles that were there at the start.
 record AreTold (start : EntityMap) (name : Handle → Birth) (m : EntityMap) (births : BirthMap)
@@ -128,33 +120,12 @@ module _ (start : EntityMap) (name : Handle → Birth) (distinct : AreDistinct n
       → AreTold start name n after
   changed h o m n births after before here birth gets rising finds = record {
     rising = rising;
-    lived = λ g there. lived_by g there (eq_by_cmp handle_cmp g h) refl;
-    named = λ g e is. named_by g e (eq_by_cmp handle_cmp g h) refl (sym (gets g) ∙ is);
-    there = λ g there. finds (name g)
-        ∙ ap (λ b. cond b (told o) (find birth_cmp (name g) births))
-        (alike g h there (before.lived h here))
-        ∙ ap (cond (eq_by_cmp handle_cmp g h) (told o)) (before.there g there)
-        ∙ inside (eq_by_cmp handle_cmp g h) (finite.get m g)
-        ∙ ap told (sym (gets g));
-    only = λ b some. only_by b (eq_by_cmp birth_cmp b (name h)) refl
-        (ap is_some (sym (finds b)) ∙ some);
+    lived = λ g there. grind (arith, common_steps, gets g, same_handle g h, before.lived g);
+    named = λ g e is. grind (arith, common_steps, gets g, same_handle g h, before.named g e, birth e);
+    there = λ g there. grind (arith, common_steps, alike g h there (before.lived h here), finds (name g), gets g, before.there g there);
+    only = λ b some. only_by b (eq_by_cmp birth_cmp b (name h)) refl (ap is_some (sym (finds b)) ∙ some);
   }
     where
-      inside : (b : Bool) (p : Option Entity) → cond b (told o) (told p) ≡ told (cond b o p)
-      inside true p = refl
-      inside false p = refl
-
-      lived_by : (g : Handle) → IsThere n g → (b : Bool) → eq_by_cmp handle_cmp g h ≡ b
-          → IsThere start g
-      lived_by g there b tied = grind (arith, common_steps, same_handle)
-
-      named_by : (g : Handle) (e : Entity) (b : Bool) → eq_by_cmp handle_cmp g h ≡ b
-          → cond (eq_by_cmp handle_cmp g h) o (finite.get m g) ≡ Some e → name g ≡ e.birth
-      named_by g e true tied is = ap name (same_handle g h tied)
-          ∙ birth e (ap (λ b. cond b o (finite.get m g)) (sym tied) ∙ is)
-      named_by g e false apart is = before.named g e
-          (ap (λ b. cond b o (finite.get m g)) (sym apart) ∙ is)
-
       only_by : (b : Birth) (t : Bool) → eq_by_cmp birth_cmp b (name h) ≡ t
           → is_some (cond (eq_by_cmp birth_cmp b (name h)) (told o) (find birth_cmp b births))
           ≡ true → (g : Handle) × (IsThere start g × (name g ≡ b))
@@ -189,15 +160,6 @@ module _ (start : EntityMap) (name : Handle → Birth) (distinct : AreDistinct n
       ∙ ap (λ x. cond (eq_by_cmp birth_cmp b (name h)) (Some x) (find birth_cmp b births))
       items_are))
 
-  despawn-told : (h : Handle) (m : EntityMap) (births : BirthMap) → IsThere m h
-      → AreTold start name m births
-      → AreTold start name (finite.remove m h) (despawned (name h) births)
-  despawn-told h m births here before =
-      changed h None m (finite.remove m h) births (despawned (name h) births) before here
-      (λ e is. absurd (none-some e is)) (λ g. finite.get-remove handle_cmp_total m h g)
-      (is_sorted-where_key birth_cmp (λ x. not (eq_by_cmp birth_cmp x (name h))) births
-      before.rising) (λ b. find-without birth_cmp_total birth_cmp-IsAntisymmetric (name h) b births)
-
   -- ---- commands
 
   -- A world and births that tell its entities, with the same faults so far.
@@ -219,18 +181,16 @@ module _ (start : EntityMap) (name : Handle → Birth) (distinct : AreDistinct n
 
   remove-told : (id : ComponentId) → IsToldBy (after_remove id) (removed id)
   remove-told id h w births here before =
-      components-told (λ held. finite.remove held id)
-      (filter (λ item. not (eq_by_cmp component_cmp item.0 id)))
-      (λ held. entries-remove component_cmp_total component_cmp-IsAntisymmetric held id)
-      h w.entities births here before
+      components-told (λ held. finite.remove held id) (filter (λ item. not (eq_by_cmp component_cmp item.0 id)))
+      (λ held. entries-remove component_cmp_total component_cmp-IsAntisymmetric held id) h w.entities births here before
 
   gone-told : IsToldBy after_despawn despawned
-  gone-told h w births here before = despawn-told h w.entities births here before
-
-  zip-push : {X Y : Type 0} (S : X → Y → Type 0) (xs : List X) (ys : List Y) (x : X) (y : Y)
-      → AllZip S xs ys → S x y → AllZip S (xs ++ x ∷ []) (ys ++ y ∷ [])
-  zip-push S [] ys x y zipped one = search rules
-  zip-push S (x' ∷ xs) ys x y zipped one = search (rules, zip-push S xs)
+  gone-told h w births here before =
+      changed h None w.entities (finite.remove w.entities h) births (despawned (name h) births)
+      before here (λ e is. absurd (none-some e is))
+      (λ g. finite.get-remove handle_cmp_total w.entities h g)
+      (is_sorted-where_key birth_cmp (λ x. not (eq_by_cmp birth_cmp x (name h))) births
+      before.rising) (λ b. find-without birth_cmp_total birth_cmp-IsAntisymmetric (name h) b births)
 
   module _ (system command : ℕ) where
     module _ (change : Handle → World → World) (change_alone : Birth → BirthMap → BirthMap)
@@ -255,7 +215,7 @@ module _ (start : EntityMap) (name : Handle → Birth) (distinct : AreDistinct n
               (record b {
                 faults = b.faults ++ record { system = system; command = command } ∷ [];
               }))
-          by b lives = grind (arith, common_steps, zip-push)
+          by b lives = grind (arith, common_steps, all_zipped_more)
 
       -- each of the handles in turn
       each-told : (hs : List Handle) (a : Applied) (b : AppliedAlone) → All (IsThere start) hs
@@ -287,44 +247,29 @@ module _ (start : EntityMap) (name : Handle → Birth) (distinct : AreDistinct n
   commands-told : (system command : ℕ) (q : List Command) (r : List BirthCommand) (a : Applied)
       (b : AppliedAlone) → AllZip (IsNamedBy name start) q r → AreAppliedTold a b
       → AreAppliedTold (after_commands system command q a) (after_birth_commands system command r b)
-  commands-told system command [] [] a b are before = before
-  commands-told system command [] (d ∷ r) a b are before = absurd are
+  commands-told system command [] r a b are before = search rules
   commands-told system command (c ∷ q) [] a b are before = absurd are
-  commands-told system command (c ∷ q) (d ∷ r) a b are before =
-      commands-told system (command + 1) q r (after_command system command c a)
-      (after_birth_command system command d b) are.1
-      (command-told system command c d a b are.0 before)
+  commands-told system command (c ∷ q) (d ∷ r) a b are before = search (rules, command-told, commands-told system (command + 1) q r)
 
   -- one queue after the other
   queues-told : (system : ℕ) (queues : List (List Command)) (births : List (List BirthCommand))
       (a : Applied) (b : AppliedAlone) → AreNamedBy name start queues births → AreAppliedTold a b
       → AreAppliedTold (after_queues system queues a) (after_birth_queues system births b)
-  queues-told system [] [] a b are before = before
-  queues-told system [] (r ∷ births) a b are before = absurd are
+  queues-told system [] births a b are before = search rules
   queues-told system (q ∷ queues) [] a b are before = absurd are
-  queues-told system (q ∷ queues) (r ∷ births) a b are before =
-      queues-told (system + 1) queues births (after_commands system 0 q a)
-      (after_birth_commands system 0 r b) are.1 (commands-told system 0 q r a b are.0 before)
+  queues-told system (q ∷ queues) (r ∷ births) a b are before = search (rules, commands-told, queues-told (system + 1) queues births)
 
 -- ---- from what is named, and back
+
+some_with : (o : Option Entity) (birth : Birth) → option_map (λ e. e.birth) o ≡ Some birth
+    → (e : Entity) × ((o ≡ Some e) × (e.birth ≡ birth))
+some_with None birth is = absurd (none-some birth is)
+some_with (Some e) birth is = (e, (refl, same_Some e.birth birth is))
 
 -- the entity with this birth
 pub entity_with : (m : EntityMap) (h : Handle) (birth : Birth) → birth_of m h ≡ Some birth
     → (e : Entity) × ((finite.get m h ≡ Some e) × (e.birth ≡ birth))
-entity_with m h birth is = by (finite.get m h) refl
-  where
-    by : (o : Option Entity) → finite.get m h ≡ o
-        → (e : Entity) × ((finite.get m h ≡ Some e) × (e.birth ≡ birth))
-    by None none = absurd
-        (none-some birth (sym (ap (λ o. option_map (λ e. e.birth) o) none) ∙ is))
-    by (Some e) there = (
-      e,
-      (
-        there,
-        same_Some e.birth birth
-            (sym (ap (λ o. option_map (λ e. e.birth) o) there) ∙ is),
-      ),
-    )
+entity_with m h birth is = some_with (finite.get m h) birth is
 
 -- an entity that is there, by its name
 pub birth_by_name : (name : Handle → Birth) (m : EntityMap) (h : Handle) → AreNames name m

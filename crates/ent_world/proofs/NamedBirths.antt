@@ -1,9 +1,10 @@
 -- What comes to life enters a world and births alone in the same way, and so a whole frame does to
 -- births alone what it does to the world.
 use Rattle.std.proofs.lemmas.Grind.{common_steps}
-use Rattle.std.proofs.Common.{rules, ◌≡◌, refl, sym, ap, ◌∙◌, Bool, true, false, cond, ◌||◌, T}
-use Rattle.std.proofs.Common.{true≢false, List, [], ◌∷◌, map, length, ℤ, ◌⊎◌, Some, None}
+use Rattle.std.proofs.Common.{[], rules, ◌≡◌, refl, sym, ap, ◌∙◌, Bool, true, false, cond, ◌||◌, T}
+use Rattle.std.proofs.Common.{true≢false, List, ◌∷◌, map, length, ℤ, ◌⊎◌, Some, None}
 use Rattle.std.proofs.Common.{option_map, arith}
+use Rattle.std.proofs.lemmas.Bool.{or_right}
 use Rattle.std.specs.List.{list_any}
 use Rattle.std.specs.Ordering.{eq_by_cmp}
 use Rattle.std.specs.FinMap as finite
@@ -36,11 +37,7 @@ nested b b2 x y = search rules
 find-entered : (b : Birth) (bs : List Birth) (m : BirthMap) → find birth_cmp b (entered_alone bs m)
     ≡ cond (list_any (eq_by_cmp birth_cmp b) bs) (Some []) (find birth_cmp b m)
 find-entered b [] m = refl
-find-entered b (c ∷ bs) m =
-    let others = list_any (eq_by_cmp birth_cmp b) bs in
-    find-entered b bs (put birth_cmp c [] m)
-    ∙ ap (cond others (Some [])) (find-put birth_cmp birth_cmp_total b c [] m)
-    ∙ nested (eq_by_cmp birth_cmp b c) others (Some []) (find birth_cmp b m)
+find-entered b (c ∷ bs) m = grind (arith, common_steps, find-entered b bs (put birth_cmp c [] m), find-put birth_cmp birth_cmp_total b c [] m)
 
 rising-entered : (bs : List Birth) (m : BirthMap) → T (is_sorted birth_cmp m)
     → T (is_sorted birth_cmp (entered_alone bs m))
@@ -56,9 +53,6 @@ entries-empty = no_items (finite.entries finite.empty)
     (sym (finite.len-entries finite.empty) ∙ finite.len-empty component_cmp ℤ)
 
 -- ---- a list of handles, and of their births
-
-or_true : (a b : Bool) → b ≡ true → (a || b) ≡ true
-or_true t b there = grind (arith, common_steps)
 
 -- the handle in the list whose birth it is
 abbrev Owner : (Handle → Birth) → List Handle → Birth → Type 0
@@ -76,39 +70,13 @@ owner birth (h ∷ hs) b there =
 
     by : (t : Bool) → eq_by_cmp birth_cmp b (birth h) ≡ t → (t || others) ≡ true
         → (others ≡ true → Owner birth hs b) → Owner birth (h ∷ hs) b
-    by true tied _ _ = (
-      h,
-      (
-        ap (λ t. t || stands_in hs h) (itself h),
-        sym (tells_apart birth_cmp-IsAntisymmetric b (birth h) tied),
-      ),
-    )
-    by false apart rest later =
-        let found = later rest in (
-          found.0,
-          (
-            or_true (eq_by_cmp handle_cmp found.0 h) (stands_in hs found.0) found.1.0,
-            found.1.1,
-          ),
-        )
+    by true tied _ _ = search (rules, itself, tells_apart)
+    by false apart rest later = search (rules, or_right)
 
 owned : (birth : Handle → Birth) (hs : List Handle) (h : Handle) → stands_in hs h ≡ true
     → list_any (eq_by_cmp birth_cmp (birth h)) (map birth hs) ≡ true
 owned birth [] h there = absurd (true≢false (sym there))
-owned birth (g ∷ hs) h there =
-    by (eq_by_cmp handle_cmp h g) refl there (λ rest. owned birth hs h rest)
-  where
-    others : Bool
-    others = list_any (eq_by_cmp birth_cmp (birth h)) (map birth hs)
-
-    by : (t : Bool) → eq_by_cmp handle_cmp h g ≡ t → (t || stands_in hs h) ≡ true
-        → (stands_in hs h ≡ true → others ≡ true)
-        → (eq_by_cmp birth_cmp (birth h) (birth g) || others) ≡ true
-    by true tied _ _ = ap (λ t. t || others)
-        (ap (λ x. eq_by_cmp birth_cmp (birth h) (birth x)) (sym (same_handle h g tied))
-        ∙ (eq_by_cmp_equiv birth_cmp_total).refl (birth h))
-    by false apart rest later =
-        or_true (eq_by_cmp birth_cmp (birth h) (birth g)) others (later rest)
+owned birth (g ∷ hs) h there = grind (arith, common_steps, owned birth hs h, same_handle h g, (eq_by_cmp_equiv birth_cmp_total).refl (birth h))
 
 -- ---- a map, and births that tell it, after some have entered
 
@@ -162,14 +130,7 @@ module _ (birth : Handle → Birth) (born listed : List Handle) (m : EntityMap) 
   owner_found : (b : Birth) (items : Bundle) (t : Bool) → among b ≡ t
       → cond t (Some []) (find birth_cmp b births) ≡ Some items
       → (h : Handle) × (birth_of after h ≡ Some b)
-  owner_found b items true there _ =
-      let one = owner birth listed b there in (
-        one.0,
-        ap (λ o. option_map (λ e. e.birth) o) (get-with_born birth born m one.0
-            ∙ ap (λ t. cond t (Some (newborn (birth one.0))) (finite.get m one.0))
-            (sym (same one.0) ∙ one.1.0)) ∙ ap Some one.1.1,
-      )
-  owner_found b items false none is = search (rules, entity_with, get-with_born, none-some)
+  owner_found b items t among none = search (rules, owner birth listed b, entity_with, get-with_born, none-some, same)
 
   pub entered-named : AreNamed (with_born m birth born) (entered_alone (map birth listed) births)
   entered-named = record {

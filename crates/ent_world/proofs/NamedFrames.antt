@@ -1,31 +1,29 @@
 -- The steps of one law, and so one file of more than 400 lines: a whole frame does to births alone
 -- what it does to the world, if its queues list just what was reserved. Each handle has one birth,
 -- by where it stands in a queue.
+use Rattle.std.proofs.lemmas.List.Sorted.{list_any-IsPermutation}
 use Rattle.std.proofs.lemmas.Grind.{common_steps}
-use Rattle.std.proofs.Common.{rules, ◌≡◌, refl, sym, ap, ◌∙◌, subst, ℕ, ◌+◌, ◌^◌, ◌<◌, ◌≤◌, Bool}
-use Rattle.std.proofs.Common.{true, false, cond, true≢false, List, [], ◌∷◌, ◌++◌, map, length, All}
-use Rattle.std.proofs.Common.{flat_map, Option, Some, None, is_some, unwrap_or, arith}
+use Rattle.std.proofs.Common.{[], rules, ◌≡◌, refl, sym, ap, ◌∙◌, subst, ℕ, ◌+◌, ◌^◌, ◌<◌, ◌≤◌, Bool}
+use Rattle.std.proofs.Common.{true, cond, List, ◌∷◌, map, length, All}
+use Rattle.std.proofs.Common.{flat_map, Some, None, is_some, unwrap_or, arith}
 use Rattle.std.specs.List.{AllZip, list_any, position_from}
-use Rattle.std.specs.Option.{option_map_or}
 use Rattle.std.specs.Ordering.{eq_by_cmp}
 use Rattle.std.specs.FinMap as finite
 use Rattle.std.specs.FinMap.{find}
 use Rattle.std.proofs.lemmas.List.{map-append}
 use Rattle.std.proofs.lemmas.List.Folds.{list_any-append}
 use Rattle.std.proofs.lemmas.List.Elements.{All-head, All-tail}
-use Rattle.std.proofs.lemmas.List.Sorted.{Contains-permutation, IsPermutation-sym}
-use Rattle.std.proofs.lemmas.Option.{none-some, same_Some}
+use Rattle.std.proofs.lemmas.Option.{none-some}
 use Rattle.ent_handle.specs.declared.birth.Birth.{Birth}
 use Rattle.ent_handle.specs.Birth.{birth_cmp}
 use Rattle.ent_handle.specs.Handle.{Handle, handle_cmp, handle_cmp_total}
 use Rattle.ent_alloc.specs.Sequential.{stands_in, born}
-use Rattle.ent_alloc.proofs.HandleSets.{same_handle, itself, Contains-from_stands_in}
-use Rattle.ent_alloc.proofs.HandleSets.{stands_in-from_Contains}
+use Rattle.ent_alloc.proofs.HandleSets.{same_handle, itself}
 use Rattle.ent_alloc.proofs.Flushes.{born-IsPermutation}
-use Rattle.ent_storage.specs.EntityMap.{Entity, EntityMap, newborn, with_components}
+use Rattle.ent_storage.specs.EntityMap.{EntityMap, newborn}
 use Rattle.ent_queue.specs.Command.{Command}
 use Rattle.ent_world.specs.World.{World, IsWorld}
-use Rattle.ent_world.specs.Sync.{ordinal, listed_by, handles_listed, ordinal_among, at_ordinal}
+use Rattle.ent_world.specs.Sync.{listed_by, handles_listed}
 use Rattle.ent_world.specs.Sync.{listed_birth, birth_in, unlisted, unlisted_birth, after_births}
 use Rattle.ent_world.specs.Sync.{sync}
 use Rattle.ent_world.specs.BirthsAlone.{BirthMap, BirthCommand, births_of, births_in, entered_alone}
@@ -34,7 +32,7 @@ use Rattle.ent_world.specs.Named.{AreNamed, AreNames, IsNamedBy, AreNamedBy, Are
 use Rattle.ent_world.specs.Named.{AreBelow, AreListed}
 use Rattle.ent_world.specs.Effects.{applied}
 use Rattle.ent_world.proofs.Kept.{IsKept, after_queues-keeps}
-use Rattle.ent_world.proofs.Named.{entity_there, entity_with, sync-named}
+use Rattle.ent_world.proofs.Named.{some_there, entity_there, entity_with, sync-named}
 use Rattle.ent_world.proofs.NamedBirths.{entered-named}
 use Rattle.ent_world.proofs.Born.{get-with_born, no_entity, born-absent}
 
@@ -82,44 +80,7 @@ listed_own : (phase system : ℕ) (queues : List (List Command)) (g h : Handle) 
     → g ≡ h
 listed_own phase system [] g h b fits g_is h_is = absurd (none-some b g_is)
 listed_own phase system (q ∷ queues) g h b fits g_is h_is =
-    by (ordinal_among (handles_listed q) g) (ordinal_among (handles_listed q) h) refl refl
-    g_is h_is (λ one other. listed_own phase (system + 1) queues g h b
-    (All-tail (λ q. length (handles_listed q) ≤ 2 ^ 32) q queues fits) one other)
-  where
-    others : Handle → Option Birth
-    others x = listed_birth phase (system + 1) queues x
-
-    here : ℕ → Birth
-    here k = record { frame = phase; system = system; ordinal = ordinal k }
-
-    enough : length (handles_listed q) ≤ 2 ^ 32
-    enough = All-head (λ q. length (handles_listed q) ≤ 2 ^ 32) q queues fits
-
-    -- a birth of this queue is of no later one
-    not_later : (k : ℕ) (x : Handle) → here k ≡ b → others x ≡ Some b → ⊥
-    not_later k x same later = grind (arith, common_steps, listed_parts)
-
-    by : (i j : Option ℕ) → ordinal_among (handles_listed q) g ≡ i
-        → ordinal_among (handles_listed q) h ≡ j
-        → at_ordinal phase system i (others g) ≡ Some b
-        → at_ordinal phase system j (others h) ≡ Some b
-        → (others g ≡ Some b → others h ≡ Some b → g ≡ h) → g ≡ h
-    by (Some i) (Some j) g_at h_at g_is h_is _ =
-        let one : ordinal i ≡ b.ordinal = ap (λ y. y.ordinal) (same_Some (here i) b g_is) in
-        let other : ordinal j ≡ b.ordinal = ap (λ y. y.ordinal) (same_Some (here j) b h_is) in
-        let fits : length (handles_listed q) ≤ 2 ^ 32 = enough in
-        let below_i = (position_bounds (eq_by_cmp handle_cmp g) 0 (handles_listed q) i g_at).1 in
-        let below_j = (position_bounds (eq_by_cmp handle_cmp h) 0 (handles_listed q) j h_at).1 in
-        let same : j ≡ i = omega arith in
-        position_own g h 0 (handles_listed q) i g_at (h_at ∙ ap Some same)
-    by (Some i) None g_at h_at g_is h_is _ =
-        absurd (not_later i h (same_Some (here i) b g_is) h_is)
-    by None (Some j) g_at h_at g_is h_is _ =
-        absurd (not_later j g (same_Some (here j) b h_is) g_is)
-    by None None g_at h_at g_is h_is later = later g_is h_is
-
-a_birth : (o : Option Birth) → is_some o ≡ true → (b : Birth) × (o ≡ Some b)
-a_birth it none = search (rules, true≢false)
+    grind (arith, common_steps, position_bounds (eq_by_cmp handle_cmp g) 0 (handles_listed q), position_bounds (eq_by_cmp handle_cmp h) 0 (handles_listed q), position_own g h 0 (handles_listed q), listed_parts phase (system + 1) queues g b, listed_parts phase (system + 1) queues h b, listed_own phase (system + 1) queues g h b (All-tail (λ q. length (handles_listed q) ≤ 2 ^ 32) q queues fits), All-head (λ q. length (handles_listed q) ≤ 2 ^ 32) q queues fits)
 
 -- ---- queues by names list the names of what the queues list
 
@@ -137,13 +98,9 @@ queue_births name m (c ∷ q) r are = search
 pub queues_births : (name : Handle → Birth) (m : EntityMap) (queues : List (List Command))
     (births : List (List BirthCommand)) → AreNamedBy name m queues births
     → births_in births ≡ map name (flat_map handles_listed queues)
-queues_births name m [] [] are = refl
-queues_births name m [] (r ∷ births) are = absurd are
+queues_births name m [] births are = search rules
 queues_births name m (q ∷ queues) [] are = absurd are
-queues_births name m (q ∷ queues) (r ∷ births) are =
-    ap (λ bs. bs ++ births_in births) (queue_births name m q r are.0)
-    ∙ ap (λ bs. map name (handles_listed q) ++ bs) (queues_births name m queues births are.1)
-    ∙ sym (map-append name (handles_listed q) (flat_map handles_listed queues))
+queues_births name m (q ∷ queues) (r ∷ births) are = search (rules, queue_births name m q r are.0, map-append, queues_births name m queues births are.1)
 
 -- two ways to name the same handles
 map_alike : (f g : Handle → Birth) (hs : List Handle)
@@ -166,40 +123,24 @@ module _ (queues : List (List Command)) (w : World) (view : BirthMap) (is_world 
   listed_born : (h : Handle)
       → stands_in (flat_map handles_listed queues) h ≡ stands_in (born w.allocator) h
   listed_born h =
-      let hs : List Handle = flat_map handles_listed queues in
-      let there = listed.listed in
-      let back = IsPermutation-sym w.allocator.taken hs there in
-      let lives = born-IsPermutation w.allocator in
-      let taken = IsPermutation-sym w.allocator.taken (born w.allocator) lives in
-      same_answer (stands_in hs h) (stands_in (born w.allocator) h)
-      (λ is. stands_in-from_Contains (born w.allocator) h
-      (Contains-permutation w.allocator.taken (born w.allocator) h lives
-      (Contains-permutation hs w.allocator.taken h back (Contains-from_stands_in hs h is))))
-      (λ is. stands_in-from_Contains hs h
-      (Contains-permutation w.allocator.taken hs h there
-      (Contains-permutation (born w.allocator) w.allocator.taken h taken
-      (Contains-from_stands_in (born w.allocator) h is))))
-    where
-      same_answer : (a b : Bool) → (a ≡ true → b ≡ true) → (b ≡ true → a ≡ true) → a ≡ b
-      same_answer b b2 there back = grind (arith, common_steps)
+      sym (list_any-IsPermutation (eq_by_cmp handle_cmp h) w.allocator.taken (flat_map handles_listed queues) listed.listed)
+      ∙ list_any-IsPermutation (eq_by_cmp handle_cmp h) w.allocator.taken (born w.allocator) (born-IsPermutation w.allocator)
 
   -- a handle that is listed has the birth by the queues
   birth_is : (h : Handle) (b : Birth) → listed_birth w.phase 0 queues h ≡ Some b → birth h ≡ b
   unfolding birth
-  birth_is h b is =
-      ap (λ o. unwrap_or o (unlisted_birth w.phase (unlisted queues (born w.allocator)) h)) is
+  birth_is h b is = search rules
 
   -- who is born has the birth of its position
   placed : (h : Handle) → IsBorn h
       → (b : Birth) × ((listed_birth w.phase 0 queues h ≡ Some b) × (birth h ≡ b))
   placed h there =
-      let one = a_birth (listed_birth w.phase 0 queues h)
+      let one = some_there (listed_birth w.phase 0 queues h)
       (listed_some w.phase 0 queues h ∙ listed_born h ∙ there) in
       (one.0, (one.1, birth_is h one.0 one.1))
 
   was_not_there : (h : Handle) → IsBorn h → finite.get w.entities h ≡ None
-  was_not_there h there = no_entity (finite.get w.entities h)
-      (born-absent w.allocator w.entities is_world.sound is_world.living h there)
+  was_not_there h there = search (rules, no_entity, born-absent)
 
   is_new : (h : Handle) → IsBorn h → find birth_cmp (birth h) view ≡ None
   is_new h there = grind (arith, common_steps, entity_with, placed, listed_parts)
@@ -210,9 +151,7 @@ module _ (queues : List (List Command)) (w : World) (view : BirthMap) (is_world 
   births-named : AreNamed (after_births queues w).entities
       (entered_alone (map birth (flat_map handles_listed queues)) view)
   unfolding birth
-  births-named = entered-named (birth_in w.phase queues (born w.allocator)) (born w.allocator)
-      (flat_map handles_listed queues) w.entities view named listed_born was_not_there is_new
-      of_its_own
+  births-named = search (rules, entered-named, listed_born, was_not_there, is_new, of_its_own)
 
   module _ (name : Handle → Birth) (names : AreNames name (after_births queues w).entities)
       (births : List (List BirthCommand))
@@ -240,31 +179,9 @@ module _ (queues : List (List Command)) (w : World) (view : BirthMap) (is_world 
 
 below-kept : (phase : ℕ) → IsKept (λ w. AreBelow phase w.entities)
 below-kept phase = record {
-  components = λ change h w there before g e is.
-      let found = entity_there w.entities h there in
-      let later : Entity = record found.0 { components = change found.0.components } in
-      let with_later : with_components w.entities h change ≡ finite.insert w.entities h later =
-      ap (λ o. option_map_or (λ e. finite.insert w.entities h
-      (record e { components = change e.components })) o w.entities) found.1 in
-      inserted_below w.entities h later before (before h found.0 found.1) g e
-      (ap (λ m. finite.get m g) (sym with_later) ∙ is);
-  despawn = λ h w there before g e is.
-      before g e (left w.entities h g e (eq_by_cmp handle_cmp g h)
-      (sym (finite.get-remove handle_cmp_total w.entities h g) ∙ is));
+  components = λ change h w there before g e is. grind (arith, common_steps, entity_there w.entities h there, finite.get-insert handle_cmp_total w.entities h, before h, before g e);
+  despawn = λ h w there before g e is. grind (arith, common_steps, finite.get-remove handle_cmp_total w.entities h g, before g e);
 }
-  where
-    left : (m : EntityMap) (h g : Handle) (e : Entity) (t : Bool)
-        → cond t None (finite.get m g) ≡ Some e → finite.get m g ≡ Some e
-    left m h g e b is = grind (arith, common_steps, none-some)
-
-    inserted_below : (m : EntityMap) (h : Handle) (later : Entity) → AreBelow phase m
-        → later.birth.frame < phase → AreBelow phase (finite.insert m h later)
-    inserted_below m h later before below g e is =
-        by (eq_by_cmp handle_cmp g h) (sym (finite.get-insert handle_cmp_total m h later g) ∙ is)
-      where
-        by : (t : Bool) → cond t (Some later) (finite.get m g) ≡ Some e → e.birth.frame < phase
-        by true is = subst (λ x. x.birth.frame < phase) (same_Some later e is) below
-        by false is = before g e is
 
 -- Who is there after a sync was born in its phase or before.
 pub sync-below : (queues : List (List Command)) (w : World) → AreBelow w.phase w.entities

@@ -1,8 +1,9 @@
 -- The handles that no queue lists: each gets the birth of its ordinal among them.
-use Rattle.std.proofs.Common.{arith, rules, ◌≡◌, refl, sym, ap, ◌∙◌, ℕ, ◌+◌, Bool, true, false}
-use Rattle.std.proofs.Common.{cond, eqb, ◌||◌, true≢false, List, [], ◌∷◌, filter, All, AllPairs}
+use Rattle.std.proofs.Common.{[], arith, rules, ◌≡◌, refl, sym, ap, ◌∙◌, ℕ, ◌+◌, Bool, true, false}
+use Rattle.std.proofs.Common.{cond, eqb, ◌||◌, true≢false, List, ◌∷◌, filter, All, AllPairs}
 use Rattle.std.proofs.Common.{Option, Some, None}
 use Rattle.std.proofs.lemmas.Grind.{common_steps}
+use Rattle.std.proofs.lemmas.Bool.{or_right}
 use Rattle.std.specs.Ordering.{eq_by_cmp}
 use Rattle.std.specs.Option.{option_map, option_map_or}
 use Rattle.std.specs.List.{position_from}
@@ -17,8 +18,8 @@ use Rattle.ent_alloc.proofs.ListLaws.{AllPairs-head, AllPairs-tail}
 use Rattle.ent_alloc.proofs.Replies.{not_apart}
 use Rattle.ent_storage.specs.EntityMap.{Entity, EntityMap, with_birth}
 use Rattle.ent_world.specs.Sync.{no_system}
-use Rattle.ent_world.specs.Entering.{next_birth, is_unnamed, numbered}
-use Rattle.ent_world.proofs.BirthsByQueues.{birth_at, next-birth_at, get-with_birth, birth_by_index}
+use Rattle.ent_world.specs.Entering.{is_unnamed, numbered}
+use Rattle.ent_world.proofs.BirthsByQueues.{birth_at, get-with_birth, birth_by_index}
 use Rattle.ent_world.proofs.BirthsByQueues.{reborn}
 
 -- each stands there once
@@ -40,26 +41,13 @@ distinct (h ∷ hs) apart = (
 pub filter_alike : (p q : Handle → Bool) (hs : List Handle) → ((h : Handle) → stands_in hs h ≡ true
     → p h ≡ q h) → filter p hs ≡ filter q hs
 filter_alike p q [] alike = refl
-filter_alike p q (h ∷ hs) alike =
-    let first : p h ≡ q h = alike h (ap (λ b. b || stands_in hs h) (itself h)) in
-    let rest = filter_alike p q hs
-    (λ g there. alike g (later (eq_by_cmp handle_cmp g h) (stands_in hs g) there)) in
-    λ i. cond (first i) (h ∷ rest i) (rest i)
-  where
-    later : (a b : Bool) → b ≡ true → (a || b) ≡ true
-    later t b there = grind (arith, common_steps)
-
--- neither of the two
-neither : (a b : Bool) → (a || b) ≡ false → (a ≡ false) × (b ≡ false)
-neither t b none = grind (arith, common_steps, true≢false)
+filter_alike p q (h ∷ hs) alike = grind (arith, common_steps, alike h, itself h, filter_alike p q hs (λ g there. alike g (or_right (eq_by_cmp handle_cmp g h) (stands_in hs g) there)))
 
 -- who doesn't stand there is not kept
 not_kept : (p : Handle → Bool) (q : Handle) (hs : List Handle) → stands_in hs q ≡ false
     → stands_in (filter p hs) q ≡ false
 not_kept p q [] none = refl
-not_kept p q (h ∷ hs) none =
-    let both = neither (eq_by_cmp handle_cmp q h) (stands_in hs q) none in
-    search (rules, not_kept p q hs both.1)
+not_kept p q (h ∷ hs) none = grind (arith, common_steps, not_kept p q hs)
 
 -- the index of what stands there, and none of what doesn't
 pub some_index : (q : Handle) (index : ℕ) (hs : List Handle) → stands_in hs q ≡ true → (k : ℕ)
@@ -75,12 +63,7 @@ some_index q index (h ∷ hs) there =
 pub no_index : (q : Handle) (index : ℕ) (hs : List Handle) → stands_in hs q ≡ false
     → position_from (eq_by_cmp handle_cmp q) index hs ≡ None
 no_index q index [] none = refl
-no_index q index (h ∷ hs) none =
-    elim (eq_by_cmp handle_cmp q h) as (λ b. (b || stands_in hs q) ≡ false
-    → cond b (Some index) (position_from (eq_by_cmp handle_cmp q) (index + 1) hs) ≡ None) [
-      | true ↦ λ t. absurd (true≢false t)
-      | false ↦ λ others. no_index q (index + 1) hs others
-    ] none
+no_index q index (h ∷ hs) none = grind (arith, common_steps, no_index q (index + 1) hs)
 
 -- The handles that no queue lists.
 
@@ -112,45 +95,14 @@ waiting-others h birth hs m none =
     (apart_in h g hs none there)))
 
 module _ (phase : ℕ) where
-  numbered_new : (index : ℕ) (o : Option Entity) (later : Option ℕ) (b : Bool)
-      → (b ≡ true → later ≡ None)
-      → or_numbered (cond b (option_map (reborn (birth_at phase no_system index))
-      o) o) (birth_by_index phase no_system later)
-      ≡ or_numbered o (birth_by_index phase no_system (cond b (Some index) later))
-  numbered_new index o later true once = grind (arith, common_steps)
-  numbered_new index o later false once = refl
-
   -- the next one has this index
   pub get-numbered : (index : ℕ) (hs : List Handle) (m : EntityMap) (q : Handle) → AreDistinct hs
       → map.get (numbered (birth_at phase no_system index) hs m) q ≡ or_numbered (map.get m q)
       (birth_by_index phase no_system (position_from (eq_by_cmp handle_cmp q) index (waiting m hs)))
   get-numbered index [] m q apart = sym (or_numbered-none (map.get m q))
   get-numbered index (h ∷ hs) m q apart =
-      elim (is_unnamed m h) as
-      (λ b. map.get (cond b (numbered (next_birth (birth_at phase no_system index)) hs n)
-      (numbered (birth_at phase no_system index) hs m)) q
-      ≡ or_numbered (map.get m q)
-      (birth_by_index phase no_system (position_from (eq_by_cmp handle_cmp q) index
-      (cond b (h ∷ waiting m hs) (waiting m hs))))) [
-        | true ↦
-            ap (λ b. map.get (numbered b hs n) q) (next-birth_at phase no_system index)
-            ∙ get-numbered (index + 1) hs n q apart.1
-            ∙ ap (λ rest. or_numbered (map.get n q)
-            (birth_by_index phase no_system (position_from (eq_by_cmp handle_cmp q) (index + 1)
-            rest))) (waiting-others h (birth_at phase no_system index) hs m apart.0)
-            ∙ ap (λ o. or_numbered o
-            (birth_by_index phase no_system (position_from (eq_by_cmp handle_cmp q) (index + 1)
-            (waiting m hs)))) (get-with_birth m h (birth_at phase no_system index) q)
-            ∙ numbered_new index (map.get m q)
-            (position_from (eq_by_cmp handle_cmp q) (index + 1) (waiting m hs))
-            (eq_by_cmp handle_cmp q h) once
-        | false ↦ get-numbered index hs m q apart.1
-      ]
-    where
-      n : EntityMap
-      n = with_birth m h (birth_at phase no_system index)
-
-      once : eq_by_cmp handle_cmp q h ≡ true
-          → position_from (eq_by_cmp handle_cmp q) (index + 1) (waiting m hs) ≡ None
-      once tied = no_index q (index + 1) (waiting m hs)
-          (not_kept (is_unnamed m) q hs (ap (stands_in hs) (same_handle q h tied) ∙ apart.0))
+      let n = with_birth m h (birth_at phase no_system index) in
+      let once : eq_by_cmp handle_cmp q h ≡ true
+      → position_from (eq_by_cmp handle_cmp q) (index + 1) (waiting m hs) ≡ None = λ tied. no_index q (index + 1) (waiting m hs)
+      (not_kept (is_unnamed m) q hs (ap (stands_in hs) (same_handle q h tied) ∙ apart.0)) in
+      grind (arith, common_steps, get-numbered (index + 1) hs n q apart.1, get-numbered index hs m q apart.1, waiting-others h (birth_at phase no_system index) hs m apart.0, get-with_birth m h (birth_at phase no_system index) q)

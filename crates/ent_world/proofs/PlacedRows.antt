@@ -1,8 +1,9 @@
 -- The rows of entities stay their places, after each change of the two, and there are as many places
 -- as handles live.
+use Rattle.std.proofs.lemmas.Bool.{false_from_ne_true}
 use Rattle.std.proofs.lemmas.Grind.{common_steps}
-use Rattle.std.proofs.Common.{rules, ◌≡◌, ◌≢◌, refl, sym, ap, subst, ◌∙◌, ℕ, suc, ◌+◌, ◌-◌, ◌<◌}
-use Rattle.std.proofs.Common.{◌≤◌, ◌^◌, Bool, true, false, true≢false, ◌⊎◌, inl, inr, List, [], ◌∷◌}
+use Rattle.std.proofs.Common.{[], rules, ◌≡◌, ◌≢◌, refl, sym, ap, subst, ◌∙◌, ℕ, suc, ◌+◌, ◌-◌, ◌<◌}
+use Rattle.std.proofs.Common.{◌≤◌, ◌^◌, true, false, true≢false, ◌⊎◌, inl, inr, List, ◌∷◌}
 use Rattle.std.proofs.Common.{◌++◌, length, slice_get, Option, Some, None, is_some, arith}
 use Rattle.std.proofs.Common.{append-nil, length-append}
 use Rattle.std.proofs.lemmas.List.{append_assoc}
@@ -81,8 +82,7 @@ module _ (rows : Rows) (places : List Handle) (m : EntityMap) (h : Handle) (e : 
 pub rows-born : (birth : Handle → Birth) (hs : List Handle) (rows : Rows) (places : List Handle)
     (m : EntityMap) → AreRows rows places m → AreNew hs m
     → AreRows (with_rows rows (length places) hs) (places ++ hs) (with_born m birth hs)
-rows-born birth [] rows places m are new =
-    subst (λ hs. AreRows rows hs m) (sym (append-nil places)) are
+rows-born birth [] rows places m are new = search (rules, append-nil)
 rows-born birth (h ∷ hs) rows places m are new =
     let e = newborn (birth h) in
     let one = rows-insert rows places m h e are new.0 in
@@ -131,10 +131,8 @@ module _ (rows : Rows) (places left : List Handle) (m : EntityMap) (h : Handle) 
           let apart = other_place g k before.1 before.0 in
           let below = slice_get_within places k g before.1 in
           let inside = slice_get_within places place h here in
-          let less = without.one_less in
-          let end : length left ≤ place = grind
-          (arith, common_steps, slice_get-get_or left place h) in
-          without.others k apart (omega arith) ∙ before.1,
+          let end : length left ≤ place = grind (arith, common_steps, slice_get-get_or left place h) in
+          without.others k apart (omega (arith, without.one_less)) ∙ before.1,
       λ is. (stays g k is (λ e. none-some g (sym none ∙ ap (slice_get left) (sym e) ∙ is))).2,
     );
     each = each_gone;
@@ -193,17 +191,12 @@ distinct_places : (xs : List Handle)
     → AreDistinct xs
 distinct_places [] once = tt
 distinct_places (x ∷ xs) once = (
-  by_test (stands_in xs x) refl,
+  false_from_ne_true _ (λ there.
+      let other = place_of xs x there in
+      let twice = once x 0 (suc other.0) refl other.1 in omega arith),
   distinct_places xs (λ h i j first second. let next = once h (suc i) (suc j) first second in
       omega arith),
 )
-  where
-    by_test : (b : Bool) → stands_in xs x ≡ b → b ≡ false
-    by_test false _ = refl
-    by_test true there =
-        let other = place_of xs x there in
-        let twice = once x 0 (suc other.0) refl other.1 in
-        absurd (omega arith)
 
 len_distinct : (xs : List Handle) → AreDistinct xs
     → set.len {R = handle_cmp} (set.from_list xs) ≡ length xs
@@ -213,16 +206,13 @@ len_distinct (x ∷ xs) once =
     grind (arith, common_steps, set.contains-from_list total xs x, set.len-insert total (set.from_list xs) x)
 
 -- who has a row stands among the places
-rows_stand : (rows : Rows) (places : List Handle) → ArePlaces rows places → (h : Handle)
+pub rows_stand : (rows : Rows) (places : List Handle) → ArePlaces rows places → (h : Handle)
     → map.contains_key rows h ≡ stands_in places h
 rows_stand rows places at h = by_row (map.get rows h) refl
   where
-    none_stands : map.get rows h ≡ None → (b : Bool) → stands_in places h ≡ b → false ≡ b
-    none_stands none b there = grind (arith, common_steps, place_of, none-some)
-
     by_row : (o : Option ℕ) → map.get rows h ≡ o → is_some o ≡ stands_in places h
     by_row (Some place) is = sym (stands_at places place h ((at h place).0 is))
-    by_row None is = none_stands is (stands_in places h) refl
+    by_row None is = grind (arith, common_steps, place_of places h, none-some, at h)
 
 -- as many live as there are places
 pub rows-count : (s : Allocator) (rows : Rows) (places : List Handle) (m : EntityMap)

@@ -1,7 +1,7 @@
 -- A sync that is cut anywhere, and goes on with what is left, is the whole sync; and faults are
 -- only added to those that there were.
-use Rattle.std.proofs.Common.{rules, ◌≡◌, refl, ap, ◌∙◌, ℕ, zero, suc, ◌+◌, List, [], ◌∷◌, ◌++◌}
-use Rattle.std.proofs.Common.{take, drop, arith, inl, inr, ◌≤◌, append-nil}
+use Rattle.std.proofs.Common.{[], rules, ◌≡◌, refl, ap, ◌∙◌, ℕ, zero, suc, ◌+◌, List, ◌∷◌, ◌++◌}
+use Rattle.std.proofs.Common.{take, drop, arith, ◌≤◌, append-nil}
 use Rattle.std.proofs.lemmas.Grind.{common_steps}
 use Rattle.std.proofs.lemmas.List.{take-take}
 use Rattle.ent_handle.specs.Handle.{Handle}
@@ -66,13 +66,9 @@ parts_within done later q le = search (rules, take-take)
 commands_within : (command done later later_done : ℕ) (q : List Command)
     → IsLaterIn command done later later_done
     → cut_commands command done (cut_commands later later_done q) ≡ cut_commands command done q
-commands_within zero done zero later_done q (inl lt) = absurd (omega (arith, lt))
-commands_within zero done zero later_done q (inr two) = parts_within done later_done q two.1
-commands_within zero done (suc later) later_done [] is = refl
-commands_within zero done (suc later) later_done (c ∷ q) is = search (rules, first_alone)
-commands_within (suc command) done zero later_done q (inl lt) = absurd (omega (arith, lt))
-commands_within (suc command) done zero later_done q (inr two) =
-    (let none = two.0 in absurd (omega (arith, none)))
+commands_within zero done zero later_done q is = search (rules, parts_within)
+commands_within zero done (suc later) later_done it is = search (rules, first_alone)
+commands_within (suc command) done zero later_done q is = search rules
 commands_within (suc command) done (suc later) later_done [] is = refl
 commands_within (suc command) done (suc later) later_done (c ∷ q) is =
     ap (λ cs. c ∷ cs) (commands_within command done later later_done q (search rules))
@@ -81,20 +77,12 @@ pub cut_within : (system command done later later_command later_done : ℕ)
     (queues : List (List Command)) → IsLater system command done later later_command later_done
     → cut system command done (cut later later_command later_done queues)
     ≡ cut system command done queues
-cut_within zero command done zero later_command later_done [] is = refl
-cut_within zero command done zero later_command later_done (q ∷ qs) (inl lt) =
-    absurd (omega (arith, lt))
-cut_within zero command done zero later_command later_done (q ∷ qs) (inr two) =
-    ap (λ p. p ∷ []) (commands_within command done later_command later_done q two.1)
-cut_within zero command done (suc later) later_command later_done [] is = refl
-cut_within zero command done (suc later) later_command later_done (q ∷ qs) is = refl
-cut_within (suc system) command done zero later_command later_done qs (inl lt) =
-    absurd (omega (arith, lt))
-cut_within (suc system) command done zero later_command later_done qs (inr two) = search rules
+cut_within zero command done zero later_command later_done it is = search (rules, commands_within)
+cut_within zero command done (suc later) later_command later_done it is = search rules
+cut_within (suc system) command done zero later_command later_done qs is = search rules
 cut_within (suc system) command done (suc later) later_command later_done [] is = refl
 cut_within (suc system) command done (suc later) later_command later_done (q ∷ qs) is =
-    ap (λ ps. q ∷ ps) (cut_within system command done later later_command later_done qs
-    (search rules))
+    ap (λ ps. q ∷ ps) (cut_within system command done later later_command later_done qs (search rules))
 
 -- ---- faults are added
 

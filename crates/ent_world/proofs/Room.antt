@@ -1,9 +1,10 @@
 -- Entering one by one, with room for all, and who stands from a place on.
 use Rattle.std.proofs.lemmas.Grind.{common_steps}
-use Rattle.std.proofs.Common.{rules, ◌≡◌, ◌≢◌, refl, sym, ap, ◌∙◌, ◌+◌, ◌<◌, ◌≤◌, Bool, true, false}
-use Rattle.std.proofs.Common.{cond, true≢false, ℕ, zero, suc, ◌-◌, List, [], ◌∷◌, drop}
-use Rattle.std.proofs.Common.{slice_get, is_some, arith, Some, ◌||◌}
+use Rattle.std.proofs.Common.{[], rules, ◌≡◌, ◌≢◌, refl, sym, ap, ◌∙◌, ◌+◌, ◌<◌, ◌≤◌, true, false}
+use Rattle.std.proofs.Common.{true≢false, ℕ, zero, suc, ◌-◌, List, ◌∷◌, drop}
+use Rattle.std.proofs.Common.{slice_get, arith, Some, ◌||◌}
 use Rattle.std.proofs.lemmas.Option.{none-some, same_Some}
+use Rattle.std.proofs.lemmas.Bool.{or_parts}
 use Rattle.std.specs.Ordering.{eq_by_cmp}
 use Rattle.std.specs.FinMap as map
 use Rattle.ent_handle.specs.Handle.{Handle, handle_cmp, handle_cmp_total}
@@ -17,34 +18,22 @@ pub new_later : (h : Handle) (e : Entity) (hs : List Handle) (m : EntityMap) →
     ≡ false → AreNew hs m → AreNew hs (map.insert m h e)
 new_later h e [] m none new = tt
 new_later h e (g ∷ hs) m none new =
-    let both = neither (eq_by_cmp handle_cmp h g) (stands_in hs h) none in (
-      ap is_some (map.get-insert handle_cmp_total m h e g)
-          ∙ by_test (eq_by_cmp handle_cmp g h) refl both.0,
+    let both = or_parts (eq_by_cmp handle_cmp h g) (stands_in hs h) none in (
+      grind (arith, common_steps, map.get-insert handle_cmp_total m h e g, same_handle g h, itself h),
       new.1,
       new_later h e hs m both.1 new.2,
     )
-  where
-    neither : (a b : Bool) → (a || b) ≡ false → (a ≡ false) × (b ≡ false)
-    neither t b some = grind (arith, common_steps, true≢false)
-
-    turned : eq_by_cmp handle_cmp g h ≡ true → eq_by_cmp handle_cmp h g ≡ true
-    turned tied = ap (eq_by_cmp handle_cmp h) (same_handle g h tied) ∙ itself h
-
-    by_test : (b : Bool) → eq_by_cmp handle_cmp g h ≡ b → eq_by_cmp handle_cmp h g ≡ false
-        → is_some (cond b (Some e) (map.get m g)) ≡ false
-    by_test true tied apart = absurd (true≢false (sym (turned tied) ∙ apart))
-    by_test false _ apart = new.0
 
 -- The places from one on.
 
 slice_get-drop : (places : List Handle) (n i : ℕ) → slice_get (drop n places) i
     ≡ slice_get places (n + i)
-slice_get-drop places zero i = let same : i ≡ 0 + i = omega arith in ap (slice_get places) same
+slice_get-drop places zero i = search rules
 slice_get-drop [] (suc n) i = refl
 slice_get-drop (x ∷ places) (suc n) i = search (rules, slice_get-drop places n i)
 
 some_one : (x h : Handle) → Some x ≡ Some h → eq_by_cmp handle_cmp h x ≡ true
-some_one x h is = ap (λ y. eq_by_cmp handle_cmp h y) (same_Some x h is) ∙ itself h
+some_one x h is = search (rules, same_Some, itself)
 
 pub stands_at : (places : List Handle) (i : ℕ) (h : Handle) → slice_get places i ≡ Some h
     → stands_in places h ≡ true

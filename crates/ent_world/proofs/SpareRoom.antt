@@ -1,6 +1,6 @@
 -- How many slots wait after each step of an allocator, against the room that a storage has.
-use Rattle.std.proofs.Common.{rules, ◌≡◌, sym, ap, ◌∙◌, ℕ, zero, suc, ◌+◌, ◌-◌, ◌≤◌, ◌<◌, true, false, List}
-use Rattle.std.proofs.Common.{[], ◌∷◌, ◌++◌, length, drop, filter, slice_get, arith, Some, All}
+use Rattle.std.proofs.Common.{[], rules, ◌≡◌, sym, ap, ◌∙◌, ℕ, zero, suc, ◌+◌, ◌-◌, ◌≤◌, ◌<◌, true, false, List}
+use Rattle.std.proofs.Common.{◌∷◌, ◌++◌, length, drop, filter, slice_get, arith, Some, All}
 use Rattle.std.proofs.Common.{length-append}
 use Rattle.std.proofs.lemmas.Grind.{common_steps}
 use Rattle.std.proofs.lemmas.List.Elements.{filter_passes, All-head}
@@ -18,18 +18,17 @@ use Rattle.ent_alloc.proofs.Taken.{length-available, made-after_flush}
 
 -- where no slot was made, none waits
 pub none_made : (s : Allocator) (spare : ℕ) → IsSound s → s.made ≡ 0 → top s ≤ spare
-none_made s spare sound none = let rest = retired-rest s sound in omega (arith, rest, none)
+none_made s spare sound none = search (rules, retired-rest)
 
 -- where a slot waits, one was made
 pub some_made : (s : Allocator) (least : ℕ) → IsSound s → least < top s → 0 < s.made
-some_made s least sound waits = let rest = retired-rest s sound in omega (arith, rest, waits)
+some_made s least sound waits = search (rules, retired-rest)
 
 -- a copy has as much room as the storage, or there is no slot that could wait
 pub room_copied : (s : Allocator) (made spare copy : ℕ) → IsSound s → made ≡ s.made → top s ≤ spare
     → (0 < made → spare ≤ copy) → top s ≤ copy
 room_copied s zero spare copy sound is room keeps = none_made s copy sound (sym is)
-room_copied s (suc made) spare copy sound is room keeps =
-    let kept = keeps (omega arith) in omega (arith, room, kept)
+room_copied s (suc made) spare copy sound is room keeps = search rules
 
 -- a flush takes old handles first
 pub top-after_flush : (s : Allocator) → IsSound s → top (after_flush s) ≡ top s - length s.taken

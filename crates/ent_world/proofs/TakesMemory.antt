@@ -1,6 +1,6 @@
 -- Where a command may take memory.
 use Rattle.std.proofs.lemmas.Grind.{common_steps}
-use Rattle.std.proofs.Common.{rules, ◌≡◌, ℕ, ◌<◌, true, List, [], ◌∷◌, length, drop, slice_get}
+use Rattle.std.proofs.Common.{[], rules, ◌≡◌, ℕ, ◌<◌, true, List, ◌∷◌, length, drop, slice_get}
 use Rattle.std.proofs.Common.{Some, arith, zero, suc}
 use Rattle.std.specs.Prelude.{max}
 use Rattle.std.proofs.lemmas.Bool.Decides.{nat_tests}

@@ -1,5 +1,5 @@
 -- What is true of every world stays true: each step leaves a world.
-use Rattle.std.proofs.Common.{rules, ◌≡◌, sym, ap, ◌∙◌, ℕ, true, List, [], ◌∷◌, slice_get}
+use Rattle.std.proofs.Common.{[], rules, ◌≡◌, sym, ap, ◌∙◌, ℕ, true, List, ◌∷◌, slice_get}
 use Rattle.std.proofs.Common.{Some}
 use Rattle.ent_handle.specs.declared.birth.Birth.{Birth}
 use Rattle.ent_handle.specs.Handle.{Handle}

@@ -19,10 +19,4 @@ pub returns-then-entities-eq0-clause-entities : goal.returns-then-entities-eq0-c
 returns-then-entities-eq0-clause-entities c = search (rules, map.empty_of_len)
 
 pub returns-clause-memory : goal.returns-clause-memory
-returns-clause-memory c =
-    let m = c.args.storage.now.entities in
-    anyhow c.try_clone.result ((0 < c.args.slots) ⊎ (m ≢ map.empty)) (elim c.else-slots-eq0.branch [
-      | else-slots-eq0-via-then-slots-eq0+else-entities-eq0 w ↦
-          inr (some_entity m c.len-entities.result c.len-entities.ensures.value w.if-entities-eq0.false)
-      | else-slots-eq0-via-else-slots-eq0 w ↦ inl (omega (arith, w.if-slots-eq0.false))
-    ])
+returns-clause-memory c = search (rules, anyhow, some_entity)

@@ -30,23 +30,7 @@ returns-then-entities-eq0-clause-entities c =
     search (rules, map.empty_of_len, c.new.ensures, c.try_clone_from-then-entities-eq0.ensures)
 
 pub returns-then-entities-eq0-clause-memory : goal.returns-then-entities-eq0-clause-memory
-returns-then-entities-eq0-clause-memory c =
-    never c.try_clone_from-then-entities-eq0.result _
-    ((0 < c.args.slots) ⊎ (c.args.source.now.entities ≢ map.empty))
-    c.try_clone_from-then-entities-eq0.ensures.memory (λ why. elim why [
-      | inl room ↦ (
-          let places = ap length c.new.ensures.places in
-          let spare = c.new.ensures.spare in
-          omega (arith, places, spare, room))
-      | inr some ↦ some (no_entities_bare _ c.new.ensures.entities)
-    ])
+returns-then-entities-eq0-clause-memory c = search (rules, never, no_entities_bare)
 
 pub returns-else-slots-eq0-clause-memory : goal.returns-else-slots-eq0-clause-memory
-returns-else-slots-eq0-clause-memory c =
-    let m = c.args.source.now.entities in
-    anyhow c.try_clone_from-else-slots-eq0.result ((0 < c.args.slots) ⊎ (m ≢ map.empty))
-    (elim c.else-slots-eq0.branch [
-      | else-slots-eq0-via-then-slots-eq0+else-entities-eq0 w ↦
-          inr (some_entity m c.len-entities.result c.len-entities.ensures.value w.if-entities-eq0.false)
-      | else-slots-eq0-via-else-slots-eq0 w ↦ inl (omega (arith, w.if-slots-eq0.false))
-    ])
+returns-else-slots-eq0-clause-memory c = search (rules, anyhow, some_entity)

@@ -1,3 +1,4 @@
+use Rattle.std.proofs.Common.{rules}
 use Rattle.std.proofs.Common.{◌≡◌, ◌++◌, ◌∷◌, [], ◌∙◌, ap, sym, subst, arith, All, length, None}
 use Rattle.std.proofs.Common.{refl}
 use Rattle.std.specs.FinMap as map
@@ -41,26 +42,4 @@ loop-handle-preserved c =
     }
 
 pub returns-then-is_some-clause-fault : goal.returns-then-is_some-clause-fault
-returns-then-is_some-clause-fault c other =
-    let loop = c.loop-handle.invariant in
-    let h = c.in-Some.handle in
-    let step : c.loop-handle.handle-iterator ≡ h ∷ c.next.new.self = c.in-Some.ensures.steps in
-    record {
-      index = h.index;
-      named = ap Row c.index.ensures;
-      first = record {
-        before = c.loop-handle.list.items;
-        handle = h;
-        after = c.next.new.self;
-        listed = sym loop.items ∙ ap (c.loop-handle.list.items ++◌) step;
-        bare = loop.before;
-        has_row = grind (
-          arith,
-          common_steps,
-          c.row.ensures.value,
-          c.is_some.ensures,
-          c.if-is_some.true,
-        );
-        slot = refl;
-      };
-    }
+returns-then-is_some-clause-fault c other = search rules

@@ -12,10 +12,7 @@ begun : (c : After-new) → IsWorld (record {
   phase = 0;
   entities = c.new.result.entities;
 })
-begun c = record {
-  sound = c.cursor.ensures.sound;
-  living = rw (c.new-entities.ensures.allocator, c.new.ensures.entities) keys-empty;
-}
+begun c = search (rules, keys-empty)
 
 pub invariant_of-result : goal.invariant_of-result
 invariant_of-result c = search (rules, begun, rows-empty, none_made)

@@ -1,17 +1,15 @@
-use Rattle.std.proofs.Common.{◌≡◌, ◌≢◌, ◌+◌, ◌≤◌, ◌<◌, ◌∙◌, ap, sym, subst, arith, inl, Ok, List, AllPairs, ℕ, length, get_or, true, ◌^◌}
+use Rattle.std.proofs.Common.{rules}
+use Rattle.std.proofs.Common.{◌≡◌, ◌+◌, ◌<◌, ◌∙◌, ap, sym, subst, arith, inl, Ok, List, AllPairs, ℕ, length}
 use Rattle.std.specs.FinMap as map
 use Rattle.std.specs.FinSet as set
 use Rattle.ent_handle.specs.Handle.{Handle}
-use Rattle.ent_alloc.specs.Sequential.{Allocator, top}
-use Rattle.ent_alloc.specs.Sound.{IsSound}
+use Rattle.ent_alloc.specs.Sequential.{top}
 use Rattle.ent_alloc.specs.Entities.{Entities}
 use Rattle.ent_alloc.specs.Image.{image as allocator_image}
 use Rattle.ent_storage.specs.Image.{entities_bytes, AreStored}
 use Rattle.ent_world.specs.World.{World}
-use Rattle.ent_world.specs.Rows.{AreRows, with_rows}
 use Rattle.ent_world.specs.Image.{allocator_of, framed, image, HasImage}
-use Rattle.ent_world.specs.FirstFault.{AreFramed, HaveAllocator, HasFault, MayTakeMemory}
-use Rattle.ent_storage.specs.FirstFault.{HasFault as HasStorageFault}
+use Rattle.ent_world.specs.FirstFault.{AreFramed, HaveAllocator, MayTakeMemory}
 use Rattle.ent_world.proofs.ImageRead.{allocator_has, AreParts, told, memory_from_not, read_is}
 use Rattle.ent_world.proofs.ImageRead.{refused_is, handed, listed, no_rows, stored_living, rows_read}
 use Rattle.ent_world.proofs.ImageRead.{all_live, living_is, handed_on, slots_made, framed_by}
@@ -23,9 +21,7 @@ use Rattle.ent_world.proofs.world.World.of_image.Goals as goal
 -- what the bytes tell of a world whose image they are
 told_of : (c : In_ok-phase) (w : World) → HasImage w → image w ≡ c.args.bytes.now
     → AreParts w c.in_ok-phase.phase c.in_ok-phase.part.now c.in_ok-phase.rest.now
-told_of c w has is = told w has c.args.bytes.now c.in_ok-phase.phase c.in_ok-phase.part.now
-    c.in_ok-phase.rest.now c.in_ok-phase.ensures.phase c.in_ok-phase.ensures.fits
-    c.in_ok-phase.ensures.found is
+told_of c w has is = search (rules, told)
 
 -- its allocator was read
 allocator_is : (c : In_ok-entities) (w : World) → HasImage w
@@ -54,15 +50,13 @@ returns-in_err-handles-clause-exact c w has is =
 -- the handles that were listed
 lists : (c : In_ok-handles) → set.from_list c.in_ok-handles.handles.items
     ≡ c.in_ok-entities.entities.allocator.live
-lists c = ap set.from_list c.in_ok-handles.ensures.items ∙ c.iter.ensures.living
+lists c = search rules
 
 rising : (c : In_ok-handles) → AllPairs (λ g h. g.index < h.index) c.in_ok-handles.handles.items
-rising c = subst (AllPairs (λ g h. g.index < h.index)) (sym c.in_ok-handles.ensures.items)
-    c.iter.ensures.rising
+rising c = rw c.in_ok-handles.ensures.items c.iter.ensures.rising
 
 bare : (c : In_ok-handles) → c.in_ok-entities.entities.rows ≡ map.empty
-bare c = no_rows c.in_ok-entities.entities c.in_ok-entities.ensures.has_image c.iter.result
-    c.iter.ensures.living c.in_ok-handles.ensures.bare
+bare c = search (rules, no_rows)
 
 pub returns-in_err-storage-clause-exact : goal.returns-in_err-storage-clause-exact
 returns-in_err-storage-clause-exact c w has is =
@@ -77,48 +71,29 @@ returns-in_err-storage-clause-exact c w has is =
     (ap (entities_bytes w.entities) (sym same) ∙ parts.rest_is)) w
 
 pub set_rows-requires-clause-living : goal.set_rows-requires-clause-living
-set_rows-requires-clause-living c =
-    let at = goal.at.set_rows-requires-clause-living c in
-    subst (λ (hs : List Handle).
-    (k : ℕ) (d : Handle) → k < length hs
-    → set.contains c.in_ok-entities.entities.allocator.live (get_or hs k d) ≡ true)
-    (sym c.deref-2.ensures.value)
-    (all_live c.in_ok-entities.entities.allocator.live c.in_ok-handles.handles.items
-    (lists at.In_ok-handles))
+set_rows-requires-clause-living c = search (rules, all_live, lists)
 
 -- what was read of the entities
 stored : (c : In_ok-storage) → AreStored c.in_ok-storage.storage.entities
     c.in_ok-handles.handles.items
-stored c = subst (AreStored c.in_ok-storage.storage.entities) c.deref.ensures.value
-    c.in_ok-storage.ensures.stored
+stored c = rw c.deref.ensures.value at c.in_ok-storage.ensures.stored
 
 pub invariant_of-result : goal.invariant_of-result
 invariant_of-result c =
     let at = goal.at.invariant_of-result c in
-    let e = c.in_ok-entities.entities in
     let s = c.in_ok-storage.storage in
     let hs = c.in_ok-handles.handles.items in
-    let allocator = c.set_rows.ensures.allocator in
-    let rows : c.set_rows.new.entities.rows ≡ with_rows map.empty 0 hs = c.set_rows.ensures.rows
-    ∙ (λ i. with_rows (bare at.In_ok-handles i) 0 (c.deref-2.ensures.value i)) in
     let places : s.places ≡ hs = c.in_ok-storage.ensures.places ∙ c.deref.ensures.value in
     record {
-      world = record {
-        sound = subst IsSound (sym allocator) c.in_ok-entities.ensures.has_image.sound;
-        living = λ h. stored_living s.entities hs (stored at.In_ok-storage) e.allocator.live
-            (lists at.In_ok-handles) h
-            ∙ ap (λ (a : Allocator). set.contains a.live h) (sym allocator);
-      };
-      rows = subst (λ rows. AreRows rows s.places s.entities) (sym rows)
-          (subst (λ places. AreRows (with_rows map.empty 0 hs) places s.entities) (sym places)
-          (rows_read s.entities hs (stored at.In_ok-storage) (rising at.In_ok-handles)));
-      room = rw allocator (omega (
-        arith,
-        c.in_ok-storage.ensures.room,
-        c.top.ensures,
-        c.len.ensures,
-        ap length c.deref.ensures.value,
-      ));
+      world = rw c.set_rows.ensures.allocator (record {
+        sound = c.in_ok-entities.ensures.has_image.sound;
+        living = stored_living s.entities hs (stored at.In_ok-storage)
+            c.in_ok-entities.entities.allocator.live (lists at.In_ok-handles);
+      });
+      rows = rw (c.set_rows.ensures.rows, bare at.In_ok-handles, c.deref-2.ensures.value, places)
+          (rows_read s.entities hs (stored at.In_ok-storage) (rising at.In_ok-handles));
+      room = rw c.set_rows.ensures.allocator (omega (arith, c.in_ok-storage.ensures.room,
+          c.top.ensures, c.len.ensures, ap length c.deref.ensures.value));
     }
 
 pub returns-clause-found : goal.returns-clause-found
@@ -140,23 +115,20 @@ returns-clause-found c =
 pub returns-clause-has_image : goal.returns-clause-has_image
 returns-clause-has_image c =
     let at = goal.at.returns-clause-has_image c in
-    let e = c.in_ok-entities.entities in
+    let e = c.in_ok-entities in
     let m = c.in_ok-storage.storage.entities in
     let hs = c.in_ok-handles.handles.items in
     let allocator = c.set_rows.ensures.allocator in
-    let keys = living_is m hs e.allocator.live (stored at.In_ok-storage) (rising at.In_ok-handles)
-    (lists at.In_ok-handles) in
+    let stored = stored at.In_ok-storage in
     record {
-      world = record {
-        sound = subst IsSound (sym allocator) c.in_ok-entities.ensures.has_image.sound;
-        living = λ h. stored_living m hs (stored at.In_ok-storage) e.allocator.live
-            (lists at.In_ok-handles) h
-            ∙ ap (λ (a : Allocator). set.contains a.live h) (sym allocator);
-      };
-      asked = subst (λ (a : Allocator). a.asked ≤ 2 ^ 50) (sym allocator)
-          c.in_ok-entities.ensures.has_image.asked;
+      world = rw allocator (record {
+        sound = e.ensures.has_image.sound;
+        living = stored_living m hs stored e.entities.allocator.live (lists at.In_ok-handles);
+      });
+      asked = rw allocator e.ensures.has_image.asked;
       phase = c.in_ok-phase.ensures.phase;
-      stored = subst (AreStored m) (sym keys) (stored at.In_ok-storage);
+      stored = rw (living_is m hs e.entities.allocator.live stored (rising at.In_ok-handles)
+          (lists at.In_ok-handles)) stored;
     }
 
 pub returns-clause-exact : goal.returns-clause-exact
@@ -166,15 +138,9 @@ returns-clause-exact c w has is =
     let e = allocator_is at.In_ok-entities w has parts in
     let same = listed w has c.in_ok-entities.entities e c.in_ok-handles.handles.items
     (rising at.In_ok-handles) (lists at.In_ok-handles) ∙ sym c.deref.ensures.value in
-    let entities = c.in_ok-storage.ensures.exact w.entities
-    (subst (AreStored w.entities) same has.stored)
-    (ap (entities_bytes w.entities) (sym same) ∙ parts.rest_is) in
+    let entities = c.in_ok-storage.ensures.exact w.entities (rw same at has.stored) (rw same at parts.rest_is) in
     let allocator = c.set_rows.ensures.allocator ∙ ap (λ (x : Entities). x.allocator) e in
-    inl (λ i. Ok (record {
-      allocator = allocator i;
-      phase = sym parts.phase_is i;
-      entities = entities i;
-    }))
+    inl (λ i. Ok (record { allocator = allocator i; phase = sym parts.phase_is i; entities = entities i }))
 
 -- ---- the first fault, and memory
 
@@ -184,22 +150,17 @@ parts_of c = framed_by c.args.bytes.now c.in_ok-phase.phase c.in_ok-phase.part.n
     c.in_ok-phase.ensures.found
 
 pub returns-in_err-phase-clause-fault : goal.returns-in_err-phase-clause-fault
-returns-in_err-phase-clause-fault c =
-    handed_on c.from_residual.result c.in_err-phase.field-0.0 _ c.from_residual.ensures.1
-    (λ other. c.in_err-phase.ensures.fault)
+returns-in_err-phase-clause-fault c = search (rules, handed_on)
 
 pub returns-in_err-phase-clause-memory : goal.returns-in_err-phase-clause-memory
-returns-in_err-phase-clause-memory c =
-    handed_on c.from_residual.result c.in_err-phase.field-0.0 _ c.from_residual.ensures.1
-    (λ is. absurd (c.in_err-phase.ensures.no_memory is))
+returns-in_err-phase-clause-memory c = search (rules, handed_on)
 
 pub returns-in_err-entities-clause-fault : goal.returns-in_err-entities-clause-fault
 returns-in_err-entities-clause-fault c =
-    let at = goal.at.returns-in_err-entities-clause-fault c in
+    let parts = parts_of (goal.at.returns-in_err-entities-clause-fault c).In_ok-phase in
     handed_on c.from_residual-in_err-entities.result c.in_err-entities.field-0.0 _
-    c.from_residual-in_err-entities.ensures.1 (λ other.
-    let fault = c.in_err-entities.ensures.fault other in
-    subst (HasFault c.args.bytes.now) (sym fault.named) (parts_of at.In_ok-phase, fault.first))
+    c.from_residual-in_err-entities.ensures.1 (λ other. let fault = c.in_err-entities.ensures.fault other in
+    rw fault.named (parts, fault.first))
 
 pub returns-in_err-entities-clause-memory : goal.returns-in_err-entities-clause-memory
 returns-in_err-entities-clause-memory c =
@@ -242,36 +203,24 @@ takes_memory c hs lives some = record {
 
 pub returns-in_err-handles-clause-fault : goal.returns-in_err-handles-clause-fault
 returns-in_err-handles-clause-fault c =
-    let at = goal.at.returns-in_err-handles-clause-fault c in
+    let read = read_of (goal.at.returns-in_err-handles-clause-fault c).In_ok-entities c.iter.result c.iter.ensures.rising c.iter.ensures.living in
     handed_on c.from_residual-in_err-handles.result c.in_err-handles.field-0.0 _
-    c.from_residual-in_err-handles.ensures.1 (λ other.
-    let fault = c.in_err-handles.ensures.fault other in
-    subst (HasFault c.args.bytes.now) (sym fault.named) (
-      read_of at.In_ok-entities c.iter.result c.iter.ensures.rising c.iter.ensures.living,
-      fault.first,
-    ))
+    c.from_residual-in_err-handles.ensures.1 (λ other. let fault = c.in_err-handles.ensures.fault other in
+    rw fault.named (read, fault.first))
 
 pub returns-in_err-handles-clause-memory : goal.returns-in_err-handles-clause-memory
 returns-in_err-handles-clause-memory c =
-    let at = goal.at.returns-in_err-handles-clause-memory c in
+    let takes = takes_memory (goal.at.returns-in_err-handles-clause-memory c).In_ok-entities c.iter.result c.iter.ensures.living in
     handed_on c.from_residual-in_err-handles.result c.in_err-handles.field-0.0 _
-    c.from_residual-in_err-handles.ensures.1 (λ is.
-    takes_memory at.In_ok-entities c.iter.result c.iter.ensures.living
-    (omega (arith, c.in_err-handles.ensures.memory is)))
+    c.from_residual-in_err-handles.ensures.1 (λ is. takes (omega (arith, c.in_err-handles.ensures.memory is)))
 
 pub returns-in_err-storage-clause-fault : goal.returns-in_err-storage-clause-fault
 returns-in_err-storage-clause-fault c =
     let at = goal.at.returns-in_err-storage-clause-fault c in
+    let read = read_of at.In_ok-entities c.in_ok-handles.handles.items (rising at.In_ok-handles) (lists at.In_ok-handles) in
     handed_on c.from_residual-in_err-storage.result c.in_err-storage.field-0.0 _
-    c.from_residual-in_err-storage.ensures.1 (λ other.
-    let fault = c.in_err-storage.ensures.fault other in
-    subst (HasFault c.args.bytes.now) (sym fault.named) (
-      read_of at.In_ok-entities c.in_ok-handles.handles.items (rising at.In_ok-handles)
-          (lists at.In_ok-handles),
-      bare at.In_ok-handles,
-      subst (λ (hs : List Handle). HasStorageFault hs c.in_ok-phase.rest.now fault.why)
-          c.deref.ensures.value fault.first,
-    ))
+    c.from_residual-in_err-storage.ensures.1 (λ other. let fault = c.in_err-storage.ensures.fault other in
+    rw fault.named (read, bare at.In_ok-handles, rw c.deref.ensures.value at fault.first))
 
 pub returns-in_err-storage-clause-memory : goal.returns-in_err-storage-clause-memory
 returns-in_err-storage-clause-memory c =
@@ -282,7 +231,4 @@ returns-in_err-storage-clause-memory c =
     (omega (arith, c.in_err-storage.ensures.memory is, c.len.ensures, c.top.ensures)))
 
 pub read_storage-requires-clause-apart : goal.read_storage-requires-clause-apart
-read_storage-requires-clause-apart c =
-    let at = goal.at.read_storage-requires-clause-apart c in
-    subst (AllPairs (λ (g h : Handle). g ≢ h)) (sym c.deref.ensures.value)
-    (rising_apart c.in_ok-handles.handles.items (rising at.In_ok-handles))
+read_storage-requires-clause-apart c = search (rules, rising_apart, rising)

@@ -23,7 +23,7 @@ next_place c = c.len-row.ensures ∙ rows-count c.self.inside.entities.allocator
     c.self.invariant.rows c.self.invariant.world.living
 
 pub make-requires-clause-next : goal.make-requires-clause-next
-make-requires-clause-next c = next_place (goal.at.make-requires-clause-next c).After-items
+make-requires-clause-next c = search (rules, next_place)
 
 pub despawn_at-requires : goal.despawn_at-requires
 despawn_at-requires c = grind (arith, common_steps, next_place, at_pushed)

@@ -13,11 +13,7 @@ use Rattle.ent_world.proofs.ImageWrite.{width_listed, have_rows, keys_listed, ar
 use Rattle.ent_world.proofs.world.World.write_image.Goals as goal
 
 pub write_entities-requires-clause-placed : goal.write_entities-requires-clause-placed
-write_entities-requires-clause-placed c =
-    let w = c.self.inside in
-    let i = c.self.invariant in
-    have_rows w.entities.rows w.storage.places w.storage.entities i.rows w.entities.allocator.live
-    i.world.living c.iter.result c.iter.ensures.rising c.iter.ensures.living
+write_entities-requires-clause-placed c = search (rules, have_rows)
 
 pub returns-clause-written : goal.returns-clause-written
 returns-clause-written c =
@@ -67,10 +63,4 @@ many zero width few = omega arith
 many (suc n) width few = let rest = many n width few in omega (arith, rest, few)
 
 pub returns-in_err-reserve-clause-memory : goal.returns-in_err-reserve-clause-memory
-returns-in_err-reserve-clause-memory c =
-    let rest = many c.len.result c.width-width.result c.width-width.ensures.most in
-    let made : c.total.result ≡ c.args.self.now.allocator.made = c.total.ensures
-    ∙ ap (λ (w : World). w.allocator.made) c.self.view_is in
-    let alive : c.len.result ≡ set.len c.args.self.now.allocator.live = c.len.ensures
-    ∙ ap (λ (w : World). set.len w.allocator.live) c.self.view_is in
-    search (rules, rest, made, alive, c.in_err-reserve.ensures)
+returns-in_err-reserve-clause-memory c = search (rules, many)

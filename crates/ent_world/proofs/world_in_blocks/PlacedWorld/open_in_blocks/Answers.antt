@@ -1,3 +1,4 @@
+use Rattle.std.proofs.Common.{rules}
 use Rattle.std.proofs.Common.{◌≡◌, ◌<◌, ◌≤◌, length, arith, ◌^◌, min}
 use Rattle.std.proofs.lemmas.Grind.{common_steps}
 use Rattle.ent_world.proofs.InBlocks.{kept, some_wanted}
@@ -6,9 +7,7 @@ use Rattle.ent_world.proofs.world_in_blocks.PlacedWorld.open_in_blocks.Goals as 
 
 -- room is lacking only where some is wanted
 pub returns-then-is_err-clause-memory : goal.returns-then-is_err-clause-memory
-returns-then-is_err-clause-memory g c _ =
-    let some : 0 < c.wanted.result = grind (arith, common_steps) in
-    some_wanted c.wanted.result c.args.sizes.now c.wanted.ensures.within some
+returns-then-is_err-clause-memory g c _ = search (rules, some_wanted)
 
 pub invariant_of-result : goal.invariant_of-result
 invariant_of-result g c =
