@@ -148,8 +148,6 @@ module _ (systems : List (List Operation)) (workers : ℕ) (w : World)
       × (name h ≡ record { frame = w.phase; system = system + n; ordinal = k }))
       → AreNamedBy name all_born qs (queues_alone w.phase system view ss)
   all_named system [] [] same free granted may at = tt
-  all_named system [] (ops ∷ ss) same free granted may at = absurd (omega arith)
-  all_named system (q ∷ qs) [] same free granted may at = absurd (omega arith)
   all_named system (q ∷ qs) (ops ∷ ss) same free granted may at =
       let here : system + 0 ≡ system = omega arith in (
         queue-alone name all_born w.phase system (view_of w) view each_named birth_named ops q
@@ -163,6 +161,7 @@ module _ (systems : List (List Operation)) (workers : ℕ) (w : World)
             let next : system + suc n ≡ (system + 1) + n = omega arith in
             rw next at (at (suc n) k h is)),
       )
+  all_named system _ _ same free granted may at = absurd (omega arith)
 
   are_named : AreNamedBy name all_born queues (queues_by_births w view systems)
   are_named = all_named 0 queues systems frame.count free granted frame.each_system

@@ -30,22 +30,11 @@ count_passes-moved : (a : Rule) (values : List Text) (rows : List Row) → count
     values rows ≡ count_passes a values rows
 count_passes-moved a vs rows = grind (arith, common_steps, any_name-moved, values_pass-moved)
 
-set_passes-moved : (again : Bool) (a : Rule) (values : List Text) (rows : List Row)
-    → set_passes again (moved_rule a) values rows ≡ set_passes again a values rows
-set_passes-moved again a values rows = both_hold refl (values_pass-moved a values)
-
 action_passes-moved : (x : ArgAction) (again : Bool) (a : Rule) (values : List Text)
     (rows : List Row)
     → action_passes x again (moved_rule a) values rows ≡ action_passes x again a values rows
-action_passes-moved action.Set again a values rows = set_passes-moved again a values rows
-action_passes-moved action.SetTrue again a values rows = set_passes-moved again a values rows
-action_passes-moved action.SetFalse again a values rows = set_passes-moved again a values rows
-action_passes-moved action.Append again a values rows = values_pass-moved a values
-action_passes-moved action.Count again a values rows = count_passes-moved a values rows
-action_passes-moved action.Help again a values rows = refl
-action_passes-moved action.HelpShort again a values rows = refl
-action_passes-moved action.HelpLong again a values rows = refl
-action_passes-moved action.Version again a values rows = refl
+action_passes-moved it again a values rows =
+    search (rules, both_hold, values_pass-moved, count_passes-moved)
 
 use_passes-moved : (again : Bool) (a : Rule) (values : List Text) (rows : List Row)
     → use_passes again (moved_rule a) values rows ≡ use_passes again a values rows

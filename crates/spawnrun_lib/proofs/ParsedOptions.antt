@@ -138,14 +138,13 @@ module _ (c : List Rule) where
       → or_else (range_kinds 1 1 (length values)) (set_fault false a (values_or_missing a values)
       rows) ≡ []
       → Good (used_as Set a.id (reading_by a) (values_or_missing a values) rows)
-  set-good a own [] rows good e = search rules
-  set-good a own (text ∷ more ∷ others) rows good e = search rules
   set-good a own (text ∷ []) rows good e =
       let parts = none_of _ _ e in
       let absent : has_row a.id rows ≡ false = not_again (has_row a.id rows) parts.0 in
       let passes : value_passes a text ≡ true = passed _ _ (none_of _ _ parts.1).0 in
       simp (without-absent a rows absent, with_values-absent a text CommandLine rows absent)
       (Good-append rows _ good (new_row-good a own text CommandLine passes, tt))
+  set-good a own _ rows good e = search rules
 
   single-good : (a : Rule) → arg_by_id c a.id ≡ Some a → action_of a ≡ Set
       → a.range ≡ Some (record { start_inclusive = 1; end_inclusive = 1 }) → (values : List Text)

@@ -51,9 +51,8 @@ module _ (name : Handle → Birth) (m : EntityMap) where
       → AllZip (IsNamedBy name m) xs bs → AllZip (IsNamedBy name m) ys cs
       → AllZip (IsNamedBy name m) (xs ++ ys) (bs ++ cs)
   named_append [] ys [] cs first rest = rest
-  named_append [] ys (b ∷ bs) cs first rest = absurd first
-  named_append (x ∷ xs) ys [] cs first rest = absurd first
   named_append (x ∷ xs) ys (b ∷ bs) cs first rest = (first.0, named_append xs ys bs cs first.1 rest)
+  named_append _ ys _ cs first rest = absurd first
 
   -- one command for each of these handles, which are all there
   named_each : (command : Handle → Command) (by_birth : Birth → BirthCommand)

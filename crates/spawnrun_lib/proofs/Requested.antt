@@ -146,12 +146,11 @@ pub queues-wanted : (view : View) (systems : List (List Operation)) (queues : Li
     → MayIssue ops view (queue_at queues n))
     → sum_by wanted_in queues ≡ sum_by (sum_by requested_by_operation) systems
 queues-wanted view [] [] same may = refl
-queues-wanted view [] (q ∷ queues) same may = absurd (omega arith)
-queues-wanted view (ops ∷ systems) [] same may = absurd (omega arith)
 queues-wanted view (ops ∷ systems) (q ∷ queues) same may =
     let here = operations-wanted view (λ n. []) ops q (may 0 ops refl) in
     let rest = queues-wanted view systems queues (omega arith) (λ n. may (suc n)) in
     search (rules, sum_by-cons)
+queues-wanted view _ _ same may = absurd (omega arith)
 
 -- ---- a frame
 

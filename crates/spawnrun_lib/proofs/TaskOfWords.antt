@@ -163,9 +163,7 @@ run_asked found rows it same = search rules
 -- what the options of a run ask for
 pub run_task : (words : List Text) (rows : List Row) (task : Task) → subcommand_of program words
     ≡ Some (codes "run", rows) → HasRun rows task → AsksFor words task
-run_task words rows (Replay limits) is has = absurd has
-run_task words rows (Run workers show) is has = (rows, is, has)
-run_task words rows (RunInBlocks size workers show) is has = (rows, is, has)
+run_task words rows it is has = search rules
 
 -- there is no third subcommand
 pub none_other : (found : Option (Text × List Row)) → IsAsked found
