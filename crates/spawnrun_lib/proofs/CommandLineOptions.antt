@@ -29,22 +29,12 @@ use Rattle.cli.specs.Options.{HasNumber, generations_option, number_option, slot
 use Rattle.spawnrun_lib.specs.CommandLine.{HasShow, MayHaveBlocks, blocks_option, most_handles}
 use Rattle.spawnrun_lib.specs.CommandLine.{optional_number, program, references_to, show_option}
 use Rattle.spawnrun_lib.specs.CommandLine.{show_text, shown, workers_option}
-use Rattle.spawnrun_lib.proofs.ParsedOptions.{none_of, Fits, HasValue, IsOption, IsOptional}
-use Rattle.spawnrun_lib.proofs.ParsedOptions.{IsRequest, MayHaveValue, option-has_value}
+use Rattle.spawnrun_lib.proofs.ParsedOptions.{none_of, Fits, HasValue, MayHaveValue, option-has_value}
 use Rattle.spawnrun_lib.proofs.ParsedOptions.{optional-has_value}
 
 -- the options as building leaves them
-abbrev slots_rule : Rule
-slots_rule = filled slots_option
-
-abbrev generations_rule : Rule
-generations_rule = filled generations_option
-
 abbrev replay_rules : List Rule
-replay_rules = slots_rule ∷ generations_rule ∷ filled help_rule ∷ []
-
-abbrev workers_rule : Rule
-workers_rule = filled workers_option
+replay_rules = filled slots_option ∷ filled generations_option ∷ filled help_rule ∷ []
 
 abbrev show_rule : Rule
 show_rule = filled (show_option (references_to shown))
@@ -53,34 +43,13 @@ abbrev blocks_rule : Rule
 blocks_rule = filled blocks_option
 
 abbrev run_rules : List Rule
-run_rules = workers_rule ∷ blocks_rule ∷ show_rule ∷ filled help_rule ∷ []
-
-slots-option : IsOption replay_rules slots_rule
-slots-option = search rules
-
-generations-option : IsOption replay_rules generations_rule
-generations-option = search rules
-
-workers-option : IsOption run_rules workers_rule
-workers-option = search rules
-
-blocks-option : IsOptional run_rules blocks_rule
-blocks-option = search rules
-
-show-option : IsOption run_rules show_rule
-show-option = search rules
-
-help-request : (c : List Rule) → IsRequest c (filled help_rule)
-help-request c = record { asks = refl; default = refl; named = refl }
+run_rules = filled workers_option ∷ blocks_rule ∷ show_rule ∷ filled help_rule ∷ []
 
 replay-fits : AllByRecursion (Fits replay_rules) replay_rules
-replay-fits = (inl slots-option, (inl generations-option, (inr (inr (help-request replay_rules)), tt)))
+replay-fits = (search rules, (search rules, (search rules, tt)))
 
 run-fits : AllByRecursion (Fits run_rules) run_rules
-run-fits = (
-  inl workers-option,
-  (inr (inl blocks-option), (inl show-option, (inr (inr (help-request run_rules)), tt))),
-)
+run-fits = (search rules, (search rules, (search rules, (search rules, tt))))
 
 abbrev pub replay_shape : Shape
 replay_shape = slice_index_or (built program).subs 0 (new_shape [])
@@ -92,13 +61,8 @@ number_from : (option : Text) (most : ℕ) (default : Text) (rows : List Row)
     → HasValue (filled (number_option option most default)) rows → HasNumber option most rows
 number_from option most default rows value = search (rules, accepts-Accepts)
 
-optional_from : (option : Text) (most : ℕ) (rows : List Row)
-    → HasValue (filled (optional_number option most)) rows → HasNumber option most rows
-optional_from option most rows value = search (rules, accepts-Accepts)
-
 blocks_from : (rows : List Row) → MayHaveValue blocks_rule rows → MayHaveBlocks rows
-blocks_from rows (inl none) = inl none
-blocks_from rows (inr value) = inr (optional_from (codes "blocks") most_handles rows value)
+blocks_from rows it = search (rules, accepts-Accepts)
 
 show_from : (rows : List Row) → HasValue show_rule rows → HasShow rows
 show_from rows value = search rules
@@ -115,16 +79,16 @@ replay_options : (words : List Text) → level_fault replay_shape [] nothing_hel
     → IsAsked (Some (rows_at replay_shape words))
 replay_options words e =
     let value = option-has_value replay_rules replay-fits replay_shape words e in
-    asks_replay _ refl (number_from _ _ _ _ (value slots_rule slots-option (inl refl)))
-    (number_from _ _ _ _ (value generations_rule generations-option (inr (inl refl))))
+    asks_replay _ refl (number_from _ _ _ _ (value (filled slots_option) refl (search rules) (inl refl)))
+    (number_from _ _ _ _ (value (filled generations_option) refl (search rules) (inr (inl refl))))
 
 run_options : (words : List Text) → level_fault run_shape [] nothing_held words false [] ≡ []
     → IsAsked (Some (rows_at run_shape words))
 run_options words e =
     let value = option-has_value run_rules run-fits run_shape words e in
-    asks_run _ refl (number_from _ _ _ _ (value workers_rule workers-option (inl refl)))
-    (blocks_from _ (optional-has_value run_rules run-fits run_shape words e blocks_rule blocks-option))
-    (show_from _ (value show_rule show-option (inr (inr (inl refl)))))
+    asks_run _ refl (number_from _ _ _ _ (value (filled workers_option) refl (search rules) (inl refl)))
+    (blocks_from _ (optional-has_value run_rules run-fits run_shape words e blocks_rule refl))
+    (show_from _ (value show_rule refl (search rules) (inr (inr (inl refl)))))
 
 -- a subcommand is required, and there are two
 stopped : (stop : Option (Text × List Text)) (rows : List Row) → entered_fault (built program) stop

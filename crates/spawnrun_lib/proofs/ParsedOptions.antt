@@ -72,6 +72,14 @@ without-absent a rows absent = at_row-absent a.id (λ _. []) [] rows absent ∙ 
 
 -- ---- the arguments of a command
 
+abbrev pub TakesOne : Rule → Type 0
+TakesOne a = (action_of a ≡ Set)
+    × (a.range ≡ Some (record { start_inclusive = 1; end_inclusive = 1 }))
+
+-- a default, which the option accepts
+abbrev pub HasDefault : Rule → Type 0
+HasDefault a = (text : Text) × (a.defaults ≡ text ∷ []) × (value_passes a text ≡ true)
+
 -- the matches have a value of the option, which it accepts
 pub record HasValue (a : Rule) (rows : List Row) : Type 0 where
   pub text : Text
@@ -84,34 +92,16 @@ abbrev pub MayHaveValue : Rule → List Row → Type 0
 MayHaveValue a rows = (one_of a.id rows ≡ None) ⊎ HasValue a rows
 
 module _ (c : List Rule) where
-  -- an option that takes one value, and is the command's only argument of its id
-  pub record IsOption (a : Rule) : Type 0 where
+  -- the command's only argument of its id: an option that takes one value, or a flag that asks for help
+  pub record Fits (a : Rule) : Type 0 where
     pub own : arg_by_id c a.id ≡ Some a
-    pub set : action_of a ≡ Set
-    pub one : a.range ≡ Some (record { start_inclusive = 1; end_inclusive = 1 })
-    pub default : (text : Text) × (a.defaults ≡ text ∷ []) × (value_passes a text ≡ true)
-    pub named : a.index ≡ None
-
-  -- an option that takes one value and has no default, and is the command's only argument of its id
-  pub record IsOptional (a : Rule) : Type 0 where
-    pub own : arg_by_id c a.id ≡ Some a
-    pub set : action_of a ≡ Set
-    pub one : a.range ≡ Some (record { start_inclusive = 1; end_inclusive = 1 })
-    pub default : a.defaults ≡ []
+    pub does : TakesOne a ⊎ (is_request (action_of a) ≡ true)
+    pub default : (a.defaults ≡ []) ⊎ HasDefault a
     pub named : a.index ≡ None
 
   abbrev pub Among : Rule → List Rule → Type 0
   Among a [] = ⊥
   Among a (x ∷ xs) = (x ≡ a) ⊎ Among a xs
-
-  -- a flag that asks for help
-  pub record IsRequest (a : Rule) : Type 0 where
-    pub asks : is_request (action_of a) ≡ true
-    pub default : a.defaults ≡ []
-    pub named : a.index ≡ None
-
-  abbrev pub Fits : Rule → Type 0
-  Fits a = IsOption a ⊎ (IsOptional a ⊎ IsRequest a)
 
   -- the row has one value, and the argument of its id accepts it
   pub record IsGood (r : Row) : Type 0 where
@@ -146,20 +136,14 @@ module _ (c : List Rule) where
       (Good-append rows _ good (new_row-good a own text CommandLine passes, tt))
   set-good a own _ rows good e = search rules
 
-  single-good : (a : Rule) → arg_by_id c a.id ≡ Some a → action_of a ≡ Set
-      → a.range ≡ Some (record { start_inclusive = 1; end_inclusive = 1 }) → (values : List Text)
-      (rows : List Row) → use_fault false a values rows ≡ [] → Good rows → Good (used a values rows)
-  single-good a own set one values rows e good =
-      subst (λ action. Good (used_as action a.id (reading_by a) (values_or_missing a values) rows))
-      (sym set) (set-good a own values rows good (rw (one, set) at e))
-
   used-good : (a : Rule) → Fits a → (values : List Text) (rows : List Row)
       → use_fault false a values rows ≡ [] → Good rows → Good (used a values rows)
-  used-good a (inr (inr request)) values rows e good = absurd (search rules)
-  used-good a (inr (inl optional)) values rows e good =
-      single-good a optional.own optional.set optional.one values rows e good
-  used-good a (inl plain_option) values rows e good =
-      single-good a plain_option.own plain_option.set plain_option.one values rows e good
+  used-good a fits values rows e good = elim fits.does [
+    | inl one ↦
+        subst (λ action. Good (used_as action a.id (reading_by a) (values_or_missing a values) rows))
+        (sym one.0) (set-good a fits.own values rows good (rw (one.1, one.0) at e))
+    | inr asks ↦ absurd (search rules)
+  ]
 
   used_by_id-good : (found : Option Rule) → IfSome found Fits
       → (values : List Text) (rows : List Row) → Good rows
@@ -257,26 +241,24 @@ module _ (c : List Rule) where
     -- ---- defaults
 
     -- an option that wasn't used gets the row of its default, and others none
-    default_row-added : (a : Rule) (plain_option : IsOption a) (rows : List Row)
+    default_row-added : (a : Rule) (default : HasDefault a) (rows : List Row)
         → has_row a.id rows ≡ false → default_rows a.id (reading_by a) a.defaults rows ≡ rows
-        ++ new_row a plain_option.default.0 DefaultValue ∷ []
-    default_row-added a plain_option rows is =
-        search (rules, plain_option.default.1, with_values-absent)
+        ++ new_row a default.0 DefaultValue ∷ []
+    default_row-added a default rows is = search (rules, default.1, with_values-absent)
 
     adds_none : (a : Rule) → a.defaults ≡ [] → (rows : List Row)
         → default_rows a.id (reading_by a) a.defaults rows ≡ rows
     adds_none a none rows = search rules
 
     default-good : (a : Rule) → Fits a → (rows : List Row) → Good rows → Good (with_default rows a)
-    default-good a (inr (inr request)) rows good = search (rules, adds_none a request.default rows)
-    default-good a (inr (inl optional)) rows good = search (rules, adds_none a optional.default rows)
-    default-good a (inl plain_option) rows good = go (has_row a.id rows) refl
+    default-good a fits rows good = go (has_row a.id rows) refl fits.default
       where
-        go : (has : Bool) → has_row a.id rows ≡ has
+        go : (has : Bool) → has_row a.id rows ≡ has → (a.defaults ≡ []) ⊎ HasDefault a
             → Good (cond has rows (default_rows a.id (reading_by a) a.defaults rows))
-        go true is = good
-        go false is = rw (default_row-added a plain_option rows is)
-            (Good-append rows _ good (new_row-good a plain_option.own _ _ plain_option.default.2, tt))
+        go true is it = good
+        go false is (inl none) = search (rules, adds_none a none rows)
+        go false is (inr default) = rw (default_row-added a default rows is)
+            (Good-append rows _ good (new_row-good a fits.own _ _ default.2, tt))
 
     defaults-good : (xs : List Rule) → AllByRecursion Fits xs → (rows : List Row) → Good rows
         → Good (fold with_default rows xs)
@@ -294,27 +276,26 @@ module _ (c : List Rule) where
     has_row-last a text source (x ∷ xs) = search (rules, has_row-last a text source xs)
 
     -- an option that wasn't used gets its default
-    default-added : (a : Rule) → IsOption a → (rows : List Row) → has_row a.id (with_default rows a)
-        ≡ true
-    default-added a plain_option rows = grind
-        (arith, common_steps, default_row-added a plain_option rows, has_row-last)
+    default-added : (a : Rule) → HasDefault a → (rows : List Row)
+        → has_row a.id (with_default rows a) ≡ true
+    default-added a default rows =
+        grind (arith, common_steps, default_row-added a default rows, has_row-last)
 
-    default-keeps : (a : Rule) → Fits a → (id : Text) (rows : List Row) → has_row id rows ≡ true
-        → has_row id (with_default rows a) ≡ true
-    default-keeps a (inr (inr request)) id rows e = search (rules, adds_none a request.default rows)
-    default-keeps a (inr (inl optional)) id rows e = search (rules, adds_none a optional.default rows)
-    default-keeps a (inl plain_option) id rows e =
-        grind (arith, common_steps, default_row-added a plain_option rows, has_row-append)
+    default-keeps : (a : Rule) → (a.defaults ≡ []) ⊎ HasDefault a → (id : Text) (rows : List Row)
+        → has_row id rows ≡ true → has_row id (with_default rows a) ≡ true
+    default-keeps a (inl none) id rows e = search (rules, adds_none a none rows)
+    default-keeps a (inr default) id rows e =
+        grind (arith, common_steps, default_row-added a default rows, has_row-append)
 
     defaults-keep : (xs : List Rule) → AllByRecursion Fits xs → (id : Text) (rows : List Row)
         → has_row id rows ≡ true → has_row id (fold with_default rows xs) ≡ true
     defaults-keep [] fits id rows e = e
     defaults-keep (x ∷ xs) fits id rows e = search (rules, defaults-keep xs, default-keeps)
 
-    defaults-add : (xs : List Rule) → AllByRecursion Fits xs → (a : Rule) → IsOption a → Among a xs
+    defaults-add : (xs : List Rule) → AllByRecursion Fits xs → (a : Rule) → HasDefault a → Among a xs
         → (rows : List Row) → has_row a.id (fold with_default rows xs) ≡ true
-    defaults-add [] fits a plain_option among rows = absurd among
-    defaults-add (x ∷ xs) fits a plain_option among rows =
+    defaults-add [] fits a default among rows = absurd among
+    defaults-add (x ∷ xs) fits a default among rows =
         search (rules, defaults-add xs, defaults-keep, default-added)
 
     -- ---- the walk, and what the rows give
@@ -389,17 +370,17 @@ module _ (c : List Rule) where
           let parts = none_of _ _ e in
           walk-good rest (walked c [] w word) (turn-good w word good parts.0) parts.1
 
-      -- each option of a parse that doesn't fail has one value, which it accepts
-      pub option-has_value : (words : List Text) → level_fault s [] nothing_held words false [] ≡ []
-          → (a : Rule) → IsOption a → Among a c → HasValue a (rows_after c [] words)
-      option-has_value words e a plain_option among =
-          let walked_rows = walk-good words (walk_from nothing_held) tt (none_of _ _ e).0 in
-          search (rules, settle-good, none_of, value-found, defaults-good, defaults-add)
+      module _ (words : List Text) (e : level_fault s [] nothing_held words false [] ≡ []) (a : Rule)
+          (own : arg_by_id c a.id ≡ Some a) where
+        rows-good : Good (rows_after c [] words)
+        rows-good =
+            let walked_rows = walk-good words (walk_from nothing_held) tt (none_of _ _ e).0 in
+            search (rules, settle-good, none_of, defaults-good)
 
-      -- and one without a default has one at most
-      pub optional-has_value : (words : List Text) → level_fault s [] nothing_held words false [] ≡ []
-          → (a : Rule) → IsOptional a → MayHaveValue a (rows_after c [] words)
-      optional-has_value words e a optional =
-          let walked_rows = walk-good words (walk_from nothing_held) tt (none_of _ _ e).0 in
-          let good : Good (rows_after c [] words) = search (rules, settle-good, none_of, defaults-good) in
-          value-or_none a optional.own (rows_after c [] words) good
+        -- each option of a parse that doesn't fail has one value, which it accepts
+        pub option-has_value : HasDefault a → Among a c → HasValue a (rows_after c [] words)
+        option-has_value default among = search (rules, rows-good, value-found, defaults-add)
+
+        -- and one without a default has one at most
+        pub optional-has_value : MayHaveValue a (rows_after c [] words)
+        optional-has_value = value-or_none a own (rows_after c [] words) rows-good
