@@ -27,7 +27,7 @@ use Rattle.std.specs.Borrow.{Bor}
 use Rattle.std.specs.Str.{bytes_eq}
 use Rattle.cli.specs.Options.{HasNumber, generations_option, number_option, slots_option}
 use Rattle.spawnrun_lib.specs.CommandLine.{HasShow, MayHaveBlocks, blocks_option, most_handles}
-use Rattle.spawnrun_lib.specs.CommandLine.{optional_number, program, references_to, show_option}
+use Rattle.spawnrun_lib.specs.CommandLine.{program, references_to, show_option}
 use Rattle.spawnrun_lib.specs.CommandLine.{show_text, shown, workers_option}
 use Rattle.spawnrun_lib.proofs.ParsedOptions.{none_of, Fits, HasValue, MayHaveValue, option-has_value}
 use Rattle.spawnrun_lib.proofs.ParsedOptions.{optional-has_value}

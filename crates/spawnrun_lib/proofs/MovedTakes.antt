@@ -8,11 +8,10 @@ use Rattle.clap.specs.Words.{Row, Rule, Shape, Text}
 use Rattle.clap.specs.Takes.{action_passes, count_passes, default_passes, flag_word_passes}
 use Rattle.clap.specs.Takes.{flags_pass, is_given, is_valid, level_passes, long_passes}
 use Rattle.clap.specs.Takes.{option_passes, other_passes, positional_passes, react_passes}
-use Rattle.clap.specs.Takes.{set_passes, settle_passes, short_passes, step_passes, turn_passes}
+use Rattle.clap.specs.Takes.{settle_passes, short_passes, step_passes, turn_passes}
 use Rattle.clap.specs.Takes.{use_passes, values_pass, walk_passes}
 use Rattle.clap.specs.Walk.{Held, Names, Step, Walk, walk, walk_from}
 use Rattle.clap.specs.declared.builder.ArgAction.{ArgAction}
-use Rattle.clap.specs.declared.builder.ArgAction.TheVariants as action
 use Rattle.spawnrun_lib.proofs.MovedNames.{moved_rule, moved_shape, both_arms, any_name-moved}
 use Rattle.spawnrun_lib.proofs.MovedNames.{missing-moved, found-moved, settled-moved, reacted-moved}
 use Rattle.spawnrun_lib.proofs.MovedNames.{word_met-moved, walked-moved, walk-moved, finished-moved}

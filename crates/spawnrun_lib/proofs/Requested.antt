@@ -21,7 +21,6 @@ use Rattle.ent_world.specs.World.{World}
 use Rattle.ent_runner.specs.Frame.{IsFrame, queue_at, commands_of}
 use Rattle.ent_runner.proofs.Lists.{sum_map}
 use Rattle.ent_script.specs.declared.operation.Operation.{Operation}
-use Rattle.ent_script.specs.declared.operation.Operation.TheVariants as operation
 use Rattle.spawnrun_lib.specs.Issuing.{Bindings, names_after, Issues, IssuesAll, MayIssue}
 use Rattle.spawnrun_lib.specs.SameReport.{requested_by_operation}
 

@@ -18,7 +18,6 @@ use Rattle.cli.specs.Options.{HasNumber}
 use Rattle.spawnrun_lib.specs.CommandLine.{AsksFor, HasRun, HasShow, MayHaveBlocks, program, program_of}
 use Rattle.spawnrun_lib.specs.CommandLine.{references_to, shown}
 use Rattle.spawnrun_lib.specs.declared.task.Task.{Task}
-use Rattle.spawnrun_lib.specs.declared.task.Task.TheVariants.{Replay, Run, RunInBlocks}
 use Rattle.spawnrun_lib.proofs.MovedFaults.{level_fault-moved}
 use Rattle.spawnrun_lib.proofs.MovedNames.{moved_shape, rows_after-moved}
 use Rattle.spawnrun_lib.proofs.MovedTakes.{level_passes-moved}

@@ -1,8 +1,6 @@
-use Rattle.std.proofs.Common.{◌≡◌, ◌+◌, true, false, sym, ap, ◌∙◌, cond, ℕ, List, drop, map, take, Bor}
-use Rattle.std.proofs.Common.{Some, option_map}
-use Rattle.serde_json.specs.View.{view}
-use Rattle.ent_script.specs.Names.{as_name}
-use Rattle.spawnrun_lib.specs.Place.{bad_name, is_listed, name_place, twice}
+use Rattle.std.proofs.Common.{true, false, sym, ap, ◌∙◌, ℕ, List, Bor}
+use Rattle.std.proofs.Common.{option_map}
+use Rattle.spawnrun_lib.specs.Place.{is_listed}
 use Rattle.spawnrun_lib.proofs.Firsts.{next_name}
 use Rattle.spawnrun_lib.proofs.first.bad_name.Goals as goal
 

@@ -1,8 +1,5 @@
-use Rattle.std.proofs.Common.{◌≡◌, true, false, sym, ap, ◌∙◌, ℕ, List, map, Bor, Some, string_bytes}
-use Rattle.std.proofs.Common.{String, Global}
-use Rattle.serde_json.specs.declared.value.Value.{Value}
-use Rattle.ent_script.proofs.Values.{pair_view}
-use Rattle.spawnrun_lib.specs.Place.{is_among, key_but}
+use Rattle.std.proofs.Common.{true, false, sym, ap, ◌∙◌, ℕ, List, map, Bor, Some}
+use Rattle.spawnrun_lib.specs.Place.{is_among}
 use Rattle.spawnrun_lib.proofs.Firsts.{among_lent, next_key}
 use Rattle.spawnrun_lib.proofs.first.first_key.Goals as goal
 

@@ -1,9 +1,6 @@
-use Rattle.std.proofs.Common.{◌≡◌, true, false, sym, ap, ◌∙◌, List, map, Some, string_bytes, String}
-use Rattle.std.proofs.Common.{Global}
+use Rattle.std.proofs.Common.{true, false, sym, ap, ◌∙◌, map, Some}
 use Rattle.serde_json.specs.View.{view}
-use Rattle.serde_json.specs.declared.value.Value.{Value}
-use Rattle.ent_script.proofs.Values.{pair_view}
-use Rattle.spawnrun_lib.specs.Place.{is_listed, key_but}
+use Rattle.spawnrun_lib.specs.Place.{is_listed}
 use Rattle.spawnrun_lib.proofs.Firsts.{listed_lent, next_key}
 use Rattle.spawnrun_lib.proofs.first.first_unlisted.Goals as goal
 

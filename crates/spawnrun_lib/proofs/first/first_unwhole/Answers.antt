@@ -1,11 +1,7 @@
-use Rattle.std.proofs.Common.{◌≡◌, true, false, sym, ap, ◌∙◌, ℕ, Bool, List, map, Some, String, Global}
-use Rattle.std.specs.Prelude.{is_none}
-use Rattle.serde_json.specs.Data.{Data}
+use Rattle.std.proofs.Common.{true, false, sym, ap, ◌∙◌, Some}
 use Rattle.serde_json.specs.View.{view}
-use Rattle.serde_json.specs.declared.value.Value.{Value}
 use Rattle.ent_script.specs.Json.{whole}
-use Rattle.ent_script.proofs.Values.{pair_view}
-use Rattle.spawnrun_lib.specs.Place.{member_place, unwhole_in}
+use Rattle.spawnrun_lib.specs.Place.{member_place}
 use Rattle.spawnrun_lib.proofs.Firsts.{next_whole}
 use Rattle.spawnrun_lib.proofs.first.first_unwhole.Goals as goal
 

@@ -1,14 +1,8 @@
 use Rattle.spawnrun_lib.proofs.Letters.{next_letter, all_letters}
-use Rattle.std.proofs.Common.{ℕ, ◌++◌, List, sym, ap, ◌∙◌}
 use Rattle.std.proofs.lemmas.Str.{IsUtf8-past_char}
 use Rattle.std.specs.Fmt.InlineText.{inline_text}
-use Rattle.std.specs.List.{flat_map}
-use Rattle.std.specs.Str.{chars}
 use Rattle.std.specs.Str.Iter.{chars_rest}
 use Rattle.spawnrun_lib.specs.Place.{key_char}
-use Rattle.spawnrun_lib.specs.Shown.{front}
-use Rattle.spawnrun_lib.proofs.Fronts.{front-nothing, go_on}
-use Rattle.spawnrun_lib.proofs.Letters.{no_letters, past_letter}
 use Rattle.spawnrun_lib.proofs.part.with_key.Goals as goal
 
 pub loop-letter-preserved : goal.loop-letter-preserved

@@ -1,11 +1,8 @@
 use Rattle.spawnrun_lib.proofs.Letters.{next_letter, all_letters}
-use Rattle.std.proofs.Common.{ℕ, ◌++◌, List, sym, ap, ◌∙◌}
 use Rattle.std.proofs.lemmas.Str.{IsUtf8-past_char}
 use Rattle.std.specs.Fmt.InlineText.{inline_text}
 use Rattle.std.specs.Str.Iter.{chars_rest}
-use Rattle.spawnrun_lib.specs.Shown.{char_text, front, plain}
-use Rattle.spawnrun_lib.proofs.Fronts.{front-nothing, go_on}
-use Rattle.spawnrun_lib.proofs.Letters.{no_letters, past_letter}
+use Rattle.spawnrun_lib.specs.Shown.{char_text}
 use Rattle.spawnrun_lib.proofs.shown.with_text.Goals as goal
 
 pub loop-letter-preserved : goal.loop-letter-preserved
