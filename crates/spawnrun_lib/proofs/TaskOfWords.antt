@@ -1,5 +1,5 @@
 -- From the program's words to its task: the subcommand that clap finds, and the faults.
-use Rattle.std.proofs.Common.{rules, ◌≡◌, ◌∙◌, Bool, true, false, List, [], cond, IfSome, refl, sym}
+use Rattle.std.proofs.Common.{rules, ◌≡◌, ◌∙◌, true, false, List, [], IfSome, refl, sym}
 use Rattle.std.proofs.Common.{ap, subst, codes, Option, Some, None}
 use Rattle.std.specs.Prelude.{option_map}
 use Rattle.std.specs.List.{slice_index_or}
@@ -19,7 +19,7 @@ use Rattle.spawnrun_lib.specs.CommandLine.{AsksFor, HasRun, HasShow, MayHaveBloc
 use Rattle.spawnrun_lib.specs.CommandLine.{references_to, shown}
 use Rattle.spawnrun_lib.specs.declared.task.Task.{Task}
 use Rattle.spawnrun_lib.proofs.MovedFaults.{level_fault-moved}
-use Rattle.spawnrun_lib.proofs.MovedNames.{moved_shape, rows_after-moved}
+use Rattle.spawnrun_lib.proofs.MovedNames.{rows_after-moved}
 use Rattle.spawnrun_lib.proofs.MovedTakes.{level_passes-moved}
 use Rattle.spawnrun_lib.proofs.CommandLineOptions.{replay_shape, IsAsked, IsAsked-no_fault}
 
@@ -35,13 +35,6 @@ TextRefs = Bor (List (Bor Text))
 
 abbrev run_shape_of : TextRefs → Shape
 run_shape_of names = slice_index_or (built (program_of names)).subs 1 (new_shape [])
-
--- what is so of the subcommand that the words enter doesn't depend on where the names stand
-met-moved : {Z : Type 0} (of : Option Shape → Z) (shape : Shape) → of (Some (moved_shape shape))
-    ≡ of (Some shape) → (is_replay is_run : Bool)
-    → of (cond is_replay (Some replay_shape) (cond is_run (Some (moved_shape shape)) None))
-    ≡ of (cond is_replay (Some replay_shape) (cond is_run (Some shape) None))
-met-moved of shape same b is_run = search rules
 
 entered-moved : (names : TextRefs) (stop : Option (Text × List Text))
     → entered (built (program_of (references_to (texts names.now)))) stop
@@ -131,11 +124,6 @@ MeetsTask-parse app words m is faults matches =
       rows = met;
       name = subcommand_name-rows m ∙ ap (option_map (λ p. p.0)) met;
     }
-
-pair_is : (found : Option (Text × List Row)) (name : Text) (rows : List Row) → Some name
-    ≡ option_map (λ p. p.0) found → Some rows ≡ option_map (λ p. p.1) found
-    → found ≡ Some (name, rows)
-pair_is it name rows named rowed = search rules
 
 -- the subcommand that clap's getter returns is the one that the words name
 pub subcommand_met-named : (words : List Text) (m : ArgMatches) → MeetsTask words m
