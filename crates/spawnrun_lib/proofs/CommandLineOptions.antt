@@ -27,7 +27,7 @@ use Rattle.std.specs.Borrow.{Bor}
 use Rattle.std.specs.Str.{bytes_eq}
 use Rattle.cli.specs.Options.{HasNumber, generations_option, number_option, slots_option}
 use Rattle.spawnrun_lib.specs.CommandLine.{HasShow, MayHaveBlocks, blocks_option, most_handles}
-use Rattle.spawnrun_lib.specs.CommandLine.{program, references_to, show_option}
+use Rattle.spawnrun_lib.specs.CommandLine.{optional_number, program, references_to, show_option}
 use Rattle.spawnrun_lib.specs.CommandLine.{show_text, shown, workers_option}
 use Rattle.spawnrun_lib.proofs.ParsedOptions.{none_of, Fits, HasValue, MayHaveValue, option-has_value}
 use Rattle.spawnrun_lib.proofs.ParsedOptions.{optional-has_value}
@@ -46,10 +46,10 @@ abbrev run_rules : List Rule
 run_rules = filled workers_option ∷ blocks_rule ∷ show_rule ∷ filled help_rule ∷ []
 
 replay-fits : AllByRecursion (Fits replay_rules) replay_rules
-replay-fits = (search rules, (search rules, (search rules, tt)))
+replay-fits = search rules
 
 run-fits : AllByRecursion (Fits run_rules) run_rules
-run-fits = (search rules, (search rules, (search rules, (search rules, tt))))
+run-fits = search rules
 
 abbrev pub replay_shape : Shape
 replay_shape = slice_index_or (built program).subs 0 (new_shape [])
@@ -61,8 +61,13 @@ number_from : (option : Text) (most : ℕ) (default : Text) (rows : List Row)
     → HasValue (filled (number_option option most default)) rows → HasNumber option most rows
 number_from option most default rows value = search (rules, accepts-Accepts)
 
+optional_from : (option : Text) (most : ℕ) (rows : List Row)
+    → HasValue (filled (optional_number option most)) rows → HasNumber option most rows
+optional_from option most rows value = search (rules, accepts-Accepts)
+
 blocks_from : (rows : List Row) → MayHaveValue blocks_rule rows → MayHaveBlocks rows
-blocks_from rows it = search (rules, accepts-Accepts)
+blocks_from rows (inl none) = inl none
+blocks_from rows (inr value) = inr (optional_from (codes "blocks") most_handles rows value)
 
 show_from : (rows : List Row) → HasValue show_rule rows → HasShow rows
 show_from rows value = search rules
@@ -147,11 +152,6 @@ pub blocks_read : (found : Found) (r : Option ℕ) → MayHaveBlocks (rows_of fo
     → (one_text found (codes "blocks") ≡ None → r ≡ None)
     → ((text : Text) → one_text found (codes "blocks") ≡ Some text → ReadsOne number_gives text r)
     → (option_number (codes "blocks") (rows_of found) ≡ r) × IfSome r (λ size. 0 < size)
-blocks_read found r (inl absent) none reads =
-    let is : r ≡ None = none (one_text-rows found (codes "blocks") ∙ absent) in (
-      ap (option_map (λ text. digits_value 10 (without_leading_plus text))) absent ∙ sym is,
-      subst (λ (r : Option ℕ). IfSome r (λ size. 0 < size)) (sym is) tt,
-    )
+blocks_read found r (inl absent) none reads = search (rules, one_text-rows)
 blocks_read found r (inr number) none reads =
-    let read = number_read 32 (codes "blocks") most_handles found r (lit< tt) number reads in
-    (read.4 ∙ sym read.1, subst (λ (r : Option ℕ). IfSome r (λ size. 0 < size)) (sym read.1) read.2)
+    search (rules, number_read 32 (codes "blocks") most_handles found r (lit< tt) number reads)

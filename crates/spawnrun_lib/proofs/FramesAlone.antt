@@ -131,13 +131,7 @@ module _ (systems : List (List Operation)) (workers : ℕ) (w : World)
   -- the entity of a birth
   birth_named : (birth : Birth) (hs : List Handle) → IsOfBirth (view_of w) birth hs
       → All (IsThere all_born) hs × (births_meant view (λ n. []) (target.Birth birth) ≡ map name hs)
-  birth_named birth [] none = (All-nil (IsThere all_born), search (rules, named.only birth))
-  birth_named birth (h ∷ []) (own, least) =
-      let e = entity_at w.entities h birth own in
-      let same : name h ≡ birth = old_names h e.0 e.1 ∙ e.2 in
-      let there = rw e.2 at (named.there h e.0 e.1) in
-      (search (rules, All-cons, old_there, All-nil), rw (there, same) refl)
-  birth_named birth (h ∷ k ∷ hs) none = absurd none
+  birth_named birth it of = search (rules, entity_at, old_names, named.there, All-cons, old_there, All-nil, named.only)
 
   -- each system's queue, from a system on
   all_named : (system : ℕ) (qs : List (List Command)) (ss : List (List Operation))

@@ -31,7 +31,4 @@ next_letter part old new text rest all c utf8 parts shown so_far =
 -- and all of them
 pub all_letters : (part : ℕ → List ℕ) (old text all : List ℕ) → length text ≡ 0 → length old ≤ 60
     → front (old ++ flat_map part (chars text)) ≡ all → old ≡ all
-all_letters part old text all none short so_far =
-    front-nothing old short
-    ∙ ap (λ (bs : List ℕ). front (old ++ bs)) (sym (no_letters part text none))
-    ∙ so_far
+all_letters part old text all none short so_far = search (rules, front-nothing, no_letters)

@@ -12,6 +12,7 @@ use Rattle.clap.specs.Takes.{settle_passes, short_passes, step_passes, turn_pass
 use Rattle.clap.specs.Takes.{use_passes, values_pass, walk_passes}
 use Rattle.clap.specs.Walk.{Held, Names, Step, Walk, walk, walk_from}
 use Rattle.clap.specs.declared.builder.ArgAction.{ArgAction}
+use Rattle.clap.specs.declared.builder.ArgAction.TheVariants as action
 use Rattle.spawnrun_lib.proofs.MovedNames.{moved_rule, moved_shape, both_arms, any_name-moved}
 use Rattle.spawnrun_lib.proofs.MovedNames.{missing-moved, found-moved, settled-moved, reacted-moved}
 use Rattle.spawnrun_lib.proofs.MovedNames.{word_met-moved, walked-moved, walk-moved, finished-moved}
@@ -32,8 +33,12 @@ count_passes-moved a vs rows = grind (arith, common_steps, any_name-moved, value
 action_passes-moved : (x : ArgAction) (again : Bool) (a : Rule) (values : List Text)
     (rows : List Row)
     → action_passes x again (moved_rule a) values rows ≡ action_passes x again a values rows
-action_passes-moved it again a values rows =
-    search (rules, both_hold, values_pass-moved, count_passes-moved)
+action_passes-moved action.Set again a values rows = both_hold refl (values_pass-moved a values)
+action_passes-moved action.SetTrue again a values rows = both_hold refl (values_pass-moved a values)
+action_passes-moved action.SetFalse again a values rows = both_hold refl (values_pass-moved a values)
+action_passes-moved action.Append again a values rows = values_pass-moved a values
+action_passes-moved action.Count again a values rows = count_passes-moved a values rows
+action_passes-moved _ again a values rows = refl
 
 use_passes-moved : (again : Bool) (a : Rule) (values : List Text) (rows : List Row)
     → use_passes again (moved_rule a) values rows ≡ use_passes again a values rows

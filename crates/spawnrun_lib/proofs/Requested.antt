@@ -40,8 +40,7 @@ sum_of_two f g (x ∷ xs) = grind (arith, common_steps, sum_of_two f g xs)
 one_of_sum : {X : Type 0} (f : X → ℕ) (xs : List X) (k : ℕ) (x : X) → slice_get xs k ≡ Some x
     → f x ≤ sum_by f xs
 one_of_sum f [] k x at = absurd (cc)
-one_of_sum f (y ∷ xs) zero x at = grind (arith, common_steps)
-one_of_sum f (y ∷ xs) (suc k) x at = grind (arith, common_steps, one_of_sum f xs k x)
+one_of_sum f (y ∷ xs) it x at = grind (arith, common_steps, one_of_sum f xs)
 
 -- the elements of a list by their numbers
 sum_by_number : {X : Type 0} (f : ℕ → ℕ) (g : X → ℕ) (a : ℕ) (xs : List X)

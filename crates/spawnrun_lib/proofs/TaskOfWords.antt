@@ -39,9 +39,7 @@ run_shape_of names = slice_index_or (built (program_of names)).subs 1 (new_shape
 entered-moved : (names : TextRefs) (stop : Option (Text × List Text))
     → entered (built (program_of (references_to (texts names.now)))) stop
     ≡ entered (built (program_of names)) stop
-entered-moved names None = refl
-entered-moved names (Some p) =
-    search (rules, rows_after-moved (run_shape_of names).rules [] p.1, replay_shape)
+entered-moved names it = search (rules, rows_after-moved (run_shape_of names).rules [], replay_shape)
 
 entered_fault-moved : (names : TextRefs) (stop : Option (Text × List Text))
     → entered_fault (built (program_of (references_to (texts names.now)))) stop

@@ -77,14 +77,11 @@ module _ {K X : Type 0} (R : K → K → Ordering) where
       (below_apart e.0 es (first _ _ sorted), keys_apart es (second _ _ sorted))
 
 module _ (m : EntityMap) (handles : List Handle) (lists : ListsAll m handles) where
-  there_is : (o : Option Entity) → IsSomeAnd o (λ e. IsTrue true) → is_some o ≡ true
-  there_is it none = search rules
-
   some_entity : (o : Option Entity) → is_some o ≡ true → IsSomeAnd o (λ e. IsTrue true)
   some_entity it none = search rules
 
   is_there : (h : Handle) → Contains handles h → IsThere m h
-  is_there h has = there_is (finite.get m h) ((lists.holds h).0 has)
+  is_there h has = search (rules, lists.holds)
 
   handles_apart : IsDistinct (eq_by_cmp handle_cmp) handles
   handles_apart =

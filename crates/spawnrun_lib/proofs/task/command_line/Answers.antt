@@ -61,7 +61,7 @@ returns-in-replay g c =
 pub returns-in-run : goal.returns-in-run
 returns-in-run g c =
     let named = named g (goal.at.returns-in-run g c).After-unwrap in record {
-      asked = run_task _ _ _ (named.1 (codes "run") c.in-run.is) c.run_of.ensures;
+      asked = run_task (map g.S.AsStr.text c.args.words.now) _ _ (named.1 (codes "run") c.in-run.is) c.run_of.ensures;
       taken = named.0.no_fault;
       fault = tt;
       refused = tt;
