@@ -73,8 +73,7 @@ module _ (gone old rest : List (List (List Operation))) (systems : List (List Op
     (front : old ≡ systems ∷ rest) where
   pub goes_on : (all : List (List (List Operation))) → gone ++ old ≡ all
       → (gone ++ systems ∷ []) ++ rest ≡ all
-  goes_on all e =
-      append_assoc gone (systems ∷ []) rest ∙ (ap (λ xs. gone ++ xs) (sym front) ∙ e)
+  goes_on all e = search (rules, append_assoc)
 
   pub one_more : (number : ℕ) → number ≡ length gone → number + 1 ≡ length (gone ++ systems ∷ [])
   one_more number is = search (rules, length-append, is)
