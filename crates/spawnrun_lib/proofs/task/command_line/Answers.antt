@@ -1,3 +1,4 @@
+use Rattle.std.proofs.Common.{rules}
 use Rattle.std.proofs.Common.{◌≡◌, ◌∙◌, IfSome, ℕ, List, codes, true, refl, sym, map, subst, Some}
 use Rattle.clap.specs.Words.{HasKind, fault_of, rows_of, found_of, takes, subcommand_of}
 use Rattle.spawnrun_lib.specs.CommandLine.{program}
@@ -68,8 +69,4 @@ returns-in-run g c =
     }
 
 pub unreachable-requires : goal.unreachable-requires
-unreachable-requires g c =
-    let met = (named g (goal.at.unreachable-requires g c).After-unwrap).0 in
-    none_other _ met.asked c.subcommand.result (c.subcommand.ensures.name ∙ met.name)
-    (subst (λ r. IfSome r (λ p. (p.0.now ≡ codes "replay" → ⊥) × (p.0.now ≡ codes "run" → ⊥)))
-    (sym c.unwrap.ensures) (c.in_default.not-replay, c.in_default.not-run))
+unreachable-requires g c = search (rules, named, none_other)
