@@ -1,6 +1,6 @@
 -- The lists of names as a function of the number.
-use Rattle.std.proofs.Common.{rules, ◌≡◌, refl, sym, ap, ℕ, zero, suc, ◌<◌, List, [], ◌∷◌, ◌++◌}
-use Rattle.std.proofs.Common.{length, set, cond, arith}
+use Rattle.std.proofs.Common.{rules, ◌≡◌, ℕ, zero, suc, ◌<◌, List, [], ◌∷◌, ◌++◌}
+use Rattle.std.proofs.Common.{length, set, arith}
 use Rattle.std.proofs.Math.Dec.{eqb-suc-zero, eqb-zero-suc, eqb-suc-suc}
 use Rattle.ent_handle.specs.Handle.{Handle}
 use Rattle.spawnrun_lib.specs.Issuing.{Bindings, bound}
@@ -12,8 +12,7 @@ same_names f g e = λ i n. e n i
 -- an empty list that is added binds nothing
 added_at : (lists : List (List Handle)) (n : ℕ) → names_of (lists ++ [] ∷ []) n ≡ names_of lists n
 added_at [] n = search rules
-added_at (hs ∷ lists) zero = refl
-added_at (hs ∷ lists) (suc n) = added_at lists n
+added_at (hs ∷ lists) n = search (rules, added_at lists)
 
 pub names_added : (lists : List (List Handle)) → names_of (lists ++ [] ∷ []) ≡ names_of lists
 names_added lists = same_names _ _ (added_at lists)
@@ -22,11 +21,8 @@ names_added lists = same_names _ _ (added_at lists)
 set_at : (lists : List (List Handle)) (hs : List Handle) (n : ℕ) → n < length lists → (m : ℕ)
     → names_of (set lists n hs) m ≡ bound n hs (names_of lists) m
 set_at [] hs n within m = absurd (omega arith)
-set_at (xs ∷ lists) hs zero within zero = refl
-set_at (xs ∷ lists) hs zero within (suc m) = search (rules, eqb-suc-zero)
-set_at (xs ∷ lists) hs (suc n) within zero = ap (λ b. cond b hs xs) (sym (eqb-zero-suc n))
-set_at (xs ∷ lists) hs (suc n) within (suc m) =
-    search (rules, eqb-suc-suc, set_at lists hs n (omega arith) m)
+set_at (xs ∷ lists) hs zero within m = search (rules, eqb-suc-zero)
+set_at (xs ∷ lists) hs (suc n) within m = search (rules, eqb-zero-suc, eqb-suc-suc, set_at lists hs n (omega arith))
 
 pub names_set : (lists : List (List Handle)) (hs : List Handle) (n : ℕ) → n < length lists
     → names_of (set lists n hs) ≡ bound n hs (names_of lists)

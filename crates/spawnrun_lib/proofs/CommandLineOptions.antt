@@ -29,22 +29,12 @@ use Rattle.cli.specs.Options.{HasNumber, generations_option, number_option, slot
 use Rattle.spawnrun_lib.specs.CommandLine.{HasShow, MayHaveBlocks, blocks_option, most_handles}
 use Rattle.spawnrun_lib.specs.CommandLine.{optional_number, program, references_to, show_option}
 use Rattle.spawnrun_lib.specs.CommandLine.{show_text, shown, workers_option}
-use Rattle.spawnrun_lib.proofs.ParsedOptions.{none_of, Fits, HasValue, IsOption, IsOptional}
-use Rattle.spawnrun_lib.proofs.ParsedOptions.{IsRequest, MayHaveValue, option-has_value}
+use Rattle.spawnrun_lib.proofs.ParsedOptions.{none_of, Fits, HasValue, MayHaveValue, option-has_value}
 use Rattle.spawnrun_lib.proofs.ParsedOptions.{optional-has_value}
 
 -- the options as building leaves them
-abbrev slots_rule : Rule
-slots_rule = filled slots_option
-
-abbrev generations_rule : Rule
-generations_rule = filled generations_option
-
 abbrev replay_rules : List Rule
-replay_rules = slots_rule ∷ generations_rule ∷ filled help_rule ∷ []
-
-abbrev workers_rule : Rule
-workers_rule = filled workers_option
+replay_rules = filled slots_option ∷ filled generations_option ∷ filled help_rule ∷ []
 
 abbrev show_rule : Rule
 show_rule = filled (show_option (references_to shown))
@@ -53,34 +43,13 @@ abbrev blocks_rule : Rule
 blocks_rule = filled blocks_option
 
 abbrev run_rules : List Rule
-run_rules = workers_rule ∷ blocks_rule ∷ show_rule ∷ filled help_rule ∷ []
-
-slots-option : IsOption replay_rules slots_rule
-slots-option = search rules
-
-generations-option : IsOption replay_rules generations_rule
-generations-option = search rules
-
-workers-option : IsOption run_rules workers_rule
-workers-option = search rules
-
-blocks-option : IsOptional run_rules blocks_rule
-blocks-option = search rules
-
-show-option : IsOption run_rules show_rule
-show-option = search rules
-
-help-request : (c : List Rule) → IsRequest c (filled help_rule)
-help-request c = record { asks = refl; default = refl; named = refl }
+run_rules = filled workers_option ∷ blocks_rule ∷ show_rule ∷ filled help_rule ∷ []
 
 replay-fits : AllByRecursion (Fits replay_rules) replay_rules
-replay-fits = (inl slots-option, (inl generations-option, (inr (inr (help-request replay_rules)), tt)))
+replay-fits = search rules
 
 run-fits : AllByRecursion (Fits run_rules) run_rules
-run-fits = (
-  inl workers-option,
-  (inr (inl blocks-option), (inl show-option, (inr (inr (help-request run_rules)), tt))),
-)
+run-fits = search rules
 
 abbrev pub replay_shape : Shape
 replay_shape = slice_index_or (built program).subs 0 (new_shape [])
@@ -115,16 +84,16 @@ replay_options : (words : List Text) → level_fault replay_shape [] nothing_hel
     → IsAsked (Some (rows_at replay_shape words))
 replay_options words e =
     let value = option-has_value replay_rules replay-fits replay_shape words e in
-    asks_replay _ refl (number_from _ _ _ _ (value slots_rule slots-option (inl refl)))
-    (number_from _ _ _ _ (value generations_rule generations-option (inr (inl refl))))
+    asks_replay _ refl (number_from _ _ _ _ (value (filled slots_option) refl (search rules) (inl refl)))
+    (number_from _ _ _ _ (value (filled generations_option) refl (search rules) (inr (inl refl))))
 
 run_options : (words : List Text) → level_fault run_shape [] nothing_held words false [] ≡ []
     → IsAsked (Some (rows_at run_shape words))
 run_options words e =
     let value = option-has_value run_rules run-fits run_shape words e in
-    asks_run _ refl (number_from _ _ _ _ (value workers_rule workers-option (inl refl)))
-    (blocks_from _ (optional-has_value run_rules run-fits run_shape words e blocks_rule blocks-option))
-    (show_from _ (value show_rule show-option (inr (inr (inl refl)))))
+    asks_run _ refl (number_from _ _ _ _ (value (filled workers_option) refl (search rules) (inl refl)))
+    (blocks_from _ (optional-has_value run_rules run-fits run_shape words e blocks_rule refl))
+    (show_from _ (value show_rule refl (search rules) (inr (inr (inl refl)))))
 
 -- a subcommand is required, and there are two
 stopped : (stop : Option (Text × List Text)) (rows : List Row) → entered_fault (built program) stop
@@ -183,11 +152,6 @@ pub blocks_read : (found : Found) (r : Option ℕ) → MayHaveBlocks (rows_of fo
     → (one_text found (codes "blocks") ≡ None → r ≡ None)
     → ((text : Text) → one_text found (codes "blocks") ≡ Some text → ReadsOne number_gives text r)
     → (option_number (codes "blocks") (rows_of found) ≡ r) × IfSome r (λ size. 0 < size)
-blocks_read found r (inl absent) none reads =
-    let is : r ≡ None = none (one_text-rows found (codes "blocks") ∙ absent) in (
-      ap (option_map (λ text. digits_value 10 (without_leading_plus text))) absent ∙ sym is,
-      subst (λ (r : Option ℕ). IfSome r (λ size. 0 < size)) (sym is) tt,
-    )
+blocks_read found r (inl absent) none reads = search (rules, one_text-rows)
 blocks_read found r (inr number) none reads =
-    let read = number_read 32 (codes "blocks") most_handles found r (lit< tt) number reads in
-    (read.4 ∙ sym read.1, subst (λ (r : Option ℕ). IfSome r (λ size. 0 < size)) (sym read.1) read.2)
+    search (rules, number_read 32 (codes "blocks") most_handles found r (lit< tt) number reads)

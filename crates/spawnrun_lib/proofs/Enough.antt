@@ -159,8 +159,6 @@ more_granted : (workers : ℕ) (w : World) (frames : List (List (List Operation)
     → sum_by requested_by_systems frames ≤ length w.allocator.pool
     → sum_by requested_by_systems frames ≤ quota → All WereGranted executions
 more_granted workers w [] [] went enough small = All-nil WereGranted
-more_granted workers w [] (e ∷ executions) went enough small = absurd went
-more_granted workers w (systems ∷ frames) [] went enough small = absurd went
 more_granted workers w (systems ∷ frames) (e ∷ executions) went enough small =
     let sums = sum_by-cons requested_by_systems systems frames in
     let here : requested_by_systems systems ≤ length w.allocator.pool = omega arith in
@@ -168,6 +166,7 @@ more_granted workers w (systems ∷ frames) (e ∷ executions) went enough small
     let left = frame-left systems workers w e.queues e.history went.0 here fits
     (sum_by requested_by_systems frames) (omega arith) in
     search (rules, All-cons, frame-granted systems workers w e.queues e.history went.0 here fits, more_granted workers (synced w e).world frames executions went.1 left (omega arith))
+more_granted workers w _ _ went enough small = absurd went
 
 -- In the first world each slot has a handle to give, and a worker's quota is more than all slots.
 pub granted_if_enough : (script : Script) (workers : ℕ) (executions : List Execution)

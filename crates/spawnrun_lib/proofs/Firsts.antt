@@ -1,48 +1,41 @@
 -- The first of a list that passes a test, and keys as they lie in memory.
+use Rattle.std.proofs.Common.{String, Global, string_bytes}
+use Rattle.ent_script.specs.Json.{whole}
+use Rattle.ent_script.proofs.Values.{pair_view}
+use Rattle.spawnrun_lib.specs.Place.{twice, unwhole_in}
 use Rattle.std.proofs.lemmas.Grind.{common_steps}
-use Rattle.std.proofs.Common.{rules, arith, ◌≡◌, refl, ap, ℕ, Bool, true, false, cond, List, []}
-use Rattle.std.proofs.Common.{◌∷◌, filter, map, Some, slice_get, Bor, bytes_eq, Option, ℤ, is_some}
+use Rattle.std.proofs.Common.{rules, arith, ◌≡◌, refl, ℕ, Bool, true, false, cond, List, []}
+use Rattle.std.proofs.Common.{◌∷◌, map, Some, Bor, bytes_eq, Option, ℤ, is_some}
 use Rattle.std.proofs.Common.{is_none, true≢false, ◌+◌, ◌<◌, drop, take, length, get_or}
 use Rattle.std.specs.List.{list_any}
-use Rattle.serde_json.specs.Data.{Data}
 use Rattle.serde_json.specs.View.{view}
 use Rattle.serde_json.specs.declared.value.Value.{Value}
 use Rattle.std.proofs.lemmas.List.{drop_more, take_more, map-append}
 use Rattle.ent_script.specs.Names.{as_name}
-use Rattle.spawnrun_lib.specs.Place.{bad_name, is_among, is_listed, is_text, key_but, name_place}
-
-first_skip : {X : Type 0} (p : X → Bool) (x : X) (xs : List X) → p x ≡ false
-    → slice_get (filter p (x ∷ xs)) 0 ≡ slice_get (filter p xs) 0
-first_skip p x xs fails = ap (λ b. slice_get (cond b (x ∷ filter p xs) (filter p xs)) 0) fails
-
-first_here : {X : Type 0} (p : X → Bool) (x : X) (xs : List X) → p x ≡ true
-    → slice_get (filter p (x ∷ xs)) 0 ≡ Some x
-first_here p x xs holds = ap (λ b. slice_get (cond b (x ∷ filter p xs) (filter p xs)) 0) holds
-
-pub member_skip : (p : List ℕ × Data → Bool) (m : List ℕ × Data) (ms : List (List ℕ × Data))
-    → p m ≡ false → slice_get (filter p (m ∷ ms)) 0 ≡ slice_get (filter p ms) 0
-member_skip = first_skip
-
-pub member_here : (p : List ℕ × Data → Bool) (m : List ℕ × Data) (ms : List (List ℕ × Data))
-    → p m ≡ true → slice_get (filter p (m ∷ ms)) 0 ≡ Some m
-member_here = first_here
+use Rattle.spawnrun_lib.specs.Place.{bad_name, is_among, is_listed, is_text, key_but}
 
 -- what is not there, and what is
-pub none_if : (o : Option ℤ) → is_some o ≡ false → is_none o ≡ true
+none_if : (o : Option ℤ) → is_some o ≡ false → is_none o ≡ true
 none_if it fails = search (rules, true≢false)
 
-pub some_if : (o : Option ℤ) → is_some o ≡ true → is_none o ≡ false
+some_if : (o : Option ℤ) → is_some o ≡ true → is_none o ≡ false
 some_if it holds = search (rules, true≢false)
 
--- a key that is known is passed over
-pub key_skip : (is_known : List ℕ → Bool) (m : List ℕ × Data) (ms : List (List ℕ × Data))
-    → is_known m.0 ≡ true → key_but is_known (m ∷ ms) ≡ key_but is_known ms
-key_skip is_known m ms holds = search rules
+abbrev pub Entry : Type 0
+Entry = String Global × Value
 
--- one that isn't is the first
-pub key_here : (is_known : List ℕ → Bool) (m : List ℕ × Data) (ms : List (List ℕ × Data))
-    → is_known m.0 ≡ false → key_but is_known (m ∷ ms) ≡ Some m.0
-key_here is_known m ms fails = search rules
+-- the next key of an object
+pub next_key : (is_known : List ℕ → Bool) (es : List Entry) (e : Entry) (rest : List Entry)
+    (key : List ℕ) (test : Bool) → es ≡ e ∷ rest → key ≡ string_bytes e.0 → is_known key ≡ test
+    → key_but is_known (map pair_view es)
+    ≡ cond test (key_but is_known (map pair_view rest)) (Some (string_bytes e.0))
+next_key is_known es e rest key test is same known = search rules
+
+-- and its next value
+pub next_whole : (es : List Entry) (e : Entry) (rest : List Entry) (test : Bool) → es ≡ e ∷ rest
+    → is_some (whole (view e.1)) ≡ test → unwhole_in (map pair_view es)
+    ≡ cond test (unwhole_in (map pair_view rest)) (Some (pair_view e))
+next_whole es e rest test is known = search (rules, none_if, some_if)
 
 -- one of the keys as they lie in memory
 pub among_lent : (key : List ℕ) (known : List (Bor (List ℕ)))
@@ -56,9 +49,10 @@ pub listed_lent : (text : List ℕ) (listed : List Value)
 listed_lent text [] = refl
 listed_lent text (v ∷ listed) = rw (listed_lent text listed)
 
--- the value of that number goes over to the earlier ones
-pub next_bad : (list : List Value) (n : ℕ) (v : Value) → n < length list → v ≡ get_or list n v
-    → bad_name (map view (take n list)) (map view (drop n list))
-    ≡ name_place (as_name (view v)) (view v) (map view (take n list))
+-- a name that an earlier value is, or a new one
+pub next_name : (list : List Value) (n : ℕ) (v : Value) (text : List ℕ) (test : Bool)
+    → n < length list → v ≡ get_or list n v → as_name (view v) ≡ Some text
+    → list_any (λ v. is_text text (view v)) (take n list) ≡ test
+    → bad_name (map view (take n list)) (map view (drop n list)) ≡ cond test (twice text)
     (bad_name (map view (take (n + 1) list)) (map view (drop (n + 1) list)))
-next_bad list n v inside is = grind (arith, common_steps, drop_more, take_more, map-append)
+next_name list n v text test inside is named listed = grind (arith, common_steps, drop_more, take_more, map-append, listed_lent)

@@ -131,13 +131,7 @@ module _ (systems : List (List Operation)) (workers : ℕ) (w : World)
   -- the entity of a birth
   birth_named : (birth : Birth) (hs : List Handle) → IsOfBirth (view_of w) birth hs
       → All (IsThere all_born) hs × (births_meant view (λ n. []) (target.Birth birth) ≡ map name hs)
-  birth_named birth [] none = (All-nil (IsThere all_born), search (rules, named.only birth))
-  birth_named birth (h ∷ []) (own, least) =
-      let e = entity_at w.entities h birth own in
-      let same : name h ≡ birth = old_names h e.0 e.1 ∙ e.2 in
-      let there = rw e.2 at (named.there h e.0 e.1) in
-      (search (rules, All-cons, old_there, All-nil), rw (there, same) refl)
-  birth_named birth (h ∷ k ∷ hs) none = absurd none
+  birth_named birth it of = search (rules, entity_at, old_names, named.there, All-cons, old_there, All-nil, named.only)
 
   -- each system's queue, from a system on
   all_named : (system : ℕ) (qs : List (List Command)) (ss : List (List Operation))
@@ -148,8 +142,6 @@ module _ (systems : List (List Operation)) (workers : ℕ) (w : World)
       × (name h ≡ record { frame = w.phase; system = system + n; ordinal = k }))
       → AreNamedBy name all_born qs (queues_alone w.phase system view ss)
   all_named system [] [] same free granted may at = tt
-  all_named system [] (ops ∷ ss) same free granted may at = absurd (omega arith)
-  all_named system (q ∷ qs) [] same free granted may at = absurd (omega arith)
   all_named system (q ∷ qs) (ops ∷ ss) same free granted may at =
       let here : system + 0 ≡ system = omega arith in (
         queue-alone name all_born w.phase system (view_of w) view each_named birth_named ops q
@@ -163,6 +155,7 @@ module _ (systems : List (List Operation)) (workers : ℕ) (w : World)
             let next : system + suc n ≡ (system + 1) + n = omega arith in
             rw next at (at (suc n) k h is)),
       )
+  all_named system _ _ same free granted may at = absurd (omega arith)
 
   are_named : AreNamedBy name all_born queues (queues_by_births w view systems)
   are_named = all_named 0 queues systems frame.count free granted frame.each_system

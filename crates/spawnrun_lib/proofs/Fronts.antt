@@ -1,5 +1,6 @@
 -- Fronts of texts: of a text that is appended to, of one in printable ASCII, and of one of which
 -- only the first parts are looked at.
+use Rattle.std.proofs.lemmas.Grind.{common_steps}
 use Rattle.std.proofs.Common.{rules, ◌≡◌, ℕ, suc, ◌+◌, ◌≤◌, ◌<◌, true, List, [], ◌∷◌, ◌++◌, length}
 use Rattle.std.proofs.Common.{take, sym, ap, subst, ◌∙◌, arith, codes, append_assoc, length-append}
 use Rattle.std.proofs.Common.{inl, inr, flat_map}
@@ -53,10 +54,7 @@ front-cut text (x ∷ xs) long =
     ∙ take_all 57 (take 57 text) (omega (arith, len))))
 
 pub length-front : (text : List ℕ) → length (front text) ≤ 60
-length-front text = elim (cases_lt 60 (length text)) [
-  | inl long ↦ omega (arith, ap length (front-long text long), length-cut text long)
-  | inr short ↦ omega (arith, ap length (front-short text short), short)
-]
+length-front text = grind (arith, common_steps, front-long, front-short, length-cut)
 
 pub front-more : (text more : List ℕ) → front (front text ++ more) ≡ front (text ++ more)
 front-more text more = elim (cases_lt 60 (length text)) [
@@ -107,10 +105,7 @@ cut_to-long text long at =
     ∙ ap (λ (n : ℕ). take n text ++ codes "...") at
 
 pub cut_is_front : (text : List ℕ) → ArePrintable text → cut_to 60 text ≡ front text
-cut_is_front text h = elim (cases_lt 60 (length text)) [
-  | inl long ↦ cut_to-long text long (boundary text h long) ∙ sym (front-long text long)
-  | inr short ↦ cut_to-short text short ∙ sym (front-short text short)
-]
+cut_is_front text h = search (rules, cases_lt, cut_to-long, cut_to-short, boundary, front-long, front-short)
 
 -- a piece after a piece
 pub go_on : (old new piece more : List ℕ) → new ≡ front (old ++ piece)

@@ -1,9 +1,7 @@
 -- What is made of the bytes that were read is made of what the source tells.
-use Rattle.std.proofs.Common.{rules, ◌≡◌, ◌≤◌, ◌<◌, List, [], ℕ, Option, Some, None, length, IfSome}
-use Rattle.std.proofs.Common.{subst, sym}
+use Rattle.std.proofs.Common.{rules, ◌≡◌, ◌≤◌, ◌<◌, List, [], ℕ, Option, length, IfSome}
 use Rattle.spawnrun_lib.specs.Wants.{size_wants}
 use Rattle.spawnrun_lib.specs.declared.work.Product.{Product}
-use Rattle.spawnrun_lib.specs.declared.work.Product.TheVariants as product
 use Rattle.spawnrun_lib.specs.Work.{Accepts, IsProductOf, Refusal, Refuses, fails, input_limit}
 use Rattle.spawnrun_lib.specs.Work.{is_too_long, size_line}
 
@@ -11,8 +9,7 @@ module _ (Gives : List ℕ → List ℕ → Type 0) (Fails : List ℕ → Refusa
   within : (input : List ℕ) (made : Product) → length input ≤ input_limit
       → IsProductOf Gives Fails input made
       → IsProductOf (Accepts Gives) (Refuses Fails) input made
-  within input (product.Output text) fits is = (fits, is)
-  within input (product.Refusal r) fits is = fails _ fits is
+  within input it fits is = search (rules, fails)
 
   pub made_of_read : (told : Option (List ℕ)) (read : List ℕ) (made : Product)
       → IfSome told (λ all. read ≡ all) → length read ≤ input_limit
@@ -24,6 +21,4 @@ module _ (Gives : List ℕ → List ℕ → Type 0) (Fails : List ℕ → Refusa
       → IfSome told (λ all. input_limit < length all)
       → refusal ≡ record { line = size_line; wants = size_wants; found = [] }
       → IfSome told (λ all. Refuses Fails all refusal)
-  refused_too_long None refusal longer is = tt
-  refused_too_long (Some all) refusal longer is =
-      subst (Refuses Fails all) (sym is) (is_too_long longer)
+  refused_too_long it refusal longer is = search (rules, is_too_long)

@@ -1,7 +1,7 @@
 -- Clap reads the names that an option takes, and not where they stand in memory: the rows that it
 -- makes of words stay the same if they move.
 use Rattle.std.proofs.Common.{rules, ◌≡◌, ℕ, Bool, List, [], ◌∷◌, cond, zero, suc, refl, sym, map}
-use Rattle.std.proofs.Common.{Option, Some, None}
+use Rattle.std.proofs.Common.{Option}
 use Rattle.std.specs.Prelude.{fold, find, option_map}
 use Rattle.std.specs.Borrow.{Bor}
 use Rattle.std.specs.List.{list_any}
@@ -105,9 +105,7 @@ module _ (c : List Rule) where
   short_met-moved : (o : Option Rule) (rest : Text) (h : Held) (after before : Held → Held
       × Outcome) → ((held : Held) → after held ≡ before held)
       → short_met m (option_map moved_rule o) rest h after ≡ short_met c o rest h before
-  short_met-moved None rest h after before same = refl
-  short_met-moved (Some a) rest h after before same =
-      search (rules, both_arms, settled-moved, reacted-moved)
+  short_met-moved it rest h after before same = search (rules, both_arms, settled-moved, reacted-moved)
 
   bundle_met-moved : (k : ℕ) (flags : Text) (skip : ℕ) (so_far : Outcome) (h : Held)
       → bundle_met m k flags skip so_far h ≡ bundle_met c k flags skip so_far h

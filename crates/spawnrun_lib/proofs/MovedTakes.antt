@@ -8,7 +8,7 @@ use Rattle.clap.specs.Words.{Row, Rule, Shape, Text}
 use Rattle.clap.specs.Takes.{action_passes, count_passes, default_passes, flag_word_passes}
 use Rattle.clap.specs.Takes.{flags_pass, is_given, is_valid, level_passes, long_passes}
 use Rattle.clap.specs.Takes.{option_passes, other_passes, positional_passes, react_passes}
-use Rattle.clap.specs.Takes.{set_passes, settle_passes, short_passes, step_passes, turn_passes}
+use Rattle.clap.specs.Takes.{settle_passes, short_passes, step_passes, turn_passes}
 use Rattle.clap.specs.Takes.{use_passes, values_pass, walk_passes}
 use Rattle.clap.specs.Walk.{Held, Names, Step, Walk, walk, walk_from}
 use Rattle.clap.specs.declared.builder.ArgAction.{ArgAction}
@@ -30,22 +30,15 @@ count_passes-moved : (a : Rule) (values : List Text) (rows : List Row) → count
     values rows ≡ count_passes a values rows
 count_passes-moved a vs rows = grind (arith, common_steps, any_name-moved, values_pass-moved)
 
-set_passes-moved : (again : Bool) (a : Rule) (values : List Text) (rows : List Row)
-    → set_passes again (moved_rule a) values rows ≡ set_passes again a values rows
-set_passes-moved again a values rows = both_hold refl (values_pass-moved a values)
-
 action_passes-moved : (x : ArgAction) (again : Bool) (a : Rule) (values : List Text)
     (rows : List Row)
     → action_passes x again (moved_rule a) values rows ≡ action_passes x again a values rows
-action_passes-moved action.Set again a values rows = set_passes-moved again a values rows
-action_passes-moved action.SetTrue again a values rows = set_passes-moved again a values rows
-action_passes-moved action.SetFalse again a values rows = set_passes-moved again a values rows
+action_passes-moved action.Set again a values rows = both_hold refl (values_pass-moved a values)
+action_passes-moved action.SetTrue again a values rows = both_hold refl (values_pass-moved a values)
+action_passes-moved action.SetFalse again a values rows = both_hold refl (values_pass-moved a values)
 action_passes-moved action.Append again a values rows = values_pass-moved a values
 action_passes-moved action.Count again a values rows = count_passes-moved a values rows
-action_passes-moved action.Help again a values rows = refl
-action_passes-moved action.HelpShort again a values rows = refl
-action_passes-moved action.HelpLong again a values rows = refl
-action_passes-moved action.Version again a values rows = refl
+action_passes-moved _ again a values rows = refl
 
 use_passes-moved : (again : Bool) (a : Rule) (values : List Text) (rows : List Row)
     → use_passes again (moved_rule a) values rows ≡ use_passes again a values rows

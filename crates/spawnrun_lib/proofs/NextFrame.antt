@@ -24,10 +24,9 @@ went_on : (workers : ℕ) (w : World) (frames : List (List (List Operation)))
     → IsFrame MayIssue systems workers (last_world w executions) e.queues e.history
     → AreExecutions workers w (frames ++ systems ∷ []) (executions ++ e ∷ [])
 went_on workers w [] [] systems e went frame = (frame, tt)
-went_on workers w [] (x ∷ executions) systems e went frame = absurd went
-went_on workers w (s ∷ frames) [] systems e went frame = absurd went
 went_on workers w (s ∷ frames) (x ∷ executions) systems e went frame =
     (went.0, went_on workers (synced w x).world frames executions systems e went.1 frame)
+went_on workers w _ _ systems e went frame = absurd went
 
 world_on : (w : World) (executions : List Execution) (e : Execution)
     → last_world w (executions ++ e ∷ []) ≡ (synced (last_world w executions) e).world
@@ -41,13 +40,12 @@ text_on : (workers : ℕ) (show : Show) (number : ℕ) (w : World)
     ++ frame_text show (number + length frames) (born_in (last_world w executions) e)
     (synced (last_world w executions) e).faults
 text_on workers show number w [] [] e went = search (rules, append-nil)
-text_on workers show number w [] (x ∷ executions) e went = absurd went
-text_on workers show number w (s ∷ frames) [] e went = absurd went
 text_on workers show number w (s ∷ frames) (x ∷ executions) e went = search (
   rules,
   append_assoc,
   text_on workers show (number + 1) (synced w x).world frames executions e went.1,
 )
+text_on workers show number w _ _ e went = absurd went
 
 module _ (workers : ℕ) (show : Show) (first now after : World)
     (frames : List (List (List Operation)))
@@ -75,8 +73,7 @@ module _ (gone old rest : List (List (List Operation))) (systems : List (List Op
     (front : old ≡ systems ∷ rest) where
   pub goes_on : (all : List (List (List Operation))) → gone ++ old ≡ all
       → (gone ++ systems ∷ []) ++ rest ≡ all
-  goes_on all e =
-      append_assoc gone (systems ∷ []) rest ∙ (ap (λ xs. gone ++ xs) (sym front) ∙ e)
+  goes_on all e = search (rules, append_assoc)
 
   pub one_more : (number : ℕ) → number ≡ length gone → number + 1 ≡ length (gone ++ systems ∷ [])
   one_more number is = search (rules, length-append, is)

@@ -73,10 +73,9 @@ same_of_birth view birth hs ks a b = grind (arith, common_steps)
 -- a target means one list of handles
 same_targets : (view : View) (names : Bindings) (on : Target) (hs ks : List Handle)
     → IsTargeted view names on hs → IsTargeted view names on ks → hs ≡ ks
-same_targets view names (target.Name n) hs ks a b = a ∙ sym b
-same_targets view names (target.Handle h) hs ks a b = a ∙ sym b
 same_targets view names (target.Each id) hs ks a b = one_list_with id view.entities hs ks a b
 same_targets view names (target.Birth birth) hs ks a b = same_of_birth view birth hs ks a b
+same_targets view names _ hs ks a b = a ∙ sym b
 
 pub same_on_each : (view : View) (names : Bindings) (on : Target) (command : Handle → Command)
     (cs ds : List Command) → OnEach view names on command cs → OnEach view names on command ds → cs
@@ -125,9 +124,8 @@ record IsAlone (count : ℕ) (w : World) (queues : List (List Command)) (history
 
 only_one : (ran : List (List ℕ)) → length ran ≡ 1 → (mine : List ℕ) × (slice_get ran 0 ≡ Some mine)
     × (flat_map (λ mine. mine) ran ≡ mine)
-only_one [] one = absurd (omega arith)
 only_one (mine ∷ []) one = (mine, refl, append-nil mine)
-only_one (x ∷ y ∷ ran) one = absurd (omega arith)
+only_one _ one = absurd (omega arith)
 
 is_alone : (systems : List (List Operation)) (w : World) (queues : List (List Command))
     (history : List Call) → IsFrame MayIssue systems 1 w queues history → IsAlone (length systems) w

@@ -12,14 +12,11 @@ use Rattle.spawnrun_lib.specs.Report.{IsReport}
 same_executions : (w : World) (frames : List (List (List Operation))) (es fs : List Execution)
     → AreExecutions 1 w frames es → AreExecutions 1 w frames fs → es ≡ fs
 same_executions w [] [] [] a b = refl
-same_executions w [] [] (f ∷ fs) a b = absurd b
-same_executions w [] (e ∷ es) fs a b = absurd a
-same_executions w (systems ∷ frames) [] fs a b = absurd a
-same_executions w (systems ∷ frames) (e ∷ es) [] a b = absurd b
 same_executions w (systems ∷ frames) (e ∷ es) (f ∷ fs) a b =
     let same = one_course systems w e.queues f.queues e.history f.history a.0 b.0 in
     let here : e ≡ f = (λ i. record { queues = same.0 i; history = same.1 i }) in
     search (rules, same_executions (synced w e).world frames es fs a.1 (rw (← here) at b.1))
+same_executions w _ _ _ a b = search rules
 
 pub one_report : (script : Script) (show : Show) (text other : List ℕ) → IsReport script 1 show text
     → IsReport script 1 show other → text ≡ other

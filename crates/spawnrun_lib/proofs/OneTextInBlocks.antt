@@ -46,23 +46,12 @@ few_left pool b = grind (arith, common_steps)
 -- a block that is used up gives no handle
 none_left : (pool : List Handle) (b : Block) (h : Handle) → h ∷ [] ≡ take 1 (rest_of pool b)
     → left_of b < 1 → ⊥
-none_left pool b h is none =
-    let one : 1 ≡ length (take 1 (rest_of pool b)) = ap length is in
-    omega (arith, one, few_taken 1 (rest_of pool b), few_left pool b, none)
+none_left pool b h is none = grind (arith, common_steps, few_taken, few_left)
 
 -- and one with too few gives none of them
 too_few : (s : Allocator) (b : Block) (hs : List Handle)
     → hs ≡ listed s.made (take (length hs) (rest_of s.pool b)) → left_of b < length hs → ⊥
-too_few s b hs is less =
-    let all : length hs ≡ length (listed s.made (take (length hs) (rest_of s.pool b))) = ap length is in
-    omega (
-      arith,
-      all,
-      few_listed s.made (take (length hs) (rest_of s.pool b)),
-      few_taken (length hs) (rest_of s.pool b),
-      few_left s.pool b,
-      less,
-    )
+too_few s b hs is less = grind (arith, common_steps, few_listed, few_taken, few_left)
 
 -- ---- one operation
 

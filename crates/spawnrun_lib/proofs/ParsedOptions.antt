@@ -1,10 +1,10 @@
 -- One induction over clap's walk, and so one file of more than 400 lines: where clap's parse of a
 -- command of options doesn't fail, each option has one value, which it accepts.
 use Rattle.std.proofs.lemmas.Grind.{common_steps}
-use Rattle.std.proofs.Common.{rules, ◌≡◌, ◌∙◌, ◌⊎◌, ◌==◌, ◌&&◌, ◌||◌, ℕ, Bool, true, false, List}
-use Rattle.std.proofs.Common.{[], ◌∷◌, ◌++◌, length, cond, zero, suc, refl, sym, subst, inl, inr}
+use Rattle.std.proofs.Common.{rules, ◌≡◌, ◌∙◌, ◌⊎◌, ◌==◌, ◌&&◌, ℕ, Bool, true, false, List}
+use Rattle.std.proofs.Common.{[], ◌∷◌, ◌++◌, length, cond, zero, suc, refl, inl, inr}
 use Rattle.std.proofs.Common.{arith, append-nil, Option, Some, None, IfSome, is_some}
-use Rattle.std.specs.Prelude.{slice_get, fold, find, option_and_then}
+use Rattle.std.specs.Prelude.{fold, find}
 use Rattle.std.specs.List.{AllByRecursion}
 use Rattle.std.specs.Option.{option_map_or}
 use Rattle.std.specs.Str.{bytes_eq}
@@ -14,21 +14,21 @@ use Rattle.clap.specs.Kinds.{Kinds, or_else, range_kinds}
 use Rattle.clap.specs.Values.{is_request}
 use Rattle.clap.specs.Takes.{value_passes}
 use Rattle.clap.specs.Lexer.{long_of}
-use Rattle.clap.specs.Walk.{nothing_held, row_text, long_or_other, Held, Outcome, Step, Waiting}
+use Rattle.clap.specs.Walk.{nothing_held, long_or_other, Held, Outcome, Step, Waiting}
 use Rattle.clap.specs.Walk.{Walk, action_of, after_flag, after_step, arg_by_id, at_row, bundle_met}
 use Rattle.clap.specs.Walk.{default_rows, flag_met, has_row, long_met, more_values, option_met}
 use Rattle.clap.specs.Walk.{plain_word, reacted, reading_by, rows_after, settled, short_met}
 use Rattle.clap.specs.Walk.{subcommand_met, subcommand_or_other, used, used_as, used_by_id}
-use Rattle.clap.specs.Walk.{values_or_missing, walk_from, walked, walked_from, with_default}
+use Rattle.clap.specs.Walk.{values_or_missing, walk_from, walked, with_default}
 use Rattle.clap.specs.Walk.{with_values, without, word_met}
-use Rattle.clap.specs.Faults.{step_fault, set_fault, flag_word_fault, flags_fault, level_fault}
+use Rattle.clap.specs.Faults.{set_fault, flag_word_fault, flags_fault, level_fault}
 use Rattle.clap.specs.Faults.{long_fault, option_fault, react_fault, settle_fault, short_fault}
-use Rattle.clap.specs.Faults.{turn_fault, use_fault, walk_fault, word_fault}
+use Rattle.clap.specs.Faults.{turn_fault, use_fault, walk_fault}
 use Rattle.clap.specs.declared.builder.ArgAction.TheVariants.{Set}
 use Rattle.clap.specs.declared.error.ErrorKind.{ErrorKind}
 use Rattle.clap.specs.declared.error.ErrorKind.TheVariants.{ArgumentConflict, TooManyValues}
 use Rattle.clap.specs.declared.parser.matches.ValueSource.{ValueSource}
-use Rattle.clap.specs.declared.parser.matches.ValueSource.TheVariants.{CommandLine, DefaultValue}
+use Rattle.clap.specs.declared.parser.matches.ValueSource.TheVariants.{DefaultValue}
 
 -- ---- kinds of errors
 
@@ -72,6 +72,14 @@ without-absent a rows absent = at_row-absent a.id (λ _. []) [] rows absent ∙ 
 
 -- ---- the arguments of a command
 
+abbrev pub TakesOne : Rule → Type 0
+TakesOne a = (action_of a ≡ Set)
+    × (a.range ≡ Some (record { start_inclusive = 1; end_inclusive = 1 }))
+
+-- a default, which the option accepts
+abbrev pub HasDefault : Rule → Type 0
+HasDefault a = (text : Text) × (a.defaults ≡ text ∷ []) × (value_passes a text ≡ true)
+
 -- the matches have a value of the option, which it accepts
 pub record HasValue (a : Rule) (rows : List Row) : Type 0 where
   pub text : Text
@@ -84,34 +92,16 @@ abbrev pub MayHaveValue : Rule → List Row → Type 0
 MayHaveValue a rows = (one_of a.id rows ≡ None) ⊎ HasValue a rows
 
 module _ (c : List Rule) where
-  -- an option that takes one value, and is the command's only argument of its id
-  pub record IsOption (a : Rule) : Type 0 where
+  -- the command's only argument of its id: an option that takes one value, or a flag that asks for help
+  pub record Fits (a : Rule) : Type 0 where
     pub own : arg_by_id c a.id ≡ Some a
-    pub set : action_of a ≡ Set
-    pub one : a.range ≡ Some (record { start_inclusive = 1; end_inclusive = 1 })
-    pub default : (text : Text) × (a.defaults ≡ text ∷ []) × (value_passes a text ≡ true)
-    pub named : a.index ≡ None
-
-  -- an option that takes one value and has no default, and is the command's only argument of its id
-  pub record IsOptional (a : Rule) : Type 0 where
-    pub own : arg_by_id c a.id ≡ Some a
-    pub set : action_of a ≡ Set
-    pub one : a.range ≡ Some (record { start_inclusive = 1; end_inclusive = 1 })
-    pub default : a.defaults ≡ []
+    pub does : TakesOne a ⊎ (is_request (action_of a) ≡ true)
+    pub default : (a.defaults ≡ []) ⊎ HasDefault a
     pub named : a.index ≡ None
 
   abbrev pub Among : Rule → List Rule → Type 0
   Among a [] = ⊥
   Among a (x ∷ xs) = (x ≡ a) ⊎ Among a xs
-
-  -- a flag that asks for help
-  pub record IsRequest (a : Rule) : Type 0 where
-    pub asks : is_request (action_of a) ≡ true
-    pub default : a.defaults ≡ []
-    pub named : a.index ≡ None
-
-  abbrev pub Fits : Rule → Type 0
-  Fits a = IsOption a ⊎ (IsOptional a ⊎ IsRequest a)
 
   -- the row has one value, and the argument of its id accepts it
   pub record IsGood (r : Row) : Type 0 where
@@ -138,29 +128,12 @@ module _ (c : List Rule) where
       → or_else (range_kinds 1 1 (length values)) (set_fault false a (values_or_missing a values)
       rows) ≡ []
       → Good (used_as Set a.id (reading_by a) (values_or_missing a values) rows)
-  set-good a own [] rows good e = search rules
-  set-good a own (text ∷ more ∷ others) rows good e = search rules
-  set-good a own (text ∷ []) rows good e =
-      let parts = none_of _ _ e in
-      let absent : has_row a.id rows ≡ false = not_again (has_row a.id rows) parts.0 in
-      let passes : value_passes a text ≡ true = passed _ _ (none_of _ _ parts.1).0 in
-      simp (without-absent a rows absent, with_values-absent a text CommandLine rows absent)
-      (Good-append rows _ good (new_row-good a own text CommandLine passes, tt))
-
-  single-good : (a : Rule) → arg_by_id c a.id ≡ Some a → action_of a ≡ Set
-      → a.range ≡ Some (record { start_inclusive = 1; end_inclusive = 1 }) → (values : List Text)
-      (rows : List Row) → use_fault false a values rows ≡ [] → Good rows → Good (used a values rows)
-  single-good a own set one values rows e good =
-      subst (λ action. Good (used_as action a.id (reading_by a) (values_or_missing a values) rows))
-      (sym set) (set-good a own values rows good (rw (one, set) at e))
+  set-good a own (text ∷ []) rows good e = search (rules, none_of, passed, not_again, without-absent, with_values-absent, Good-append, new_row-good)
+  set-good a own _ rows good e = search rules
 
   used-good : (a : Rule) → Fits a → (values : List Text) (rows : List Row)
       → use_fault false a values rows ≡ [] → Good rows → Good (used a values rows)
-  used-good a (inr (inr request)) values rows e good = absurd (search rules)
-  used-good a (inr (inl optional)) values rows e good =
-      single-good a optional.own optional.set optional.one values rows e good
-  used-good a (inl plain_option) values rows e good =
-      single-good a plain_option.own plain_option.set plain_option.one values rows e good
+  used-good a fits values rows e good = search (rules, set-good)
 
   used_by_id-good : (found : Option Rule) → IfSome found Fits
       → (values : List Text) (rows : List Row) → Good rows
@@ -203,8 +176,8 @@ module _ (c : List Rule) where
     short-good : (o : Option Rule) → IfSome o Fits → (rest : Text) (h : Held) (fault : Held → Kinds)
         (met : Held → Held × Outcome) → GoesOn fault met → Good h.rows
         → short_fault c false o rest h fault ≡ [] → Good (short_met c o rest h met).0.rows
-    short-good it fit rest h fault met goes_on good e =
-        search (rules, option-good, none_of, reacted-good, goes_on)
+    short-good it rest h fault met goes_on good e =
+        grind (arith, common_steps, option-good, none_of, reacted-good, goes_on)
 
     bundle-good : (k : ℕ) (flags : Text) (skip : ℕ) (so_far : Outcome) (h : Held) → Good h.rows
         → flags_fault c false k flags skip h ≡ []
@@ -258,26 +231,24 @@ module _ (c : List Rule) where
     -- ---- defaults
 
     -- an option that wasn't used gets the row of its default, and others none
-    default_row-added : (a : Rule) (plain_option : IsOption a) (rows : List Row)
+    default_row-added : (a : Rule) (default : HasDefault a) (rows : List Row)
         → has_row a.id rows ≡ false → default_rows a.id (reading_by a) a.defaults rows ≡ rows
-        ++ new_row a plain_option.default.0 DefaultValue ∷ []
-    default_row-added a plain_option rows is =
-        search (rules, plain_option.default.1, with_values-absent)
+        ++ new_row a default.0 DefaultValue ∷ []
+    default_row-added a default rows is = search (rules, default.1, with_values-absent)
 
     adds_none : (a : Rule) → a.defaults ≡ [] → (rows : List Row)
         → default_rows a.id (reading_by a) a.defaults rows ≡ rows
     adds_none a none rows = search rules
 
     default-good : (a : Rule) → Fits a → (rows : List Row) → Good rows → Good (with_default rows a)
-    default-good a (inr (inr request)) rows good = search (rules, adds_none a request.default rows)
-    default-good a (inr (inl optional)) rows good = search (rules, adds_none a optional.default rows)
-    default-good a (inl plain_option) rows good = go (has_row a.id rows) refl
+    default-good a fits rows good = go (has_row a.id rows) refl fits.default
       where
-        go : (has : Bool) → has_row a.id rows ≡ has
+        go : (has : Bool) → has_row a.id rows ≡ has → (a.defaults ≡ []) ⊎ HasDefault a
             → Good (cond has rows (default_rows a.id (reading_by a) a.defaults rows))
-        go true is = good
-        go false is = rw (default_row-added a plain_option rows is)
-            (Good-append rows _ good (new_row-good a plain_option.own _ _ plain_option.default.2, tt))
+        go true is it = good
+        go false is (inl none) = search (rules, adds_none a none rows)
+        go false is (inr default) = rw (default_row-added a default rows is)
+            (Good-append rows _ good (new_row-good a fits.own _ _ default.2, tt))
 
     defaults-good : (xs : List Rule) → AllByRecursion Fits xs → (rows : List Row) → Good rows
         → Good (fold with_default rows xs)
@@ -295,27 +266,26 @@ module _ (c : List Rule) where
     has_row-last a text source (x ∷ xs) = search (rules, has_row-last a text source xs)
 
     -- an option that wasn't used gets its default
-    default-added : (a : Rule) → IsOption a → (rows : List Row) → has_row a.id (with_default rows a)
-        ≡ true
-    default-added a plain_option rows = grind
-        (arith, common_steps, default_row-added a plain_option rows, has_row-last)
+    default-added : (a : Rule) → HasDefault a → (rows : List Row)
+        → has_row a.id (with_default rows a) ≡ true
+    default-added a default rows =
+        grind (arith, common_steps, default_row-added a default rows, has_row-last)
 
-    default-keeps : (a : Rule) → Fits a → (id : Text) (rows : List Row) → has_row id rows ≡ true
-        → has_row id (with_default rows a) ≡ true
-    default-keeps a (inr (inr request)) id rows e = search (rules, adds_none a request.default rows)
-    default-keeps a (inr (inl optional)) id rows e = search (rules, adds_none a optional.default rows)
-    default-keeps a (inl plain_option) id rows e =
-        grind (arith, common_steps, default_row-added a plain_option rows, has_row-append)
+    default-keeps : (a : Rule) → (a.defaults ≡ []) ⊎ HasDefault a → (id : Text) (rows : List Row)
+        → has_row id rows ≡ true → has_row id (with_default rows a) ≡ true
+    default-keeps a (inl none) id rows e = search (rules, adds_none a none rows)
+    default-keeps a (inr default) id rows e =
+        grind (arith, common_steps, default_row-added a default rows, has_row-append)
 
     defaults-keep : (xs : List Rule) → AllByRecursion Fits xs → (id : Text) (rows : List Row)
         → has_row id rows ≡ true → has_row id (fold with_default rows xs) ≡ true
     defaults-keep [] fits id rows e = e
     defaults-keep (x ∷ xs) fits id rows e = search (rules, defaults-keep xs, default-keeps)
 
-    defaults-add : (xs : List Rule) → AllByRecursion Fits xs → (a : Rule) → IsOption a → Among a xs
+    defaults-add : (xs : List Rule) → AllByRecursion Fits xs → (a : Rule) → HasDefault a → Among a xs
         → (rows : List Row) → has_row a.id (fold with_default rows xs) ≡ true
-    defaults-add [] fits a plain_option among rows = absurd among
-    defaults-add (x ∷ xs) fits a plain_option among rows =
+    defaults-add [] fits a default among rows = absurd among
+    defaults-add (x ∷ xs) fits a default among rows =
         search (rules, defaults-add xs, defaults-keep, default-added)
 
     -- ---- the walk, and what the rows give
@@ -323,43 +293,15 @@ module _ (c : List Rule) where
     value-found : (a : Rule) → arg_by_id c a.id ≡ Some a → (rows : List Row) → Good rows
         → has_row a.id rows ≡ true → HasValue a rows
     value-found a own [] good e = cc
-    value-found a own (r ∷ rs) good e =
-        let found = go (bytes_eq r.id a.id) refl e (value-found a own rs good.1) in
-        record { text = found.0; written = found.1; is = found.2; passes = found.3 }
-      where
-        go : (same : Bool) → bytes_eq r.id a.id ≡ same → (same || has_row a.id rs) ≡ true
-            → (has_row a.id rs ≡ true → HasValue a rs)
-            → (text : Text)
-            × (option_and_then (λ row. slice_get row.values 0)
-            (cond same (Some r) (find (λ x. bytes_eq x.id a.id) rs)) ≡ Some text)
-            × (option_and_then row_text (cond same (Some r) (find (λ x. bytes_eq x.id a.id) rs))
-            ≡ Some (read_as (reading_by a) text)) × (value_passes a text ≡ true)
-        go false is h rest = search rules
-        go true is h rest =
-            let held = good.0 in
-            let same : r.id ≡ a.id = (bytes_eq-Decides r.id a.id).0 is in
-            let both : Some held.rule ≡ Some a = cc (held.own, own, same) in
-            let rule_is : held.rule ≡ a = cc in
-            search rules
+    value-found a own (r ∷ rs) good e = search (rules, bytes_eq-Decides, value-found a own rs good.1)
 
     none-found : (id : Text) (rows : List Row) → has_row id rows ≡ false → one_of id rows ≡ None
     none-found id [] e = refl
-    none-found id (r ∷ rs) e = go (bytes_eq r.id id) refl e (none-found id rs)
-      where
-        go : (same : Bool) → bytes_eq r.id id ≡ same → (same || has_row id rs) ≡ false
-            → (has_row id rs ≡ false → one_of id rs ≡ None)
-            → option_and_then row_text
-            (cond same (Some r) (find (λ x. bytes_eq x.id id) rs)) ≡ None
-        go true is h rest = cc
-        go false is h rest = rest h
+    none-found id (r ∷ rs) e = search (rules, none-found id rs)
 
     value-or_none : (a : Rule) → arg_by_id c a.id ≡ Some a → (rows : List Row) → Good rows
         → MayHaveValue a rows
-    value-or_none a own rows good = go (has_row a.id rows) refl
-      where
-        go : (has : Bool) → has_row a.id rows ≡ has → MayHaveValue a rows
-        go true is = inr (value-found a own rows good is)
-        go false is = inl (none-found a.id rows is)
+    value-or_none a own rows good = search (rules, value-found, none-found)
 
     module _ (t : Shape) where
       abbrev s : Shape
@@ -368,39 +310,25 @@ module _ (c : List Rule) where
       turn-good : (w : Walk) (word : Text) → Good w.held.rows → turn_fault s [] w word ≡ []
           → Good (walked c [] w word).held.rows
       unfolding walked
-      turn-good w word good e = go w.stopped e
-        where
-          go : (stopped : Option (Text × List Text))
-              → turn_fault s [] (record w { stopped = stopped }) word ≡ []
-              → Good (walked_from c [] stopped w word).held.rows
-          go (Some p) e = good
-          go None e =
-              let met = word_met c [] w.is_trailing w.waiting w.position word w.held in
-              let taken = rw (no_subcommand w.waiting word) at
-              (none_of (word_fault s [] w.is_trailing w.waiting word w.held)
-              (step_fault s w.position met.0 met.1) e).0 in
-              subst Good (sym (stepped-rows word w met.0 met.1))
-              (met-good w.is_trailing w.waiting w.position word w.held good taken)
+      turn-good w word good e = search (rules, none_of, no_subcommand, met-good, stepped-rows)
 
       walk-good : (words : List Text) (w : Walk) → Good w.held.rows → walk_fault s [] w words ≡ []
           → Good (fold (walked c []) w words).held.rows
       unfolding walk_fault
       walk-good [] w good e = good
-      walk-good (word ∷ rest) w good e =
-          let parts = none_of _ _ e in
-          walk-good rest (walked c [] w word) (turn-good w word good parts.0) parts.1
+      walk-good (word ∷ rest) w good e = search (rules, none_of, turn-good, walk-good rest)
 
-      -- each option of a parse that doesn't fail has one value, which it accepts
-      pub option-has_value : (words : List Text) → level_fault s [] nothing_held words false [] ≡ []
-          → (a : Rule) → IsOption a → Among a c → HasValue a (rows_after c [] words)
-      option-has_value words e a plain_option among =
-          let walked_rows = walk-good words (walk_from nothing_held) tt (none_of _ _ e).0 in
-          search (rules, settle-good, none_of, value-found, defaults-good, defaults-add)
+      module _ (words : List Text) (e : level_fault s [] nothing_held words false [] ≡ []) (a : Rule)
+          (own : arg_by_id c a.id ≡ Some a) where
+        rows-good : Good (rows_after c [] words)
+        rows-good =
+            let walked_rows = walk-good words (walk_from nothing_held) tt (none_of _ _ e).0 in
+            search (rules, settle-good, none_of, defaults-good)
 
-      -- and one without a default has one at most
-      pub optional-has_value : (words : List Text) → level_fault s [] nothing_held words false [] ≡ []
-          → (a : Rule) → IsOptional a → MayHaveValue a (rows_after c [] words)
-      optional-has_value words e a optional =
-          let walked_rows = walk-good words (walk_from nothing_held) tt (none_of _ _ e).0 in
-          let good : Good (rows_after c [] words) = search (rules, settle-good, none_of, defaults-good) in
-          value-or_none a optional.own (rows_after c [] words) good
+        -- each option of a parse that doesn't fail has one value, which it accepts
+        pub option-has_value : HasDefault a → Among a c → HasValue a (rows_after c [] words)
+        option-has_value default among = search (rules, rows-good, value-found, defaults-add)
+
+        -- and one without a default has one at most
+        pub optional-has_value : MayHaveValue a (rows_after c [] words)
+        optional-has_value = value-or_none a own (rows_after c [] words) rows-good

@@ -2,7 +2,7 @@
 -- it was refused and it names no handle.
 use Rattle.std.proofs.lemmas.Grind.{common_steps}
 use Rattle.std.proofs.Common.{rules, ◌≡◌, refl, sym, ap, subst, ℕ, ◌+◌, arith, ℤ, List, [], ◌∷◌}
-use Rattle.std.proofs.Common.{◌++◌, map, length, All, Option, Some}
+use Rattle.std.proofs.Common.{◌++◌, map, length, All, Some}
 use Rattle.spawnrun_lib.specs.Issuing.{bound, OnEach, Bindings, names_after, IsTargeted, IsSpawn}
 use Rattle.spawnrun_lib.specs.Issuing.{IsSpawnMany, IsOfBirth, IssuesAll}
 use Rattle.std.specs.List.{AllZip, range_with_len}
@@ -51,9 +51,8 @@ module _ (name : Handle → Birth) (m : EntityMap) where
       → AllZip (IsNamedBy name m) xs bs → AllZip (IsNamedBy name m) ys cs
       → AllZip (IsNamedBy name m) (xs ++ ys) (bs ++ cs)
   named_append [] ys [] cs first rest = rest
-  named_append [] ys (b ∷ bs) cs first rest = absurd first
-  named_append (x ∷ xs) ys [] cs first rest = absurd first
   named_append (x ∷ xs) ys (b ∷ bs) cs first rest = (first.0, named_append xs ys bs cs first.1 rest)
+  named_append _ ys _ cs first rest = absurd first
 
   -- one command for each of these handles, which are all there
   named_each : (command : Handle → Command) (by_birth : Birth → BirthCommand)
@@ -79,21 +78,6 @@ module _ (name : Handle → Birth) (m : EntityMap) where
     there = λ x. grind (arith, common_steps, stand.there x);
     are = λ x. grind (arith, common_steps, stand.are x);
   }
-
-  stand_one : (names : Bindings) (births : BirthBindings) (bundle : List (ComponentId × ℤ))
-      (binds : Option ℕ) (h : Handle) (bs : List Birth) → StandFor names births
-      → All (IsThere m) (h ∷ []) → bs ≡ map name (h ∷ [])
-      → StandFor (names_after names (operation.Spawn bundle binds) (Spawn h bundle ∷ []))
-      (with_binding binds bs births)
-  stand_one names births bundle binds h bs stand there are = search (rules, stand_bound)
-
-  -- and after a spawn of many
-  stand_many : (names : Bindings) (births : BirthBindings) (count : ℕ)
-      (bundle : List (ComponentId × ℤ)) (binds : Option ℕ) (hs : List Handle) (bs : List Birth)
-      → StandFor names births → All (IsThere m) hs → bs ≡ map name hs
-      → StandFor (names_after names (operation.SpawnMany count bundle binds)
-      (SpawnMany hs bundle ∷ [])) (with_binding binds bs births)
-  stand_many names births count bundle binds hs bs stand there are = search (rules, stand_bound)
 
   module _ (phase system : ℕ) where
     -- ---- births one after the other

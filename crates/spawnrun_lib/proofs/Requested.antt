@@ -21,7 +21,6 @@ use Rattle.ent_world.specs.World.{World}
 use Rattle.ent_runner.specs.Frame.{IsFrame, queue_at, commands_of}
 use Rattle.ent_runner.proofs.Lists.{sum_map}
 use Rattle.ent_script.specs.declared.operation.Operation.{Operation}
-use Rattle.ent_script.specs.declared.operation.Operation.TheVariants as operation
 use Rattle.spawnrun_lib.specs.Issuing.{Bindings, names_after, Issues, IssuesAll, MayIssue}
 use Rattle.spawnrun_lib.specs.SameReport.{requested_by_operation}
 
@@ -41,8 +40,7 @@ sum_of_two f g (x ∷ xs) = grind (arith, common_steps, sum_of_two f g xs)
 one_of_sum : {X : Type 0} (f : X → ℕ) (xs : List X) (k : ℕ) (x : X) → slice_get xs k ≡ Some x
     → f x ≤ sum_by f xs
 one_of_sum f [] k x at = absurd (cc)
-one_of_sum f (y ∷ xs) zero x at = grind (arith, common_steps)
-one_of_sum f (y ∷ xs) (suc k) x at = grind (arith, common_steps, one_of_sum f xs k x)
+one_of_sum f (y ∷ xs) it x at = grind (arith, common_steps, one_of_sum f xs)
 
 -- the elements of a list by their numbers
 sum_by_number : {X : Type 0} (f : ℕ → ℕ) (g : X → ℕ) (a : ℕ) (xs : List X)
@@ -146,12 +144,11 @@ pub queues-wanted : (view : View) (systems : List (List Operation)) (queues : Li
     → MayIssue ops view (queue_at queues n))
     → sum_by wanted_in queues ≡ sum_by (sum_by requested_by_operation) systems
 queues-wanted view [] [] same may = refl
-queues-wanted view [] (q ∷ queues) same may = absurd (omega arith)
-queues-wanted view (ops ∷ systems) [] same may = absurd (omega arith)
 queues-wanted view (ops ∷ systems) (q ∷ queues) same may =
     let here = operations-wanted view (λ n. []) ops q (may 0 ops refl) in
     let rest = queues-wanted view systems queues (omega arith) (λ n. may (suc n)) in
     search (rules, sum_by-cons)
+queues-wanted view _ _ same may = absurd (omega arith)
 
 -- ---- a frame
 

@@ -31,10 +31,6 @@ told : (workers : ℕ) (w : World) (view : BirthMap) (frames : List (List (List 
     → w.phase + length frames < 2 ^ 64 → All (All NamesNoHandle) frames
     → All WereGranted executions → AreToldAlone w view frames executions
 told workers w view [] [] went is_world flushed named below few free granted = tt
-told workers w view [] (e ∷ executions) went is_world flushed named below few free granted =
-    absurd went
-told workers w view (systems ∷ frames) [] went is_world flushed named below few free granted =
-    absurd went
 told workers w view (systems ∷ frames) (e ∷ executions) went is_world flushed named below few
     free granted =
     let early : w.phase + 1 < 2 ^ 64 = omega (arith, few) in
@@ -48,6 +44,7 @@ told workers w view (systems ∷ frames) (e ∷ executions) went is_world flushe
           (All-tail (All NamesNoHandle) systems frames free)
           (All-tail WereGranted e executions granted),
     )
+told workers w view _ _ went is_world flushed named below few free granted = absurd went
 
 -- ---- from nobody on
 

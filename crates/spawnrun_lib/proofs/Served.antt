@@ -30,15 +30,12 @@ left_after left (c ∷ cs) = left_after (left - cost c) cs
 within_parts : (left : ℕ) (cs ds : List Command) → FitQuota left (cs ++ ds)
     → FitQuota left cs × FitQuota (left_after left cs) ds
 within_parts left [] ds within = (tt, within)
-within_parts left (c ∷ cs) ds within =
-    let rest = within_parts (left - cost c) cs ds within.1 in ((within.0, rest.0), rest.1)
+within_parts left (c ∷ cs) ds within = search (rules, within_parts (left - cost c) cs ds)
 
 legal_parts : (s : Allocator) (calls more : List Call) → IsLegal s (calls ++ more)
     → IsLegal s calls × IsLegal (after_history s calls) more
 legal_parts s [] more legal = (tt, legal)
-legal_parts s (call ∷ calls) more legal =
-    let rest = legal_parts (after_take s call.requested) calls more legal.2 in
-    ((legal.0, legal.1, rest.0), rest.1)
+legal_parts s (call ∷ calls) more legal = search (rules, legal_parts (after_take s call.requested) calls more)
 
 -- what is served is served up to any command, and the others are served after it
 pub served_first : (s : Allocator) (left : ℕ) (cs ds : List Command) → IsServed s left (cs ++ ds)

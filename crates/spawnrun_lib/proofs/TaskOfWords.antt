@@ -1,5 +1,5 @@
 -- From the program's words to its task: the subcommand that clap finds, and the faults.
-use Rattle.std.proofs.Common.{rules, ◌≡◌, ◌∙◌, Bool, true, false, List, [], cond, IfSome, refl, sym}
+use Rattle.std.proofs.Common.{rules, ◌≡◌, ◌∙◌, true, false, List, [], IfSome, refl, sym}
 use Rattle.std.proofs.Common.{ap, subst, codes, Option, Some, None}
 use Rattle.std.specs.Prelude.{option_map}
 use Rattle.std.specs.List.{slice_index_or}
@@ -18,9 +18,8 @@ use Rattle.cli.specs.Options.{HasNumber}
 use Rattle.spawnrun_lib.specs.CommandLine.{AsksFor, HasRun, HasShow, MayHaveBlocks, program, program_of}
 use Rattle.spawnrun_lib.specs.CommandLine.{references_to, shown}
 use Rattle.spawnrun_lib.specs.declared.task.Task.{Task}
-use Rattle.spawnrun_lib.specs.declared.task.Task.TheVariants.{Replay, Run, RunInBlocks}
 use Rattle.spawnrun_lib.proofs.MovedFaults.{level_fault-moved}
-use Rattle.spawnrun_lib.proofs.MovedNames.{moved_shape, rows_after-moved}
+use Rattle.spawnrun_lib.proofs.MovedNames.{rows_after-moved}
 use Rattle.spawnrun_lib.proofs.MovedTakes.{level_passes-moved}
 use Rattle.spawnrun_lib.proofs.CommandLineOptions.{replay_shape, IsAsked, IsAsked-no_fault}
 
@@ -37,19 +36,10 @@ TextRefs = Bor (List (Bor Text))
 abbrev run_shape_of : TextRefs → Shape
 run_shape_of names = slice_index_or (built (program_of names)).subs 1 (new_shape [])
 
--- what is so of the subcommand that the words enter doesn't depend on where the names stand
-met-moved : {Z : Type 0} (of : Option Shape → Z) (shape : Shape) → of (Some (moved_shape shape))
-    ≡ of (Some shape) → (is_replay is_run : Bool)
-    → of (cond is_replay (Some replay_shape) (cond is_run (Some (moved_shape shape)) None))
-    ≡ of (cond is_replay (Some replay_shape) (cond is_run (Some shape) None))
-met-moved of shape same b is_run = search rules
-
 entered-moved : (names : TextRefs) (stop : Option (Text × List Text))
     → entered (built (program_of (references_to (texts names.now)))) stop
     ≡ entered (built (program_of names)) stop
-entered-moved names None = refl
-entered-moved names (Some p) =
-    search (rules, rows_after-moved (run_shape_of names).rules [] p.1, replay_shape)
+entered-moved names it = search (rules, rows_after-moved (run_shape_of names).rules [], replay_shape)
 
 entered_fault-moved : (names : TextRefs) (stop : Option (Text × List Text))
     → entered_fault (built (program_of (references_to (texts names.now)))) stop
@@ -133,11 +123,6 @@ MeetsTask-parse app words m is faults matches =
       name = subcommand_name-rows m ∙ ap (option_map (λ p. p.0)) met;
     }
 
-pair_is : (found : Option (Text × List Row)) (name : Text) (rows : List Row) → Some name
-    ≡ option_map (λ p. p.0) found → Some rows ≡ option_map (λ p. p.1) found
-    → found ≡ Some (name, rows)
-pair_is it name rows named rowed = search rules
-
 -- the subcommand that clap's getter returns is the one that the words name
 pub subcommand_met-named : (words : List Text) (m : ArgMatches) → MeetsTask words m
     → (r : Option (Bor Text × Bor ArgMatches)) (name : Bor Text) (options : Bor ArgMatches)
@@ -163,9 +148,7 @@ run_asked found rows it same = search rules
 -- what the options of a run ask for
 pub run_task : (words : List Text) (rows : List Row) (task : Task) → subcommand_of program words
     ≡ Some (codes "run", rows) → HasRun rows task → AsksFor words task
-run_task words rows (Replay limits) is has = absurd has
-run_task words rows (Run workers show) is has = (rows, is, has)
-run_task words rows (RunInBlocks size workers show) is has = (rows, is, has)
+run_task words rows it is has = search rules
 
 -- there is no third subcommand
 pub none_other : (found : Option (Text × List Row)) → IsAsked found

@@ -50,10 +50,9 @@ faults_alike : (faults : List Fault) (by_births : List BirthFault)
     → AllZip IsSameFault faults by_births
     → flat_map (fault_line Births) faults ≡ flat_map birth_fault_line by_births
 faults_alike [] [] are = refl
-faults_alike [] (b ∷ by_births) are = absurd are
-faults_alike (fault ∷ faults) [] are = absurd are
 faults_alike (fault ∷ faults) (b ∷ by_births) are =
     grind (arith, common_steps, faults_alike faults by_births are.1)
+faults_alike _ _ are = absurd are
 
 frame_alike : (w : World) (e : Execution) (systems : List (List Operation)) (view : BirthMap)
     → (number : ℕ) → IsFrameAlone w e.queues e.history systems view
@@ -78,14 +77,11 @@ module _ {K X : Type 0} (R : K → K → Ordering) where
       (below_apart e.0 es (first _ _ sorted), keys_apart es (second _ _ sorted))
 
 module _ (m : EntityMap) (handles : List Handle) (lists : ListsAll m handles) where
-  there_is : (o : Option Entity) → IsSomeAnd o (λ e. IsTrue true) → is_some o ≡ true
-  there_is it none = search rules
-
   some_entity : (o : Option Entity) → is_some o ≡ true → IsSomeAnd o (λ e. IsTrue true)
   some_entity it none = search rules
 
   is_there : (h : Handle) → Contains handles h → IsThere m h
-  is_there h has = there_is (finite.get m h) ((lists.holds h).0 has)
+  is_there h has = search (rules, lists.holds)
 
   handles_apart : IsDistinct (eq_by_cmp handle_cmp) handles
   handles_apart =
@@ -166,11 +162,10 @@ pub text_alike : (components : List (List ℕ)) (w : World) (view : BirthMap)
 text_alike components w view [] [] world_text named told is =
     world_alike components (λ h. unwrap_or (birth_of w.entities h) nobodys) w.entities view named
     (some_names w.entities nobodys) world_text is
-text_alike components w view [] (e ∷ executions) world_text named told is = absurd told
-text_alike components w view (systems ∷ frames) [] world_text named told is = absurd told
 text_alike components w view (systems ∷ frames) (e ∷ executions) world_text named told is =
     let rest = rw told.0.phase at (text_alike components (synced w e).world
     (frame_alone (queues_by_births w view systems) view).entities frames executions world_text
     told.0.after.entities told.1 is) in
     let here = frame_alike w e systems view w.phase told.0 in
     rw append_assoc (λ i. here i ++ rest i)
+text_alike components w view _ _ world_text named told is = absurd told

@@ -1,3 +1,4 @@
+use Rattle.std.proofs.Common.{rules}
 use Rattle.std.proofs.Common.{◌≡◌, sym, ap, ◌∙◌, List, [], map, Bor, Some, Vec, Global, option_map}
 use Rattle.std.proofs.Common.{Option, unwrap_or}
 use Rattle.serde_json.specs.Data.{Data}
@@ -7,8 +8,4 @@ use Rattle.ent_script.specs.Json.{elements}
 use Rattle.spawnrun_lib.proofs.first.elements_of.Goals as goal
 
 pub returns-in-Some : goal.returns-in-Some
-returns-in-Some c =
-    let seen : Some (map view c.in-Some.list.now.items) ≡ elements (view c.args.value.now) =
-    sym (ap (option_map (λ (v : Bor (Vec Value Global)). map view v.now.items)) c.in-Some.is)
-    ∙ c.elements.ensures in
-    ap (map view) c.as_slice.ensures.value ∙ ap (λ (o : Option (List Data)). unwrap_or o []) seen
+returns-in-Some c = search rules

@@ -1,3 +1,4 @@
+use Rattle.std.proofs.Common.{rules}
 use Rattle.std.proofs.Common.{◌≡◌, ◌∙◌, ◌++◌, Bool, true, false, List, ℕ, length, cond, refl, ap}
 use Rattle.std.proofs.Common.{arith}
 use Rattle.std.specs.Prelude.{nat_le}
@@ -13,9 +14,7 @@ whole_by false text cut e = absurd (cc e)
 -- a text is not cut where there is room for it
 cut_to-whole : (text : List ℕ) → cut_to (length text) text ≡ text
 unfolding cut_to
-cut_to-whole text = whole_by (nat_le (length text) (length text)) text _ (grind (arith, nat_tests))
+cut_to-whole text = search (rules, whole_by)
 
 pub returns : goal.returns
-returns c =
-    c.and_str.ensures.within (omega (arith, c.requires))
-    ∙ ap (λ t. inline_text c.args.found ++ t) (cut_to-whole c.args.text.now)
+returns c = search (rules, cut_to-whole)

@@ -14,6 +14,4 @@ pub returns-in_err-issue-clause-leaves : goal.returns-in_err-issue-clause-leaves
 returns-in_err-issue-clause-leaves g c empty = grind (arith, common_steps)
 
 pub returns-clause-may : goal.returns-clause-may
-returns-clause-may g c empty =
-    let none = drop_all _ c.args.operations.now c.loop-operation-test.false in
-    has_ended _ _ _ _ _ _ none c.loop-operation.invariant.run empty
+returns-clause-may g c empty = search (rules, drop_all, has_ended)

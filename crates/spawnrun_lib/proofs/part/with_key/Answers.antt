@@ -1,41 +1,26 @@
-use Rattle.std.proofs.Common.{ℕ, ◌++◌, List, sym, ap, ◌∙◌}
+use Rattle.spawnrun_lib.proofs.Letters.{next_letter, all_letters}
 use Rattle.std.proofs.lemmas.Str.{IsUtf8-past_char}
 use Rattle.std.specs.Fmt.InlineText.{inline_text}
-use Rattle.std.specs.List.{flat_map}
-use Rattle.std.specs.Str.{chars}
 use Rattle.std.specs.Str.Iter.{chars_rest}
 use Rattle.spawnrun_lib.specs.Place.{key_char}
-use Rattle.spawnrun_lib.specs.Shown.{front}
-use Rattle.spawnrun_lib.proofs.Fronts.{front-nothing, go_on}
-use Rattle.spawnrun_lib.proofs.Letters.{no_letters, past_letter}
 use Rattle.spawnrun_lib.proofs.part.with_key.Goals as goal
 
 pub loop-letter-preserved : goal.loop-letter-preserved
 loop-letter-preserved c =
     let held = c.loop-letter.invariant in
-    let old = inline_text c.loop-letter.shown in
     let letter = c.in-Some.letter in
     let before = chars_rest c.loop-letter.letter-iterator in
     let rest = chars_rest c.next.new.self in
     let parts = c.in-Some.ensures.steps.0 in
     record {
       utf8 = IsUtf8-past_char before rest letter held.utf8 parts;
-      text = go_on old (inline_text c.with_key_char-shown.result) (key_char letter)
-          (flat_map key_char (chars rest))
-          c.with_key_char-shown.ensures.text
-          ∙ ap (λ (bs : List ℕ). front (old ++ bs))
-          (sym (past_letter key_char before rest letter held.utf8 parts))
-          ∙ held.text;
+      text = next_letter key_char (inline_text c.loop-letter.shown) _ before rest _ letter held.utf8 parts
+          c.with_key_char-shown.ensures.text held.text;
       short = c.with_key_char-shown.ensures.short;
       printable = c.with_key_char-shown.ensures.printable;
     }
 
 pub returns-clause-text : goal.returns-clause-text
 returns-clause-text c =
-    let held = c.loop-letter.invariant in
-    let old = inline_text c.loop-letter.shown in
-    front-nothing old held.short
-    ∙ ap (λ (bs : List ℕ). front (old ++ bs))
-    (sym (no_letters key_char (chars_rest c.loop-letter.letter-iterator)
-    c.in-None.ensures.steps.0.0))
-    ∙ held.text
+    all_letters key_char (inline_text c.loop-letter.shown) (chars_rest c.loop-letter.letter-iterator) _
+    c.in-None.ensures.steps.0.0 c.loop-letter.invariant.short c.loop-letter.invariant.text

@@ -1,3 +1,4 @@
+use Rattle.std.proofs.Common.{rules}
 use Rattle.std.proofs.Common.{◌≡◌, ◌∙◌, ◌+◌, ℕ, List, Option, IfSome, ap, length, min, subst, sym}
 use Rattle.clap.specs.Words.{kind_of}
 use Rattle.devices.specs.Device.{Takes}
@@ -37,9 +38,4 @@ returns-after-task-clause-reads g c = λ unfailed _ other.
     ]
 
 pub returns-after-task-clause-stops : goal.returns-after-task-clause-stops
-returns-after-task-clause-stops g c =
-    elim c.match-task.branch [
-      | in-Replay w ↦ rw w.input-is w.replay-status.ensures.stops
-      | in-Run w ↦ rw w.input-is w.run-status.ensures.stops
-      | in-RunInBlocks w ↦ rw w.input-is w.run_in_blocks-status.ensures.stops
-    ]
+returns-after-task-clause-stops g c = search rules

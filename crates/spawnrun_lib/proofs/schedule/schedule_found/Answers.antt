@@ -8,11 +8,7 @@ use Rattle.spawnrun_lib.proofs.schedule.schedule_found.Goals as goal
 framed : (shown number : List ℕ) → ArePrintable shown → ArePrintable number
     → ArePrintable (codes "; found \"" ++ shown ++ codes "\" at line " ++ number
     ++ codes " (counted from 1)")
-framed shown number s n =
-    let front = codes "; found \"" ++ shown ++ codes "\" at line " in
-    three front number (codes " (counted from 1)")
-    (three (codes "; found \"") shown (codes "\" at line ") (passes (codes "; found \"") refl) s
-    (passes (codes "\" at line ") refl)) n (passes (codes " (counted from 1)") refl)
+framed shown number s n = search (rules, three, passes)
 
 pub returns-clause-printable : goal.returns-clause-printable
 returns-clause-printable c =

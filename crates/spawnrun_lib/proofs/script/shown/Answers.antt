@@ -1,3 +1,4 @@
+use Rattle.std.proofs.Common.{rules}
 use Rattle.std.proofs.Common.{◌≡◌, List, ℕ, subst, sym}
 use Rattle.std.specs.Prelude.{Option, MatchOption}
 use Rattle.std.specs.Fmt.InlineText.{inline_text}
@@ -27,8 +28,4 @@ returns-in-Ok-clause-shows c =
     c.shown.ensures.text
 
 pub returns-in-Err-clause-shows : goal.returns-in-Err-clause-shows
-returns-in-Err-clause-shows c =
-    let none = json_none c.args.text.now
-    (c.in-Err.ensures.err (iff_false c.is_memory.ensures c.if-not-is_memory.true)) in
-    subst (ShowsOf c.args.fault (inline_text c.words_shown.result)) (sym none)
-    c.words_shown.ensures.text
+returns-in-Err-clause-shows c = search (rules, json_none, iff_false)

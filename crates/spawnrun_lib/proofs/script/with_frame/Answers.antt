@@ -1,10 +1,8 @@
+use Rattle.std.proofs.Common.{rules}
 use Rattle.std.proofs.Common.{codes, refl}
 use Rattle.std.specs.Fmt.InlineText.{inline_text}
 use Rattle.spawnrun_lib.proofs.Pieces.{counted}
 use Rattle.spawnrun_lib.proofs.script.with_frame.Goals as goal
 
 pub returns-clause-printable : goal.returns-clause-printable
-returns-clause-printable c = λ h.
-    counted (inline_text c.args.found) (inline_text c.with-found.result)
-    (inline_text c.with_number.result) (codes " at frame ") c.args.frame c.with-found.ensures
-    c.with_number.ensures.text refl c.ranges.frame.fits h
+returns-clause-printable c = search (rules, counted)

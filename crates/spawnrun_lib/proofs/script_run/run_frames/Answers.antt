@@ -5,11 +5,7 @@ use Rattle.spawnrun_lib.proofs.NextFrame.{others_are_few}
 use Rattle.spawnrun_lib.proofs.script_run.run_frames.Goals as goal
 
 pub run-requires-clause-systems : goal.run-requires-clause-systems
-run-requires-clause-systems g c =
-    let few = next_is_few c.loop-current.yielded c.loop-current.current-iterator.rest.items
-    c.next.new.self.rest.items c.in-Some.current c.in-Some.ensures.steps.0
-    c.loop-current.invariant.few in
-    search (rules, few)
+run-requires-clause-systems g c = search (rules, next_is_few)
 
 pub loop-current-preserved : goal.loop-current-preserved
 loop-current-preserved g c =

@@ -1,3 +1,4 @@
+use Rattle.std.proofs.Common.{rules}
 use Rattle.std.proofs.Common.{◌≡◌, ◌∷◌, ◌++◌, [], ℕ, ◌/◌, ◌%◌, ◌∙◌, List, ap, sym, arith, false, codes}
 use Rattle.std.proofs.lemmas.Bool.{cond-false}
 use Rattle.std.proofs.lemmas.Bool.Decides.{nat_tests}
@@ -8,8 +9,7 @@ use Rattle.spawnrun_lib.proofs.shown.with_byte.Goals as goal
 
 escaped : (byte : ℕ) → is_printable byte ≡ false
     → byte_text byte ≡ 92 ∷ 120 ∷ hex (byte / 16) ∷ hex (byte % 16) ∷ []
-escaped byte not_printable = cond-false (is_printable byte) (byte ∷ [])
-    (codes "\\x" ++ hex (byte / 16) ∷ hex (byte % 16) ∷ []) not_printable
+escaped byte not_printable = search (rules, cond-false)
 
 pub returns-clause-text : goal.returns-clause-text
 returns-clause-text c =

@@ -1,3 +1,4 @@
+use Rattle.std.proofs.Common.{rules}
 use Rattle.std.proofs.Common.{◌≡◌, ◌∙◌, IfSome, ℕ, List, codes, true, refl, sym, map, subst, Some}
 use Rattle.clap.specs.Words.{HasKind, fault_of, rows_of, found_of, takes, subcommand_of}
 use Rattle.spawnrun_lib.specs.CommandLine.{program}
@@ -6,31 +7,22 @@ use Rattle.spawnrun_lib.proofs.TaskOfWords.{IsProgram-names, MeetsTask-parse, no
 use Rattle.spawnrun_lib.proofs.TaskOfWords.{replay_asked, run_asked, run_task}
 use Rattle.spawnrun_lib.proofs.TaskOfWords.{subcommand_met-named, MeetsTask}
 use Rattle.spawnrun_lib.proofs.task.command_line.Given as given
-use Rattle.spawnrun_lib.proofs.task.command_line.Goals.{In_ok-matches, In-replay, In-run}
+use Rattle.spawnrun_lib.proofs.task.command_line.Goals.{After-unwrap}
 use Rattle.spawnrun_lib.proofs.task.command_line.Goals as goal
 
--- what the words were parsed to meets a task
-met : (g : given.Over) (c : goal.In_ok-matches g) → MeetsTask (map g.S.AsStr.text c.args.words.now)
-    c.in_ok-matches.matches
-met g c = MeetsTask-parse _ (map g.S.AsStr.text c.args.words.now) _
+-- what the words were parsed to meets a task, and the subcommand is the one that is named
+named : (g : given.Over) (c : After-unwrap g)
+    → MeetsTask (map g.S.AsStr.text c.args.words.now) c.in_ok-matches.matches
+    × ((text : List ℕ) → c.unwrap.result.0.now ≡ text
+    → subcommand_of program (map g.S.AsStr.text c.args.words.now)
+    ≡ Some (text, rows_of (found_of c.unwrap.result.1.now)))
+named g c =
+    let words : List (List ℕ) = map g.S.AsStr.text c.args.words.now in
+    let met : MeetsTask words c.in_ok-matches.matches = MeetsTask-parse _ words _
     (IsProgram-names _ _ c.in_ok-program.ensures refl) c.in_ok-matches.ensures.kinds
-    c.in_ok-matches.ensures.matches
-
--- and the subcommand is the one that is named
-replay_named : (g : given.Over) (c : goal.In-replay g)
-    → MeetsTask (map g.S.AsStr.text c.args.words.now) c.in_ok-matches.matches
-    → subcommand_of program (map g.S.AsStr.text c.args.words.now)
-    ≡ Some (codes "replay", rows_of (found_of c.unwrap.result.1.now))
-replay_named g c met = subcommand_met-named (map g.S.AsStr.text c.args.words.now) _ met _ _ _
-    (codes "replay") c.subcommand.ensures.name c.subcommand.ensures.rows c.unwrap.ensures
-    c.in-replay.is
-
-run_named : (g : given.Over) (c : goal.In-run g)
-    → MeetsTask (map g.S.AsStr.text c.args.words.now) c.in_ok-matches.matches
-    → subcommand_of program (map g.S.AsStr.text c.args.words.now)
-    ≡ Some (codes "run", rows_of (found_of c.unwrap.result.1.now))
-run_named g c met = subcommand_met-named (map g.S.AsStr.text c.args.words.now) _ met _ _ _
-    (codes "run") c.subcommand.ensures.name c.subcommand.ensures.rows c.unwrap.ensures c.in-run.is
+    c.in_ok-matches.ensures.matches in
+    (met, λ text. subcommand_met-named words _ met _ _ _ text c.subcommand.ensures.name
+    c.subcommand.ensures.rows c.unwrap.ensures)
 
 pub returns-in_err-matches-clause-refused : goal.returns-in_err-matches-clause-refused
 returns-in_err-matches-clause-refused g c =
@@ -48,63 +40,33 @@ returns-in_err-matches-clause-fault g c =
     c.from_residual-in_err-matches.ensures.1
     (subst (λ kinds. HasKind kinds c.in_err-matches.field-0.0) (is.fault words) kind)
 
-pub limits_of-requires-clause-slots : goal.limits_of-requires-clause-slots
-limits_of-requires-clause-slots g c =
-    let at = goal.at.limits_of-requires-clause-slots g c in
-    let met = met g at.In_ok-matches in
-    (replay_asked _ _ met.asked (replay_named g at.In-replay met)).0
+pub limits_of-requires : goal.limits_of-requires
+limits_of-requires g c =
+    let named = named g (goal.at.limits_of-requires g c).After-unwrap in
+    let asked = replay_asked _ _ named.0.asked (named.1 (codes "replay") c.in-replay.is) in
+    record { slots = asked.0; generations = asked.1 }
 
-pub limits_of-requires-clause-generations : goal.limits_of-requires-clause-generations
-limits_of-requires-clause-generations g c =
-    let at = goal.at.limits_of-requires-clause-generations g c in
-    let met = met g at.In_ok-matches in
-    (replay_asked _ _ met.asked (replay_named g at.In-replay met)).1
+pub run_of-requires : goal.run_of-requires
+run_of-requires g c =
+    let named = named g (goal.at.run_of-requires g c).After-unwrap in
+    let asked = run_asked _ _ named.0.asked (named.1 (codes "run") c.in-run.is) in
+    record { workers = asked.0; blocks = asked.1; show = asked.2 }
 
-pub run_of-requires-clause-workers : goal.run_of-requires-clause-workers
-run_of-requires-clause-workers g c =
-    let at = goal.at.run_of-requires-clause-workers g c in
-    let met = met g at.In_ok-matches in
-    (run_asked _ _ met.asked (run_named g at.In-run met)).0
+pub returns-in-replay : goal.returns-in-replay
+returns-in-replay g c =
+    let named = named g (goal.at.returns-in-replay g c).After-unwrap in
+    let is = named.1 (codes "replay") c.in-replay.is in
+    let made = c.limits_of.ensures in
+    record { asked = (_, is, made.slots, made.generations, made.within); taken = named.0.no_fault; fault = tt; refused = tt }
 
-pub run_of-requires-clause-blocks : goal.run_of-requires-clause-blocks
-run_of-requires-clause-blocks g c =
-    let at = goal.at.run_of-requires-clause-blocks g c in
-    let met = met g at.In_ok-matches in
-    (run_asked _ _ met.asked (run_named g at.In-run met)).1
-
-pub run_of-requires-clause-show : goal.run_of-requires-clause-show
-run_of-requires-clause-show g c =
-    let at = goal.at.run_of-requires-clause-show g c in
-    let met = met g at.In_ok-matches in
-    (run_asked _ _ met.asked (run_named g at.In-run met)).2
-
-pub returns-in-replay-clause-asked : goal.returns-in-replay-clause-asked
-returns-in-replay-clause-asked g c =
-    let at = goal.at.returns-in-replay-clause-asked g c in (
-      rows_of (found_of c.unwrap.result.1.now),
-      replay_named g at.In-replay (met g at.In_ok-matches),
-      c.limits_of.ensures.slots,
-      c.limits_of.ensures.generations,
-      c.limits_of.ensures.within,
-    )
-
-pub returns-in-run-clause-asked : goal.returns-in-run-clause-asked
-returns-in-run-clause-asked g c =
-    let at = goal.at.returns-in-run-clause-asked g c in
-    run_task (map g.S.AsStr.text c.args.words.now) _ _ (run_named g at.In-run (met g at.In_ok-matches))
-    c.run_of.ensures
-
-pub returns-in-replay-clause-taken : goal.returns-in-replay-clause-taken
-returns-in-replay-clause-taken g c =
-    (met g (goal.at.returns-in-replay-clause-taken g c).In_ok-matches).no_fault
-
-pub returns-in-run-clause-taken : goal.returns-in-run-clause-taken
-returns-in-run-clause-taken g c =
-    (met g (goal.at.returns-in-run-clause-taken g c).In_ok-matches).no_fault
+pub returns-in-run : goal.returns-in-run
+returns-in-run g c =
+    let named = named g (goal.at.returns-in-run g c).After-unwrap in record {
+      asked = run_task (map g.S.AsStr.text c.args.words.now) _ _ (named.1 (codes "run") c.in-run.is) c.run_of.ensures;
+      taken = named.0.no_fault;
+      fault = tt;
+      refused = tt;
+    }
 
 pub unreachable-requires : goal.unreachable-requires
-unreachable-requires g c =
-    let met = met g (goal.at.unreachable-requires g c).In_ok-matches in
-    none_other _ met.asked c.subcommand.result (c.subcommand.ensures.name ∙ met.name)
-    (subst (λ r. IfSome r (λ p. (p.0.now ≡ codes "replay" → ⊥) × (p.0.now ≡ codes "run" → ⊥)))
-    (sym c.unwrap.ensures) (c.in_default.not-replay, c.in_default.not-run))
+unreachable-requires g c = search (rules, named, none_other)

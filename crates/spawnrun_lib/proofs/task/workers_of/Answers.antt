@@ -9,16 +9,11 @@ unwrap-requires c =
     (lit< tt) c.requires c.get_one.ensures.value in
     ap is_some read.1
 
-pub returns-clause-number : goal.returns-clause-number
-returns-clause-number c =
+pub returns : goal.returns
+returns c =
     let read = number_read 64 (codes "workers") 64 (found_of c.args.options.now) c.get_one.result
     (lit< tt) c.requires c.get_one.ensures.value in
-    let same : c.unwrap.result ≡ read.0 = cc in
-    read.4 ∙ ap (λ n. Some n) (sym same)
-
-pub returns-clause-within : goal.returns-clause-within
-returns-clause-within c =
-    let read = number_read 64 (codes "workers") 64 (found_of c.args.options.now) c.get_one.result
-    (lit< tt) c.requires c.get_one.ensures.value in
-    let same : c.unwrap.result ≡ read.0 = cc in
-    (omega (arith, read.2, same), omega (arith, read.3, same))
+    let same : c.unwrap.result ≡ read.0 = cc in record {
+      number = read.4 ∙ ap (λ n. Some n) (sym same);
+      within = (omega (arith, read.2, same), omega (arith, read.3, same));
+    }

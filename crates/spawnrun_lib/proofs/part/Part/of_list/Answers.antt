@@ -12,13 +12,7 @@ use Rattle.spawnrun_lib.proofs.part.Part.of_list.Goals as goal
 long_of : (vs : List Value) (o : Option Items) (n : ℕ) (other : Place) → Some (items_view vs) ≡ o
     → n ≡ length vs
     → long n ≡ unwrap_or (option_map (λ ds. long (length ds)) (option_map list_of o)) other
-long_of vs o n other e len =
-    subst (λ (p : Option Items).
-    long n ≡ unwrap_or (option_map (λ ds. long (length ds)) (option_map list_of p)) other) e
-    (ap long (len ∙ sym (ap length (list_of-items_view vs) ∙ length_of_views vs)))
+long_of vs o n other e len = search (rules, list_of-items_view, length_of_views)
 
 pub returns-in-Some : goal.returns-in-Some
-returns-in-Some c =
-    let d = view c.args.value.now in
-    long_of c.in-Some.list.now.items (as_array d) c.len.result (refused d) c.in-Some.ensures
-    (search rules)
+returns-in-Some c = search (rules, long_of)

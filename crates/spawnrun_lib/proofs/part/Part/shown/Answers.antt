@@ -9,32 +9,10 @@ use Rattle.spawnrun_lib.proofs.Printable.{decimal-printable, passes}
 use Rattle.spawnrun_lib.proofs.part.Part.shown.Goals as goal
 
 pub returns-in-Absent-clause-text : goal.returns-in-Absent-clause-text
-returns-in-Absent-clause-text c =
-    let nothing = inline_text c.new-nothing.result in
-    let new = inline_text c.with_text.result in
-    rw c.in-Absent.is (record {
-      text = codes "none";
-      spells = refl;
-      is = from_nothing nothing (codes "none") new c.new-nothing.ensures.text
-          (more_text nothing new (codes "none") (passes (codes "none") refl)
-          c.with_text.ensures.text);
-    })
+returns-in-Absent-clause-text c = rw c.in-Absent.is (record { text = codes "none"; spells = refl; is = search (rules, from_nothing, more_text, passes) })
 
 pub returns-in-Twice-clause-text : goal.returns-in-Twice-clause-text
-returns-in-Twice-clause-text c =
-    let nothing = inline_text c.new-nothing.result in
-    let key = inline_text c.with_quoted-in-Twice.result in
-    let new = inline_text c.with_text-in-Twice.result in
-    let name = c.in-Twice.name.now in
-    rw c.in-Twice.is (record {
-      text = quoted name ++ codes " twice";
-      spells = refl;
-      is = from_nothing nothing (quoted name ++ codes " twice") new c.new-nothing.ensures.text
-          (two_pieces nothing key new (quoted name) (codes " twice")
-          c.with_quoted-in-Twice.ensures.text
-          (more_text key new (codes " twice") (passes (codes " twice") refl)
-          c.with_text-in-Twice.ensures.text));
-    })
+returns-in-Twice-clause-text c = rw c.in-Twice.is (record { text = quoted c.in-Twice.name.now ++ codes " twice"; spells = refl; is = search (rules, from_nothing, two_pieces, more_text, passes) })
 
 pub returns-in-Long-clause-text : goal.returns-in-Long-clause-text
 returns-in-Long-clause-text c =

@@ -1,3 +1,4 @@
+use Rattle.std.proofs.Common.{rules}
 use Rattle.std.proofs.Common.{◌∙◌, ap, subst, sym}
 use Rattle.std.specs.Prelude.{Err}
 use Rattle.ent_script.specs.Reading.{ReadsAs, script_of_text}
@@ -18,9 +19,7 @@ returns-in_ok-report-in-Ok g c =
     )
 
 pub no_script-requires : goal.no_script-requires
-no_script-requires g c =
-    subst (λ known. ReadsAs (Err c.in-Err.fault) (script_of_text known)) (cc (c.deref.ensures.value, c.deref-in-Err.ensures.value))
-    c.in-Err.ensures.exact
+no_script-requires g c = search rules
 
 pub returns-in_ok-no_script-in-Err : goal.returns-in_ok-no_script-in-Err
-returns-in_ok-no_script-in-Err g c = rw (← c.deref-in-Err.ensures.value) c.in_ok-no_script-in-Err.ensures
+returns-in_ok-no_script-in-Err g c = search rules

@@ -1,21 +1,14 @@
+use Rattle.std.proofs.Common.{rules}
 use Rattle.std.proofs.Common.{◌∙◌, ap, subst, sym}
 use Rattle.std.specs.Prelude.{Err}
 use Rattle.ent_script.specs.Reading.{ReadsAs, script_of_text}
 use Rattle.spawnrun_lib.proofs.running_in_blocks.ScriptsInBlocksWork.make.Goals as goal
 
 pub returns-in_ok-report-in-Ok : goal.returns-in_ok-report-in-Ok
-returns-in_ok-report-in-Ok g c =
-    let report = c.in_ok-report-in-Ok.ensures in (
-      c.in-Ok.script,
-      ap script_of_text (sym c.deref.ensures.value) ∙ c.in-Ok.ensures.exact,
-      report.text,
-      report.only,
-    )
+returns-in_ok-report-in-Ok g c = search rules
 
 pub no_script-requires : goal.no_script-requires
-no_script-requires g c =
-    subst (λ known. ReadsAs (Err c.in-Err.fault) (script_of_text known)) (cc (c.deref.ensures.value, c.deref-in-Err.ensures.value))
-    c.in-Err.ensures.exact
+no_script-requires g c = search rules
 
 pub returns-in_ok-no_script-in-Err : goal.returns-in_ok-no_script-in-Err
-returns-in_ok-no_script-in-Err g c = rw (← c.deref-in-Err.ensures.value) c.in_ok-no_script-in-Err.ensures
+returns-in_ok-no_script-in-Err g c = search rules
