@@ -5,7 +5,7 @@ use Rattle.ent_world.proofs.PlacedRows.{rows_stand}
 use Rattle.ent_alloc.proofs.HandleSets.{same_handle}
 use Rattle.std.proofs.Common.{◌≡◌, ◌≢◌, refl, sym, ap, ◌∙◌, ℕ, suc, ◌+◌, ◌*◌, ◌^◌}
 use Rattle.std.proofs.Common.{◌<◌, ◌≤◌, Bool, true, false, List, ◌∷◌, ◌++◌, length, get_or, arith}
-use Rattle.std.proofs.Common.{Option, None, is_some, AllPairs, All, Result, Ok}
+use Rattle.std.proofs.Common.{None, is_some, AllPairs, All, Result, Ok}
 use Rattle.std.proofs.Common.{Err, IfErr, IfOk, IsErrAnd, ◌⊎◌}
 use Rattle.std.specs.FinMap as map
 use Rattle.std.specs.FinSet as set
@@ -17,14 +17,13 @@ use Rattle.ent_handle.specs.Handle.{handle_cmp-IsAntisymmetric as same}
 use Rattle.ent_handle.specs.declared.birth.Birth.{Birth}
 use Rattle.ent_alloc.specs.Sequential.{stands_in, top}
 use Rattle.ent_alloc.specs.Entities.{Entities as Allocator}
-use Rattle.ent_alloc.specs.Image.{image as allocator_image, HasImage as HasAllocatorImage, header, roster}
-use Rattle.ent_alloc.specs.Image.{header_bytes as allocator_header, slots_bytes}
+use Rattle.ent_alloc.specs.Image.{image as allocator_image, HasImage as HasAllocatorImage}
 use Rattle.ent_alloc.proofs.HandleSets.{Contains-from_stands_in, stands_in-from_Contains}
 use Rattle.ent_alloc.proofs.ImageHeader.{length-header_bytes}
 use Rattle.ent_alloc.proofs.ImageOf.{length-slots_bytes, few_wait}
 use Rattle.ent_alloc.proofs.ImageSound.{roster_slots}
-use Rattle.ent_storage.specs.EntityMap.{Entity, EntityMap}
-use Rattle.ent_storage.specs.Image.{entities_bytes, AreStored, IsStored}
+use Rattle.ent_storage.specs.EntityMap.{EntityMap}
+use Rattle.ent_storage.specs.Image.{entities_bytes, AreStored}
 use Rattle.ent_storage.proofs.ImageEntities.{never_stored, entities_least}
 use Rattle.ent_world.specs.World.{World}
 use Rattle.ent_world.specs.Rows.{AreRows, with_rows}

@@ -1,7 +1,7 @@
 -- What is written of a world's entities: the order in which they lie doesn't matter.
 use Rattle.std.proofs.Common.{rules}
 use Rattle.std.proofs.Common.{◌≡◌, refl, sym, ap, subst, ◌∙◌, ℕ, ℤ, zero, suc, ◌<◌, ◌≤◌, Bool, true}
-use Rattle.std.proofs.Common.{List, get_or, arith, Contains, Option, Some}
+use Rattle.std.proofs.Common.{List, arith, Contains, Option, Some}
 use Rattle.std.proofs.Common.{is_some, IfSome, IsSomeAnd, AllPairs, All}
 use Rattle.std.specs.Prelude.{if◌then◌else◌}
 use Rattle.std.specs.List.{list_any}

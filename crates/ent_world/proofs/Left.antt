@@ -1,6 +1,6 @@
 -- What is left of a list after a stop, one element after the other: none before the stop, the rest
 -- of the element at the stop, and each later one whole.
-use Rattle.std.proofs.Common.{[], rules, ◌≡◌, ap, ◌∙◌, ℕ, ◌+◌, ◌<◌, ◌≤◌, List, ◌∷◌, ◌++◌}
+use Rattle.std.proofs.Common.{[], rules, ◌≡◌, ap, ℕ, ◌+◌, ◌<◌, ◌≤◌, List, ◌∷◌, ◌++◌}
 use Rattle.std.proofs.Common.{length, take, drop, arith}
 use Rattle.std.proofs.lemmas.Grind.{common_steps}
 use Rattle.std.specs.Prelude.{◌⊎◌}

@@ -1,7 +1,7 @@
 -- The entities of a world's map are those whose handle is alive, also after each change of the two.
 use Rattle.std.proofs.lemmas.Grind.{common_steps}
-use Rattle.std.proofs.Common.{arith, rules, ◌≡◌, sym, ap, ◌∙◌, Bool, cond, not, ◌&&◌, ◌||◌}
-use Rattle.std.proofs.Common.{Option, Some, None, is_some, List}
+use Rattle.std.proofs.Common.{arith, rules, ◌≡◌, sym, ap, ◌∙◌, Bool, cond, not, ◌&&◌}
+use Rattle.std.proofs.Common.{Option, None, is_some, List}
 use Rattle.std.specs.FinSet as set
 use Rattle.std.specs.FinMap as map
 use Rattle.ent_handle.specs.Handle.{Handle, handle_cmp, handle_cmp_total}

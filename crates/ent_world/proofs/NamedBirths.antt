@@ -15,9 +15,9 @@ use Rattle.std.proofs.lemmas.Map.Views.{tells_apart}
 use Rattle.std.proofs.lemmas.Option.{none-some, same_Some}
 use Rattle.ent_handle.specs.declared.birth.Birth.{Birth}
 use Rattle.ent_handle.specs.declared.component.ComponentId.{ComponentId}
-use Rattle.ent_handle.specs.Birth.{birth_cmp, birth_cmp_total, birth_cmp-IsAntisymmetric}
+use Rattle.ent_handle.specs.Birth.{birth_cmp, birth_cmp_total}
 use Rattle.ent_handle.specs.Component.{component_cmp}
-use Rattle.ent_handle.specs.Handle.{Handle, handle_cmp}
+use Rattle.ent_handle.specs.Handle.{Handle}
 use Rattle.ent_alloc.specs.Sequential.{stands_in}
 use Rattle.ent_alloc.proofs.HandleSets.{same_handle, itself}
 use Rattle.ent_storage.specs.EntityMap.{Entity, EntityMap, birth_of, newborn}

@@ -5,7 +5,7 @@ use Rattle.std.proofs.lemmas.List.Sorted.{list_any-IsPermutation}
 use Rattle.std.proofs.lemmas.Grind.{common_steps}
 use Rattle.std.proofs.Common.{[], rules, ◌≡◌, refl, sym, ap, ◌∙◌, subst, ℕ, ◌+◌, ◌^◌, ◌<◌, ◌≤◌, Bool}
 use Rattle.std.proofs.Common.{true, cond, List, ◌∷◌, map, length, All}
-use Rattle.std.proofs.Common.{flat_map, Some, None, is_some, unwrap_or, arith}
+use Rattle.std.proofs.Common.{flat_map, Some, None, is_some, arith}
 use Rattle.std.specs.List.{AllZip, list_any, position_from}
 use Rattle.std.specs.Ordering.{eq_by_cmp}
 use Rattle.std.specs.FinMap as finite
@@ -24,7 +24,7 @@ use Rattle.ent_storage.specs.EntityMap.{EntityMap, newborn}
 use Rattle.ent_queue.specs.Command.{Command}
 use Rattle.ent_world.specs.World.{World, IsWorld}
 use Rattle.ent_world.specs.Sync.{listed_by, handles_listed}
-use Rattle.ent_world.specs.Sync.{listed_birth, birth_in, unlisted, unlisted_birth, after_births}
+use Rattle.ent_world.specs.Sync.{listed_birth, birth_in, after_births}
 use Rattle.ent_world.specs.Sync.{sync}
 use Rattle.ent_world.specs.BirthsAlone.{BirthMap, BirthCommand, births_of, births_in, entered_alone}
 use Rattle.ent_world.specs.BirthsAlone.{frame_alone}

@@ -2,7 +2,7 @@
 -- as handles live.
 use Rattle.std.proofs.lemmas.Bool.{false_from_ne_true}
 use Rattle.std.proofs.lemmas.Grind.{common_steps}
-use Rattle.std.proofs.Common.{[], rules, ◌≡◌, ◌≢◌, refl, sym, ap, subst, ◌∙◌, ℕ, suc, ◌+◌, ◌-◌, ◌<◌}
+use Rattle.std.proofs.Common.{[], rules, ◌≡◌, ◌≢◌, refl, sym, ap, ◌∙◌, ℕ, suc, ◌+◌, ◌-◌, ◌<◌}
 use Rattle.std.proofs.Common.{◌≤◌, ◌^◌, true, false, true≢false, ◌⊎◌, inl, inr, List, ◌∷◌}
 use Rattle.std.proofs.Common.{◌++◌, length, slice_get, Option, Some, None, is_some, arith}
 use Rattle.std.proofs.Common.{append-nil, length-append}

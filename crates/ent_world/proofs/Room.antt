@@ -1,6 +1,6 @@
 -- Entering one by one, with room for all, and who stands from a place on.
 use Rattle.std.proofs.lemmas.Grind.{common_steps}
-use Rattle.std.proofs.Common.{[], rules, ◌≡◌, ◌≢◌, refl, sym, ap, ◌∙◌, ◌+◌, ◌<◌, ◌≤◌, true, false}
+use Rattle.std.proofs.Common.{[], rules, ◌≡◌, ◌≢◌, refl, sym, ap, ◌+◌, ◌<◌, ◌≤◌, true, false}
 use Rattle.std.proofs.Common.{true≢false, ℕ, zero, suc, ◌-◌, List, ◌∷◌, drop}
 use Rattle.std.proofs.Common.{slice_get, arith, Some, ◌||◌}
 use Rattle.std.proofs.lemmas.Option.{none-some, same_Some}

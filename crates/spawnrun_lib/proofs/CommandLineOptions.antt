@@ -1,10 +1,9 @@
 -- What the words of a subcommand give: the values of its options.
-use Rattle.std.proofs.Common.{rules, ◌≡◌, ℕ, Bool, true, false, List, [], ◌∷◌, cond, refl, sym, ap}
-use Rattle.std.proofs.Common.{subst, ◌∙◌, ◌<◌, lit<, inl, inr, codes, Option, Some, None, is_some}
+use Rattle.std.proofs.Common.{rules, ◌≡◌, ℕ, Bool, true, false, List, [], ◌∷◌, cond, refl}
+use Rattle.std.proofs.Common.{◌<◌, lit<, inl, inr, codes, Option, Some, None, is_some}
 use Rattle.std.proofs.Common.{IfSome}
 use Rattle.std.specs.Prelude.{Result}
 use Rattle.std.specs.Str.Parse.{ExplainsUnsignedError, HasUnsignedDigitsIfOk, ParsesUnsigned}
-use Rattle.std.specs.Str.Parse.{digits_value, without_leading_plus}
 use Rattle.std.specs.declared.num.ParseIntError.{ParseIntError}
 use Rattle.clap.specs.Matches.{ReadsOne, one_text}
 use Rattle.clap.proofs.WalkLemmas.{one_text-rows}

@@ -1,10 +1,8 @@
-use Rattle.std.proofs.Common.{rules, ◌≡◌, ◌≢◌, ap, ◌∙◌, ℕ, ◌<◌, ◌⊎◌, inl, inr, arith}
+use Rattle.std.proofs.Common.{rules, ◌≡◌, ◌≢◌, ap, ◌∙◌, ℕ}
 use Rattle.std.proofs.Common.{Result, Ok, Err, OnErr}
 use Rattle.std.specs.FinMap as map
 use Rattle.ent_handle.specs.Handle.{handle_cmp}
 use Rattle.ent_storage.specs.EntityMap.{Entity, EntityMap}
-use Rattle.ent_world.proofs.cloning.copied.Goals.{else-slots-eq0-via-else-slots-eq0}
-use Rattle.ent_world.proofs.cloning.copied.Goals.{else-slots-eq0-via-then-slots-eq0+else-entities-eq0}
 use Rattle.ent_world.proofs.cloning.copied.Goals as goal
 
 -- what is so anyhow is so after a refusal

@@ -1,12 +1,10 @@
 use Rattle.std.proofs.Common.{rules}
 use Rattle.std.proofs.Common.{◌≡◌, ◌++◌, ◌∷◌, [], ◌∙◌, ap, sym, subst, arith, All, length, None}
-use Rattle.std.proofs.Common.{refl}
 use Rattle.std.specs.FinMap as map
 use Rattle.std.proofs.lemmas.Grind.{common_steps}
 use Rattle.std.proofs.lemmas.List.{append_assoc}
 use Rattle.std.proofs.lemmas.List.Elements.{All-cons, All-append}
 use Rattle.ent_handle.specs.Handle.{Handle, handle_cmp}
-use Rattle.ent_world.specs.declared.image_fault.WorldImageFault.TheVariants.{Row}
 use Rattle.ent_world.proofs.image.list_living.Goals as goal
 
 pub returns-then-is_some-clause-rows : goal.returns-then-is_some-clause-rows

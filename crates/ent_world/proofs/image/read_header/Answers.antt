@@ -1,4 +1,4 @@
-use Rattle.std.proofs.Common.{rules, ◌++◌, arith, length, inl, inr}
+use Rattle.std.proofs.Common.{rules, ◌++◌, arith, inl, inr}
 use Rattle.std.proofs.lemmas.List.{take-append-drop}
 use Rattle.ent_storage.specs.Image.{word}
 use Rattle.ent_world.proofs.ImageHeader.{header_is, too_short, other_magic, other_version}

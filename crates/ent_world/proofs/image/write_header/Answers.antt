@@ -1,7 +1,4 @@
 use Rattle.std.proofs.Common.{rules}
-use Rattle.std.proofs.Common.{ap, sym, ◌∙◌, ◌++◌}
-use Rattle.ent_storage.specs.Image.{word, long}
-use Rattle.ent_world.specs.Image.{version}
 use Rattle.ent_world.proofs.ImageHeader.{letters, header_alone, appended_4}
 use Rattle.ent_world.proofs.image.write_header.Goals as goal
 

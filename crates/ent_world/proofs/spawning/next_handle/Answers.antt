@@ -1,6 +1,5 @@
-use Rattle.std.proofs.Common.{rules, ◌≡◌, sym, ap, ◌∙◌, [], arith, to_z, of_z, w64}
-use Rattle.std.proofs.lemmas.Int.{ints}
-use Rattle.ent_alloc.specs.Sequential.{cursor, listed_alone, reply_to}
+use Rattle.std.proofs.Common.{rules, ◌≡◌}
+use Rattle.ent_alloc.specs.Sequential.{listed_alone, reply_to}
 use Rattle.ent_world.proofs.Making.{one_given, given_new, none_given, pool_some, reply_at_top}
 use Rattle.ent_world.proofs.spawning.next_handle.Goals.{After-reply_one}
 use Rattle.ent_world.proofs.spawning.next_handle.Goals as goal

@@ -1,8 +1,5 @@
 use Rattle.std.proofs.Common.{rules}
-use Rattle.std.proofs.Common.{true, false, sym, ap, ◌∙◌, Some}
-use Rattle.serde_json.specs.View.{view}
 use Rattle.ent_script.specs.Json.{whole}
-use Rattle.spawnrun_lib.specs.Place.{member_place}
 use Rattle.spawnrun_lib.proofs.Firsts.{next_whole}
 use Rattle.spawnrun_lib.proofs.first.first_unwhole.Goals as goal
 

@@ -1,10 +1,6 @@
 use Rattle.std.proofs.Common.{rules}
-use Rattle.std.proofs.Common.{◌≡◌, ◌∙◌, ◌++◌, Bool, true, false, List, ℕ, length, cond, refl, ap}
-use Rattle.std.proofs.Common.{arith}
-use Rattle.std.specs.Prelude.{nat_le}
+use Rattle.std.proofs.Common.{◌≡◌, Bool, true, false, List, ℕ, length, cond, refl}
 use Rattle.std.specs.Fmt.Cut.{cut_to}
-use Rattle.std.specs.Fmt.InlineText.{inline_text}
-use Rattle.std.proofs.lemmas.Bool.Decides.{nat_tests}
 use Rattle.spawnrun_lib.proofs.found.with.Goals as goal
 
 whole_by : (b : Bool) (text cut : List ℕ) → b ≡ true → cond b text cut ≡ text

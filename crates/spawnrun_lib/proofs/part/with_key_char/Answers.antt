@@ -1,6 +1,5 @@
 use Rattle.std.proofs.Common.{rules}
-use Rattle.std.proofs.Common.{◌≡◌, ◌∷◌, ◌++◌, [], ℕ, List, ap, sym, ◌∙◌, refl}
-use Rattle.std.specs.Fmt.InlineText.{inline_text}
+use Rattle.std.proofs.Common.{◌≡◌, ◌∷◌, ◌++◌, [], ℕ, List}
 use Rattle.spawnrun_lib.specs.Place.{key_char}
 use Rattle.spawnrun_lib.specs.Shown.{front, plain}
 use Rattle.spawnrun_lib.proofs.Printable.{passes, plain_same}

@@ -1,11 +1,8 @@
 use Rattle.std.proofs.lemmas.Grind.{common_steps}
-use Rattle.std.proofs.Common.{rules, ◌≡◌, ◌+◌, ◌∙◌, ◌++◌, ◌∷◌, [], ap, arith, sym, take}
+use Rattle.std.proofs.Common.{rules, arith}
 use Rattle.std.proofs.lemmas.List.{append-nil, take_more}
 use Rattle.std.proofs.lemmas.Grind.{flat_map-append}
 use Rattle.ent_replay.proofs.Schedules.{outcomes_of-append}
-use Rattle.ent_replay.specs.declared.event.Event.{Event}
-use Rattle.ent_replay.specs.OutcomeText.{line_of}
-use Rattle.ent_replay.specs.Schedule.{after_event, outcome_of, starting}
 use Rattle.spawnrun_lib.proofs.EventsApplied.{after-more}
 use Rattle.spawnrun_lib.proofs.replaying.outcome_text.Goals as goal
 

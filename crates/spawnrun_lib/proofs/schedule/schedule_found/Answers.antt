@@ -1,4 +1,4 @@
-use Rattle.std.proofs.Common.{rules, ◌≡◌, ℕ, ◌++◌, List, sym, subst, codes, refl}
+use Rattle.std.proofs.Common.{rules, ◌≡◌, ℕ, ◌++◌, List, sym, subst, codes}
 use Rattle.std.specs.Fmt.{decimal}
 use Rattle.std.specs.Fmt.InlineText.{inline_text}
 use Rattle.spawnrun_lib.specs.Shown.{ArePrintable}

@@ -1,8 +1,7 @@
 use Rattle.std.proofs.Common.{rules}
-use Rattle.std.proofs.Common.{◌≡◌, ◌++◌, ◌∙◌, List, [], ℕ, ap, codes, refl, subst, sym}
-use Rattle.std.specs.Fmt.InlineText.{inline_text}
+use Rattle.std.proofs.Common.{◌≡◌, ◌++◌, List, [], ℕ, codes}
 use Rattle.std.proofs.lemmas.List.Elements.{All-nil}
-use Rattle.spawnrun_lib.specs.Shown.{ArePrintable, IsPrintable}
+use Rattle.spawnrun_lib.specs.Shown.{ArePrintable}
 use Rattle.spawnrun_lib.proofs.Pieces.{added}
 use Rattle.spawnrun_lib.proofs.Printable.{both}
 use Rattle.spawnrun_lib.proofs.script.script_found.Goals as goal

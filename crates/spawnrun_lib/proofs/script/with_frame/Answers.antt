@@ -1,6 +1,4 @@
 use Rattle.std.proofs.Common.{rules}
-use Rattle.std.proofs.Common.{codes, refl}
-use Rattle.std.specs.Fmt.InlineText.{inline_text}
 use Rattle.spawnrun_lib.proofs.Pieces.{counted}
 use Rattle.spawnrun_lib.proofs.script.with_frame.Goals as goal
 

@@ -1,9 +1,7 @@
 use Rattle.std.proofs.Common.{rules}
 use Rattle.std.proofs.Common.{arith}
 use Rattle.std.proofs.lemmas.Grind.{common_steps}
-use Rattle.std.proofs.Common.{◌≡◌, ◌++◌, ◌∙◌, List, ℕ, ap, append_assoc, codes, refl}
-use Rattle.std.specs.Fmt.{decimal}
-use Rattle.std.specs.Fmt.InlineText.{inline_text}
+use Rattle.std.proofs.Common.{◌≡◌, ◌++◌, List, ℕ, append_assoc, refl}
 use Rattle.spawnrun_lib.proofs.Pieces.{added}
 use Rattle.spawnrun_lib.proofs.script.with_position.Goals as goal
 

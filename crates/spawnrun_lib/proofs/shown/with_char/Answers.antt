@@ -1,6 +1,4 @@
 use Rattle.std.proofs.Common.{rules}
-use Rattle.std.specs.Fmt.InlineText.{inline_text}
-use Rattle.spawnrun_lib.specs.Shown.{unit_text}
 use Rattle.spawnrun_lib.proofs.Fronts.{front-after, front-nothing}
 use Rattle.spawnrun_lib.proofs.shown.with_char.Goals as goal
 

@@ -1,5 +1,5 @@
 use Rattle.std.proofs.Common.{rules}
-use Rattle.std.proofs.Common.{◌≡◌, ◌∙◌, IfSome, ℕ, List, codes, true, refl, sym, map, subst, Some}
+use Rattle.std.proofs.Common.{◌≡◌, ℕ, List, codes, true, refl, map, subst, Some}
 use Rattle.clap.specs.Words.{HasKind, fault_of, rows_of, found_of, takes, subcommand_of}
 use Rattle.spawnrun_lib.specs.CommandLine.{program}
 use Rattle.cli.proofs.Faults.{found_fault, only_memory}

@@ -1,7 +1,5 @@
 use Rattle.std.proofs.Common.{rules}
-use Rattle.std.proofs.Common.{◌∙◌, ap}
 use Rattle.std.proofs.lemmas.Result.{IfOk-weaker}
-use Rattle.clap.specs.Simple.{app_of_fields}
 use Rattle.spawnrun_lib.proofs.Commands.{with_option}
 use Rattle.spawnrun_lib.proofs.task.replay_command.Goals as goal
 

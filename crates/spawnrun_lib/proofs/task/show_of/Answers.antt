@@ -1,6 +1,4 @@
 use Rattle.std.proofs.Common.{rules}
-use Rattle.std.proofs.Common.{◌∙◌, true, false, is_some, sym, ap}
-use Rattle.clap.specs.Words.{found_of}
 use Rattle.spawnrun_lib.proofs.CommandLineOptions.{show_read, shows_by}
 use Rattle.spawnrun_lib.proofs.task.show_of.Goals as goal
 

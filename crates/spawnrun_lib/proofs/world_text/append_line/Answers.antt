@@ -1,9 +1,5 @@
 use Rattle.std.proofs.Common.{rules}
-use Rattle.std.proofs.Common.{◌∷◌, [], map, string_bytes}
 use Rattle.std.proofs.lemmas.Result.{on_ok_weaker}
-use Rattle.std.specs.List.{flat_map}
-use Rattle.spawnrun_lib.specs.FrameText.{shown_handle}
-use Rattle.spawnrun_lib.specs.WorldText.{birth_text, item_text}
 use Rattle.spawnrun_lib.proofs.Parts.{four_parts}
 use Rattle.spawnrun_lib.proofs.world_text.append_line.Goals as goal
 

@@ -1,11 +1,9 @@
 use Rattle.std.proofs.Common.{rules, ◌≡◌, ◌+◌, ◌*◌, ◌≤◌, ◌++◌, ◌∙◌, ap, sym, subst, arith, length}
 use Rattle.std.proofs.Common.{ℕ, zero, suc}
 use Rattle.std.specs.List.{flat_map}
-use Rattle.std.specs.FinSet as set
 use Rattle.ent_alloc.specs.Entities.{without_rows}
 use Rattle.ent_alloc.specs.Image.{image as allocator_image}
 use Rattle.ent_storage.specs.Image.{word, width, entity_bytes}
-use Rattle.ent_world.specs.World.{World}
 use Rattle.ent_world.specs.Image.{header_bytes, image, HasImage}
 use Rattle.ent_world.proofs.ImageHeader.{appended_4}
 use Rattle.ent_world.proofs.ImageRead.{allocator_len}

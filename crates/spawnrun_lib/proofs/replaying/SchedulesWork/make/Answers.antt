@@ -1,6 +1,4 @@
 use Rattle.std.proofs.Common.{rules}
-use Rattle.std.proofs.Common.{◌∙◌, ap, sym}
-use Rattle.ent_replay.specs.ScheduleText.{schedule_of}
 use Rattle.spawnrun_lib.proofs.replaying.SchedulesWork.make.Goals as goal
 
 pub returns-in-Ok : goal.returns-in-Ok

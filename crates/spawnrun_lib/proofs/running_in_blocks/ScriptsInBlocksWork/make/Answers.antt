@@ -1,7 +1,4 @@
 use Rattle.std.proofs.Common.{rules}
-use Rattle.std.proofs.Common.{◌∙◌, ap, subst, sym}
-use Rattle.std.specs.Prelude.{Err}
-use Rattle.ent_script.specs.Reading.{ReadsAs, script_of_text}
 use Rattle.spawnrun_lib.proofs.running_in_blocks.ScriptsInBlocksWork.make.Goals as goal
 
 pub returns-in_ok-report-in-Ok : goal.returns-in_ok-report-in-Ok
