@@ -1,4 +1,5 @@
 -- What the events of a call do to the fields of a `Machine`, and that they keep them in order.
+use Rattle.std.proofs.lemmas.Grind.{common_steps}
 use Rattle.std.specs.FinMap.{get-remove, FinMap}
 use Rattle.ent_replay.proofs.Maps.{maps_alike, get-inserted, get-insert_other, get-removed}
 use Rattle.ent_replay.proofs.Maps.{get-remove_other, get-map_values, map_values-insert, on_inserted}
@@ -177,12 +178,7 @@ module _ (s : Allocator) (spent : FinMap nat_cmp ℕ) (calls : FinMap nat_cmp St
               (record { requested = call.requested; reply = Some (reply_to s call.requested) })
               ≡ map_values (open_call_of (after_take s call.requested))
               (finite.insert calls caller stepped)
-          inserted =
-              ap (λ r. finite.insert (map_values (open_call_of s) calls) caller
-              (record { requested = call.requested; reply = Some r }))
-              (sym (reply-cursor s call.requested sound))
-              ∙ sym (map_values-insert (open_call_of s) calls caller stepped)
-              ∙ ap (λ f. map_values f (finite.insert calls caller stepped)) same
+          inserted = grind (arith, common_steps, reply-cursor, map_values-insert)
 
       pub step-consistent : AreConsistent s spent calls → call.span ≡ None
           → AreConsistent (after_take s call.requested) spent (finite.insert calls caller stepped)

@@ -1,4 +1,5 @@
 -- Lists that have the reservations of each caller in the same order.
+use Rattle.std.proofs.lemmas.Grind.{common_steps}
 use Rattle.std.proofs.Common.{◌≡◌, ◌≢◌, ℕ, true, false, List, []}
 use Rattle.std.proofs.Common.{◌∷◌, ◌++◌, filter, refl, sym, ap, ◌∙◌, true≢false}
 use Rattle.std.proofs.Common.{eq-eqb, ne_eqb}
@@ -47,7 +48,7 @@ nothing (d ∷ run) keeps =
 -- one comes before those of others
 forward : (p : Placed) (left rest : List Placed) → filter (is_of p.reservation.caller) left ≡ []
     → (q : ℕ) → filter (is_of q) (p ∷ (left ++ rest)) ≡ filter (is_of q) (left ++ p ∷ rest)
-forward p left rest none q = kept_forward (is_of q) left rest p (λ own. let same : p.reservation.caller ≡ q = grind (arith, nat_tests) in rw (← same) none)
+forward p left rest none q = grind (arith, common_steps, kept_forward)
 
 pub keeps-IsOrderOf : (order run : List Placed) → KeepsCallers run order
     → IsOrderOf (lines run) (lines order)

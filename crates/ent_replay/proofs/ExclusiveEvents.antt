@@ -75,15 +75,15 @@ module _ (s : Allocator) (spent : FinMap nat_cmp ℕ) (calls : FinMap nat_cmp St
 
   pub busy-alloc : ¬ (calls ≡ finite.empty) → on_alloc (machine_state s spent calls)
       ≡ (Err fault.Busy, machine_state s spent calls)
-  busy-alloc some = when (is_busy (machine_state s spent calls)) _ _ (busy some)
+  busy-alloc some = search (rules, when, busy)
 
   pub busy-free : ¬ (calls ≡ finite.empty) → (h : Handle) → on_free (machine_state s spent calls) h
       ≡ (Err fault.Busy, machine_state s spent calls)
-  busy-free some h = when (is_busy (machine_state s spent calls)) _ _ (busy some)
+  busy-free some h = search (rules, when, busy)
 
   pub busy-flush : ¬ (calls ≡ finite.empty) → on_flush (machine_state s spent calls)
       ≡ (Err fault.Busy, machine_state s spent calls)
-  busy-flush some = when (is_busy (machine_state s spent calls)) _ _ (busy some)
+  busy-flush some = search (rules, when, busy)
 
   module _ (none : calls ≡ finite.empty) where
     pub alloc-needs_flush : 0 < s.asked → on_alloc (machine_state s spent calls)

@@ -50,12 +50,7 @@ same_order xs ys same = rw (← same) (IsPermutation-refl xs)
 
 -- the last two parts of a list are swapped
 swapped : (xs ys zs : List Handle) → IsPermutation ((xs ++ ys) ++ zs) ((xs ++ zs) ++ ys)
-swapped xs ys zs =
-    IsPermutation-trans ((xs ++ ys) ++ zs) (xs ++ (ys ++ zs)) ((xs ++ zs) ++ ys)
-    (same_order ((xs ++ ys) ++ zs) (xs ++ (ys ++ zs)) (append_assoc xs ys zs))
-    (IsPermutation-trans (xs ++ (ys ++ zs)) (xs ++ (zs ++ ys)) ((xs ++ zs) ++ ys)
-    (IsPermutation-append_right xs (ys ++ zs) (zs ++ ys) (IsPermutation-append_comm ys zs))
-    (same_order (xs ++ (zs ++ ys)) ((xs ++ zs) ++ ys) (sym (append_assoc xs zs ys))))
+swapped xs ys zs = search (rules, IsPermutation-trans, same_order, append_assoc, IsPermutation-append_right, IsPermutation-append_comm)
 
 -- where one of them has more
 joined-more : (f g : ℕ → List Handle) (c n : ℕ) → c < n → f c ≡ [] → ((q : ℕ) → q ≢ c → f q ≡ g q)
@@ -101,14 +96,8 @@ given-next s given h (allocates x rest none flushed pool) =
       once = rw (nothing, append-nil) (alloc-given s.allocator x rest given h.sound flushed pool
           (rw (nothing, append-nil) at h.once));
     }
-given-next s given h (frees x none flushed lives) = record {
-  sound = after_free-sound s.allocator x h.sound flushed lives;
-  once = rw append-nil (free-given s.allocator x (given ++ all_held s.calls) lives h.once);
-}
-given-next s given h (flushes none) = record {
-  sound = after_flush-sound s.allocator h.sound;
-  once = rw append-nil (flush-given s.allocator (given ++ all_held s.calls) h.once);
-}
+given-next s given h (frees x none flushed lives) = search (rules, after_free-sound, append-nil, free-given)
+given-next s given h (flushes none) = search (rules, after_flush-sound, append-nil, flush-given)
 given-next s given h (begins caller n costs below none) =
     let new : OpenCall = record { requested = n; reply = None } in
     let kept = all_held-inserted s.calls caller below new (ap held none) in

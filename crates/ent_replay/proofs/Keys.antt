@@ -72,9 +72,7 @@ module _ (latest : finite.FinMap nat_cmp ℕ) (p : Placed)
       → IsChecking s wanted run latest → wanted + p.reservation.requested ≤ 2 ^ 50
       → IsKeyed (available s) (unwrap_or (finite.get latest p.reservation.caller) 0) p
       → IsChecking s (wanted + p.reservation.requested) (run ++ p ∷ []) now
-  IsChecking-push s wanted run is few keyed =
-      let more = requested-push run p in
-      search (rules, steady_push, all_push, all_kept, latest_own, keyed_push, last_push, after_push)
+  IsChecking-push s wanted run is few keyed = search (rules, requested-push, steady_push, all_push, all_kept, latest_own, keyed_push, last_push, after_push)
 
 -- an empty map keeps nothing
 pub empty_keeps : (latest : finite.FinMap nat_cmp ℕ) → latest ≡ finite.empty → (q : ℕ)
@@ -83,7 +81,7 @@ empty_keeps latest is q = simp (is, finite.get-empty)
 
 pub no_run : (run : List Placed) → reservations_of run ≡ [] → run ≡ []
 no_run [] is = refl
-no_run (p ∷ run) is = absurd (let no : p.reservation ∷ reservations_of run ≡ [] = is in cc)
+no_run (p ∷ run) is = search rules
 
 -- a call that nothing overlaps leaves a checker without a run so
 pub IsChecking-called : (s t : Allocator) (wanted next : ℕ) (run : List Placed)

@@ -113,8 +113,7 @@ total (p ∷ run) = asks p + total run
 pub after-empty : (run : List Placed) (s : Allocator) → s.pool ≡ []
     → AllByRecursion (λ p. 0 < asks p) run → after_run s run
     ≡ record s { asked = s.asked + total run }
-after-empty [] s none some = let same : s.asked ≡ s.asked + 0 = omega arith in
-    λ i. record s { asked = same i }
+after-empty [] s none some = search rules
 after-empty (p ∷ run) s none some =
     let n = asks p in
     let more = some.0 in

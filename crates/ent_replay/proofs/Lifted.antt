@@ -77,7 +77,7 @@ pub record Lifted (run : List Placed) (order : List Call) : Type 0 where
 pub lifted : (order : List Call) (run : List Placed) → IsOrderOf (lines run) order
     → Lifted run order
 lifted [] [] is = record { placed = []; is = refl; is_order = refl }
-lifted [] (p ∷ run) is = absurd (let no : line.Reserve p.reservation ∷ lines run ≡ [] = is in cc)
+lifted [] (p ∷ run) is = search (rules, lines)
 lifted (c ∷ order) run (before, after, parts, passes, more) = let u = unmapped run before after c parts in let same : before ++ after ≡ lines (u.first ++ u.rest) = (λ i. sym u.before_is i ++ sym u.after_is i) ∙ sym (lines_append u.first u.rest) in let next = lifted order (u.first ++ u.rest) (rw (← same) more) in let here = simp (← u.before_is) at (subst (λ (l : Call). AllByRecursion (MayPass l) before) (sym u.placed_is) passes) in record { placed = u.placed ∷ next.placed; is = λ i. sym u.placed_is i ∷ next.is i; is_order = (u.first, u.rest, u.is, others_of u.placed u.first here, next.is_order) }
 
 -- ---- without those for nothing

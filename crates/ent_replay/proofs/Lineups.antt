@@ -1,4 +1,5 @@
 -- What is placed of a run, and what is left: one pass over what is left, and what stops it.
+use Rattle.std.proofs.Common.{rules}
 use Rattle.std.proofs.lemmas.Int.{ints}
 use Rattle.std.proofs.Common.{arith, ◌≡◌, ℕ, ◌+◌, ◌^◌, ◌≤◌, ℤ, pos, ◌-ℤ◌, ◌+ℤ◌, ◌≤ℤ◌}
 use Rattle.std.proofs.Common.{List, [], ◌∷◌, ◌++◌, filter, length, Option, Some, None, refl, sym, ap}
@@ -47,13 +48,7 @@ pub record IsAfter (s t : Allocator) (run : List Placed) : Type 0 where
   pub asked_is : t.asked ≡ s.asked + total run
 
 pub is_after : (run : List Placed) (s : Allocator) → IsSound s → IsAfter s (after s run) run
-is_after [] s sound = record {
-  sound = sound;
-  available_is = refl;
-  made_is = refl;
-  top_is = refl;
-  asked_is = omega arith;
-}
+is_after [] s sound = search rules
 is_after (p ∷ run) s sound =
     let n = asks p in
     let more = is_after run (after_take s n) (after_take-sound s n sound) in
@@ -119,18 +114,7 @@ pub record Passing (s : Allocator) (start : Lineup) (placed left rest : List Pla
 
 pub Passing-start : (s : Allocator) (l : Lineup) (blocked : finite.FinMap nat_cmp ℕ) → IsLineup s l
     → blocked ≡ finite.empty → Passing s l l.placed.items [] l.rest.items l.at blocked
-Passing-start s l blocked h none = record {
-  keeps = λ q. refl;
-  answered = h.answered;
-  at_is = h.at_is;
-  sum = refl;
-  count = omega (arith, length-append l.placed.items l.rest.items);
-  grown = omega arith;
-  free = λ q is. refl;
-  held = λ q key is empty. nothing_in blocked none q key is;
-  still = λ same. (refl, λ before p more parts. absurd (no_middle before more p (sym parts)));
-  whole = λ all. (refl, all);
-}
+Passing-start s l blocked h none = search (rules, length-append, nothing_in, no_middle)
 
 module _ (s : Allocator) (start : Lineup) (placed left rest : List Placed) (p : Placed) (at : ℤ)
     (blocked : finite.FinMap nat_cmp ℕ) (sound : IsSound s)
@@ -147,7 +131,7 @@ module _ (s : Allocator) (start : Lineup) (placed left rest : List Placed) (p : 
   -- it is its caller's next one, and fits
   pub Passing-place : finite.get blocked caller ≡ None → FitsAt (after s placed) p
       → Passing s start (placed ++ p ∷ []) left rest (at -ℤ pos (asks p)) blocked
-  Passing-place none fits = record { keeps = rw moved (keeps-forward (all_of start) placed left rest p (h.free caller none) h.keeps); answered = rw lines_append (AreAnswered-append s (lines_of placed) (lines_of (p ∷ [])) h.answered (fits, tt)); at_is = at-next s placed at sound h.at_is p; sum = omega (arith, total_append, total_append, total_append, total_append, total_append); count = omega (arith, one_more); grown = omega (arith, one_more); free = h.free; held = h.held; still = λ same. absurd (omega (arith, one_more)); whole = λ all. ((h.whole all).0, rw append_assoc (h.whole all).1) }
+  Passing-place none fits = search (rules, moved, keeps-forward, lines_append, AreAnswered-append, at-next, total_append, one_more, append_assoc)
 
   -- it isn't, or doesn't fit
   pub Passing-leave : (key : ℕ)
@@ -177,10 +161,7 @@ module _ (s : Allocator) (start : Lineup) (placed left all rest : List Placed) (
   Passing-passed = at-passed s placed at begun.sound h.at_is
 
   pub Passing-least : pos (top s) ≤ℤ (at +ℤ pos (2 ^ 50))
-  Passing-least =
-      let a = few in
-      let b = total_append placed (left ++ all) in
-      at-least s placed at begun.sound h.at_is (omega arith)
+  Passing-least = search (rules, few, total_append, at-least)
 
   pub Passing-lower : all ≡ p ∷ rest → pos (top s) ≤ℤ ((at -ℤ pos (asks p)) +ℤ pos (2 ^ 50))
   Passing-lower parts = let a : s.asked + total (placed ++ (left ++ p ∷ rest)) ≤ 2 ^ 50 = rw (← parts) few in let b = total_append placed (left ++ p ∷ rest) in let e = total_append left (p ∷ rest) in let f = total_append placed (p ∷ []) in at-least s (placed ++ p ∷ []) (at -ℤ pos (asks p)) begun.sound (at-next s placed at begun.sound h.at_is p) (omega arith)
@@ -210,27 +191,17 @@ module _ (s : Allocator) (start l : Lineup) (all : List Placed) (blocked : finit
   over = rw (none, append-nil) refl
 
   pub over_lined : IsLineup s l
-  over_lined = record {
-    sound = begun.sound;
-    answered = h.answered;
-    at_is = h.at_is;
-    few =
-        let a = begun.few in
-        let b = total_is (all_of start) in
-        let d = total_is (all_of l) in
-        let e : total (all_of l) ≡ total (all_of start) = ap total (sym over) ∙ h.sum in
-        omega arith;
-  }
+  over_lined = search (rules, few, total_is, total, over)
 
   pub over_keeps : KeepsCallers (all_of start) (all_of l)
   over_keeps = rw (← over) h.keeps
 
   counted : length l.placed.items + length l.rest.items
       ≡ length start.placed.items + length start.rest.items
-  counted = let a = h.count in let b : length all ≡ 0 = ap length none in omega (arith, length-append start.placed.items start.rest.items)
+  counted = search (rules, length-append)
 
   pub over_stuck : length l.rest.items ≡ length start.rest.items → NoneFits (reached s l) l.rest.items
-  over_stuck same = let a = counted in let b = h.still (omega arith) in rw b.0 b.1
+  over_stuck same = search (rules, counted)
 
 -- what is some is something
 pub some_of : {X : Type 0} (o : Option X) → is_some o ≡ true → (v : X) × (o ≡ Some v)
@@ -244,8 +215,7 @@ none_of_some None is = refl
 pub started : (s : Allocator) (l : Lineup) (left rest : List Placed)
     (blocked : finite.FinMap nat_cmp ℕ) → IsLineup s l → left ≡ [] → rest ≡ l.rest.items
     → blocked ≡ finite.empty → Passing s l l.placed.items left rest l.at blocked
-started s l left rest blocked h none all empty =
-    rw (none, all) (Passing-start s l blocked h empty)
+started s l left rest blocked h none all empty = search (rules, Passing-start)
 
 pub no_items : {X : Type 0} (xs : List X) → length xs ≡ 0 → xs ≡ []
 no_items [] is = refl
@@ -263,13 +233,7 @@ pub record Settling (s : Allocator) (start l : Lineup) (before : ℕ) : Type 0 w
 
 pub Settling-start : (s : Allocator) (l : Lineup) → IsLineup s l
     → Settling s l l (length l.rest.items + 1)
-Settling-start s l h = record {
-  lined = h;
-  keeps = λ q. refl;
-  fewer = omega arith;
-  stuck = λ same. absurd (omega arith);
-  whole = λ all. inl (refl, refl);
-}
+Settling-start s l h = search rules
 
 module _ (s : Allocator) (start l next : Lineup) (before : ℕ) (h : Settling s start l before) where
   pub Settling-next : IsLineup s next → KeepsCallers (all_of l) (all_of next)
@@ -277,7 +241,7 @@ module _ (s : Allocator) (start l next : Lineup) (before : ℕ) (h : Settling s 
       → (length next.rest.items ≡ length l.rest.items → NoneFits (reached s next) next.rest.items)
       → (AreAnswered s (lines_of (all_of l)) → next.rest.items ≡ [])
       → Settling s start next (length l.rest.items)
-  Settling-next lined keeps fewer stuck whole = record { lined = lined; keeps = keeps-again (all_of start) (all_of l) (all_of next) h.keeps keeps; fewer = fewer; stuck = λ same. stuck (sym same); whole = λ all. inr (elim (h.whole all) [ | inl first ↦ whole (rw first.0 all) | inr gone ↦ let none : length l.rest.items ≡ 0 = ap length gone in no_items next.rest.items (omega arith) ]) }
+  Settling-next lined keeps fewer stuck whole = search (rules, keeps-again, no_items)
 
 -- the position of a lineup is one that its allocator counts
 module _ (s : Allocator) (l : Lineup) (h : IsLineup s l) where
@@ -304,27 +268,4 @@ pub names_one : (s : Allocator) (l : Lineup) (rest : List Placed) (index : ℕ) 
       reply = reserve_reply (reply_from s.made (pool_at s l.at) x.reservation.requested);
     })
     → d.front ≡ take 8 (pool_at s l.at) → d.cursor ≡ l.at → NamesOne s l d
-names_one s l rest index x d h none same f at number told expected front cursor_is =
-    let is : l.rest.items ≡ f.before ++ f.named ∷ f.after = sym same ∙ f.is in
-    let named : x ≡ f.named =
-    at ∙ (λ i. get_or (is i) (f.index_is i) x) ∙ at_middle f.before f.after f.named x in
-    let here : l.rest.items ≡ f.before ++ x ∷ f.after = rw named is in
-    let first : filter (is_of x.reservation.caller) f.before ≡ [] = rw named f.first in
-    record {
-      before = f.before;
-      named = x;
-      after = f.after;
-      is = here;
-      first = first;
-      differs = λ n. record {
-        unlike = none f.before x f.after here first;
-        expected = expected ∙ ap (λ r. line.Reserve (record x.reservation { reply = reserve_reply r }))
-            (reply-here s l.placed.items l.at h.sound h.at_is x.reservation.requested);
-        number_is = number;
-        told_is = told;
-        front_is = front ∙ ap (take 8) (pools s l.placed.items l.at h.sound h.at_is
-            ∙ ap (pool_at (reached s l)) h.at_is
-            ∙ pool_at-cursor (reached s l) (is_after l.placed.items s h.sound).sound);
-        cursor_is = cursor_is ∙ h.at_is;
-      };
-    }
+names_one s l rest index x d h none same f at number told expected front cursor_is = search (rules, at_middle, here, reply-here, pools, pool_at-cursor, is_after)

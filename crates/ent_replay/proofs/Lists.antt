@@ -1,4 +1,5 @@
 -- Lists of which one element is taken out.
+use Rattle.std.proofs.Common.{rules}
 use Rattle.std.proofs.Common.{◌≡◌, Bool, true, false, List, [], ◌∷◌, ◌++◌, filter, refl}
 use Rattle.std.proofs.Common.{ap, inl, inr}
 use Rattle.std.proofs.lemmas.Bool.{cases_Bool}
@@ -42,17 +43,11 @@ module _ {X : Type 0} (f : X → Bool) where
   -- an element may come before those that aren't kept with it
   pub kept_forward : (before after : List X) (x : X) → (f x ≡ true → filter f before ≡ [])
       → filter f (x ∷ (before ++ after)) ≡ filter f (before ++ x ∷ after)
-  kept_forward before after x none = elim (cases_Bool (f x)) [
-    | inl passes ↦ simp (filter-append, none passes)
-    | inr fails ↦ simp (filter-append, fails)
-  ]
+  kept_forward before after x none = search (rules, cases_Bool, filter-append)
 
   pub kept_rest : (xs ys : List X) (x : X) → filter f (x ∷ xs) ≡ filter f (x ∷ ys)
       → filter f xs ≡ filter f ys
-  kept_rest xs ys x e = elim (cases_Bool (f x)) [
-    | inl passes ↦ let both : x ∷ filter f xs ≡ x ∷ filter f ys = simp passes at e in cc
-    | inr fails ↦ simp fails at e
-  ]
+  kept_rest xs ys x e = search (rules, cases_Bool)
 
 -- a list that a filter begins with an element
 pub record Splits {X : Type 0} (p : X → Bool) (h : X) (rest xs : List X) : Type 0 where

@@ -107,7 +107,7 @@ module _ {X : Type 0} (P : ℕ → X → Type 0) (m : FinMap nat_cmp X) (k : ℕ
     (before : (q : ℕ) (x : X) → q ≢ k → finite.get m q ≡ Some x → P q x) where
   pub on_inserted : (v : X) → P k v → (q : ℕ) (x : X) → finite.get (finite.insert m k v) q ≡ Some x
       → P q x
-  on_inserted v here q x at = elim (cases_eq q k) [ | inl same ↦ let is : v ≡ x = search (rules, same_Some, get-inserted) in rw same (rw (← is) here) | inr other ↦ before q x other (sym (get-insert_other m k v q other) ∙ at) ]
+  on_inserted v here q x at = search (rules, cases_eq, same_Some, get-inserted, get-insert_other)
 
   pub on_removed : (q : ℕ) (x : X) → finite.get (finite.remove m k) q ≡ Some x → P q x
   on_removed q x at = search (rules, cases_eq, get-removed, get-remove_other)

@@ -110,9 +110,7 @@ module _ (s : MachineState) where
 
 -- each event is one of them
 pub move : (s : MachineState) (e : Event) → Move s e (on_event s e) (reservations s e)
-move s event.Alloc =
-    exclusive s event.Alloc (alloc_front s s.allocator.pool) (λ caller at. absurd cc)
-    (alloc_move s s.allocator.pool refl)
+move s event.Alloc = search (rules, exclusive, alloc_move)
 move s (event.Free h) =
     exclusive s (event.Free h) _ (λ caller at. absurd cc) (λ none flushed.
     cond_both (set.contains s.allocator.live h) _ _ (λ y. Move s (event.Free h) y [])

@@ -40,15 +40,9 @@ module _ {X : Type 0} where
   pub parted : (front rest before after : List X) (x l : X)
       → front ++ x ∷ rest ≡ before ++ l ∷ after → InFront front rest before after x l
       ⊎ (Itself front rest before after x l ⊎ Behind front rest before after x l)
-  parted [] rest [] after x l e =
-      let first : x ≡ l = cc in
-      let others : rest ≡ after = cc in
-      inr (inl (record { before_is = refl; is = sym first; after_is = sym others }))
+  parted [] rest [] after x l e = search rules
   parted [] rest (b ∷ before) after x l e = search rules
-  parted (f ∷ front) rest [] after x l e =
-      let first : f ≡ l = cc in
-      let others : front ++ x ∷ rest ≡ after = cc in
-      inl (record { more = front; front_is = ap (λ y. y ∷ front) first; after_is = sym others })
+  parted (f ∷ front) rest [] after x l e = search rules
   parted (f ∷ front) rest (b ∷ before) after x l e =
       let first : f ≡ b = cc in
       let others : front ++ x ∷ rest ≡ before ++ l ∷ after = cc in

@@ -43,23 +43,19 @@ counted old next l c is takes = rw is at takes.counted
 -- before and after a call, and then before and after others
 both_follow : (c m d : Checked) (l : Call) (lines : List Call) → Follows c l m → AllFollow m lines d
     → AllFollow c (l ∷ lines) d
-both_follow c m d l lines one all = record {
-  sound = λ rest a. one.sound (lines ++ rest) (all.sound rest a);
-  complete = λ rest a. all.complete rest (one.complete (lines ++ rest) a);
-}
+both_follow c m d l lines one all = search rules
 
 pub all_follow : (lines : List Call) (old new : Checker) (c d : Checked) → old.comparer ≡ Ok c
     → new.comparer ≡ Ok d → TakesAll old lines new
     → AllFollow c (numbered_after old.calls lines) d
-all_follow [] old new c d is new_is same = let kept_by = ap (λ (x : Checker). x.comparer) same in let kept : c ≡ d = cc in rw (← kept) (record { sound = λ rest a. a; complete = λ rest a. a })
+all_follow [] old new c d is new_is same = search rules
 all_follow (l ∷ lines) old new c d is new_is (next, takes, more) = elim (ok_or_err next.comparer) [ | inl ok ↦ rw (← counted old next l c is takes) (both_follow c ok.0 d (numbered next.calls l) (numbered_after next.calls lines) (compared old next l c (Ok ok.0) is ok.1 takes).follows (all_follow lines next new ok.0 d ok.1 new_is more)) | inr bad ↦ let same = ap (λ (x : Checker). x.comparer) (stopped-all lines next new bad.0 bad.1 more) in absurd cc ]
 
 -- it has stopped for a difference: no trace that begins so agrees
 pub taken-differs : (lines : List Call) (old new : Checker) (c : Checked) (d : Difference)
     → old.comparer ≡ Ok c → new.comparer ≡ Err (error.Differs d) → TakesAll old lines new
     → (rest : List Call) → AgreesWith c (numbered_after old.calls lines ++ rest) → ⊥
-taken-differs [] old new c d is new_is same rest agrees =
-    let kept = ap (λ (x : Checker). x.comparer) same in absurd cc
+taken-differs [] old new c d is new_is same rest agrees = search rules
 taken-differs (l ∷ lines) old new c d is new_is (next, takes, more) rest agrees = let here = rw (← counted old next l c is takes) at agrees in elim (ok_or_err next.comparer) [ | inl ok ↦ taken-differs lines next new ok.0 d ok.1 new_is more rest ((compared old next l c (Ok ok.0) is ok.1 takes).follows.complete (numbered_after next.calls lines ++ rest) here) | inr bad ↦ let same = ap (λ (x : Checker). x.comparer) (stopped-all lines next new bad.0 bad.1 more) in let named : bad.0 ≡ error.Differs d = cc in (rw named at (compared old next l c (Err bad.0) is bad.1 takes).none) (numbered_after next.calls lines ++ rest) here ]
 
 -- ---- from the first call on

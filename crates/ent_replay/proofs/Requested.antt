@@ -80,9 +80,7 @@ requested_by c = c.allocator.asked + requested_in c.run
 module _ (old new : Checked) where
   pub requested-reserve : (r : Reservation) → Reaches old (line.Reserve r) new
       → requested_by new ≡ requested_by old + r.requested
-  requested-reserve r is =
-      let more = sum_by_push (λ (q : Reservation). q.requested) old.run r in
-      ap requested_by is ∙ omega arith
+  requested-reserve r is = search (rules, sum_by_push)
 
   pub requested-flush : (told : Option FlushReply) → Reaches old (line.Flush told) new
       → requested_by new ≡ 0
@@ -96,14 +94,11 @@ module _ (old new : Checked) where
 
   pub requested-alloc : (told : Option AllocReply) → Reaches old (line.Alloc told) new
       → requested_by new ≡ requested_by old
-  requested-alloc told (at, settled, fits, is) =
-      kept at (line.Alloc told) settled is (asked-alloc (nat_lt 0 at.asked) at)
+  requested-alloc told (at, settled, fits, is) = search (rules, kept, asked-alloc)
 
   pub requested-free : (h : Handle) (told : Option FreeReply) → Reaches old (line.Free h told) new
       → requested_by new ≡ requested_by old
-  requested-free h told (at, settled, fits, is) =
-      kept at (line.Free h told) settled is
-      (asked-free (nat_lt 0 at.asked) (set.contains at.live h) at h)
+  requested-free h told (at, settled, fits, is) = search (rules, kept, asked-free)
 
   pub requested-state : (h : Handle) (told : Option State) → Reaches old (line.State h told) new
       → requested_by new ≡ requested_by old

@@ -83,8 +83,7 @@ digits_lack separator (c ∷ cs) h d =
 
 decimal_lacks : (separator n : ℕ) → is_ascii_digit separator ≡ false → n < 2 ^ 64
     → lacks separator (decimal n) ≡ true
-decimal_lacks separator n h small = digits_lack separator (decimal n) h
-    (plain_from_decimal (decimal n) (decimal_is_decimal n small)).digits
+decimal_lacks separator n h small = search (rules, digits_lack, plain_from_decimal, decimal_is_decimal)
 
 handle_lacks : (separator : ℕ) (h : Handle) → is_ascii_digit separator ≡ false
     → not (eqb 118 separator) ≡ true → IsHandle h → lacks separator (handle_text h) ≡ true

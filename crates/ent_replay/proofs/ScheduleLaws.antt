@@ -67,8 +67,7 @@ by_line : (number : ℕ) (line : List ℕ) (lines : List (List ℕ)) (fault : Re
     → goes_on number r others ≡ Err fault → FaultAt number (line ∷ lines) fault
 by_line number line lines fault (Err k) others named later e = let is : read_fault (Line number k) ≡ read_fault fault = e in let zero_more : number ≡ length {A = Event} [] + number = omega arith in let is_line : Line number k ≡ fault = cc in record { before = []; refused = line; following = lines; c = k; parts = refl; numbered = cc (is_line, zero_more); fits = tt; why = named }
 by_line number line lines fault (Ok event) (Ok events) named later e = absurd cc
-by_line number line lines fault (Ok event) (Err other) named later e = fault_after number line event
-    lines fault named (later e)
+by_line number line lines fault (Ok event) (Err other) named later e = search (rules, fault_after)
 
 events_refused : (number : ℕ) (lines : List (List ℕ)) (fault : ReadFault) → events_of number lines
     ≡ Err fault → FaultAt number lines fault
@@ -177,4 +176,4 @@ first_fault text fault f = search (rules, event_again)
 
 pub schedule_refused : (text : List ℕ) (fault : ReadFault) → schedule_of text ≡ Err fault
     → ExplainsFault text fault
-schedule_refused text fault e = first_fault text fault (events_refused 1 (lines_of text) fault e)
+schedule_refused text fault e = search (rules, first_fault, events_refused)

@@ -1,4 +1,5 @@
 -- The sorted run is lined up: all of it is placed, or no order of the run is answered so.
+use Rattle.std.proofs.Common.{rules}
 use Rattle.std.proofs.Common.{◌≡◌, ◌≢◌, ℕ, ◌++◌, ◌≤◌, List, [], ◌∷◌, filter, sym, ◌∙◌}
 use Rattle.std.proofs.lemmas.List.{append-nil}
 use Rattle.ent_alloc.specs.Sequential.{Allocator, available}
@@ -31,18 +32,17 @@ module _ (s : Allocator) (run sorted : List Placed) (l : Lineup) (sound : IsSoun
     (sum : requested_in (reservations_of sorted) ≡ requested_in (reservations_of run))
     (lined : IsLineup s l) (keeps : KeepsCallers sorted (all_of l)) where
   kept : KeepsCallers run (all_of l)
-  kept = keeps-again run sorted (all_of l)
-      (order-keeps sorted run (sorted-placed sorted run up alike steady)) keeps
+  kept = search (rules, keeps-again, order-keeps, sorted-placed)
 
   -- if any order of the run is answered so, the sorted one is, and leaves the same state
   best : (other : List Call) → IsOrderOf (lines_of run) other → AreAnswered s other
       → AreAnswered s (lines_of sorted) × (after_lines s other ≡ after_lines s (lines_of sorted))
-  best other is all = sorted_run s sorted run other sound keyed up alike sum is all
+  best other is all = search (rules, sorted_run)
 
   pub all-settled : l.rest.items ≡ [] → (at : Allocator)
       → at ≡ after_lines s (lines_of l.placed.items)
       → IsSettled (record { allocator = s; run = reservations_of run }) at
-  all-settled none at at_is = let whole : all_of l ≡ l.placed.items = simp (none, append-nil) in let is_order = keeps-IsOrderOf l.placed.items run (rw (← whole) kept) in record { order = lines_of l.placed.items; is_order = is_order; answered = lined.answered; after_is = at_is; only = λ other is all. (best other is all).1 ∙ sym (best (lines_of l.placed.items) is_order lined.answered).1 ∙ sym at_is }
+  all-settled none at at_is = search (rules, append-nil, keeps-IsOrderOf, kept, best)
 
   pub some-none : l.rest.items ≢ [] → (AreAnswered s (lines_of sorted) → l.rest.items ≡ [])
       → HasNoOrder (record { allocator = s; run = reservations_of run })
@@ -51,5 +51,4 @@ module _ (s : Allocator) (run sorted : List Placed) (l : Lineup) (sound : IsSoun
   pub some-Shows : l.rest.items ≢ [] → (AreAnswered s (lines_of sorted) → l.rest.items ≡ [])
       → NoneFits (reached s l) l.rest.items → (d : Difference) → NamesOne s l d → (n : ℕ)
       → Shows (record { allocator = s; run = reservations_of run }) n [] d
-  some-Shows some whole none d names n =
-      lineup-Shows s run l kept lined none (some-none some whole) d names n
+  some-Shows some whole none d names n = search (rules, lineup-Shows, kept, some-none)

@@ -35,7 +35,7 @@ tie_is : (p q : Placed) → tie p q ≡ (not (nat_lt p.key q.key) && not (nat_lt
 tie_is p q = search rules
 
 tests_same : (a b : ℕ) → a ≡ b → (not (nat_lt a b) && not (nat_lt b a)) ≡ true
-tests_same a b e = λ i. not (le-ltb a b (omega arith) i) && not (le-ltb b a (omega arith) i)
+tests_same a b e = search (rules, le-ltb)
 
 tests_apart : (a b : ℕ) → (not (nat_lt a b) && not (nat_lt b a)) ≡ true → a ≡ b
 tests_apart a b e = grind (arith, common_steps)
@@ -116,19 +116,12 @@ lines_append (x ∷ xs) ys = search (rules, lines_append xs ys)
 
 none_tie : (x h : Placed) (before : List Placed) → x.key ≡ h.key
     → AllByRecursion (λ b. tie h b ≡ false) before → filter (tie x) before ≡ []
-none_tie x h before same none =
-    none_kept (tie x) before (all_weaker (λ b. tie h b ≡ false) (λ b. tie x b ≡ false) (λ b apart.
-    elim (cases_Bool (tie x b)) [
-      | inl own ↦ absurd (true≢false (sym (tie_from h b (sym same ∙ tie_key x b own)) ∙ apart))
-      | inr other ↦ other
-    ]) before none)
+none_tie x h before same none = search (rules, none_kept, all_weaker, cases_Bool, tie_from, tie_key)
 
 pub alike_rest : (h : Placed) (sorted before after : List Placed)
     → AllByRecursion (λ b. tie h b ≡ false) before → TieAlike (h ∷ sorted) (before ++ h ∷ after)
     → TieAlike sorted (before ++ after)
-alike_rest h sorted before after none alike x =
-    kept_rest (tie x) sorted (before ++ after) h (alike x ∙ sym (kept_forward (tie x) before after h
-    (λ own. none_tie x h before (tie_key x h own) none)))
+alike_rest h sorted before after none alike x = grind (arith, common_steps, kept_rest, kept_forward, none_tie, tie_key)
 
 pub begins : (h : Placed) (sorted run : List Placed) → TieAlike (h ∷ sorted) run
     → filter (tie h) run ≡ h ∷ filter (tie h) sorted

@@ -1,4 +1,5 @@
 -- Which of those that are left is its caller's first one.
+use Rattle.std.proofs.Common.{rules}
 use Rattle.std.proofs.Common.{arith, ◌≡◌, ◌≢◌, ℕ, suc, ◌+◌, ◌<◌, List, [], ◌∷◌, ◌++◌, filter, length}
 use Rattle.std.proofs.Common.{take, drop, get_or, None, Some, refl, sym, ap, ◌∙◌, inl, inr}
 use Rattle.std.proofs.Common.{append-nil}
@@ -27,18 +28,10 @@ module _ (seen : finite.FinMap nat_cmp ℕ) (rest : List Placed) (index : ℕ) (
 
   others : (q : ℕ) → q ≢ p.reservation.caller → finite.get seen q ≡ None
       → filter (is_of q) (take (index + 1) rest) ≡ []
-  others q apart is =
-      rw more (simp (filter-append, other p q (λ e. apart (sym e)), append-nil) (h q is))
+  others q apart is = search (rules, more, filter-append, other, append-nil)
 
   pub AreSeen-next : (key : ℕ) → AreSeen (finite.insert seen p.reservation.caller key) rest (index + 1)
-  AreSeen-next key q is = elim (cases_eq q p.reservation.caller) [
-    | inl same ↦
-        let no : Some key ≡ None =
-        sym (get-inserted seen p.reservation.caller key)
-        ∙ ap (finite.get (finite.insert seen p.reservation.caller key)) (sym same) ∙ is in
-        absurd cc
-    | inr apart ↦ others q apart (sym (get-insert_other seen p.reservation.caller key q apart) ∙ is)
-  ]
+  AreSeen-next key q is = search (rules, cases_eq, get-inserted, others, get-insert_other)
 
   pub IsFirstAt-unseen : finite.get seen p.reservation.caller ≡ None → IsFirstAt rest index
   IsFirstAt-unseen none = record { before = take index rest; named = p; after = drop (index + 1) rest; is = cc (take-append-drop index rest, drop-cons rest index p within, one_up index, at); index_is = omega (arith, length-take index rest); first = h p.reservation.caller none }

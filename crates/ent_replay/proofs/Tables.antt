@@ -1,4 +1,5 @@
 -- Tables with a place for each number: what the map of their values has, and how many there are.
+use Rattle.std.proofs.lemmas.Grind.{common_steps}
 use Rattle.std.proofs.Common.{◌≡◌, refl, sym, ap, ◌∙◌, inl, inr, ℕ, zero, suc, ◌+◌, ◌<◌, ◌≤◌}
 use Rattle.std.proofs.Common.{cond, List, [], ◌∷◌, ◌++◌, length, get_or, set, take, replicate}
 use Rattle.std.proofs.Common.{Option, Some, None, IsSome, rules, arith}
@@ -29,10 +30,7 @@ find_numbered n [] q k is = refl
 find_numbered n (None ∷ places) zero k is = find_before (n + 1) places k (omega (arith, is))
 find_numbered n (None ∷ places) (suc q) k is =
     find_numbered (n + 1) places q k (omega (arith, is))
-find_numbered n (Some x ∷ places) zero k is =
-    ap (λ j. cond (eq_by_cmp nat_cmp j n) (Some x) (find nat_cmp j (numbered (n + 1) places)))
-    (omega (arith, is)) ∙ ap (λ b. cond b (Some x) (find nat_cmp n (numbered (n + 1) places)))
-    (itself n)
+find_numbered n (Some x ∷ places) zero k is = search (rules, itself)
 find_numbered n (Some x ∷ places) (suc q) k is = cc (apart k n (omega (arith, is)), find_numbered (n + 1) places q k (omega (arith, is)))
 
 pub get_by_place : {X : Type 0} (places : List (Option X)) (q : ℕ)
@@ -48,15 +46,15 @@ get_past places q past = simp (get_by_place, get_or-eq_default)
 
 pub by_place-set : {X : Type 0} (places : List (Option X)) (k : ℕ) (v : X) → k < length places
     → by_place (set places k (Some v)) ≡ finite.insert (by_place places) k v
-by_place-set places k v lt = maps_alike (by_place (set places k (Some v))) (finite.insert (by_place places) k v) (λ q. get_by_place (set places k (Some v)) q ∙ elim (cases_eq q k) [ | inl here ↦ simp (get_or-set_at, here, get-inserted) | inr other ↦ simp (get_or-set_other, get-insert_other, get_by_place) ])
+by_place-set places k v lt = search (rules, maps_alike, get_by_place, cases_eq, get_or-set_at, get-inserted, get_or-set_other, get-insert_other)
 
 pub by_place-emptied : {X : Type 0} (places : List (Option X)) (k : ℕ) → k < length places
     → by_place (set places k None) ≡ finite.remove (by_place places) k
-by_place-emptied places k lt = maps_alike (by_place (set places k None)) (finite.remove (by_place places) k) (λ q. get_by_place (set places k None) q ∙ elim (cases_eq q k) [ | inl here ↦ simp (get_or-set_at, here, get-removed) | inr other ↦ simp (get_or-set_other, get-remove_other, get_by_place) ])
+by_place-emptied places k lt = search (rules, maps_alike, get_by_place, cases_eq, get_or-set_at, get-removed, get_or-set_other, get-remove_other)
 
 by_place-absent : {X : Type 0} (places : List (Option X)) (k : ℕ)
     → finite.get (by_place places) k ≡ None → by_place places ≡ finite.remove (by_place places) k
-by_place-absent places k absent = maps_alike (by_place places) (finite.remove (by_place places) k) (λ q. elim (cases_eq q k) [ | inl here ↦ simp (here, absent, get-removed) | inr other ↦ sym (get-remove_other (by_place places) k q other) ])
+by_place-absent places k absent = search (rules, maps_alike, cases_eq, get-removed, get-remove_other)
 
 pub by_place-past : {X : Type 0} (places : List (Option X)) (k : ℕ) → length places ≤ k
     → by_place places ≡ finite.remove (by_place places) k
@@ -78,9 +76,7 @@ get_or-padded (place ∷ places) n (suc q) = get_or-padded places n q
 
 by_place-padded : {X : Type 0} (places : List (Option X)) (n : ℕ)
     → by_place (places ++ replicate n None) ≡ by_place places
-by_place-padded places n = maps_alike (by_place (places ++ replicate n None)) (by_place places) (λ q.
-    get_by_place (places ++ replicate n None) q ∙ get_or-padded places n q
-    ∙ sym (get_by_place places q))
+by_place-padded places n = search (rules, maps_alike, get_by_place, get_or-padded)
 
 pub by_place-resized : {X : Type 0} (places : List (Option X)) (n m : ℕ) → length places ≤ n
     → by_place (take n places ++ replicate m None) ≡ by_place places
@@ -114,10 +110,7 @@ none_in : {X : Type 0} (places : List (Option X)) (q : ℕ) → values_in places
 none_in [] q is = refl
 none_in (None ∷ places) zero is = refl
 none_in (None ∷ places) (suc q) is = none_in places q is
-none_in (Some x ∷ places) q is =
-    let first : values_in (Some x ∷ places) ≡ 1 + values_in places =
-    sum_by-cons one_if_some (Some x) places in
-    absurd (omega (arith, first, is))
+none_in (Some x ∷ places) q is = grind (arith, common_steps, sum_by-cons)
 
 count_none : {X : Type 0} (places : List (Option X)) → ((q : ℕ) → get_or places q None ≡ None)
     → values_in places ≡ 0

@@ -1,4 +1,5 @@
 -- What a checker takes, one call after the other.
+use Rattle.std.proofs.Common.{rules}
 use Rattle.std.proofs.Common.{◌≡◌, ℕ, ◌+◌, ◌<◌, ◌≤◌, List, [], ◌∷◌, ◌++◌, map, length, get_or, set}
 use Rattle.std.proofs.Common.{take, drop, refl, ap, ◌∙◌, arith, drop-cons}
 use Rattle.std.specs.Prelude.{suc, reverse}
@@ -25,8 +26,7 @@ TakesAll-one l old new takes = (new, takes, refl)
 -- one more call after these
 pub TakesAll-push : (lines : List Call) (l : Call) (old middle new : Checker)
     → TakesAll old lines middle → Takes middle l new → TakesAll old (lines ++ l ∷ []) new
-TakesAll-push lines l old middle new all takes =
-    TakesAll-append lines (l ∷ []) old middle new all (TakesAll-one l middle new takes)
+TakesAll-push lines l old middle new all takes = search (rules, TakesAll-append, TakesAll-one)
 
 -- All calls were taken from the old state on, if those that are left are taken from this one on.
 abbrev pub Leads : Checker → List Call → Checker → List Call → Type 0
@@ -43,13 +43,13 @@ reverse-push rs r = reverse-append rs (r ∷ [])
 
 pub Leads-reversed : (c : Checker) (rs turned : List Reservation) → turned ≡ reverse rs
     → Leads c (reserve_lines rs) c (reserve_lines (reverse turned))
-Leads-reversed c rs turned is = rw (ap reverse is ∙ reverse-reverse rs) (λ final takes. takes)
+Leads-reversed c rs turned is = search (rules, reverse-reverse)
 
 pub Leads-popped : (old now next : Checker) (all : List Call) (before after : List Reservation)
     (r : Reservation) → before ≡ after ++ r ∷ []
     → Leads old all now (reserve_lines (reverse before)) → Takes now (line.Reserve r) next
     → Leads old all next (reserve_lines (reverse after))
-Leads-popped old now next all before after r is leads takes final more = leads final (rw (ap reverse is ∙ reverse-push after r) (next, takes, more))
+Leads-popped old now next all before after r is leads takes final more = search (rules, reverse-push)
 
 -- ---- logs
 
@@ -57,7 +57,7 @@ pub Leads-joined : (old now next : Checker) (all : List Call) (logs : List Log) 
     (log changed : Log) → i < length logs → log ≡ get_or logs i log
     → Leads old all now (lines_in_all (drop i logs)) → TakesAll now (lines_in log) next
     → Leads old all next (lines_in_all (drop (i + 1) (set logs i changed)))
-Leads-joined old now next all logs i log changed within here leads takes final more = let later : drop (i + 1) (set logs i changed) ≡ drop (suc i) logs = cc (drop-set-lt (i + 1) logs i changed (omega arith), add-one i) in let front : drop i logs ≡ log ∷ drop (suc i) logs = cc (drop-cons logs i log within, here) in leads final (rw front (TakesAll-append (lines_in log) (lines_in_all (drop (suc i) logs)) now next final takes (rw (← later) more)))
+Leads-joined old now next all logs i log changed within here leads takes final more = search (rules, drop-set-lt, add-one, drop-cons, TakesAll-append)
 
 pub new_logs-next : (n : ℕ) (logs : List Log) → logs ≡ new_logs n
     → logs ++ record { caller = n; reservations = [] } ∷ [] ≡ new_logs (n + 1)
@@ -65,11 +65,8 @@ new_logs-next n logs is = cc (is, add-one n)
 
 pub Leads-end : (old now : Checker) (all : List Call) (logs : List Log) (i : ℕ) → length logs ≤ i
     → Leads old all now (lines_in_all (drop i logs)) → TakesAll old all now
-Leads-end old now all logs i over leads = Leads-all old now all ((rw (drop_all i logs over) at leads))
+Leads-end old now all logs i over leads = search (rules, Leads-all, drop_all)
 
 pub emptied-end : (logs now : List Log) (i : ℕ) → length logs ≤ i
     → now ≡ map emptied (take i logs) ++ drop i logs → now ≡ map emptied logs
-emptied-end logs now i over is =
-    let front = take_all i logs over in
-    let rest = drop_all i logs over in
-    is ∙ (λ k. map emptied (front k) ++ rest k) ∙ append-nil (map emptied logs)
+emptied-end logs now i over is = search (rules, take_all, drop_all, append-nil)

@@ -39,7 +39,7 @@ pub comment_cut : (line text comment : List ℕ) → line ≡ text ++ 35 ∷ com
 comment_cut line text comment e none = search (rules, before_first_at, fails_at)
 
 pub no_comment : (line : List ℕ) → All (λ x. x ≢ 35) line → before_comment line ≡ line
-no_comment line none = before_first_none (λ x. eqb x 35) line (fails_at 35 line none)
+no_comment line none = search (rules, before_first_none, fails_at)
 
 -- ---- blanks and words
 
