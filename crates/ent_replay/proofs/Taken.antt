@@ -1,8 +1,11 @@
 -- What a checker takes, one call after the other.
-use Rattle.std.proofs.Common.{◌≡◌, ℕ, ◌+◌, ◌<◌, ◌≤◌, List, [], ◌∷◌, ◌++◌, map, length, get_or, set, take, drop, refl, ap, ◌∙◌, arith, drop-cons}
+use Rattle.std.proofs.Common.{rules}
+use Rattle.std.proofs.Common.{◌≡◌, ℕ, ◌+◌, ◌<◌, ◌≤◌, List, [], ◌∷◌, ◌++◌, map, length, get_or, set}
+use Rattle.std.proofs.Common.{take, drop, refl, ap, ◌∙◌, arith, drop-cons}
 use Rattle.std.specs.Prelude.{suc, reverse}
 use Rattle.std.proofs.Math.Numerals.{add-one}
-use Rattle.std.proofs.lemmas.List.{append-nil, drop-set-lt, drop_all, reverse-append, reverse-reverse, take_all}
+use Rattle.std.proofs.lemmas.List.{append-nil, drop-set-lt, drop_all, reverse-append}
+use Rattle.std.proofs.lemmas.List.{reverse-reverse, take_all}
 use Rattle.ent_replay.specs.declared.trace.call.Call.{Call}
 use Rattle.ent_replay.specs.declared.trace.call.Call.TheVariants as line
 use Rattle.ent_replay.specs.declared.trace.checker.Checker.{Checker}
@@ -11,8 +14,8 @@ use Rattle.ent_replay.specs.Checker.{reserve_lines}
 use Rattle.ent_replay.specs.Logs.{Log, emptied, new_logs}
 use Rattle.ent_replay.specs.Recording.{Takes, TakesAll, lines_in, lines_in_all}
 
-pub TakesAll-append : (first second : List Call) (old middle new : Checker) → TakesAll old first middle
-    → TakesAll middle second new → TakesAll old (first ++ second) new
+pub TakesAll-append : (first second : List Call) (old middle new : Checker)
+    → TakesAll old first middle → TakesAll middle second new → TakesAll old (first ++ second) new
 TakesAll-append [] second old middle new same more = rw (← same) more
 TakesAll-append (l ∷ first) second old middle new (next, takes, others) more =
     (next, takes, TakesAll-append first second next middle new others more)
@@ -21,10 +24,9 @@ pub TakesAll-one : (l : Call) (old new : Checker) → Takes old l new → TakesA
 TakesAll-one l old new takes = (new, takes, refl)
 
 -- one more call after these
-pub TakesAll-push : (lines : List Call) (l : Call) (old middle new : Checker) → TakesAll old lines middle
-    → Takes middle l new → TakesAll old (lines ++ l ∷ []) new
-TakesAll-push lines l old middle new all takes = TakesAll-append lines (l ∷ []) old middle new all
-    (TakesAll-one l middle new takes)
+pub TakesAll-push : (lines : List Call) (l : Call) (old middle new : Checker)
+    → TakesAll old lines middle → Takes middle l new → TakesAll old (lines ++ l ∷ []) new
+TakesAll-push lines l old middle new all takes = search (rules, TakesAll-append, TakesAll-one)
 
 -- All calls were taken from the old state on, if those that are left are taken from this one on.
 abbrev pub Leads : Checker → List Call → Checker → List Call → Type 0
@@ -35,42 +37,36 @@ Leads-all old now all leads = leads now refl
 
 -- ---- a list from its end on
 
-reverse-push : (rs : List Reservation) (r : Reservation) → reverse (rs ++ r ∷ []) ≡ r ∷ reverse rs
+reverse-push : (rs : List Reservation) (r : Reservation) → reverse (rs ++ r ∷ [])
+    ≡ r ∷ reverse rs
 reverse-push rs r = reverse-append rs (r ∷ [])
 
 pub Leads-reversed : (c : Checker) (rs turned : List Reservation) → turned ≡ reverse rs
     → Leads c (reserve_lines rs) c (reserve_lines (reverse turned))
-Leads-reversed c rs turned is = rw (ap reverse is ∙ reverse-reverse rs) (λ final takes. takes)
+Leads-reversed c rs turned is = search (rules, reverse-reverse)
 
-pub Leads-popped : (old now next : Checker) (all : List Call) (before after : List Reservation) (r : Reservation)
-    → before ≡ after ++ r ∷ [] → Leads old all now (reserve_lines (reverse before)) → Takes now (line.Reserve r) next
+pub Leads-popped : (old now next : Checker) (all : List Call) (before after : List Reservation)
+    (r : Reservation) → before ≡ after ++ r ∷ []
+    → Leads old all now (reserve_lines (reverse before)) → Takes now (line.Reserve r) next
     → Leads old all next (reserve_lines (reverse after))
-Leads-popped old now next all before after r is leads takes final more = leads final
-    (rw (ap reverse is ∙ reverse-push after r) (next, takes, more))
+Leads-popped old now next all before after r is leads takes final more = search (rules, reverse-push)
 
 -- ---- logs
 
-pub Leads-joined : (old now next : Checker) (all : List Call) (logs : List Log) (i : ℕ) (log changed : Log)
-    → i < length logs → log ≡ get_or logs i log → Leads old all now (lines_in_all (drop i logs))
-    → TakesAll now (lines_in log) next → Leads old all next (lines_in_all (drop (i + 1) (set logs i changed)))
-Leads-joined old now next all logs i log changed within here leads takes final more =
-    let later : drop (i + 1) (set logs i changed) ≡ drop (suc i) logs = cc
-    (drop-set-lt (i + 1) logs i changed (omega arith), add-one i) in
-    let front : drop i logs ≡ log ∷ drop (suc i) logs = cc (drop-cons logs i log within, here) in
-    leads final (rw front (TakesAll-append (lines_in log) (lines_in_all (drop (suc i) logs)) now next final takes
-    (rw (← later) more)))
+pub Leads-joined : (old now next : Checker) (all : List Call) (logs : List Log) (i : ℕ)
+    (log changed : Log) → i < length logs → log ≡ get_or logs i log
+    → Leads old all now (lines_in_all (drop i logs)) → TakesAll now (lines_in log) next
+    → Leads old all next (lines_in_all (drop (i + 1) (set logs i changed)))
+Leads-joined old now next all logs i log changed within here leads takes final more = search (rules, drop-set-lt, add-one, drop-cons, TakesAll-append)
 
-pub new_logs-next : (n : ℕ) (logs : List Log) → logs ≡ new_logs n → logs ++ record { caller = n; reservations = [] }
-    ∷ [] ≡ new_logs (n + 1)
+pub new_logs-next : (n : ℕ) (logs : List Log) → logs ≡ new_logs n
+    → logs ++ record { caller = n; reservations = [] } ∷ [] ≡ new_logs (n + 1)
 new_logs-next n logs is = cc (is, add-one n)
 
 pub Leads-end : (old now : Checker) (all : List Call) (logs : List Log) (i : ℕ) → length logs ≤ i
     → Leads old all now (lines_in_all (drop i logs)) → TakesAll old all now
-Leads-end old now all logs i over leads = Leads-all old now all ((rw (drop_all i logs over) at leads))
+Leads-end old now all logs i over leads = search (rules, Leads-all, drop_all)
 
-pub emptied-end : (logs now : List Log) (i : ℕ) → length logs ≤ i → now ≡ map emptied (take i logs) ++ drop i logs
-    → now ≡ map emptied logs
-emptied-end logs now i over is =
-    let front = take_all i logs over in
-    let rest = drop_all i logs over in
-    is ∙ (λ k. map emptied (front k) ++ rest k) ∙ append-nil (map emptied logs)
+pub emptied-end : (logs now : List Log) (i : ℕ) → length logs ≤ i
+    → now ≡ map emptied (take i logs) ++ drop i logs → now ≡ map emptied logs
+emptied-end logs now i over is = search (rules, take_all, drop_all, append-nil)
