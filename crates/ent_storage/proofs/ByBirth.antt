@@ -106,7 +106,7 @@ module _ (living : List LivingEntity) (index : FinMap handle_cmp ℕ) (indexed :
 
     rising : AllPairs (λ a b. birth_order (map_of living) a b ≡ Less) (map (λ (born : Birth × Handle). born.1) sorted)
     rising i j d l k =
-        let b : Birth × Handle = search rules in
+        let b : Birth × Handle = (record { frame = 0; system = 0; ordinal = 0 }, d) in
         let below : j < length sorted = omega (arith, length-map {B = Handle} sorted (λ born. born.1)) in
         let at_i = get_or-map (λ (born : Birth × Handle). born.1) sorted i b d (omega arith) in
         let at_j = get_or-map (λ (born : Birth × Handle). born.1) sorted j b d below in
@@ -115,7 +115,7 @@ module _ (living : List LivingEntity) (index : FinMap handle_cmp ℕ) (indexed :
     from_list : (h : Handle) → Contains (map (λ (born : Birth × Handle). born.1) sorted) h
         → IsSomeAnd (finite.get (map_of living) h) (λ e. IsTrue (passes e))
     from_list h at =
-        let b : Birth × Handle = search rules in
+        let b : Birth × Handle = (record { frame = 0; system = 0; ordinal = 0 }, h) in
         let below : at.0 < length sorted = omega (arith, length-map {B = Handle} sorted (λ born. born.1), at.1) in
         let is = get_or-map (λ (born : Birth × Handle). born.1) sorted at.0 b h below in
         let born : IsBorn (get_or sorted at.0 b) = all_sorted at.0 b below in

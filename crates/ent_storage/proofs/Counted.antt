@@ -167,7 +167,7 @@ module _ (living : List LivingEntity) (pairs : List (Handle × ℕ)) (rising : T
 
   place_below : (q : ℕ) → Contains (map (λ e. e.1) left) q → q < length living
   place_below q at =
-      let unused : Handle × ℕ = search rules in
+      let unused : Handle × ℕ = (record { index = 0; generation = 0 }, q) in
       let inside : at.0 < length left = search (rules, length-map) in
       let resident = stands living _ _ (filter_passes (counts living) pairs at.0 unused inside) in
       search (rules, get_or-map, resident)

@@ -91,7 +91,7 @@ module _ {X : Type 0} where
         (rules, later, find_from q (index + 1) slots (omega (arith, ne)))
   ]
   find_from q index (Occupied generation value ∷ slots) l =
-      let here : Handle = search rules in
+      let here : Handle = record { index = index; generation = generation } in
       elim (cases_eq q.index index) [
         | inl e ↦ search (rules, ties_here, here, find_before, eqb_sym, first_one)
         | inr
