@@ -1,8 +1,6 @@
 -- Lists that have the reservations of each caller in the same order.
 use Rattle.std.proofs.lemmas.Grind.{common_steps}
-use Rattle.std.proofs.Common.{◌≡◌, ◌≢◌, ℕ, true, false, List, []}
-use Rattle.std.proofs.Common.{◌∷◌, ◌++◌, filter, refl, sym, ap, ◌∙◌, true≢false}
-use Rattle.std.proofs.Common.{eq-eqb, ne_eqb}
+use Rattle.std.proofs.Common.{◌≡◌, ◌≢◌, ℕ, true, false, List, [], ◌∷◌, ◌++◌, filter, refl, sym, ap, ◌∙◌, true≢false, eq-eqb, ne_eqb, arith}
 use Rattle.std.proofs.lemmas.List.Elements.{filter-append}
 use Rattle.std.specs.List.{AllByRecursion}
 use Rattle.ent_replay.specs.declared.trace.placed.Placed.{Placed}
@@ -10,8 +8,6 @@ use Rattle.ent_replay.specs.declared.trace.call.Call.TheVariants as line
 use Rattle.ent_replay.specs.Trace.{MayPass, IsOrderOf}
 use Rattle.ent_replay.specs.Lineup.{KeepsCallers, is_of}
 use Rattle.ent_replay.proofs.Lists.{split, none_kept, kept_forward, kept_rest, all_weaker}
-use Rattle.std.proofs.Common.{arith}
-use Rattle.std.proofs.lemmas.Bool.Decides.{nat_tests}
 use Rattle.ent_replay.proofs.KeysOf.{IsOfOther}
 use Rattle.ent_replay.proofs.Complete.{IsPlacedOrder}
 use Rattle.ent_replay.proofs.Sorted.{lines, lines_append, lines_split}
@@ -28,14 +24,11 @@ pub kept_own : (p : Placed) (q : ℕ) (ps : List Placed) → p.reservation.calle
     → filter (is_of q) (p ∷ ps) ≡ p ∷ filter (is_of q) ps
 kept_own p q ps same = simp own
 
-pub others_all : (c : Placed) (before : List Placed)
-    → AllByRecursion (λ b. is_of c.reservation.caller b ≡ false) before
+pub others_all : (c : Placed) (before : List Placed) → AllByRecursion (λ b. is_of c.reservation.caller b ≡ false) before
     → AllByRecursion (MayPass (line.Reserve c.reservation)) (lines before)
 others_all c [] all = tt
-others_all c (b ∷ before) all = (
-  λ same. true≢false (sym (own b c.reservation.caller same) ∙ all.0),
-  others_all c before all.1,
-)
+others_all c (b ∷ before) all =
+    (λ same. true≢false (sym (own b c.reservation.caller same) ∙ all.0), others_all c before all.1)
 
 -- ---- an order keeps the callers, and what keeps them is an order
 
@@ -46,25 +39,41 @@ nothing (d ∷ run) keeps =
     keeps d.reservation.caller ∙ kept_own d d.reservation.caller run refl in absurd cc
 
 -- one comes before those of others
-forward : (p : Placed) (left rest : List Placed) → filter (is_of p.reservation.caller) left ≡ []
-    → (q : ℕ) → filter (is_of q) (p ∷ (left ++ rest)) ≡ filter (is_of q) (left ++ p ∷ rest)
+forward : (p : Placed) (left rest : List Placed) → filter (is_of p.reservation.caller) left ≡ [] → (q : ℕ)
+    → filter (is_of q) (p ∷ (left ++ rest)) ≡ filter (is_of q) (left ++ p ∷ rest)
 forward p left rest none q = grind (arith, common_steps, kept_forward)
 
-pub keeps-IsOrderOf : (order run : List Placed) → KeepsCallers run order
-    → IsOrderOf (lines run) (lines order)
+pub keeps-IsOrderOf : (order run : List Placed) → KeepsCallers run order → IsOrderOf (lines run) (lines order)
 keeps-IsOrderOf [] run keeps = ap lines (nothing run keeps)
-keeps-IsOrderOf (p ∷ order) run keeps = let q = p.reservation.caller in let s = split (is_of q) p (filter (is_of q) order) run (sym (keeps q) ∙ kept_own p q order refl) in let none = none_kept (is_of q) s.before s.none in let rest : KeepsCallers (s.before ++ s.after) order = λ k. kept_rest (is_of k) order (s.before ++ s.after) p (keeps k ∙ ap (filter (is_of k)) s.is ∙ sym (forward p s.before s.after none k)) in (lines s.before, lines s.after, ap lines s.is ∙ lines_split s.before s.after p, others_all p s.before s.none, rw (← lines_append s.before s.after) (keeps-IsOrderOf order (s.before ++ s.after) rest))
+keeps-IsOrderOf (p ∷ order) run keeps =
+    let q = p.reservation.caller in
+    let s = split (is_of q) p (filter (is_of q) order) run (sym (keeps q) ∙ kept_own p q order refl) in
+    let none = none_kept (is_of q) s.before s.none in
+    let rest : KeepsCallers (s.before ++ s.after) order = λ k. kept_rest (is_of k) order (s.before ++ s.after) p
+    (keeps k ∙ ap (filter (is_of k)) s.is ∙ sym (forward p s.before s.after none k)) in (
+      lines s.before,
+      lines s.after,
+      ap lines s.is ∙ lines_split s.before s.after p,
+      others_all p s.before s.none,
+      rw (← lines_append s.before s.after) (keeps-IsOrderOf order (s.before ++ s.after) rest),
+    )
 
 pub order-keeps : (order run : List Placed) → IsPlacedOrder run order → KeepsCallers run order
 order-keeps [] run is q = cc
-order-keeps (p ∷ order) run (before, after, parts, others, more) q = let none = none_kept (is_of p.reservation.caller) before (all_weaker (IsOfOther p) _ (λ b. other b p.reservation.caller) before others) in cc (order-keeps order (before ++ after) more q, forward p before after none q, parts)
+order-keeps (p ∷ order) run (before, after, parts, others, more) q =
+    let none = none_kept (is_of p.reservation.caller) before
+    (all_weaker (IsOfOther p) _ (λ b. other b p.reservation.caller) before others) in
+    cc (order-keeps order (before ++ after) more q, forward p before after none q, parts)
 
-pub keeps-again : (first second third : List Placed) → KeepsCallers first second
-    → KeepsCallers second third → KeepsCallers first third
+pub keeps-again : (first second third : List Placed) → KeepsCallers first second → KeepsCallers second third
+    → KeepsCallers first third
 keeps-again first second third one two q = two q ∙ one q
 
-pub keeps-forward : (run placed left rest : List Placed) (p : Placed)
-    → filter (is_of p.reservation.caller) left ≡ []
-    → KeepsCallers run (placed ++ (left ++ p ∷ rest))
-    → KeepsCallers run (placed ++ (p ∷ (left ++ rest)))
-keeps-forward run placed left rest p none keeps q = cc (filter-append (is_of q) placed (p ∷ (left ++ rest)), forward p left rest none q, filter-append (is_of q) placed (left ++ p ∷ rest), keeps q)
+pub keeps-forward : (run placed left rest : List Placed) (p : Placed) → filter (is_of p.reservation.caller) left ≡ []
+    → KeepsCallers run (placed ++ (left ++ p ∷ rest)) → KeepsCallers run (placed ++ (p ∷ (left ++ rest)))
+keeps-forward run placed left rest p none keeps q = cc (
+  filter-append (is_of q) placed (p ∷ (left ++ rest)),
+  forward p left rest none q,
+  filter-append (is_of q) placed (left ++ p ∷ rest),
+  keeps q,
+)

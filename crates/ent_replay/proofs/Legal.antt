@@ -1,8 +1,6 @@
 -- Reservations one after the other: those for nothing can be left out, and of those that follow a
 -- refusal none is served.
-use Rattle.std.proofs.Common.{rules, ◌≡◌, ℕ, ◌+◌, ◌<◌, Bool, true, false, nat_lt, List, []}
-use Rattle.std.proofs.Common.{◌∷◌, length, filter, Ok, Err, refl, ap, ◌∙◌, arith, inl}
-use Rattle.std.proofs.Common.{inr, ◌⊎◌, append-nil}
+use Rattle.std.proofs.Common.{rules, ◌≡◌, ℕ, ◌+◌, ◌<◌, Bool, true, false, nat_lt, List, [], ◌∷◌, length, filter, Ok, Err, refl, ap, ◌∙◌, arith, inl, inr, ◌⊎◌, append-nil}
 use Rattle.std.proofs.lemmas.Grind.{common_steps}
 use Rattle.std.specs.List.{AllByRecursion}
 use Rattle.std.proofs.lemmas.Bool.{lt-ltb}
@@ -53,26 +51,38 @@ nothing-after s p none = cc (none, after_take-none s)
 nothing-reply : (s : Allocator) (p : Placed) → asks p ≡ 0 → reply_to s (asks p) ≡ Ok []
 nothing-reply s p none = ap (reply_to s) none ∙ reply-none s
 
-pub Answers-some : (run : List Placed) (s : Allocator) → Answers s run
-    → Answers s (filter asks_some run)
+pub Answers-some : (run : List Placed) (s : Allocator) → Answers s run → Answers s (filter asks_some run)
 Answers-some [] s answered = tt
-Answers-some (p ∷ run) s answered = elim (some_or_none (asks p)) [ | inl some ↦ search (rules, kept, Answers-some run (after_take s (asks p)) answered.1) | inr none ↦ rw (left_out p run none.0) (Answers-some run s (rw (← nothing-after s p none.1) answered.1)) ]
+Answers-some (p ∷ run) s answered = elim (some_or_none (asks p)) [
+  | inl some ↦ search (rules, kept, Answers-some run (after_take s (asks p)) answered.1)
+  | inr none ↦ rw
+      (left_out p run none.0) (Answers-some run s (rw (← nothing-after s p none.1) answered.1))
+]
 
-pub after-some : (run : List Placed) (s : Allocator) → after_run s run
-    ≡ after_run s (filter asks_some run)
+pub after-some : (run : List Placed) (s : Allocator) → after_run s run ≡ after_run s (filter asks_some run)
 after-some [] s = refl
-after-some (p ∷ run) s = elim (some_or_none (asks p)) [ | inl some ↦ cc (after-some run (after_take s (asks p)), kept p run some.0) | inr none ↦ search (rules, nothing-after, left_out, after-some run s) ]
+after-some (p ∷ run) s = elim (some_or_none (asks p)) [
+  | inl some ↦ cc
+      (after-some run (after_take s (asks p)), kept p run some.0)
+  | inr none ↦ search
+      (rules, nothing-after, left_out, after-some run s)
+]
 
-pub nothing-fits : (run : List Placed) (s : Allocator) → Answers s run
-    → AllByRecursion FitsNothing run
+pub nothing-fits : (run : List Placed) (s : Allocator) → Answers s run → AllByRecursion FitsNothing run
 nothing-fits [] s answered = tt
-nothing-fits (p ∷ run) s answered = search
-    (rules, nothing-fits run (after_take s (asks p)) answered.1)
+nothing-fits (p ∷ run) s answered = search (rules, nothing-fits run (after_take s (asks p)) answered.1)
 
 pub Answers-from_some : (run : List Placed) (s : Allocator) → AllByRecursion FitsNothing run
     → Answers s (filter asks_some run) → Answers s run
 Answers-from_some [] s fits answered = tt
-Answers-from_some (p ∷ run) s fits answered = elim (some_or_none (asks p)) [ | inl some ↦ let here = rw (kept p run some.0) at answered in (here.0, Answers-from_some run (after_take s (asks p)) fits.1 here.1) | inr none ↦ (rw (nothing-reply s p none.1) (fits.0 none.1), rw (nothing-after s p none.1) (Answers-from_some run s fits.1 (rw (← left_out p run none.0) answered))) ]
+Answers-from_some (p ∷ run) s fits answered = elim (some_or_none (asks p)) [
+  | inl some ↦ let here = rw (kept p run some.0) at answered in
+      (here.0, Answers-from_some run (after_take s (asks p)) fits.1 here.1)
+  | inr none ↦ (
+    rw (nothing-reply s p none.1) (fits.0 none.1),
+    rw (nothing-after s p none.1) (Answers-from_some run s fits.1 (rw (← left_out p run none.0) answered)),
+  )
+]
 
 -- ---- after a refusal
 
@@ -81,23 +91,19 @@ pub record FindsNone (p : Placed) : Type 0 where
   pub some : 0 < asks p
   pub fits : FitsLeft 0 p
 
-empty-refuses : (s : Allocator) (n : ℕ) → s.pool ≡ [] → 0 < n
-    → reply_to s n ≡ Err (record { wanted = n; left = 0 })
+empty-refuses : (s : Allocator) (n : ℕ) → s.pool ≡ [] → 0 < n → reply_to s n ≡ Err (record { wanted = n; left = 0 })
 empty-refuses s n none some = grind (arith, common_steps)
 
 stays-empty : (s : Allocator) (n : ℕ) → s.pool ≡ [] → (after_take s n).pool ≡ []
 stays-empty s n none = grind (arith, common_steps)
 
-pub Answers-empty : (run : List Placed) (s : Allocator) → s.pool ≡ []
-    → AllByRecursion FindsNone run → Answers s run
+pub Answers-empty : (run : List Placed) (s : Allocator) → s.pool ≡ [] → AllByRecursion FindsNone run → Answers s run
 Answers-empty [] s none all = tt
-Answers-empty (p ∷ run) s none all = (
-  search (rules, empty-refuses),
-  Answers-empty run (after_take s (asks p)) (stays-empty s (asks p) none) all.1,
-)
+Answers-empty (p ∷ run) s none all =
+    (search (rules, empty-refuses), Answers-empty run (after_take s (asks p)) (stays-empty s (asks p) none) all.1)
 
-pub empty-Answers : (run : List Placed) (s : Allocator) → s.pool ≡ []
-    → AllByRecursion (λ p. 0 < asks p) run → Answers s run → AllByRecursion FindsNone run
+pub empty-Answers : (run : List Placed) (s : Allocator) → s.pool ≡ [] → AllByRecursion (λ p. 0 < asks p) run
+    → Answers s run → AllByRecursion FindsNone run
 empty-Answers [] s none some answered = tt
 empty-Answers (p ∷ run) s none some answered = (
   search (rules, empty-refuses),
@@ -110,14 +116,12 @@ total [] = 0
 total (p ∷ run) = asks p + total run
 
 -- all that it leaves is that so much more was asked for
-pub after-empty : (run : List Placed) (s : Allocator) → s.pool ≡ []
-    → AllByRecursion (λ p. 0 < asks p) run → after_run s run
-    ≡ record s { asked = s.asked + total run }
+pub after-empty : (run : List Placed) (s : Allocator) → s.pool ≡ [] → AllByRecursion (λ p. 0 < asks p) run
+    → after_run s run ≡ record s { asked = s.asked + total run }
 after-empty [] s none some = search rules
 after-empty (p ∷ run) s none some =
     let n = asks p in
     let more = some.0 in
     let empty : length s.pool ≡ 0 = ap length none in
-    let one : after_take s n ≡ record s { asked = s.asked + n } =
-    search (rules, after_take-refused, append-nil) in
+    let one : after_take s n ≡ record s { asked = s.asked + n } = search (rules, after_take-refused, append-nil) in
     search (rules, after-empty run (record s { asked = s.asked + n }) none some.1)

@@ -1,7 +1,6 @@
 -- Orders of the lines of a run as orders of its reservations with their keys, and without those for
 -- nothing.
-use Rattle.std.proofs.Common.{rules, ◌≡◌, ℕ, ◌+◌, ◌<◌, ◌≤◌, Bool, List, [], ◌∷◌}
-use Rattle.std.proofs.Common.{◌++◌, filter, Ok, refl, sym, ap, subst, ◌∙◌, arith, inl, inr}
+use Rattle.std.proofs.Common.{rules, ◌≡◌, ℕ, ◌+◌, ◌<◌, ◌≤◌, Bool, List, [], ◌∷◌, ◌++◌, filter, Ok, refl, sym, ap, subst, ◌∙◌, arith, inl, inr}
 use Rattle.std.specs.List.{AllByRecursion}
 use Rattle.std.proofs.lemmas.Bool.{cases_eq, cases_Bool, cond_both}
 use Rattle.std.proofs.lemmas.List.Elements.{filter-append}
@@ -16,9 +15,7 @@ use Rattle.ent_replay.specs.declared.trace.placed.Placed.{Placed}
 use Rattle.ent_replay.specs.Trace.{MayPass, IsOrderOf, FitsReserved, AreAnswered, after_lines}
 use Rattle.ent_replay.specs.Checker.{KeyOf, AreKeyed, raised, reservations_of, requested_in}
 use Rattle.ent_replay.proofs.Sorted.{lines, lines_append, tie, IsRising, TieAlike}
-use Rattle.ent_replay.proofs.Legal.{asks, asks_some, some_or_none, kept, left_out, total}
-use Rattle.ent_replay.proofs.Legal.{FitsNothing, Answers-some, after-some, nothing-fits}
-use Rattle.ent_replay.proofs.Legal.{Answers-from_some}
+use Rattle.ent_replay.proofs.Legal.{asks, asks_some, some_or_none, kept, left_out, total, FitsNothing, Answers-some, after-some, nothing-fits, Answers-from_some}
 use Rattle.ent_replay.proofs.KeysOf.{IsOfOther, raised_own, raised_other}
 use Rattle.ent_replay.proofs.Complete.{IsPlacedOrder, all_unordered, all_alike, sorted_is}
 
@@ -33,22 +30,14 @@ pub record Unmapped (run : List Placed) (before after : List Call) (c : Call) : 
   pub placed_is : line.Reserve placed.reservation ≡ c
   pub after_is : lines rest ≡ after
 
-pub unmapped : (run : List Placed) (before after : List Call) (c : Call)
-    → lines run ≡ before ++ c ∷ after → Unmapped run before after c
+pub unmapped : (run : List Placed) (before after : List Call) (c : Call) → lines run ≡ before ++ c ∷ after
+    → Unmapped run before after c
 unmapped [] [] after c e = absurd (let no : [] ≡ c ∷ after = e in cc)
 unmapped [] (b ∷ before) after c e = absurd (let no : [] ≡ b ∷ (before ++ c ∷ after) = e in cc)
 unmapped (p ∷ run) [] after c e =
     let one : line.Reserve p.reservation ≡ c = cc in
     let others : lines run ≡ after = cc in
-    record {
-      first = [];
-      rest = run;
-      placed = p;
-      is = refl;
-      before_is = refl;
-      placed_is = one;
-      after_is = others;
-    }
+    record { first = []; rest = run; placed = p; is = refl; before_is = refl; placed_is = one; after_is = others }
 unmapped (p ∷ run) (b ∷ before) after c e =
     let one : line.Reserve p.reservation ≡ b = cc in
     let others : lines run ≡ before ++ c ∷ after = cc in
@@ -63,9 +52,8 @@ unmapped (p ∷ run) (b ∷ before) after c e =
       after_is = u.after_is;
     }
 
-pub others_of : (p : Placed) (before : List Placed)
-    → AllByRecursion (MayPass (line.Reserve p.reservation)) (lines before)
-    → AllByRecursion (IsOfOther p) before
+pub others_of : (p : Placed) (before : List Placed) → AllByRecursion (MayPass (line.Reserve p.reservation))
+    (lines before) → AllByRecursion (IsOfOther p) before
 others_of p [] all = tt
 others_of p (b ∷ before) all = (all.0, others_of p before all.1)
 
@@ -74,11 +62,21 @@ pub record Lifted (run : List Placed) (order : List Call) : Type 0 where
   pub is : order ≡ lines placed
   pub is_order : IsPlacedOrder run placed
 
-pub lifted : (order : List Call) (run : List Placed) → IsOrderOf (lines run) order
-    → Lifted run order
+pub lifted : (order : List Call) (run : List Placed) → IsOrderOf (lines run) order → Lifted run order
 lifted [] [] is = record { placed = []; is = refl; is_order = refl }
 lifted [] (p ∷ run) is = search (rules, lines)
-lifted (c ∷ order) run (before, after, parts, passes, more) = let u = unmapped run before after c parts in let same : before ++ after ≡ lines (u.first ++ u.rest) = (λ i. sym u.before_is i ++ sym u.after_is i) ∙ sym (lines_append u.first u.rest) in let next = lifted order (u.first ++ u.rest) (rw (← same) more) in let here = simp (← u.before_is) at (subst (λ (l : Call). AllByRecursion (MayPass l) before) (sym u.placed_is) passes) in record { placed = u.placed ∷ next.placed; is = λ i. sym u.placed_is i ∷ next.is i; is_order = (u.first, u.rest, u.is, others_of u.placed u.first here, next.is_order) }
+lifted (c ∷ order) run (before, after, parts, passes, more) =
+    let u = unmapped run before after c parts in
+    let same : before ++ after ≡ lines (u.first ++ u.rest) = (λ i. sym u.before_is i ++ sym u.after_is i)
+    ∙ sym (lines_append u.first u.rest) in
+    let next = lifted order (u.first ++ u.rest) (rw (← same) more) in
+    let here = simp (← u.before_is) at (subst (λ (l : Call). AllByRecursion (MayPass l) before) (sym u.placed_is)
+    passes) in
+    record {
+      placed = u.placed ∷ next.placed;
+      is = λ i. sym u.placed_is i ∷ next.is i;
+      is_order = (u.first, u.rest, u.is, others_of u.placed u.first here, next.is_order);
+    }
 
 -- ---- without those for nothing
 
@@ -86,29 +84,28 @@ all_filtered : (P : Placed → Type 0) (p : Placed → Bool) (xs : List Placed) 
     → AllByRecursion P (filter p xs)
 all_filtered P p [] all = tt
 all_filtered P p (x ∷ xs) all =
-    let rest = all_filtered P p xs all.1 in
-    cond_both (p x) _ _ (AllByRecursion P) (λ _. (all.0, rest)) (λ _. rest)
+    let rest = all_filtered P p xs all.1 in cond_both (p x) _ _ (AllByRecursion P) (λ _. (all.0, rest)) (λ _. rest)
 
 rising_filtered : (p : Placed → Bool) (xs : List Placed) → IsRising xs → IsRising (filter p xs)
 rising_filtered p [] up = tt
 rising_filtered p (x ∷ xs) up =
     let rest = rising_filtered p xs up.1 in
-    cond_both (p x) _ _ IsRising
-    (λ _. (all_filtered (λ (q : Placed). x.key ≤ q.key) p xs up.0, rest)) (λ _. rest)
+    cond_both (p x) _ _ IsRising (λ _. (all_filtered (λ (q : Placed). x.key ≤ q.key) p xs up.0, rest)) (λ _. rest)
 
-swap_filters : (p q : Placed → Bool) (xs : List Placed)
-    → filter p (filter q xs) ≡ filter q (filter p xs)
+swap_filters : (p q : Placed → Bool) (xs : List Placed) → filter p (filter q xs) ≡ filter q (filter p xs)
 swap_filters p q [] = refl
 swap_filters p q (x ∷ xs) =
     let rest = swap_filters p q xs in
     elim (cases_Bool (p x)) [
       | inl first ↦ elim (cases_Bool (q x)) [
         | inl both ↦ simp (first, both, rest)
-        | inr only ↦ simp (first, only, rest)
+        | inr only ↦
+            simp (first, only, rest)
       ]
       | inr fails ↦ elim (cases_Bool (q x)) [
         | inl only ↦ simp (fails, only, rest)
-        | inr neither ↦ simp (fails, neither, rest)
+        | inr neither
+            ↦ simp (fails, neither, rest)
       ]
     ]
 
@@ -144,12 +141,17 @@ not_raised f p same = λ i q. each q i
 pub keyed_filtered : (given : List Handle) (f : ℕ → ℕ) (run : List Placed) → AreKeyed given f run
     → AllByRecursion FitsNothing run → AreKeyed given f (filter asks_some run)
 keyed_filtered given f [] keyed fits = tt
-keyed_filtered given f (p ∷ run) keyed fits = elim (some_or_none (asks p)) [ | inl some ↦ rw (kept p run some.0) (keyed.0, keyed_filtered given (raised f p) run keyed.1 fits.1) | inr none ↦ let key = keyed.0 in let zero_own = nothing_key given (asks p) key.own p.reservation.reply (fits.0 none.1) key.key_of in search (rules, left_out, asks_some, not_raised, keyed_filtered given (raised f p) run keyed.1 fits.1) ]
+keyed_filtered given f (p ∷ run) keyed fits = elim (some_or_none (asks p)) [
+  | inl some ↦ rw (kept p run some.0) (keyed.0, keyed_filtered given (raised f p) run keyed.1 fits.1)
+  | inr none ↦
+      let key = keyed.0 in let zero_own = nothing_key given (asks p) key.own p.reservation.reply (fits.0 none.1)
+      key.key_of in search
+      (rules, left_out, asks_some, not_raised, keyed_filtered given (raised f p) run keyed.1 fits.1)
+]
 
 total_filtered : (run : List Placed) → total (filter asks_some run) ≡ total run
 total_filtered [] = refl
-total_filtered (p ∷ run) = search
-    (rules, some_or_none, asks, total, kept, left_out, total_filtered run)
+total_filtered (p ∷ run) = search (rules, some_or_none, asks, total, kept, left_out, total_filtered run)
 
 pub total_append : (xs ys : List Placed) → total (xs ++ ys) ≡ total xs + total ys
 total_append [] ys = omega arith
@@ -157,8 +159,8 @@ total_append (x ∷ xs) ys = omega (arith, total_append xs ys)
 
 total_ordered : (order run : List Placed) → IsPlacedOrder run order → total order ≡ total run
 total_ordered [] run none = ap total (sym none)
-total_ordered (p ∷ order) run (before, after, parts, others, more) =
-    search (rules, total_append, total, total_ordered order (before ++ after) more)
+total_ordered (p ∷ order) run (before, after, parts, others, more) = search
+    (rules, total_append, total, total_ordered order (before ++ after) more)
 
 pub total_is : (run : List Placed) → total run ≡ requested_in (reservations_of run)
 total_is [] = refl
@@ -171,7 +173,27 @@ some_filtered (p ∷ run) = search (rules, some_filtered run)
 -- If any order of a run is answered so, the sorted one is, and leaves the same state.
 pub sorted_run : (s : Allocator) (sorted run : List Placed) (order : List Call) → IsSound s
     → AreKeyed (available s) (λ _. 0) run → IsRising sorted → TieAlike sorted run
-    → requested_in (reservations_of sorted) ≡ requested_in (reservations_of run)
-    → IsOrderOf (lines run) order → AreAnswered s order
-    → AreAnswered s (lines sorted) × (after_lines s order ≡ after_lines s (lines sorted))
-sorted_run s sorted run order sound keyed up alike sum is answered = let l = lifted order run is in let order_yes = rw l.is at answered in let fits_order = nothing-fits l.placed s order_yes in let fits_run = all_unordered FitsNothing run l.placed l.is_order fits_order in let fits_sorted = all_alike FitsNothing sorted run alike fits_run in let some = filter asks_some in let sums : total (some sorted) ≡ total (some l.placed) = cc (total_filtered sorted, total_is sorted, sum, total_is run, total_ordered l.placed run l.is_order, total_filtered l.placed) in let ends = sorted_is (available s) (some l.placed) (some sorted) (some run) s (λ _. 0) sound refl (λ q. (omega arith, omega arith)) (keyed_filtered (available s) (λ _. 0) run keyed fits_run) (order_filtered l.placed run l.is_order) (some_filtered l.placed) (Answers-some l.placed s order_yes) (rising_filtered asks_some sorted up) (alike_filtered asks_some sorted run alike) sums in (Answers-from_some sorted s fits_sorted ends.0, ap (after_lines s) l.is ∙ after-some l.placed s ∙ ends.1 ∙ sym (after-some sorted s))
+    → requested_in (reservations_of sorted) ≡ requested_in (reservations_of run) → IsOrderOf (lines run) order
+    → AreAnswered s order → AreAnswered s (lines sorted) × (after_lines s order ≡ after_lines s (lines sorted))
+sorted_run s sorted run order sound keyed up alike sum is answered =
+    let l = lifted order run is in
+    let order_yes = rw l.is at answered in
+    let fits_order = nothing-fits l.placed s order_yes in
+    let fits_run = all_unordered FitsNothing run l.placed l.is_order fits_order in
+    let fits_sorted = all_alike FitsNothing sorted run alike fits_run in
+    let some = filter asks_some in
+    let sums : total (some sorted) ≡ total (some l.placed) = cc (
+      total_filtered sorted,
+      total_is sorted,
+      sum,
+      total_is run,
+      total_ordered l.placed run l.is_order,
+      total_filtered l.placed,
+    ) in
+    let ends = sorted_is (available s) (some l.placed) (some sorted) (some run) s (λ _. 0) sound refl
+    (λ q. (omega arith, omega arith)) (keyed_filtered (available s) (λ _. 0) run keyed fits_run)
+    (order_filtered l.placed run l.is_order) (some_filtered l.placed) (Answers-some l.placed s order_yes)
+    (rising_filtered asks_some sorted up) (alike_filtered asks_some sorted run alike) sums in (
+      Answers-from_some sorted s fits_sorted ends.0,
+      ap (after_lines s) l.is ∙ after-some l.placed s ∙ ends.1 ∙ sym (after-some sorted s),
+    )

@@ -1,7 +1,5 @@
 -- Lists of which one element is taken out.
-use Rattle.std.proofs.Common.{rules}
-use Rattle.std.proofs.Common.{◌≡◌, Bool, true, false, List, [], ◌∷◌, ◌++◌, filter, refl}
-use Rattle.std.proofs.Common.{ap, inl, inr}
+use Rattle.std.proofs.Common.{rules, ◌≡◌, Bool, true, false, List, [], ◌∷◌, ◌++◌, filter, refl, ap, inl, inr}
 use Rattle.std.proofs.lemmas.Bool.{cases_Bool}
 use Rattle.std.proofs.lemmas.List.Elements.{filter-append}
 use Rattle.std.specs.List.{AllByRecursion}
@@ -25,8 +23,7 @@ module _ {X : Type 0} (P : X → Type 0) where
   all_push [] x all here = (here, tt)
   all_push (y ∷ xs) x all here = (all.0, all_push xs x all.1 here)
 
-  pub all_weaker : (Q : X → Type 0) → ((x : X) → P x → Q x) → (xs : List X) → AllByRecursion P xs
-      → AllByRecursion Q xs
+  pub all_weaker : (Q : X → Type 0) → ((x : X) → P x → Q x) → (xs : List X) → AllByRecursion P xs → AllByRecursion Q xs
   all_weaker Q each [] all = tt
   all_weaker Q each (x ∷ xs) all = (each x all.0, all_weaker Q each xs all.1)
 
@@ -45,8 +42,7 @@ module _ {X : Type 0} (f : X → Bool) where
       → filter f (x ∷ (before ++ after)) ≡ filter f (before ++ x ∷ after)
   kept_forward before after x none = search (rules, cases_Bool, filter-append)
 
-  pub kept_rest : (xs ys : List X) (x : X) → filter f (x ∷ xs) ≡ filter f (x ∷ ys)
-      → filter f xs ≡ filter f ys
+  pub kept_rest : (xs ys : List X) (x : X) → filter f (x ∷ xs) ≡ filter f (x ∷ ys) → filter f xs ≡ filter f ys
   kept_rest xs ys x e = search (rules, cases_Bool)
 
 -- a list that a filter begins with an element
@@ -61,17 +57,15 @@ module _ {X : Type 0} (p : X → Bool) (h : X) (rest : List X) where
   pub split : (xs : List X) → filter p xs ≡ h ∷ rest → Splits p h rest xs
   split [] e = absurd (let no : [] ≡ h ∷ rest = e in cc)
   split (d ∷ xs) e = elim (cases_Bool (p d)) [
-    | inl passes ↦
-        let here : d ∷ filter p xs ≡ h ∷ rest = simp passes at e in
-        let first : d ≡ h = cc in
-        let others : filter p xs ≡ rest = cc in
-        record { before = []; after = xs; is = ap (λ x. x ∷ xs) first; none = tt; rest_is = others }
-    | inr fails ↦
-        let s = split xs (simp fails at e) in
-        record {
+    | inl passes ↦ let here : d ∷ filter p xs ≡ h
+        ∷ rest = simp passes at e in let first : d ≡ h = cc in let others : filter p xs
+        ≡ rest = cc in record { before = []; after = xs; is = ap (λ x. x ∷ xs) first; none = tt; rest_is = others }
+    | inr
+        fails ↦ let s = split xs (simp fails at e) in record {
           before = d ∷ s.before;
           after = s.after;
-          is = ap (λ ys. d ∷ ys) s.is;
+          is = ap
+              (λ ys. d ∷ ys) s.is;
           none = (fails, s.none);
           rest_is = s.rest_is;
         }

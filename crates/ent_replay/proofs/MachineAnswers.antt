@@ -1,7 +1,5 @@
 -- What a test of a machine's answer tells, and what a refusal for lack of memory has to be.
-use Rattle.std.proofs.Common.{rules, ◌≡◌, sym, ◌∙◌, ℕ, ◌<◌, Bool, true, false, nat_lt, List}
-use Rattle.std.proofs.Common.{◌∷◌, length, drop, slice_get, Option, Some, None, Result, Ok}
-use Rattle.std.proofs.Common.{Err, arith}
+use Rattle.std.proofs.Common.{rules, ◌≡◌, sym, ◌∙◌, ℕ, ◌<◌, Bool, true, false, nat_lt, List, ◌∷◌, length, drop, slice_get, Option, Some, None, Result, Ok, Err, arith}
 use Rattle.std.specs.Option.{option_map, is_some}
 use Rattle.std.specs.Result.{OnOk, OnErr, is_err}
 use Rattle.std.proofs.lemmas.Bool.Decides.{nat_tests}
@@ -20,40 +18,36 @@ use Rattle.ent_replay.specs.declared.stored_call.StoredCall.{StoredCall}
 -- The machine did what the step says, or refused for lack of memory: told of the values that a
 -- contract sees.
 pub done : (on : MachineState → Returned) (inside now : MachineState) → inside ≡ now
-    → (result answer : Result Outcome ReplayFault) → result ≡ answer → (after next : MachineState)
-    → after ≡ next → on inside ≡ (answer, next) → Makes (on now) now result after
+    → (result answer : Result Outcome ReplayFault) → result ≡ answer → (after next : MachineState) → after ≡ next
+    → on inside ≡ (answer, next) → Makes (on now) now result after
 done on inside now view result answer is after next is_next step = search (rules)
 
 -- It found a fault, and changed nothing.
-pub faulty : (on : MachineState → Returned) (inside now : MachineState) → inside ≡ now
-    → (why : ReplayFault) → on inside ≡ (Err why, inside) → Makes (on now) now (Err why) now
+pub faulty : (on : MachineState → Returned) (inside now : MachineState) → inside ≡ now → (why : ReplayFault)
+    → on inside ≡ (Err why, inside) → Makes (on now) now (Err why) now
 faulty on inside now view why = search (rules, done)
 
 pub refused : (on : MachineState → Returned) (inside now : MachineState) → inside ≡ now
-    → (result : Result Outcome ReplayFault) → result ≡ Err fault.Memory → (after : MachineState)
-    → after ≡ inside
+    → (result : Result Outcome ReplayFault) → result ≡ Err fault.Memory → (after : MachineState) → after ≡ inside
     → event_takes_memory inside (on inside).0 ≡ true → Makes (on now) now result after
 refused on inside now view result is after unchanged takes = search rules
 
 -- The same of an event that the allocator alone decides.
 module _ (on : MachineState → Returned) (s : Allocator) (spent : finite.FinMap nat_cmp ℕ)
-    (calls : finite.FinMap nat_cmp StoredCall) (now : MachineState)
-    (view : machine_state s spent calls ≡ now) (result : Result Outcome ReplayFault)
-    (new : Allocator) where
-  pub allocator_did : (answer : Result Outcome ReplayFault) → result ≡ answer → (next : Allocator)
-      → new ≡ next → on (machine_state s spent calls) ≡ (answer, machine_state next spent calls)
+    (calls : finite.FinMap nat_cmp StoredCall) (now : MachineState) (view : machine_state s spent calls ≡ now)
+    (result : Result Outcome ReplayFault) (new : Allocator) where
+  pub allocator_did : (answer : Result Outcome ReplayFault) → result ≡ answer → (next : Allocator) → new ≡ next
+      → on (machine_state s spent calls) ≡ (answer, machine_state next spent calls)
       → Makes (on now) now result (machine_state new spent calls)
   allocator_did answer is next is_next step = search rules
 
-  pub allocator_refused : result ≡ Err fault.Memory → new ≡ s
-      → event_takes_memory (machine_state s spent calls) (on (machine_state s spent calls)).0
-      ≡ true → Makes (on now) now result (machine_state new spent calls)
+  pub allocator_refused : result ≡ Err fault.Memory → new ≡ s → event_takes_memory (machine_state s spent calls) (on
+      (machine_state s spent calls)).0 ≡ true → Makes (on now) now result (machine_state new spent calls)
   allocator_refused is unchanged takes = search rules
 
 -- what is consistent of an allocator is so under another name
-pub consistent_as : {s t : Allocator} {spent : finite.FinMap nat_cmp ℕ}
-    {calls : finite.FinMap nat_cmp StoredCall} → t ≡ s → AreConsistent s spent calls
-    → AreConsistent t spent calls
+pub consistent_as : {s t : Allocator} {spent : finite.FinMap nat_cmp ℕ} {calls : finite.FinMap nat_cmp StoredCall}
+    → t ≡ s → AreConsistent s spent calls → AreConsistent t spent calls
 consistent_as {s} {t} {spent} {calls} is h = rw is h
 
 -- what a test of an answer tells
@@ -81,8 +75,7 @@ ok_not_err x e is = cc
 abbrev refusal : (T : Type 0) {E : Type 0} → E → Result T E
 refusal T x = Err x
 
-pub not_other : {T E : Type 0} (x why other : E) → x ≡ why → ¬ (why ≡ other)
-    → refusal T x ≡ refusal T other → ⊥
+pub not_other : {T E : Type 0} (x why other : E) → x ≡ why → ¬ (why ≡ other) → refusal T x ≡ refusal T other → ⊥
 not_other x why other is differ same = let also : x ≡ other = cc in differ (sym is ∙ also)
 
 pub front : {X : Type 0} (xs : List X) (x : X) → slice_get xs 0 ≡ Some x → xs ≡ x ∷ drop 1 xs

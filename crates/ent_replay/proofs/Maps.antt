@@ -1,6 +1,5 @@
 -- Maps of callers: what a tree's entries stand for, and the values of a map under a function.
-use Rattle.std.proofs.Common.{rules, ◌≡◌, ◌≢◌, refl, sym, ap, ◌∙◌, ℕ, true, false, cond, List, []}
-use Rattle.std.proofs.Common.{◌∷◌, map, Some, None, arith, eq-eqb, ne_eqb, inl, inr}
+use Rattle.std.proofs.Common.{rules, ◌≡◌, ◌≢◌, refl, sym, ap, ◌∙◌, ℕ, true, false, cond, List, [], ◌∷◌, map, Some, None, arith, eq-eqb, ne_eqb}
 use Rattle.std.proofs.lemmas.Bool.{cases_eq}
 use Rattle.std.proofs.lemmas.Option.{same_Some}
 use Rattle.std.proofs.lemmas.Grind.{common_steps}
@@ -13,8 +12,7 @@ use Rattle.std.proofs.lemmas.Map.{lookup-set_value}
 use Rattle.std.specs.BTreeMap as tree
 use Rattle.std.specs.BTreeMap.{BTreeMap, is_at}
 use Rattle.std.specs.FinMap as finite
-use Rattle.std.specs.FinMap.{FinMap, find, same_map, nat_cmp-IsAntisymmetric, get-from_entries}
-use Rattle.std.specs.FinMap.{get-entries, get-insert, get-remove, get-empty}
+use Rattle.std.specs.FinMap.{FinMap, find, same_map, nat_cmp-IsAntisymmetric, get-from_entries, get-entries, get-insert, get-remove, get-empty}
 use Rattle.ent_replay.specs.Machine.{map_values}
 
 -- ---- keys
@@ -32,8 +30,7 @@ apart q k other = unsigned_tied q k ∙ ne_eqb q k other
 -- ---- trees
 
 -- two ways to look through a list of entries
-find-lookup : {X : Type 0} (q : ℕ) (es : List (ℕ × X)) → find nat_cmp q es
-    ≡ lookup (is_at (nat_cmp q)) es
+find-lookup : {X : Type 0} (q : ℕ) (es : List (ℕ × X)) → find nat_cmp q es ≡ lookup (is_at (nat_cmp q)) es
 find-lookup q [] = refl
 find-lookup q (e ∷ es) = cc (find-lookup q es)
 
@@ -42,37 +39,31 @@ abbrev pub of_tree : {X : Type 0} → BTreeMap ℕ X → FinMap nat_cmp X
 of_tree m = finite.from_entries m.entries
 
 -- it has what the tree has
-pub get-of_tree : {X : Type 0} (m : BTreeMap ℕ X) (q : ℕ) → finite.get (of_tree m) q
-    ≡ tree.get nat_cmp m q
+pub get-of_tree : {X : Type 0} (m : BTreeMap ℕ X) (q : ℕ) → finite.get (of_tree m) q ≡ tree.get nat_cmp m q
 get-of_tree m q = get-from_entries nat_cmp_total m.entries q ∙ find-lookup q m.entries
 
-pub maps_alike : {X : Type 0} (m n : FinMap nat_cmp X) → ((q : ℕ) → finite.get m q ≡ finite.get n q)
-    → m ≡ n
+pub maps_alike : {X : Type 0} (m n : FinMap nat_cmp X) → ((q : ℕ) → finite.get m q ≡ finite.get n q) → m ≡ n
 maps_alike m n alike = same_map nat_cmp_total nat_cmp-IsAntisymmetric m n alike
 
-pub of_tree-insert : {X : Type 0} (m n : BTreeMap ℕ X) (k : ℕ) (v : X) → tree.Updates nat_cmp m n k
-    (Some v) → of_tree n ≡ finite.insert (of_tree m) k v
-of_tree-insert m n k v updates = maps_alike (of_tree n) (finite.insert (of_tree m) k v) (λ q.
-    get-of_tree n q ∙ updates.0 q
-    ∙ (λ i. cond ((eq_by_cmp_equiv nat_cmp_total).symm k q i) (Some v) (sym (get-of_tree m q) i))
-    ∙ sym (get-insert nat_cmp_total (of_tree m) k v q))
+pub of_tree-insert : {X : Type 0} (m n : BTreeMap ℕ X) (k : ℕ) (v : X) → tree.Updates nat_cmp m n k (Some v)
+    → of_tree n ≡ finite.insert (of_tree m) k v
+of_tree-insert m n k v updates = maps_alike (of_tree n) (finite.insert (of_tree m) k v)
+    (λ q. get-of_tree n q ∙ updates.0 q ∙ (λ i. cond ((eq_by_cmp_equiv nat_cmp_total).symm k q i) (Some v)
+    (sym (get-of_tree m q) i)) ∙ sym (get-insert nat_cmp_total (of_tree m) k v q))
 
 pub of_tree-remove : {X : Type 0} (m n : BTreeMap ℕ X) (k : ℕ) → tree.Updates nat_cmp m n k None
     → of_tree n ≡ finite.remove (of_tree m) k
-of_tree-remove m n k updates = maps_alike (of_tree n) (finite.remove (of_tree m) k) (λ q.
-    get-of_tree n q ∙ updates.0 q
-    ∙ (λ i. cond ((eq_by_cmp_equiv nat_cmp_total).symm k q i) None (sym (get-of_tree m q) i))
-    ∙ sym (get-remove nat_cmp_total (of_tree m) k q))
+of_tree-remove m n k updates = maps_alike (of_tree n) (finite.remove (of_tree m) k)
+    (λ q. get-of_tree n q ∙ updates.0 q ∙ (λ i. cond ((eq_by_cmp_equiv nat_cmp_total).symm k q i) None
+    (sym (get-of_tree m q) i)) ∙ sym (get-remove nat_cmp_total (of_tree m) k q))
 
 -- to write over the value of a key that is there
-pub from_entries-set : {X : Type 0} (es : List (ℕ × X)) (k : ℕ) (w : X)
-    → IsSome (lookup (is_at (nat_cmp k)) es) → finite.from_entries {R = nat_cmp}
-    (set_value (is_at (nat_cmp k)) es w) ≡ finite.insert (finite.from_entries es) k w
-from_entries-set es k w there =
-    maps_alike (finite.from_entries (set_value (is_at (nat_cmp k)) es w))
-    (finite.insert (finite.from_entries es) k w) (λ q.
-    get-from_entries nat_cmp_total (set_value (is_at (nat_cmp k)) es w) q
-    ∙ find-lookup q (set_value (is_at (nat_cmp k)) es w)
+pub from_entries-set : {X : Type 0} (es : List (ℕ × X)) (k : ℕ) (w : X) → IsSome (lookup (is_at (nat_cmp k)) es)
+    → finite.from_entries {R = nat_cmp} (set_value (is_at (nat_cmp k)) es w)
+    ≡ finite.insert (finite.from_entries es) k w
+from_entries-set es k w there = maps_alike (finite.from_entries (set_value (is_at (nat_cmp k)) es w))
+    (finite.insert (finite.from_entries es) k w) (λ q. get-from_entries nat_cmp_total
+    (set_value (is_at (nat_cmp k)) es w) q ∙ find-lookup q (set_value (is_at (nat_cmp k)) es w)
     ∙ lookup-set_value {eq = eq_by_cmp nat_cmp} (eq_by_cmp_equiv nat_cmp_total) (is_at (nat_cmp k))
     (λ x y tied. ap (λ j. eq_by_cmp nat_cmp j y) (search (rules, nat_tests))) q w es there
     ∙ (λ i. cond ((eq_by_cmp_equiv nat_cmp_total).symm k q i) (Some w)
@@ -81,16 +72,14 @@ from_entries-set es k w there =
 
 -- ---- the map at one caller, and at the others
 
-pub get-inserted : {X : Type 0} (m : FinMap nat_cmp X) (k : ℕ) (v : X)
-    → finite.get (finite.insert m k v) k ≡ Some v
+pub get-inserted : {X : Type 0} (m : FinMap nat_cmp X) (k : ℕ) (v : X) → finite.get (finite.insert m k v) k ≡ Some v
 get-inserted m k v = grind (arith, common_steps, get-insert nat_cmp_total m k v k, itself k)
 
 pub get-insert_other : {X : Type 0} (m : FinMap nat_cmp X) (k : ℕ) (v : X) (q : ℕ) → q ≢ k
     → finite.get (finite.insert m k v) q ≡ finite.get m q
 get-insert_other m k v q other = cc (get-insert nat_cmp_total m k v q, apart q k other)
 
-pub get-removed : {X : Type 0} (m : FinMap nat_cmp X) (k : ℕ) → finite.get (finite.remove m k) k
-    ≡ None
+pub get-removed : {X : Type 0} (m : FinMap nat_cmp X) (k : ℕ) → finite.get (finite.remove m k) k ≡ None
 get-removed m k = cc (get-remove nat_cmp_total m k k, itself k)
 
 pub get-remove_other : {X : Type 0} (m : FinMap nat_cmp X) (k : ℕ) (q : ℕ) → q ≢ k
@@ -98,15 +87,13 @@ pub get-remove_other : {X : Type 0} (m : FinMap nat_cmp X) (k : ℕ) (q : ℕ) �
 get-remove_other m k q other = cc (get-remove nat_cmp_total m k q, apart q k other)
 
 -- an empty map has nothing
-pub nothing_in : {X : Type 0} (m : FinMap nat_cmp X) → m ≡ finite.empty → (q : ℕ) (x : X)
-    → finite.get m q ≡ Some x → ⊥
+pub nothing_in : {X : Type 0} (m : FinMap nat_cmp X) → m ≡ finite.empty → (q : ℕ) (x : X) → finite.get m q ≡ Some x → ⊥
 nothing_in m none q x at = search (rules, get-empty)
 
 -- what holds of all but the value at k, and of that one
 module _ {X : Type 0} (P : ℕ → X → Type 0) (m : FinMap nat_cmp X) (k : ℕ)
     (before : (q : ℕ) (x : X) → q ≢ k → finite.get m q ≡ Some x → P q x) where
-  pub on_inserted : (v : X) → P k v → (q : ℕ) (x : X) → finite.get (finite.insert m k v) q ≡ Some x
-      → P q x
+  pub on_inserted : (v : X) → P k v → (q : ℕ) (x : X) → finite.get (finite.insert m k v) q ≡ Some x → P q x
   on_inserted v here q x at = search (rules, cases_eq, same_Some, get-inserted, get-insert_other)
 
   pub on_removed : (q : ℕ) (x : X) → finite.get (finite.remove m k) q ≡ Some x → P q x
@@ -121,7 +108,11 @@ find-values f q (e ∷ es) = search (rules, find-values f q es)
 
 pub get-map_values : {X Y : Type 0} (f : X → Y) (m : FinMap nat_cmp X) (q : ℕ)
     → finite.get (map_values f m) q ≡ option_map f (finite.get m q)
-get-map_values f m q = cc (get-from_entries nat_cmp_total (map (λ e. (e.0, f e.1)) (finite.entries m)) q, find-values f q (finite.entries m), get-entries m q)
+get-map_values f m q = cc (
+  get-from_entries nat_cmp_total (map (λ e. (e.0, f e.1)) (finite.entries m)) q,
+  find-values f q (finite.entries m),
+  get-entries m q,
+)
 
 pub map_values-insert : {X Y : Type 0} (f : X → Y) (m : FinMap nat_cmp X) (k : ℕ) (v : X)
     → map_values f (finite.insert m k v) ≡ finite.insert (map_values f m) k (f v)
@@ -135,9 +126,8 @@ map_values-empty f = search (rules, maps_alike, get-map_values, get-empty)
 something : {X : Type 0} (x : X) → Some x ≢ None
 something x is = search (rules)
 
-pub from_entries-empty : {X : Type 0} (es : List (ℕ × X)) → finite.from_entries {R = nat_cmp} es
-    ≡ finite.empty → es ≡ []
+pub from_entries-empty : {X : Type 0} (es : List (ℕ × X)) → finite.from_entries {R = nat_cmp} es ≡ finite.empty
+    → es ≡ []
 from_entries-empty [] is = refl
-from_entries-empty (e ∷ es) is =
-    absurd (something e.1 (sym (get-inserted (finite.from_entries es) e.0 e.1)
-    ∙ ap (λ m. finite.get m e.0) is ∙ get-empty nat_cmp e.0))
+from_entries-empty (e ∷ es) is = absurd (something e.1 (sym (get-inserted (finite.from_entries es) e.0 e.1) ∙ ap
+    (λ m. finite.get m e.0) is ∙ get-empty nat_cmp e.0))

@@ -1,31 +1,27 @@
 -- Orders that lines may have come in: of a front and a rest, and what they are answered.
-use Rattle.std.proofs.Common.{arith, rules, ◌≡◌, ℕ, List, [], ◌∷◌, ◌++◌, refl, ap, subst}
+use Rattle.std.proofs.Common.{arith, rules, ◌≡◌, ℕ, List, [], ◌∷◌, ◌++◌, refl, ap, subst, length, sym, ◌∙◌, inl, inr}
 use Rattle.std.proofs.lemmas.Grind.{common_steps}
-use Rattle.std.proofs.lemmas.List.{append_assoc}
+use Rattle.std.proofs.lemmas.List.{append_assoc, append-nil, length-append}
 use Rattle.ent_alloc.specs.Sequential.{Allocator}
 use Rattle.ent_replay.specs.declared.trace.call.Call.{Call}
 use Rattle.ent_replay.specs.declared.trace.call.Call.TheVariants as line
 use Rattle.ent_replay.specs.declared.trace.reservation.Reservation.{Reservation}
 use Rattle.ent_replay.specs.Trace.{Fits, AreAnswered, after_line, after_lines, IsAlone, IsOrderOf}
-use Rattle.ent_replay.specs.Checker.{Checked, reserve_lines, AgreesWith, IsSettled, Follows, Reaches}
-use Rattle.ent_replay.specs.Checker.{Differs, IfReserve, Shows, HasNoOrder, NoneFollows}
+use Rattle.ent_replay.specs.Checker.{Checked, reserve_lines, AgreesWith, IsSettled, Follows, Reaches, Differs, IfReserve, Shows, HasNoOrder, NoneFollows}
 use Rattle.ent_replay.proofs.Parting.{IsReserve, parts, parted, all_reserve}
 use Rattle.ent_replay.proofs.Lists.{all_at}
 use Rattle.ent_replay.proofs.Requested.{reserves-ordered}
-use Rattle.std.proofs.lemmas.List.{append-nil, length-append}
-use Rattle.std.proofs.Common.{length, sym, ◌∙◌, inl, inr}
 use Rattle.ent_replay.specs.declared.trace.difference.Difference.{Difference}
 
 -- an order of the front and one of the rest are one of all
-pub IsOrderOf-append : (front rest first second : List Call) → IsOrderOf front first
-    → IsOrderOf rest second → IsOrderOf (front ++ rest) (first ++ second)
+pub IsOrderOf-append : (front rest first second : List Call) → IsOrderOf front first → IsOrderOf rest second
+    → IsOrderOf (front ++ rest) (first ++ second)
 IsOrderOf-append front rest [] second none is = search rules
-IsOrderOf-append front rest (l ∷ first) second (before, after, parts, passes, more) is =
-    search (rules, parts, append_assoc, IsOrderOf-append (before ++ after) rest first second more is)
+IsOrderOf-append front rest (l ∷ first) second (before, after, parts, passes, more) is = search
+    (rules, parts, append_assoc, IsOrderOf-append (before ++ after) rest first second more is)
 
 -- one line first
-pub IsOrderOf-cons : (l : Call) (rest order : List Call) → IsOrderOf rest order
-    → IsOrderOf (l ∷ rest) (l ∷ order)
+pub IsOrderOf-cons : (l : Call) (rest order : List Call) → IsOrderOf rest order → IsOrderOf (l ∷ rest) (l ∷ order)
 IsOrderOf-cons l rest order is = ([], rest, refl, tt, is)
 
 pub AreAnswered-append : (s : Allocator) (first second : List Call) → AreAnswered s first
@@ -40,11 +36,9 @@ pub run_more : (run : List Reservation) (r : Reservation) (rest : List Call)
 run_more [] r rest = refl
 run_more (q ∷ run) r rest = cc (run_more run r rest)
 
-answered_front : (s : Allocator) (first second : List Call) → AreAnswered s (first ++ second)
-    → AreAnswered s first
+answered_front : (s : Allocator) (first second : List Call) → AreAnswered s (first ++ second) → AreAnswered s first
 answered_front s [] second all = tt
-answered_front s (l ∷ first) second all =
-    (all.0, answered_front (after_line s l) first second all.1)
+answered_front s (l ∷ first) second all = (all.0, answered_front (after_line s l) first second all.1)
 
 pub answered_back : (s : Allocator) (first second : List Call) → AreAnswered s (first ++ second)
     → AreAnswered (after_lines s first) second
@@ -61,14 +55,22 @@ pub record Told (c : Checked) (l : Call) (rest : List Call) : Type 0 where
   pub rest_is_order : IsOrderOf rest second
   pub rest_answered : AreAnswered (after_line (after_lines c.allocator first) l) second
 
-pub told : (c : Checked) (l : Call) (rest : List Call) → IsAlone l → AgreesWith c (l ∷ rest)
-    → Told c l rest
+pub told : (c : Checked) (l : Call) (rest : List Call) → IsAlone l → AgreesWith c (l ∷ rest) → Told c l rest
 told c l rest alone agrees = search (rules, parts, all_reserve, answered_back, answered_front)
 
 -- the run was settled, and the line fits then
-pub called-Follows : (c : Checked) (l : Call) (after : Allocator) → IsAlone l → IsSettled c after
-    → Fits after l → Follows c l (record { allocator = after_line after l; run = [] })
-called-Follows c l after alone settled fits = record { sound = λ rest agrees. record { order = settled.order ++ l ∷ agrees.order; is_order = IsOrderOf-append (reserve_lines c.run) (l ∷ rest) settled.order (l ∷ agrees.order) settled.is_order (IsOrderOf-cons l rest agrees.order agrees.is_order); answered = AreAnswered-append c.allocator settled.order (l ∷ agrees.order) settled.answered (rw (← settled.after_is) (fits, agrees.answered)) }; complete = λ rest agrees. search (rules, told c l rest alone agrees) }
+pub called-Follows : (c : Checked) (l : Call) (after : Allocator) → IsAlone l → IsSettled c after → Fits after l
+    → Follows c l (record { allocator = after_line after l; run = [] })
+called-Follows c l after alone settled fits = record {
+  sound = λ rest agrees. record {
+    order = settled.order ++ l ∷ agrees.order;
+    is_order = IsOrderOf-append (reserve_lines c.run) (l ∷ rest) settled.order (l ∷ agrees.order) settled.is_order
+        (IsOrderOf-cons l rest agrees.order agrees.is_order);
+    answered = AreAnswered-append c.allocator settled.order (l ∷ agrees.order) settled.answered
+        (rw (← settled.after_is) (fits, agrees.answered));
+  };
+  complete = λ rest agrees. search (rules, told c l rest alone agrees);
+}
 
 -- ---- where a trace doesn't agree
 
@@ -82,8 +84,8 @@ length-ordered (l ∷ order) lines (before, after, parts, passes, more) =
     omega arith
 
 -- an alone line isn't one of a run
-not_in_run : (run : List Reservation) (order before after : List Call) (l : Call)
-    → IsOrderOf (reserve_lines run) order → order ≡ before ++ l ∷ after → IsAlone l → ⊥
+not_in_run : (run : List Reservation) (order before after : List Call) (l : Call) → IsOrderOf (reserve_lines run) order
+    → order ≡ before ++ l ∷ after → IsAlone l → ⊥
 not_in_run run order before after l is parts alone = not_both l alone (all_at IsReserve before after l (rw (← parts) (reserves-ordered order (reserve_lines run) is (all_reserve run))))
   where
     not_both : (l : Call) → IsAlone l → IsReserve l → ⊥
@@ -99,32 +101,74 @@ some_rest : (run : List Reservation) (order : List Call) → IsOrderOf (reserve_
 some_rest run order is = rw append-nil is
 
 -- one more line doesn't change it
-pub Shows-more : (c : Checked) (n : ℕ) (l : Call) (d : Difference) → IsAlone l → Shows c n [] d
-    → Shows c n (l ∷ []) d
-Shows-more c n l d alone shows = record { placed = shows.placed; next = shows.next; left = shows.left ++ l ∷ []; is_order = rw (← append_assoc shows.placed (shows.next ∷ shows.left) (l ∷ [])) (IsOrderOf-append (reserve_lines c.run) (l ∷ []) (shows.placed ++ shows.next ∷ shows.left) (l ∷ []) (no_rest c.run (shows.placed ++ shows.next ∷ shows.left) shows.is_order) (IsOrderOf-cons l [] [] refl)); answered = shows.answered; differs = shows.differs; blamed = shows.blamed; stuck = λ x more is. let p = parts (reserve_lines c.run) [] l (shows.placed ++ x ∷ more) (all_reserve c.run) alone is in let own = no_rest c.run (shows.placed ++ shows.next ∷ shows.left) shows.is_order in elim (parted shows.placed more p.first p.second x l p.is) [ | inl inside ↦ absurd (not_in_run c.run (shows.placed ++ shows.next ∷ shows.left) p.first (inside.more ++ shows.next ∷ shows.left) l own (ap (λ (ls : List Call). ls ++ shows.next ∷ shows.left) inside.front_is ∙ append_assoc p.first (l ∷ inside.more) (shows.next ∷ shows.left)) alone) | inr (inl itself) ↦ let a = length-ordered p.first (reserve_lines c.run) p.first_is in let b = length-ordered (shows.placed ++ shows.next ∷ shows.left) (reserve_lines c.run) own in let e = length-append shows.placed (shows.next ∷ shows.left) in let f : length p.first ≡ length shows.placed = ap length itself.before_is in absurd (omega arith) | inr (inr behind) ↦ shows.stuck x behind.more (some_rest c.run (shows.placed ++ x ∷ behind.more) (rw (← behind.before_is) p.first_is)) ] }
+pub Shows-more : (c : Checked) (n : ℕ) (l : Call) (d : Difference) → IsAlone l → Shows c n [] d → Shows c n (l ∷ []) d
+Shows-more c n l d alone shows = record {
+  placed = shows.placed;
+  next = shows.next;
+  left = shows.left ++ l ∷ [];
+  is_order = rw (← append_assoc shows.placed (shows.next ∷ shows.left) (l ∷ []))
+      (IsOrderOf-append (reserve_lines c.run) (l ∷ []) (shows.placed ++ shows.next ∷ shows.left) (l ∷ [])
+      (no_rest c.run (shows.placed ++ shows.next ∷ shows.left) shows.is_order) (IsOrderOf-cons l [] [] refl));
+  answered = shows.answered;
+  differs = shows.differs;
+  blamed = shows.blamed;
+  stuck = λ x more is. let p = parts (reserve_lines c.run) [] l (shows.placed ++ x ∷ more) (all_reserve c.run) alone
+      is in let own = no_rest c.run (shows.placed ++ shows.next ∷ shows.left) shows.is_order in elim
+      (parted shows.placed more p.first p.second x l p.is) [
+        | inl inside ↦ absurd (not_in_run c.run (shows.placed ++ shows.next ∷ shows.left) p.first
+            (inside.more ++ shows.next ∷ shows.left) l own (ap (λ (ls : List Call). ls ++ shows.next ∷ shows.left)
+            inside.front_is ∙ append_assoc p.first (l ∷ inside.more) (shows.next ∷ shows.left)) alone)
+        | inr (inl itself) ↦
+            let a = length-ordered p.first (reserve_lines c.run) p.first_is in let b = length-ordered
+            (shows.placed ++ shows.next ∷ shows.left) (reserve_lines c.run) own in let e = length-append shows.placed
+            (shows.next ∷ shows.left) in let f : length p.first ≡ length shows.placed = ap length itself.before_is in absurd
+            (omega arith)
+        | inr (inr behind) ↦ shows.stuck x behind.more (some_rest c.run (shows.placed ++ x ∷ behind.more)
+            (rw (← behind.before_is) p.first_is))
+      ];
+}
 
 none_blamed : (l : Call) (P : Type 0) → IsAlone l → IfReserve l P
 none_blamed (line.Reserve r) P alone = absurd alone
 none_blamed other P alone = tt
 
 -- the run was settled, and the line differs then
-pub called-Shows : (c : Checked) (l : Call) (after : Allocator) (n : ℕ) (d : Difference) → IsAlone l
-    → IsSettled c after → Differs after n l d → Shows c n (l ∷ []) d
-called-Shows c l after n d alone settled differs = record { placed = settled.order; next = l; left = []; is_order = IsOrderOf-append (reserve_lines c.run) (l ∷ []) settled.order (l ∷ []) settled.is_order (IsOrderOf-cons l [] [] refl); answered = settled.answered; differs = rw (← settled.after_is) differs; blamed = none_blamed l (HasNoOrder c) alone; stuck = λ x more is fits. let p = parts (reserve_lines c.run) [] l (settled.order ++ x ∷ more) (all_reserve c.run) alone is in elim (parted settled.order more p.first p.second x l p.is) [ | inl inside ↦ not_in_run c.run settled.order p.first inside.more l settled.is_order inside.front_is alone | inr (inl itself) ↦ differs.unlike (subst (λ s. Fits s l) (sym settled.after_is) (rw itself.is fits)) | inr (inr behind) ↦ let a = length-ordered p.first (reserve_lines c.run) p.first_is in let b = length-ordered settled.order (reserve_lines c.run) settled.is_order in let e = length-append settled.order (x ∷ behind.more) in let f : length p.first ≡ length (settled.order ++ x ∷ behind.more) = ap length behind.before_is in absurd (omega arith) ] }
+pub called-Shows : (c : Checked) (l : Call) (after : Allocator) (n : ℕ) (d : Difference) → IsAlone l → IsSettled c after
+    → Differs after n l d → Shows c n (l ∷ []) d
+called-Shows c l after n d alone settled differs = record {
+  placed = settled.order;
+  next = l;
+  left = [];
+  is_order = IsOrderOf-append (reserve_lines c.run) (l ∷ []) settled.order (l ∷ []) settled.is_order
+      (IsOrderOf-cons l [] [] refl);
+  answered = settled.answered;
+  differs = rw (← settled.after_is) differs;
+  blamed = none_blamed l (HasNoOrder c) alone;
+  stuck = λ x more is fits. let p = parts (reserve_lines c.run) [] l (settled.order ++ x ∷ more) (all_reserve c.run)
+      alone is in elim (parted settled.order more p.first p.second x l p.is) [
+        | inl inside ↦ not_in_run c.run settled.order p.first inside.more l settled.is_order inside.front_is alone
+        | inr
+            (inl itself) ↦ differs.unlike (subst (λ s. Fits s l) (sym settled.after_is) (rw itself.is fits))
+        | inr
+            (inr behind) ↦ let a = length-ordered p.first (reserve_lines c.run) p.first_is in let b = length-ordered
+            settled.order (reserve_lines c.run) settled.is_order in let e = length-append settled.order (x ∷ behind.more) in
+            let f : length p.first ≡ length (settled.order ++ x ∷ behind.more) = ap length behind.before_is in absurd
+            (omega arith)
+      ];
+}
 
 -- and no other order of the run would help
-pub called-None : (c : Checked) (l : Call) (after : Allocator) → IsAlone l → IsSettled c after
-    → ¬ (Fits after l) → NoneFollows c l
-called-None c l after alone settled unlike rest agrees =
-    grind (arith, common_steps, told c l rest alone agrees, settled.only)
+pub called-None : (c : Checked) (l : Call) (after : Allocator) → IsAlone l → IsSettled c after → ¬ (Fits after l)
+    → NoneFollows c l
+called-None c l after alone settled unlike rest agrees = grind
+    (arith, common_steps, told c l rest alone agrees, settled.only)
 
 -- no order of the run is answered so
 pub settled-None : (c : Checked) (l : Call) → IsAlone l → HasNoOrder c → NoneFollows c l
 settled-None c l alone none rest agrees = grind (arith, common_steps, told c l rest alone agrees)
 
 -- a call that nothing overlaps is made in the state after the run
-pub alone_Reaches : (c : Checked) (l : Call) (new : Checked) (at : Allocator) → IsAlone l
-    → IsSettled c at → Fits at l → new ≡ record { allocator = after_line at l; run = [] }
-    → Reaches c l new
+pub alone_Reaches : (c : Checked) (l : Call) (new : Checked) (at : Allocator) → IsAlone l → IsSettled c at → Fits at l
+    → new ≡ record { allocator = after_line at l; run = [] } → Reaches c l new
 alone_Reaches c (line.Reserve r) new at alone settled fits is = absurd alone
 alone_Reaches c l new at alone settled fits is = (at, settled, fits, is)

@@ -1,8 +1,7 @@
 -- An order of lines of which one overlaps nothing: an order of those before it, that line, and an
 -- order of those after it.
 use Rattle.std.proofs.lemmas.Grind.{common_steps}
-use Rattle.std.proofs.Common.{rules, arith, ◌≡◌, List, [], ◌∷◌, ◌++◌, refl, sym, ap, subst, ◌⊎◌}
-use Rattle.std.proofs.Common.{inl, inr}
+use Rattle.std.proofs.Common.{rules, arith, ◌≡◌, List, [], ◌∷◌, ◌++◌, refl, subst, ◌⊎◌, inl, inr}
 use Rattle.std.specs.List.{AllByRecursion}
 use Rattle.std.proofs.lemmas.List.{append_assoc}
 use Rattle.ent_replay.specs.declared.trace.call.Call.{Call}
@@ -37,9 +36,8 @@ module _ {X : Type 0} where
     pub before_is : before ≡ front ++ x ∷ more
     pub rest_is : rest ≡ more ++ l ∷ after
 
-  pub parted : (front rest before after : List X) (x l : X)
-      → front ++ x ∷ rest ≡ before ++ l ∷ after → InFront front rest before after x l
-      ⊎ (Itself front rest before after x l ⊎ Behind front rest before after x l)
+  pub parted : (front rest before after : List X) (x l : X) → front ++ x ∷ rest ≡ before ++ l ∷ after
+      → InFront front rest before after x l ⊎ (Itself front rest before after x l ⊎ Behind front rest before after x l)
   parted [] rest [] after x l e = search rules
   parted [] rest (b ∷ before) after x l e = search rules
   parted (f ∷ front) rest [] after x l e = search rules
@@ -51,8 +49,7 @@ module _ {X : Type 0} where
 not_passed : (l x : Call) → IsAlone x → MayPass l x → ⊥
 not_passed l other alone p = search rules
 
-none_before : (x : Call) (front : List Call) → IsAlone x → AllByRecursion (MayPass x) front
-    → front ≡ []
+none_before : (x : Call) (front : List Call) → IsAlone x → AllByRecursion (MayPass x) front → front ≡ []
 none_before x [] alone all = refl
 none_before x (y ∷ front) alone all = absurd (grind (arith, common_steps))
 
@@ -63,7 +60,23 @@ pub record Parts (front rest order : List Call) (x : Call) : Type 0 where
   pub first_is : IsOrderOf front first
   pub second_is : IsOrderOf rest second
 
-pub parts : (front rest : List Call) (x : Call) (order : List Call) → AllByRecursion IsReserve front
-    → IsAlone x → IsOrderOf (front ++ x ∷ rest) order → Parts front rest order x
+pub parts : (front rest : List Call) (x : Call) (order : List Call) → AllByRecursion IsReserve front → IsAlone x
+    → IsOrderOf (front ++ x ∷ rest) order → Parts front rest order x
 parts front rest x [] reserves alone e = absurd (no_middle front rest x e)
-parts front rest x (l ∷ order) reserves alone (before, after, is, passes, more) = elim (parted front rest before after x l is) [ | inl p ↦ let here = subst (λ (ls : List Call). IsOrderOf ls order) (grind (arith, common_steps, append_assoc)) more in let left = all_without IsReserve before p.more l (rw (← p.front_is) reserves) in let next = parts (before ++ p.more) rest x order left alone here in record { first = l ∷ next.first; second = next.second; is = cc next.is; first_is = (before, p.more, p.front_is, passes, next.first_is); second_is = next.second_is } | inr (inl p) ↦ search (rules, none_before) | inr (inr p) ↦ absurd (not_passed l x alone (all_at (MayPass l) front p.more x (rw (← p.before_is) passes))) ]
+parts front rest x (l ∷ order) reserves alone (before, after, is, passes, more) = elim
+    (parted front rest before after x l is) [
+      | inl p ↦ let here = subst (λ (ls : List Call). IsOrderOf ls order)
+          (grind (arith, common_steps, append_assoc)) more in let left = all_without IsReserve before p.more l
+          (rw (← p.front_is) reserves) in let next = parts (before ++ p.more) rest x order left alone here in record {
+            first = l ∷ next.first;
+            second = next.second;
+            is = cc next.is;
+            first_is =
+                (before, p.more, p.front_is, passes, next.first_is);
+            second_is = next.second_is;
+          }
+      | inr (inl p) ↦ search
+          (rules, none_before)
+      | inr (inr p) ↦ absurd (not_passed l x alone
+          (all_at (MayPass l) front p.more x (rw (← p.before_is) passes)))
+    ]

@@ -1,9 +1,7 @@
 -- What the lines that were taken request.
-use Rattle.std.proofs.Common.{rules, ◌≡◌, ℕ, ◌+◌, Bool, true, false, if◌then◌else◌, nat_lt, arith}
-use Rattle.std.proofs.Common.{List, [], ◌∷◌, ◌++◌, Option, ap, sym, ◌∙◌, refl}
+use Rattle.std.proofs.Common.{rules, ◌≡◌, ℕ, ◌+◌, Bool, true, false, if◌then◌else◌, arith, List, [], ◌∷◌, ◌++◌, Option, ap, sym, refl}
 use Rattle.std.proofs.lemmas.List.Sums.{sum_by-cons, sum_by_push}
 use Rattle.std.specs.List.{AllByRecursion}
-use Rattle.std.specs.FinSet as set
 use Rattle.ent_handle.specs.Handle.{Handle}
 use Rattle.ent_alloc.specs.Sequential.{Allocator, after_free}
 use Rattle.ent_alloc.proofs.PoolLaw.{asked-after_take}
@@ -11,8 +9,7 @@ use Rattle.ent_replay.specs.declared.trace.call.Call.{Call}
 use Rattle.ent_replay.specs.declared.trace.call.Call.TheVariants as line
 use Rattle.ent_replay.specs.declared.trace.reservation.Reservation.{Reservation}
 use Rattle.ent_replay.specs.Trace.{IsOrderOf, after_front, after_line, after_lines}
-use Rattle.ent_replay.specs.Checker.{Checked, IsSettled, Reaches, ReachesAll, requested_in}
-use Rattle.ent_replay.specs.Checker.{reserve_lines}
+use Rattle.ent_replay.specs.Checker.{Checked, IsSettled, Reaches, ReachesAll, requested_in, reserve_lines}
 use Rattle.ent_replay.specs.declared.trace.reply.AllocReply.{AllocReply}
 use Rattle.ent_replay.specs.declared.trace.reply.FreeReply.{FreeReply}
 use Rattle.ent_replay.specs.declared.trace.reply.FlushReply.{FlushReply}
@@ -32,30 +29,41 @@ asks-run : (run : List Reservation) → asks_in (reserve_lines run) ≡ requeste
 asks-run [] = refl
 asks-run (r ∷ run) = search (rules, sum_by-cons, asks-run run)
 
-asks-middle : (before after : List Call) (l : Call) → asks_in (before ++ l ∷ after)
-    ≡ asks_line l + asks_in (before ++ after)
+asks-middle : (before after : List Call) (l : Call) → asks_in (before ++ l ∷ after) ≡ asks_line l
+    + asks_in (before ++ after)
 asks-middle [] after l = refl
 asks-middle (b ∷ before) after l = omega (arith, asks-middle before after l)
 
 asks-ordered : (order lines : List Call) → IsOrderOf lines order → asks_in order ≡ asks_in lines
 asks-ordered [] lines is = ap asks_in (sym is)
-asks-ordered (l ∷ order) lines (before, after, parts, passes, more) = cc (asks-ordered order (before ++ after) more, asks-middle before after l, parts)
+asks-ordered (l ∷ order) lines (before, after, parts, passes, more) = cc
+    (asks-ordered order (before ++ after) more, asks-middle before after l, parts)
 
 pub reserves-ordered : (order lines : List Call) → IsOrderOf lines order → AllByRecursion IsReserve lines
     → AllByRecursion IsReserve order
 reserves-ordered [] lines is all = tt
-reserves-ordered (l ∷ order) lines (before, after, parts, passes, more) all = let here = rw parts at all in (all_at IsReserve before after l here, reserves-ordered order (before ++ after) more (all_without IsReserve before after l here))
+reserves-ordered (l ∷ order) lines (before, after, parts, passes, more) all =
+    let here = rw parts at all in (
+      all_at IsReserve before after l here,
+      reserves-ordered order (before ++ after) more (all_without IsReserve before after l here),
+    )
 
 asked-reserves : (order : List Call) (s : Allocator) → AllByRecursion IsReserve order
     → (after_lines s order).asked ≡ s.asked + asks_in order
 asked-reserves [] s all = omega arith
-asked-reserves (line.Reserve r ∷ order) s all = omega (arith, asked-after_take s r.requested, asked-reserves order (after_line s (line.Reserve r)) all.1)
+asked-reserves (line.Reserve r ∷ order) s all = omega
+    (arith, asked-after_take s r.requested, asked-reserves order (after_line s (line.Reserve r)) all.1)
 asked-reserves (l ∷ order) s all = absurd all.0
 
 -- the state after a run has asked for what the run requests
-pub asked-settled : (c : Checked) (at : Allocator) → IsSettled c at → at.asked
-    ≡ c.allocator.asked + requested_in c.run
-asked-settled c at settled = cc (settled.after_is, asked-reserves settled.order c.allocator (reserves-ordered settled.order (reserve_lines c.run) settled.is_order (all_reserve c.run)), asks-ordered settled.order (reserve_lines c.run) settled.is_order, asks-run c.run)
+pub asked-settled : (c : Checked) (at : Allocator) → IsSettled c at → at.asked ≡ c.allocator.asked + requested_in c.run
+asked-settled c at settled = cc (
+  settled.after_is,
+  asked-reserves settled.order c.allocator (reserves-ordered settled.order (reserve_lines c.run) settled.is_order
+      (all_reserve c.run)),
+  asks-ordered settled.order (reserve_lines c.run) settled.is_order,
+  asks-run c.run,
+)
 
 -- ---- after one more line
 
@@ -67,8 +75,8 @@ asked-alloc : (b : Bool) (s : Allocator) → (if b then s else after_front s s.p
 asked-alloc true s = refl
 asked-alloc false s = asked-front s s.pool
 
-asked-free : (b c : Bool) (s : Allocator) (h : Handle)
-    → (if b then s else (if c then after_free s h else s)).asked ≡ s.asked
+asked-free : (b c : Bool) (s : Allocator) (h : Handle) → (if b then s else (if c then after_free s h else s)).asked
+    ≡ s.asked
 asked-free true c s h = refl
 asked-free false true s h = refl
 asked-free false false s h = refl
@@ -82,15 +90,14 @@ module _ (old new : Checked) where
       → requested_by new ≡ requested_by old + r.requested
   requested-reserve r is = search (rules, sum_by_push)
 
-  pub requested-flush : (told : Option FlushReply) → Reaches old (line.Flush told) new
-      → requested_by new ≡ 0
+  pub requested-flush : (told : Option FlushReply) → Reaches old (line.Flush told) new → requested_by new ≡ 0
   requested-flush told (at, settled, fits, is) = ap requested_by is
 
   -- a call that changes nothing that is requested
-  kept : (at : Allocator) (l : Call) → IsSettled old at
-      → new ≡ record { allocator = after_line at l; run = [] }
+  kept : (at : Allocator) (l : Call) → IsSettled old at → new ≡ record { allocator = after_line at l; run = [] }
       → (after_line at l).asked ≡ at.asked → requested_by new ≡ requested_by old
-  kept at l settled is stays = let one : requested_by new ≡ (after_line at l).asked + 0 = ap requested_by is in omega (arith, asked-settled)
+  kept at l settled is stays =
+      let one : requested_by new ≡ (after_line at l).asked + 0 = ap requested_by is in omega (arith, asked-settled)
 
   pub requested-alloc : (told : Option AllocReply) → Reaches old (line.Alloc told) new
       → requested_by new ≡ requested_by old
@@ -104,13 +111,12 @@ module _ (old new : Checked) where
       → requested_by new ≡ requested_by old
   requested-state h told (at, settled, fits, is) = kept at (line.State h told) settled is refl
 
-  pub requested-len : (told : Option ℕ) → Reaches old (line.Len told) new
-      → requested_by new ≡ requested_by old
+  pub requested-len : (told : Option ℕ) → Reaches old (line.Len told) new → requested_by new ≡ requested_by old
   requested-len told (at, settled, fits, is) = kept at (line.Len told) settled is refl
 
 -- one line after the others
-pub ReachesAll-next : (old middle new : Checked) (lines : List Call) (l : Call)
-    → ReachesAll old lines middle → Reaches middle l new → ReachesAll old (lines ++ l ∷ []) new
+pub ReachesAll-next : (old middle new : Checked) (lines : List Call) (l : Call) → ReachesAll old lines middle
+    → Reaches middle l new → ReachesAll old (lines ++ l ∷ []) new
 ReachesAll-next old middle new [] l is next = (new, rw (← is) next, refl)
 ReachesAll-next old middle new (x ∷ lines) l (second, first, more) next =
     (second, first, ReachesAll-next second middle new lines l more next)

@@ -1,6 +1,5 @@
 -- The reservations of a run one after the other: what is left to be made.
-use Rattle.std.proofs.Common.{rules, ◌≡◌, ℕ, ◌+◌, ◌^◌, ◌<◌, ◌≤◌, List, length, drop}
-use Rattle.std.proofs.Common.{get_or, arith}
+use Rattle.std.proofs.Common.{rules, ◌≡◌, ℕ, ◌+◌, ◌^◌, ◌<◌, ◌≤◌, List, length, drop, get_or, arith}
 use Rattle.std.proofs.lemmas.Grind.{common_steps}
 use Rattle.std.proofs.Math.Seq.{drop-cons}
 use Rattle.std.proofs.lemmas.List.{drop_all}
@@ -22,11 +21,9 @@ module _ (old s : Allocator) (run : List Placed) (i : ℕ) where
       → s.asked + p.reservation.requested ≤ 2 ^ 50
   Made-few made p within is = grind (arith, common_steps, drop-cons, sum_by-cons)
 
-  pub Made-next : Made old s run i → (p : Placed) → i < length run → p ≡ get_or run i p
-      → (t : Allocator) → t ≡ after_take s p.reservation.requested
-      → Made old t run (i + 1)
-  Made-next made p within is t after =
-      grind (arith, common_steps, lines, drop-cons, sum_by-cons, asked-after_take)
+  pub Made-next : Made old s run i → (p : Placed) → i < length run → p ≡ get_or run i p → (t : Allocator)
+      → t ≡ after_take s p.reservation.requested → Made old t run (i + 1)
+  Made-next made p within is t after = grind (arith, common_steps, lines, drop-cons, sum_by-cons, asked-after_take)
 
   pub Made-last : Made old s run i → length run ≤ i → s ≡ after_lines old (lines run)
   Made-last made past = search (rules, drop_all, lines)

@@ -17,11 +17,11 @@ abbrev pub read_from : ℕ → List ℕ → Result (List Event) ReadFault
 read_from so_far rest = events_of (so_far + 1) (lines_of rest)
 
 pub stops : (front : List Event) (so_far : ℕ) (rest line following : List ℕ) (c : Cause)
-    (total : Result (List Event) ReadFault)
-    → lines_of rest ≡ line ∷ lines_of following → event_of (words_of line) ≡ Err c
-    → with_front front (read_from so_far rest) ≡ total → total ≡ Err (Line (so_far + 1) c)
+    (total : Result (List Event) ReadFault) → lines_of rest ≡ line ∷ lines_of following
+    → event_of (words_of line) ≡ Err c → with_front front (read_from so_far rest) ≡ total
+    → total ≡ Err (Line (so_far + 1) c)
 stops front so_far rest line following c total split named invariant = search rules
 
-pub ends : (front : List Event) (so_far : ℕ) (rest : List ℕ) (total : Result (List Event) ReadFault)
-    → length rest ≡ 0 → with_front front (read_from so_far rest) ≡ total → total ≡ Ok front
+pub ends : (front : List Event) (so_far : ℕ) (rest : List ℕ) (total : Result (List Event) ReadFault) → length rest ≡ 0
+    → with_front front (read_from so_far rest) ≡ total → total ≡ Ok front
 ends front so_far rest total empty invariant = search (rules, nil_from_length, append-nil)

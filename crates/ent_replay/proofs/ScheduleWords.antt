@@ -1,7 +1,6 @@
 -- Lines and words: what stands before the first separator, and then the parts of what stands after
 -- it.
-use Rattle.std.proofs.Common.{rules, ◌≡◌, ◌≢◌, ℕ, ◌<◌, false, eqb, List, [], ◌∷◌, ◌++◌, length, All}
-use Rattle.std.proofs.Common.{Err, arith}
+use Rattle.std.proofs.Common.{rules, ◌≡◌, ◌≢◌, ℕ, ◌<◌, false, eqb, List, [], ◌∷◌, ◌++◌, length, All, Err, arith}
 use Rattle.std.specs.List.{slice_split}
 use Rattle.std.proofs.lemmas.Bool.{eq-eqb, ne_eqb}
 use Rattle.std.proofs.lemmas.List.Splits.{slice_split_none, slice_split_at, length-slice_split}
@@ -11,23 +10,21 @@ use Rattle.ent_replay.specs.ScheduleText.{without_empty_end, lines_of, words_of,
 abbrev pub IsWithout : ℕ → List ℕ → Type 0
 IsWithout separator bytes = All (λ byte. byte ≢ separator) bytes
 
-fails : (separator : ℕ) (bytes : List ℕ) → IsWithout separator bytes
-    → All (λ byte. eqb byte separator ≡ false) bytes
+fails : (separator : ℕ) (bytes : List ℕ) → IsWithout separator bytes → All (λ byte. eqb byte separator ≡ false) bytes
 fails separator bytes h k d lt = ne_eqb _ separator (h k d lt)
 
 pub parts_whole : (separator : ℕ) (bytes : List ℕ) → IsWithout separator bytes
     → slice_split (λ byte. eqb byte separator) bytes ≡ bytes ∷ []
 parts_whole separator bytes h = search (rules, slice_split_none, fails)
 
-pub parts_first : (separator : ℕ) (bytes first others : List ℕ) → bytes ≡ first ++ separator
-    ∷ others → IsWithout separator first → slice_split (λ byte. eqb byte separator) bytes ≡ first
+pub parts_first : (separator : ℕ) (bytes first others : List ℕ) → bytes ≡ first ++ separator ∷ others
+    → IsWithout separator first → slice_split (λ byte. eqb byte separator) bytes ≡ first
     ∷ slice_split (λ byte. eqb byte separator) others
 parts_first separator bytes first others e h = search (rules, slice_split_at, fails, eq-eqb)
 
 -- there is always a part
 
-pub parts_nonempty : (separator : ℕ) (bytes : List ℕ) → 0
-    < length (slice_split (λ byte. eqb byte separator) bytes)
+pub parts_nonempty : (separator : ℕ) (bytes : List ℕ) → 0 < length (slice_split (λ byte. eqb byte separator) bytes)
 parts_nonempty separator bytes = search (rules, length-slice_split)
 
 -- ---- lines
@@ -44,19 +41,18 @@ lines_whole text long h = search (rules, parts_whole 10 text h, not_empty (lengt
 
 pub lines_first : (text line others : List ℕ) → text ≡ line ++ 10 ∷ others → IsWithout 10 line
     → lines_of text ≡ line ∷ lines_of others
-lines_first text line others e h = cc (parts_first 10 text line others e h, without_empty_end-cons line _ (parts_nonempty 10 others))
+lines_first text line others e h = cc
+    (parts_first 10 text line others e h, without_empty_end-cons line _ (parts_nonempty 10 others))
 
 -- ---- words
 
-none_of_words : {A : Type 0} (x : A) (words : List (List ℕ)) → 0 < length words → none x words
-    ≡ Err cause.Count
+none_of_words : {A : Type 0} (x : A) (words : List (List ℕ)) → 0 < length words → none x words ≡ Err cause.Count
 none_of_words x more long = search rules
 
 pub none_after : {A : Type 0} (x : A) (line : List ℕ) → none x (words_of line) ≡ Err cause.Count
 none_after x line = none_of_words x (words_of line) (parts_nonempty 32 line)
 
-one_of_more : (word : List ℕ) (words : List (List ℕ)) → 0 < length words → one (word ∷ words)
-    ≡ Err cause.Count
+one_of_more : (word : List ℕ) (words : List (List ℕ)) → 0 < length words → one (word ∷ words) ≡ Err cause.Count
 one_of_more word more long = search rules
 
 pub one_after : (word line : List ℕ) → one (word ∷ words_of line) ≡ Err cause.Count

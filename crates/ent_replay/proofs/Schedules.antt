@@ -3,12 +3,12 @@ use Rattle.std.proofs.Common.{rules, ◌≡◌, refl, List, [], ◌∷◌, ◌++
 use Rattle.ent_replay.specs.declared.event.Event.{Event}
 use Rattle.ent_replay.specs.Schedule.{MachineState, after_event, outcomes_of, after_events}
 
-pub after_events-append : (s : MachineState) (xs ys : List Event) → after_events s (xs ++ ys)
-    ≡ after_events (after_events s xs) ys
+pub after_events-append : (s : MachineState) (xs ys : List Event)
+    → after_events s (xs ++ ys) ≡ after_events (after_events s xs) ys
 after_events-append s [] ys = refl
 after_events-append s (e ∷ xs) ys = after_events-append (after_event s e) xs ys
 
-pub outcomes_of-append : (s : MachineState) (xs ys : List Event) → outcomes_of s (xs ++ ys)
-    ≡ outcomes_of s xs ++ outcomes_of (after_events s xs) ys
+pub outcomes_of-append : (s : MachineState) (xs ys : List Event)
+    → outcomes_of s (xs ++ ys) ≡ outcomes_of s xs ++ outcomes_of (after_events s xs) ys
 outcomes_of-append s [] ys = refl
 outcomes_of-append s (e ∷ xs) ys = search (rules, outcomes_of-append (after_event s e) xs ys)

@@ -1,24 +1,18 @@
 -- A sorted run is in an order that its reservations may have come in: a stable sort by keys that don't
 -- fall along a caller keeps each caller's order.
-use Rattle.std.proofs.Common.{rules, ◌≡◌, ℕ, suc, ◌≤◌, Bool, true, false, not, ◌&&◌, cond, nat_lt}
-use Rattle.std.proofs.Common.{List, [], ◌∷◌, ◌++◌, filter, All, refl, sym, ◌∙◌, arith}
-use Rattle.std.proofs.Common.{true≢false}
+use Rattle.std.proofs.Common.{rules, ◌≡◌, ℕ, suc, ◌≤◌, Bool, true, false, not, ◌&&◌, cond, nat_lt, List, [], ◌∷◌, ◌++◌, filter, All, refl, sym, ◌∙◌, arith, true≢false}
 use Rattle.std.proofs.lemmas.Grind.{common_steps}
 use Rattle.std.specs.List.{AllByRecursion}
 use Rattle.std.specs.List.Sorted.{ties, IsNonDecreasingBy}
 use Rattle.std.specs.Ordering.{nat_cmp, is_lt}
-use Rattle.std.proofs.lemmas.Bool.{le-ltb}
-use Rattle.std.proofs.lemmas.List.Elements.{All-head, All-tail, All-cons, All-filter}
-use Rattle.std.proofs.lemmas.List.Elements.{All-from_recursion, recursion_from_All}
+use Rattle.std.proofs.lemmas.Bool.{le-ltb, cases_Bool}
+use Rattle.std.proofs.lemmas.List.Elements.{All-head, All-tail, All-cons, All-filter, All-from_recursion, recursion_from_All}
 use Rattle.ent_replay.specs.declared.trace.call.Call.{Call}
 use Rattle.ent_replay.specs.declared.trace.call.Call.TheVariants as line
 use Rattle.ent_replay.specs.declared.trace.placed.Placed.{Placed}
 use Rattle.ent_replay.specs.Trace.{MayPass}
 use Rattle.ent_replay.specs.Checker.{reservations_of, reserve_lines, ComesAfter, AreSteady}
-use Rattle.ent_replay.proofs.Lists.{all_at, all_without, all_weaker, none_kept, kept_forward}
-use Rattle.ent_replay.proofs.Lists.{kept_rest}
-use Rattle.std.proofs.lemmas.Bool.{cases_Bool}
-use Rattle.std.proofs.Common.{inl, inr}
+use Rattle.ent_replay.proofs.Lists.{all_at, all_without, all_weaker, none_kept, kept_forward, kept_rest}
 
 abbrev pub lines : List Placed → List Call
 lines run = reserve_lines (reservations_of run)
@@ -55,31 +49,34 @@ IsRising (h ∷ run) = AllByRecursion (λ (p : Placed). h.key ≤ p.key) run × 
 pub rising : (run : List Placed) → IsNonDecreasingBy key run → IsRising run
 rising [] up = tt
 rising (h ∷ run) up = (
-  recursion_from_All (λ (p : Placed). h.key ≤ p.key) run
-      (λ k d lt. up 0 (suc k) d (omega arith) (omega arith)),
+  recursion_from_All (λ (p : Placed). h.key ≤ p.key) run (λ k d lt. up 0 (suc k) d (omega arith) (omega arith)),
   rising run (λ i j d le lt. up (suc i) (suc j) d (omega arith) (omega arith)),
 )
 
 -- what holds of all that tie with any one holds of all
 module _ (Q : Placed → Type 0) where
-  rest_of : (d x : Placed) (run : List Placed) (b : Bool)
-      → All Q (cond b (d ∷ filter (tie x) run) (filter (tie x) run)) → All Q (filter (tie x) run)
+  rest_of : (d x : Placed) (run : List Placed) (b : Bool) → All Q (cond b (d ∷ filter (tie x) run) (filter (tie x) run))
+      → All Q (filter (tie x) run)
   rest_of d x run true all = All-tail Q d (filter (tie x) run) all
   rest_of d x run false all = all
 
-  pub whole : (run : List Placed) → ((x : Placed) → All Q (filter (tie x) run)) → AllByRecursion Q
-      run
+  pub whole : (run : List Placed) → ((x : Placed) → All Q (filter (tie x) run)) → AllByRecursion Q run
   whole [] each = tt
-  whole (d ∷ run) each = (All-head Q d (filter (tie d) run) ((rw (tie_from d d refl) at (each d))), whole run (λ x. rest_of d x run (tie x d) (each x)))
+  whole (d ∷ run) each = (
+    All-head Q d (filter (tie d) run) ((rw (tie_from d d refl) at (each d))),
+    whole run (λ x. rest_of d x run (tie x d) (each x)),
+  )
 
 -- the second list has what ties with any one in the same order
 abbrev pub TieAlike : List Placed → List Placed → Type 0
 TieAlike sorted run = (x : Placed) → filter (tie x) sorted ≡ filter (tie x) run
 
-pub least : (h : Placed) (sorted run : List Placed)
-    → AllByRecursion (λ (p : Placed). h.key ≤ p.key) sorted → TieAlike (h ∷ sorted) run
-    → AllByRecursion (λ (p : Placed). h.key ≤ p.key) run
-least h sorted run up alike = let Q : Placed → Type 0 = λ (p : Placed). h.key ≤ p.key in whole Q run (λ x. rw (← alike x) (All-filter (tie x) Q (h ∷ sorted) (All-cons Q h sorted (omega arith) (All-from_recursion Q sorted up))))
+pub least : (h : Placed) (sorted run : List Placed) → AllByRecursion (λ (p : Placed). h.key ≤ p.key) sorted
+    → TieAlike (h ∷ sorted) run → AllByRecursion (λ (p : Placed). h.key ≤ p.key) run
+least h sorted run up alike =
+    let Q : Placed → Type 0 = λ (p : Placed). h.key ≤ p.key in
+    whole Q run (λ x. rw (← alike x) (All-filter (tie x) Q (h ∷ sorted)
+    (All-cons Q h sorted (omega arith) (All-from_recursion Q sorted up))))
 
 -- ---- steady callers
 
@@ -96,17 +93,15 @@ steady_without (b ∷ before) after h steady =
     (all_without (ComesAfter b) before after h steady.0, steady_without before after h steady.1)
 
 pub passes : (h : Placed) (before : List Placed) → AllByRecursion (λ b. tie h b ≡ false) before
-    → AllByRecursion (λ (b : Placed). h.key ≤ b.key) before
-    → AllByRecursion (λ (b : Placed). ComesAfter b h) before
+    → AllByRecursion (λ (b : Placed). h.key ≤ b.key) before → AllByRecursion (λ (b : Placed). ComesAfter b h) before
     → AllByRecursion (MayPass (line.Reserve h.reservation)) (lines before)
 passes h [] none least steady = tt
-passes h (b ∷ before) none least steady =
-    search (rules, true≢false, tie_from, passes h before none.1 least.1 steady.1)
+passes h (b ∷ before) none least steady = search (rules, true≢false, tie_from, passes h before none.1 least.1 steady.1)
 
 -- ---- one is taken out
 
-pub lines_split : (before after : List Placed) (h : Placed) → lines (before ++ h ∷ after)
-    ≡ lines before ++ line.Reserve h.reservation ∷ lines after
+pub lines_split : (before after : List Placed) (h : Placed) → lines (before ++ h ∷ after) ≡ lines before ++ line.Reserve
+    h.reservation ∷ lines after
 lines_split [] after h = refl
 lines_split (b ∷ before) after h = search (rules, lines_split before after h)
 
@@ -114,13 +109,12 @@ pub lines_append : (xs ys : List Placed) → lines (xs ++ ys) ≡ lines xs ++ li
 lines_append [] ys = refl
 lines_append (x ∷ xs) ys = search (rules, lines_append xs ys)
 
-none_tie : (x h : Placed) (before : List Placed) → x.key ≡ h.key
-    → AllByRecursion (λ b. tie h b ≡ false) before → filter (tie x) before ≡ []
+none_tie : (x h : Placed) (before : List Placed) → x.key ≡ h.key → AllByRecursion (λ b. tie h b ≡ false) before
+    → filter (tie x) before ≡ []
 none_tie x h before same none = search (rules, none_kept, all_weaker, cases_Bool, tie_from, tie_key)
 
-pub alike_rest : (h : Placed) (sorted before after : List Placed)
-    → AllByRecursion (λ b. tie h b ≡ false) before → TieAlike (h ∷ sorted) (before ++ h ∷ after)
-    → TieAlike sorted (before ++ after)
+pub alike_rest : (h : Placed) (sorted before after : List Placed) → AllByRecursion (λ b. tie h b ≡ false) before
+    → TieAlike (h ∷ sorted) (before ++ h ∷ after) → TieAlike sorted (before ++ after)
 alike_rest h sorted before after none alike x = grind (arith, common_steps, kept_rest, kept_forward, none_tie, tie_key)
 
 pub begins : (h : Placed) (sorted run : List Placed) → TieAlike (h ∷ sorted) run

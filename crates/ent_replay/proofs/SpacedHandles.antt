@@ -1,6 +1,5 @@
 -- Handles following one another, each with its space.
-use Rattle.std.proofs.Common.{rules, ◌≡◌, ℕ, ◌+◌, ◌<◌, ◌≤◌, List, [], ◌∷◌, ◌++◌, length, get_or}
-use Rattle.std.proofs.Common.{drop, max, refl, sym, ap, ◌∙◌, arith, length-append}
+use Rattle.std.proofs.Common.{rules, ◌≡◌, ℕ, ◌+◌, ◌<◌, ◌≤◌, List, [], ◌∷◌, ◌++◌, length, get_or, drop, max, refl, sym, ap, ◌∙◌, arith, length-append}
 use Rattle.std.proofs.lemmas.Grind.{common_steps}
 use Rattle.std.proofs.lemmas.List.{append-nil}
 use Rattle.ent_handle.specs.Handle.{Handle}
@@ -8,32 +7,27 @@ use Rattle.ent_handle.specs.Text.{handle_text}
 use Rattle.ent_replay.specs.OutcomeText.{handles_text, spaced}
 
 -- the texts from a handle on begin with its own
-pub length-spaced_drop : (handles : List Handle) (i : ℕ) (h : Handle) → i < length handles → h
-    ≡ get_or handles i h → length (spaced (drop i handles)) ≡ (1 + length (handle_text h))
-    + length (spaced (drop (i + 1) handles))
+pub length-spaced_drop : (handles : List Handle) (i : ℕ) (h : Handle) → i < length handles → h ≡ get_or handles i h
+    → length (spaced (drop i handles)) ≡ (1 + length (handle_text h)) + length (spaced (drop (i + 1) handles))
 length-spaced_drop handles i h lt is = grind (arith, common_steps)
 
 -- what is written and the next handle are no longer than all
-pub spaced_fits : (old now : List ℕ) (handles : List Handle) (i : ℕ) (h : Handle) → i
-    < length handles → h ≡ get_or handles i h
-    → now ++ spaced (drop i handles) ≡ old ++ spaced handles → length now
-    + (1 + length (handle_text h)) ≤ length old + length (spaced handles)
-spaced_fits old now handles i h lt is e =
-    omega (
-      arith,
-      length-spaced_drop handles i h lt is,
-      sym (length-append now (spaced (drop i handles))) ∙ ap length e
-          ∙ length-append old (spaced handles),
-    )
+pub spaced_fits : (old now : List ℕ) (handles : List Handle) (i : ℕ) (h : Handle) → i < length handles
+    → h ≡ get_or handles i h → now ++ spaced (drop i handles) ≡ old ++ spaced handles
+    → length now + (1 + length (handle_text h)) ≤ length old + length (spaced handles)
+spaced_fits old now handles i h lt is e = omega (
+  arith,
+  length-spaced_drop handles i h lt is,
+  sym (length-append now (spaced (drop i handles))) ∙ ap length e ∙ length-append old (spaced handles),
+)
 
 -- the first handle, and then each with its space
-pub handles_text-cons : (first : Handle) (others : List Handle) → handles_text (first ∷ others)
-    ≡ handle_text first ++ spaced others
+pub handles_text-cons : (first : Handle) (others : List Handle) → handles_text (first ∷ others) ≡ handle_text first
+    ++ spaced others
 handles_text-cons first [] = sym (append-nil (handle_text first))
 handles_text-cons first (next ∷ others) = search (rules, handles_text-cons next others)
 
 -- such a line is as long as the texts with a space before each, and 1 without any
-pub length-handles_text : (handles : List Handle) → length (handles_text handles) + 1
-    ≡ max (length (spaced handles)) 1
+pub length-handles_text : (handles : List Handle) → length (handles_text handles) + 1 ≡ max (length (spaced handles)) 1
 length-handles_text [] = refl
 length-handles_text (h ∷ others) = search (rules, handles_text-cons, length-append)

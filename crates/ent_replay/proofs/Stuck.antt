@@ -1,6 +1,5 @@
 -- If no caller's first reservation that is left fits, no line that may come next does.
-use Rattle.std.proofs.Common.{arith, ◌≡◌, ℕ, List, [], ◌∷◌, ◌++◌, filter, length, refl, sym, ap}
-use Rattle.std.proofs.Common.{subst, Bool, true, false, cond, ◌==◌}
+use Rattle.std.proofs.Common.{arith, ◌≡◌, ℕ, List, [], ◌∷◌, ◌++◌, filter, length, refl, sym, ap, subst, Bool, true, false, cond, ◌==◌}
 use Rattle.std.proofs.lemmas.List.{append-nil}
 use Rattle.std.proofs.lemmas.List.Elements.{filter-append}
 use Rattle.ent_alloc.specs.Sequential.{Allocator}
@@ -11,22 +10,18 @@ use Rattle.ent_replay.specs.declared.trace.lineup.Lineup.{Lineup}
 use Rattle.ent_replay.specs.declared.trace.placed.Placed.{Placed}
 use Rattle.ent_replay.specs.Trace.{Fits, IsOrderOf}
 use Rattle.ent_replay.specs.Checker.{HasNoOrder, Shows, reservations_of}
-use Rattle.ent_replay.specs.Lineup.{IsLineup, KeepsCallers, NamesOne, NoneFits, all_of, is_of, lines_of}
-use Rattle.ent_replay.specs.Lineup.{reached}
+use Rattle.ent_replay.specs.Lineup.{IsLineup, KeepsCallers, NamesOne, NoneFits, all_of, is_of, lines_of, reached}
 use Rattle.ent_replay.proofs.Lists.{split, none_kept}
 use Rattle.ent_replay.proofs.Lifted.{lifted, unmapped}
 use Rattle.ent_replay.proofs.Sorted.{lines_append}
-use Rattle.ent_replay.proofs.Callers.{keeps-IsOrderOf, keeps-forward, kept_own}
-use Rattle.ent_replay.proofs.Callers.{order-keeps}
+use Rattle.ent_replay.proofs.Callers.{keeps-IsOrderOf, keeps-forward, kept_own, order-keeps}
 
 -- lists of the same lines have as many of each caller
 alike : (q : ℕ) (xs ys : List Placed) → lines_of xs ≡ lines_of ys
     → length (filter (is_of q) xs) ≡ length (filter (is_of q) ys)
 alike q [] [] is = refl
-alike q [] (y ∷ ys) is =
-    let no : [] ≡ line.Reserve y.reservation ∷ lines_of ys = is in absurd cc
-alike q (x ∷ xs) [] is =
-    let no : line.Reserve x.reservation ∷ lines_of xs ≡ [] = is in absurd cc
+alike q [] (y ∷ ys) is = let no : [] ≡ line.Reserve y.reservation ∷ lines_of ys = is in absurd cc
+alike q (x ∷ xs) [] is = let no : line.Reserve x.reservation ∷ lines_of xs ≡ [] = is in absurd cc
 alike q (x ∷ xs) (y ∷ ys) is =
     let one : x.reservation ≡ y.reservation = cc in
     let others : lines_of xs ≡ lines_of ys = cc in
@@ -45,16 +40,46 @@ cancelled : (a b c d : List Placed) → length a ≡ length b → a ++ c ≡ b +
 cancelled [] [] c d long is = is
 cancelled [] (y ∷ b) c d long is = absurd (omega arith)
 cancelled (x ∷ a) [] c d long is = absurd (omega arith)
-cancelled (x ∷ a) (y ∷ b) c d long is =
-    let rest : a ++ c ≡ b ++ d = cc in
-    cancelled a b c d (omega arith) rest
+cancelled (x ∷ a) (y ∷ b) c d long is = let rest : a ++ c ≡ b ++ d = cc in cancelled a b c d (omega arith) rest
 
 module _ (s : Allocator) (run : List Placed) (l : Lineup) (keeps : KeepsCallers run (all_of l)) where
   pub stuck : NoneFits (reached s l) l.rest.items → (next : Call) (left : List Call)
       → IsOrderOf (lines_of run) (lines_of l.placed.items ++ next ∷ left) → Fits (reached s l) next → ⊥
-  stuck none next left is fits = let up = lifted (lines_of l.placed.items ++ next ∷ left) run is in let u = unmapped up.placed (lines_of l.placed.items) left next (sym up.is) in let q = u.placed.reservation.caller in let order = order-keeps up.placed run up.is_order in let whole : filter (is_of q) u.first ++ u.placed ∷ filter (is_of q) u.rest ≡ filter (is_of q) l.placed.items ++ filter (is_of q) l.rest.items = cc (kept_own u.placed q u.rest refl, filter-append (is_of q) u.first (u.placed ∷ u.rest), u.is, order q, keeps q, filter-append (is_of q) l.placed.items l.rest.items) in let here : u.placed ∷ filter (is_of q) u.rest ≡ filter (is_of q) l.rest.items = cancelled (filter (is_of q) u.first) (filter (is_of q) l.placed.items) (u.placed ∷ filter (is_of q) u.rest) (filter (is_of q) l.rest.items) (alike q u.first l.placed.items u.before_is) whole in let at = split (is_of q) u.placed (filter (is_of q) u.rest) l.rest.items (sym here) in none at.before u.placed at.after at.is (none_kept (is_of q) at.before at.none) (subst (Fits (reached s l)) (sym u.placed_is) fits)
+  stuck none next left is fits =
+      let up = lifted (lines_of l.placed.items ++ next ∷ left) run is in
+      let u = unmapped up.placed (lines_of l.placed.items) left next (sym up.is) in
+      let q = u.placed.reservation.caller in
+      let order = order-keeps up.placed run up.is_order in
+      let whole : filter (is_of q) u.first ++ u.placed ∷ filter (is_of q) u.rest ≡ filter (is_of q) l.placed.items
+      ++ filter (is_of q) l.rest.items = cc (
+        kept_own u.placed q u.rest refl,
+        filter-append (is_of q) u.first (u.placed ∷ u.rest),
+        u.is,
+        order q,
+        keeps q,
+        filter-append (is_of q) l.placed.items l.rest.items,
+      ) in
+      let here : u.placed ∷ filter (is_of q) u.rest ≡ filter (is_of q) l.rest.items = cancelled
+      (filter (is_of q) u.first) (filter (is_of q) l.placed.items) (u.placed ∷ filter (is_of q) u.rest)
+      (filter (is_of q) l.rest.items) (alike q u.first l.placed.items u.before_is) whole in
+      let at = split (is_of q) u.placed (filter (is_of q) u.rest) l.rest.items (sym here) in
+      none at.before u.placed at.after at.is (none_kept (is_of q) at.before at.none)
+      (subst (Fits (reached s l)) (sym u.placed_is) fits)
 
   pub lineup-Shows : IsLineup s l → NoneFits (reached s l) l.rest.items
-      → HasNoOrder (record { allocator = s; run = reservations_of run }) → (d : Difference)
-      → NamesOne s l d → (n : ℕ) → Shows (record { allocator = s; run = reservations_of run }) n [] d
-  lineup-Shows lined none unordered d names n = let forward : KeepsCallers run (l.placed.items ++ names.named ∷ (names.before ++ names.after)) = keeps-forward run l.placed.items names.before names.after names.named names.first (rw (← names.is) keeps) in record { placed = lines_of l.placed.items; next = line.Reserve names.named.reservation; left = lines_of (names.before ++ names.after); is_order = rw append-nil (rw (← lines_append l.placed.items (names.named ∷ (names.before ++ names.after))) (keeps-IsOrderOf (l.placed.items ++ names.named ∷ (names.before ++ names.after)) run forward)); answered = lined.answered; differs = names.differs n; stuck = λ next left is. stuck none next left (rw (← append-nil (lines_of run)) is); blamed = unordered }
+      → HasNoOrder (record { allocator = s; run = reservations_of run }) → (d : Difference) → NamesOne s l d → (n : ℕ)
+      → Shows (record { allocator = s; run = reservations_of run }) n [] d
+  lineup-Shows lined none unordered d names n =
+      let forward : KeepsCallers run (l.placed.items ++ names.named ∷ (names.before ++ names.after)) = keeps-forward run
+      l.placed.items names.before names.after names.named names.first (rw (← names.is) keeps) in
+      record {
+        placed = lines_of l.placed.items;
+        next = line.Reserve names.named.reservation;
+        left = lines_of (names.before ++ names.after);
+        is_order = rw append-nil (rw (← lines_append l.placed.items (names.named ∷ (names.before ++ names.after)))
+            (keeps-IsOrderOf (l.placed.items ++ names.named ∷ (names.before ++ names.after)) run forward));
+        answered = lined.answered;
+        differs = names.differs n;
+        stuck = λ next left is. stuck none next left (rw (← append-nil (lines_of run)) is);
+        blamed = unordered;
+      }

@@ -1,10 +1,7 @@
 -- What enters the map after a flush is each handle that is born, with its birth.
-use Rattle.std.proofs.lemmas.Bool.{or_left}
+use Rattle.std.proofs.lemmas.Bool.{or_left, or_right}
 use Rattle.std.proofs.lemmas.Grind.{common_steps}
-use Rattle.std.proofs.Common.{[], rules, ◌≡◌, refl, sym, ap, ◌∙◌, ℕ, ◌+◌, ◌≤◌, ◌^◌, Bool, true, false}
-use Rattle.std.proofs.Common.{cond, not, ◌&&◌, true≢false, List, ◌∷◌, ◌++◌, length, drop}
-use Rattle.std.proofs.Common.{eqb, Option, Some, None, is_some, is_none, unwrap_or, arith}
-use Rattle.std.proofs.lemmas.Bool.{or_right}
+use Rattle.std.proofs.Common.{[], rules, ◌≡◌, refl, sym, ap, ◌∙◌, ℕ, ◌+◌, ◌≤◌, ◌^◌, Bool, true, false, cond, not, ◌&&◌, true≢false, List, ◌∷◌, ◌++◌, length, drop, eqb, Option, Some, None, is_some, is_none, unwrap_or, arith}
 use Rattle.std.specs.Ordering.{eq_by_cmp}
 use Rattle.std.specs.Option.{option_map_or}
 use Rattle.std.specs.List.{position_from}
@@ -14,40 +11,36 @@ use Rattle.std.proofs.lemmas.List.Elements.{All-contains}
 use Rattle.std.proofs.lemmas.List.Sorted.{Contains-permutation}
 use Rattle.std.proofs.lemmas.Map.Views.{any-filter_same}
 use Rattle.ent_handle.specs.declared.birth.Birth.{Birth}
-use Rattle.ent_handle.specs.Handle.{Handle, handle_cmp, handle_cmp_total}
-use Rattle.ent_handle.specs.Handle.{handle_cmp-IsAntisymmetric}
+use Rattle.ent_handle.specs.Handle.{Handle, handle_cmp, handle_cmp_total, handle_cmp-IsAntisymmetric}
 use Rattle.ent_alloc.specs.Sequential.{Allocator, stands_in, born, after_flush}
 use Rattle.ent_alloc.specs.Sound.{IsSound}
-use Rattle.ent_alloc.proofs.HandleSets.{same_handle, itself, Contains-from_stands_in}
-use Rattle.ent_alloc.proofs.HandleSets.{stands_in-from_Contains}
-use Rattle.ent_alloc.proofs.Flushes.{live-after_flush, live-stays, born-IsPermutation, born-lives}
-use Rattle.ent_alloc.proofs.Flushes.{born-apart, born-not_live}
+use Rattle.ent_alloc.proofs.HandleSets.{same_handle, itself, Contains-from_stands_in, stands_in-from_Contains}
+use Rattle.ent_alloc.proofs.Flushes.{live-after_flush, live-stays, born-IsPermutation, born-lives, born-apart, born-not_live}
 use Rattle.ent_storage.specs.EntityMap.{Entity, EntityMap, newborn}
 use Rattle.ent_queue.specs.Command.{Command}
 use Rattle.ent_world.specs.World.{AreLiving}
-use Rattle.ent_world.specs.Sync.{no_system, listed_birth, unlisted, unlisted_birth, birth_in}
-use Rattle.ent_world.specs.Sync.{with_born}
+use Rattle.ent_world.specs.Sync.{no_system, listed_birth, unlisted, unlisted_birth, birth_in, with_born}
 use Rattle.ent_world.specs.Entering.{first_birth, AreNew, is_unnamed, named_queues, numbered}
-use Rattle.ent_world.proofs.BirthsByQueues.{or_named, given, or_named-none, IsOfSystem}
-use Rattle.ent_world.proofs.BirthsByQueues.{birth_by_index, listed_of_system, get-named_queues}
-use Rattle.ent_world.proofs.Numbered.{AreDistinct, distinct, filter_alike, some_index, no_index}
-use Rattle.ent_world.proofs.Numbered.{or_numbered, or_numbered-none, waiting, get-numbered}
+use Rattle.ent_world.proofs.BirthsByQueues.{or_named, given, or_named-none, IsOfSystem, birth_by_index, listed_of_system, get-named_queues}
+use Rattle.ent_world.proofs.Numbered.{AreDistinct, distinct, filter_alike, some_index, no_index, or_numbered, or_numbered-none, waiting, get-numbered}
 
 -- All that are born, in one step.
 
 pub get-with_born : (birth : Handle → Birth) (hs : List Handle) (m : EntityMap) (q : Handle)
-    → map.get (with_born m birth hs) q ≡ cond (stands_in hs q) (Some (newborn (birth q)))
-    (map.get m q)
+    → map.get (with_born m birth hs) q ≡ cond (stands_in hs q) (Some (newborn (birth q))) (map.get m q)
 get-with_born birth [] m q = refl
-get-with_born birth (h ∷ hs) m q =
-    grind (arith, common_steps, get-with_born birth hs (map.insert m h (newborn (birth h))) q, map.get-insert handle_cmp_total m h (newborn (birth h)) q)
+get-with_born birth (h ∷ hs) m q = grind (
+  arith,
+  common_steps,
+  get-with_born birth hs (map.insert m h (newborn (birth h))) q,
+  map.get-insert handle_cmp_total m h (newborn (birth h)) q,
+)
 
 -- whether a queue lists a handle has nothing to do with phases and systems
 listed_anyhow : (queues : List (List Command)) (phase system other : ℕ) (h : Handle)
     → is_none (listed_birth 0 other queues h) ≡ not (is_some (listed_birth phase system queues h))
 listed_anyhow [] phase system other h = refl
-listed_anyhow (q ∷ queues) phase system other h =
-    search (rules, listed_anyhow queues phase (system + 1) (other + 1) h)
+listed_anyhow (q ∷ queues) phase system other h = search (rules, listed_anyhow queues phase (system + 1) (other + 1) h)
 
 pub no_entity : (o : Option Entity) → is_some o ≡ false → o ≡ None
 no_entity it none = search (rules, true≢false)
@@ -55,8 +48,7 @@ no_entity it none = search (rules, true≢false)
 -- a flush of a sound allocator whose living ones are those of the map
 module _ (s : Allocator) (m : EntityMap) (sound : IsSound s) (living : AreLiving s m) where
   -- who is born lives, and was not there
-  born-alive : (h : Handle) → stands_in (born s) h ≡ true → set.contains (after_flush s).live h
-      ≡ true
+  born-alive : (h : Handle) → stands_in (born s) h ≡ true → set.contains (after_flush s).live h ≡ true
   born-alive h there = search (rules, All-contains, born-lives, Contains-from_stands_in)
 
   pub born-absent : (h : Handle) → stands_in (born s) h ≡ true → map.contains_key m h ≡ false
@@ -71,18 +63,23 @@ module _ (s : Allocator) (m : EntityMap) (sound : IsSound s) (living : AreLiving
       all_new (h ∷ hs) once absent = search (rules, itself, or_left, or_right, all_new hs once.1)
 
   -- who lives and is not born was there
-  lived-before : (h : Handle) → stands_in (born s) h ≡ false → set.contains (after_flush s).live h
-      ≡ true → set.contains s.live h ≡ true
-  lived-before h none lives = grind (arith, common_steps, live-after_flush s h, stands_in-from_Contains (born s) h, Contains-permutation s.taken (born s) h (born-IsPermutation s))
+  lived-before : (h : Handle) → stands_in (born s) h ≡ false → set.contains (after_flush s).live h ≡ true
+      → set.contains s.live h ≡ true
+  lived-before h none lives = grind (
+    arith,
+    common_steps,
+    live-after_flush s h,
+    stands_in-from_Contains (born s) h,
+    Contains-permutation s.taken (born s) h (born-IsPermutation s),
+  )
 
   -- the map after a flush has those that live then
-  pub living-after : (birth : Handle → Birth)
-      → AreLiving (after_flush s) (with_born m birth (born s))
+  pub living-after : (birth : Handle → Birth) → AreLiving (after_flush s) (with_born m birth (born s))
   living-after birth h = search (rules, get-with_born, born-alive, lived-before, live-stays)
 
 -- all have entered, then the queues have named those that they list
-module _ (m : EntityMap) (phase : ℕ) (queues : List (List Command)) (hs : List Handle)
-    (once : AreDistinct hs) (few : length queues ≤ 2 ^ 16) where
+module _ (m : EntityMap) (phase : ℕ) (queues : List (List Command)) (hs : List Handle) (once : AreDistinct hs)
+    (few : length queues ≤ 2 ^ 16) where
   abbrev bare : Entity
   bare = newborn (first_birth phase no_system)
 
@@ -95,13 +92,12 @@ module _ (m : EntityMap) (phase : ℕ) (queues : List (List Command)) (hs : List
   abbrev By : Handle → Option Birth
   By q = listed_birth phase 0 queues q
 
-  listed-get : (q : Handle) → map.get listed q
-      ≡ or_named (cond (stands_in hs q) (Some bare) (map.get m q)) (given (stands_in hs q) (By q))
+  listed-get : (q : Handle) → map.get listed q ≡ or_named (cond (stands_in hs q) (Some bare) (map.get m q))
+      (given (stands_in hs q) (By q))
   unfolding listed
   listed-get q = search (rules, get-named_queues, or_named, given, get-with_born)
 
-  listed-born : (q : Handle) → stands_in hs q ≡ true → map.get listed q
-      ≡ or_named (Some bare) (By q)
+  listed-born : (q : Handle) → stands_in hs q ≡ true → map.get listed q ≡ or_named (Some bare) (By q)
   listed-born q there = search (rules, listed-get, or_named, given)
 
   abbrev others : List Handle
@@ -125,8 +121,7 @@ module _ (m : EntityMap) (phase : ℕ) (queues : List (List Command)) (hs : List
   index q = position_from (eq_by_cmp handle_cmp q) 0 others
 
   -- who is born and not listed stands among the others, and nobody else does
-  among : (q : Handle) → stands_in others q
-      ≡ (is_none (listed_birth 0 0 queues q) && stands_in hs q)
+  among : (q : Handle) → stands_in others q ≡ (is_none (listed_birth 0 0 queues q) && stands_in hs q)
   among q = search (rules, any-filter_same, same_handle)
 
   among_others : (q : Handle) (b : Option Birth) → stands_in hs q ≡ true → By q ≡ b
@@ -166,17 +161,15 @@ drop_all_before [] ys = refl
 drop_all_before (x ∷ xs) ys = drop_all_before xs ys
 
 -- those that are born now stand from that place on
-pub stand_after : (before : ℕ) (old new handles : List Handle) → before ≡ length old → new
-    ≡ old ++ handles → drop before new ≡ handles
+pub stand_after : (before : ℕ) (old new handles : List Handle) → before ≡ length old → new ≡ old ++ handles
+    → drop before new ≡ handles
 stand_after before old new handles at are = search (rules, drop_all_before)
 
 -- the map after all have entered, were named and were numbered
-pub all_given : (s : Allocator) (m n bare_ones listed_ones last : EntityMap) (phase : ℕ)
-    (queues : List (List Command)) (handles later again : List Handle) → IsSound s
-    → length queues ≤ 2 ^ 16 → n ≡ m → handles ≡ born s → later ≡ handles → again ≡ born s
-    → bare_ones ≡ with_born n (λ _. first_birth phase no_system) handles
-    → listed_ones ≡ named_queues later phase 0 queues bare_ones
-    → last ≡ numbered (first_birth phase no_system) again listed_ones
-    → last ≡ with_born m (birth_in phase queues (born s)) (born s)
-all_given s m n bare_ones listed_ones last phase queues handles later again sound few same are stand
-    are_again first then at_last = search (rules, births_given, distinct, born-apart)
+pub all_given : (s : Allocator) (m n bare_ones listed_ones last : EntityMap) (phase : ℕ) (queues : List (List Command))
+    (handles later again : List Handle) → IsSound s → length queues ≤ 2 ^ 16 → n ≡ m → handles ≡ born s
+    → later ≡ handles → again ≡ born s → bare_ones ≡ with_born n (λ _. first_birth phase no_system) handles
+    → listed_ones ≡ named_queues later phase 0 queues bare_ones → last ≡ numbered (first_birth phase no_system) again
+    listed_ones → last ≡ with_born m (birth_in phase queues (born s)) (born s)
+all_given s m n bare_ones listed_ones last phase queues handles later again sound few same are stand are_again first
+    then at_last = search (rules, births_given, distinct, born-apart)

@@ -1,7 +1,6 @@
 -- Over the frames of a run no handle is given twice: each frame keeps the list of all given handles
 -- free of repetitions.
-use Rattle.std.proofs.Common.{[], rules, ◌≡◌, sym, ◌∙◌, subst, append-nil, append_assoc, ℕ, true, List}
-use Rattle.std.proofs.Common.{◌∷◌, ◌++◌, Result, Ok, Err}
+use Rattle.std.proofs.Common.{[], rules, ◌≡◌, sym, ◌∙◌, subst, append-nil, append_assoc, ℕ, true, List, ◌∷◌, ◌++◌, Result, Ok, Err}
 use Rattle.std.proofs.lemmas.List.Elements.{All-nil}
 use Rattle.ent_handle.specs.Handle.{Handle}
 use Rattle.ent_alloc.specs.Limits.{Limits, AreLimits}
@@ -10,8 +9,7 @@ use Rattle.ent_alloc.specs.Sequential.{Allocator, opening, after_take, reply_to}
 use Rattle.ent_alloc.specs.Sound.{IsSound, IsLive}
 use Rattle.ent_alloc.specs.Spent.{AreSpent}
 use Rattle.ent_alloc.specs.History.{Call, IsLegal, after_history, handles_in, given_in}
-use Rattle.ent_alloc.proofs.Soundness.{opening-sound, after_take-sound, after_flush-sound}
-use Rattle.ent_alloc.proofs.Soundness.{after_free-sound}
+use Rattle.ent_alloc.proofs.Soundness.{opening-sound, after_take-sound, after_flush-sound, after_free-sound}
 use Rattle.ent_alloc.proofs.GivenOnce.{take-given, refused-given, flush-given, free-given}
 use Rattle.ent_queue.specs.Command.{Command}
 use Rattle.ent_world.specs.World.{World, AreLiving, lives_in, first_world}
@@ -24,27 +22,23 @@ use Rattle.ent_world.proofs.Kept.{IsKept, after_queues-keeps}
 -- ---- reservations
 
 -- one call, served or refused
-call-given : (s : Allocator) (n : ℕ) (reply : Result (List Handle) Space) (given : List Handle)
-    → IsSound s → reply ≡ reply_to s n → AreSpent s given
-    → AreSpent (after_take s n) (given ++ handles_in reply)
+call-given : (s : Allocator) (n : ℕ) (reply : Result (List Handle) Space) (given : List Handle) → IsSound s
+    → reply ≡ reply_to s n → AreSpent s given → AreSpent (after_take s n) (given ++ handles_in reply)
 call-given s n (Ok more) given sound is once = take-given s n given more sound (sym is) once
 call-given s n (Err space) given sound is once = search (rules, append-nil, refused-given)
 
 -- a legal history gives what was never given
-pub history-given : (s : Allocator) (history : List Call) (given : List Handle) → IsSound s
-    → IsLegal s history → AreSpent s given → AreSpent (after_history s history) (given
-    ++ given_in history)
+pub history-given : (s : Allocator) (history : List Call) (given : List Handle) → IsSound s → IsLegal s history
+    → AreSpent s given → AreSpent (after_history s history) (given ++ given_in history)
 history-given s [] given sound legal once = subst (AreSpent s) (sym (append-nil given)) once
-history-given s (call ∷ calls) given sound legal once =
-    subst (AreSpent (after_history (after_take s call.requested) calls))
-    (append_assoc given (handles_in call.reply) (given_in calls))
-    (history-given (after_take s call.requested) calls (given ++ handles_in call.reply)
-    (after_take-sound s call.requested sound) legal.2
+history-given s (call ∷ calls) given sound legal once = subst
+    (AreSpent (after_history (after_take s call.requested) calls))
+    (append_assoc given (handles_in call.reply) (given_in calls)) (history-given (after_take s call.requested) calls
+    (given ++ handles_in call.reply) (after_take-sound s call.requested sound) legal.2
     (call-given s call.requested call.reply given sound legal.1 once))
 
 -- a history keeps the allocator sound
-pub history-sound : (s : Allocator) (history : List Call) → IsSound s
-    → IsSound (after_history s history)
+pub history-sound : (s : Allocator) (history : List Call) → IsSound s → IsSound (after_history s history)
 history-sound s [] sound = sound
 history-sound s (call ∷ calls) sound = history-sound (after_take s call.requested) calls
     (after_take-sound s call.requested sound)
@@ -58,8 +52,7 @@ pub record IsFlushed (w : World) : Type 0 where
   pub living : AreLiving w.allocator w.entities
 
 -- who is there is alive
-alive : (w : World) (h : Handle) → AreLiving w.allocator w.entities → lives_in w h ≡ true
-    → IsLive w.allocator h
+alive : (w : World) (h : Handle) → AreLiving w.allocator w.entities → lives_in w h ≡ true → IsLive w.allocator h
 alive w h living there = sym (living h) ∙ there
 
 pub flushed-kept : IsKept IsFlushed
@@ -106,9 +99,8 @@ module _ (queues : List (List Command)) (w : World) (sound : IsSound w.allocator
   sync-living = synced.living
 
 -- it gives nothing
-pub sync-given : (queues : List (List Command)) (w : World) (given : List Handle)
-    → IsSound w.allocator → AreLiving w.allocator w.entities → AreSpent w.allocator given
-    → AreSpent (sync queues w).world.allocator given
+pub sync-given : (queues : List (List Command)) (w : World) (given : List Handle) → IsSound w.allocator
+    → AreLiving w.allocator w.entities → AreSpent w.allocator given → AreSpent (sync queues w).world.allocator given
 sync-given queues w given sound living once = (after_queues-keeps (IsOnTheWay given)
     (on_the_way-kept given) 0 queues (applied (after_births queues w) []) at_start).spent
   where
@@ -126,23 +118,20 @@ calls-living : (history : List Call) (w : World) → AreLiving w.allocator w.ent
 calls-living history w living = search (rules, living-history)
 
 -- it gives what was never given
-pub frame-given : (queues : List (List Command)) (history : List Call) (w : World)
-    (given : List Handle) → IsSound w.allocator → AreLiving w.allocator w.entities
-    → IsLegal w.allocator history → AreSpent w.allocator given
+pub frame-given : (queues : List (List Command)) (history : List Call) (w : World) (given : List Handle)
+    → IsSound w.allocator → AreLiving w.allocator w.entities → IsLegal w.allocator history → AreSpent w.allocator given
     → AreSpent (sync queues (after_calls history w)).world.allocator (given ++ given_in history)
-frame-given queues history w given sound living legal once =
-    search (rules, sync-given, history-sound, calls-living, history-given)
+frame-given queues history w given sound living legal once = search
+    (rules, sync-given, history-sound, calls-living, history-given)
 
 -- it keeps the allocator sound
-pub frame-sound : (queues : List (List Command)) (history : List Call) (w : World)
-    → IsSound w.allocator → AreLiving w.allocator w.entities
-    → IsSound (sync queues (after_calls history w)).world.allocator
+pub frame-sound : (queues : List (List Command)) (history : List Call) (w : World) → IsSound w.allocator
+    → AreLiving w.allocator w.entities → IsSound (sync queues (after_calls history w)).world.allocator
 frame-sound queues history w sound living = search (rules, sync-sound, history-sound, calls-living)
 
 -- its entities are those whose handle is alive
-pub frame-living : (queues : List (List Command)) (history : List Call) (w : World)
-    → IsSound w.allocator → AreLiving w.allocator w.entities
-    → AreLiving (sync queues (after_calls history w)).world.allocator
+pub frame-living : (queues : List (List Command)) (history : List Call) (w : World) → IsSound w.allocator
+    → AreLiving w.allocator w.entities → AreLiving (sync queues (after_calls history w)).world.allocator
     (sync queues (after_calls history w)).world.entities
 frame-living queues history w sound living = search (rules, sync-living, history-sound, calls-living)
 
@@ -152,10 +141,8 @@ frame-living queues history w sound living = search (rules, sync-living, history
 pub opening-given : (limits : Limits) → AreSpent (opening limits) []
 opening-given limits = search (rules, All-nil)
 
-pub first_world-sound : (limits : Limits) → AreLimits limits
-    → IsSound (first_world limits).allocator
+pub first_world-sound : (limits : Limits) → AreLimits limits → IsSound (first_world limits).allocator
 first_world-sound limits ok = opening-sound limits ok
 
-pub first_world-living : (limits : Limits) → AreLiving (first_world limits).allocator
-    (first_world limits).entities
+pub first_world-living : (limits : Limits) → AreLiving (first_world limits).allocator (first_world limits).entities
 first_world-living limits = keys-empty

@@ -1,6 +1,5 @@
 -- What stands before the allocator's part of an image, byte by byte.
-use Rattle.std.proofs.Common.{rules, ◌≡◌, ◌≢◌, refl, sym, ap, ◌∙◌, ℕ, ◌^◌, ◌<◌, List, ◌++◌, length}
-use Rattle.std.proofs.Common.{arith}
+use Rattle.std.proofs.Common.{rules, ◌≡◌, ◌≢◌, refl, sym, ap, ◌∙◌, ℕ, ◌^◌, ◌<◌, List, ◌++◌, length, arith}
 use Rattle.std.proofs.lemmas.List.{length-append, append_assoc}
 use Rattle.ent_storage.specs.Image.{word, long}
 use Rattle.ent_storage.proofs.ImageBytes.{length-word, length-long, same_words, same_longs, same_parts}
@@ -14,13 +13,12 @@ pub letters_are : long letters ≡ magic
 unfolding long
 letters_are = refl
 
-pub header_is : (phase len : ℕ) (rest : List ℕ) → header_bytes phase len ++ rest
-    ≡ long letters ++ (word version ++ (long phase ++ (long len ++ rest)))
+pub header_is : (phase len : ℕ) (rest : List ℕ) → header_bytes phase len ++ rest ≡ long letters
+    ++ (word version ++ (long phase ++ (long len ++ rest)))
 unfolding header_bytes
 header_is phase len rest = search (rules, letters_are, append_assoc)
 
-pub header_alone : (phase len : ℕ) → header_bytes phase len
-    ≡ long letters ++ (word version ++ (long phase ++ long len))
+pub header_alone : (phase len : ℕ) → header_bytes phase len ≡ long letters ++ (word version ++ (long phase ++ long len))
 unfolding header_bytes
 header_alone phase len = search (rules, letters_are)
 
@@ -29,31 +27,29 @@ unfolding header_bytes
 length-header phase len = search (rules, length-append, length-word, length-long)
 
 -- parts that are framed alike are the same
-pub same_framed : (phase other : ℕ) (part rest q s : List ℕ) → phase < 2 ^ 64 → other < 2 ^ 64
-    → length part < 2 ^ 64 → length q < 2 ^ 64 → framed phase part rest ≡ framed other q s
-    → (phase ≡ other) × ((part ≡ q) × (rest ≡ s))
-same_framed phase other part rest q s fits_p fits_o fits_part fits_q is = search (rules, header_is, same_longs, same_words, same_parts)
+pub same_framed : (phase other : ℕ) (part rest q s : List ℕ) → phase < 2 ^ 64 → other < 2 ^ 64 → length part < 2 ^ 64
+    → length q < 2 ^ 64 → framed phase part rest ≡ framed other q s → (phase ≡ other) × ((part ≡ q) × (rest ≡ s))
+same_framed phase other part rest q s fits_p fits_o fits_part fits_q is = search
+    (rules, header_is, same_longs, same_words, same_parts)
 
 -- ---- what is no header
 
-pub too_short : (bytes : List ℕ) → length bytes < 28 → (phase : ℕ) (part rest : List ℕ)
-    → bytes ≢ framed phase part rest
+pub too_short : (bytes : List ℕ) → length bytes < 28 → (phase : ℕ) (part rest : List ℕ) → bytes ≢ framed phase part rest
 too_short bytes short phase part rest is = search (rules, length-append, length-header)
 
-pub other_magic : (number : ℕ) (bytes left : List ℕ) → number < 2 ^ 64 → number ≢ letters
-    → bytes ≡ long number ++ left → (phase : ℕ) (part rest : List ℕ) → bytes ≢ framed phase part rest
+pub other_magic : (number : ℕ) (bytes left : List ℕ) → number < 2 ^ 64 → number ≢ letters → bytes ≡ long number ++ left
+    → (phase : ℕ) (part rest : List ℕ) → bytes ≢ framed phase part rest
 other_magic number bytes left fits other found phase part rest is = search (rules, same_longs, header_is)
 
 pub other_version : (number : ℕ) (bytes left : List ℕ) → number < 2 ^ 32 → number ≢ version
-    → bytes ≡ long letters ++ (word number ++ left) → (phase : ℕ) (part rest : List ℕ)
-    → bytes ≢ framed phase part rest
+    → bytes ≡ long letters ++ (word number ++ left) → (phase : ℕ) (part rest : List ℕ) → bytes ≢ framed phase part rest
 other_version number bytes left fits other found phase part rest is = search (rules, same_longs, header_is, same_words)
 
-pub part_missing : (number len : ℕ) (bytes left : List ℕ) → number < 2 ^ 64 → len < 2 ^ 64
-    → length left < len → bytes ≡ long letters ++ (word version ++ (long number ++ (long len ++ left)))
-    → (phase : ℕ) (part rest : List ℕ) → phase < 2 ^ 64 → length part < 2 ^ 64
-    → bytes ≢ framed phase part rest
-part_missing number len bytes left fits_n fits_l less found phase part rest fits_p fits is = search (rules, same_longs, header_is, same_words, length-append)
+pub part_missing : (number len : ℕ) (bytes left : List ℕ) → number < 2 ^ 64 → len < 2 ^ 64 → length left < len
+    → bytes ≡ long letters ++ (word version ++ (long number ++ (long len ++ left))) → (phase : ℕ) (part rest : List ℕ)
+    → phase < 2 ^ 64 → length part < 2 ^ 64 → bytes ≢ framed phase part rest
+part_missing number len bytes left fits_n fits_l less found phase part rest fits_p fits is = search
+    (rules, same_longs, header_is, same_words, length-append)
 
 -- ---- parts that are appended one by one
 
@@ -70,6 +66,5 @@ short_letters bytes short rest is = search (rules, length-append)
 
 pub other_letters : (number : ℕ) (bytes left : List ℕ) → number < 2 ^ 64 → number ≢ letters
     → bytes ≡ long number ++ left → (rest : List ℕ) → bytes ≢ magic ++ rest
-other_letters number bytes left fits other found rest is =
-    other (same_longs number letters left rest fits (omega arith)
+other_letters number bytes left fits other found rest is = other (same_longs number letters left rest fits (omega arith)
     (sym found ∙ is ∙ ap (λ ms. ms ++ rest) (sym letters_are))).0

@@ -1,24 +1,18 @@
 -- What the bytes of an image tell, and the world that is read of them.
 use Rattle.std.proofs.lemmas.List.Elements.{All-contains}
-use Rattle.std.proofs.Common.{[], rules}
-use Rattle.ent_world.proofs.PlacedRows.{rows_stand}
-use Rattle.ent_alloc.proofs.HandleSets.{same_handle}
-use Rattle.std.proofs.Common.{◌≡◌, ◌≢◌, refl, sym, ap, ◌∙◌, ℕ, suc, ◌+◌, ◌*◌, ◌^◌}
-use Rattle.std.proofs.Common.{◌<◌, ◌≤◌, Bool, true, false, List, ◌∷◌, ◌++◌, length, get_or, arith}
-use Rattle.std.proofs.Common.{None, is_some, AllPairs, All, Result, Ok}
-use Rattle.std.proofs.Common.{Err, IfErr, IfOk, IsErrAnd, ◌⊎◌}
+use Rattle.std.proofs.Common.{[], rules, ◌≡◌, ◌≢◌, refl, sym, ap, ◌∙◌, ℕ, suc, ◌+◌, ◌*◌, ◌^◌, ◌<◌, ◌≤◌, Bool, true, false, List, ◌∷◌, ◌++◌, length, get_or, arith, None, is_some, AllPairs, All, Result, Ok, Err, IfErr, IfOk, IsErrAnd, ◌⊎◌}
+use Rattle.ent_world.proofs.PlacedRows.{rows_stand, rows-empty, rows-born}
+use Rattle.ent_alloc.proofs.HandleSets.{same_handle, Contains-from_stands_in, stands_in-from_Contains}
 use Rattle.std.specs.FinMap as map
 use Rattle.std.specs.FinSet as set
 use Rattle.std.proofs.lemmas.Grind.{common_steps}
 use Rattle.std.proofs.lemmas.List.{length-append, get_or_default}
 use Rattle.std.proofs.lemmas.Option.{none-some}
-use Rattle.ent_handle.specs.Handle.{Handle, handle_cmp, handle_cmp_total as total}
-use Rattle.ent_handle.specs.Handle.{handle_cmp-IsAntisymmetric as same}
+use Rattle.ent_handle.specs.Handle.{Handle, handle_cmp, handle_cmp_total as total, handle_cmp-IsAntisymmetric as same}
 use Rattle.ent_handle.specs.declared.birth.Birth.{Birth}
 use Rattle.ent_alloc.specs.Sequential.{stands_in, top}
 use Rattle.ent_alloc.specs.Entities.{Entities as Allocator}
 use Rattle.ent_alloc.specs.Image.{image as allocator_image, HasImage as HasAllocatorImage}
-use Rattle.ent_alloc.proofs.HandleSets.{Contains-from_stands_in, stands_in-from_Contains}
 use Rattle.ent_alloc.proofs.ImageHeader.{length-header_bytes}
 use Rattle.ent_alloc.proofs.ImageOf.{length-slots_bytes, few_wait}
 use Rattle.ent_alloc.proofs.ImageSound.{roster_slots}
@@ -34,7 +28,6 @@ use Rattle.ent_world.specs.declared.image_fault.WorldImageFault.{WorldImageFault
 use Rattle.ent_world.specs.declared.image_fault.WorldImageFault.TheVariants.{Memory}
 use Rattle.ent_world.proofs.ImageHeader.{same_framed, length-header}
 use Rattle.ent_world.proofs.ImageKeys.{living_keys}
-use Rattle.ent_world.proofs.PlacedRows.{rows-empty, rows-born}
 
 -- ---- the allocator's part
 
@@ -50,8 +43,7 @@ pub allocator_len : (e : Allocator) → length (allocator_image e) ≡ 40 + 12 *
 allocator_len e = search (rules, length-header_bytes, length-slots_bytes, length-append)
 
 pub allocator_short : (e : Allocator) → HasAllocatorImage e → length (allocator_image e) < 2 ^ 64
-allocator_short e has =
-    omega (arith, allocator_len e, has.sound.made, has.sound.limits.slots)
+allocator_short e has = omega (arith, allocator_len e, has.sound.made, has.sound.limits.slots)
 
 -- ---- what the bytes tell of a world whose image they are
 
@@ -60,13 +52,11 @@ pub record AreParts (w : World) (phase : ℕ) (part rest : List ℕ) : Type 0 wh
   pub part_is : allocator_image (allocator_of w) ≡ part
   pub rest_is : entities_bytes w.entities (living w) ≡ rest
 
-pub told : (w : World) → HasImage w → (bytes : List ℕ) (phase : ℕ) (part rest : List ℕ)
-    → phase < 2 ^ 64 → length part < 2 ^ 64 → bytes ≡ framed phase part rest → image w ≡ bytes
-    → AreParts w phase part rest
+pub told : (w : World) → HasImage w → (bytes : List ℕ) (phase : ℕ) (part rest : List ℕ) → phase < 2 ^ 64
+    → length part < 2 ^ 64 → bytes ≡ framed phase part rest → image w ≡ bytes → AreParts w phase part rest
 told w has bytes phase part rest fits_p fits found is =
-    let parts = same_framed w.phase phase (allocator_image (allocator_of w))
-    (entities_bytes w.entities (living w)) part rest has.phase fits_p
-    (allocator_short (allocator_of w) (allocator_has w has)) fits (is ∙ found) in
+    let parts = same_framed w.phase phase (allocator_image (allocator_of w)) (entities_bytes w.entities (living w)) part
+    rest has.phase fits_p (allocator_short (allocator_of w) (allocator_has w has)) fits (is ∙ found) in
     record { phase_is = parts.0; part_is = parts.1.0; rest_is = parts.1.1 }
 
 -- ---- results
@@ -83,18 +73,17 @@ refused fault = Err fault
 pub read_is : {T : Type 0} (x e : T) → (read x ≡ Ok e) ⊎ (read x ≡ Err Memory) → x ≡ e
 read_is x e which = grind (arith, common_steps)
 
-pub refused_is : {T : Type 0} (fault : WorldImageFault) (e : T)
-    → (refused {T = T} fault ≡ Ok e) ⊎ (refused {T = T} fault ≡ Err Memory) → fault ≡ Memory
+pub refused_is : {T : Type 0} (fault : WorldImageFault) (e : T) → (refused {T = T} fault ≡ Ok e) ⊎ (refused {T = T}
+    fault ≡ Err Memory) → fault ≡ Memory
 refused_is fault e which = grind (arith, common_steps)
 
 -- a fault that is handed on
-pub handed : (result : Result World WorldImageFault) (fault : WorldImageFault)
-    → IsErrAnd result (λ y. y ≡ fault) → fault ≡ Memory → (w : World)
-    → (result ≡ Ok w) ⊎ (result ≡ Err Memory)
+pub handed : (result : Result World WorldImageFault) (fault : WorldImageFault) → IsErrAnd result (λ y. y ≡ fault)
+    → fault ≡ Memory → (w : World) → (result ≡ Ok w) ⊎ (result ≡ Err Memory)
 handed it fault is memory w = search rules
 
-pub handed_on : (result : Result World WorldImageFault) (fault : WorldImageFault)
-    (P : WorldImageFault → Type 0) → IsErrAnd result (λ y. y ≡ fault) → P fault → IfErr result P
+pub handed_on : (result : Result World WorldImageFault) (fault : WorldImageFault) (P : WorldImageFault → Type 0)
+    → IsErrAnd result (λ y. y ≡ fault) → P fault → IfErr result P
 handed_on it fault P is holds = search rules
 
 -- what is exact refuses no image
@@ -105,14 +94,13 @@ refused_from_exact bytes it exact = search (rules, refused_is)
 
 -- and keeps what the world had
 pub kept_by_image : (P : World → Type 0) (bytes : List ℕ) (result : Result World WorldImageFault)
-    → ((w : World) → HasImage w → image w ≡ bytes → (result ≡ Ok w) ⊎ (result ≡ Err Memory))
-    → (w : World) → HasImage w → image w ≡ bytes → P w → IfOk result P
+    → ((w : World) → HasImage w → image w ≡ bytes → (result ≡ Ok w) ⊎ (result ≡ Err Memory)) → (w : World) → HasImage w
+    → image w ≡ bytes → P w → IfOk result P
 kept_by_image P bytes it exact w has is holds = search (rules, read_is)
 
 -- an image has a slot's bytes for each slot, and at least 16 for each entity
-pub bounded : (bytes : List ℕ) (result : Result World WorldImageFault)
-    → IfOk result (λ w. image w ≡ bytes) → IfOk result HasImage
-    → IfOk result (λ w. least w ≤ length bytes)
+pub bounded : (bytes : List ℕ) (result : Result World WorldImageFault) → IfOk result (λ w. image w ≡ bytes)
+    → IfOk result HasImage → IfOk result (λ w. least w ≤ length bytes)
 bounded bytes (Ok w) found has =
     let part = allocator_image (allocator_of w) in
     let rest = entities_bytes w.entities (living w) in
@@ -131,14 +119,12 @@ bounded bytes (Err fault) found has = tt
 -- ---- the living handles
 
 pub listed : (w : World) → HasImage w → (e : Allocator) → e ≡ allocator_of w → (hs : List Handle)
-    → AllPairs (λ g h. g.index < h.index) hs → set.from_list hs ≡ e.allocator.live
-    → living w ≡ hs
+    → AllPairs (λ g h. g.index < h.index) hs → set.from_list hs ≡ e.allocator.live → living w ≡ hs
 listed w has e is hs rising lists = search (rules, living_keys)
 
 -- none has a row
-pub no_rows : (e : Allocator) → HasAllocatorImage e → (hs : List Handle)
-    → set.from_list hs ≡ e.allocator.live → All (λ h. map.get e.rows h ≡ None) hs
-    → e.rows ≡ map.empty
+pub no_rows : (e : Allocator) → HasAllocatorImage e → (hs : List Handle) → set.from_list hs ≡ e.allocator.live
+    → All (λ h. map.get e.rows h ≡ None) hs → e.rows ≡ map.empty
 no_rows e has hs lists bare = map.same_map total same e.rows map.empty (λ h.
     none_at h (stands_in hs h) refl ∙ sym (map.get-empty handle_cmp h))
   where
@@ -153,16 +139,22 @@ same_answer b b2 there back = grind (arith, common_steps)
 
 module _ (m : EntityMap) (hs : List Handle) (stored : AreStored m hs) where
   pub members : (h : Handle) → map.contains_key m h ≡ stands_in hs h
-  members h = grind (arith, common_steps, stands_in-from_Contains hs h, stored.only h, never_stored m h, stored.each h, Contains-from_stands_in hs h)
+  members h = grind (
+    arith,
+    common_steps,
+    stands_in-from_Contains hs h,
+    stored.only h,
+    never_stored m h,
+    stored.each h,
+    Contains-from_stands_in hs h,
+  )
 
   pub stored_living : (live : set.FinSet handle_cmp) → set.from_list hs ≡ live → (h : Handle)
       → map.contains_key m h ≡ set.contains live h
-  stored_living live lists h = members h ∙ sym (set.contains-from_list total hs h)
-      ∙ ap (λ s. set.contains s h) lists
+  stored_living live lists h = members h ∙ sym (set.contains-from_list total hs h) ∙ ap (λ s. set.contains s h) lists
 
 -- none stands twice among those that rise
-not_later : (h : Handle) (hs : List Handle)
-    → ((j : ℕ) (d : Handle) → j < length hs → h.index < (get_or hs j d).index)
+not_later : (h : Handle) (hs : List Handle) → ((j : ℕ) (d : Handle) → j < length hs → h.index < (get_or hs j d).index)
     → stands_in hs h ≡ false
 not_later h [] less = refl
 not_later h (g ∷ hs) less =
@@ -181,11 +173,14 @@ new_ones (h ∷ hs) rising = (
 abbrev nowhere : Handle → Birth
 nowhere h = record { frame = 0; system = 0; ordinal = 0 }
 
-pub rows_read : (m : EntityMap) (hs : List Handle) → AreStored m hs
-    → AllPairs (λ g h. g.index < h.index) hs → AreRows (with_rows map.empty 0 hs) hs m
+pub rows_read : (m : EntityMap) (hs : List Handle) → AreStored m hs → AllPairs (λ g h. g.index < h.index) hs
+    → AreRows (with_rows map.empty 0 hs) hs m
 rows_read m hs stored rising =
     let born = rows-born nowhere hs map.empty [] map.empty rows-empty (new_ones hs rising) in
-    record { at = born.at; each = λ h. rows_stand (with_rows map.empty 0 hs) hs born.at h ∙ sym (members m hs stored h) }
+    record {
+      at = born.at;
+      each = λ h. rows_stand (with_rows map.empty 0 hs) hs born.at h ∙ sym (members m hs stored h);
+    }
 
 pub all_live : (live : set.FinSet handle_cmp) (hs : List Handle) → set.from_list hs ≡ live
     → All (λ h. set.contains live h ≡ true) hs
@@ -194,24 +189,21 @@ all_live live hs lists k d lt =
     ap (λ s. set.contains s h) (sym lists) ∙ set.contains-from_list total hs h
     ∙ stands_in-from_Contains hs h (k, lt, get_or_default hs k h d lt)
 
-pub living_is : (m : EntityMap) (hs : List Handle) (live : set.FinSet handle_cmp)
-    → AreStored m hs → AllPairs (λ g h. g.index < h.index) hs → set.from_list hs ≡ live
-    → map.keys m ≡ hs
+pub living_is : (m : EntityMap) (hs : List Handle) (live : set.FinSet handle_cmp) → AreStored m hs
+    → AllPairs (λ g h. g.index < h.index) hs → set.from_list hs ≡ live → map.keys m ≡ hs
 living_is m hs live stored rising lists = search (rules, living_keys, stored_living)
 
 -- who lives or waits has a slot, and its bytes
-pub slots_made : (e : Allocator) → HasAllocatorImage e → (hs : List Handle)
-    → set.from_list hs ≡ e.allocator.live → 0 < length hs + top e.allocator
-    → 40 < length (allocator_image e)
+pub slots_made : (e : Allocator) → HasAllocatorImage e → (hs : List Handle) → set.from_list hs ≡ e.allocator.live
+    → 0 < length hs + top e.allocator → 40 < length (allocator_image e)
 slots_made e has [] lists some = omega (arith, allocator_len e, few_wait e has, some)
 slots_made e has (h ∷ hs) lists some =
-    let made = (roster_slots e has).live_made h
-    (all_live e.allocator.live (h ∷ hs) lists 0 h (omega arith)) in
+    let made = (roster_slots e has).live_made h (all_live e.allocator.live (h ∷ hs) lists 0 h (omega arith)) in
     omega (arith, allocator_len e, made)
 
 -- what the bytes are framed by
-abbrev pub framed_by : (bytes : List ℕ) (phase : ℕ) (part rest : List ℕ) → phase < 2 ^ 64
-    → length part < 2 ^ 64 → bytes ≡ framed phase part rest → AreFramed bytes
+abbrev pub framed_by : (bytes : List ℕ) (phase : ℕ) (part rest : List ℕ) → phase < 2 ^ 64 → length part < 2 ^ 64
+    → bytes ≡ framed phase part rest → AreFramed bytes
 framed_by bytes phase part rest fits_p fits is = record {
   phase = phase;
   part = part;

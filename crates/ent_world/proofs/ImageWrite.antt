@@ -1,8 +1,5 @@
 -- What is written of a world's entities: the order in which they lie doesn't matter.
-use Rattle.std.proofs.Common.{rules}
-use Rattle.std.proofs.Common.{◌≡◌, refl, sym, ap, subst, ◌∙◌, ℕ, ℤ, zero, suc, ◌<◌, ◌≤◌, Bool, true}
-use Rattle.std.proofs.Common.{List, arith, Contains, Option, Some}
-use Rattle.std.proofs.Common.{is_some, IfSome, IsSomeAnd, AllPairs, All}
+use Rattle.std.proofs.Common.{rules, ◌≡◌, refl, sym, ap, subst, ◌∙◌, ℕ, ℤ, zero, suc, ◌<◌, ◌≤◌, Bool, true, List, arith, Contains, Option, Some, is_some, IfSome, IsSomeAnd, AllPairs, All}
 use Rattle.std.specs.Prelude.{if◌then◌else◌}
 use Rattle.std.specs.List.{list_any}
 use Rattle.std.specs.Int.{w64}
@@ -24,16 +21,15 @@ use Rattle.ent_world.proofs.PlacedRows.{rows_stand}
 -- ---- the width of the same handles in another order
 
 -- of other handles that have them all, one passes the test too
-passed : (p : Handle → Bool) (xs ys : List Handle)
-    → ((h : Handle) → stands_in xs h ≡ stands_in ys h) → list_any p xs ≡ true → list_any p ys ≡ true
+passed : (p : Handle → Bool) (xs ys : List Handle) → ((h : Handle) → stands_in xs h ≡ stands_in ys h)
+    → list_any p xs ≡ true → list_any p ys ≡ true
 passed p xs ys alike any =
     let one = Any-from_list_any p xs any in
-    let is = Contains-from_stands_in ys one.1
-    (sym (alike one.1) ∙ stands_in-from_Contains xs one.1 (one.0, one.2, one.3)) in
+    let is = Contains-from_stands_in ys one.1 (sym (alike one.1)
+    ∙ stands_in-from_Contains xs one.1 (one.0, one.2, one.3)) in
     list_any-from_Any p ys (is.0, one.1, is.1, is.2, one.4)
 
-below_same : (m : EntityMap) (xs ys : List Handle)
-    → ((h : Handle) → stands_in xs h ≡ stands_in ys h) → (n : ℕ)
+below_same : (m : EntityMap) (xs ys : List Handle) → ((h : Handle) → stands_in xs h ≡ stands_in ys h) → (n : ℕ)
     → width_below m xs n ≡ width_below m ys n
 below_same m xs ys alike zero = refl
 below_same m xs ys alike (suc n) =
@@ -46,12 +42,11 @@ below_same m xs ys alike (suc n) =
 -- ---- a world's entities
 
 module _ (rows : Rows) (places : List Handle) (m : EntityMap) (are : AreRows rows places m)
-    (live : set.FinSet handle_cmp)
-    (living : (h : Handle) → map.contains_key m h ≡ set.contains live h) (hs : List Handle)
-    (rising : AllPairs (λ g h. g.index < h.index) hs) (lists : set.from_list hs ≡ live) where
+    (live : set.FinSet handle_cmp) (living : (h : Handle) → map.contains_key m h ≡ set.contains live h)
+    (hs : List Handle) (rising : AllPairs (λ g h. g.index < h.index) hs) (lists : set.from_list hs ≡ live) where
   alike : (h : Handle) → stands_in places h ≡ stands_in hs h
-  alike h = sym (rows_stand rows places are.at h) ∙ are.each h ∙ living h
-      ∙ ap (λ s. set.contains s h) (sym lists) ∙ set.contains-from_list total hs h
+  alike h = sym (rows_stand rows places are.at h) ∙ are.each h ∙ living h ∙ ap (λ s. set.contains s h) (sym lists)
+      ∙ set.contains-from_list total hs h
 
   pub width_listed : width m places ≡ width m hs
   unfolding width
@@ -67,18 +62,16 @@ module _ (rows : Rows) (places : List Handle) (m : EntityMap) (are : AreRows row
   contained P all h is = search (rules, keys_listed)
 
   -- what was written of them says that they are stored
-  pub are_stored : (n : ℕ) → n ≤ 256
-      → ((h : Handle) (id : ComponentId) (v : ℤ) → value_of m h id ≡ Some v → id.0 < n)
-      → All (λ h. IsSomeAnd (birth_of m h) IsBirth) hs
-      → All (λ h. (id : ComponentId) → id.0 < n → IfSome (value_of m h id) (FitsSigned w64)) hs
-      → AreStored m (map.keys m)
+  pub are_stored : (n : ℕ) → n ≤ 256 → ((h : Handle) (id : ComponentId) (v : ℤ) → value_of m h id ≡ Some v → id.0 < n)
+      → All (λ h. IsSomeAnd (birth_of m h) IsBirth) hs → All
+      (λ h. (id : ComponentId) → id.0 < n → IfSome (value_of m h id) (FitsSigned w64)) hs → AreStored m (map.keys m)
   are_stored n few within births values = record {
     each = λ h is. record {
       birth = contained (λ h. IsSomeAnd (birth_of m h) IsBirth) births h is;
       numbered = λ id v at. let below = within h id v at in omega (arith, few, below);
       values = λ id v at. subst (λ (o : Option ℤ). IfSome o (FitsSigned w64)) at
-          (contained (λ h. (id : ComponentId) → id.0 < n
-          → IfSome (value_of m h id) (FitsSigned w64)) values h is id (within h id v at));
+          (contained (λ h. (id : ComponentId) → id.0 < n → IfSome (value_of m h id) (FitsSigned w64)) values h is id
+          (within h id v at));
     };
     only = in_map m;
   }

@@ -5,8 +5,7 @@ use Rattle.ent_storage.specs.Components.{Components, with_items}
 use Rattle.ent_storage.specs.EntityMap.{with_components}
 use Rattle.ent_queue.specs.Command.{Command, SpawnMany}
 use Rattle.ent_world.specs.World.{World, lives_in}
-use Rattle.ent_world.specs.Effects.{Applied, on_entity, on_each, after_insert}
-use Rattle.ent_world.specs.Effects.{after_despawn, after_command, after_commands, after_queues}
+use Rattle.ent_world.specs.Effects.{Applied, on_entity, on_each, after_insert, after_despawn, after_command, after_commands, after_queues}
 
 -- A fact about worlds that holds after each change of a living entity, if it held before.
 pub record IsKept (P : World → Type 0) : Type 0 where
@@ -17,35 +16,33 @@ pub record IsKept (P : World → Type 0) : Type 0 where
 
 -- one handle
 on_entity-keeps : (P : World → Type 0) (system command : ℕ) (change : Handle → World → World)
-    → ((h : Handle) (w : World) → lives_in w h ≡ true → P w → P (change h w))
-    → (h : Handle) (a : Applied) → P a.world → P (on_entity system command change h a).world
+    → ((h : Handle) (w : World) → lives_in w h ≡ true → P w → P (change h w)) → (h : Handle) (a : Applied) → P a.world
+    → P (on_entity system command change h a).world
 on_entity-keeps P system command change keeps h a before = search (rules)
 
 -- many handles
 on_each-keeps : (P : World → Type 0) (system command : ℕ) (change : Handle → World → World)
-    → ((h : Handle) (w : World) → lives_in w h ≡ true → P w → P (change h w))
-    → (hs : List Handle) (a : Applied) → P a.world → P (on_each system command change hs a).world
+    → ((h : Handle) (w : World) → lives_in w h ≡ true → P w → P (change h w)) → (hs : List Handle) (a : Applied)
+    → P a.world → P (on_each system command change hs a).world
 on_each-keeps P system command change keeps [] a before = before
-on_each-keeps P system command change keeps (h ∷ hs) a before =
-    on_each-keeps P system command change keeps hs (on_entity system command change h a)
-    (on_entity-keeps P system command change keeps h a before)
+on_each-keeps P system command change keeps (h ∷ hs) a before = on_each-keeps P system command change keeps hs
+    (on_entity system command change h a) (on_entity-keeps P system command change keeps h a before)
 
 module _ (P : World → Type 0) (kept : IsKept P) where
   pub after_command-keeps : (system command : ℕ) (c : Command) (a : Applied) → P a.world
       → P (after_command system command c a).world
-  after_command-keeps system command (SpawnMany hs items) a before = on_each-keeps P system command
-      (after_insert items) (kept.components (λ held. with_items held items)) hs a before
+  after_command-keeps system command (SpawnMany hs items) a before = on_each-keeps P system command (after_insert items)
+      (kept.components (λ held. with_items held items)) hs a before
   after_command-keeps system command it a before = search rules
 
   pub after_commands-keeps : (system command : ℕ) (q : List Command) (a : Applied) → P a.world
       → P (after_commands system command q a).world
   after_commands-keeps system command [] a before = before
-  after_commands-keeps system command (c ∷ q) a before =
-      after_commands-keeps system (command + 1) q (after_command system command c a)
-      (after_command-keeps system command c a before)
+  after_commands-keeps system command (c ∷ q) a before = after_commands-keeps system (command + 1) q
+      (after_command system command c a) (after_command-keeps system command c a before)
 
   pub after_queues-keeps : (system : ℕ) (queues : List (List Command)) (a : Applied) → P a.world
       → P (after_queues system queues a).world
   after_queues-keeps system [] a before = before
-  after_queues-keeps system (q ∷ queues) a before = after_queues-keeps (system + 1) queues
-      (after_commands system 0 q a) (after_commands-keeps system 0 q a before)
+  after_queues-keeps system (q ∷ queues) a before = after_queues-keeps (system + 1) queues (after_commands system 0 q a)
+      (after_commands-keeps system 0 q a before)

@@ -1,19 +1,14 @@
 -- The handle that is given next, and an entity that is made or taken back.
-use Rattle.std.proofs.Common.{[], rules, ◌≡◌, refl, sym, ℕ, ◌<◌, true, false}
-use Rattle.std.proofs.Common.{true≢false, List, ◌∷◌, ◌++◌, length, slice_get, arith, suc}
-use Rattle.std.proofs.Common.{ℤ, ◌⊎◌, length-append, Some, None, IfSome, Result, Ok, Err}
-use Rattle.std.proofs.Common.{OnOk, OnErr, is_err}
+use Rattle.std.proofs.Common.{[], rules, ◌≡◌, refl, sym, ℕ, ◌<◌, true, false, true≢false, List, ◌∷◌, ◌++◌, length, slice_get, arith, suc, ℤ, ◌⊎◌, length-append, Some, None, IfSome, Result, Ok, Err, OnOk, OnErr, is_err}
 use Rattle.std.proofs.lemmas.Grind.{common_steps}
 use Rattle.std.specs.FinSet as set
 use Rattle.std.specs.FinMap as map
 use Rattle.std.proofs.lemmas.Bool.{cases_lt}
 use Rattle.std.proofs.lemmas.Option.{none-some, same_Some, slice_get_past}
 use Rattle.ent_handle.specs.declared.birth.Birth.{Birth}
-use Rattle.ent_handle.specs.Handle.{Handle, handle_cmp_total}
-use Rattle.ent_handle.specs.Handle.{handle_cmp-IsAntisymmetric}
+use Rattle.ent_handle.specs.Handle.{Handle, handle_cmp_total, handle_cmp-IsAntisymmetric}
 use Rattle.ent_alloc.specs.declared.space.Space.{Space}
-use Rattle.ent_alloc.specs.Sequential.{Allocator, listed_alone, reply_to, reply_from, pool_at}
-use Rattle.ent_alloc.specs.Sequential.{cursor}
+use Rattle.ent_alloc.specs.Sequential.{Allocator, listed_alone, reply_to, reply_from, pool_at, cursor}
 use Rattle.ent_alloc.specs.Sound.{IsSound}
 use Rattle.ent_alloc.proofs.HandleSets.{same_handle, itself}
 use Rattle.ent_alloc.proofs.PoolLaw.{reply-cursor}
@@ -39,12 +34,10 @@ on_either it p q = search rules
 -- Of one handle.
 
 -- a request for one is given the front of the pool
-pub one_given : (s : Allocator) (h : Handle) → reply_to s 1 ≡ Ok (h ∷ [])
-    → slice_get s.pool 0 ≡ Some h
+pub one_given : (s : Allocator) (h : Handle) → reply_to s 1 ≡ Ok (h ∷ []) → slice_get s.pool 0 ≡ Some h
 one_given s h is = grind (arith, common_steps)
 
-pub given_new : (s : Allocator) (h : Handle) → IsSound s → reply_to s 1 ≡ Ok (h ∷ [])
-    → set.contains s.live h ≡ false
+pub given_new : (s : Allocator) (h : Handle) → IsSound s → reply_to s 1 ≡ Ok (h ∷ []) → set.contains s.live h ≡ false
 given_new s h sound is = search (rules, reply-not_live s 1 (h ∷ []) is sound)
 
 pub none_given : (s : Allocator) (space : Space) → reply_to s 1 ≡ Err space → s.pool ≡ []
@@ -54,25 +47,28 @@ pub pool_some : (s : Allocator) (h : Handle) → reply_to s 1 ≡ Ok (h ∷ []) 
 pool_some s h is none = grind (arith, common_steps)
 
 -- the reply where nothing is requested
-pub reply_at_top : (s : Allocator) (high : ℤ) (reply : Result Handle Space) → IsSound s
-    → high ≡ cursor s → listed_alone reply ≡ reply_from s.made (pool_at s high) 1
-    → listed_alone reply ≡ reply_to s 1
+pub reply_at_top : (s : Allocator) (high : ℤ) (reply : Result Handle Space) → IsSound s → high ≡ cursor s
+    → listed_alone reply ≡ reply_from s.made (pool_at s high) 1 → listed_alone reply ≡ reply_to s 1
 reply_at_top s high reply sound at is = search (rules, reply-cursor s 1 sound)
 
 -- An entity.
 
 -- the second of two entities under one handle
-insert_twice : (m : EntityMap) (h : Handle) (e f : Entity) → map.insert (map.insert m h e) h f
-    ≡ map.insert m h f
-insert_twice m h e f = map.same_map handle_cmp_total handle_cmp-IsAntisymmetric _ _ (λ q.
-    grind (arith, common_steps, map.get-insert handle_cmp_total (map.insert m h e) h f q, map.get-insert handle_cmp_total m h e q, map.get-insert handle_cmp_total m h f q))
+insert_twice : (m : EntityMap) (h : Handle) (e f : Entity) → map.insert (map.insert m h e) h f ≡ map.insert m h f
+insert_twice m h e f = map.same_map handle_cmp_total handle_cmp-IsAntisymmetric _ _
+    (λ q. grind (
+      arith,
+      common_steps,
+      map.get-insert handle_cmp_total (map.insert m h e) h f q,
+      map.get-insert handle_cmp_total m h e q,
+      map.get-insert handle_cmp_total m h f q,
+    ))
 
 pub get_inserted : (m : EntityMap) (h : Handle) (e : Entity) → map.get (map.insert m h e) h ≡ Some e
 get_inserted m h e = grind (arith, common_steps, map.get-insert handle_cmp_total m h e h, itself h)
 
 -- a newborn entity lacks no component if there are no items
-pub some_items : (m n : EntityMap) (h : Handle) (birth : Birth) (items : Bundle)
-    → n ≡ map.insert m h (newborn birth)
+pub some_items : (m n : EntityMap) (h : Handle) (birth : Birth) (items : Bundle) → n ≡ map.insert m h (newborn birth)
     → IfSome (components_of n h) (λ held. 0 < missing held items) → 0 < length items
 some_items m n h birth items made some = grind (arith, common_steps, get_inserted)
 
@@ -83,10 +79,15 @@ pub made_whole : (m : EntityMap) (h : Handle) (birth : Birth) (items : Bundle)
 made_whole m h birth items = search (rules, get_inserted, insert_twice)
 
 -- an entity that came and went
-pub taken_back : (m : EntityMap) (h : Handle) (e : Entity) → map.get m h ≡ None
-    → map.remove (map.insert m h e) h ≡ m
-taken_back m h e none = map.same_map handle_cmp_total handle_cmp-IsAntisymmetric _ _ (λ q.
-    grind (arith, common_steps, map.get-remove handle_cmp_total (map.insert m h e) h q, map.get-insert handle_cmp_total m h e q, same_handle q h))
+pub taken_back : (m : EntityMap) (h : Handle) (e : Entity) → map.get m h ≡ None → map.remove (map.insert m h e) h ≡ m
+taken_back m h e none = map.same_map handle_cmp_total handle_cmp-IsAntisymmetric _ _
+    (λ q. grind (
+      arith,
+      common_steps,
+      map.get-remove handle_cmp_total (map.insert m h e) h q,
+      map.get-insert handle_cmp_total m h e q,
+      same_handle q h,
+    ))
 
 same_lists : (xs ys : List Handle) → ((k : ℕ) → slice_get xs k ≡ slice_get ys k) → xs ≡ ys
 same_lists [] [] each = refl
@@ -95,7 +96,7 @@ same_lists (x ∷ xs) [] each = absurd (none-some x (sym (each 0)))
 same_lists (x ∷ xs) (y ∷ ys) each = search (rules, same_Some x y (each 0), same_lists xs ys (λ k. each (suc k)))
 
 -- a handle that came to the end of the places and went
-pub end_taken_back : (places left : List Handle) (h : Handle)
-    → AreWithout (length places) (places ++ h ∷ []) left → left ≡ places
-end_taken_back places left h without =
-    search (rules, same_lists, cases_lt, length-append, at_push_before, slice_get_past)
+pub end_taken_back : (places left : List Handle) (h : Handle) → AreWithout (length places) (places ++ h ∷ []) left
+    → left ≡ places
+end_taken_back places left h without = search
+    (rules, same_lists, cases_lt, length-append, at_push_before, slice_get_past)

@@ -1,8 +1,6 @@
 -- The entities of a world in the order of births are those of the births that tell it, in order.
 use Rattle.std.proofs.lemmas.Grind.{common_steps}
-use Rattle.std.proofs.Common.{[], arith, rules, ◌≡◌, refl, sym, ap, ◌∙◌, Bool, true, cond}
-use Rattle.std.proofs.Common.{◌&&◌, T, true≢false, List, ◌∷◌, map, filter, All, AllPairs}
-use Rattle.std.proofs.Common.{Option, Some, None, is_some, option_map, unwrap_or, IsSomeAnd, IsTrue}
+use Rattle.std.proofs.Common.{[], arith, rules, ◌≡◌, refl, sym, ap, ◌∙◌, Bool, true, cond, ◌&&◌, T, true≢false, List, ◌∷◌, map, filter, All, AllPairs, Option, Some, None, is_some, option_map, unwrap_or, IsSomeAnd, IsTrue}
 use Rattle.std.proofs.lemmas.Bool.{or_right}
 use Rattle.std.specs.Ordering.{eq_by_cmp, is_lt}
 use Rattle.std.specs.declared.cmp.Ordering.TheVariants.{Less}
@@ -16,8 +14,7 @@ use Rattle.ent_handle.specs.declared.birth.Birth.{Birth}
 use Rattle.ent_handle.specs.Birth.{birth_cmp, birth_cmp_total, birth_cmp-IsAntisymmetric}
 use Rattle.ent_handle.specs.Handle.{Handle, handle_cmp_total}
 use Rattle.ent_alloc.specs.Sequential.{stands_in}
-use Rattle.ent_alloc.proofs.HandleSets.{itself, same_handle, Contains-from_stands_in}
-use Rattle.ent_alloc.proofs.HandleSets.{stands_in-from_Contains}
+use Rattle.ent_alloc.proofs.HandleSets.{itself, same_handle, Contains-from_stands_in, stands_in-from_Contains}
 use Rattle.ent_alloc.proofs.ListLaws.{AllPairs-head, AllPairs-tail}
 use Rattle.ent_storage.proofs.Overwritten.{is_sorted-filter, find-filter, passed}
 use Rattle.ent_storage.specs.BirthOrder.{birth_order, ListsByBirth}
@@ -43,26 +40,37 @@ module _ (name : Handle → Birth) (m : EntityMap) (births : BirthMap) (named : 
 
   name_less : (g h : Handle) → IsThere m g → IsThere m h → birth_order m g h ≡ Less
       → T (is_lt (birth_cmp (name g) (name h)))
-  name_less g h g_there h_there less = grind (arith, common_steps, birth_by_name name m g names g_there, birth_by_name name m h names h_there, names_apart name m births named names g h g_there h_there, birth_cmp-IsAntisymmetric (name g) (name h), tied_itself handle_cmp_total h)
+  name_less g h g_there h_there less = grind (
+    arith,
+    common_steps,
+    birth_by_name name m g names g_there,
+    birth_by_name name m h names h_there,
+    names_apart name m births named names g h g_there h_there,
+    birth_cmp-IsAntisymmetric (name g) (name h),
+    tied_itself handle_cmp_total h,
+  )
 
-  below-names : (h : Handle) → IsThere m h → (hs : List Handle)
-      → All (λ g. birth_order m h g ≡ Less) hs → All (IsThere m) hs
-      → T (below_all birth_cmp (name h) (map entry_of hs))
+  below-names : (h : Handle) → IsThere m h → (hs : List Handle) → All (λ g. birth_order m h g ≡ Less) hs
+      → All (IsThere m) hs → T (below_all birth_cmp (name h) (map entry_of hs))
   below-names h there [] less all = tt
   below-names h there (g ∷ hs) less all = search (rules, both, name_less, below-names h there hs, All-tail, All-head)
 
-  sorted-names : (hs : List Handle) → AllPairs (λ g h. birth_order m g h ≡ Less) hs
-      → All (IsThere m) hs → T (is_sorted birth_cmp (map entry_of hs))
+  sorted-names : (hs : List Handle) → AllPairs (λ g h. birth_order m g h ≡ Less) hs → All (IsThere m) hs
+      → T (is_sorted birth_cmp (map entry_of hs))
   sorted-names [] rising all = tt
   sorted-names (h ∷ hs) rising all =
       let tail = All-tail (IsThere m) h hs all in
-      both _ _ (search (rules, below-names h (All-head (IsThere m) h hs all) hs, AllPairs-head (λ g h. birth_order m g h ≡ Less) h hs rising, tail))
-      (sorted-names hs (AllPairs-tail (λ g h. birth_order m g h ≡ Less) h hs rising) tail)
+      both _ _
+      (search (
+        rules,
+        below-names h (All-head (IsThere m) h hs all) hs,
+        AllPairs-head (λ g h. birth_order m g h ≡ Less) h hs rising,
+        tail,
+      )) (sorted-names hs (AllPairs-tail (λ g h. birth_order m g h ≡ Less) h hs rising) tail)
 
   -- a birth that is found is the name of one of the handles
-  found_name : (hs : List Handle) (q : Birth) (o : Option Bundle)
-      → find birth_cmp q (map entry_of hs) ≡ o → is_some o ≡ true
-      → (h : Handle) × ((stands_in hs h ≡ true) × ((name h ≡ q) × (o ≡ Some (items_of h))))
+  found_name : (hs : List Handle) (q : Birth) (o : Option Bundle) → find birth_cmp q (map entry_of hs) ≡ o
+      → is_some o ≡ true → (h : Handle) × ((stands_in hs h ≡ true) × ((name h ≡ q) × (o ≡ Some (items_of h))))
   found_name [] q o is some = absurd (true≢false (sym some ∙ ap is_some (sym is)))
   found_name (h ∷ hs) q o is some =
       by (eq_by_cmp birth_cmp q (name h)) refl is
@@ -80,18 +88,19 @@ module _ (name : Handle → Birth) (m : EntityMap) (births : BirthMap) (named : 
   name_found : (hs : List Handle) (h : Handle) → stands_in hs h ≡ true
       → is_some (find birth_cmp (name h) (map entry_of hs)) ≡ true
   name_found [] h there = absurd (true≢false (sym there))
-  name_found (g ∷ hs) h there = grind (arith, common_steps, name_found hs h, same_handle h g, (eq_by_cmp_equiv birth_cmp_total).refl (name h))
+  name_found (g ∷ hs) h there = grind
+      (arith, common_steps, name_found hs h, same_handle h g, (eq_by_cmp_equiv birth_cmp_total).refl (name h))
 
   -- the entity of a handle that has one which passes
-  entity_of : (passes : Entity → Bool) (o : Option Entity)
-      → IsSomeAnd o (λ e. IsTrue (passes e)) → (e : Entity) × ((o ≡ Some e) × (passes e ≡ true))
+  entity_of : (passes : Entity → Bool) (o : Option Entity) → IsSomeAnd o (λ e. IsTrue (passes e))
+      → (e : Entity) × ((o ≡ Some e) × (passes e ≡ true))
   entity_of passes None none = absurd none
   entity_of passes (Some e) is = (e, (refl, is))
 
   -- Handles in the order of births, with what the births tell of them, are the births' own list.
   module _ (passes : Entity → Bool) (test : Bundle → Bool)
-      (alike : (e : Entity) → passes e ≡ test (finite.entries e.components))
-      (handles : List Handle) (lists : ListsByBirth passes m handles) where
+      (alike : (e : Entity) → passes e ≡ test (finite.entries e.components)) (handles : List Handle)
+      (lists : ListsByBirth passes m handles) where
     -- what the test leaves of a birth's items
     abbrev kept : Birth → Option Bundle → Option Bundle
     kept q o = passed birth_cmp_total birth_cmp-IsAntisymmetric (λ e. test e.1) q o
@@ -100,8 +109,8 @@ module _ (name : Handle → Birth) (m : EntityMap) (births : BirthMap) (named : 
     all_there = search (rules, All-contains_itself handles)
 
     -- nothing is found where no handle is found
-    none_kept : (q : Birth) → find birth_cmp q (map entry_of handles) ≡ None
-        → (p : Option Bundle) → find birth_cmp q births ≡ p → kept q p ≡ None
+    none_kept : (q : Birth) → find birth_cmp q (map entry_of handles) ≡ None → (p : Option Bundle)
+        → find birth_cmp q births ≡ p → kept q p ≡ None
     none_kept q none None is = refl
     none_kept q none (Some items) is =
         let one = named.only q items is in
@@ -113,8 +122,7 @@ module _ (name : Handle → Birth) (m : EntityMap) (births : BirthMap) (named : 
         let has = (lists.holds h).1 in
         grind (arith, common_steps, alike e, name_found handles h, stands_in-from_Contains handles h)
 
-    found_alike : (q : Birth) → find birth_cmp q (map entry_of handles)
-        ≡ kept q (find birth_cmp q births)
+    found_alike : (q : Birth) → find birth_cmp q (map entry_of handles) ≡ kept q (find birth_cmp q births)
     found_alike q = by (find birth_cmp q (map entry_of handles)) refl
       where
         by : (o : Option Bundle) → find birth_cmp q (map entry_of handles) ≡ o
@@ -129,11 +137,7 @@ module _ (name : Handle → Birth) (m : EntityMap) (births : BirthMap) (named : 
             grind (arith, common_steps, alike old.0)
 
     pub listed-named : map entry_of handles ≡ filter (λ entry. test entry.1) births
-    listed-named =
-        same_entries birth_cmp birth_cmp_total birth_cmp-IsAntisymmetric _ _
-        (sorted-names handles lists.rising all_there)
-        (is_sorted-filter birth_cmp_total birth_cmp-IsAntisymmetric (λ e. test e.1) births
-        named.rising)
-        (λ q. found_alike q
-        ∙ sym (find-filter birth_cmp_total birth_cmp-IsAntisymmetric (λ e. test e.1) births q
-        named.rising))
+    listed-named = same_entries birth_cmp birth_cmp_total birth_cmp-IsAntisymmetric _ _
+        (sorted-names handles lists.rising all_there) (is_sorted-filter birth_cmp_total birth_cmp-IsAntisymmetric
+        (λ e. test e.1) births named.rising) (λ q. found_alike q
+        ∙ sym (find-filter birth_cmp_total birth_cmp-IsAntisymmetric (λ e. test e.1) births q named.rising))

@@ -1,7 +1,5 @@
 -- The handles that no queue lists: each gets the birth of its ordinal among them.
-use Rattle.std.proofs.Common.{[], arith, rules, ◌≡◌, refl, sym, ap, ◌∙◌, ℕ, ◌+◌, Bool, true, false}
-use Rattle.std.proofs.Common.{cond, eqb, ◌||◌, true≢false, List, ◌∷◌, filter, All, AllPairs}
-use Rattle.std.proofs.Common.{Option, Some, None}
+use Rattle.std.proofs.Common.{[], arith, rules, ◌≡◌, refl, sym, ap, ◌∙◌, ℕ, ◌+◌, Bool, true, false, cond, eqb, ◌||◌, true≢false, List, ◌∷◌, filter, All, AllPairs, Option, Some, None}
 use Rattle.std.proofs.lemmas.Grind.{common_steps}
 use Rattle.std.proofs.lemmas.Bool.{or_right}
 use Rattle.std.specs.Ordering.{eq_by_cmp}
@@ -19,8 +17,7 @@ use Rattle.ent_alloc.proofs.Replies.{not_apart}
 use Rattle.ent_storage.specs.EntityMap.{Entity, EntityMap, with_birth}
 use Rattle.ent_world.specs.Sync.{no_system}
 use Rattle.ent_world.specs.Entering.{is_unnamed, numbered}
-use Rattle.ent_world.proofs.BirthsByQueues.{birth_at, get-with_birth, birth_by_index}
-use Rattle.ent_world.proofs.BirthsByQueues.{reborn}
+use Rattle.ent_world.proofs.BirthsByQueues.{birth_at, get-with_birth, birth_by_index, reborn}
 
 -- each stands there once
 abbrev pub AreDistinct : List Handle → Type 0
@@ -32,16 +29,20 @@ no_other h hs apart = search (rules, not_apart, All-contains, Contains-from_stan
 
 pub distinct : (hs : List Handle) → AllPairs AreApart hs → AreDistinct hs
 distinct [] apart = tt
-distinct (h ∷ hs) apart = (
-  no_other h hs (AllPairs-head AreApart h hs apart),
-  distinct hs (AllPairs-tail AreApart h hs apart),
-)
+distinct (h ∷ hs) apart =
+    (no_other h hs (AllPairs-head AreApart h hs apart), distinct hs (AllPairs-tail AreApart h hs apart))
 
 -- two tests that agree at each of the handles keep the same
-pub filter_alike : (p q : Handle → Bool) (hs : List Handle) → ((h : Handle) → stands_in hs h ≡ true
-    → p h ≡ q h) → filter p hs ≡ filter q hs
+pub filter_alike : (p q : Handle → Bool) (hs : List Handle) → ((h : Handle) → stands_in hs h ≡ true → p h ≡ q h)
+    → filter p hs ≡ filter q hs
 filter_alike p q [] alike = refl
-filter_alike p q (h ∷ hs) alike = grind (arith, common_steps, alike h, itself h, filter_alike p q hs (λ g there. alike g (or_right (eq_by_cmp handle_cmp g h) (stands_in hs g) there)))
+filter_alike p q (h ∷ hs) alike = grind (
+  arith,
+  common_steps,
+  alike h,
+  itself h,
+  filter_alike p q hs (λ g there. alike g (or_right (eq_by_cmp handle_cmp g h) (stands_in hs g) there)),
+)
 
 -- who doesn't stand there is not kept
 not_kept : (p : Handle → Bool) (q : Handle) (hs : List Handle) → stands_in hs q ≡ false
@@ -50,14 +51,15 @@ not_kept p q [] none = refl
 not_kept p q (h ∷ hs) none = grind (arith, common_steps, not_kept p q hs)
 
 -- the index of what stands there, and none of what doesn't
-pub some_index : (q : Handle) (index : ℕ) (hs : List Handle) → stands_in hs q ≡ true → (k : ℕ)
-    × (position_from (eq_by_cmp handle_cmp q) index hs ≡ Some k)
+pub some_index : (q : Handle) (index : ℕ) (hs : List Handle) → stands_in hs q ≡ true
+    → (k : ℕ) × (position_from (eq_by_cmp handle_cmp q) index hs ≡ Some k)
 some_index q index [] none = absurd (true≢false (sym none))
-some_index q index (h ∷ hs) there =
-    elim (eq_by_cmp handle_cmp q h) as (λ b. (b || stands_in hs q) ≡ true → (k : ℕ)
-    × (cond b (Some index) (position_from (eq_by_cmp handle_cmp q) (index + 1) hs) ≡ Some k)) [
+some_index q index (h ∷ hs) there = elim (eq_by_cmp handle_cmp q h) as
+    (λ b. (b || stands_in hs q) ≡ true → (k : ℕ) × (cond b (Some index)
+    (position_from (eq_by_cmp handle_cmp q) (index + 1) hs) ≡ Some k)) [
       | true ↦ λ _. (index, refl)
-      | false ↦ λ others. some_index q (index + 1) hs others
+      | false ↦
+          λ others. some_index q (index + 1) hs others
     ] there
 
 pub no_index : (q : Handle) (index : ℕ) (hs : List Handle) → stands_in hs q ≡ false
@@ -85,24 +87,29 @@ apart_in : (h g : Handle) (hs : List Handle) → stands_in hs h ≡ false → st
 apart_in h g hs none there = grind (arith, common_steps)
 
 -- one more birth changes nothing of the others
-waiting-others : (h : Handle) (birth : Birth) (hs : List Handle) (m : EntityMap) → stands_in hs h
-    ≡ false → waiting (with_birth m h birth) hs ≡ waiting m hs
-waiting-others h birth hs m none =
-    filter_alike (is_unnamed (with_birth m h birth)) (is_unnamed m) hs (λ g there.
-    ap (λ (o : Option Entity). option_map_or (λ e. eqb e.birth.system no_system) o false) (
-    get-with_birth m h birth g
-    ∙ ap (λ b. cond b (option_map (reborn birth) (map.get m g)) (map.get m g))
+waiting-others : (h : Handle) (birth : Birth) (hs : List Handle) (m : EntityMap) → stands_in hs h ≡ false
+    → waiting (with_birth m h birth) hs ≡ waiting m hs
+waiting-others h birth hs m none = filter_alike (is_unnamed (with_birth m h birth)) (is_unnamed m) hs
+    (λ g there. ap (λ (o : Option Entity). option_map_or (λ e. eqb e.birth.system no_system) o false)
+    (get-with_birth m h birth g ∙ ap (λ b. cond b (option_map (reborn birth) (map.get m g)) (map.get m g))
     (apart_in h g hs none there)))
 
 module _ (phase : ℕ) where
   -- the next one has this index
   pub get-numbered : (index : ℕ) (hs : List Handle) (m : EntityMap) (q : Handle) → AreDistinct hs
-      → map.get (numbered (birth_at phase no_system index) hs m) q ≡ or_numbered (map.get m q)
-      (birth_by_index phase no_system (position_from (eq_by_cmp handle_cmp q) index (waiting m hs)))
+      → map.get (numbered (birth_at phase no_system index) hs m) q ≡ or_numbered (map.get m q) (birth_by_index phase
+      no_system (position_from (eq_by_cmp handle_cmp q) index (waiting m hs)))
   get-numbered index [] m q apart = sym (or_numbered-none (map.get m q))
   get-numbered index (h ∷ hs) m q apart =
       let n = with_birth m h (birth_at phase no_system index) in
-      let once : eq_by_cmp handle_cmp q h ≡ true
-      → position_from (eq_by_cmp handle_cmp q) (index + 1) (waiting m hs) ≡ None = λ tied. no_index q (index + 1) (waiting m hs)
+      let once : eq_by_cmp handle_cmp q h ≡ true → position_from (eq_by_cmp handle_cmp q) (index + 1) (waiting m hs)
+      ≡ None = λ tied. no_index q (index + 1) (waiting m hs)
       (not_kept (is_unnamed m) q hs (ap (stands_in hs) (same_handle q h tied) ∙ apart.0)) in
-      grind (arith, common_steps, get-numbered (index + 1) hs n q apart.1, get-numbered index hs m q apart.1, waiting-others h (birth_at phase no_system index) hs m apart.0, get-with_birth m h (birth_at phase no_system index) q)
+      grind (
+        arith,
+        common_steps,
+        get-numbered (index + 1) hs n q apart.1,
+        get-numbered index hs m q apart.1,
+        waiting-others h (birth_at phase no_system index) hs m apart.0,
+        get-with_birth m h (birth_at phase no_system index) q,
+      )

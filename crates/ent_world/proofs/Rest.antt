@@ -1,7 +1,6 @@
 -- A sync that is cut anywhere, and goes on with what is left, is the whole sync; and faults are
 -- only added to those that there were.
-use Rattle.std.proofs.Common.{[], rules, ◌≡◌, refl, ap, ◌∙◌, ℕ, zero, suc, ◌+◌, List, ◌∷◌, ◌++◌}
-use Rattle.std.proofs.Common.{take, drop, arith, ◌≤◌, append-nil}
+use Rattle.std.proofs.Common.{[], rules, ◌≡◌, refl, ap, ◌∙◌, ℕ, zero, suc, ◌+◌, List, ◌∷◌, ◌++◌, take, drop, arith, ◌≤◌, append-nil}
 use Rattle.std.proofs.lemmas.Grind.{common_steps}
 use Rattle.std.proofs.lemmas.List.{take-take}
 use Rattle.ent_handle.specs.Handle.{Handle}
@@ -9,31 +8,29 @@ use Rattle.ent_queue.specs.Command.{Command}
 use Rattle.ent_world.specs.World.{World}
 use Rattle.ent_world.specs.declared.fault.Fault.{Fault}
 use Rattle.ent_world.specs.declared.fault.FaultKind.{FaultKind}
-use Rattle.ent_world.specs.Effects.{Applied, applied, on_entity, on_each, with_fault, after_command}
-use Rattle.ent_world.specs.Effects.{after_commands, after_queues}
+use Rattle.ent_world.specs.Effects.{Applied, applied, on_entity, on_each, with_fault, after_command, after_commands, after_queues}
 use Rattle.ent_world.specs.Sync.{first_part, cut_commands, cut}
 use Rattle.ent_world.specs.Rest.{left_commands, after_left_queues, after_left, IsLaterIn, IsLater}
 use Rattle.ent_world.proofs.Folds.{first_alone}
 
 -- ---- cut and gone on
 
-each_split : (system command : ℕ) (change : Handle → World → World) (done : ℕ) (hs : List Handle)
-    (a : Applied) → on_each system command change hs a
-    ≡ on_each system command change (drop done hs) (on_each system command change (take done hs) a)
+each_split : (system command : ℕ) (change : Handle → World → World) (done : ℕ) (hs : List Handle) (a : Applied)
+    → on_each system command change hs a ≡ on_each system command change (drop done hs)
+    (on_each system command change (take done hs) a)
 each_split system command change zero hs a = refl
 each_split system command change (suc done) [] a = refl
-each_split system command change (suc done) (h ∷ hs) a =
-    each_split system command change done hs (on_entity system command change h a)
+each_split system command change (suc done) (h ∷ hs) a = each_split system command change done hs
+    (on_entity system command change h a)
 
 -- from the command of a number on, if the first of these has that number
 commands_split : (system from command done : ℕ) (q : List Command) (a : Applied)
-    → after_commands system from q a
-    ≡ after_commands system (from + command) (left_commands command done q)
+    → after_commands system from q a ≡ after_commands system (from + command) (left_commands command done q)
     (after_commands system from (cut_commands command done q) a)
 commands_split system from zero done q a = search (rules, each_split)
 commands_split system from (suc command) done [] a = refl
-commands_split system from (suc command) done (c ∷ q) a =
-    search (rules, commands_split system (from + 1) command done q (after_command system from c a))
+commands_split system from (suc command) done (c ∷ q) a = search
+    (rules, commands_split system (from + 1) command done q (after_command system from c a))
 
 commands_whole : (system command done : ℕ) (q : List Command) (a : Applied)
     → after_commands system 0 q a ≡ after_commands system command (left_commands command done q)
@@ -47,42 +44,39 @@ queues_split : (from system command done : ℕ) (qs : List (List Command)) (a : 
 queues_split from zero command done [] a = refl
 queues_split from zero command done (q ∷ qs) a = search (rules, commands_whole)
 queues_split from (suc system) command done [] a = refl
-queues_split from (suc system) command done (q ∷ qs) a =
-    search (rules, queues_split (from + 1) system command done qs (after_commands from 0 q a))
+queues_split from (suc system) command done (q ∷ qs) a = search
+    (rules, queues_split (from + 1) system command done qs (after_commands from 0 q a))
 
 -- The sync that is cut there and then goes on has applied all queues.
 pub cut_and_left : (system command done : ℕ) (queues : List (List Command)) (a : Applied)
     → after_left system command done queues (after_queues 0 (cut system command done queues) a)
     ≡ after_queues 0 queues a
-cut_and_left system command done queues a =
-    grind (arith, common_steps, queues_split 0 system command done queues a)
+cut_and_left system command done queues a = grind (arith, common_steps, queues_split 0 system command done queues a)
 
 -- ---- a cut in a cut
 
-parts_within : (done later : ℕ) (q : List Command) → done ≤ later
-    → first_part done (first_part later q) ≡ first_part done q
+parts_within : (done later : ℕ) (q : List Command) → done ≤ later → first_part done (first_part later q) ≡ first_part
+    done q
 parts_within done later q le = search (rules, take-take)
 
-commands_within : (command done later later_done : ℕ) (q : List Command)
-    → IsLaterIn command done later later_done
+commands_within : (command done later later_done : ℕ) (q : List Command) → IsLaterIn command done later later_done
     → cut_commands command done (cut_commands later later_done q) ≡ cut_commands command done q
 commands_within zero done zero later_done q is = search (rules, parts_within)
 commands_within zero done (suc later) later_done it is = search (rules, first_alone)
 commands_within (suc command) done zero later_done q is = search rules
 commands_within (suc command) done (suc later) later_done [] is = refl
-commands_within (suc command) done (suc later) later_done (c ∷ q) is =
-    ap (λ cs. c ∷ cs) (commands_within command done later later_done q (search rules))
+commands_within (suc command) done (suc later) later_done (c ∷ q) is = ap (λ cs. c ∷ cs)
+    (commands_within command done later later_done q (search rules))
 
-pub cut_within : (system command done later later_command later_done : ℕ)
-    (queues : List (List Command)) → IsLater system command done later later_command later_done
-    → cut system command done (cut later later_command later_done queues)
-    ≡ cut system command done queues
+pub cut_within : (system command done later later_command later_done : ℕ) (queues : List (List Command))
+    → IsLater system command done later later_command later_done → cut system command done (cut later later_command
+    later_done queues) ≡ cut system command done queues
 cut_within zero command done zero later_command later_done it is = search (rules, commands_within)
 cut_within zero command done (suc later) later_command later_done it is = search rules
 cut_within (suc system) command done zero later_command later_done qs is = search rules
 cut_within (suc system) command done (suc later) later_command later_done [] is = refl
-cut_within (suc system) command done (suc later) later_command later_done (q ∷ qs) is =
-    ap (λ ps. q ∷ ps) (cut_within system command done later later_command later_done qs (search rules))
+cut_within (suc system) command done (suc later) later_command later_done (q ∷ qs) is = ap (λ ps. q ∷ ps)
+    (cut_within system command done later later_command later_done qs (search rules))
 
 -- ---- faults are added
 
@@ -91,47 +85,45 @@ abbrev pub with_faults_before : List Fault → Applied → Applied
 with_faults_before earlier a = record a { faults = earlier ++ a.faults }
 
 fault_after : (earlier : List Fault) (system command : ℕ) (why : FaultKind) (a : Applied)
-    → with_fault system command why (with_faults_before earlier a)
-    ≡ with_faults_before earlier (with_fault system command why a)
+    → with_fault system command why (with_faults_before earlier a) ≡ with_faults_before earlier (with_fault system
+    command why a)
 fault_after earlier system command why a = grind (arith, common_steps)
 
-entity_after : (earlier : List Fault) (system command : ℕ) (change : Handle → World → World)
-    (h : Handle) (a : Applied) → on_entity system command change h (with_faults_before earlier a)
-    ≡ with_faults_before earlier (on_entity system command change h a)
+entity_after : (earlier : List Fault) (system command : ℕ) (change : Handle → World → World) (h : Handle) (a : Applied)
+    → on_entity system command change h (with_faults_before earlier a) ≡ with_faults_before earlier (on_entity system
+    command change h a)
 entity_after earlier system command change h a = search (rules, fault_after)
 
-each_after : (earlier : List Fault) (system command : ℕ) (change : Handle → World → World)
-    (hs : List Handle) (a : Applied)
-    → on_each system command change hs (with_faults_before earlier a)
+each_after : (earlier : List Fault) (system command : ℕ) (change : Handle → World → World) (hs : List Handle)
+    (a : Applied) → on_each system command change hs (with_faults_before earlier a)
     ≡ with_faults_before earlier (on_each system command change hs a)
 each_after earlier system command change [] a = refl
-each_after earlier system command change (h ∷ hs) a =
-    ap (on_each system command change hs) (entity_after earlier system command change h a)
-    ∙ each_after earlier system command change hs (on_entity system command change h a)
+each_after earlier system command change (h ∷ hs) a = ap (on_each system command change hs)
+    (entity_after earlier system command change h a) ∙ each_after earlier system command change hs
+    (on_entity system command change h a)
 
 command_after : (earlier : List Fault) (system command : ℕ) (c : Command) (a : Applied)
-    → after_command system command c (with_faults_before earlier a)
-    ≡ with_faults_before earlier (after_command system command c a)
+    → after_command system command c (with_faults_before earlier a) ≡ with_faults_before earlier (after_command system
+    command c a)
 command_after earlier system command it a = search (rules, entity_after, each_after, fault_after)
 
 commands_after : (earlier : List Fault) (system command : ℕ) (cs : List Command) (a : Applied)
     → after_commands system command cs (with_faults_before earlier a)
     ≡ with_faults_before earlier (after_commands system command cs a)
 commands_after earlier system command [] a = refl
-commands_after earlier system command (c ∷ cs) a =
-    ap (after_commands system (command + 1) cs) (command_after earlier system command c a)
-    ∙ commands_after earlier system (command + 1) cs (after_command system command c a)
+commands_after earlier system command (c ∷ cs) a = ap (after_commands system (command + 1) cs)
+    (command_after earlier system command c a) ∙ commands_after earlier system (command + 1) cs
+    (after_command system command c a)
 
 queues_after : (earlier : List Fault) (system : ℕ) (qs : List (List Command)) (a : Applied)
-    → after_queues system qs (with_faults_before earlier a)
-    ≡ with_faults_before earlier (after_queues system qs a)
+    → after_queues system qs (with_faults_before earlier a) ≡ with_faults_before earlier (after_queues system qs a)
 queues_after earlier system [] a = refl
-queues_after earlier system (q ∷ qs) a =
-    search (rules, commands_after, queues_after earlier (system + 1) qs (after_commands system 0 q a))
+queues_after earlier system (q ∷ qs) a = search
+    (rules, commands_after, queues_after earlier (system + 1) qs (after_commands system 0 q a))
 
 -- What is left does the same whatever faults there were.
-pub left_after : (earlier : List Fault) (system command done : ℕ) (queues : List (List Command))
-    (a : Applied) → after_left system command done queues (with_faults_before earlier a)
+pub left_after : (earlier : List Fault) (system command done : ℕ) (queues : List (List Command)) (a : Applied)
+    → after_left system command done queues (with_faults_before earlier a)
     ≡ with_faults_before earlier (after_left system command done queues a)
 left_after earlier system command done queues a = search (rules, commands_after, queues_after)
 
@@ -145,19 +137,20 @@ applied_as earlier w a world faults = search (rules, append-nil)
 pub gone_on : (system command done : ℕ) (queues : List (List Command)) (start : Applied) (w : World)
     (earlier : List Fault) → w ≡ (after_queues 0 (cut system command done queues) start).world
     → earlier ≡ (after_queues 0 (cut system command done queues) start).faults
-    → with_faults_before earlier (after_left system command done queues (applied w []))
-    ≡ after_queues 0 queues start
-gone_on system command done queues start w earlier world faults =
-    search (rules, left_after earlier system command done queues (applied w []), applied_as earlier w (after_queues 0 (cut system command done queues) start) world faults, cut_and_left system command done queues start)
+    → with_faults_before earlier (after_left system command done queues (applied w [])) ≡ after_queues 0 queues start
+gone_on system command done queues start w earlier world faults = search (
+  rules,
+  left_after earlier system command done queues (applied w []),
+  applied_as earlier w (after_queues 0 (cut system command done queues) start) world faults,
+  cut_and_left system command done queues start,
+)
 
 -- And who stops again has applied what the sync applies until there.
-pub gone_on_until : (system command done later later_command later_done : ℕ)
-    (queues : List (List Command)) (start : Applied) (w : World) (earlier : List Fault)
-    → IsLater system command done later later_command later_done
+pub gone_on_until : (system command done later later_command later_done : ℕ) (queues : List (List Command))
+    (start : Applied) (w : World) (earlier : List Fault) → IsLater system command done later later_command later_done
     → w ≡ (after_queues 0 (cut system command done queues) start).world
     → earlier ≡ (after_queues 0 (cut system command done queues) start).faults
-    → with_faults_before earlier (after_left system command done
-    (cut later later_command later_done queues) (applied w []))
-    ≡ after_queues 0 (cut later later_command later_done queues) start
-gone_on_until system command done later later_command later_done queues start w earlier is world
-    faults = search (rules, cut_within, gone_on)
+    → with_faults_before earlier (after_left system command done (cut later later_command later_done queues)
+    (applied w [])) ≡ after_queues 0 (cut later later_command later_done queues) start
+gone_on_until system command done later later_command later_done queues start w earlier is world faults = search
+    (rules, cut_within, gone_on)

@@ -1,13 +1,10 @@
 -- How many slots wait after each step of an allocator, against the room that a storage has.
-use Rattle.std.proofs.Common.{[], rules, ◌≡◌, sym, ap, ◌∙◌, ℕ, zero, suc, ◌+◌, ◌-◌, ◌≤◌, ◌<◌, true, false, List}
-use Rattle.std.proofs.Common.{◌∷◌, ◌++◌, length, drop, filter, slice_get, arith, Some, All}
-use Rattle.std.proofs.Common.{length-append}
+use Rattle.std.proofs.Common.{[], rules, ◌≡◌, sym, ap, ◌∙◌, ℕ, zero, suc, ◌+◌, ◌-◌, ◌≤◌, ◌<◌, true, false, List, ◌∷◌, ◌++◌, length, drop, filter, slice_get, arith, Some, All, length-append}
 use Rattle.std.proofs.lemmas.Grind.{common_steps}
 use Rattle.std.proofs.lemmas.List.Elements.{filter_passes, All-head}
 use Rattle.std.specs.FinSet as set
 use Rattle.ent_handle.specs.Handle.{Handle}
-use Rattle.ent_alloc.specs.Sequential.{Allocator, available, top, is_old, fresh, after_flush}
-use Rattle.ent_alloc.specs.Sequential.{after_alloc, after_free}
+use Rattle.ent_alloc.specs.Sequential.{Allocator, available, top, is_old, fresh, after_flush, after_alloc, after_free}
 use Rattle.ent_alloc.specs.Sound.{IsSound}
 use Rattle.ent_alloc.specs.History.{Call, after_history}
 use Rattle.ent_alloc.proofs.Histories.{after_history-takes}
@@ -40,39 +37,41 @@ top-after_flush s sound =
     grind (arith, common_steps, length-append s.taken (s.aside ++ s.pool), made-after_flush s sound)
 
 -- with room for all that are born, room is left for each slot that waits then
-pub room-after_flush : (s : Allocator) (spare left : ℕ) → IsSound s → top s ≤ spare
-    → left + length s.taken ≡ spare → top (after_flush s) ≤ left
+pub room-after_flush : (s : Allocator) (spare left : ℕ) → IsSound s → top s ≤ spare → left + length s.taken ≡ spare
+    → top (after_flush s) ≤ left
 room-after_flush s spare left sound room less = search (rules, top-after_flush)
 
 -- none waits if the front of the pool is of a new slot
 none_waits : (s : Allocator) (h : Handle) (rest waiting : List Handle) → available s ≡ h ∷ rest
-    → available s ≡ waiting ++ fresh s.made (s.limits.slots - s.made)
-    → All (λ x. is_old s.made x ≡ true) waiting → is_old s.made h ≡ false → length waiting ≡ 0
+    → available s ≡ waiting ++ fresh s.made (s.limits.slots - s.made) → All (λ x. is_old s.made x ≡ true) waiting
+    → is_old s.made h ≡ false → length waiting ≡ 0
 none_waits s h rest waiting at order old new = grind (arith, common_steps, All-head)
 
 -- the one that is given is the last that waited, or none did
-pub top-after_alloc : (s : Allocator) (h : Handle) (rest : List Handle) → IsSound s → s.asked ≡ 0
-    → s.pool ≡ h ∷ rest → top (after_alloc s h) ≡ top s - 1
+pub top-after_alloc : (s : Allocator) (h : Handle) (rest : List Handle) → IsSound s → s.asked ≡ 0 → s.pool ≡ h ∷ rest
+    → top (after_alloc s h) ≡ top s - 1
 top-after_alloc s h rest sound flushed pool =
-    let all : available s ≡ h ∷ rest = sym (sound.pool ∙ ap (λ n. drop n (available s)) flushed) ∙
-    pool in
+    let all : available s ≡ h ∷ rest = sym (sound.pool ∙ ap (λ n. drop n (available s)) flushed) ∙ pool in
     let after = after_alloc-sound s h rest sound flushed pool in
     let before = length-available s sound in
     let left = length-available (after_alloc s h) after in
     let most = after.made in
-    grind (arith, common_steps, length-append, none_waits s h rest (filter (is_old s.made) (available s)) all sound.order (filter_passes (is_old s.made) (available s)))
+    grind (
+      arith,
+      common_steps,
+      length-append,
+      none_waits s h rest (filter (is_old s.made) (available s)) all sound.order
+          (filter_passes (is_old s.made) (available s)),
+    )
 
-front : (pool : List Handle) (h : Handle) → slice_get pool 0 ≡ Some h → (rest : List Handle)
-    × (pool ≡ h ∷ rest)
+front : (pool : List Handle) (h : Handle) → slice_get pool 0 ≡ Some h → (rest : List Handle) × (pool ≡ h ∷ rest)
 front [] h none = cc
 front (g ∷ rest) h first = let same : g ≡ h = cc in (rest, ap (λ x. x ∷ rest) same)
 
 -- a storage that has lost the place of one has room still
 pub room-after_alloc : (s : Allocator) (h : Handle) (spare left : ℕ) → IsSound s → s.asked ≡ 0
-    → slice_get s.pool 0 ≡ Some h → top s ≤ spare → (0 < spare → left + 1 ≡ spare)
-    → top (after_alloc s h) ≤ left
-room-after_alloc s h spare left sound flushed first room less =
-    search (rules, front, top-after_alloc)
+    → slice_get s.pool 0 ≡ Some h → top s ≤ spare → (0 < spare → left + 1 ≡ spare) → top (after_alloc s h) ≤ left
+room-after_alloc s h spare left sound flushed first room less = search (rules, front, top-after_alloc)
 
 -- no more than one waits more
 pub room-after_free : (s : Allocator) (h : Handle) (spare left : ℕ) → IsSound s → s.asked ≡ 0
@@ -80,6 +79,5 @@ pub room-after_free : (s : Allocator) (h : Handle) (spare left : ℕ) → IsSoun
 room-after_free s h spare left sound flushed lived room more = grind (arith, common_steps)
 
 -- reservations change nothing of it
-pub top-after_history : (s : Allocator) (history : List Call) → IsSound s
-    → top (after_history s history) ≡ top s
+pub top-after_history : (s : Allocator) (history : List Call) → IsSound s → top (after_history s history) ≡ top s
 top-after_history s history sound = search (rules, after_history-takes, top-after_takes)

@@ -1,7 +1,6 @@
 -- Where a command may take memory.
 use Rattle.std.proofs.lemmas.Grind.{common_steps}
-use Rattle.std.proofs.Common.{[], rules, ◌≡◌, ℕ, ◌<◌, true, List, ◌∷◌, length, drop, slice_get}
-use Rattle.std.proofs.Common.{Some, arith, zero, suc}
+use Rattle.std.proofs.Common.{[], rules, ◌≡◌, ℕ, ◌<◌, true, List, ◌∷◌, length, drop, slice_get, Some, arith, zero, suc}
 use Rattle.std.specs.Prelude.{max}
 use Rattle.std.proofs.lemmas.Bool.Decides.{nat_tests}
 use Rattle.std.proofs.lemmas.List.{drop_more}
@@ -10,40 +9,36 @@ use Rattle.ent_handle.specs.Handle.{Handle}
 use Rattle.ent_storage.specs.Bundle.{Bundle}
 use Rattle.ent_queue.specs.Command.{Command}
 use Rattle.ent_world.specs.World.{World}
-use Rattle.ent_world.specs.Memory.{insert_takes_memory, one_takes_memory, command_takes_memory}
-use Rattle.ent_world.specs.Memory.{TakesMemoryIn}
+use Rattle.ent_world.specs.Memory.{insert_takes_memory, one_takes_memory, command_takes_memory, TakesMemoryIn}
 use Rattle.ent_world.proofs.Folds.{next_below}
 
 -- what is left of a list begins with the element at that index
-at_left : {X : Type 0} (xs rest : List X) (k : ℕ) (x : X) → drop k xs ≡ x ∷ rest → slice_get xs k
-    ≡ Some x
+at_left : {X : Type 0} (xs rest : List X) (k : ℕ) (x : X) → drop k xs ≡ x ∷ rest → slice_get xs k ≡ Some x
 at_left xs rest k x left =
     let lt : k < length xs = next_below xs rest k x left in
     search (rules, drop_more xs k x lt, slice_get-get_or xs k x lt, lt)
 
 -- there are several components to be read
-several_items : (w : World) (items : Bundle) (h : Handle) → 1 < length items
-    → insert_takes_memory w items h ≡ true
+several_items : (w : World) (items : Bundle) (h : Handle) → 1 < length items → insert_takes_memory w items h ≡ true
 several_items w items h several = search (rules, nat_tests)
 
-at_takes_memory : (w : World) (items : Bundle) (hs : List Handle) (k : ℕ) → k < length hs
-    → 1 < length items → one_takes_memory w items (slice_get hs k) ≡ true
+at_takes_memory : (w : World) (items : Bundle) (hs : List Handle) (k : ℕ) → k < length hs → 1 < length items
+    → one_takes_memory w items (slice_get hs k) ≡ true
 at_takes_memory w items [] k lt some = absurd (omega arith)
 at_takes_memory w items (h ∷ hs) zero lt some = several_items w items h some
 at_takes_memory w items (h ∷ hs) (suc k) lt some = at_takes_memory w items hs k (omega arith) some
 
 -- to the first of the handles that are left
-pub stop_takes_memory : (w : World) (items : Bundle) (hs : List Handle) (k : ℕ) → (hs ≡ [] → ⊥)
-    → k < max 1 (length hs) → 1 < length items → one_takes_memory w items (slice_get hs k) ≡ true
+pub stop_takes_memory : (w : World) (items : Bundle) (hs : List Handle) (k : ℕ) → (hs ≡ [] → ⊥) → k < max 1 (length hs)
+    → 1 < length items → one_takes_memory w items (slice_get hs k) ≡ true
 stop_takes_memory w items hs k some_handle lt some = grind (arith, common_steps, at_takes_memory)
 
 -- to the next of them
-pub next_takes_memory : (w : World) (items : Bundle) (hs rest : List Handle) (k : ℕ) (h : Handle)
-    → drop k hs ≡ h ∷ rest → insert_takes_memory w items h ≡ true
-    → one_takes_memory w items (slice_get hs k) ≡ true
+pub next_takes_memory : (w : World) (items : Bundle) (hs rest : List Handle) (k : ℕ) (h : Handle) → drop k hs ≡ h ∷ rest
+    → insert_takes_memory w items h ≡ true → one_takes_memory w items (slice_get hs k) ≡ true
 next_takes_memory w items hs rest k h left takes = search (rules, at_left)
 
 -- at this command of a queue
-pub takes_memory_in : (w : World) (q rest : List Command) (k done : ℕ) (c : Command) → drop k q ≡ c
-    ∷ rest → command_takes_memory w done c ≡ true → TakesMemoryIn w k done q
+pub takes_memory_in : (w : World) (q rest : List Command) (k done : ℕ) (c : Command) → drop k q ≡ c ∷ rest
+    → command_takes_memory w done c ≡ true → TakesMemoryIn w k done q
 takes_memory_in w q rest k done c left takes = search (rules, at_left)

@@ -8,8 +8,7 @@ use Rattle.ent_replay.proofs.writing.append_spaced.Goals.{After-append}
 use Rattle.ent_replay.proofs.writing.append_spaced.Goals as goal
 
 -- the text so far, a space and this handle's text are no longer than the whole
-fits : (c : After-append) → length c.loop-handle.out.items
-    + (1 + length (handle_text c.handle-item.result))
+fits : (c : After-append) → length c.loop-handle.out.items + (1 + length (handle_text c.handle-item.result))
     ≤ length c.args.out.now.items + length (spaced c.args.handles.now)
 fits c = search (rules, spaced_fits)
 
@@ -21,17 +20,16 @@ returns-in_err-append-clause-full c =
 
 pub returns-in_err-write_text-clause-full : goal.returns-in_err-write_text-clause-full
 returns-in_err-write_text-clause-full c =
-    let p = err_from_is_err_and c.from_residual-in_err-write_text.result
-    c.from_residual-in_err-write_text.ensures.1 in
-    rw p.1 (omega (
+    let p = err_from_is_err_and c.from_residual-in_err-write_text.result c.from_residual-in_err-write_text.ensures.1 in
+    rw p.1
+    (omega (
       arith,
       fits (goal.at.returns-in_err-write_text-clause-full c).After-append,
       c.in_err-write_text.ensures.full,
       c.loop-handle.out.ok,
       c.args.out.now.ok,
       c.append.new.out.ok,
-      ap length c.in_ok-append.ensures.ok
-          ∙ length-append c.loop-handle.out.items (32 ∷ []),
+      ap length c.in_ok-append.ensures.ok ∙ length-append c.loop-handle.out.items (32 ∷ []),
     ))
 
 pub loop-handle-init : goal.loop-handle-init

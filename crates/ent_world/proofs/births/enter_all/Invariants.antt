@@ -8,10 +8,8 @@ abbrev pub invariant-loop-handle : goal.invariant-loop-handle
 invariant-loop-handle l = record {
   new : AreNew (drop l.handle-index l.handles) l.storage.entities;
   room : length (drop l.handle-index l.handles) ≤ l.storage.spare;
-  entered : with_born l.storage.entities (λ _. first_birth l.fn.phase no_system)
-      (drop l.handle-index l.handles)
+  entered : with_born l.storage.entities (λ _. first_birth l.fn.phase no_system) (drop l.handle-index l.handles)
       ≡ with_born l.fn.storage.entities (λ _. first_birth l.fn.phase no_system) l.handles;
-  spare : l.storage.spare + length l.handles ≡ l.fn.storage.spare
-      + length (drop l.handle-index l.handles);
+  spare : l.storage.spare + length l.handles ≡ l.fn.storage.spare + length (drop l.handle-index l.handles);
   places : l.storage.places ++ drop l.handle-index l.handles ≡ l.fn.storage.places ++ l.handles;
 }

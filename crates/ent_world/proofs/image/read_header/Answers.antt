@@ -1,8 +1,7 @@
 use Rattle.std.proofs.Common.{rules, ◌++◌, arith, inl, inr}
 use Rattle.std.proofs.lemmas.List.{take-append-drop}
 use Rattle.ent_storage.specs.Image.{word}
-use Rattle.ent_world.proofs.ImageHeader.{header_is, too_short, other_magic, other_version}
-use Rattle.ent_world.proofs.ImageHeader.{part_missing, begins, short_letters, other_letters}
+use Rattle.ent_world.proofs.ImageHeader.{header_is, too_short, other_magic, other_version, part_missing, begins, short_letters, other_letters}
 use Rattle.ent_world.proofs.image.read_header.Goals as goal
 
 pub returns-then-bytes-lt8-clause-refused : goal.returns-then-bytes-lt8-clause-refused
@@ -14,17 +13,15 @@ returns-then-magic-ne-MAGIC-clause-refused c phase part rest fits_p fits is = se
 pub returns-then-bytes-lt-HEADER-clause-refused : goal.returns-then-bytes-lt-HEADER-clause-refused
 returns-then-bytes-lt-HEADER-clause-refused c phase part rest fits_p fits is = search (rules, too_short)
 
-pub returns-then-version-ne-VERSION-clause-refused :
-    goal.returns-then-version-ne-VERSION-clause-refused
-returns-then-version-ne-VERSION-clause-refused c phase part rest fits_p fits is =
-    other_version c.read_word-version.result.0 c.args.bytes.now c.read_word-version.result.1.now
-    (search rules) c.if-version-ne-VERSION.true (cc) phase part rest is
+pub returns-then-version-ne-VERSION-clause-refused : goal.returns-then-version-ne-VERSION-clause-refused
+returns-then-version-ne-VERSION-clause-refused c phase part rest fits_p fits is = other_version
+    c.read_word-version.result.0 c.args.bytes.now c.read_word-version.result.1.now (search rules)
+    c.if-version-ne-VERSION.true (cc) phase part rest is
 
 pub returns-then-rest-len-clause-refused : goal.returns-then-rest-len-clause-refused
-returns-then-rest-len-clause-refused c phase part rest fits_p fits is =
-    part_missing c.read_long-phase.result.0 c.read_long-len.result.0 c.args.bytes.now
-    c.read_long-len.result.1.now (search rules) (search rules) (omega (arith, c.if-rest-len.true)) (cc)
-    phase part rest fits_p fits is
+returns-then-rest-len-clause-refused c phase part rest fits_p fits is = part_missing c.read_long-phase.result.0
+    c.read_long-len.result.0 c.args.bytes.now c.read_long-len.result.1.now (search rules) (search rules)
+    (omega (arith, c.if-rest-len.true)) (cc) phase part rest fits_p fits is
 
 pub returns-clause-found : goal.returns-clause-found
 returns-clause-found c = search (rules, header_is, take-append-drop)
@@ -42,8 +39,7 @@ returns-then-bytes-lt-HEADER-clause-fault c =
     let left = c.read_long-magic.result.1.now in
     ((left, begins c.args.bytes.now left cc), inl (omega (arith, c.if-bytes-lt-HEADER.true)))
 
-pub returns-then-version-ne-VERSION-clause-fault :
-    goal.returns-then-version-ne-VERSION-clause-fault
+pub returns-then-version-ne-VERSION-clause-fault : goal.returns-then-version-ne-VERSION-clause-fault
 returns-then-version-ne-VERSION-clause-fault c =
     let left = c.read_word-version.result.1.now in (
       omega (arith, c.if-bytes-lt-HEADER.false),

@@ -1,5 +1,4 @@
-use Rattle.std.proofs.Common.{◌≡◌, ◌+◌, ◌*◌, ◌≤◌, ◌<◌, ◌++◌, ◌∷◌, ◌∙◌, ap, sym, subst, arith, All, length, ℕ, suc}
-use Rattle.std.proofs.Common.{IfSome, IsSomeAnd, is_some, true, List, vec_len, vec_capacity}
+use Rattle.std.proofs.Common.{◌≡◌, ◌+◌, ◌*◌, ◌≤◌, ◌<◌, ◌++◌, ◌∷◌, ◌∙◌, ap, sym, subst, arith, All, length, ℕ, suc, IfSome, IsSomeAnd, is_some, true, List, vec_len, vec_capacity}
 use Rattle.std.specs.List.{flat_map}
 use Rattle.std.specs.Int.{w64}
 use Rattle.std.specs.Int.RustNames.{FitsSigned}
@@ -12,8 +11,8 @@ use Rattle.ent_storage.specs.EntityMap.{birth_of, value_of}
 use Rattle.ent_storage.specs.Image.{entity_bytes, IsBirth}
 use Rattle.ent_world.proofs.image.write_entities.Goals as goal
 
-room_left : (n size extra old new cap more : ℕ) → old + extra + suc n * size ≤ cap
-    → new ≤ old + size → cap ≤ more → new + extra + n * size ≤ more
+room_left : (n size extra old new cap more : ℕ) → old + extra + suc n * size ≤ cap → new ≤ old + size → cap ≤ more
+    → new + extra + n * size ≤ more
 room_left n size extra old new cap more room grown grows = omega (arith, room, grown, grows)
 
 pub loop-handle-preserved : goal.loop-handle-preserved
@@ -31,14 +30,12 @@ loop-handle-preserved c =
     record {
       placed = All-tail HasRow h left (subst (All HasRow) step loop.placed);
       room = room_left (length left) (16 + 9 * c.args.width) c.args.extra (vec_len c.loop-handle.out)
-          (vec_len c.write_entity.new.out) (vec_capacity c.loop-handle.out)
-          (vec_capacity c.write_entity.new.out)
-          (subst (λ (hs : List Handle). vec_len c.loop-handle.out + c.args.extra
-          + length hs * (16 + 9 * c.args.width) ≤ vec_capacity c.loop-handle.out) step loop.room)
-          c.write_entity.ensures.len c.write_entity.ensures.capacity;
+          (vec_len c.write_entity.new.out) (vec_capacity c.loop-handle.out) (vec_capacity c.write_entity.new.out)
+          (subst (λ (hs : List Handle). vec_len c.loop-handle.out + c.args.extra + length hs * (16 + 9 * c.args.width)
+          ≤ vec_capacity c.loop-handle.out) step loop.room) c.write_entity.ensures.len c.write_entity.ensures.capacity;
       items = ap (◌++ flat_map f left) c.write_entity.ensures.items
-          ∙ append_assoc c.loop-handle.out.items (f h) (flat_map f left)
-          ∙ ap (λ hs. c.loop-handle.out.items ++ flat_map f hs) (sym step) ∙ loop.items;
+          ∙ append_assoc c.loop-handle.out.items (f h) (flat_map f left) ∙ ap (λ hs. c.loop-handle.out.items ++ flat_map
+          f hs) (sym step) ∙ loop.items;
       births = λ all. loop.births (subst (All HasBirth) (sym step)
           (All-cons HasBirth h left c.write_entity.ensures.birth all));
       values = λ all. loop.values (subst (All HasValues) (sym step)

@@ -2,8 +2,7 @@ use Rattle.std.proofs.Common.{true≢false, rules, sym, ap, ◌∙◌, inr, arit
 use Rattle.std.proofs.lemmas.Grind.{common_steps}
 use Rattle.ent_storage.specs.EntityMap.{with_components}
 use Rattle.ent_storage.specs.Components.{with_items}
-use Rattle.ent_world.proofs.Making.{on_ok, on_err, made_whole, some_items, taken_back}
-use Rattle.ent_world.proofs.Making.{end_taken_back}
+use Rattle.ent_world.proofs.Making.{on_ok, on_err, made_whole, some_items, taken_back, end_taken_back}
 use Rattle.ent_world.proofs.spawning.make.Goals as goal
 
 -- the entity without its components goes again
@@ -17,11 +16,9 @@ pub returns-then-is_err-2-clause-no_less : goal.returns-then-is_err-2-clause-no_
 returns-then-is_err-2-clause-no_less c = grind (arith, common_steps)
 
 pub returns-then-is_err-2-clause-memory : goal.returns-then-is_err-2-clause-memory
-returns-then-is_err-2-clause-memory c =
-    inr (some_items c.args.storage.now.entities c.born.new.self.entities c.args.handle c.args.birth
-    c.args.items.now
-    (on_ok c.born.result (sym c.is_err.ensures.value ∙ c.if-is_err.false) c.born.ensures.ok)
-    (on_err c.insert_at.result (sym c.is_err-2.ensures.value ∙ c.if-is_err-2.true)
+returns-then-is_err-2-clause-memory c = inr (some_items c.args.storage.now.entities c.born.new.self.entities
+    c.args.handle c.args.birth c.args.items.now (on_ok c.born.result (sym c.is_err.ensures.value ∙ c.if-is_err.false)
+    c.born.ensures.ok) (on_err c.insert_at.result (sym c.is_err-2.ensures.value ∙ c.if-is_err-2.true)
     c.insert_at.ensures.memory_to_grow))
 
 -- no room was there
@@ -35,9 +32,7 @@ pub returns-clause-ok : goal.returns-clause-ok
 returns-clause-ok c =
     let m = c.args.storage.now.entities in
     let h = c.args.handle in
-    let made = on_ok c.born.result (sym c.is_err.ensures.value ∙ c.if-is_err.false)
-    c.born.ensures.ok in
-    let filled = on_ok c.insert_at.result (sym c.is_err-2.ensures.value ∙ c.if-is_err-2.false)
-    c.insert_at.ensures.ok in
+    let made = on_ok c.born.result (sym c.is_err.ensures.value ∙ c.if-is_err.false) c.born.ensures.ok in
+    let filled = on_ok c.insert_at.result (sym c.is_err-2.ensures.value ∙ c.if-is_err-2.false) c.insert_at.ensures.ok in
     filled ∙ ap (λ n. with_components n h (λ held. with_items held c.args.items.now)) made
     ∙ made_whole m h c.args.birth c.args.items.now

@@ -1,7 +1,6 @@
 use Rattle.std.proofs.Common.{rules}
 use Rattle.ent_replay.proofs.Maps.{no_test, get-of_tree, from_entries-set}
 use Rattle.ent_replay.proofs.by_caller.ByCaller.replace.Goals as goal
-use Rattle.ent_replay.proofs.by_caller.ByCaller.replace.Goals.{in-Some, in_default}
 
 pub returns : goal.returns
 returns g c = search (rules, get-of_tree, from_entries-set, no_test)

@@ -9,11 +9,9 @@ use Rattle.ent_replay.specs.declared.machine.Machine.TheInside.{Inside}
 use Rattle.ent_replay.specs.declared.outcome.Outcome.{Outcome}
 use Rattle.ent_replay.specs.declared.fault.ReplayFault.TheVariants as fault
 use Rattle.ent_replay.proofs.MachineAnswers.{done, faulty, refused}
-use Rattle.ent_replay.proofs.CallEvents.{answer-not_open, answer-not_stepped, answer-answered}
-use Rattle.ent_replay.proofs.CallEvents.{answer-consistent}
+use Rattle.ent_replay.proofs.CallEvents.{answer-not_open, answer-not_stepped, answer-answered, answer-consistent}
 use Rattle.ent_replay.proofs.machine.Machine.answer.Goals as goal
 use Rattle.ent_replay.proofs.machine.Machine.answer.Goals.{After-reply, After-remove}
-use Rattle.ent_replay.proofs.machine.Machine.answer.Goals.{in-Ok+in-Ok-listed, in-Err}
 
 pub returns-in_default : goal.returns-in_default
 returns-in_default c = search (rules, faulty, answer-not_open)
@@ -25,23 +23,21 @@ pub reply-requires : goal.reply-requires
 reply-requires c =
     let passed = c.self.invariant.spans c.args.caller c.in-Some.call c.in-Some-span.span
     (sym c.get.ensures ∙ c.in-Some.is) c.in-Some-span.is in
-    let small = c.self.invariant.requests c.args.caller c.in-Some.call (sym c.get.ensures
-    ∙ c.in-Some.is) in
+    let small = c.self.invariant.requests c.args.caller c.in-Some.call (sym c.get.ensures ∙ c.in-Some.is) in
     search (rules, ints)
 
 -- the reply is what the positions tell that the call passed
 told : (c : After-reply) → c.reply.result ≡ reply_from c.self.inside.entities.allocator.made
     (pool_at c.self.inside.entities.allocator c.in-Some-span.span.high) c.in-Some.call.requested
-told c = c.reply.ensures c.in-Some.call.requested (c.self.invariant.spans c.args.caller
-    c.in-Some.call c.in-Some-span.span (sym c.get.ensures ∙ c.in-Some.is) c.in-Some-span.is).low
+told c = c.reply.ensures c.in-Some.call.requested (c.self.invariant.spans c.args.caller c.in-Some.call
+    c.in-Some-span.span (sym c.get.ensures ∙ c.in-Some.is) c.in-Some-span.is).low
 
 -- and the step reports it
-reports : (c : After-reply) → on_answer (machine_state c.self.inside.entities.allocator
-    c.self.inside.spent c.self.inside.calls) c.args.caller
+reports : (c : After-reply) → on_answer (machine_state c.self.inside.entities.allocator c.self.inside.spent
+    c.self.inside.calls) c.args.caller
     ≡ (
       Ok (reported (reply_from c.self.inside.entities.allocator.made
-          (pool_at c.self.inside.entities.allocator c.in-Some-span.span.high)
-          c.in-Some.call.requested)),
+          (pool_at c.self.inside.entities.allocator c.in-Some-span.span.high) c.in-Some.call.requested)),
       machine_state c.self.inside.entities.allocator c.self.inside.spent
           (finite.remove c.self.inside.calls c.args.caller),
     )
@@ -53,8 +49,8 @@ returns-in-Err-listed c =
     let s = e.entities.allocator in
     let before = machine_state s e.spent e.calls in
     let at = (goal.at.returns-in-Err-listed c).After-reply in
-    refused (λ v. on_answer v c.args.caller) before c.args.self.now c.self.view_is
-    (Err fault.Memory) refl c.args.self.now (sym c.self.view_is)
+    refused (λ v. on_answer v c.args.caller) before c.args.self.now c.self.view_is (Err fault.Memory) refl
+    c.args.self.now (sym c.self.view_is)
     (search (rules, reports, told, c.in-Ok.is, c.in-Err-listed.ensures.memory, before, at))
 
 -- nothing but the call is taken out
@@ -71,12 +67,10 @@ invariant_of-self c =
     let s = e.entities.allocator in
     let at = (goal.at.invariant_of-self c).After-remove in
     let same = unchanged at in
-    subst (λ m. AreConsistent c.match-reply.self-inside.entities.allocator
-    c.match-reply.self-inside.spent m) (sym (calls_are at same))
-    (subst (λ (x : Inside). AreConsistent x.entities.allocator x.spent
-    (finite.remove e.calls c.args.caller)) (sym same)
-    (answer-consistent s e.spent e.calls c.args.caller (omega arith) c.in-Some.call
-    (sym c.get.ensures ∙ c.in-Some.is) c.self.invariant c.in-Some-span.span c.in-Some-span.is))
+    subst (λ m. AreConsistent c.match-reply.self-inside.entities.allocator c.match-reply.self-inside.spent m)
+    (sym (calls_are at same)) (subst (λ (x : Inside). AreConsistent x.entities.allocator x.spent
+    (finite.remove e.calls c.args.caller)) (sym same) (answer-consistent s e.spent e.calls c.args.caller (omega arith)
+    c.in-Some.call (sym c.get.ensures ∙ c.in-Some.is) c.self.invariant c.in-Some-span.span c.in-Some-span.is))
 
 pub returns : goal.returns
 returns c =
@@ -85,12 +79,10 @@ returns c =
     let at = goal.at.returns c in
     let says = told at.After-reply in
     let same = unchanged at.After-remove in
-    let outcome_is : c.match-reply.outcome ≡ reported (reply_from s.made
-    (pool_at s c.in-Some-span.span.high) c.in-Some.call.requested) =
-    search (rules, c.match-reply.branch) in
-    done (λ v. on_answer v c.args.caller) (machine_state s e.spent e.calls)
-    c.args.self.now c.self.view_is (Ok c.match-reply.outcome) _
-    (ap (λ (o : Outcome). Ok o) outcome_is)
-    (machine_state c.match-reply.self-inside.entities.allocator c.match-reply.self-inside.spent
-    c.remove.new.self) _ (λ i. machine_state (same i).entities.allocator (same i).spent
-    (calls_are at.After-remove same i)) (reports at.After-reply)
+    let outcome_is : c.match-reply.outcome ≡ reported (reply_from s.made (pool_at s c.in-Some-span.span.high)
+    c.in-Some.call.requested) = search (rules, c.match-reply.branch) in
+    done (λ v. on_answer v c.args.caller) (machine_state s e.spent e.calls) c.args.self.now c.self.view_is
+    (Ok c.match-reply.outcome) _ (ap (λ (o : Outcome). Ok o) outcome_is)
+    (machine_state c.match-reply.self-inside.entities.allocator c.match-reply.self-inside.spent c.remove.new.self) _
+    (λ i. machine_state (same i).entities.allocator (same i).spent (calls_are at.After-remove same i))
+    (reports at.After-reply)

@@ -11,8 +11,7 @@ use Rattle.ent_replay.specs.declared.outcome.Outcome.TheVariants as outcome
 use Rattle.ent_replay.specs.declared.fault.ReplayFault.TheVariants as fault
 use Rattle.ent_replay.proofs.MachineAnswers.{done, faulty, refused, some_of, none_of, on_ok, on_err}
 use Rattle.ent_replay.proofs.CallEvents.{begin-open, begin-quota, begin-begun, begin-consistent}
-use Rattle.ent_replay.proofs.machine.Machine.begin.Goals.{Else-is_some, After-unwrap_or-spent}
-use Rattle.ent_replay.proofs.machine.Machine.begin.Goals.{After-remove, Else-is_err-2}
+use Rattle.ent_replay.proofs.machine.Machine.begin.Goals.{Else-is_some, After-unwrap_or-spent, After-remove, Else-is_err-2}
 use Rattle.ent_replay.proofs.machine.Machine.begin.Goals as goal
 
 pub returns-then-is_some : goal.returns-then-is_some
@@ -41,11 +40,9 @@ returns-then-left-from c =
     let s = e.entities.allocator in
     let before = machine_state s e.spent e.calls in
     let spent = spent (goal.at.returns-then-left-from c).After-unwrap_or-spent in
-    let left : quota - c.unwrap_or-spent.result ≡ left_of before c.args.caller =
-    ap (λ n. quota - n) spent in
+    let left : quota - c.unwrap_or-spent.result ≡ left_of before c.args.caller = ap (λ n. quota - n) spent in
     done (λ v. on_begin v c.args.caller c.args.n) before c.args.self.now c.self.view_is
-    (Err (fault.Quota (quota - c.unwrap_or-spent.result)))
-    (Err (fault.Quota (left_of before c.args.caller)))
+    (Err (fault.Quota (quota - c.unwrap_or-spent.result))) (Err (fault.Quota (left_of before c.args.caller)))
     (ap (λ n. Err (fault.Quota n)) left) c.args.self.now before (sym c.self.view_is)
     (begin-quota s e.spent e.calls c.args.caller (omega arith) c.args.n
     (none (goal.at.returns-then-left-from c).Else-is_some) (omega arith))
@@ -57,13 +54,11 @@ returns-then-is_err c =
     let s = e.entities.allocator in
     let before = machine_state s e.spent e.calls in
     let spent = spent (goal.at.returns-then-is_err c).After-unwrap_or-spent in
-    let calls : c.insert.new.self ≡ e.calls = on_err c.insert.result c.if-is_err.ensures.value
-    c.insert.ensures.err in
-    refused (λ v. on_begin v c.args.caller c.args.n) before c.args.self.now c.self.view_is
-    (Err fault.Memory) refl (machine_state s e.spent c.insert.new.self)
-    (ap (λ m. machine_state s e.spent m) calls)
-    (ap (λ p. event_takes_memory before p.0) (begin-begun s e.spent e.calls c.args.caller
-    (omega arith) c.args.n (none (goal.at.returns-then-is_err c).Else-is_some) (omega arith)))
+    let calls : c.insert.new.self ≡ e.calls = on_err c.insert.result c.if-is_err.ensures.value c.insert.ensures.err in
+    refused (λ v. on_begin v c.args.caller c.args.n) before c.args.self.now c.self.view_is (Err fault.Memory) refl
+    (machine_state s e.spent c.insert.new.self) (ap (λ m. machine_state s e.spent m) calls)
+    (ap (λ p. event_takes_memory before p.0) (begin-begun s e.spent e.calls c.args.caller (omega arith) c.args.n
+    (none (goal.at.returns-then-is_err c).Else-is_some) (omega arith)))
 
 -- its requests are as before
 kept : (c : After-remove) → c.insert-2.new.self ≡ c.self.inside.spent
@@ -86,15 +81,13 @@ returns-then-is_err-2 c =
     let at = goal.at.returns-then-is_err-2 c in
     let none = none at.Else-is_some in
     let spent = spent at.After-unwrap_or-spent in
-    refused (λ v. on_begin v c.args.caller c.args.n) before c.args.self.now c.self.view_is
-    (Err fault.Memory) refl (machine_state s c.insert-2.new.self c.remove.new.self)
-    (λ i. machine_state s (kept at.After-remove i) (undone at.After-remove none i))
-    (ap (λ p. event_takes_memory before p.0) (begin-begun s e.spent e.calls c.args.caller
-    (omega arith) c.args.n none (omega arith)))
+    refused (λ v. on_begin v c.args.caller c.args.n) before c.args.self.now c.self.view_is (Err fault.Memory) refl
+    (machine_state s c.insert-2.new.self c.remove.new.self) (λ i. machine_state s (kept at.After-remove i)
+    (undone at.After-remove none i)) (ap (λ p. event_takes_memory before p.0)
+    (begin-begun s e.spent e.calls c.args.caller (omega arith) c.args.n none (omega arith)))
 
 -- the call is among the caller's requests
-more : (c : Else-is_err-2) → c.unwrap_or-spent.result
-    ≡ unwrap_or (finite.get c.self.inside.spent c.args.caller) 0
+more : (c : Else-is_err-2) → c.unwrap_or-spent.result ≡ unwrap_or (finite.get c.self.inside.spent c.args.caller) 0
     → c.insert-2.new.self ≡ finite.insert c.self.inside.spent c.args.caller
     (unwrap_or (finite.get c.self.inside.spent c.args.caller) 0 + c.args.n)
 more c spent = search (rules, on_ok)
@@ -108,9 +101,8 @@ invariant_of-self-else-is_err-2 c =
     let spent = spent at.After-unwrap_or-spent in
     let begun = on_ok c.insert.result c.if-is_err.ensures.value c.insert.ensures.ok in
     subst (λ m. AreConsistent s m c.insert.new.self) (sym (more at.Else-is_err-2 spent))
-    (subst (λ m. AreConsistent s (finite.insert e.spent c.args.caller
-    (unwrap_or (finite.get e.spent c.args.caller) 0 + c.args.n)) m) (sym begun)
-    (begin-consistent s e.spent e.calls c.args.caller (omega arith) c.self.invariant
+    (subst (λ m. AreConsistent s (finite.insert e.spent c.args.caller (unwrap_or (finite.get e.spent c.args.caller) 0
+    + c.args.n)) m) (sym begun) (begin-consistent s e.spent e.calls c.args.caller (omega arith) c.self.invariant
     c.args.n (none at.Else-is_some) (omega arith) (omega arith)))
 
 pub returns : goal.returns
@@ -121,9 +113,7 @@ returns c =
     let at = goal.at.returns c in
     let spent = spent at.After-unwrap_or-spent in
     let begun = on_ok c.insert.result c.if-is_err.ensures.value c.insert.ensures.ok in
-    done (λ v. on_begin v c.args.caller c.args.n) (machine_state s e.spent e.calls)
-    c.args.self.now c.self.view_is (Ok outcome.Open) (Ok outcome.Open) refl
-    (machine_state s c.insert-2.new.self c.insert.new.self) _
+    done (λ v. on_begin v c.args.caller c.args.n) (machine_state s e.spent e.calls) c.args.self.now c.self.view_is
+    (Ok outcome.Open) (Ok outcome.Open) refl (machine_state s c.insert-2.new.self c.insert.new.self) _
     (λ i. machine_state s (more at.Else-is_err-2 spent i) (begun i))
-    (begin-begun s e.spent e.calls c.args.caller (omega arith) c.args.n
-    (none at.Else-is_some) (omega arith))
+    (begin-begun s e.spent e.calls c.args.caller (omega arith) c.args.n (none at.Else-is_some) (omega arith))

@@ -3,8 +3,7 @@ use Rattle.std.specs.FinMap as finite
 use Rattle.std.proofs.lemmas.Int.{ints}
 use Rattle.ent_alloc.specs.Sequential.{cursor}
 use Rattle.ent_replay.proofs.MachineAnswers.{done, faulty, some_of, none_of}
-use Rattle.ent_replay.proofs.CallEvents.{awaited-bound, step-not_open, step-stepped, step-taken}
-use Rattle.ent_replay.proofs.CallEvents.{step-consistent}
+use Rattle.ent_replay.proofs.CallEvents.{awaited-bound, step-not_open, step-stepped, step-taken, step-consistent}
 use Rattle.ent_replay.proofs.machine.Machine.take.Goals.{After-replace}
 use Rattle.ent_replay.proofs.machine.Machine.take.Goals as goal
 
@@ -19,8 +18,8 @@ lower-span-requires c =
     let e = c.self.inside in
     let s = e.entities.allocator in
     let waits = none_of c.in-Some.call.span c.if-is_some.ensures in
-    let bound = awaited-bound s e.spent e.calls c.args.caller (omega arith)
-    c.self.invariant c.in-Some.call (sym c.get.ensures ∙ c.in-Some.is) in
+    let bound = awaited-bound s e.spent e.calls c.args.caller (omega arith) c.self.invariant c.in-Some.call
+    (sym c.get.ensures ∙ c.in-Some.is) in
     search (rules, c.in-Some.call.requested, c.in-Some.call.span)
 
 -- the call keeps what its step passed
@@ -30,7 +29,8 @@ stepped : (c : After-replace) → c.replace.new.self ≡ finite.insert c.self.in
       span = Some
           (record {
             high = cursor c.self.inside.entities.allocator;
-            low = cursor c.self.inside.entities.allocator -ℤ pos c.in-Some.call.requested;
+            low = cursor c.self.inside.entities.allocator -ℤ pos
+                c.in-Some.call.requested;
           });
     })
 stepped c = search (rules)

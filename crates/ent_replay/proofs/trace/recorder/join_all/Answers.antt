@@ -16,8 +16,7 @@ returns c =
     let over : length c.args.logs.now ≤ c.loop-log.log-index = omega arith in
     let done : length c.loop-log.logs ≤ c.loop-log.log-index = omega arith in
     record {
-      takes = Leads-end c.args.checker.now c.loop-log.checker (lines_in_all c.args.logs.now)
-          c.loop-log.logs c.loop-log.log-index done c.loop-log.invariant.taken;
-      emptied = emptied-end c.args.logs.now c.loop-log.logs c.loop-log.log-index over
-          c.loop-log.invariant.emptied_are;
+      takes = Leads-end c.args.checker.now c.loop-log.checker (lines_in_all c.args.logs.now) c.loop-log.logs
+          c.loop-log.log-index done c.loop-log.invariant.taken;
+      emptied = emptied-end c.args.logs.now c.loop-log.logs c.loop-log.log-index over c.loop-log.invariant.emptied_are;
     }

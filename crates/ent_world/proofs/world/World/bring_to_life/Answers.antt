@@ -11,14 +11,13 @@ use Rattle.ent_world.proofs.Born.{born-new, stand_after, all_given}
 use Rattle.ent_world.proofs.PlacedRows.{rows-born, rows-count, born-fit}
 use Rattle.ent_world.proofs.SpareRoom.{room-after_flush}
 use Rattle.ent_world.proofs.Worlds.{after_births-world}
-use Rattle.ent_world.proofs.world.World.bring_to_life.Goals.{After-len-first, After-deref}
-use Rattle.ent_world.proofs.world.World.bring_to_life.Goals.{After-set_rows, After-number_others}
+use Rattle.ent_world.proofs.world.World.bring_to_life.Goals.{After-len-first, After-deref, After-set_rows, After-number_others}
 use Rattle.ent_world.proofs.world.World.bring_to_life.Goals as goal
 
 -- the first that is born has the next place
 next_place : (c : After-len-first) → c.len-first.result ≡ length c.self.inside.storage.places
-next_place c = c.len-first.ensures ∙ rows-count c.self.inside.entities.allocator _ _ _
-    c.self.invariant.rows c.self.invariant.world.living
+next_place c = c.len-first.ensures ∙ rows-count c.self.inside.entities.allocator _ _ _ c.self.invariant.rows
+    c.self.invariant.world.living
 
 -- what the flush lists is what is born
 are_born : (c : After-deref) → c.deref.result.now ≡ born c.self.inside.entities.allocator
@@ -39,22 +38,20 @@ set_rows-requires-clause-fits c =
     let are = are_born (goal.at.set_rows-requires-clause-fits c).After-deref in
     let next = next_place (goal.at.set_rows-requires-clause-fits c).After-len-first in
     let all = ap length (c.deref-2.ensures.value ∙ sym c.deref.ensures.value ∙ are) in
-    let fit = born-fit s c.self.inside.entities.rows c.self.inside.storage.places
-    c.self.inside.storage.entities c.self.invariant.world.sound c.self.invariant.world.living
-    c.self.invariant.rows in
+    let fit = born-fit s c.self.inside.entities.rows c.self.inside.storage.places c.self.inside.storage.entities
+    c.self.invariant.world.sound c.self.invariant.world.living c.self.invariant.rows in
     omega (arith, all, next, fit)
 
 -- those that are born stand after the others
-stood : (c : After-set_rows) → c.enter_all.new.storage.places
-    ≡ c.self.inside.storage.places ++ born c.self.inside.entities.allocator
+stood : (c : After-set_rows) → c.enter_all.new.storage.places ≡ c.self.inside.storage.places
+    ++ born c.self.inside.entities.allocator
 stood c = search (rules)
 
 -- and have their places as rows
 kept : (c : After-set_rows) → c.set_rows.new.entities.rows ≡ with_rows c.self.inside.entities.rows
     (length c.self.inside.storage.places) (born c.self.inside.entities.allocator)
 kept c =
-    let next = rows-count c.self.inside.entities.allocator _ _ _ c.self.invariant.rows
-    c.self.invariant.world.living in
+    let next = rows-count c.self.inside.entities.allocator _ _ _ c.self.invariant.rows c.self.invariant.world.living in
     grind (arith, common_steps)
 
 pub name_listed-requires-clause-rows : goal.name_listed-requires-clause-rows
@@ -62,48 +59,44 @@ name_listed-requires-clause-rows c =
     let at = (goal.at.name_listed-requires-clause-rows c).After-set_rows in
     let s = c.self.inside.entities.allocator in
     let m = c.self.inside.storage.entities in
-    rw (kept at, stood at)
-    (rows-born (λ _. first_birth 0 0) (born s) c.self.inside.entities.rows
-    c.self.inside.storage.places m c.self.invariant.rows
-    (born-new s m c.self.invariant.world.sound c.self.invariant.world.living)).at
+    rw (kept at, stood at) (rows-born (λ _. first_birth 0 0) (born s) c.self.inside.entities.rows
+    c.self.inside.storage.places m c.self.invariant.rows (born-new s m c.self.invariant.world.sound
+    c.self.invariant.world.living)).at
 
 -- they stand from the first place on
-stand : (c : After-set_rows) → drop c.len-first.result c.enter_all.new.storage.places
-    ≡ c.deref.result.now
+stand : (c : After-set_rows) → drop c.len-first.result c.enter_all.new.storage.places ≡ c.deref.result.now
 stand c =
-    let next = rows-count c.self.inside.entities.allocator _ _ _ c.self.invariant.rows
-    c.self.invariant.world.living in
+    let next = rows-count c.self.inside.entities.allocator _ _ _ c.self.invariant.rows c.self.invariant.world.living in
     search (rules, next, stand_after)
 
 pub number_others-requires : goal.number_others-requires
 number_others-requires c = search (rules, stand)
 
 -- all that are born have their births
-entered : (c : After-number_others) → drop c.len-first.result c.enter_all.new.storage.places
-    ≡ c.deref.result.now → c.number_others.new.storage.entities
-    ≡ with_born c.self.inside.storage.entities
+entered : (c : After-number_others) → drop c.len-first.result c.enter_all.new.storage.places ≡ c.deref.result.now
+    → c.number_others.new.storage.entities ≡ with_born c.self.inside.storage.entities
     (birth_in c.self.inside.phase c.args.queues.now (born c.self.inside.entities.allocator))
     (born c.self.inside.entities.allocator)
 entered c stand_there =
     let s = c.self.inside.entities.allocator in
     let are = c.deref.ensures.value ∙ c.in_ok-flush.ensures.born
     ∙ ap (λ hs. hs ++ born s) c.new-handles.ensures.items in
-    all_given s c.self.inside.storage.entities c.reserve.new.self.entities
-    c.enter_all.new.storage.entities c.name_listed.new.storage.entities
-    c.number_others.new.storage.entities c.self.inside.phase c.args.queues.now c.deref.result.now
-    (drop c.len-first.result c.enter_all.new.storage.places) c.deref-3.result.now
+    all_given s c.self.inside.storage.entities c.reserve.new.self.entities c.enter_all.new.storage.entities
+    c.name_listed.new.storage.entities c.number_others.new.storage.entities c.self.inside.phase c.args.queues.now
+    c.deref.result.now (drop c.len-first.result c.enter_all.new.storage.places) c.deref-3.result.now
     c.self.invariant.world.sound c.requires c.reserve.ensures.entities are stand_there
-    (c.deref-3.ensures.value ∙ sym c.deref.ensures.value ∙ are)
-    c.enter_all.ensures.entered c.name_listed.ensures.named c.number_others.ensures.numbered
+    (c.deref-3.ensures.value ∙ sym c.deref.ensures.value ∙ are) c.enter_all.ensures.entered c.name_listed.ensures.named
+    c.number_others.ensures.numbered
 
 -- the map after all entered has those that live
 risen : (c : After-number_others) → (phase : ℕ) → c.number_others.new.storage.entities
-    ≡ with_born c.self.inside.storage.entities
-    (birth_in c.self.inside.phase c.args.queues.now (born c.self.inside.entities.allocator))
-    (born c.self.inside.entities.allocator) → IsWorld (record {
+    ≡ with_born c.self.inside.storage.entities (birth_in c.self.inside.phase c.args.queues.now
+    (born c.self.inside.entities.allocator)) (born c.self.inside.entities.allocator)
+    → IsWorld (record {
       allocator = c.set_rows.new.entities.allocator;
       phase = phase;
-      entities = c.number_others.new.storage.entities;
+      entities =
+          c.number_others.new.storage.entities;
     })
 risen c phase all =
     let is = after_births-world c.args.queues.now (record {
@@ -111,8 +104,7 @@ risen c phase all =
       phase = c.self.inside.phase;
       entities = c.self.inside.storage.entities;
     }) c.self.invariant.world in
-    rw (all, c.set_rows.ensures.allocator, c.in_ok-flush.ensures.ok)
-    (record { sound = is.sound; living = is.living })
+    rw (all, c.set_rows.ensures.allocator, c.in_ok-flush.ensures.ok) (record { sound = is.sound; living = is.living })
 
 -- there is room for each that waits still
 left_room : (c : After-number_others) → top (after_flush c.self.inside.entities.allocator)
@@ -127,9 +119,8 @@ left_room c =
     let numbered = c.number_others.ensures.spare in
     let grown = c.reserve.ensures.grows in
     let before = c.self.invariant.room in
-    room-after_flush s c.reserve.new.self.spare c.number_others.new.storage.spare
-    c.self.invariant.world.sound (omega (arith, grown, before))
-    (omega (arith, less, named, numbered, all, same))
+    room-after_flush s c.reserve.new.self.spare c.number_others.new.storage.spare c.self.invariant.world.sound
+    (omega (arith, grown, before)) (omega (arith, less, named, numbered, all, same))
 
 pub invariant_of-self-2 : goal.invariant_of-self-2
 invariant_of-self-2 c =
@@ -140,10 +131,9 @@ invariant_of-self-2 c =
     let all = entered last (stand at) in
     record {
       world = risen last c.saturating_add-self-inside.result all;
-      rows = rw
-          (kept at, c.number_others.ensures.places, c.name_listed.ensures.places, stood at, all)
-          (rows-born (birth_in c.self.inside.phase c.args.queues.now (born s)) (born s)
-          c.self.inside.entities.rows c.self.inside.storage.places m c.self.invariant.rows
+      rows = rw (kept at, c.number_others.ensures.places, c.name_listed.ensures.places, stood at, all)
+          (rows-born (birth_in c.self.inside.phase c.args.queues.now (born s)) (born s) c.self.inside.entities.rows
+          c.self.inside.storage.places m c.self.invariant.rows
           (born-new s m c.self.invariant.world.sound c.self.invariant.world.living));
       room = rw (c.set_rows.ensures.allocator, c.in_ok-flush.ensures.ok) (left_room last);
     }

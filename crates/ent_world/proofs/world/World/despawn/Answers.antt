@@ -9,8 +9,7 @@ use Rattle.ent_world.specs.Rows.{AreRows, with_moved}
 use Rattle.ent_world.proofs.PlacedRows.{rows-remove, has_row-lives}
 use Rattle.ent_world.proofs.SpareRoom.{room-after_free}
 use Rattle.ent_world.proofs.Worlds.{after_despawn-world}
-use Rattle.ent_world.proofs.world.World.despawn.Goals.{After-despawn_at, in-Some-despawn_at}
-use Rattle.ent_world.proofs.world.World.despawn.Goals.{in_default-despawn_at}
+use Rattle.ent_world.proofs.world.World.despawn.Goals.{After-despawn_at, in-Some-despawn_at, in_default-despawn_at}
 use Rattle.ent_world.proofs.world.World.despawn.Goals as goal
 
 -- the entity is gone, and its handle is free
@@ -27,30 +26,27 @@ gone c =
       entities = c.self.inside.storage.entities;
     } in
     let lived = c.self.invariant.world.living h ∙ c.in_ok-freed.ensures.lived in
-    let none : 0 < c.self.inside.entities.allocator.asked → ⊥ = λ some. let refused =
-    c.in_ok-freed.ensures.needs_flush.1 some in cc in
+    let none : 0 < c.self.inside.entities.allocator.asked
+    → ⊥ = λ some. let refused = c.in_ok-freed.ensures.needs_flush.1 some in cc in
     let flushed : c.self.inside.entities.allocator.asked ≡ 0 = omega arith in
-    rw (c.despawn_at.ensures.entities, c.in_ok-freed.ensures.ok)
-    (after_despawn-world h w c.self.invariant.world flushed lived)
+    rw (c.despawn_at.ensures.entities, c.in_ok-freed.ensures.ok) (after_despawn-world h w c.self.invariant.world flushed
+    lived)
 
 -- each row is a place still, once the entity that moved has its own
-placed : (c : After-despawn_at) → AreRows
-    (with_moved c.free.new.self.rows c.in-Some.row c.despawn_at.result) c.despawn_at.new.self.places
-    c.despawn_at.new.self.entities
+placed : (c : After-despawn_at) → AreRows (with_moved c.free.new.self.rows c.in-Some.row c.despawn_at.result)
+    c.despawn_at.new.self.places c.despawn_at.new.self.entities
 placed c =
     let h = c.args.handle in
     let rows = c.self.inside.entities.rows in
     let places = c.self.inside.storage.places in
-    let here = (c.self.invariant.rows.at h c.in-Some.row).0
-    (sym c.row-row.ensures.value ∙ c.in-Some.is) in
-    rw (c.despawn_at.ensures.entities, c.in_ok-freed.ensures.row)
-    (rows-remove rows places c.despawn_at.new.self.places c.self.inside.storage.entities h
-    c.in-Some.row c.self.invariant.rows here c.despawn_at.ensures.places c.despawn_at.result
-    c.despawn_at.ensures.moved)
+    let here = (c.self.invariant.rows.at h c.in-Some.row).0 (sym c.row-row.ensures.value ∙ c.in-Some.is) in
+    rw (c.despawn_at.ensures.entities, c.in_ok-freed.ensures.row) (rows-remove rows places c.despawn_at.new.self.places
+    c.self.inside.storage.entities h c.in-Some.row c.self.invariant.rows here c.despawn_at.ensures.places
+    c.despawn_at.result c.despawn_at.ensures.moved)
 
 -- an entity moved
-moved_placed : (c : After-despawn_at) (moved : Handle) → c.despawn_at.result ≡ Some moved → AreRows
-    (map.insert c.free.new.self.rows moved c.in-Some.row) c.despawn_at.new.self.places
+moved_placed : (c : After-despawn_at) (moved : Handle) → c.despawn_at.result ≡ Some moved
+    → AreRows (map.insert c.free.new.self.rows moved c.in-Some.row) c.despawn_at.new.self.places
     c.despawn_at.new.self.entities
 moved_placed c moved is = let at = placed c in grind (arith, common_steps)
 
@@ -62,10 +58,9 @@ pub set_row-requires : goal.set_row-requires
 set_row-requires c =
     let at = (goal.at.set_row-requires c).After-despawn_at in
     let moved = c.in-Some-despawn_at.moved in
-    has_row-lives c.free.new.self.allocator.live
-    (map.insert c.free.new.self.rows moved c.in-Some.row) c.despawn_at.new.self.places
-    c.despawn_at.new.self.entities (moved_placed at moved c.in-Some-despawn_at.is) (gone at).living
-    moved c.in-Some.row (get-insert_same handle_cmp_total handle_cmp-IsAntisymmetric
+    has_row-lives c.free.new.self.allocator.live (map.insert c.free.new.self.rows moved c.in-Some.row)
+    c.despawn_at.new.self.places c.despawn_at.new.self.entities (moved_placed at moved c.in-Some-despawn_at.is)
+    (gone at).living moved c.in-Some.row (get-insert_same handle_cmp_total handle_cmp-IsAntisymmetric
     c.free.new.self.rows moved c.in-Some.row moved refl)
 
 pub invariant_of-self-in-Some-despawn_at : goal.invariant_of-self-in-Some-despawn_at
@@ -83,9 +78,8 @@ invariant_of-self-in_default-despawn_at c =
     let at = (goal.at.invariant_of-self-in_default-despawn_at c).After-despawn_at in
     record {
       world = gone at;
-      rows = subst (λ (o : Option Handle). AreRows
-          (with_moved c.free.new.self.rows c.in-Some.row o) c.despawn_at.new.self.places
-          c.despawn_at.new.self.entities) c.in_default-despawn_at.is (placed at);
+      rows = subst (λ (o : Option Handle). AreRows (with_moved c.free.new.self.rows c.in-Some.row o)
+          c.despawn_at.new.self.places c.despawn_at.new.self.entities) c.in_default-despawn_at.is (placed at);
       room = left_room at;
     }
 

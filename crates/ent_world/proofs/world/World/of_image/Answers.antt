@@ -1,5 +1,4 @@
-use Rattle.std.proofs.Common.{rules}
-use Rattle.std.proofs.Common.{◌≡◌, ◌+◌, ◌<◌, ◌∙◌, ap, sym, subst, arith, inl, Ok, List, AllPairs, ℕ, length}
+use Rattle.std.proofs.Common.{rules, ◌≡◌, ◌+◌, ◌<◌, ◌∙◌, ap, sym, subst, arith, inl, Ok, List, AllPairs, ℕ, length}
 use Rattle.std.specs.FinMap as map
 use Rattle.std.specs.FinSet as set
 use Rattle.ent_handle.specs.Handle.{Handle}
@@ -10,11 +9,8 @@ use Rattle.ent_storage.specs.Image.{entities_bytes, AreStored}
 use Rattle.ent_world.specs.World.{World}
 use Rattle.ent_world.specs.Image.{allocator_of, framed, image, HasImage}
 use Rattle.ent_world.specs.FirstFault.{AreFramed, HaveAllocator, MayTakeMemory}
-use Rattle.ent_world.proofs.ImageRead.{allocator_has, AreParts, told, memory_from_not, read_is}
-use Rattle.ent_world.proofs.ImageRead.{refused_is, handed, listed, no_rows, stored_living, rows_read}
-use Rattle.ent_world.proofs.ImageRead.{all_live, living_is, handed_on, slots_made, framed_by}
-use Rattle.ent_world.proofs.world.World.of_image.Goals.{In_ok-phase, In_ok-entities, In_ok-handles}
-use Rattle.ent_world.proofs.world.World.of_image.Goals.{In_ok-storage}
+use Rattle.ent_world.proofs.ImageRead.{allocator_has, AreParts, told, memory_from_not, read_is, refused_is, handed, listed, no_rows, stored_living, rows_read, all_live, living_is, handed_on, slots_made, framed_by}
+use Rattle.ent_world.proofs.world.World.of_image.Goals.{In_ok-phase, In_ok-entities, In_ok-handles, In_ok-storage}
 use Rattle.ent_world.proofs.ImageKeys.{rising_apart}
 use Rattle.ent_world.proofs.world.World.of_image.Goals as goal
 
@@ -24,32 +20,29 @@ told_of : (c : In_ok-phase) (w : World) → HasImage w → image w ≡ c.args.by
 told_of c w has is = search (rules, told)
 
 -- its allocator was read
-allocator_is : (c : In_ok-entities) (w : World) → HasImage w
-    → AreParts w c.in_ok-phase.phase c.in_ok-phase.part.now c.in_ok-phase.rest.now
-    → c.in_ok-entities.entities ≡ allocator_of w
+allocator_is : (c : In_ok-entities) (w : World) → HasImage w → AreParts w c.in_ok-phase.phase c.in_ok-phase.part.now
+    c.in_ok-phase.rest.now → c.in_ok-entities.entities ≡ allocator_of w
 allocator_is c w has parts = read_is c.in_ok-entities.entities (allocator_of w)
     (c.in_ok-entities.ensures.exact (allocator_of w) (allocator_has w has) parts.part_is)
 
 pub returns-in_err-entities-clause-exact : goal.returns-in_err-entities-clause-exact
 returns-in_err-entities-clause-exact c w has is =
     let parts = told_of (goal.at.returns-in_err-entities-clause-exact c).In_ok-phase w has is in
-    handed c.from_residual-in_err-entities.result c.in_err-entities.field-0.0
-    c.from_residual-in_err-entities.ensures.1 (refused_is c.in_err-entities.field-0.0
-    (allocator_of w)
-    (c.in_err-entities.ensures.exact (allocator_of w) (allocator_has w has) parts.part_is)) w
+    handed c.from_residual-in_err-entities.result c.in_err-entities.field-0.0 c.from_residual-in_err-entities.ensures.1
+    (refused_is c.in_err-entities.field-0.0 (allocator_of w) (c.in_err-entities.ensures.exact (allocator_of w)
+    (allocator_has w has) parts.part_is)) w
 
 pub returns-in_err-handles-clause-exact : goal.returns-in_err-handles-clause-exact
 returns-in_err-handles-clause-exact c w has is =
     let at = goal.at.returns-in_err-handles-clause-exact c in
     let parts = told_of at.In_ok-phase w has is in
     let e = allocator_is at.In_ok-entities w has parts in
-    handed c.from_residual-in_err-handles.result c.in_err-handles.field-0.0
-    c.from_residual-in_err-handles.ensures.1 (memory_from_not c.in_err-handles.field-0.0
-    (λ other. c.in_err-handles.ensures.rows other (ap (λ (x : Entities). x.rows) e))) w
+    handed c.from_residual-in_err-handles.result c.in_err-handles.field-0.0 c.from_residual-in_err-handles.ensures.1
+    (memory_from_not c.in_err-handles.field-0.0 (λ other. c.in_err-handles.ensures.rows other
+    (ap (λ (x : Entities). x.rows) e))) w
 
 -- the handles that were listed
-lists : (c : In_ok-handles) → set.from_list c.in_ok-handles.handles.items
-    ≡ c.in_ok-entities.entities.allocator.live
+lists : (c : In_ok-handles) → set.from_list c.in_ok-handles.handles.items ≡ c.in_ok-entities.entities.allocator.live
 lists c = search rules
 
 rising : (c : In_ok-handles) → AllPairs (λ g h. g.index < h.index) c.in_ok-handles.handles.items
@@ -63,19 +56,17 @@ returns-in_err-storage-clause-exact c w has is =
     let at = goal.at.returns-in_err-storage-clause-exact c in
     let parts = told_of at.In_ok-phase w has is in
     let e = allocator_is at.In_ok-entities w has parts in
-    let same = listed w has c.in_ok-entities.entities e c.in_ok-handles.handles.items
-    (rising at.In_ok-handles) (lists at.In_ok-handles) ∙ sym c.deref.ensures.value in
-    handed c.from_residual-in_err-storage.result c.in_err-storage.field-0.0
-    c.from_residual-in_err-storage.ensures.1 (c.in_err-storage.ensures.refused w.entities
-    (subst (AreStored w.entities) same has.stored)
+    let same = listed w has c.in_ok-entities.entities e c.in_ok-handles.handles.items (rising at.In_ok-handles)
+    (lists at.In_ok-handles) ∙ sym c.deref.ensures.value in
+    handed c.from_residual-in_err-storage.result c.in_err-storage.field-0.0 c.from_residual-in_err-storage.ensures.1
+    (c.in_err-storage.ensures.refused w.entities (subst (AreStored w.entities) same has.stored)
     (ap (entities_bytes w.entities) (sym same) ∙ parts.rest_is)) w
 
 pub set_rows-requires-clause-living : goal.set_rows-requires-clause-living
 set_rows-requires-clause-living c = search (rules, all_live, lists)
 
 -- what was read of the entities
-stored : (c : In_ok-storage) → AreStored c.in_ok-storage.storage.entities
-    c.in_ok-handles.handles.items
+stored : (c : In_ok-storage) → AreStored c.in_ok-storage.storage.entities c.in_ok-handles.handles.items
 stored c = rw c.deref.ensures.value at c.in_ok-storage.ensures.stored
 
 pub invariant_of-result : goal.invariant_of-result
@@ -87,13 +78,13 @@ invariant_of-result c =
     record {
       world = rw c.set_rows.ensures.allocator (record {
         sound = c.in_ok-entities.ensures.has_image.sound;
-        living = stored_living s.entities hs (stored at.In_ok-storage)
-            c.in_ok-entities.entities.allocator.live (lists at.In_ok-handles);
+        living = stored_living s.entities hs (stored at.In_ok-storage) c.in_ok-entities.entities.allocator.live
+            (lists at.In_ok-handles);
       });
       rows = rw (c.set_rows.ensures.rows, bare at.In_ok-handles, c.deref-2.ensures.value, places)
           (rows_read s.entities hs (stored at.In_ok-storage) (rising at.In_ok-handles));
-      room = rw c.set_rows.ensures.allocator (omega (arith, c.in_ok-storage.ensures.room,
-          c.top.ensures, c.len.ensures, ap length c.deref.ensures.value));
+      room = rw c.set_rows.ensures.allocator
+          (omega (arith, c.in_ok-storage.ensures.room, c.top.ensures, c.len.ensures, ap length c.deref.ensures.value));
     }
 
 pub returns-clause-found : goal.returns-clause-found
@@ -108,8 +99,7 @@ returns-clause-found c =
       allocator = c.set_rows.ensures.allocator i;
       rows = sym (bare at.In_ok-handles) i;
     })) ∙ c.in_ok-entities.ensures.found in
-    let rest = ap (entities_bytes m) (keys ∙ sym c.deref.ensures.value)
-    ∙ c.in_ok-storage.ensures.found in
+    let rest = ap (entities_bytes m) (keys ∙ sym c.deref.ensures.value) ∙ c.in_ok-storage.ensures.found in
     (λ i. framed c.in_ok-phase.phase (part i) (rest i)) ∙ sym c.in_ok-phase.ensures.found
 
 pub returns-clause-has_image : goal.returns-clause-has_image
@@ -127,8 +117,8 @@ returns-clause-has_image c =
       });
       asked = rw allocator e.ensures.has_image.asked;
       phase = c.in_ok-phase.ensures.phase;
-      stored = rw (living_is m hs e.entities.allocator.live stored (rising at.In_ok-handles)
-          (lists at.In_ok-handles)) stored;
+      stored = rw (living_is m hs e.entities.allocator.live stored (rising at.In_ok-handles) (lists at.In_ok-handles))
+          stored;
     }
 
 pub returns-clause-exact : goal.returns-clause-exact
@@ -136,8 +126,8 @@ returns-clause-exact c w has is =
     let at = goal.at.returns-clause-exact c in
     let parts = told_of at.In_ok-phase w has is in
     let e = allocator_is at.In_ok-entities w has parts in
-    let same = listed w has c.in_ok-entities.entities e c.in_ok-handles.handles.items
-    (rising at.In_ok-handles) (lists at.In_ok-handles) ∙ sym c.deref.ensures.value in
+    let same = listed w has c.in_ok-entities.entities e c.in_ok-handles.handles.items (rising at.In_ok-handles)
+    (lists at.In_ok-handles) ∙ sym c.deref.ensures.value in
     let entities = c.in_ok-storage.ensures.exact w.entities (rw same at has.stored) (rw same at parts.rest_is) in
     let allocator = c.set_rows.ensures.allocator ∙ ap (λ (x : Entities). x.allocator) e in
     inl (λ i. Ok (record { allocator = allocator i; phase = sym parts.phase_is i; entities = entities i }))
@@ -145,9 +135,8 @@ returns-clause-exact c w has is =
 -- ---- the first fault, and memory
 
 abbrev parts_of : (c : In_ok-phase) → AreFramed c.args.bytes.now
-parts_of c = framed_by c.args.bytes.now c.in_ok-phase.phase c.in_ok-phase.part.now
-    c.in_ok-phase.rest.now c.in_ok-phase.ensures.phase c.in_ok-phase.ensures.fits
-    c.in_ok-phase.ensures.found
+parts_of c = framed_by c.args.bytes.now c.in_ok-phase.phase c.in_ok-phase.part.now c.in_ok-phase.rest.now
+    c.in_ok-phase.ensures.phase c.in_ok-phase.ensures.fits c.in_ok-phase.ensures.found
 
 pub returns-in_err-phase-clause-fault : goal.returns-in_err-phase-clause-fault
 returns-in_err-phase-clause-fault c = search (rules, handed_on)
@@ -159,8 +148,8 @@ pub returns-in_err-entities-clause-fault : goal.returns-in_err-entities-clause-f
 returns-in_err-entities-clause-fault c =
     let parts = parts_of (goal.at.returns-in_err-entities-clause-fault c).In_ok-phase in
     handed_on c.from_residual-in_err-entities.result c.in_err-entities.field-0.0 _
-    c.from_residual-in_err-entities.ensures.1 (λ other. let fault = c.in_err-entities.ensures.fault other in
-    rw fault.named (parts, fault.first))
+    c.from_residual-in_err-entities.ensures.1 (λ other. let fault = c.in_err-entities.ensures.fault other in rw
+    fault.named (parts, fault.first))
 
 pub returns-in_err-entities-clause-memory : goal.returns-in_err-entities-clause-memory
 returns-in_err-entities-clause-memory c =
@@ -168,14 +157,14 @@ returns-in_err-entities-clause-memory c =
     handed_on c.from_residual-in_err-entities.result c.in_err-entities.field-0.0 _
     c.from_residual-in_err-entities.ensures.1 (λ is. record {
       parts = parts_of at.In_ok-phase;
-      faultless = c.in_err-entities.ensures.memory is;
+      faultless =
+          c.in_err-entities.ensures.memory is;
       slots = c.in_err-entities.ensures.slots is;
     })
 
 abbrev parts_in : (c : In_ok-entities) → AreFramed c.args.bytes.now
-parts_in c = framed_by c.args.bytes.now c.in_ok-phase.phase c.in_ok-phase.part.now
-    c.in_ok-phase.rest.now c.in_ok-phase.ensures.phase c.in_ok-phase.ensures.fits
-    c.in_ok-phase.ensures.found
+parts_in c = framed_by c.args.bytes.now c.in_ok-phase.phase c.in_ok-phase.part.now c.in_ok-phase.rest.now
+    c.in_ok-phase.ensures.phase c.in_ok-phase.ensures.fits c.in_ok-phase.ensures.found
 
 -- the allocator that was read, and its living handles
 abbrev read_of : (c : In_ok-entities) (hs : List Handle) → AllPairs (λ g h. g.index < h.index) hs
@@ -191,8 +180,7 @@ read_of c hs rises lives = record {
 }
 
 -- it has slots, if one lives or waits
-takes_memory : (c : In_ok-entities) (hs : List Handle)
-    → set.from_list hs ≡ c.in_ok-entities.entities.allocator.live
+takes_memory : (c : In_ok-entities) (hs : List Handle) → set.from_list hs ≡ c.in_ok-entities.entities.allocator.live
     → 0 < length hs + top c.in_ok-entities.entities.allocator → MayTakeMemory c.args.bytes.now
 takes_memory c hs lives some = record {
   parts = parts_in c;
@@ -203,32 +191,34 @@ takes_memory c hs lives some = record {
 
 pub returns-in_err-handles-clause-fault : goal.returns-in_err-handles-clause-fault
 returns-in_err-handles-clause-fault c =
-    let read = read_of (goal.at.returns-in_err-handles-clause-fault c).In_ok-entities c.iter.result c.iter.ensures.rising c.iter.ensures.living in
+    let read = read_of (goal.at.returns-in_err-handles-clause-fault c).In_ok-entities c.iter.result
+    c.iter.ensures.rising c.iter.ensures.living in
     handed_on c.from_residual-in_err-handles.result c.in_err-handles.field-0.0 _
-    c.from_residual-in_err-handles.ensures.1 (λ other. let fault = c.in_err-handles.ensures.fault other in
-    rw fault.named (read, fault.first))
+    c.from_residual-in_err-handles.ensures.1 (λ other. let fault = c.in_err-handles.ensures.fault other in rw
+    fault.named (read, fault.first))
 
 pub returns-in_err-handles-clause-memory : goal.returns-in_err-handles-clause-memory
 returns-in_err-handles-clause-memory c =
-    let takes = takes_memory (goal.at.returns-in_err-handles-clause-memory c).In_ok-entities c.iter.result c.iter.ensures.living in
+    let takes = takes_memory (goal.at.returns-in_err-handles-clause-memory c).In_ok-entities c.iter.result
+    c.iter.ensures.living in
     handed_on c.from_residual-in_err-handles.result c.in_err-handles.field-0.0 _
     c.from_residual-in_err-handles.ensures.1 (λ is. takes (omega (arith, c.in_err-handles.ensures.memory is)))
 
 pub returns-in_err-storage-clause-fault : goal.returns-in_err-storage-clause-fault
 returns-in_err-storage-clause-fault c =
     let at = goal.at.returns-in_err-storage-clause-fault c in
-    let read = read_of at.In_ok-entities c.in_ok-handles.handles.items (rising at.In_ok-handles) (lists at.In_ok-handles) in
+    let read = read_of at.In_ok-entities c.in_ok-handles.handles.items (rising at.In_ok-handles)
+    (lists at.In_ok-handles) in
     handed_on c.from_residual-in_err-storage.result c.in_err-storage.field-0.0 _
-    c.from_residual-in_err-storage.ensures.1 (λ other. let fault = c.in_err-storage.ensures.fault other in
-    rw fault.named (read, bare at.In_ok-handles, rw c.deref.ensures.value at fault.first))
+    c.from_residual-in_err-storage.ensures.1 (λ other. let fault = c.in_err-storage.ensures.fault other in rw
+    fault.named (read, bare at.In_ok-handles, rw c.deref.ensures.value at fault.first))
 
 pub returns-in_err-storage-clause-memory : goal.returns-in_err-storage-clause-memory
 returns-in_err-storage-clause-memory c =
     let at = goal.at.returns-in_err-storage-clause-memory c in
     handed_on c.from_residual-in_err-storage.result c.in_err-storage.field-0.0 _
-    c.from_residual-in_err-storage.ensures.1 (λ is.
-    takes_memory at.In_ok-entities c.in_ok-handles.handles.items (lists at.In_ok-handles)
-    (omega (arith, c.in_err-storage.ensures.memory is, c.len.ensures, c.top.ensures)))
+    c.from_residual-in_err-storage.ensures.1 (λ is. takes_memory at.In_ok-entities c.in_ok-handles.handles.items
+    (lists at.In_ok-handles) (omega (arith, c.in_err-storage.ensures.memory is, c.len.ensures, c.top.ensures)))
 
 pub read_storage-requires-clause-apart : goal.read_storage-requires-clause-apart
 read_storage-requires-clause-apart c = search (rules, rising_apart, rising)

@@ -1,5 +1,4 @@
-use Rattle.std.proofs.Common.{arith, rules, ◌≡◌, ◌≤◌, sym, ap, subst, ◌∙◌, ℕ, List, is_some, Some}
-use Rattle.std.proofs.Common.{length}
+use Rattle.std.proofs.Common.{arith, rules, ◌≡◌, ◌≤◌, sym, ap, subst, ◌∙◌, ℕ, List, is_some, Some, length}
 use Rattle.std.proofs.lemmas.Grind.{common_steps}
 use Rattle.std.specs.FinMap as map
 use Rattle.ent_handle.specs.Handle.{Handle}
@@ -19,8 +18,8 @@ use Rattle.ent_world.proofs.world.World.spawn.Goals as goal
 
 -- the next place is the number of those that live
 next_place : (c : After-items) → c.len-row.result ≡ length c.self.inside.storage.places
-next_place c = c.len-row.ensures ∙ rows-count c.self.inside.entities.allocator _ _ _
-    c.self.invariant.rows c.self.invariant.world.living
+next_place c = c.len-row.ensures ∙ rows-count c.self.inside.entities.allocator _ _ _ c.self.invariant.rows
+    c.self.invariant.world.living
 
 pub make-requires-clause-next : goal.make-requires-clause-next
 make-requires-clause-next c = search (rules, next_place)
@@ -34,8 +33,8 @@ back c = search (rules, no_entity, taken_back)
 
 place_back : (c : After-despawn_at) → c.despawn_at.new.self.places ≡ c.self.inside.storage.places
 place_back c =
-    let next = c.len-row.ensures ∙ rows-count c.self.inside.entities.allocator _ _ _
-    c.self.invariant.rows c.self.invariant.world.living in
+    let next = c.len-row.ensures ∙ rows-count c.self.inside.entities.allocator _ _ _ c.self.invariant.rows
+    c.self.invariant.world.living in
     end_taken_back c.self.inside.storage.places c.despawn_at.new.self.places c.in_ok-handle.handle
     (subst (λ (p : ℕ × List Handle). AreWithout p.0 p.1 c.despawn_at.new.self.places)
     (λ i. (next i, c.in_ok-make.ensures.placed i)) c.despawn_at.ensures.places)
@@ -53,12 +52,10 @@ pub returns-in-Err-clause-err : goal.returns-in-Err-clause-err
 returns-in-Err-clause-err c =
     let gone = back (goal.at.returns-in-Err-clause-err c).After-despawn_at in
     let same = c.in-Err.ensures.err in
-    (λ i. record { allocator = (same i).allocator; phase = c.self.inside.phase; entities = gone i })
-    ∙ c.self.view_is
+    (λ i. record { allocator = (same i).allocator; phase = c.self.inside.phase; entities = gone i }) ∙ c.self.view_is
 
 pub returns-in-Err-clause-world : goal.returns-in-Err-clause-world
-returns-in-Err-clause-world c =
-    rw (back (goal.at.returns-in-Err-clause-world c).After-despawn_at, c.in-Err.ensures.err)
+returns-in-Err-clause-world c = rw (back (goal.at.returns-in-Err-clause-world c).After-despawn_at, c.in-Err.ensures.err)
     c.self.invariant.world
 
 -- the handle that the allocator gave is the one under which the entity was made
@@ -74,12 +71,10 @@ grown c =
       phase = c.self.inside.phase;
       entities = c.self.inside.storage.entities;
     } in
-    let fronts : Some c.in_default.field-0 ≡ Some h = sym c.in_default.ensures.front
-    ∙ c.in_ok-handle.ensures.front in
+    let fronts : Some c.in_default.field-0 ≡ Some h = sym c.in_default.ensures.front ∙ c.in_ok-handle.ensures.front in
     let same : c.in_default.field-0 ≡ h = cc in
-    rw (c.in_ok-make.ensures.ok, c.in_default.ensures.ok, same)
-    (after_spawn-world c.args.birth c.items.result.now h w c.self.invariant.world
-    c.in_ok-handle.ensures.flushed c.in_ok-handle.ensures.front)
+    rw (c.in_ok-make.ensures.ok, c.in_default.ensures.ok, same) (after_spawn-world c.args.birth c.items.result.now h w
+    c.self.invariant.world c.in_ok-handle.ensures.flushed c.in_ok-handle.ensures.front)
 
 -- it lives
 pub set_row-requires : goal.set_row-requires
@@ -91,29 +86,26 @@ set_row-requires c =
     ∙ ap is_some (get_inserted m h (spawned c.args.birth c.items.result.now))
 
 -- its row is the next place
-placed : (c : In_default) → AreRows
-    (map.insert c.alloc.new.self.rows c.in_ok-handle.handle c.len-row.result)
+placed : (c : In_default) → AreRows (map.insert c.alloc.new.self.rows c.in_ok-handle.handle c.len-row.result)
     c.make.new.storage.places c.make.new.storage.entities
 placed c =
     let h = c.in_ok-handle.handle in
-    let next = c.len-row.ensures ∙ rows-count c.self.inside.entities.allocator _ _ _
-    c.self.invariant.rows c.self.invariant.world.living in
+    let next = c.len-row.ensures ∙ rows-count c.self.inside.entities.allocator _ _ _ c.self.invariant.rows
+    c.self.invariant.world.living in
     rw (c.alloc.ensures.rows, next, c.in_ok-make.ensures.placed, c.in_ok-make.ensures.ok)
-    (rows-insert c.self.inside.entities.rows c.self.inside.storage.places
-    c.self.inside.storage.entities h (spawned c.args.birth c.items.result.now)
-    c.self.invariant.rows (c.self.invariant.world.living h ∙ c.in_ok-handle.ensures.new))
+    (rows-insert c.self.inside.entities.rows c.self.inside.storage.places c.self.inside.storage.entities h
+    (spawned c.args.birth c.items.result.now) c.self.invariant.rows
+    (c.self.invariant.world.living h ∙ c.in_ok-handle.ensures.new))
 
 -- as many more fit as slots wait
 left_room : (c : In_default) → top c.alloc.new.self.allocator ≤ c.make.new.storage.spare
 left_room c =
     let h = c.in_ok-handle.handle in
-    let fronts : Some c.in_default.field-0 ≡ Some h = sym c.in_default.ensures.front
-    ∙ c.in_ok-handle.ensures.front in
+    let fronts : Some c.in_default.field-0 ≡ Some h = sym c.in_default.ensures.front ∙ c.in_ok-handle.ensures.front in
     let same : c.in_default.field-0 ≡ h = cc in
-    rw (c.in_default.ensures.ok, same) (room-after_alloc c.self.inside.entities.allocator h
-    c.self.inside.storage.spare c.make.new.storage.spare c.self.invariant.world.sound
-    c.in_ok-handle.ensures.flushed c.in_ok-handle.ensures.front c.self.invariant.room
-    c.in_ok-make.ensures.less)
+    rw (c.in_default.ensures.ok, same) (room-after_alloc c.self.inside.entities.allocator h c.self.inside.storage.spare
+    c.make.new.storage.spare c.self.invariant.world.sound c.in_ok-handle.ensures.flushed c.in_ok-handle.ensures.front
+    c.self.invariant.room c.in_ok-make.ensures.less)
 
 pub invariant_of-self-2 : goal.invariant_of-self-2
 invariant_of-self-2 c =
@@ -122,5 +114,4 @@ invariant_of-self-2 c =
     (record { world = grown at; rows = placed at; room = left_room at })
 
 pub returns-clause-world : goal.returns-clause-world
-returns-clause-world c =
-    rw c.set_row.ensures.allocator (grown (goal.at.returns-clause-world c).In_default)
+returns-clause-world c = rw c.set_row.ensures.allocator (grown (goal.at.returns-clause-world c).In_default)

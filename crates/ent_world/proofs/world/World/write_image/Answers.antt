@@ -1,5 +1,4 @@
-use Rattle.std.proofs.Common.{rules, ◌≡◌, ◌+◌, ◌*◌, ◌≤◌, ◌++◌, ◌∙◌, ap, sym, subst, arith, length}
-use Rattle.std.proofs.Common.{ℕ, zero, suc}
+use Rattle.std.proofs.Common.{rules, ◌≡◌, ◌+◌, ◌*◌, ◌≤◌, ◌++◌, ◌∙◌, ap, sym, subst, arith, length, ℕ, zero, suc}
 use Rattle.std.specs.List.{flat_map}
 use Rattle.ent_alloc.specs.Entities.{without_rows}
 use Rattle.ent_alloc.specs.Image.{image as allocator_image}
@@ -22,23 +21,21 @@ returns-clause-written c =
     let o = c.args.out.now.items in
     let part = allocator_image (without_rows w.entities) in
     let reserved : c.reserve.new.self.items ≡ o = c.reserve.ensures.items in
-    let len : 40 + 12 * c.total.result ≡ length part =
-    ap (λ n. 40 + 12 * n) c.total.ensures ∙ sym (allocator_len (without_rows w.entities)) in
-    let keys = keys_listed w.entities.rows w.storage.places m i.rows w.entities.allocator.live
-    i.world.living hs c.iter.ensures.rising c.iter.ensures.living in
+    let len : 40 + 12 * c.total.result ≡ length part = ap (λ n. 40 + 12 * n) c.total.ensures
+    ∙ sym (allocator_len (without_rows w.entities)) in
+    let keys = keys_listed w.entities.rows w.storage.places m i.rows w.entities.allocator.live i.world.living hs
+    c.iter.ensures.rising c.iter.ensures.living in
     let wide = c.width-width.ensures.value ∙ width_listed w.entities.rows w.storage.places m i.rows
     w.entities.allocator.live i.world.living hs c.iter.ensures.rising c.iter.ensures.living in
-    let header : c.write_header.new.out.items ≡ o ++ header_bytes w.phase (length part) =
-    c.write_header.ensures.items ∙ (λ i. reserved i ++ header_bytes w.phase (len i)) in
+    let header : c.write_header.new.out.items ≡ o ++ header_bytes w.phase (length part) = c.write_header.ensures.items
+    ∙ (λ i. reserved i ++ header_bytes w.phase (len i)) in
     let allocator = c.write_image_without_rows.ensures.written ∙ ap (λ xs. xs ++ part) header in
     let counted = c.write_word.ensures.items ∙ (λ i. allocator i ++ word (wide i)) in
-    c.write_entities.ensures.items
-    ∙ (λ i. counted i ++ flat_map (entity_bytes (wide i) m) hs)
+    c.write_entities.ensures.items ∙ (λ i. counted i ++ flat_map (entity_bytes (wide i) m) hs)
     ∙ appended_4 o (header_bytes w.phase (length part)) part (word (width m hs))
-    (flat_map (entity_bytes (width m hs) m) hs)
-    ∙ (λ i. o ++ (header_bytes w.phase (length part) ++ (part ++ (word (width m (sym keys i))
-    ++ flat_map (entity_bytes (width m (sym keys i)) m) (sym keys i)))))
-    ∙ ap (λ w. o ++ image w) c.self.view_is
+    (flat_map (entity_bytes (width m hs) m) hs) ∙ (λ i. o
+    ++ (header_bytes w.phase (length part) ++ (part ++ (word (width m (sym keys i))
+    ++ flat_map (entity_bytes (width m (sym keys i)) m) (sym keys i))))) ∙ ap (λ w. o ++ image w) c.self.view_is
 
 pub returns-clause-has_image : goal.returns-clause-has_image
 returns-clause-has_image c =
@@ -49,10 +46,9 @@ returns-clause-has_image c =
       world = i.world;
       asked = c.write_image_without_rows.ensures.has_image.asked;
       phase = search (rules);
-      stored = are_stored w.entities.rows w.storage.places m i.rows w.entities.allocator.live
-          i.world.living c.iter.result c.iter.ensures.rising c.iter.ensures.living c.width-width.result
-          c.width-width.ensures.most c.width-width.ensures.within c.write_entities.ensures.births
-          c.write_entities.ensures.values;
+      stored = are_stored w.entities.rows w.storage.places m i.rows w.entities.allocator.live i.world.living
+          c.iter.result c.iter.ensures.rising c.iter.ensures.living c.width-width.result c.width-width.ensures.most
+          c.width-width.ensures.within c.write_entities.ensures.births c.write_entities.ensures.values;
     })
 
 -- an entity has at most 2320 bytes

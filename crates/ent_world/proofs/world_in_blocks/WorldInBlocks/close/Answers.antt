@@ -2,13 +2,12 @@ use Rattle.std.proofs.Common.{sym}
 use Rattle.ent_world.proofs.world_in_blocks.WorldInBlocks.close.Goals as goal
 
 pub returns-in-Err-clause-other_phase : goal.returns-in-Err-clause-other_phase
-returns-in-Err-clause-other_phase g c =
-    rw (c.into_parts-blocks.ensures.error, sym c.self.view_is) c.in-Err.ensures.other_phase
+returns-in-Err-clause-other_phase g c = rw (c.into_parts-blocks.ensures.error, sym c.self.view_is)
+    c.in-Err.ensures.other_phase
 
 pub returns-in-Err-clause-order : goal.returns-in-Err-clause-order
-returns-in-Err-clause-order g c =
-    rw (c.into_parts-blocks.ensures.error, sym c.self.view_is) c.in-Err.ensures.order
+returns-in-Err-clause-order g c = rw (c.into_parts-blocks.ensures.error, sym c.self.view_is) c.in-Err.ensures.order
 
 pub returns-in-Err-clause-missing_count : goal.returns-in-Err-clause-missing_count
-returns-in-Err-clause-missing_count g c =
-    rw (c.into_parts-blocks.ensures.error, sym c.self.view_is) c.in-Err.ensures.missing_count
+returns-in-Err-clause-missing_count g c = rw (c.into_parts-blocks.ensures.error, sym c.self.view_is)
+    c.in-Err.ensures.missing_count

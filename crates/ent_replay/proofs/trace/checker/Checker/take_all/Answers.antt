@@ -5,14 +5,13 @@ use Rattle.ent_replay.proofs.Taken.{Leads-all, Leads-popped, Leads-reversed}
 use Rattle.ent_replay.proofs.trace.checker.Checker.take_all.Goals as goal
 
 pub loop-reservation-init : goal.loop-reservation-init
-loop-reservation-init c = Leads-reversed c.args.self.now c.args.reservations.now.items
-    c.reverse.new.self.items c.reverse.ensures.items
+loop-reservation-init c = Leads-reversed c.args.self.now c.args.reservations.now.items c.reverse.new.self.items
+    c.reverse.ensures.items
 
 pub loop-reservation-preserved : goal.loop-reservation-preserved
 loop-reservation-preserved c = Leads-popped c.args.self.now c.loop-reservation.self c.take.new.self
-    (reserve_lines c.args.reservations.now.items) c.loop-reservation.reservations.items
-    c.pop.new.self.items c.in-Some.reservation c.in-Some.ensures.items c.loop-reservation.invariant
-    c.take.ensures
+    (reserve_lines c.args.reservations.now.items) c.loop-reservation.reservations.items c.pop.new.self.items
+    c.in-Some.reservation c.in-Some.ensures.items c.loop-reservation.invariant c.take.ensures
 
 pub returns : goal.returns
 returns c = search (rules, Leads-all, no_items)

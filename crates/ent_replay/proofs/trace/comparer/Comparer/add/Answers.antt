@@ -14,8 +14,8 @@ invariant_of-result c =
     let r = c.args.reservation in
     let s = e.entities.allocator in
     let p : Placed = record { reservation = r; key = c.max-key.result } in
-    let before : c.unwrap_or-before.result ≡ unwrap_or (finite.get e.latest r.caller) 0 =
-    c.unwrap_or-before.ensures ∙ ap (λ o. unwrap_or o 0) c.get.ensures in
+    let before : c.unwrap_or-before.result ≡ unwrap_or (finite.get e.latest r.caller) 0 = c.unwrap_or-before.ensures
+    ∙ ap (λ o. unwrap_or o 0) c.get.ensures in
     let greatest : unwrap_or (finite.get e.latest r.caller) 0 ≤ c.max-key.result = omega arith in
     let few : e.wanted + r.requested ≤ 2 ^ 50 = omega arith in
     let now = finite.insert e.latest r.caller c.max-key.result in
@@ -27,10 +27,7 @@ invariant_of-result c =
       either = search (rules, cases_lt, c.own_key.result);
       small = c.own_key.ensures.small;
     } in
-    let base = IsChecking-push e.latest p greatest s e.wanted e.run.items c.self.invariant few keyed
-    in
-    subst (λ m. IsChecking s (e.wanted + c.from.result) c.push.new.self.items m)
-    (sym c.in_ok-insert.ensures.ok)
+    let base = IsChecking-push e.latest p greatest s e.wanted e.run.items c.self.invariant few keyed in
+    subst (λ m. IsChecking s (e.wanted + c.from.result) c.push.new.self.items m) (sym c.in_ok-insert.ensures.ok)
     (subst (λ ps. IsChecking s (e.wanted + c.from.result) ps now) (sym c.in_ok-push.ensures.items)
-    (subst (λ n. IsChecking s (e.wanted + n) (e.run.items ++ p ∷ []) now)
-    (sym c.from.ensures) base))
+    (subst (λ n. IsChecking s (e.wanted + n) (e.run.items ++ p ∷ []) now) (sym c.from.ensures) base))

@@ -21,8 +21,8 @@ pub returns : goal.returns
 returns c =
     let r = c.remove-reservation.result.reservation in
     names_one c.args.entities.now.allocator c.args.self c.deref.result.now c.in_ok-named.named
-    c.remove-reservation.result _ c.requires.lined c.requires.stuck c.deref.ensures.value
-    c.in_ok-named.ensures c.remove-reservation.ensures.value refl refl
-    (ap line.Reserve (c.with_reply.ensures ∙ ap (λ reply. record r { reply = reply })
+    c.remove-reservation.result _ c.requires.lined c.requires.stuck c.deref.ensures.value c.in_ok-named.ensures
+    c.remove-reservation.ensures.value refl refl (ap line.Reserve
+    (c.with_reply.ensures ∙ ap (λ reply. record r { reply = reply })
     (c.reply_of.ensures ∙ ap reserve_reply (search (rules, ints, c.in_ok-given.ensures)))))
     (search (rules, ints, c.in_ok-front_at.ensures)) (search (rules, ints))

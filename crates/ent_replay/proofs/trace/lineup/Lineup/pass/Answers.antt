@@ -1,12 +1,7 @@
 use Rattle.std.proofs.Common.{rules, ◌≡◌, ◌∷◌, [], sym, ◌∙◌, inl, inr, to_z, of_z, w64, pos, ◌-ℤ◌}
 use Rattle.std.proofs.lemmas.Int.{ints}
-use Rattle.ent_replay.proofs.Lineups.{Passing-least, Passing-passed, Passing-lower, started}
-use Rattle.ent_replay.proofs.Lineups.{placed_next, left_next, over_lined, over_keeps}
-use Rattle.ent_replay.proofs.Lineups.{over_stuck, some_of, none_of_some, no_items}
-use Rattle.ent_replay.proofs.trace.lineup.Lineup.pass.Goals.{In_ok-push, In_ok-push-2}
-use Rattle.ent_replay.proofs.trace.lineup.Lineup.pass.Goals.{else-free-via-then-free+in_ok-fits_at+else-branch}
-use Rattle.ent_replay.proofs.trace.lineup.Lineup.pass.Goals.{else-free-via-else-free}
-use Rattle.ent_replay.proofs.trace.lineup.Lineup.pass.Goals.{After-drop-blocked-inside-2}
+use Rattle.ent_replay.proofs.Lineups.{Passing-least, Passing-passed, Passing-lower, started, placed_next, left_next, over_lined, over_keeps, over_stuck, some_of, none_of_some, no_items}
+use Rattle.ent_replay.proofs.trace.lineup.Lineup.pass.Goals.{In_ok-push, else-free-via-then-free+in_ok-fits_at+else-branch, else-free-via-else-free, After-drop-blocked-inside-2}
 use Rattle.ent_replay.proofs.trace.lineup.Lineup.pass.Goals as goal
 
 pub loop-one-init : goal.loop-one-init
@@ -20,53 +15,46 @@ fits_at-requires-clause-passed c = search (rules, ints, Passing-passed)
 
 pub overflow_sub-at : goal.overflow_sub-at
 overflow_sub-at c =
-    let parts : c.loop-one.one-iterator.rest.items ≡ c.in-Some.one ∷ c.next.new.self.rest.items =
-    search rules in
-    let low = Passing-lower c.args.entities.now.allocator c.args.self c.loop-one.placed.items
-    c.loop-one.left.items c.loop-one.one-iterator.rest.items c.next.new.self.rest.items c.in-Some.one
-    (to_z w64 c.loop-one.at-bits) c.loop-one.blocked c.requires c.loop-one.invariant parts in
+    let parts : c.loop-one.one-iterator.rest.items ≡ c.in-Some.one ∷ c.next.new.self.rest.items = search rules in
+    let low = Passing-lower c.args.entities.now.allocator c.args.self c.loop-one.placed.items c.loop-one.left.items
+    c.loop-one.one-iterator.rest.items c.next.new.self.rest.items c.in-Some.one (to_z w64 c.loop-one.at-bits)
+    c.loop-one.blocked c.requires c.loop-one.invariant parts in
     let from = c.from-at.ensures in
     let fits = c.loop-one.auto.at-fits in
     search (rules, ints)
 
-lowered : (c : In_ok-push)
-    → to_z w64 (of_z w64 (to_z w64 c.loop-one.at-bits -ℤ to_z w64 (of_z w64 c.from-at.result)))
+lowered : (c : In_ok-push) → to_z w64 (of_z w64 (to_z w64 c.loop-one.at-bits -ℤ to_z w64 (of_z w64 c.from-at.result)))
     ≡ to_z w64 c.loop-one.at-bits -ℤ pos c.in-Some.one.reservation.requested
 lowered c =
-    let parts : c.loop-one.one-iterator.rest.items ≡ c.in-Some.one ∷ c.next.new.self.rest.items =
-    search rules in
-    let low = Passing-lower c.args.entities.now.allocator c.args.self c.loop-one.placed.items
-    c.loop-one.left.items c.loop-one.one-iterator.rest.items c.next.new.self.rest.items c.in-Some.one
-    (to_z w64 c.loop-one.at-bits) c.loop-one.blocked c.requires c.loop-one.invariant parts in
+    let parts : c.loop-one.one-iterator.rest.items ≡ c.in-Some.one ∷ c.next.new.self.rest.items = search rules in
+    let low = Passing-lower c.args.entities.now.allocator c.args.self c.loop-one.placed.items c.loop-one.left.items
+    c.loop-one.one-iterator.rest.items c.next.new.self.rest.items c.in-Some.one (to_z w64 c.loop-one.at-bits)
+    c.loop-one.blocked c.requires c.loop-one.invariant parts in
     let from = c.from-at.ensures in
     let fits = c.loop-one.auto.at-fits in
     search (rules, ints)
 
 pub loop-one-preserved-then-branch : goal.loop-one-preserved-then-branch
 loop-one-preserved-then-branch c =
-    let parts : c.loop-one.one-iterator.rest.items ≡ c.in-Some.one ∷ c.next.new.self.rest.items =
-    search rules in
-    placed_next c.args.entities.now.allocator c.args.self c.loop-one.placed.items
-    c.loop-one.left.items c.loop-one.one-iterator.rest.items c.next.new.self.rest.items c.in-Some.one
-    (to_z w64 c.loop-one.at-bits) c.loop-one.blocked c.requires c.loop-one.invariant c.push.new.self.items _
-    parts c.in_ok-push.ensures.items (lowered c)
-    (sym c.get.ensures ∙ none_of_some c.get.result c.if-free.ensures)
+    let parts : c.loop-one.one-iterator.rest.items ≡ c.in-Some.one ∷ c.next.new.self.rest.items = search rules in
+    placed_next c.args.entities.now.allocator c.args.self c.loop-one.placed.items c.loop-one.left.items
+    c.loop-one.one-iterator.rest.items c.next.new.self.rest.items c.in-Some.one (to_z w64 c.loop-one.at-bits)
+    c.loop-one.blocked c.requires c.loop-one.invariant c.push.new.self.items _ parts c.in_ok-push.ensures.items
+    (lowered c) (sym c.get.ensures ∙ none_of_some c.get.result c.if-free.ensures)
     (search (rules, c.in_ok-fits_at.ensures, c.if-branch.true))
 
 pub loop-one-preserved : goal.loop-one-preserved
 loop-one-preserved c =
-    let parts : c.loop-one.one-iterator.rest.items ≡ c.in-Some.one ∷ c.next.new.self.rest.items =
-    search rules in
-    left_next c.args.entities.now.allocator c.args.self c.loop-one.placed.items
-    c.loop-one.left.items c.loop-one.one-iterator.rest.items c.next.new.self.rest.items c.in-Some.one
-    (to_z w64 c.loop-one.at-bits) c.loop-one.blocked c.requires c.loop-one.invariant c.push-else-free.new.self.items
-    c.insert.new.self c.in-Some.one.key parts c.in_ok-push-2.ensures.items c.in_ok-insert.ensures.ok
+    let parts : c.loop-one.one-iterator.rest.items ≡ c.in-Some.one ∷ c.next.new.self.rest.items = search rules in
+    left_next c.args.entities.now.allocator c.args.self c.loop-one.placed.items c.loop-one.left.items
+    c.loop-one.one-iterator.rest.items c.next.new.self.rest.items c.in-Some.one (to_z w64 c.loop-one.at-bits)
+    c.loop-one.blocked c.requires c.loop-one.invariant c.push-else-free.new.self.items c.insert.new.self
+    c.in-Some.one.key parts c.in_ok-push-2.ensures.items c.in_ok-insert.ensures.ok
     (elim c.else-free.branch [
-      | else-free-via-then-free+in_ok-fits_at+else-branch w ↦
-          inr (λ fits. search (rules, w.in_ok-fits_at.ensures, w.if-branch.false))
-      | else-free-via-else-free w ↦
-          let some = some_of c.get.result w.if-free.ensures in
-          inl (some.0, sym c.get.ensures ∙ some.1)
+      | else-free-via-then-free+in_ok-fits_at+else-branch w ↦ inr
+          (λ fits. search (rules, w.in_ok-fits_at.ensures, w.if-branch.false))
+      | else-free-via-else-free w ↦ let some =
+          some_of c.get.result w.if-free.ensures in inl (some.0, sym c.get.ensures ∙ some.1)
     ])
 
 over : (c : After-drop-blocked-inside-2) → c.loop-one.one-iterator.rest.items ≡ []
