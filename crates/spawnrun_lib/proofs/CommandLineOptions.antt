@@ -1,21 +1,16 @@
 -- What the words of a subcommand give: the values of its options.
-use Rattle.std.proofs.Common.{rules, ◌≡◌, ℕ, Bool, true, false, List, [], ◌∷◌, cond, refl}
-use Rattle.std.proofs.Common.{◌<◌, lit<, inl, inr, codes, Option, Some, None, is_some}
-use Rattle.std.proofs.Common.{IfSome}
-use Rattle.std.specs.Prelude.{Result}
+use Rattle.std.proofs.Common.{rules, ◌≡◌, ℕ, Bool, true, false, List, [], ◌∷◌, cond, refl, ◌<◌, lit<, inl, inr, codes, Option, Some, None, is_some, IfSome}
+use Rattle.std.specs.Prelude.{Result, option_map}
 use Rattle.std.specs.Str.Parse.{ExplainsUnsignedError, HasUnsignedDigitsIfOk, ParsesUnsigned}
 use Rattle.std.specs.declared.num.ParseIntError.{ParseIntError}
 use Rattle.clap.specs.Matches.{ReadsOne, one_text}
-use Rattle.clap.proofs.WalkLemmas.{one_text-rows}
-use Rattle.cli.specs.Options.{option_number}
+use Rattle.clap.proofs.WalkLemmas.{one_text-rows, first_value-rows}
+use Rattle.cli.specs.Options.{option_number, HasNumber, generations_option, number_option, slots_option}
 use Rattle.cli.proofs.Numbers.{number_read}
-use Rattle.std.specs.Prelude.{option_map}
 use Rattle.std.specs.Option.{option_map_or}
 use Rattle.std.specs.List.{AllByRecursion, slice_index_or}
-use Rattle.clap.specs.Words.{Row, Rule, Shape, Text, built, fault_of, subcommand_of, rows_of}
-use Rattle.clap.specs.Words.{first_of, first_value}
+use Rattle.clap.specs.Words.{Row, Rule, Shape, Text, built, fault_of, subcommand_of, rows_of, first_of, first_value}
 use Rattle.clap.specs.declared.parser.matches.Found.{Found}
-use Rattle.clap.proofs.WalkLemmas.{first_value-rows}
 use Rattle.clap.specs.Simple.{new_shape, entered, filled, help_rule, label_of, names_of, rows_at}
 use Rattle.clap.specs.Walk.{finished, walk, answers_to, nothing_held, stop_after}
 use Rattle.clap.specs.Faults.{check_fault, entered_fault, level_fault}
@@ -24,12 +19,8 @@ use Rattle.spawnrun_lib.specs.declared.show.Show.{Show}
 use Rattle.spawnrun_lib.specs.declared.show.Show.TheVariants.{Births, Handles}
 use Rattle.std.specs.Borrow.{Bor}
 use Rattle.std.specs.Str.{bytes_eq}
-use Rattle.cli.specs.Options.{HasNumber, generations_option, number_option, slots_option}
-use Rattle.spawnrun_lib.specs.CommandLine.{HasShow, MayHaveBlocks, blocks_option, most_handles}
-use Rattle.spawnrun_lib.specs.CommandLine.{optional_number, program, references_to, show_option}
-use Rattle.spawnrun_lib.specs.CommandLine.{show_text, shown, workers_option}
-use Rattle.spawnrun_lib.proofs.ParsedOptions.{none_of, Fits, HasValue, MayHaveValue, option-has_value}
-use Rattle.spawnrun_lib.proofs.ParsedOptions.{optional-has_value}
+use Rattle.spawnrun_lib.specs.CommandLine.{HasShow, MayHaveBlocks, blocks_option, most_handles, optional_number, program, references_to, show_option, show_text, shown, workers_option}
+use Rattle.spawnrun_lib.proofs.ParsedOptions.{none_of, Fits, HasValue, MayHaveValue, option-has_value, optional-has_value}
 
 -- the options as building leaves them
 abbrev replay_rules : List Rule
@@ -60,8 +51,8 @@ number_from : (option : Text) (most : ℕ) (default : Text) (rows : List Row)
     → HasValue (filled (number_option option most default)) rows → HasNumber option most rows
 number_from option most default rows value = search (rules, accepts-Accepts)
 
-optional_from : (option : Text) (most : ℕ) (rows : List Row)
-    → HasValue (filled (optional_number option most)) rows → HasNumber option most rows
+optional_from : (option : Text) (most : ℕ) (rows : List Row) → HasValue (filled (optional_number option most)) rows
+    → HasNumber option most rows
 optional_from option most rows value = search (rules, accepts-Accepts)
 
 blocks_from : (rows : List Row) → MayHaveValue blocks_rule rows → MayHaveBlocks rows
@@ -95,8 +86,7 @@ run_options words e =
     (show_from _ (value show_rule refl (search rules) (inr (inr (inl refl)))))
 
 -- a subcommand is required, and there are two
-stopped : (stop : Option (Text × List Text)) (rows : List Row) → entered_fault (built program) stop
-    ≡ []
+stopped : (stop : Option (Text × List Text)) (rows : List Row) → entered_fault (built program) stop ≡ []
     → check_fault (built program).top rows (is_some (entered (built program) stop)) ≡ []
     → IsAsked (entered (built program) stop)
 stopped None rows below check = cc
@@ -107,16 +97,14 @@ stopped (Some p) rows below check = go (answers_to p.0 (label_of replay_shape))
     met is_replay is_run = cond is_replay (Some replay_shape) (cond is_run (Some run_shape) None)
 
     go : (is_replay is_run : Bool) → option_map_or (λ s. level_fault s [] nothing_held p.1 false [])
-        (met is_replay is_run) [] ≡ []
-        → check_fault (built program).top rows
+        (met is_replay is_run) [] ≡ [] → check_fault (built program).top rows
         (is_some (option_map (λ s. rows_at s p.1) (met is_replay is_run))) ≡ []
         → IsAsked (option_map (λ s. rows_at s p.1) (met is_replay is_run))
     go true is_run below check = replay_options p.1 below
     go false true below check = run_options p.1 below
     go false false below check = cc
 
-pub IsAsked-no_fault : (words : List Text) → fault_of program words ≡ []
-    → IsAsked (subcommand_of program words)
+pub IsAsked-no_fault : (words : List Text) → fault_of program words ≡ [] → IsAsked (subcommand_of program words)
 IsAsked-no_fault words e =
     let stop = stop_after (built program).top.rules (names_of (built program)) words in
     let end = (walk (built program).top.rules (names_of (built program)) nothing_held words).held in
@@ -127,30 +115,25 @@ IsAsked-no_fault words e =
 
 -- the text that the getter of `--show` reads
 pub show_read : (found : Found) (r : Option (Bor Text)) → HasShow (rows_of found)
-    → option_map (λ s. s.now) r ≡ first_value found (codes "show")
-    → (text : Bor Text) × (show : Show) × (r ≡ Some text) × (text.now ≡ show_text show)
-    × (first_of (codes "show") (rows_of found) ≡ Some (show_text show))
+    → option_map (λ s. s.now) r ≡ first_value found (codes "show") → (text : Bor Text) × (show : Show) × (r ≡ Some text)
+    × (text.now ≡ show_text show) × (first_of (codes "show") (rows_of found) ≡ Some (show_text show))
 show_read found r has reads = search (rules, first_value-rows)
 
 -- the test that tells the two values of `--show` apart
-pub shows_by : (found : Found) (r : Option (Bor Text)) (text : Bor Text) (test : Bool)
-    → HasShow (rows_of found)
+pub shows_by : (found : Found) (r : Option (Bor Text)) (text : Bor Text) (test : Bool) → HasShow (rows_of found)
     → option_map (λ s. s.now) r ≡ first_value found (codes "show") → r ≡ Some text
-    → bytes_eq text.now (codes "handles") ≡ test
-    → first_of (codes "show") (rows_of found) ≡ Some (show_text (cond test Handles Births))
-shows_by found r text test has reads is tested =
-    let read = show_read found r has reads in search rules
+    → bytes_eq text.now (codes "handles") ≡ test → first_of (codes "show") (rows_of found)
+    ≡ Some (show_text (cond test Handles Births))
+shows_by found r text test has reads is tested = let read = show_read found r has reads in search rules
 
 -- what `FromStr` promises of a number of 32 bits
 abbrev number_gives : Text → Result ℕ ParseIntError → Type 0
-number_gives text r = ParsesUnsigned 32 10 text r × ExplainsUnsignedError 10 text r
-    × HasUnsignedDigitsIfOk text r
+number_gives text r = ParsesUnsigned 32 10 text r × ExplainsUnsignedError 10 text r × HasUnsignedDigitsIfOk text r
 
 -- the number that the getter of `--blocks` reads, if there is one
 pub blocks_read : (found : Found) (r : Option ℕ) → MayHaveBlocks (rows_of found)
-    → (one_text found (codes "blocks") ≡ None → r ≡ None)
-    → ((text : Text) → one_text found (codes "blocks") ≡ Some text → ReadsOne number_gives text r)
-    → (option_number (codes "blocks") (rows_of found) ≡ r) × IfSome r (λ size. 0 < size)
+    → (one_text found (codes "blocks") ≡ None → r ≡ None) → ((text : Text) → one_text found (codes "blocks") ≡ Some text
+    → ReadsOne number_gives text r) → (option_number (codes "blocks") (rows_of found) ≡ r) × IfSome r (λ size. 0 < size)
 blocks_read found r (inl absent) none reads = search (rules, one_text-rows)
-blocks_read found r (inr number) none reads =
-    search (rules, number_read 32 (codes "blocks") most_handles found r (lit< tt) number reads)
+blocks_read found r (inr number) none reads = search
+    (rules, number_read 32 (codes "blocks") most_handles found r (lit< tt) number reads)

@@ -6,14 +6,11 @@ use Rattle.clap.specs.declared.builder.Command.TheViews.{out-Command as fields_o
 use Rattle.clap.specs.declared.builder.Arg.{Arg}
 use Rattle.clap.specs.declared.builder.Command.{Command}
 
-pub with_option : {old new : Command} {option : Arg} {app : App} {rule : Rule}
-    → AddsArg old option new → option.global ≡ false → app_of old ≡ app → rule_of option ≡ rule
-    → app_of new ≡ with_rule app rule
-with_option adds own is rule_is =
-    adds.shape own ∙ (λ i. with_rule (is i) (rule_is i))
+pub with_option : {old new : Command} {option : Arg} {app : App} {rule : Rule} → AddsArg old option new
+    → option.global ≡ false → app_of old ≡ app → rule_of option ≡ rule → app_of new ≡ with_rule app rule
+with_option adds own is rule_is = adds.shape own ∙ (λ i. with_rule (is i) (rule_is i))
 
-pub with_command : {old sub new : Command} {app sub_app : App}
-    → AddsSubcommand old sub new → (fields_of sub).has_globals ≡ false → app_of old ≡ app
-    → app_of sub ≡ sub_app → app_of new ≡ with_subcommand app sub_app.top
-with_command adds own is sub_is =
-    adds.shape own ∙ (λ i. with_subcommand (is i) (sub_is i).top)
+pub with_command : {old sub new : Command} {app sub_app : App} → AddsSubcommand old sub new
+    → (fields_of sub).has_globals ≡ false → app_of old ≡ app → app_of sub ≡ sub_app
+    → app_of new ≡ with_subcommand app sub_app.top
+with_command adds own is sub_is = adds.shape own ∙ (λ i. with_subcommand (is i) (sub_is i).top)

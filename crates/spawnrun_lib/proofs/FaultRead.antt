@@ -7,6 +7,6 @@ use Rattle.ent_script.specs.declared.ReadFault.{ReadFault}
 use Rattle.ent_script.specs.declared.ReadFault.TheVariants as fault
 
 -- a fault that isn't lack of memory is the text's
-pub fault_read : (e : ReadFault) (read : Result Script ReadFault) → e ≢ fault.Memory
-    → ReadsAs (Err e) read → read ≡ Err e
+pub fault_read : (e : ReadFault) (read : Result Script ReadFault) → e ≢ fault.Memory → ReadsAs (Err e) read
+    → read ≡ Err e
 fault_read it read other exact = search rules

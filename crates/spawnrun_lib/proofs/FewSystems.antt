@@ -5,8 +5,8 @@ use Rattle.ent_script.specs.Ranges.{AllFrom, IsFrameOf}
 use Rattle.ent_script.specs.declared.operation.Operation.{Operation}
 use Rattle.spawnrun_lib.specs.Course.{AreFew}
 
-pub few_systems : (components n : ℕ) (frames : List (List (List Operation)))
-    → AllFrom (IsFrameOf components) n frames → AreFew frames
+pub few_systems : (components n : ℕ) (frames : List (List (List Operation))) → AllFrom (IsFrameOf components) n frames
+    → AreFew frames
 few_systems components n [] ranges = All-nil (λ systems. length systems ≤ 256)
-few_systems components n (systems ∷ frames) ranges =
-    search (rules, All-cons, few_systems components (n + 1) frames ranges.1)
+few_systems components n (systems ∷ frames) ranges = search
+    (rules, All-cons, few_systems components (n + 1) frames ranges.1)

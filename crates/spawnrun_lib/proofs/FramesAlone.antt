@@ -1,17 +1,13 @@
 -- A frame of scripted systems does to births alone what it does to the world, on every number of
 -- workers, if no request was refused and the systems name no handles.
 use Rattle.ent_world.proofs.Named.{entity_there}
-use Rattle.std.proofs.Common.{rules, ◌≡◌, refl, sym, ap, ◌∙◌, subst, ℕ, suc, ◌+◌, ◌^◌, ◌<◌, ◌≤◌}
-use Rattle.std.proofs.Common.{List, [], ◌∷◌, map, length, All, slice_get, flat_map, Some, is_some}
-use Rattle.std.proofs.Common.{option_map, unwrap_or, arith}
+use Rattle.std.proofs.Common.{rules, ◌≡◌, refl, sym, ap, ◌∙◌, subst, ℕ, suc, ◌+◌, ◌^◌, ◌<◌, ◌≤◌, List, [], ◌∷◌, map, length, All, slice_get, flat_map, Some, is_some, option_map, unwrap_or, arith}
 use Rattle.std.specs.FinMap as finite
 use Rattle.std.specs.FinMap.{find}
 use Rattle.std.proofs.Math.Nat.{min-eq_left}
 use Rattle.std.proofs.lemmas.List.{length-append, length-map}
-use Rattle.std.proofs.lemmas.List.Elements.{All-nil, All-cons, All-head, All-tail, All-weaker}
-use Rattle.std.proofs.lemmas.List.Elements.{All-contains_itself}
-use Rattle.std.proofs.lemmas.List.Sorted.{IsPermutation-sym, IsPermutation-trans}
-use Rattle.std.proofs.lemmas.List.Sorted.{length_permutation}
+use Rattle.std.proofs.lemmas.List.Elements.{All-nil, All-cons, All-head, All-tail, All-weaker, All-contains_itself}
+use Rattle.std.proofs.lemmas.List.Sorted.{IsPermutation-sym, IsPermutation-trans, length_permutation}
 use Rattle.std.proofs.lemmas.Option.{none-some}
 use Rattle.ent_handle.specs.declared.birth.Birth.{Birth}
 use Rattle.ent_handle.specs.declared.component.ComponentId.{ComponentId}
@@ -40,14 +36,12 @@ use Rattle.ent_runner.proofs.Lists.{map_map_is}
 use Rattle.ent_script.specs.declared.operation.Operation.{Operation}
 use Rattle.ent_script.specs.declared.target.Target.TheVariants as target
 use Rattle.spawnrun_lib.specs.Issuing.{IsOfBirth, MayIssue}
-use Rattle.spawnrun_lib.specs.IssuedAlone.{births_meant, queues_alone, NamesNoHandle, IsGranted}
-use Rattle.spawnrun_lib.specs.IssuedAlone.{AreGranted}
+use Rattle.spawnrun_lib.specs.IssuedAlone.{births_meant, queues_alone, NamesNoHandle, IsGranted, AreGranted}
 use Rattle.spawnrun_lib.specs.FrameAlone.{IsFrameAlone, queues_by_births}
 use Rattle.spawnrun_lib.proofs.QueuesAlone.{AreInOrder, queue-alone}
 
 -- no queue lists more handles than all queues together
-each_few : (most : ℕ) (queues : List (List Command))
-    → length (flat_map handles_listed queues) ≤ most
+each_few : (most : ℕ) (queues : List (List Command)) → length (flat_map handles_listed queues) ≤ most
     → All (λ queue. length (handles_listed queue) ≤ most) queues
 each_few most [] few = All-nil (λ queue. length (handles_listed queue) ≤ most)
 each_few most (q ∷ queues) few =
@@ -59,12 +53,11 @@ entity_at : (m : EntityMap) (h : Handle) (birth : Birth) → birth_of m h ≡ So
     → (e : Entity) × (finite.get m h ≡ Some e) × (e.birth ≡ birth)
 entity_at m h birth is = let e = entity_there m h (search rules) in (e.0, e.1, cc)
 
-module _ (systems : List (List Operation)) (workers : ℕ) (w : World)
-    (queues : List (List Command)) (history : List Call) (view : BirthMap)
-    (frame : IsFrame MayIssue systems workers w queues history) (is_world : IsWorld w)
-    (flushed : w.allocator.asked ≡ 0) (named : AreNamed w.entities view)
-    (below : AreBelow w.phase w.entities) (early : w.phase + 1 < 2 ^ 64)
-    (free : All NamesNoHandle systems) (granted : AreGranted queues) where
+module _ (systems : List (List Operation)) (workers : ℕ) (w : World) (queues : List (List Command))
+    (history : List Call) (view : BirthMap) (frame : IsFrame MayIssue systems workers w queues history)
+    (is_world : IsWorld w) (flushed : w.allocator.asked ≡ 0) (named : AreNamed w.entities view)
+    (below : AreBelow w.phase w.entities) (early : w.phase + 1 < 2 ^ 64) (free : All NamesNoHandle systems)
+    (granted : AreGranted queues) where
   abbrev reserved : World
   reserved = reserved_by history w
 
@@ -80,17 +73,13 @@ module _ (systems : List (List Operation)) (workers : ℕ) (w : World)
 
   names : AreNames name all_born
   unfolding name
-  names h e is = ap (λ o. unwrap_or (option_map (λ e. e.birth) o)
-      (record { frame = 0; system = 0; ordinal = 0 })) is
+  names h e is = ap (λ o. unwrap_or (option_map (λ e. e.birth) o) (record { frame = 0; system = 0; ordinal = 0 })) is
 
   -- who was there has not changed
-  stays : (h : Handle) (e : Entity) → finite.get w.entities h ≡ Some e
-      → finite.get all_born h ≡ Some e
-  stays h e is =
-      unlisted-stays MayIssue systems workers w queues history frame is_world.sound flushed h
-      (λ listed. none-some e (sym (listed-new MayIssue systems workers w queues history frame
-      is_world.sound flushed is_world.living listed.0 listed.1 h listed.3) ∙ is))
-      ∙ is
+  stays : (h : Handle) (e : Entity) → finite.get w.entities h ≡ Some e → finite.get all_born h ≡ Some e
+  stays h e is = unlisted-stays MayIssue systems workers w queues history frame is_world.sound flushed h
+      (λ listed. none-some e (sym (listed-new MayIssue systems workers w queues history frame is_world.sound flushed
+      is_world.living listed.0 listed.1 h listed.3) ∙ is)) ∙ is
 
   old_names : AreNames name w.entities
   old_names h e is = names h e (stays h e is)
@@ -99,22 +88,27 @@ module _ (systems : List (List Operation)) (workers : ℕ) (w : World)
   old_there h there = let e = entity_there w.entities h there in ap is_some (stays h e.0 e.1)
 
   -- a handle that a queue lists is there, with the birth of its position
-  placed : (system k : ℕ) (h : Handle) → Lists queues system k h → IsThere all_born h
-      × (name h ≡ record { frame = w.phase; system = system; ordinal = k })
+  placed : (system k : ℕ) (h : Handle) → Lists queues system k h
+      → IsThere all_born h × (name h ≡ record { frame = w.phase; system = system; ordinal = k })
   placed system k h at =
-      let there = listed-enters MayIssue systems workers w queues history frame is_world.sound
-      flushed system k h at in
+      let there = listed-enters MayIssue systems workers w queues history frame is_world.sound flushed system k h at in
       (ap is_some there, names h _ there)
 
   in_order : (system k : ℕ) (hs : List Handle) → ((j : ℕ) (h : Handle) → slice_get hs j ≡ Some h
-      → IsThere all_born h
-      × (name h ≡ record { frame = w.phase; system = system; ordinal = k + j }))
+      → IsThere all_born h × (name h ≡ record { frame = w.phase; system = system; ordinal = k + j }))
       → AreInOrder name all_born w.phase system k hs
   in_order system k [] at = tt
   in_order system k (h ∷ hs) at =
       let same : k + 0 ≡ k = omega arith in
-      let first = rw same at (at 0 h refl) in
-      (first.0, first.1, in_order system (k + 1) hs (λ j g is. subst (λ n. IsThere all_born g × (name g ≡ record { frame = w.phase; system = system; ordinal = n })) (omega arith) (at (suc j) g is)))
+      let first = rw same at (at 0 h refl) in (
+        first.0,
+        first.1,
+        in_order system (k + 1) hs (λ j g is. subst (λ n. IsThere all_born g × (name g ≡ record {
+          frame = w.phase;
+          system = system;
+          ordinal = n;
+        })) (omega arith) (at (suc j) g is)),
+      )
 
   -- the entities of an `each`, in the order of births
   each_named : (id : ComponentId) (hs : List Handle) → ListsWith id w.entities hs
@@ -122,10 +116,8 @@ module _ (systems : List (List Operation)) (workers : ℕ) (w : World)
   each_named id hs lists = (
     search (rules, All-weaker, old_there, All-contains_itself, lists.holds),
     ap (map (λ entity. entity.0)) (sym (listed-named name w.entities view named old_names
-        (λ e. finite.contains_key e.components id)
-        (λ items. is_some (find component_cmp id items))
-        (λ e. ap is_some (finite.get-entries e.components id)) hs lists))
-        ∙ map_map_is (λ entity. entity.0) _ hs,
+        (λ e. finite.contains_key e.components id) (λ items. is_some (find component_cmp id items))
+        (λ e. ap is_some (finite.get-entries e.components id)) hs lists)) ∙ map_map_is (λ entity. entity.0) _ hs,
   )
 
   -- the entity of a birth
@@ -134,26 +126,21 @@ module _ (systems : List (List Operation)) (workers : ℕ) (w : World)
   birth_named birth it of = search (rules, entity_at, old_names, named.there, All-cons, old_there, All-nil, named.only)
 
   -- each system's queue, from a system on
-  all_named : (system : ℕ) (qs : List (List Command)) (ss : List (List Operation))
-      → length qs ≡ length ss → All NamesNoHandle ss → All (All IsGranted) qs
-      → ((n : ℕ) (ops : List Operation) → slice_get ss n ≡ Some ops
-      → MayIssue ops (view_of w) (queue_at qs n))
-      → ((n k : ℕ) (h : Handle) → Lists qs n k h → IsThere all_born h
-      × (name h ≡ record { frame = w.phase; system = system + n; ordinal = k }))
+  all_named : (system : ℕ) (qs : List (List Command)) (ss : List (List Operation)) → length qs ≡ length ss
+      → All NamesNoHandle ss → All (All IsGranted) qs → ((n : ℕ) (ops : List Operation) → slice_get ss n ≡ Some ops
+      → MayIssue ops (view_of w) (queue_at qs n)) → ((n k : ℕ) (h : Handle) → Lists qs n k h
+      → IsThere all_born h × (name h ≡ record { frame = w.phase; system = system + n; ordinal = k }))
       → AreNamedBy name all_born qs (queues_alone w.phase system view ss)
   all_named system [] [] same free granted may at = tt
   all_named system (q ∷ qs) (ops ∷ ss) same free granted may at =
       let here : system + 0 ≡ system = omega arith in (
         queue-alone name all_born w.phase system (view_of w) view each_named birth_named ops q
-            (in_order system 0 (handles_listed q) (λ j h is.
-            let own : j ≡ 0 + j = omega arith in rw here at (rw own at (at 0 j h is))))
-            (All-head (All IsGranted) q qs granted) (All-head NamesNoHandle ops ss free)
-            (may 0 ops refl),
+            (in_order system 0 (handles_listed q) (λ j h is. let own : j ≡ 0
+            + j = omega arith in rw here at (rw own at (at 0 j h is)))) (All-head (All IsGranted) q qs granted)
+            (All-head NamesNoHandle ops ss free) (may 0 ops refl),
         all_named (system + 1) qs ss (omega arith) (All-tail NamesNoHandle ops ss free)
             (All-tail (All IsGranted) q qs granted) (λ n. may (suc n))
-            (λ n k h is.
-            let next : system + suc n ≡ (system + 1) + n = omega arith in
-            rw next at (at (suc n) k h is)),
+            (λ n k h is. let next : system + suc n ≡ (system + 1) + n = omega arith in rw next at (at (suc n) k h is)),
       )
   all_named system _ _ same free granted may at = absurd (omega arith)
 
@@ -166,8 +153,7 @@ module _ (systems : List (List Operation)) (workers : ℕ) (w : World)
   are_listed =
       let few = listed-few MayIssue systems workers w queues history frame is_world.sound flushed in
       record {
-        listed = IsPermutation-sym _ _
-            (search (rules, IsPermutation-trans, listed-IsPermutation, given_in-taken));
+        listed = IsPermutation-sym _ _ (search (rules, IsPermutation-trans, listed-IsPermutation, given_in-taken));
         ordinals = each_few (2 ^ 32) queues (omega arith);
       }
 
@@ -179,16 +165,15 @@ module _ (systems : List (List Operation)) (workers : ℕ) (w : World)
       search (rules, after_queues-keeps, IsFlushed, flushed-kept)
 
   next_number : (sync queues reserved).world.phase ≡ w.phase + 1
-  next_number = after_queues-keeps (λ w'. w'.phase ≡ w.phase + 1) (search rules) 0
-      queues (applied (after_births queues reserved) []) (min-eq_left (omega arith))
+  next_number = after_queues-keeps (λ w'. w'.phase ≡ w.phase + 1) (search rules) 0 queues
+      (applied (after_births queues reserved) []) (min-eq_left (omega arith))
 
   pub frame-alone : IsFrameAlone w queues history systems view
   frame-alone = record {
     name = name;
     after = frame-named queues reserved view is_reserved named below are_listed name names
         (queues_by_births w view systems) are_named;
-    born_are = length_permutation (flat_map handles_listed queues)
-        (born (after_history w.allocator history))
+    born_are = length_permutation (flat_map handles_listed queues) (born (after_history w.allocator history))
         (listed-born MayIssue systems workers w queues history frame is_world.sound flushed)
         ∙ sym (length-map (flat_map handles_listed queues) name)
         ∙ ap length (sym (search (rules, queues_births, name, are_named)));

@@ -1,10 +1,7 @@
 -- Fronts of texts: of a text that is appended to, of one in printable ASCII, and of one of which
 -- only the first parts are looked at.
-use Rattle.std.proofs.lemmas.Grind.{common_steps}
-use Rattle.std.proofs.Common.{rules, ◌≡◌, ℕ, suc, ◌+◌, ◌≤◌, ◌<◌, true, List, [], ◌∷◌, ◌++◌, length}
-use Rattle.std.proofs.Common.{take, sym, ap, subst, ◌∙◌, arith, codes, append_assoc, length-append}
-use Rattle.std.proofs.Common.{inl, inr, flat_map}
-use Rattle.std.proofs.lemmas.Grind.{flat_map-append, take_at_read}
+use Rattle.std.proofs.lemmas.Grind.{common_steps, flat_map-append, take_at_read}
+use Rattle.std.proofs.Common.{rules, ◌≡◌, ℕ, suc, ◌+◌, ◌≤◌, ◌<◌, true, List, [], ◌∷◌, ◌++◌, length, take, sym, ap, subst, ◌∙◌, arith, codes, append_assoc, length-append, inl, inr, flat_map}
 use Rattle.std.specs.Prelude.{nat_le, slice_index}
 use Rattle.std.specs.Fmt.Cut.{cut_to, floor_char_boundary}
 use Rattle.std.specs.Fmt.{is_char_start}
@@ -58,10 +55,10 @@ length-front text = grind (arith, common_steps, front-long, front-short, length-
 
 pub front-more : (text more : List ℕ) → front (front text ++ more) ≡ front (text ++ more)
 front-more text more = elim (cases_lt 60 (length text)) [
-  | inl long ↦ ap (λ (kept : List ℕ). front (kept ++ more)) (front-long text long)
-      ∙ front-cut text more long
-      ∙ sym (front-past text more long ∙ front-long text long)
-  | inr short ↦ ap (λ (kept : List ℕ). front (kept ++ more)) (front-short text short)
+  | inl long ↦ ap (λ (kept : List ℕ). front (kept ++ more))
+      (front-long text long) ∙ front-cut text more long ∙ sym (front-past text more long ∙ front-long text long)
+  | inr
+      short ↦ ap (λ (kept : List ℕ). front (kept ++ more)) (front-short text short)
 ]
 
 dot-printable : IsPrintable 46
@@ -74,7 +71,8 @@ pub front-printable : (text : List ℕ) → ArePrintable text → ArePrintable (
 front-printable text h = elim (cases_lt 60 (length text)) [
   | inl long ↦ subst ArePrintable (sym (front-long text long))
       (search (rules, All-append, All-take, dots-printable))
-  | inr short ↦ subst ArePrintable (sym (front-short text short)) h
+  | inr short ↦ subst ArePrintable
+      (sym (front-short text short)) h
 ]
 
 cut_to-short : (text : List ℕ) → length text ≤ 60 → cut_to 60 text ≡ text
@@ -87,8 +85,8 @@ cut_to-short text short =
 boundary_at : (text : List ℕ) (i : ℕ) → is_char_start (slice_index text (suc i)) ≡ true
     → floor_char_boundary text (suc i) ≡ suc i
 unfolding floor_char_boundary
-boundary_at text i starts =
-    cond-true (is_char_start (slice_index text (suc i))) (suc i) (floor_char_boundary text i) starts
+boundary_at text i starts = cond-true (is_char_start (slice_index text (suc i))) (suc i) (floor_char_boundary text i)
+    starts
 
 starts : (code : ℕ) → code ≤ 126 → is_char_start code ≡ true
 starts code low = grind (arith, nat_tests)
@@ -118,24 +116,23 @@ pub length-parts : (part : ℕ → List ℕ) → ((x : ℕ) → 0 < length (part
 length-parts part some [] = omega arith
 length-parts part some (x ∷ xs) = search (rules, length-append, length-parts part some xs)
 
-pub front-of_parts : (part : ℕ → List ℕ) → ((x : ℕ) → 0 < length (part x)) → (xs ys : List ℕ)
-    → 60 < length xs → front (flat_map part (xs ++ ys)) ≡ front (flat_map part xs)
+pub front-of_parts : (part : ℕ → List ℕ) → ((x : ℕ) → 0 < length (part x)) → (xs ys : List ℕ) → 60 < length xs
+    → front (flat_map part (xs ++ ys)) ≡ front (flat_map part xs)
 front-of_parts part some xs ys long = search (rules, flat_map-append, front-past, length-parts)
 
 -- one more part
 pub front-next : (part : ℕ → List ℕ) (xs : List ℕ) (i : ℕ) (shown next : List ℕ) → i < length xs
     → shown ≡ front (flat_map part (take i xs)) → next ≡ front (shown ++ part (slice_index xs i))
     → next ≡ front (flat_map part (take (i + 1) xs))
-front-next part xs i shown next within so_far more =
-    search (rules, front-more, append-nil, flat_map-append, take_at_read)
+front-next part xs i shown next within so_far more = search
+    (rules, front-more, append-nil, flat_map-append, take_at_read)
 
 -- the same after a text that stood before
-pub front-after : (old : List ℕ) (part : ℕ → List ℕ) (xs : List ℕ) (i : ℕ) (shown next : List ℕ)
-    → i < length xs → shown ≡ front (old ++ flat_map part (take i xs))
-    → next ≡ front (shown ++ part (slice_index xs i))
+pub front-after : (old : List ℕ) (part : ℕ → List ℕ) (xs : List ℕ) (i : ℕ) (shown next : List ℕ) → i < length xs
+    → shown ≡ front (old ++ flat_map part (take i xs)) → next ≡ front (shown ++ part (slice_index xs i))
     → next ≡ front (old ++ flat_map part (take (i + 1) xs))
-front-after old part xs i shown next within so_far more =
-    search (rules, go_on, append-nil, flat_map-append, take_at_read)
+front-after old part xs i shown next within so_far more = search
+    (rules, go_on, append-nil, flat_map-append, take_at_read)
 
 pub front-nothing : (old : List ℕ) → length old ≤ 60 → old ≡ front (old ++ [])
 front-nothing old short = sym (ap front (append-nil old) ∙ front-short old short)

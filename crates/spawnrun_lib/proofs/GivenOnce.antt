@@ -1,37 +1,33 @@
 -- No handle is given twice over all frames of a run.
-use Rattle.std.proofs.Common.{rules, ◌≢◌, ℕ, List, [], ◌∷◌, ◌++◌, append_assoc, append-nil}
-use Rattle.std.proofs.Common.{AllPairs}
+use Rattle.std.proofs.Common.{rules, ◌≢◌, ℕ, List, [], ◌∷◌, ◌++◌, append_assoc, append-nil, AllPairs}
 use Rattle.ent_handle.specs.Handle.{Handle}
 use Rattle.ent_alloc.specs.Spent.{AreSpent}
 use Rattle.ent_alloc.specs.History.{given_in, AreGivenOnce}
 use Rattle.ent_alloc.specs.Limits.{AreLimits}
 use Rattle.ent_alloc.specs.Sound.{IsSound}
 use Rattle.ent_world.specs.World.{World, first_world, AreLiving}
-use Rattle.ent_world.proofs.GivenOnce.{frame-given, frame-sound, frame-living, opening-given}
-use Rattle.ent_world.proofs.GivenOnce.{first_world-sound, first_world-living}
+use Rattle.ent_world.proofs.GivenOnce.{frame-given, frame-sound, frame-living, opening-given, first_world-sound, first_world-living}
 use Rattle.ent_script.specs.Script.{Script}
 use Rattle.ent_script.specs.declared.operation.Operation.{Operation}
 use Rattle.spawnrun_lib.specs.Report.{Execution, AreExecutions, synced, IsReportOf}
 use Rattle.spawnrun_lib.specs.Given.{handles_in_run}
 use Rattle.spawnrun_lib.specs.declared.show.Show.{Show}
 
-more_given : (workers : ℕ) (w : World) (frames : List (List (List Operation)))
-    (executions : List Execution) (given : List Handle)
-    → IsSound w.allocator → AreLiving w.allocator w.entities → AreExecutions workers w frames
-    executions → AreSpent w.allocator given
+more_given : (workers : ℕ) (w : World) (frames : List (List (List Operation))) (executions : List Execution)
+    (given : List Handle) → IsSound w.allocator → AreLiving w.allocator w.entities
+    → AreExecutions workers w frames executions → AreSpent w.allocator given
     → AllPairs (λ g h. g ≢ h) (given ++ handles_in_run executions)
 more_given workers w frames [] given sound living went once = search (rules, append-nil)
 more_given workers w [] (e ∷ executions) given sound living went once = absurd went
-more_given workers w (systems ∷ frames) (e ∷ executions) given sound living went once =
-    rw (← append_assoc given (given_in e.history) (handles_in_run executions))
+more_given workers w (systems ∷ frames) (e ∷ executions) given sound living went once = rw
+    (← append_assoc given (given_in e.history) (handles_in_run executions))
     (more_given workers (synced w e).world frames executions (given ++ given_in e.history)
-    (frame-sound e.queues e.history w sound living) (frame-living e.queues e.history w sound living)
-    went.1 (frame-given e.queues e.history w given sound living went.0.legal once))
+    (frame-sound e.queues e.history w sound living) (frame-living e.queues e.history w sound living) went.1
+    (frame-given e.queues e.history w given sound living went.0.legal once))
 
-pub given_once : (script : Script) (workers : ℕ) (show : Show) (executions : List Execution)
-    (text : List ℕ) → AreLimits script.limits
-    → IsReportOf script workers show executions text → AreGivenOnce (handles_in_run executions)
-given_once script workers show executions text limits report =
-    more_given workers (first_world script.limits) script.frames executions []
-    (first_world-sound script.limits limits) (first_world-living script.limits) report.frames
-    (opening-given script.limits)
+pub given_once : (script : Script) (workers : ℕ) (show : Show) (executions : List Execution) (text : List ℕ)
+    → AreLimits script.limits → IsReportOf script workers show executions text
+    → AreGivenOnce (handles_in_run executions)
+given_once script workers show executions text limits report = more_given workers (first_world script.limits)
+    script.frames executions [] (first_world-sound script.limits limits) (first_world-living script.limits)
+    report.frames (opening-given script.limits)

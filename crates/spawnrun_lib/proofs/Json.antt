@@ -6,6 +6,5 @@ use Rattle.serde_json.specs.Data.{Data}
 use Rattle.serde_json.specs.Read.{read}
 use Rattle.ent_script.specs.Reading.{json_of}
 
-pub json_some : (text : List ℕ) (d : Data) → IsUtf8 text → read text ≡ Some d
-    → json_of text ≡ Some d
+pub json_some : (text : List ℕ) (d : Data) → IsUtf8 text → read text ≡ Some d → json_of text ≡ Some d
 json_some text d utf8 e = search (rules, cond-true, is_utf8-from_IsUtf8)

@@ -1,32 +1,25 @@
 -- A text letter after letter.
 use Rattle.spawnrun_lib.specs.Shown.{front}
 use Rattle.spawnrun_lib.proofs.Fronts.{front-nothing, go_on}
-use Rattle.std.proofs.Common.{sym, ◌∙◌, ◌≤◌}
-use Rattle.std.proofs.Common.{rules, ◌≡◌, ℕ, ◌++◌, [], List, length, ap, IsUtf8, flat_map}
+use Rattle.std.proofs.Common.{sym, ◌∙◌, ◌≤◌, rules, ◌≡◌, ℕ, ◌++◌, [], List, length, ap, IsUtf8, flat_map}
 use Rattle.std.proofs.lemmas.List.{nil_from_length}
 use Rattle.std.proofs.lemmas.Str.{chars-nil, chars_past_char}
 use Rattle.std.specs.Char.{encode_utf8}
 use Rattle.std.specs.Str.{chars}
 
-no_letters : (part : ℕ → List ℕ) (text : List ℕ) → length text ≡ 0
-    → flat_map part (chars text) ≡ []
+no_letters : (part : ℕ → List ℕ) (text : List ℕ) → length text ≡ 0 → flat_map part (chars text) ≡ []
 no_letters part text none = search (rules, nil_from_length, chars-nil)
 
-past_letter : (part : ℕ → List ℕ) (text rest : List ℕ) (c : ℕ) → IsUtf8 text
-    → text ≡ encode_utf8 c ++ rest
+past_letter : (part : ℕ → List ℕ) (text rest : List ℕ) (c : ℕ) → IsUtf8 text → text ≡ encode_utf8 c ++ rest
     → flat_map part (chars text) ≡ part c ++ flat_map part (chars rest)
-past_letter part text rest c utf8 parts = ap (flat_map part)
-    (chars_past_char text rest c utf8 parts)
+past_letter part text rest c utf8 parts = ap (flat_map part) (chars_past_char text rest c utf8 parts)
 
 -- one more letter of a text that is shown after others
 pub next_letter : (part : ℕ → List ℕ) (old new text rest all : List ℕ) (c : ℕ) → IsUtf8 text
-    → text ≡ encode_utf8 c ++ rest → new ≡ front (old ++ part c)
-    → front (old ++ flat_map part (chars text)) ≡ all
+    → text ≡ encode_utf8 c ++ rest → new ≡ front (old ++ part c) → front (old ++ flat_map part (chars text)) ≡ all
     → front (new ++ flat_map part (chars rest)) ≡ all
-next_letter part old new text rest all c utf8 parts shown so_far =
-    go_on old new (part c) (flat_map part (chars rest)) shown
-    ∙ ap (λ (bs : List ℕ). front (old ++ bs)) (sym (past_letter part text rest c utf8 parts))
-    ∙ so_far
+next_letter part old new text rest all c utf8 parts shown so_far = go_on old new (part c) (flat_map part (chars rest))
+    shown ∙ ap (λ (bs : List ℕ). front (old ++ bs)) (sym (past_letter part text rest c utf8 parts)) ∙ so_far
 
 -- and all of them
 pub all_letters : (part : ℕ → List ℕ) (old text all : List ℕ) → length text ≡ 0 → length old ≤ 60

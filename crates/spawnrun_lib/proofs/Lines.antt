@@ -14,12 +14,11 @@ get_later : (n : ℕ) (line : List ℕ) (lines : List (List ℕ)) → 0 < n
     → slice_index_or (line ∷ lines) n [] ≡ slice_index_or lines (n - 1) []
 get_later n line lines some = search rules
 
-pub nth_first : (text line others : List ℕ) → text ≡ line ++ 10 ∷ others → IsWithout 10 line
-    → nth 0 text ≡ line
+pub nth_first : (text line others : List ℕ) → text ≡ line ++ 10 ∷ others → IsWithout 10 line → nth 0 text ≡ line
 nth_first text line others e h = search (rules, lines_first text line others e h)
 
-pub nth_later : (n : ℕ) (text line others : List ℕ) → 0 < n → text ≡ line ++ 10 ∷ others
-    → IsWithout 10 line → nth n text ≡ nth (n - 1) others
+pub nth_later : (n : ℕ) (text line others : List ℕ) → 0 < n → text ≡ line ++ 10 ∷ others → IsWithout 10 line
+    → nth n text ≡ nth (n - 1) others
 nth_later n text line others some e h = search (rules, lines_first, get_later)
 
 pub nth_only : (text : List ℕ) → IsWithout 10 text → nth 0 text ≡ text
@@ -32,5 +31,4 @@ none_left : (n : ℕ) → slice_index_or {A = List ℕ} [] n [] ≡ []
 none_left n = search rules
 
 pub nth_past : (n : ℕ) (text : List ℕ) → 0 < n → IsWithout 10 text → nth n text ≡ []
-nth_past n text past h =
-    search (rules, cases_lt, lines_whole, get_later, none_left, nil_from_length, nth_of_none)
+nth_past n text past h = search (rules, cases_lt, lines_whole, get_later, none_left, nil_from_length, nth_of_none)

@@ -1,6 +1,5 @@
 -- A run whose first frames are done goes on by one frame, and ends in a report.
-use Rattle.std.proofs.Common.{rules, ◌≡◌, refl, subst, ℕ, ◌+◌, ◌≤◌, List, [], ◌∷◌}
-use Rattle.std.proofs.Common.{◌++◌, length, arith, append_assoc, append-nil}
+use Rattle.std.proofs.Common.{rules, ◌≡◌, refl, subst, ℕ, ◌+◌, ◌≤◌, List, [], ◌∷◌, ◌++◌, length, arith, append_assoc, append-nil}
 use Rattle.std.proofs.lemmas.List.{length-append}
 use Rattle.std.proofs.lemmas.List.Elements.{All-head, All-tail}
 use Rattle.ent_handle.specs.Handle.{Handle}
@@ -12,14 +11,12 @@ use Rattle.ent_script.specs.declared.operation.Operation.{Operation}
 use Rattle.spawnrun_lib.specs.Issuing.{MayIssue}
 use Rattle.spawnrun_lib.specs.declared.show.Show.{Show}
 use Rattle.spawnrun_lib.specs.FrameText.{frame_text}
-use Rattle.spawnrun_lib.specs.Report.{Execution, AreExecutions, synced, born_in, last_world}
-use Rattle.spawnrun_lib.specs.Report.{frames_text}
+use Rattle.spawnrun_lib.specs.Report.{Execution, AreExecutions, synced, born_in, last_world, frames_text}
 use Rattle.spawnrun_lib.specs.Course.{AreFew, HaveGone}
 
 -- ---- one frame more
 
-went_on : (workers : ℕ) (w : World) (frames : List (List (List Operation)))
-    (executions : List Execution)
+went_on : (workers : ℕ) (w : World) (frames : List (List (List Operation))) (executions : List Execution)
     (systems : List (List Operation)) (e : Execution) → AreExecutions workers w frames executions
     → IsFrame MayIssue systems workers (last_world w executions) e.queues e.history
     → AreExecutions workers w (frames ++ systems ∷ []) (executions ++ e ∷ [])
@@ -33,28 +30,22 @@ world_on : (w : World) (executions : List Execution) (e : Execution)
 world_on w [] e = refl
 world_on w (x ∷ executions) e = world_on (synced w x).world executions e
 
-text_on : (workers : ℕ) (show : Show) (number : ℕ) (w : World)
-    (frames : List (List (List Operation)))
+text_on : (workers : ℕ) (show : Show) (number : ℕ) (w : World) (frames : List (List (List Operation)))
     (executions : List Execution) (e : Execution) → AreExecutions workers w frames executions
     → frames_text show number w (executions ++ e ∷ []) ≡ frames_text show number w executions
     ++ frame_text show (number + length frames) (born_in (last_world w executions) e)
     (synced (last_world w executions) e).faults
 text_on workers show number w [] [] e went = search (rules, append-nil)
-text_on workers show number w (s ∷ frames) (x ∷ executions) e went = search (
-  rules,
-  append_assoc,
-  text_on workers show (number + 1) (synced w x).world frames executions e went.1,
-)
+text_on workers show number w (s ∷ frames) (x ∷ executions) e went = search
+    (rules, append_assoc, text_on workers show (number + 1) (synced w x).world frames executions e went.1)
 text_on workers show number w _ _ e went = absurd went
 
-module _ (workers : ℕ) (show : Show) (first now after : World)
-    (frames : List (List (List Operation)))
-    (systems : List (List Operation)) (text : List ℕ) (queues : List (List Command))
-    (births : List Handle) (faults : List Fault) where
-  pub has_gone_on : HaveGone frames workers show first now text
-      → Ends MayIssue systems workers now queues after births faults
-      → HaveGone (frames ++ systems ∷ []) workers show first after (text
-      ++ frame_text show (length frames) births faults)
+module _ (workers : ℕ) (show : Show) (first now after : World) (frames : List (List (List Operation)))
+    (systems : List (List Operation)) (text : List ℕ) (queues : List (List Command)) (births : List Handle)
+    (faults : List Fault) where
+  pub has_gone_on : HaveGone frames workers show first now text → Ends MayIssue systems workers now queues after births
+      faults → HaveGone (frames ++ systems ∷ []) workers show first after
+      (text ++ frame_text show (length frames) births faults)
   has_gone_on run ends =
       let e : Execution = record { queues = queues; history = ends.history } in
       let frame = rw run.world_is at ends.frame in
@@ -71,8 +62,7 @@ module _ (workers : ℕ) (show : Show) (first now after : World)
 
 module _ (gone old rest : List (List (List Operation))) (systems : List (List Operation))
     (front : old ≡ systems ∷ rest) where
-  pub goes_on : (all : List (List (List Operation))) → gone ++ old ≡ all
-      → (gone ++ systems ∷ []) ++ rest ≡ all
+  pub goes_on : (all : List (List (List Operation))) → gone ++ old ≡ all → (gone ++ systems ∷ []) ++ rest ≡ all
   goes_on all e = search (rules, append_assoc)
 
   pub one_more : (number : ℕ) → number ≡ length gone → number + 1 ≡ length (gone ++ systems ∷ [])
@@ -82,5 +72,4 @@ module _ (gone old rest : List (List (List Operation))) (systems : List (List Op
   next_is_few few = All-head (λ systems. length systems ≤ 256) systems rest (subst AreFew front few)
 
   pub others_are_few : AreFew old → AreFew rest
-  others_are_few few =
-      All-tail (λ systems. length systems ≤ 256) systems rest (subst AreFew front few)
+  others_are_few few = All-tail (λ systems. length systems ≤ 256) systems rest (subst AreFew front few)

@@ -1,6 +1,5 @@
 -- A run in blocks whose first frames are done goes on by one frame, and ends in the text of the script.
-use Rattle.std.proofs.Common.{◌≡◌, refl, ℕ, ◌+◌, List, [], ◌∷◌, ◌++◌, length, append_assoc}
-use Rattle.std.proofs.Common.{append-nil, subst, sym}
+use Rattle.std.proofs.Common.{◌≡◌, refl, ℕ, ◌+◌, List, [], ◌∷◌, ◌++◌, length, append_assoc, append-nil, subst, sym}
 use Rattle.std.proofs.lemmas.List.{length-append}
 use Rattle.ent_handle.specs.Handle.{Handle}
 use Rattle.ent_queue.specs.Command.{Command}
@@ -19,42 +18,33 @@ module _ (names : List (List ℕ)) (size : ℕ) (show : Show) (first : World) wh
   has_begun_in_blocks = record { rest = λ frames others is. is }
 
   pub has_gone_on_in_blocks : (now after : World) (gone : List (List (List Operation)))
-      (systems : List (List Operation)) (text : List ℕ) (queues : List (List Command))
-      (came : List Handle) (faults : List Fault)
-      → HaveGoneInBlocks names size show first now gone text
+      (systems : List (List Operation)) (text : List ℕ) (queues : List (List Command)) (came : List Handle)
+      (faults : List Fault) → HaveGoneInBlocks names size show first now gone text
       → EndsInBlocks (sizes_of size systems) systems now queues after came faults
-      → HaveGoneInBlocks names size show first after (gone ++ systems ∷ []) (text
-      ++ frame_text show (length gone) came faults)
+      → HaveGoneInBlocks names size show first after (gone ++ systems ∷ [])
+      (text ++ frame_text show (length gone) came faults)
   has_gone_on_in_blocks now after gone systems text queues came faults run ends = record {
-    rest = λ frames others is.
-        let count : length (gone ++ systems ∷ []) ≡ length gone + 1 = length-append gone (systems ∷ []) in
-        let more = rw (count, ends.world) at is in
-        rw (
-          append_assoc gone (systems ∷ []) frames,
-          append_assoc text (frame_text show (length gone) came faults) others,
-        )
+    rest = λ frames others is. let count : length (gone ++ systems ∷ []) ≡ length gone
+        + 1 = length-append gone (systems ∷ []) in let more = rw (count, ends.world) at is in rw
+        (append_assoc gone (systems ∷ []) frames, append_assoc text (frame_text show (length gone) came faults) others)
         (run.rest (systems ∷ frames) (frame_text show (length gone) came faults ++ others)
         (queues, others, ends.issued, more, rw (ends.born_are, ends.faults_are) refl));
   }
 
   pub whole_in_blocks : (now : World) (frames : List (List (List Operation))) (text others : List ℕ)
-      → HaveGoneInBlocks names size show first now frames text
-      → IsWorldText names show now.entities others
+      → HaveGoneInBlocks names size show first now frames text → IsWorldText names show now.entities others
       → IsTextFrom names size show 0 first frames (text ++ others)
-  whole_in_blocks now frames text others run is =
-      let all = run.rest [] others is in rw append-nil at all
+  whole_in_blocks now frames text others run is = let all = run.rest [] others is in rw append-nil at all
 
 -- the text of all frames, and of the world that they leave, is that of the script
 pub text_in_blocks : (script : Script) (size : ℕ) (show : Show) (first now : World)
     (frames : List (List (List Operation))) (names : List (List ℕ)) (text others all : List ℕ)
     → ((names : List (List ℕ)) → HaveGoneInBlocks names size show first now frames text)
     → first ≡ first_world script.limits → frames ≡ script.frames → names ≡ script.components
-    → IsWorldText names show now.entities others → all ≡ text ++ others
-    → IsTextInBlocks script size show all
-text_in_blocks script size show first now frames names text others all run first_is frames_are
-    names_are is all_is =
+    → IsWorldText names show now.entities others → all ≡ text ++ others → IsTextInBlocks script size show all
+text_in_blocks script size show first now frames names text others all run first_is frames_are names_are is all_is =
     let whole = whole_in_blocks names size show first now frames text others (run names) is in
-    let parts : IsTextFrom script.components size show 0 (first_world script.limits) script.frames
-    (text ++ others) = rw (first_is, frames_are, names_are) at whole in
-    subst (λ text. IsTextFrom script.components size show 0 (first_world script.limits) script.frames
-    text) (sym all_is) parts
+    let parts : IsTextFrom script.components size show 0 (first_world script.limits) script.frames (text ++ others) = rw
+    (first_is, frames_are, names_are) at whole in
+    subst (λ text. IsTextFrom script.components size show 0 (first_world script.limits) script.frames text) (sym all_is)
+    parts

@@ -1,8 +1,7 @@
 -- A report by births that tells of no refusal: no request of the run was refused. A request that
 -- was refused is a fault of its frame, faults are only appended, and each has its line in the text.
 use Rattle.std.proofs.lemmas.Grind.{common_steps}
-use Rattle.std.proofs.Common.{rules, arith, ◌≡◌, refl, ◌∙◌, inl, inr, ℕ, ◌+◌, List, [], ◌∷◌, ◌++◌}
-use Rattle.std.proofs.Common.{length, All, append_assoc, append-nil}
+use Rattle.std.proofs.Common.{rules, arith, ◌≡◌, refl, ◌∙◌, inl, inr, ℕ, ◌+◌, List, [], ◌∷◌, ◌++◌, length, All, append_assoc, append-nil}
 use Rattle.std.specs.Prelude.{codes}
 use Rattle.std.specs.Fmt.{decimal}
 use Rattle.std.specs.List.{flat_map}
@@ -15,8 +14,7 @@ use Rattle.ent_world.specs.declared.fault.Fault.{Fault}
 use Rattle.ent_world.specs.declared.fault.FaultKind.{FaultKind}
 use Rattle.ent_world.specs.declared.fault.FaultKind.TheVariants as kind
 use Rattle.ent_world.specs.World.{World, first_world}
-use Rattle.ent_world.specs.Effects.{Applied, applied, on_entity, on_each, with_fault, after_command}
-use Rattle.ent_world.specs.Effects.{after_commands, after_queues}
+use Rattle.ent_world.specs.Effects.{Applied, applied, on_entity, on_each, with_fault, after_command, after_commands, after_queues}
 use Rattle.ent_world.specs.Sync.{after_births, sync}
 use Rattle.ent_runner.specs.Frame.{reserved_by}
 use Rattle.ent_script.specs.Script.{Script}
@@ -44,26 +42,21 @@ module _ (system command : ℕ) where
       )
 
   module _ (change : Handle → World → World) where
-    before_one : (h : Handle) (a : Applied) → AreNone (on_entity system command change h a)
-        → AreNone a
+    before_one : (h : Handle) (a : Applied) → AreNone (on_entity system command change h a) → AreNone a
     before_one h a none = search (rules, before_fault (kind.NotAlive h) a)
 
-    before_each : (hs : List Handle) (a : Applied) → AreNone (on_each system command change hs a)
-        → AreNone a
+    before_each : (hs : List Handle) (a : Applied) → AreNone (on_each system command change hs a) → AreNone a
     before_each [] a none = none
-    before_each (h ∷ hs) a none =
-        before_one h a (before_each hs (on_entity system command change h a) none)
+    before_each (h ∷ hs) a none = before_one h a (before_each hs (on_entity system command change h a) none)
 
-  before_command : (c : Command) (a : Applied) → AreNone (after_command system command c a)
-      → AreNone a × IsGranted c
-  before_command (Refused wanted (refusal.Space same left)) a none =
-      search (rules, before_fault (kind.Space same left) a none)
-  before_command (Refused wanted (refusal.Quota left)) a none =
-      search (rules, before_fault (kind.Quota left) a none)
+  before_command : (c : Command) (a : Applied) → AreNone (after_command system command c a) → AreNone a × IsGranted c
+  before_command (Refused wanted (refusal.Space same left)) a none = search
+      (rules, before_fault (kind.Space same left) a none)
+  before_command (Refused wanted (refusal.Quota left)) a none = search (rules, before_fault (kind.Quota left) a none)
   before_command _ a none = (search (before_one, before_each), tt)
 
-before_commands : (system command : ℕ) (q : List Command) (a : Applied)
-    → AreNone (after_commands system command q a) → AreNone a × All IsGranted q
+before_commands : (system command : ℕ) (q : List Command) (a : Applied) → AreNone (after_commands system command q a)
+    → AreNone a × All IsGranted q
 before_commands system command [] a none = (none, All-nil IsGranted)
 before_commands system command (c ∷ q) a none = search (
   rules,
@@ -72,15 +65,15 @@ before_commands system command (c ∷ q) a none = search (
   before_commands system (command + 1) q (after_command system command c a) none,
 )
 
-before_queues : (system : ℕ) (queues : List (List Command)) (a : Applied)
-    → AreNone (after_queues system queues a) → AreNone a × AreGranted queues
+before_queues : (system : ℕ) (queues : List (List Command)) (a : Applied) → AreNone (after_queues system queues a)
+    → AreNone a × AreGranted queues
 before_queues system [] a none = (none, All-nil (All IsGranted))
 before_queues system (q ∷ queues) a none =
     let later = before_queues (system + 1) queues (after_commands system 0 q a) none in
     search (rules, before_commands, All-cons)
 
-pub sync-granted : (queues : List (List Command)) (w : World)
-    → All IsNoRefusal (sync queues w).faults → AreGranted queues
+pub sync-granted : (queues : List (List Command)) (w : World) → All IsNoRefusal (sync queues w).faults
+    → AreGranted queues
 sync-granted queues w none = (before_queues 0 queues (applied (after_births queues w) []) none).1
 
 -- ---- lines
@@ -110,8 +103,7 @@ frame_line-end number born faults = (
 
 fault_lines : (faults : List Fault) → IsLines (flat_map (fault_line Births) faults)
 fault_lines [] = inl refl
-fault_lines (fault ∷ faults) =
-    lines_after (fault_line Births fault) (flat_map (fault_line Births) faults)
+fault_lines (fault ∷ faults) = lines_after (fault_line Births fault) (flat_map (fault_line Births) faults)
     (inr (fault_line-end fault)) (fault_lines faults)
 
 -- ---- what a text tells
@@ -127,14 +119,13 @@ module _ (text : List ℕ) (none : TellsNoRefusal text) where
   faults_told before [] after lines is = All-nil IsNoRefusal
   faults_told before (fault ∷ faults) after lines is =
       let line = fault_line Births fault in
-      let here : text ≡ (before ++ line) ++ (flat_map (fault_line Births) faults ++ after) = rw is (simp append_assoc) in
+      let here : text ≡ (before ++ line) ++ (flat_map (fault_line Births) faults ++ after) = rw is
+      (simp append_assoc) in
       All-cons IsNoRefusal fault faults (grind (arith, common_steps, here))
-      (faults_told (before ++ line) faults after
-      (lines_after before line lines (inr (fault_line-end fault))) here)
+      (faults_told (before ++ line) faults after (lines_after before line lines (inr (fault_line-end fault))) here)
 
-  frames_told : (number : ℕ) (w : World) (executions : List Execution) (before after : List ℕ)
-      → IsLines before → text ≡ before ++ (frames_text Births number w executions ++ after)
-      → All WereGranted executions
+  frames_told : (number : ℕ) (w : World) (executions : List Execution) (before after : List ℕ) → IsLines before
+      → text ≡ before ++ (frames_text Births number w executions ++ after) → All WereGranted executions
   frames_told number w [] before after lines is = All-nil WereGranted
   frames_told number w (e ∷ executions) before after lines is =
       let faults = (synced w e).faults in
@@ -149,9 +140,7 @@ module _ (text : List ℕ) (none : TellsNoRefusal text) where
       (lines_after (before ++ first) told begun (fault_lines faults)) (rw append_assoc here))
 
 -- Where the text of a report tells of no refusal, no request was refused, however the frames went.
-pub granted_if_untold : (script : Script) (workers : ℕ) (executions : List Execution)
-    (text : List ℕ) → IsReportOf script workers Births executions text → TellsNoRefusal text
-    → All (λ e. AreGranted e.queues) executions
-granted_if_untold script workers executions text report none =
-    frames_told text none 0 (first_world script.limits) executions [] report.world_text (inl refl)
-    report.is
+pub granted_if_untold : (script : Script) (workers : ℕ) (executions : List Execution) (text : List ℕ)
+    → IsReportOf script workers Births executions text → TellsNoRefusal text → All (λ e. AreGranted e.queues) executions
+granted_if_untold script workers executions text report none = frames_told text none 0 (first_world script.limits)
+    executions [] report.world_text (inl refl) report.is

@@ -1,7 +1,6 @@
 -- A frame of scripted systems on one worker has one course: its queues and its history follow from
 -- the systems and the world.
-use Rattle.std.proofs.Common.{rules, ◌≡◌, refl, sym, ◌∙◌, arith, append-nil, ℕ, ◌<◌, ℤ, List, []}
-use Rattle.std.proofs.Common.{◌∷◌, ◌++◌, length, Some, Ok, Err, Result}
+use Rattle.std.proofs.Common.{rules, ◌≡◌, refl, sym, ◌∙◌, arith, append-nil, ℕ, ◌<◌, ℤ, List, [], ◌∷◌, ◌++◌, length, Some, Ok, Err, Result}
 use Rattle.std.proofs.lemmas.Grind.{common_steps}
 use Rattle.std.specs.Prelude.{if◌then◌else◌, nat_lt, slice_get}
 use Rattle.std.specs.List.{All, AllPairs, flat_map, range_with_len}
@@ -31,20 +30,17 @@ use Rattle.ent_script.specs.declared.operation.Operation.{Operation}
 use Rattle.ent_script.specs.declared.operation.Operation.TheVariants as operation
 use Rattle.ent_script.specs.declared.target.Target.{Target}
 use Rattle.ent_script.specs.declared.target.Target.TheVariants as target
-use Rattle.spawnrun_lib.specs.Issuing.{Bindings, unbound, names_after, IsOfBirth, IsTargeted}
-use Rattle.spawnrun_lib.specs.Issuing.{OnEach, IsSpawn, IsSpawnMany, Issues, IssuesAll, MayIssue}
+use Rattle.spawnrun_lib.specs.Issuing.{Bindings, unbound, names_after, IsOfBirth, IsTargeted, OnEach, IsSpawn, IsSpawnMany, Issues, IssuesAll, MayIssue}
 use Rattle.spawnrun_lib.proofs.RisingLists.{one_rising}
-use Rattle.spawnrun_lib.proofs.Served.{calls_of, IsServed, state_after, left_after, served_first}
-use Rattle.spawnrun_lib.proofs.Served.{served_rest}
+use Rattle.spawnrun_lib.proofs.Served.{calls_of, IsServed, state_after, left_after, served_first, served_rest}
 
 -- ---- one operation
 
 -- what a request for so many handles issues: a refusal if the quota is too small, else what is
 -- issued at the reply
-abbrev requested : Allocator → ℕ → (ℕ → Result (List Handle) OutOfSpace → List Command) → ℕ
-    → List Command
-requested s left issue wanted = if nat_lt left wanted then Refused wanted (Quota left) ∷ []
-    else issue wanted (reply_to s wanted)
+abbrev requested : Allocator → ℕ → (ℕ → Result (List Handle) OutOfSpace → List Command) → ℕ → List Command
+requested s left issue wanted = if nat_lt left wanted then Refused wanted (Quota left)
+    ∷ [] else issue wanted (reply_to s wanted)
 
 -- what a spawn of one and a spawn of many issue at this reply
 abbrev spawned : List (ComponentId × ℤ) → ℕ → Result (List Handle) OutOfSpace → List Command
@@ -57,58 +53,54 @@ many_spawned bundle wanted (Ok hs) = SpawnMany hs bundle ∷ []
 many_spawned bundle wanted (Err space) = Refused wanted (Space space.wanted space.left) ∷ []
 
 module _ (s : Allocator) (left : ℕ) (bundle : List (ComponentId × ℤ)) where
-  spawn_is : (issued : List Command) → IsSpawn bundle issued → IsServed s left issued → issued
-      ≡ requested s left (spawned bundle) 1
+  spawn_is : (issued : List Command) → IsSpawn bundle issued → IsServed s left issued
+      → issued ≡ requested s left (spawned bundle) 1
   spawn_is it is served = search (rules, cond-false, le-ltb, cond-true, lt-ltb)
 
-  many_is : (count : ℕ) (issued : List Command) → IsSpawnMany count bundle issued
-      → IsServed s left issued → issued ≡ requested s left (many_spawned bundle) count
+  many_is : (count : ℕ) (issued : List Command) → IsSpawnMany count bundle issued → IsServed s left issued
+      → issued ≡ requested s left (many_spawned bundle) count
   many_is count hs is served = search (rules, cond-false, le-ltb, reply-none, cond-true, lt-ltb)
 
 -- an entity's birth tells its handle
-same_of_birth : (view : View) (birth : Birth) (hs ks : List Handle) → IsOfBirth view birth hs
-    → IsOfBirth view birth ks → hs ≡ ks
+same_of_birth : (view : View) (birth : Birth) (hs ks : List Handle) → IsOfBirth view birth hs → IsOfBirth view birth ks
+    → hs ≡ ks
 same_of_birth view birth hs ks a b = grind (arith, common_steps)
 
 -- a target means one list of handles
-same_targets : (view : View) (names : Bindings) (on : Target) (hs ks : List Handle)
-    → IsTargeted view names on hs → IsTargeted view names on ks → hs ≡ ks
+same_targets : (view : View) (names : Bindings) (on : Target) (hs ks : List Handle) → IsTargeted view names on hs
+    → IsTargeted view names on ks → hs ≡ ks
 same_targets view names (target.Each id) hs ks a b = one_list_with id view.entities hs ks a b
 same_targets view names (target.Birth birth) hs ks a b = same_of_birth view birth hs ks a b
 same_targets view names _ hs ks a b = a ∙ sym b
 
-pub same_on_each : (view : View) (names : Bindings) (on : Target) (command : Handle → Command)
-    (cs ds : List Command) → OnEach view names on command cs → OnEach view names on command ds → cs
-    ≡ ds
+pub same_on_each : (view : View) (names : Bindings) (on : Target) (command : Handle → Command) (cs ds : List Command)
+    → OnEach view names on command cs → OnEach view names on command ds → cs ≡ ds
 same_on_each view names on command cs ds a b = search (rules, same_targets)
 
-same_operation : (view : View) (names : Bindings) (op : Operation) (s : Allocator) (left : ℕ)
-    (cs ds : List Command) → Issues view names op cs → Issues view names op ds → IsServed s left cs
-    → IsServed s left ds → cs ≡ ds
-same_operation view names (operation.Spawn bundle binds) s left cs ds a b p q =
-    spawn_is s left bundle cs a p ∙ sym (spawn_is s left bundle ds b q)
-same_operation view names (operation.SpawnMany count bundle binds) s left cs ds a b p q =
-    many_is s left bundle count cs a p ∙ sym (many_is s left bundle count ds b q)
+same_operation : (view : View) (names : Bindings) (op : Operation) (s : Allocator) (left : ℕ) (cs ds : List Command)
+    → Issues view names op cs → Issues view names op ds → IsServed s left cs → IsServed s left ds → cs ≡ ds
+same_operation view names (operation.Spawn bundle binds) s left cs ds a b p q = spawn_is s left bundle cs a p
+    ∙ sym (spawn_is s left bundle ds b q)
+same_operation view names (operation.SpawnMany count bundle binds) s left cs ds a b p q = many_is s left bundle count cs
+    a p ∙ sym (many_is s left bundle count ds b q)
 same_operation view names _ s left cs ds a b p q = same_on_each view names _ _ cs ds a b
 
 -- ---- one system
 
 -- After the same commands the allocator, the quota and the names are the same, so the rest
 -- follows.
-same_queue : (view : View) (names : Bindings) (ops : List Operation) (s : Allocator) (left : ℕ)
-    (cs ds : List Command) → IssuesAll view names ops cs → IssuesAll view names ops ds
-    → IsServed s left cs → IsServed s left ds → cs ≡ ds
+same_queue : (view : View) (names : Bindings) (ops : List Operation) (s : Allocator) (left : ℕ) (cs ds : List Command)
+    → IssuesAll view names ops cs → IssuesAll view names ops ds → IsServed s left cs → IsServed s left ds → cs ≡ ds
 same_queue view names [] s left cs ds a b p q = a ∙ sym b
-same_queue view names (op ∷ ops) s left cs ds (first, rest, cs_are, may, others)
-    (first', rest', ds_are, may', others') p q =
+same_queue view names (op ∷ ops) s left cs ds (first, rest, cs_are, may, others) (first', rest', ds_are, may', others')
+    p q =
     let served = rw cs_are at p in
     let served' = rw ds_are at q in
     let same : first ≡ first' = same_operation view names op s left first first' may may'
     (served_first s left first rest served) (served_first s left first' rest' served') in
     let after = rw (← same) at (served_rest s left first' rest' served') in
-    let tails : rest ≡ rest' = same_queue view (names_after names op first) ops
-    (state_after s first) (left_after left first) rest rest' others (rw (← same) at others')
-    (served_rest s left first rest served) after in
+    let tails : rest ≡ rest' = same_queue view (names_after names op first) ops (state_after s first)
+    (left_after left first) rest rest' others (rw (← same) at others') (served_rest s left first rest served) after in
     cs_are ∙ (λ i. same i ++ tails i) ∙ sym ds_are
 
 -- ---- one worker
@@ -127,9 +119,8 @@ only_one : (ran : List (List ℕ)) → length ran ≡ 1 → (mine : List ℕ) ×
 only_one (mine ∷ []) one = (mine, refl, append-nil mine)
 only_one _ one = absurd (omega arith)
 
-is_alone : (systems : List (List Operation)) (w : World) (queues : List (List Command))
-    (history : List Call) → IsFrame MayIssue systems 1 w queues history → IsAlone (length systems) w
-    queues history
+is_alone : (systems : List (List Operation)) (w : World) (queues : List (List Command)) (history : List Call)
+    → IsFrame MayIssue systems 1 w queues history → IsAlone (length systems) w queues history
 is_alone systems w queues history frame =
     let only = only_one frame.ran frame.each_worker in
     let work = frame.work 0 only.0 only.1 in
@@ -137,50 +128,46 @@ is_alone systems w queues history frame =
 
 -- each system has a queue that it may issue
 abbrev MayIssueEach : View → List (List Operation) → List (List Command) → Type 0
-MayIssueEach view systems queues = (n : ℕ) (system : List Operation) → slice_get systems n
-    ≡ Some system → MayIssue system view (queue_at queues n)
+MayIssueEach view systems queues = (n : ℕ) (system : List Operation) → slice_get systems n ≡ Some system
+    → MayIssue system view (queue_at queues n)
 
 -- the systems in the order in which the worker ran them
-same_queues : (view : View) (systems : List (List Operation)) (q r : List (List Command))
-    (ns : List ℕ) (s : Allocator) (left : ℕ) → All (λ n. n < length systems) ns
-    → MayIssueEach view systems q → MayIssueEach view systems r → IsServed s left (commands_of q ns)
-    → IsServed s left (commands_of r ns) → All (λ n. queue_at q n ≡ queue_at r n) ns
+same_queues : (view : View) (systems : List (List Operation)) (q r : List (List Command)) (ns : List ℕ) (s : Allocator)
+    (left : ℕ) → All (λ n. n < length systems) ns → MayIssueEach view systems q → MayIssueEach view systems r
+    → IsServed s left (commands_of q ns) → IsServed s left (commands_of r ns)
+    → All (λ n. queue_at q n ≡ queue_at r n) ns
 same_queues view systems q r [] s left below may may' served served' = search (rules, All-nil)
 same_queues view systems q r (n ∷ ns) s left below may may' served served' =
     let system = at_within systems n (All-head (λ n. n < length systems) n ns below) in
     let here = served_first s left (queue_at q n) (commands_of q ns) served in
     let here' = served_first s left (queue_at r n) (commands_of r ns) served' in
-    let same : queue_at q n ≡ queue_at r n = same_queue view unbound system.0 s left (queue_at q n)
-    (queue_at r n) (may n system.0 system.1) (may' n system.0 system.1) here here' in
+    let same : queue_at q n ≡ queue_at r n = same_queue view unbound system.0 s left (queue_at q n) (queue_at r n)
+    (may n system.0 system.1) (may' n system.0 system.1) here here' in
     let after = rw (← same) at (served_rest s left (queue_at r n) (commands_of r ns) served') in
     All-cons (λ n. queue_at q n ≡ queue_at r n) n ns same
     (same_queues view systems q r ns (state_after s (queue_at q n)) (left_after left (queue_at q n))
-    (All-tail (λ n. n < length systems) n ns below) may may' (served_rest s left (queue_at q n)
-    (commands_of q ns) served) after)
+    (All-tail (λ n. n < length systems) n ns below) may may' (served_rest s left (queue_at q n) (commands_of q ns)
+    served) after)
 
 -- ---- one course
 
 -- what holds of all numbers below holds of each
-pub below_each : (P : ℕ → Type 0) (count : ℕ) → All P (range_with_len 0 count) → (n : ℕ) → n <
-    count → P n
-below_each P count all n less =
-    search (rules, length-range_with_len 0 count, get_or-range_with_len 0 count n 0 less)
+pub below_each : (P : ℕ → Type 0) (count : ℕ) → All P (range_with_len 0 count) → (n : ℕ) → n < count → P n
+below_each P count all n less = search (rules, length-range_with_len 0 count, get_or-range_with_len 0 count n 0 less)
 
-pub one_course : (systems : List (List Operation)) (w : World) (q r : List (List Command))
-    (h k : List Call) → IsFrame MayIssue systems 1 w q h → IsFrame MayIssue systems 1 w r k
-    → (q ≡ r) × (h ≡ k)
+pub one_course : (systems : List (List Operation)) (w : World) (q r : List (List Command)) (h k : List Call)
+    → IsFrame MayIssue systems 1 w q h → IsFrame MayIssue systems 1 w r k → (q ≡ r) × (h ≡ k)
 one_course systems w q r h k first second =
     let a = is_alone systems w q h first in
     let b = is_alone systems w r k second in
     let numbers : List ℕ = range_with_len 0 (length systems) in
     let mine : a.mine ≡ b.mine = one_rising a.mine b.mine numbers a.rising b.rising a.once b.once in
-    let below : All (λ n. n < length systems) a.mine = All-permutation (λ n. n < length systems)
-    numbers a.mine (IsPermutation-sym a.mine numbers a.once) (all_below (length systems)) in
-    let each = same_queues (view_of w) systems q r
-    a.mine w.allocator quota below first.each_system second.each_system a.served
-    (rw (← mine) at b.served) in
+    let below : All (λ n. n < length systems) a.mine = All-permutation (λ n. n < length systems) numbers a.mine
+    (IsPermutation-sym a.mine numbers a.once) (all_below (length systems)) in
+    let each = same_queues (view_of w) systems q r a.mine w.allocator quota below first.each_system second.each_system
+    a.served (rw (← mine) at b.served) in
     let at = All-permutation (λ n. queue_at q n ≡ queue_at r n) a.mine numbers a.once each in
     let queues : q ≡ r = ext_get_or [] q r (first.count ∙ sym second.count)
-    (λ n less. below_each (λ n. queue_at q n
-    ≡ queue_at r n) (length systems) at n (omega (arith, less, first.count))) in
+    (λ n less. below_each (λ n. queue_at q n ≡ queue_at r n) (length systems) at n
+    (omega (arith, less, first.count))) in
     (queues, a.calls ∙ (λ i. calls_of (commands_of (queues i) (mine i))) ∙ sym b.calls)

@@ -6,8 +6,7 @@ use Rattle.ent_script.specs.declared.operation.Operation.{Operation}
 use Rattle.spawnrun_lib.proofs.OneCourse.{one_course}
 use Rattle.spawnrun_lib.specs.declared.show.Show.{Show}
 use Rattle.spawnrun_lib.proofs.OneText.{one_text}
-use Rattle.spawnrun_lib.specs.Report.{Execution, AreExecutions, synced, last_world, frames_text}
-use Rattle.spawnrun_lib.specs.Report.{IsReport}
+use Rattle.spawnrun_lib.specs.Report.{Execution, AreExecutions, synced, last_world, frames_text, IsReport}
 
 same_executions : (w : World) (frames : List (List (List Operation))) (es fs : List Execution)
     → AreExecutions 1 w frames es → AreExecutions 1 w frames fs → es ≡ fs
@@ -23,6 +22,6 @@ pub one_report : (script : Script) (show : Show) (text other : List ℕ) → IsR
 one_report script show text other a b =
     let first = first_world script.limits in
     let same = same_executions first script.frames a.0 b.0 a.1.frames b.1.frames in
-    let one = one_text script.components show (last_world first a.0).entities a.1.world_text
-    b.1.world_text a.1.world (rw (← same) at b.1.world) in
+    let one = one_text script.components show (last_world first a.0).entities a.1.world_text b.1.world_text a.1.world
+    (rw (← same) at b.1.world) in
     a.1.is ∙ (λ i. frames_text show 0 first (same i) ++ one i) ∙ sym b.1.is

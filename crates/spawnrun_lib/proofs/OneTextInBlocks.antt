@@ -1,7 +1,6 @@
 -- In blocks a script has one text: its queues, its handles and its world follow from the script and the
 -- size of the blocks.
-use Rattle.std.proofs.Common.{◌≡◌, refl, sym, ap, ◌∙◌, arith, ℕ, suc, ◌+◌, ◌-◌, ◌<◌, ◌≤◌, ℤ, List}
-use Rattle.std.proofs.Common.{[], ◌∷◌, ◌++◌, length, take}
+use Rattle.std.proofs.Common.{◌≡◌, refl, sym, ap, ◌∙◌, arith, ℕ, suc, ◌+◌, ◌-◌, ◌<◌, ◌≤◌, ℤ, List, [], ◌∷◌, ◌++◌, length, take}
 use Rattle.std.proofs.lemmas.Grind.{common_steps}
 use Rattle.std.specs.Prelude.{filter}
 use Rattle.std.proofs.lemmas.List.{ext_get_or, length-append}
@@ -19,18 +18,16 @@ use Rattle.ent_runner.proofs.Lists.{at_within}
 use Rattle.ent_script.specs.Script.{Script}
 use Rattle.ent_script.specs.declared.operation.Operation.{Operation}
 use Rattle.ent_script.specs.declared.operation.Operation.TheVariants as operation
-use Rattle.spawnrun_lib.specs.Issuing.{Bindings, unbound, names_after, IsSpawn, IsSpawnMany, Issues}
-use Rattle.spawnrun_lib.specs.Issuing.{IssuesAll}
-use Rattle.spawnrun_lib.specs.ReportInBlocks.{AreQueues, IsTextFrom, IsTextInBlocks, sizes_of}
-use Rattle.spawnrun_lib.specs.ReportInBlocks.{blocks_of_frame, reserved_in}
+use Rattle.spawnrun_lib.specs.Issuing.{Bindings, unbound, names_after, IsSpawn, IsSpawnMany, Issues, IssuesAll}
+use Rattle.spawnrun_lib.specs.ReportInBlocks.{AreQueues, IsTextFrom, IsTextInBlocks, sizes_of, blocks_of_frame, reserved_in}
 use Rattle.spawnrun_lib.specs.declared.show.Show.{Show}
 use Rattle.spawnrun_lib.proofs.OneCourse.{same_on_each}
 use Rattle.spawnrun_lib.proofs.OneText.{one_text}
 
 -- ---- what a block has
 
-few_parts : (made : ℕ) (hs : List Handle)
-    → length (filter (is_old made) hs) + length (filter (is_fresh made) hs) ≤ length hs
+few_parts : (made : ℕ) (hs : List Handle) → length (filter (is_old made) hs) + length (filter (is_fresh made) hs)
+    ≤ length hs
 few_parts made [] = omega arith
 few_parts made (h ∷ hs) = grind (arith, common_steps, few_parts made hs)
 
@@ -44,33 +41,31 @@ few_left : (pool : List Handle) (b : Block) → length (rest_of pool b) ≤ left
 few_left pool b = grind (arith, common_steps)
 
 -- a block that is used up gives no handle
-none_left : (pool : List Handle) (b : Block) (h : Handle) → h ∷ [] ≡ take 1 (rest_of pool b)
-    → left_of b < 1 → ⊥
+none_left : (pool : List Handle) (b : Block) (h : Handle) → h ∷ [] ≡ take 1 (rest_of pool b) → left_of b < 1 → ⊥
 none_left pool b h is none = grind (arith, common_steps, few_taken, few_left)
 
 -- and one with too few gives none of them
-too_few : (s : Allocator) (b : Block) (hs : List Handle)
-    → hs ≡ listed s.made (take (length hs) (rest_of s.pool b)) → left_of b < length hs → ⊥
+too_few : (s : Allocator) (b : Block) (hs : List Handle) → hs ≡ listed s.made (take (length hs) (rest_of s.pool b))
+    → left_of b < length hs → ⊥
 too_few s b hs is less = grind (arith, common_steps, few_listed, few_taken, few_left)
 
 -- ---- one operation
 
 module _ (s : Allocator) (b : Block) (bundle : List (ComponentId × ℤ)) where
-  same_spawn : (cs ds : List Command) → IsSpawn bundle cs → IsSpawn bundle ds → AreDrawnBy s b cs
-      → AreDrawnBy s b ds → cs ≡ ds
+  same_spawn : (cs ds : List Command) → IsSpawn bundle cs → IsSpawn bundle ds → AreDrawnBy s b cs → AreDrawnBy s b ds
+      → cs ≡ ds
   same_spawn cs ds is is' drawn drawn' = grind (arith, common_steps, none_left)
 
-  same_many : (count : ℕ) (cs ds : List Command) → IsSpawnMany count bundle cs
-      → IsSpawnMany count bundle ds → AreDrawnBy s b cs → AreDrawnBy s b ds → cs ≡ ds
+  same_many : (count : ℕ) (cs ds : List Command) → IsSpawnMany count bundle cs → IsSpawnMany count bundle ds
+      → AreDrawnBy s b cs → AreDrawnBy s b ds → cs ≡ ds
   same_many count cs ds is is' drawn drawn' = grind (arith, common_steps, too_few)
 
-same_operation : (view : View) (names : Bindings) (op : Operation) (s : Allocator) (b : Block)
-    (cs ds : List Command) → Issues view names op cs → Issues view names op ds → AreDrawnBy s b cs
-    → AreDrawnBy s b ds → cs ≡ ds
-same_operation view names (operation.Spawn bundle binds) s b cs ds is is' drawn drawn' =
-    same_spawn s b bundle cs ds is is' drawn drawn'
-same_operation view names (operation.SpawnMany count bundle binds) s b cs ds is is' drawn drawn' =
-    same_many s b bundle count cs ds is is' drawn drawn'
+same_operation : (view : View) (names : Bindings) (op : Operation) (s : Allocator) (b : Block) (cs ds : List Command)
+    → Issues view names op cs → Issues view names op ds → AreDrawnBy s b cs → AreDrawnBy s b ds → cs ≡ ds
+same_operation view names (operation.Spawn bundle binds) s b cs ds is is' drawn drawn' = same_spawn s b bundle cs ds is
+    is' drawn drawn'
+same_operation view names (operation.SpawnMany count bundle binds) s b cs ds is is' drawn drawn' = same_many s b bundle
+    count cs ds is is' drawn drawn'
 same_operation view names _ s b cs ds is is' drawn drawn' = same_on_each view names _ _ cs ds is is'
 
 -- ---- one system
@@ -80,8 +75,7 @@ abbrev used_on : Block → List Command → Block
 used_on b [] = b
 used_on b (c ∷ cs) = used_on (after_use b (used_by c)) cs
 
-drawn_first : (s : Allocator) (b : Block) (cs ds : List Command) → AreDrawnBy s b (cs ++ ds)
-    → AreDrawnBy s b cs
+drawn_first : (s : Allocator) (b : Block) (cs ds : List Command) → AreDrawnBy s b (cs ++ ds) → AreDrawnBy s b cs
 drawn_first s b [] ds drawn = tt
 drawn_first s b (c ∷ cs) ds drawn = (drawn.0, drawn_first s (after_use b (used_by c)) cs ds drawn.1)
 
@@ -91,30 +85,27 @@ drawn_rest s b [] ds drawn = drawn
 drawn_rest s b (c ∷ cs) ds drawn = drawn_rest s (after_use b (used_by c)) cs ds drawn.1
 
 -- After the same commands the block and the names are the same, so the rest follows.
-same_queue : (view : View) (names : Bindings) (ops : List Operation) (s : Allocator) (b : Block)
-    (cs ds : List Command) → IssuesAll view names ops cs → IssuesAll view names ops ds
-    → AreDrawnBy s b cs → AreDrawnBy s b ds → cs ≡ ds
+same_queue : (view : View) (names : Bindings) (ops : List Operation) (s : Allocator) (b : Block) (cs ds : List Command)
+    → IssuesAll view names ops cs → IssuesAll view names ops ds → AreDrawnBy s b cs → AreDrawnBy s b ds → cs ≡ ds
 same_queue view names [] s b cs ds is is' drawn drawn' = is ∙ sym is'
-same_queue view names (op ∷ ops) s b cs ds (first, rest, cs_are, may, others)
-    (first', rest', ds_are, may', others') drawn drawn' =
+same_queue view names (op ∷ ops) s b cs ds (first, rest, cs_are, may, others) (first', rest', ds_are, may', others')
+    drawn drawn' =
     let one = rw cs_are at drawn in
     let one' = rw ds_are at drawn' in
-    let same : first ≡ first' = same_operation view names op s b first first' may may'
-    (drawn_first s b first rest one) (drawn_first s b first' rest' one') in
+    let same : first ≡ first' = same_operation view names op s b first first' may may' (drawn_first s b first rest one)
+    (drawn_first s b first' rest' one') in
     let after = rw (← same) at (drawn_rest s b first' rest' one') in
-    let tails : rest ≡ rest' = same_queue view (names_after names op first) ops s (used_on b first)
-    rest rest' others (rw (← same) at others') (drawn_rest s b first rest one) after in
+    let tails : rest ≡ rest' = same_queue view (names_after names op first) ops s (used_on b first) rest rest' others
+    (rw (← same) at others') (drawn_rest s b first rest one) after in
     cs_are ∙ (λ i. same i ++ tails i) ∙ sym ds_are
 
 -- ---- one frame
 
 count_from : (before left : ℕ) (sizes : List ℕ) → length (blocks_from before left sizes) ≡ length sizes
 count_from before left [] = refl
-count_from before left (n ∷ sizes) =
-    ap suc (count_from (before + lesser n left) (left - lesser n left) sizes)
+count_from before left (n ∷ sizes) = ap suc (count_from (before + lesser n left) (left - lesser n left) sizes)
 
-count_sizes : (size : ℕ) (systems : List (List Operation))
-    → length (sizes_of size systems) ≡ length systems
+count_sizes : (size : ℕ) (systems : List (List Operation)) → length (sizes_of size systems) ≡ length systems
 count_sizes size [] = refl
 count_sizes size (system ∷ systems) = ap suc (count_sizes size systems)
 
@@ -122,32 +113,28 @@ same_queues : (size : ℕ) (w : World) (systems : List (List Operation)) (q r : 
     → AreQueues size w systems q → AreQueues size w systems r → q ≡ r
 same_queues size w systems q r a b =
     let blocks = blocks_of_frame size w systems in
-    let many : length blocks ≡ length systems =
-    count_from 0 (length w.allocator.pool) (sizes_of size systems) ∙ count_sizes size systems in
-    ext_get_or [] q r (a.each_queue ∙ sym b.each_queue) (λ n less.
-    let within : n < length systems = omega (arith, less, a.each_queue) in
-    let system = at_within systems n within in
-    let block = at_within blocks n (omega (arith, within, many)) in
-    same_queue (view_of w) unbound system.0 w.allocator block.0 (queue_at q n) (queue_at r n)
-    (a.each_system n system.0 system.1) (b.each_system n system.0 system.1)
+    let many : length blocks ≡ length systems = count_from 0 (length w.allocator.pool) (sizes_of size systems)
+    ∙ count_sizes size systems in
+    ext_get_or [] q r (a.each_queue ∙ sym b.each_queue) (λ n less. let within : n
+    < length systems = omega (arith, less, a.each_queue) in let system = at_within systems n within in let block =
+    at_within blocks n (omega (arith, within, many)) in same_queue (view_of w) unbound system.0 w.allocator block.0
+    (queue_at q n) (queue_at r n) (a.each_system n system.0 system.1) (b.each_system n system.0 system.1)
     (a.draws n block.0 block.1) (b.draws n block.0 block.1))
 
 -- ---- one text
 
 same_text : (names : List (List ℕ)) (size : ℕ) (show : Show) (number : ℕ) (w : World)
-    (frames : List (List (List Operation))) (text other : List ℕ)
-    → IsTextFrom names size show number w frames text
+    (frames : List (List (List Operation))) (text other : List ℕ) → IsTextFrom names size show number w frames text
     → IsTextFrom names size show number w frames other → text ≡ other
-same_text names size show number w [] text other is is' =
-    one_text names show w.entities text other is is'
+same_text names size show number w [] text other is is' = one_text names show w.entities text other is is'
 same_text names size show number w (systems ∷ frames) text other (q, rest, are, more, text_is)
     (r, rest', are', more', other_is) =
     let same : q ≡ r = same_queues size w systems q r are are' in
-    let tails : rest ≡ rest' = same_text names size show (number + 1)
-    (sync q (reserved_in size w systems q)).world frames rest rest' more (rw (← same) at more') in
+    let tails : rest ≡ rest' = same_text names size show (number + 1) (sync q (reserved_in size w systems q)).world
+    frames rest rest' more (rw (← same) at more') in
     text_is ∙ rw (same, tails) refl ∙ sym other_is
 
 pub one_text_in_blocks : (script : Script) (size : ℕ) (show : Show) (text other : List ℕ)
     → IsTextInBlocks script size show text → IsTextInBlocks script size show other → text ≡ other
-one_text_in_blocks script size show text other is is' =
-    same_text script.components size show 0 (first_world script.limits) script.frames text other is is'
+one_text_in_blocks script size show text other is is' = same_text script.components size show 0
+    (first_world script.limits) script.frames text other is is'

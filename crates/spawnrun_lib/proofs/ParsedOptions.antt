@@ -1,9 +1,7 @@
 -- One induction over clap's walk, and so one file of more than 400 lines: where clap's parse of a
 -- command of options doesn't fail, each option has one value, which it accepts.
 use Rattle.std.proofs.lemmas.Grind.{common_steps}
-use Rattle.std.proofs.Common.{rules, ◌≡◌, ◌∙◌, ◌⊎◌, ◌==◌, ◌&&◌, ℕ, Bool, true, false, List}
-use Rattle.std.proofs.Common.{[], ◌∷◌, ◌++◌, length, cond, zero, suc, refl, inl, inr}
-use Rattle.std.proofs.Common.{arith, append-nil, Option, Some, None, IfSome, is_some}
+use Rattle.std.proofs.Common.{rules, ◌≡◌, ◌∙◌, ◌⊎◌, ◌==◌, ◌&&◌, ℕ, Bool, true, false, List, [], ◌∷◌, ◌++◌, length, cond, zero, suc, refl, inl, inr, arith, append-nil, Option, Some, None, IfSome, is_some}
 use Rattle.std.specs.Prelude.{fold, find}
 use Rattle.std.specs.List.{AllByRecursion}
 use Rattle.std.specs.Option.{option_map_or}
@@ -14,16 +12,8 @@ use Rattle.clap.specs.Kinds.{Kinds, or_else, range_kinds}
 use Rattle.clap.specs.Values.{is_request}
 use Rattle.clap.specs.Takes.{value_passes}
 use Rattle.clap.specs.Lexer.{long_of}
-use Rattle.clap.specs.Walk.{nothing_held, long_or_other, Held, Outcome, Step, Waiting}
-use Rattle.clap.specs.Walk.{Walk, action_of, after_flag, after_step, arg_by_id, at_row, bundle_met}
-use Rattle.clap.specs.Walk.{default_rows, flag_met, has_row, long_met, more_values, option_met}
-use Rattle.clap.specs.Walk.{plain_word, reacted, reading_by, rows_after, settled, short_met}
-use Rattle.clap.specs.Walk.{subcommand_met, subcommand_or_other, used, used_as, used_by_id}
-use Rattle.clap.specs.Walk.{values_or_missing, walk_from, walked, with_default}
-use Rattle.clap.specs.Walk.{with_values, without, word_met}
-use Rattle.clap.specs.Faults.{set_fault, flag_word_fault, flags_fault, level_fault}
-use Rattle.clap.specs.Faults.{long_fault, option_fault, react_fault, settle_fault, short_fault}
-use Rattle.clap.specs.Faults.{turn_fault, use_fault, walk_fault}
+use Rattle.clap.specs.Walk.{nothing_held, long_or_other, Held, Outcome, Step, Waiting, Walk, action_of, after_flag, after_step, arg_by_id, at_row, bundle_met, default_rows, flag_met, has_row, long_met, more_values, option_met, plain_word, reacted, reading_by, rows_after, settled, short_met, subcommand_met, subcommand_or_other, used, used_as, used_by_id, values_or_missing, walk_from, walked, with_default, with_values, without, word_met}
+use Rattle.clap.specs.Faults.{set_fault, flag_word_fault, flags_fault, level_fault, long_fault, option_fault, react_fault, settle_fault, short_fault, turn_fault, use_fault, walk_fault}
 use Rattle.clap.specs.declared.builder.ArgAction.TheVariants.{Set}
 use Rattle.clap.specs.declared.error.ErrorKind.{ErrorKind}
 use Rattle.clap.specs.declared.error.ErrorKind.TheVariants.{ArgumentConflict, TooManyValues}
@@ -45,11 +35,10 @@ not_again b e = search rules
 -- ---- rows
 
 -- a row that isn't there is added at the end
-at_row-absent : (id : Text) (change : Row → List Row) (missing rows : List Row) → has_row id rows
-    ≡ false → at_row id change missing rows ≡ rows ++ missing
+at_row-absent : (id : Text) (change : Row → List Row) (missing rows : List Row) → has_row id rows ≡ false
+    → at_row id change missing rows ≡ rows ++ missing
 at_row-absent id change missing [] e = refl
-at_row-absent id change missing (r ∷ rs) e =
-    grind (arith, common_steps, at_row-absent id change missing rs)
+at_row-absent id change missing (r ∷ rs) e = grind (arith, common_steps, at_row-absent id change missing rs)
 
 -- the row of an argument with one value
 abbrev new_row : Rule → Text → ValueSource → Row
@@ -61,11 +50,10 @@ new_row a text source = record {
   reading = reading_by a;
 }
 
-with_values-absent : (a : Rule) (text : Text) (source : ValueSource) (rows : List Row)
-    → has_row a.id rows ≡ false
+with_values-absent : (a : Rule) (text : Text) (source : ValueSource) (rows : List Row) → has_row a.id rows ≡ false
     → with_values a.id (reading_by a) source (text ∷ []) rows ≡ rows ++ new_row a text source ∷ []
-with_values-absent a text source rows absent =
-    at_row-absent a.id (more_values source (text ∷ [])) (new_row a text source ∷ []) rows absent
+with_values-absent a text source rows absent = at_row-absent a.id (more_values source (text ∷ []))
+    (new_row a text source ∷ []) rows absent
 
 without-absent : (a : Rule) (rows : List Row) → has_row a.id rows ≡ false → without a.id rows ≡ rows
 without-absent a rows absent = at_row-absent a.id (λ _. []) [] rows absent ∙ append-nil rows
@@ -73,8 +61,7 @@ without-absent a rows absent = at_row-absent a.id (λ _. []) [] rows absent ∙ 
 -- ---- the arguments of a command
 
 abbrev pub TakesOne : Rule → Type 0
-TakesOne a = (action_of a ≡ Set)
-    × (a.range ≡ Some (record { start_inclusive = 1; end_inclusive = 1 }))
+TakesOne a = (action_of a ≡ Set) × (a.range ≡ Some (record { start_inclusive = 1; end_inclusive = 1 }))
 
 -- a default, which the option accepts
 abbrev pub HasDefault : Rule → Type 0
@@ -125,25 +112,22 @@ module _ (c : List Rule) where
 
   -- a use that doesn't fail adds a good row
   set-good : (a : Rule) → arg_by_id c a.id ≡ Some a → (values : List Text) (rows : List Row) → Good rows
-      → or_else (range_kinds 1 1 (length values)) (set_fault false a (values_or_missing a values)
-      rows) ≡ []
+      → or_else (range_kinds 1 1 (length values)) (set_fault false a (values_or_missing a values) rows) ≡ []
       → Good (used_as Set a.id (reading_by a) (values_or_missing a values) rows)
-  set-good a own (text ∷ []) rows good e = search (rules, none_of, passed, not_again, without-absent, with_values-absent, Good-append, new_row-good)
+  set-good a own (text ∷ []) rows good e = search
+      (rules, none_of, passed, not_again, without-absent, with_values-absent, Good-append, new_row-good)
   set-good a own _ rows good e = search rules
 
-  used-good : (a : Rule) → Fits a → (values : List Text) (rows : List Row)
-      → use_fault false a values rows ≡ [] → Good rows → Good (used a values rows)
+  used-good : (a : Rule) → Fits a → (values : List Text) (rows : List Row) → use_fault false a values rows ≡ []
+      → Good rows → Good (used a values rows)
   used-good a fits values rows e good = search (rules, set-good)
 
-  used_by_id-good : (found : Option Rule) → IfSome found Fits
-      → (values : List Text) (rows : List Row) → Good rows
-      → option_map_or (λ a. use_fault false a values rows) found [] ≡ []
-      → Good (used_by_id found values rows)
+  used_by_id-good : (found : Option Rule) → IfSome found Fits → (values : List Text) (rows : List Row) → Good rows
+      → option_map_or (λ a. use_fault false a values rows) found [] ≡ [] → Good (used_by_id found values rows)
   used_by_id-good it fit values rows good e = search (rules, used-good)
 
   module _ (all : AllByRecursion Fits c) where
-    find-fits : (test : Rule → Bool) (xs : List Rule) → AllByRecursion Fits xs
-        → IfSome (find test xs) Fits
+    find-fits : (test : Rule → Bool) (xs : List Rule) → AllByRecursion Fits xs → IfSome (find test xs) Fits
     find-fits test [] fits = tt
     find-fits test (x ∷ xs) fits = search (rules, find-fits test xs fits.1)
 
@@ -155,14 +139,13 @@ module _ (c : List Rule) where
         → react_fault c false a values h ≡ [] → Good (reacted c a values h).rows
     reacted-good a fit values h good e = search (rules, none_of, used-good, settle-good)
 
-    option-good : (a : Rule) → Fits a → (v : Option Text) (h : Held) → Good h.rows
-        → option_fault c false a v h ≡ [] → Good (option_met c a v h).0.rows
+    option-good : (a : Rule) → Fits a → (v : Option Text) (h : Held) → Good h.rows → option_fault c false a v h ≡ []
+        → Good (option_met c a v h).0.rows
     option-good a fit None h good e = settle-good h good e
     option-good a fit (Some text) h good e = reacted-good a fit (text ∷ []) h good e
 
     flag-good : (a : Rule) → Fits a → (v : Option Text) (h : Held) → Good h.rows
-        → cond (is_some v) (TooManyValues ∷ []) (react_fault c false a [] h) ≡ []
-        → Good (flag_met c a v h).0.rows
+        → cond (is_some v) (TooManyValues ∷ []) (react_fault c false a [] h) ≡ [] → Good (flag_met c a v h).0.rows
     flag-good a fit it h good e = search (rules, reacted-good)
 
     long-good : (o : Option Rule) → IfSome o Fits → (v : Option Text) (h : Held) → Good h.rows
@@ -174,36 +157,31 @@ module _ (c : List Rule) where
     GoesOn fault met = (h : Held) → Good h.rows → fault h ≡ [] → Good (met h).0.rows
 
     short-good : (o : Option Rule) → IfSome o Fits → (rest : Text) (h : Held) (fault : Held → Kinds)
-        (met : Held → Held × Outcome) → GoesOn fault met → Good h.rows
-        → short_fault c false o rest h fault ≡ [] → Good (short_met c o rest h met).0.rows
-    short-good it rest h fault met goes_on good e =
-        grind (arith, common_steps, option-good, none_of, reacted-good, goes_on)
+        (met : Held → Held × Outcome) → GoesOn fault met → Good h.rows → short_fault c false o rest h fault ≡ []
+        → Good (short_met c o rest h met).0.rows
+    short-good it rest h fault met goes_on good e = grind
+        (arith, common_steps, option-good, none_of, reacted-good, goes_on)
 
     bundle-good : (k : ℕ) (flags : Text) (skip : ℕ) (so_far : Outcome) (h : Held) → Good h.rows
-        → flags_fault c false k flags skip h ≡ []
-        → Good (bundle_met c k flags skip so_far h).0.rows
+        → flags_fault c false k flags skip h ≡ [] → Good (bundle_met c k flags skip so_far h).0.rows
     unfolding bundle_met flags_fault
     bundle-good zero flags skip so_far h good e = good
-    bundle-good (suc k) flags skip so_far h good e =
-        search (rules, short-good, find-fits, bundle-good k)
+    bundle-good (suc k) flags skip so_far h good e = search (rules, short-good, find-fits, bundle-good k)
 
     -- a word that is no flag, or what stands after one
-    plain-rows : (waiting : Waiting) (word : Text) (h : Held) → (plain_word c waiting word h).0.rows
-        ≡ h.rows
+    plain-rows : (waiting : Waiting) (word : Text) (h : Held) → (plain_word c waiting word h).0.rows ≡ h.rows
     plain-rows waiting word h = search rules
 
     after-rows : (waiting : Waiting) (word : Text) (h : Held) (outcome : Outcome)
         → (after_flag c waiting word h outcome).0.rows ≡ h.rows
     after-rows waiting word h it = search (rules, plain-rows)
 
-    flag_word-good : (waiting : Waiting) (word : Text) (long : Option (Text × Option Text))
-        (h : Held) → Good h.rows → flag_word_fault c false long word h ≡ []
-        → Good (long_or_other c waiting word long h).0.rows
-    flag_word-good waiting word it h good e =
-        search (rules, after-rows, long-good, find-fits, plain-rows, bundle-good)
+    flag_word-good : (waiting : Waiting) (word : Text) (long : Option (Text × Option Text)) (h : Held) → Good h.rows
+        → flag_word_fault c false long word h ≡ [] → Good (long_or_other c waiting word long h).0.rows
+    flag_word-good waiting word it h good e = search (rules, after-rows, long-good, find-fits, plain-rows, bundle-good)
 
-    no_positional : (i : ℕ) (xs : List Rule) → AllByRecursion Fits xs
-        → find (λ a. option_map_or (λ k. k == i) a.index false) xs ≡ None
+    no_positional : (i : ℕ) (xs : List Rule) → AllByRecursion Fits xs → find (λ a. option_map_or (λ k. k == i) a.index
+        false) xs ≡ None
     no_positional i [] fits = refl
     no_positional i (x ∷ xs) fits = search (rules, no_positional i xs fits.1)
 
@@ -211,33 +189,28 @@ module _ (c : List Rule) where
     no_subcommand : (waiting : Waiting) (word : Text) → subcommand_met [] waiting word ≡ None
     no_subcommand it word = search rules
 
-    stepped-rows : (word : Text) (w : Walk) (h : Held) (step : Step)
-        → (after_step c word w h step).held.rows ≡ h.rows
+    stepped-rows : (word : Text) (w : Walk) (h : Held) (step : Step) → (after_step c word w h step).held.rows ≡ h.rows
     stepped-rows word w h it = search (rules, no_positional)
 
     other-good : (waiting : Waiting) (position : ℕ) (word : Text) (h : Held) → Good h.rows
-        → cond (bytes_eq word (45 ∷ 45 ∷ [])) [] (flag_word_fault c false (long_of word) word h)
-        ≡ []
+        → cond (bytes_eq word (45 ∷ 45 ∷ [])) [] (flag_word_fault c false (long_of word) word h) ≡ []
         → Good (subcommand_or_other c None waiting position word h).0.rows
     other-good waiting position word h good e = search (rules, flag_word-good)
 
-    met-good : (is_trailing : Bool) (waiting : Waiting) (position : ℕ) (word : Text) (h : Held)
-        → Good h.rows
-        → cond is_trailing [] (cond (bytes_eq word (45 ∷ 45 ∷ [])) []
-        (flag_word_fault c false (long_of word) word h)) ≡ []
-        → Good (word_met c [] is_trailing waiting position word h).0.rows
+    met-good : (is_trailing : Bool) (waiting : Waiting) (position : ℕ) (word : Text) (h : Held) → Good h.rows
+        → cond is_trailing [] (cond (bytes_eq word (45 ∷ 45 ∷ [])) [] (flag_word_fault c false (long_of word) word h))
+        ≡ [] → Good (word_met c [] is_trailing waiting position word h).0.rows
     met-good b waiting position word h good e = search (rules, no_subcommand, other-good)
 
     -- ---- defaults
 
     -- an option that wasn't used gets the row of its default, and others none
-    default_row-added : (a : Rule) (default : HasDefault a) (rows : List Row)
-        → has_row a.id rows ≡ false → default_rows a.id (reading_by a) a.defaults rows ≡ rows
-        ++ new_row a default.0 DefaultValue ∷ []
+    default_row-added : (a : Rule) (default : HasDefault a) (rows : List Row) → has_row a.id rows ≡ false
+        → default_rows a.id (reading_by a) a.defaults rows ≡ rows ++ new_row a default.0 DefaultValue ∷ []
     default_row-added a default rows is = search (rules, default.1, with_values-absent)
 
-    adds_none : (a : Rule) → a.defaults ≡ [] → (rows : List Row)
-        → default_rows a.id (reading_by a) a.defaults rows ≡ rows
+    adds_none : (a : Rule) → a.defaults ≡ [] → (rows : List Row) → default_rows a.id (reading_by a) a.defaults rows
+        ≡ rows
     adds_none a none rows = search rules
 
     default-good : (a : Rule) → Fits a → (rows : List Row) → Good rows → Good (with_default rows a)
@@ -255,8 +228,7 @@ module _ (c : List Rule) where
     defaults-good [] fits rows good = good
     defaults-good (x ∷ xs) fits rows good = search (rules, defaults-good xs, default-good)
 
-    has_row-append : (id : Text) (xs ys : List Row) → has_row id xs ≡ true → has_row id (xs ++ ys)
-        ≡ true
+    has_row-append : (id : Text) (xs ys : List Row) → has_row id xs ≡ true → has_row id (xs ++ ys) ≡ true
     has_row-append id [] ys e = cc
     has_row-append id (x ∷ xs) ys e = search (rules, has_row-append id xs ys)
 
@@ -266,32 +238,29 @@ module _ (c : List Rule) where
     has_row-last a text source (x ∷ xs) = search (rules, has_row-last a text source xs)
 
     -- an option that wasn't used gets its default
-    default-added : (a : Rule) → HasDefault a → (rows : List Row)
-        → has_row a.id (with_default rows a) ≡ true
-    default-added a default rows =
-        grind (arith, common_steps, default_row-added a default rows, has_row-last)
+    default-added : (a : Rule) → HasDefault a → (rows : List Row) → has_row a.id (with_default rows a) ≡ true
+    default-added a default rows = grind (arith, common_steps, default_row-added a default rows, has_row-last)
 
     default-keeps : (a : Rule) → (a.defaults ≡ []) ⊎ HasDefault a → (id : Text) (rows : List Row)
         → has_row id rows ≡ true → has_row id (with_default rows a) ≡ true
     default-keeps a (inl none) id rows e = search (rules, adds_none a none rows)
-    default-keeps a (inr default) id rows e =
-        grind (arith, common_steps, default_row-added a default rows, has_row-append)
+    default-keeps a (inr default) id rows e = grind
+        (arith, common_steps, default_row-added a default rows, has_row-append)
 
-    defaults-keep : (xs : List Rule) → AllByRecursion Fits xs → (id : Text) (rows : List Row)
-        → has_row id rows ≡ true → has_row id (fold with_default rows xs) ≡ true
+    defaults-keep : (xs : List Rule) → AllByRecursion Fits xs → (id : Text) (rows : List Row) → has_row id rows ≡ true
+        → has_row id (fold with_default rows xs) ≡ true
     defaults-keep [] fits id rows e = e
     defaults-keep (x ∷ xs) fits id rows e = search (rules, defaults-keep xs, default-keeps)
 
     defaults-add : (xs : List Rule) → AllByRecursion Fits xs → (a : Rule) → HasDefault a → Among a xs
         → (rows : List Row) → has_row a.id (fold with_default rows xs) ≡ true
     defaults-add [] fits a default among rows = absurd among
-    defaults-add (x ∷ xs) fits a default among rows =
-        search (rules, defaults-add xs, defaults-keep, default-added)
+    defaults-add (x ∷ xs) fits a default among rows = search (rules, defaults-add xs, defaults-keep, default-added)
 
     -- ---- the walk, and what the rows give
 
-    value-found : (a : Rule) → arg_by_id c a.id ≡ Some a → (rows : List Row) → Good rows
-        → has_row a.id rows ≡ true → HasValue a rows
+    value-found : (a : Rule) → arg_by_id c a.id ≡ Some a → (rows : List Row) → Good rows → has_row a.id rows ≡ true
+        → HasValue a rows
     value-found a own [] good e = cc
     value-found a own (r ∷ rs) good e = search (rules, bytes_eq-Decides, value-found a own rs good.1)
 
@@ -299,8 +268,7 @@ module _ (c : List Rule) where
     none-found id [] e = refl
     none-found id (r ∷ rs) e = search (rules, none-found id rs)
 
-    value-or_none : (a : Rule) → arg_by_id c a.id ≡ Some a → (rows : List Row) → Good rows
-        → MayHaveValue a rows
+    value-or_none : (a : Rule) → arg_by_id c a.id ≡ Some a → (rows : List Row) → Good rows → MayHaveValue a rows
     value-or_none a own rows good = search (rules, value-found, none-found)
 
     module _ (t : Shape) where

@@ -1,13 +1,11 @@
 -- Texts in printable ASCII: those that a test passes, and decimals.
 use Rattle.std.proofs.lemmas.Grind.{common_steps}
-use Rattle.std.proofs.Common.{rules, ◌≡◌, ℕ, ◌+◌, ◌^◌, ◌<◌, true, List, [], ◌∷◌, ◌++◌, arith, refl}
-use Rattle.std.proofs.Common.{flat_map}
+use Rattle.std.proofs.Common.{rules, ◌≡◌, ℕ, ◌+◌, ◌^◌, ◌<◌, true, List, [], ◌∷◌, ◌++◌, arith, refl, flat_map}
 use Rattle.std.specs.Fmt.{decimal}
 use Rattle.std.specs.List.{list_all}
 use Rattle.std.proofs.lemmas.Bool.{and_parts, cond-true}
 use Rattle.std.proofs.lemmas.Bool.Decides.{nat_tests}
-use Rattle.std.proofs.lemmas.List.Elements.{All-nil, All-cons, All-append, All-head, All-tail}
-use Rattle.std.proofs.lemmas.List.Elements.{All-weaker}
+use Rattle.std.proofs.lemmas.List.Elements.{All-nil, All-cons, All-append, All-head, All-tail, All-weaker}
 use Rattle.std.proofs.lemmas.Str.{chars-IsAscii}
 use Rattle.std.proofs.lemmas.Str.Ascii.{IsAscii-from_all}
 use Rattle.std.proofs.lemmas.Fmt.{decimal_by_steps}
@@ -23,14 +21,12 @@ digit : (n : ℕ) → n < 10 → ArePrintable ((48 + n) ∷ [])
 digit n small = All-cons IsPrintable (48 + n) [] (omega arith, omega arith) (All-nil IsPrintable)
 
 pub decimal-printable : (n : ℕ) → n < 2 ^ 64 → ArePrintable (decimal n)
-decimal-printable n fits = decimal_by_steps (λ m text. ArePrintable text) digit
-    (grind (arith, common_steps)) n fits
+decimal-printable n fits = decimal_by_steps (λ m text. ArePrintable text) digit (grind (arith, common_steps)) n fits
 
 pub both : (a b : List ℕ) → ArePrintable a → ArePrintable b → ArePrintable (a ++ b)
 both a b = All-append IsPrintable a b
 
-pub three : (a b c : List ℕ) → ArePrintable a → ArePrintable b → ArePrintable c
-    → ArePrintable (a ++ b ++ c)
+pub three : (a b c : List ℕ) → ArePrintable a → ArePrintable b → ArePrintable c → ArePrintable (a ++ b ++ c)
 three a b c first second third = both (a ++ b) c (both a b first second) third
 
 single : (text : List ℕ) → ArePrintable text → flat_map char_text text ≡ text

@@ -1,10 +1,8 @@
 -- What a system issues by births is its queue with births in the place of handles, if no request of
 -- it was refused and it names no handle.
 use Rattle.std.proofs.lemmas.Grind.{common_steps}
-use Rattle.std.proofs.Common.{rules, ◌≡◌, refl, sym, ap, subst, ℕ, ◌+◌, arith, ℤ, List, [], ◌∷◌}
-use Rattle.std.proofs.Common.{◌++◌, map, length, All, Some}
-use Rattle.spawnrun_lib.specs.Issuing.{bound, OnEach, Bindings, names_after, IsTargeted, IsSpawn}
-use Rattle.spawnrun_lib.specs.Issuing.{IsSpawnMany, IsOfBirth, IssuesAll}
+use Rattle.std.proofs.Common.{rules, ◌≡◌, refl, sym, ap, subst, ℕ, ◌+◌, arith, ℤ, List, [], ◌∷◌, ◌++◌, map, length, All, Some}
+use Rattle.spawnrun_lib.specs.Issuing.{bound, OnEach, Bindings, names_after, IsTargeted, IsSpawn, IsSpawnMany, IsOfBirth, IssuesAll}
 use Rattle.std.specs.List.{AllZip, range_with_len}
 use Rattle.std.proofs.lemmas.List.Elements.{All-nil, All-cons, All-head, All-tail}
 use Rattle.ent_handle.specs.declared.birth.Birth.{Birth}
@@ -23,45 +21,40 @@ use Rattle.ent_script.specs.declared.operation.Operation.{Operation}
 use Rattle.ent_script.specs.declared.operation.Operation.TheVariants as operation
 use Rattle.ent_script.specs.declared.target.Target.{Target}
 use Rattle.ent_script.specs.declared.target.Target.TheVariants as target
-use Rattle.spawnrun_lib.specs.IssuedAlone.{BirthBindings, births_from, with_binding, births_meant}
-use Rattle.spawnrun_lib.specs.IssuedAlone.{issued_alone, IsNoHandle, NeedsNoHandle, IsGranted}
+use Rattle.spawnrun_lib.specs.IssuedAlone.{BirthBindings, births_from, with_binding, births_meant, issued_alone, IsNoHandle, NeedsNoHandle, IsGranted}
 
 -- ---- what is issued, if nothing is refused
 
-spawn_is : (bundle : List (ComponentId × ℤ)) (issued : List Command) → IsSpawn bundle issued
-    → All IsGranted issued → (h : Handle) × (issued ≡ Spawn h bundle ∷ [])
+spawn_is : (bundle : List (ComponentId × ℤ)) (issued : List Command) → IsSpawn bundle issued → All IsGranted issued
+    → (h : Handle) × (issued ≡ Spawn h bundle ∷ [])
 spawn_is bundle it is granted = search (rules, All-head)
 
-many_is : (count : ℕ) (bundle : List (ComponentId × ℤ)) (issued : List Command)
-    → IsSpawnMany count bundle issued → All IsGranted issued
-    → (hs : List Handle) × ((issued ≡ SpawnMany hs bundle ∷ []) × (length hs ≡ count))
+many_is : (count : ℕ) (bundle : List (ComponentId × ℤ)) (issued : List Command) → IsSpawnMany count bundle issued
+    → All IsGranted issued → (hs : List Handle) × ((issued ≡ SpawnMany hs bundle ∷ []) × (length hs ≡ count))
 many_is count bundle it is granted = search (rules, All-head)
 
 -- commands of which none lists a handle
 none_listed : (command : Handle → Command) → ((h : Handle) → listed_by (command h) ≡ [])
-    → (hs : List Handle) (rest : List Command)
-    → handles_listed (map command hs ++ rest) ≡ handles_listed rest
+    → (hs : List Handle) (rest : List Command) → handles_listed (map command hs ++ rest) ≡ handles_listed rest
 none_listed command none [] rest = refl
 none_listed command none (h ∷ hs) rest = search (rules, none_listed command none hs rest)
 
 module _ (name : Handle → Birth) (m : EntityMap) where
   -- ---- commands and the same ones by births
 
-  named_append : (xs ys : List Command) (bs cs : List BirthCommand)
-      → AllZip (IsNamedBy name m) xs bs → AllZip (IsNamedBy name m) ys cs
-      → AllZip (IsNamedBy name m) (xs ++ ys) (bs ++ cs)
+  named_append : (xs ys : List Command) (bs cs : List BirthCommand) → AllZip (IsNamedBy name m) xs bs
+      → AllZip (IsNamedBy name m) ys cs → AllZip (IsNamedBy name m) (xs ++ ys) (bs ++ cs)
   named_append [] ys [] cs first rest = rest
   named_append (x ∷ xs) ys (b ∷ bs) cs first rest = (first.0, named_append xs ys bs cs first.1 rest)
   named_append _ ys _ cs first rest = absurd first
 
   -- one command for each of these handles, which are all there
   named_each : (command : Handle → Command) (by_birth : Birth → BirthCommand)
-      → ((h : Handle) → IsThere m h → IsNamedBy name m (command h) (by_birth (name h)))
-      → (hs : List Handle) → All (IsThere m) hs
-      → AllZip (IsNamedBy name m) (map command hs) (map by_birth (map name hs))
+      → ((h : Handle) → IsThere m h → IsNamedBy name m (command h) (by_birth (name h))) → (hs : List Handle)
+      → All (IsThere m) hs → AllZip (IsNamedBy name m) (map command hs) (map by_birth (map name hs))
   named_each command by_birth same [] there = tt
-  named_each command by_birth same (h ∷ hs) there =
-      search (rules, All-head, All-tail, same, named_each command by_birth same hs)
+  named_each command by_birth same (h ∷ hs) there = search
+      (rules, All-head, All-tail, same, named_each command by_birth same hs)
 
   -- ---- what names stand for
 
@@ -71,8 +64,8 @@ module _ (name : Handle → Birth) (m : EntityMap) where
     are : (n : ℕ) → births n ≡ map name (names n)
 
   -- also after a spawn
-  stand_bound : (names : Bindings) (births : BirthBindings) (n : ℕ) (hs : List Handle)
-      (bs : List Birth) → StandFor names births → All (IsThere m) hs → bs ≡ map name hs
+  stand_bound : (names : Bindings) (births : BirthBindings) (n : ℕ) (hs : List Handle) (bs : List Birth)
+      → StandFor names births → All (IsThere m) hs → bs ≡ map name hs
       → StandFor (bound n hs names) (with_binding (Some n) bs births)
   stand_bound names births n hs bs stand there are = record {
     there = λ x. grind (arith, common_steps, stand.there x);
@@ -96,72 +89,61 @@ module _ (name : Handle → Birth) (m : EntityMap) where
     order_first k [] ys order = tt
     order_first k (x ∷ xs) ys order = (order.0, order.1, order_first (k + 1) xs ys order.2)
 
-    order_rest : (k : ℕ) (xs ys : List Handle) → AreInOrder k (xs ++ ys)
-        → AreInOrder (k + length xs) ys
+    order_rest : (k : ℕ) (xs ys : List Handle) → AreInOrder k (xs ++ ys) → AreInOrder (k + length xs) ys
     order_rest k [] ys order = search rules
     order_rest k (x ∷ xs) ys order = search (rules, order_rest (k + 1) xs ys order.2)
 
     order_there : (k : ℕ) (hs : List Handle) → AreInOrder k hs → All (IsThere m) hs
     order_there k [] order = All-nil (IsThere m)
-    order_there k (h ∷ hs) order =
-        All-cons (IsThere m) h hs order.0 (order_there (k + 1) hs order.2)
+    order_there k (h ∷ hs) order = All-cons (IsThere m) h hs order.0 (order_there (k + 1) hs order.2)
 
     births_on : (k i : ℕ) (hs : List Handle) → AreInOrder (k + i) hs
         → map name hs ≡ map (λ j. birth_at (k + j)) (range_with_len i (length hs))
     births_on k i [] order = refl
-    births_on k i (h ∷ hs) order = search (
-      rules,
-      births_on k (i + 1) hs (subst (λ n. AreInOrder n hs) (omega arith) order.2),
-    )
+    births_on k i (h ∷ hs) order = search
+        (rules, births_on k (i + 1) hs (subst (λ n. AreInOrder n hs) (omega arith) order.2))
 
-    births_are : (k : ℕ) (hs : List Handle) → AreInOrder k hs
-        → births_from (birth_at k) (length hs) ≡ map name hs
+    births_are : (k : ℕ) (hs : List Handle) → AreInOrder k hs → births_from (birth_at k) (length hs) ≡ map name hs
     births_are k hs order = sym (births_on k 0 hs (subst (λ n. AreInOrder n hs) (omega arith) order))
 
     -- ---- one system
 
-    module _ (view : View) (births : BirthMap)
-        (each : (id : ComponentId) (hs : List Handle) → ListsWith id view.entities hs
-        → All (IsThere m) hs
-        × (births_meant births (λ n. []) (target.Each id) ≡ map name hs))
-        (of_birth : (birth : Birth) (hs : List Handle) → IsOfBirth view birth hs
-        → All (IsThere m) hs
-        × (births_meant births (λ n. []) (target.Birth birth) ≡ map name hs)) where
+    module _ (view : View) (births : BirthMap) (each : (id : ComponentId) (hs : List Handle)
+        → ListsWith id view.entities hs → All (IsThere m) hs × (births_meant births (λ n. []) (target.Each id) ≡ map
+        name hs)) (of_birth : (birth : Birth) (hs : List Handle) → IsOfBirth view birth hs
+        → All (IsThere m) hs × (births_meant births (λ n. []) (target.Birth birth) ≡ map name hs)) where
       -- the births that a target means are those of the handles that it means
-      meant : (names : Bindings) (bound : BirthBindings) → StandFor names bound → (on : Target)
-          → IsNoHandle on → (hs : List Handle) → IsTargeted view names on hs
-          → All (IsThere m) hs × (births_meant births bound on ≡ map name hs)
+      meant : (names : Bindings) (bound : BirthBindings) → StandFor names bound → (on : Target) → IsNoHandle on
+          → (hs : List Handle) → IsTargeted view names on hs → All (IsThere m) hs × (births_meant births bound on ≡ map
+          name hs)
       meant names bound stand (target.Name n) free hs are = search rules
       meant names bound stand (target.Handle h) free hs are = absurd free
       meant names bound stand (target.Each id) free hs are = each id hs are
       meant names bound stand (target.Birth birth) free hs are = of_birth birth hs are
 
       -- commands for a target, and the queue after them
-      change_named : (k : ℕ) (names : Bindings) (bound : BirthBindings) → StandFor names bound
-          → (on : Target) → IsNoHandle on → (command : Handle → Command)
-          (by_birth : Birth → BirthCommand) → ((h : Handle) → listed_by (command h) ≡ [])
-          → ((h : Handle) → IsThere m h → IsNamedBy name m (command h) (by_birth (name h)))
-          → (queue first rest : List Command) → queue ≡ first ++ rest
-          → OnEach view names on command first → AreInOrder k (handles_listed queue)
-          → All IsGranted queue → (later : List BirthCommand)
-          → (AreInOrder k (handles_listed rest) → All IsGranted rest
-          → AllZip (IsNamedBy name m) rest later)
-          → AllZip (IsNamedBy name m) queue (map by_birth (births_meant births bound on) ++ later)
-      change_named k names bound stand on free command by_birth none same queue first rest is
-          (hs, are, first_is) order granted later after =
+      change_named : (k : ℕ) (names : Bindings) (bound : BirthBindings) → StandFor names bound → (on : Target)
+          → IsNoHandle on → (command : Handle → Command) (by_birth : Birth → BirthCommand)
+          → ((h : Handle) → listed_by (command h) ≡ []) → ((h : Handle) → IsThere m h
+          → IsNamedBy name m (command h) (by_birth (name h))) → (queue first rest : List Command)
+          → queue ≡ first ++ rest → OnEach view names on command first → AreInOrder k (handles_listed queue)
+          → All IsGranted queue → (later : List BirthCommand) → (AreInOrder k (handles_listed rest) → All IsGranted rest
+          → AllZip (IsNamedBy name m) rest later) → AllZip (IsNamedBy name m) queue
+          (map by_birth (births_meant births bound on) ++ later)
+      change_named k names bound stand on free command by_birth none same queue first rest is (hs, are, first_is) order
+          granted later after =
           let means = meant names bound stand on free hs are in
           let listed = none_listed command none hs rest in
           rw (is, first_is, means.1) (named_append _ _ _ _ (named_each command by_birth same hs means.0)
           (after (rw listed at (rw (is, first_is) at order)) (All-right IsGranted first rest (rw is at granted))))
 
-      issued-named : (ops : List Operation) (k : ℕ) (names : Bindings) (bound : BirthBindings)
-          (queue : List Command) → StandFor names bound → AreInOrder k (handles_listed queue)
-          → All IsGranted queue → All NeedsNoHandle ops → IssuesAll view names ops queue
-          → AllZip (IsNamedBy name m) queue
+      issued-named : (ops : List Operation) (k : ℕ) (names : Bindings) (bound : BirthBindings) (queue : List Command)
+          → StandFor names bound → AreInOrder k (handles_listed queue) → All IsGranted queue → All NeedsNoHandle ops
+          → IssuesAll view names ops queue → AllZip (IsNamedBy name m) queue
           (issued_alone births bound (record { frame = phase; system = system; ordinal = k }) ops)
       issued-named [] k names bound queue stand order granted free is = rw is tt
-      issued-named (operation.Spawn bundle binds ∷ ops) k names bound queue stand order granted
-          free (first, rest, is, may, others) =
+      issued-named (operation.Spawn bundle binds ∷ ops) k names bound queue stand order granted free
+          (first, rest, is, may, others) =
           let op : Operation = operation.Spawn bundle binds in
           let all = rw is at granted in
           let one = spawn_is bundle first may (All-left IsGranted first rest all) in
@@ -169,12 +151,11 @@ module _ (name : Handle → Birth) (m : EntityMap) where
           let bs = births_are k (one.0 ∷ []) (here.0, here.1, tt) in
           let there = order_there k (one.0 ∷ []) (here.0, here.1, tt) in
           let after = issued-named ops (k + 1) (names_after names op (Spawn one.0 bundle ∷ []))
-          (with_binding binds (births_from (birth_at k) 1) bound) rest (search (rules, stand_bound))
-          here.2 (All-right IsGranted first rest all) (All-tail NeedsNoHandle op ops free)
-          (rw one.1 at others) in
+          (with_binding binds (births_from (birth_at k) 1) bound) rest (search (rules, stand_bound)) here.2
+          (All-right IsGranted first rest all) (All-tail NeedsNoHandle op ops free) (rw one.1 at others) in
           rw (is, one.1) ((here.0, ap (λ b. alone.Spawn b bundle) bs), after)
-      issued-named (operation.SpawnMany count bundle binds ∷ ops) k names bound queue stand order
-          granted free (first, rest, is, may, others) =
+      issued-named (operation.SpawnMany count bundle binds ∷ ops) k names bound queue stand order granted free
+          (first, rest, is, may, others) =
           let op : Operation = operation.SpawnMany count bundle binds in
           let all = rw is at granted in
           let one = many_is count bundle first may (All-left IsGranted first rest all) in
@@ -184,33 +165,27 @@ module _ (name : Handle → Birth) (m : EntityMap) where
           let bs = rw one.1.1 at (births_are k hs (order_first k hs (handles_listed rest) here)) in
           let after = issued-named ops (k + count) (names_after names op (SpawnMany hs bundle ∷ []))
           (with_binding binds (births_from (birth_at k) count) bound) rest (search (rules, stand_bound))
-          (rw one.1.1 at (order_rest k hs (handles_listed rest) here))
-          (All-right IsGranted first rest all) (All-tail NeedsNoHandle op ops free)
-          (rw one.1.0 at others) in
+          (rw one.1.1 at (order_rest k hs (handles_listed rest) here)) (All-right IsGranted first rest all)
+          (All-tail NeedsNoHandle op ops free) (rw one.1.0 at others) in
           rw (is, one.1.0) ((there, ap (λ b. alone.Spawn b bundle) bs), after)
-      issued-named (operation.Insert bundle on ∷ ops) k names bound queue stand order granted
-          free (first, rest, is, may, others) =
-          change_named k names bound stand on (All-head NeedsNoHandle _ ops free)
-          (λ h. Insert h bundle) (λ b. alone.Insert b bundle) (λ h. refl) (λ h there. (there, refl))
-          queue first rest is may order granted _ (λ o g. issued-named ops k names bound rest stand o g
-          (All-tail NeedsNoHandle _ ops free) others)
-      issued-named (operation.Remove id on ∷ ops) k names bound queue stand order granted
-          free (first, rest, is, may, others) =
-          change_named k names bound stand on (All-head NeedsNoHandle _ ops free)
-          (λ h. Remove h id) (λ b. alone.Remove b id) (λ h. refl) (λ h there. (there, refl))
-          queue first rest is may order granted _ (λ o g. issued-named ops k names bound rest stand o g
-          (All-tail NeedsNoHandle _ ops free) others)
-      issued-named (operation.Despawn on ∷ ops) k names bound queue stand order granted
-          free (first, rest, is, may, others) =
-          change_named k names bound stand on (All-head NeedsNoHandle _ ops free)
-          Despawn alone.Despawn (λ h. refl) (λ h there. (there, refl))
-          queue first rest is may order granted _ (λ o g. issued-named ops k names bound rest stand o g
-          (All-tail NeedsNoHandle _ ops free) others)
+      issued-named (operation.Insert bundle on ∷ ops) k names bound queue stand order granted free
+          (first, rest, is, may, others) = change_named k names bound stand on (All-head NeedsNoHandle _ ops free)
+          (λ h. Insert h bundle) (λ b. alone.Insert b bundle) (λ h. refl) (λ h there. (there, refl)) queue first rest is
+          may order granted _ (λ o g. issued-named ops k names bound rest stand o g (All-tail NeedsNoHandle _ ops free)
+          others)
+      issued-named (operation.Remove id on ∷ ops) k names bound queue stand order granted free
+          (first, rest, is, may, others) = change_named k names bound stand on (All-head NeedsNoHandle _ ops free)
+          (λ h. Remove h id) (λ b. alone.Remove b id) (λ h. refl) (λ h there. (there, refl)) queue first rest is may
+          order granted _ (λ o g. issued-named ops k names bound rest stand o g (All-tail NeedsNoHandle _ ops free)
+          others)
+      issued-named (operation.Despawn on ∷ ops) k names bound queue stand order granted free
+          (first, rest, is, may, others) = change_named k names bound stand on (All-head NeedsNoHandle _ ops free)
+          Despawn alone.Despawn (λ h. refl) (λ h there. (there, refl)) queue first rest is may order granted _
+          (λ o g. issued-named ops k names bound rest stand o g (All-tail NeedsNoHandle _ ops free) others)
 
       -- With no names bound at first, the queue by names is what the operations issue by births.
-      pub queue-alone : (ops : List Operation) (queue : List Command)
-          → AreInOrder 0 (handles_listed queue) → All IsGranted queue → All NeedsNoHandle ops
-          → IssuesAll view (λ n. []) ops queue
+      pub queue-alone : (ops : List Operation) (queue : List Command) → AreInOrder 0 (handles_listed queue)
+          → All IsGranted queue → All NeedsNoHandle ops → IssuesAll view (λ n. []) ops queue
           → AllZip (IsNamedBy name m) queue (issued_alone births (λ n. [])
           (record { frame = phase; system = system; ordinal = 0 }) ops)
       queue-alone ops queue order granted free may = search (rules, issued-named, All-nil)

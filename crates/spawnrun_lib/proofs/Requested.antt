@@ -2,9 +2,7 @@
 -- it counts neither the workers nor the order of the calls.
 use Rattle.std.proofs.lemmas.List.Sums.{sum_by-cons, sum_by-append, sum_by-le-sum_by}
 use Rattle.std.proofs.lemmas.Option.{get_or_from_slice_get}
-use Rattle.std.proofs.Common.{rules, ◌≡◌, ℕ, zero, suc, ◌+◌, ◌<◌, ◌≤◌, List, [], ◌∷◌, length, map}
-use Rattle.std.proofs.Common.{refl, sym, ap, arith, Some, Bool, true, false, cond, inl, inr, eq-eqb}
-use Rattle.std.proofs.Common.{Result}
+use Rattle.std.proofs.Common.{rules, ◌≡◌, ℕ, zero, suc, ◌+◌, ◌<◌, ◌≤◌, List, [], ◌∷◌, length, map, refl, sym, ap, arith, Some, Bool, true, false, cond, inl, inr, eq-eqb, Result}
 use Rattle.std.proofs.lemmas.Grind.{common_steps}
 use Rattle.std.specs.Prelude.{◌==◌, filter, slice_get}
 use Rattle.std.specs.List.{All, sum_by, flat_map, range_with_len}
@@ -26,26 +24,24 @@ use Rattle.spawnrun_lib.specs.SameReport.{requested_by_operation}
 
 -- ---- sums
 
-sum_flat : {X Y : Type 0} (g : Y → ℕ) (f : X → List Y) (xs : List X)
-    → sum_by g (flat_map f xs) ≡ sum_by (λ x. sum_by g (f x)) xs
+sum_flat : {X Y : Type 0} (g : Y → ℕ) (f : X → List Y) (xs : List X) → sum_by g (flat_map f xs) ≡ sum_by (λ x. sum_by g
+    (f x)) xs
 sum_flat g f [] = refl
 sum_flat g f (x ∷ xs) = grind (arith, common_steps, sum_flat g f xs)
 
-sum_of_two : {X : Type 0} (f g : X → ℕ) (xs : List X)
-    → sum_by (λ x. f x + g x) xs ≡ sum_by f xs + sum_by g xs
+sum_of_two : {X : Type 0} (f g : X → ℕ) (xs : List X) → sum_by (λ x. f x + g x) xs ≡ sum_by f xs + sum_by g xs
 sum_of_two f g [] = omega arith
 sum_of_two f g (x ∷ xs) = grind (arith, common_steps, sum_of_two f g xs)
 
 -- one element adds no more than all together
-one_of_sum : {X : Type 0} (f : X → ℕ) (xs : List X) (k : ℕ) (x : X) → slice_get xs k ≡ Some x
-    → f x ≤ sum_by f xs
+one_of_sum : {X : Type 0} (f : X → ℕ) (xs : List X) (k : ℕ) (x : X) → slice_get xs k ≡ Some x → f x ≤ sum_by f xs
 one_of_sum f [] k x at = absurd (cc)
 one_of_sum f (y ∷ xs) it x at = grind (arith, common_steps, one_of_sum f xs)
 
 -- the elements of a list by their numbers
 sum_by_number : {X : Type 0} (f : ℕ → ℕ) (g : X → ℕ) (a : ℕ) (xs : List X)
-    → ((k : ℕ) (x : X) → slice_get xs k ≡ Some x → f (a + k) ≤ g x)
-    → sum_by f (range_with_len a (length xs)) ≤ sum_by g xs
+    → ((k : ℕ) (x : X) → slice_get xs k ≡ Some x → f (a + k) ≤ g x) → sum_by f (range_with_len a (length xs)) ≤ sum_by g
+    xs
 sum_by_number f g a [] each = omega arith
 sum_by_number f g a (x ∷ xs) each =
     let here = each 0 x refl in
@@ -66,20 +62,17 @@ abbrev requested_of : List Call → ℕ → ℕ
 requested_of history caller = requested_in (filter (λ (call : Call). call.caller == caller) history)
 
 -- who has made a call is one of the callers
-one_caller : (c n a many : ℕ) → a ≤ c → c < a + many
-    → n ≤ sum_by (λ k. cond (c == k) n 0) (range_with_len a many)
+one_caller : (c n a many : ℕ) → a ≤ c → c < a + many → n ≤ sum_by (λ k. cond (c == k) n 0) (range_with_len a many)
 one_caller c n a zero from below = absurd (omega arith)
 one_caller c n a (suc many) from below =
     let sums = sum_by-cons (λ k. cond (c == k) n 0) a (range_with_len (a + 1) many) in
     elim (cases_eq c a) [
       | inl e ↦ search (rules, eq-eqb)
-      | inr ne ↦
-          let rest = one_caller c n (a + 1) many (omega arith) (omega arith) in
-          omega arith
+      | inr ne ↦ let rest = one_caller c n (a + 1) many
+          (omega arith) (omega arith) in omega arith
     ]
 
-by_callers : (callers : ℕ) (history : List Call)
-    → All (λ (call : Call). call.caller < callers) history
+by_callers : (callers : ℕ) (history : List Call) → All (λ (call : Call). call.caller < callers) history
     → requested_in history ≤ sum_by (requested_of history) (range_with_len 0 callers)
 by_callers callers [] all = omega arith
 by_callers callers (call ∷ history) all =
@@ -119,8 +112,8 @@ cost-wanted it = search rules
 
 -- ---- what operations want
 
-none_wanted : (command : Handle → Command) → ((h : Handle) → wanted_by (command h) ≡ 0)
-    → (hs : List Handle) → wanted_in (map command hs) ≡ 0
+none_wanted : (command : Handle → Command) → ((h : Handle) → wanted_by (command h) ≡ 0) → (hs : List Handle)
+    → wanted_in (map command hs) ≡ 0
 none_wanted command none [] = refl
 none_wanted command none (h ∷ hs) = search (rules, sum_by-cons, none_wanted command none hs)
 
@@ -139,10 +132,8 @@ operations-wanted view names (op ∷ ops) queue (first, rest, is, may, others) =
 
 -- The queues of the systems want what their operations request.
 pub queues-wanted : (view : View) (systems : List (List Operation)) (queues : List (List Command))
-    → length queues ≡ length systems
-    → ((n : ℕ) (ops : List Operation) → slice_get systems n ≡ Some ops
-    → MayIssue ops view (queue_at queues n))
-    → sum_by wanted_in queues ≡ sum_by (sum_by requested_by_operation) systems
+    → length queues ≡ length systems → ((n : ℕ) (ops : List Operation) → slice_get systems n ≡ Some ops
+    → MayIssue ops view (queue_at queues n)) → sum_by wanted_in queues ≡ sum_by (sum_by requested_by_operation) systems
 queues-wanted view [] [] same may = refl
 queues-wanted view (ops ∷ systems) (q ∷ queues) same may =
     let here = operations-wanted view (λ n. []) ops q (may 0 ops refl) in
@@ -152,9 +143,9 @@ queues-wanted view _ _ same may = absurd (omega arith)
 
 -- ---- a frame
 
-module _ {S : Type 0} (may : S → View → List Command → Type 0) (systems : List S) (workers : ℕ)
-    (before : World) (queues : List (List Command)) (history : List Call)
-    (frame : IsFrame may systems workers before queues history) where
+module _ {S : Type 0} (may : S → View → List Command → Type 0) (systems : List S) (workers : ℕ) (before : World)
+    (queues : List (List Command)) (history : List Call) (frame : IsFrame may systems workers before queues
+    history) where
   abbrev wanted_at : ℕ → ℕ
   wanted_at n = wanted_in (queue_at queues n)
 
@@ -166,9 +157,8 @@ module _ {S : Type 0} (may : S → View → List Command → Type 0) (systems : 
   of_workers =
       let flat = sum_flat wanted_at (λ mine. mine) frame.ran in
       let moved = sum_by-IsPermutation wanted_at _ _ frame.once in
-      let by_queue = sum_by_number wanted_at wanted_in 0 queues (λ k q at.
-      let same : 0 + k ≡ k = omega arith in
-      let wants = ap wanted_in (get_or_from_slice_get queues k q [] at) in rw same (omega arith)) in
+      let by_queue = sum_by_number wanted_at wanted_in 0 queues (λ k q at. let same : 0 + k ≡ k = omega arith in let
+      wants = ap wanted_in (get_or_from_slice_get queues k q [] at) in rw same (omega arith)) in
       let count = ap (λ n. sum_by wanted_at (range_with_len 0 n)) frame.count in
       omega arith
 

@@ -1,6 +1,5 @@
 -- A birth that is looked up in the list of all entities.
-use Rattle.std.proofs.Common.{rules, ◌≡◌, ◌≢◌, ◌⊎◌, inl, inr, ℕ, ◌<◌, ◌≤◌, true, false, List}
-use Rattle.std.proofs.Common.{length, get_or, Option, Some, sym, ap, ◌∙◌, arith, Contains}
+use Rattle.std.proofs.Common.{rules, ◌≡◌, ◌≢◌, ◌⊎◌, inl, inr, ℕ, ◌<◌, ◌≤◌, true, false, List, length, get_or, Option, Some, sym, ap, ◌∙◌, arith, Contains}
 use Rattle.std.specs.declared.cmp.Ordering.{Ordering}
 use Rattle.std.specs.declared.cmp.Ordering.TheVariants.{Less, Equal, Greater}
 use Rattle.std.specs.Ordering.{eq_by_cmp, is_lt, ordering_then}
@@ -29,12 +28,12 @@ same_key : (o : Option Birth) (birth : Birth) → key_cmp o (Some birth) ≡ Equ
 same_key it birth e = search (rules, birth_cmp-IsAntisymmetric)
 
 -- two births that are tested
-pub same_if_equal : (o : Option Birth) (birth : Birth)
-    → option_eq (eq_by_cmp birth_cmp) o (Some birth) ≡ true → o ≡ Some birth
+pub same_if_equal : (o : Option Birth) (birth : Birth) → option_eq (eq_by_cmp birth_cmp) o (Some birth) ≡ true
+    → o ≡ Some birth
 same_if_equal it birth e = search (rules, false≢true, same_birth)
 
-pub other_if_not : (o : Option Birth) (birth : Birth)
-    → option_eq (eq_by_cmp birth_cmp) o (Some birth) ≡ false → o ≢ Some birth
+pub other_if_not : (o : Option Birth) (birth : Birth) → option_eq (eq_by_cmp birth_cmp) o (Some birth) ≡ false
+    → o ≢ Some birth
 other_if_not it birth e is = search rules
 
 -- ---- what tests tell
@@ -50,36 +49,35 @@ module _ (view : View) (birth : Birth) where
   abbrev m : EntityMap
   m = view.entities
 
-  in_order : (a b : Handle) → birth_order m a b ≡ Less
-      → (key_cmp (birth_of m a) (birth_of m b) ≡ Less)
+  in_order : (a b : Handle) → birth_order m a b ≡ Less → (key_cmp (birth_of m a) (birth_of m b) ≡ Less)
       ⊎ ((key_cmp (birth_of m a) (birth_of m b) ≡ Equal) × (handle_cmp a b ≡ Less))
   in_order a b e = either_less _ _ e
 
   -- who stands before an earlier birth has an earlier birth
-  before_too : (a b : Handle) → birth_order m a b ≡ Less → is_before view birth b ≡ true
-      → is_before view birth a ≡ true
+  before_too : (a b : Handle) → birth_order m a b ≡ Less → is_before view birth b ≡ true → is_before view birth a ≡ true
   before_too a b e is = elim (in_order a b e) [
-    | inl first ↦ ap is_lt (key_total.trans (birth_of m a) _ (Some birth) first (less_if _ is))
-    | inr tie ↦ ap is_lt (key_total.congr (birth_of m a) _ (Some birth) tie.0 ∙ less_if _ is)
+    | inl first ↦ ap is_lt
+        (key_total.trans (birth_of m a) _ (Some birth) first (less_if _ is))
+    | inr tie ↦ ap is_lt
+        (key_total.congr (birth_of m a) _ (Some birth) tie.0 ∙ less_if _ is)
   ]
 
-  pub parted : (handles : List Handle) → ListsAll m handles
-      → IsPartitionedBy (is_before view birth) handles
+  pub parted : (handles : List Handle) → ListsAll m handles → IsPartitionedBy (is_before view birth) handles
   parted handles lists i j d le lt is = elim (cases_lt i j) [
-    | inl less ↦ before_too _ _ (lists.rising i j d less lt) is
+    | inl less ↦ before_too _ _ (lists.rising i j d less lt)
+        is
     | inr not ↦ search rules
   ]
 
   -- who has a birth is listed
-  listed : (handles : List Handle) → ListsAll m handles → (h : Handle)
-      → birth_of m h ≡ Some birth → Contains handles h
+  listed : (handles : List Handle) → ListsAll m handles → (h : Handle) → birth_of m h ≡ Some birth → Contains handles h
   listed handles lists h is = (lists.holds h).1 (search rules)
 
   module _ (handles : List Handle) (lists : ListsAll m handles) (index : ℕ)
       (first : IsFirstFrom view birth handles index) where
     -- who has the birth stands at the index or after it
-    at_or_after : (h : Handle) (k : ℕ) → k < length handles → get_or handles k h ≡ h
-        → birth_of m h ≡ Some birth → index ≤ k
+    at_or_after : (h : Handle) (k : ℕ) → k < length handles → get_or handles k h ≡ h → birth_of m h ≡ Some birth
+        → index ≤ k
     at_or_after h k lt here is = search (rules, cases_lt, false≢true, birth_cmp_total)
 
     module _ (h : Handle) (within : index < length handles) (here : get_or handles index h ≡ h)
@@ -92,21 +90,18 @@ module _ (view : View) (birth : Birth) where
             let same = get_or_default handles index g h within in
             elim (cases_lt index at.0) [
               | inl less ↦ inr (search (rules, lists.rising index at.0 g less at.1))
-              | inr not ↦ let k : at.0 ≡ index = omega (arith, le, not) in inl (cc at.2)
+              | inr
+                  not ↦ let k : at.0 ≡ index = omega (arith, le, not) in inl (cc at.2)
             ]
 
-        pub least_here : birth_of m h ≡ Some birth → (g : Handle) → birth_of m g ≡ Some birth
-            → handle_cmp h g ≢ Greater
+        pub least_here : birth_of m h ≡ Some birth → (g : Handle) → birth_of m g ≡ Some birth → handle_cmp h g ≢ Greater
         least_here own g is greater =
             let itself = tied_itself handle_cmp_total h in
-            let key : key_cmp (Some birth) (Some birth) ≡ Equal = tied_itself birth_cmp_total birth
-            in
+            let key : key_cmp (Some birth) (Some birth) ≡ Equal = tied_itself birth_cmp_total birth in
             elim (after g is) [
               | inl same ↦ absurd cc
-              | inr less ↦ elim (in_order h g less) [
-                | inl first ↦ absurd cc
-                | inr tie ↦ absurd (cc tie.1)
-              ]
+              | inr less ↦ elim (in_order h g less)
+                  [ inl first ↦ absurd cc | inr tie ↦ absurd (cc tie.1) ]
             ]
 
         pub none_here : birth_of m h ≢ Some birth → (g : Handle) → birth_of m g ≢ Some birth
@@ -116,6 +111,7 @@ module _ (view : View) (birth : Birth) where
               | inl same ↦ other cc
               | inr less ↦ elim (rw is at (in_order h g less)) [
                 | inl earlier ↦ absurd (false≢true (sym not ∙ ap is_lt earlier))
-                | inr tie ↦ other (same_key (birth_of m h) birth tie.0)
+                | inr tie ↦ other
+                    (same_key (birth_of m h) birth tie.0)
               ]
             ]

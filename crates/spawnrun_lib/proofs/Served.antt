@@ -38,12 +38,9 @@ legal_parts s [] more legal = (tt, legal)
 legal_parts s (call ∷ calls) more legal = search (rules, legal_parts (after_take s call.requested) calls more)
 
 -- what is served is served up to any command, and the others are served after it
-pub served_first : (s : Allocator) (left : ℕ) (cs ds : List Command) → IsServed s left (cs ++ ds)
-    → IsServed s left cs
-served_first s left cs ds served = search
-    (rules, legal_parts, flat_map-append, map-append, within_parts)
+pub served_first : (s : Allocator) (left : ℕ) (cs ds : List Command) → IsServed s left (cs ++ ds) → IsServed s left cs
+served_first s left cs ds served = search (rules, legal_parts, flat_map-append, map-append, within_parts)
 
 pub served_rest : (s : Allocator) (left : ℕ) (cs ds : List Command) → IsServed s left (cs ++ ds)
     → IsServed (state_after s cs) (left_after left cs) ds
-served_rest s left cs ds served = search
-    (rules, legal_parts, flat_map-append, map-append, within_parts)
+served_rest s left cs ds served = search (rules, legal_parts, flat_map-append, map-append, within_parts)

@@ -1,11 +1,8 @@
 -- From the program's words to its task: the subcommand that clap finds, and the faults.
-use Rattle.std.proofs.Common.{rules, ◌≡◌, ◌∙◌, true, false, List, [], IfSome, refl, sym}
-use Rattle.std.proofs.Common.{ap, subst, codes, Option, Some, None}
+use Rattle.std.proofs.Common.{rules, ◌≡◌, ◌∙◌, true, false, List, [], IfSome, refl, sym, ap, subst, codes, Option, Some, None}
 use Rattle.std.specs.Prelude.{option_map}
 use Rattle.std.specs.List.{slice_index_or}
-use Rattle.clap.specs.Words.{HasMatchesOf, is_simple, Row, Shape, Text, built, fault_of}
-use Rattle.clap.specs.Words.{is_simple_and_free, subcommand_of, rows_of, subcommand_rows_of, App}
-use Rattle.clap.specs.Words.{found_of, takes}
+use Rattle.clap.specs.Words.{HasMatchesOf, is_simple, Row, Shape, Text, built, fault_of, is_simple_and_free, subcommand_of, rows_of, subcommand_rows_of, App, found_of, takes}
 use Rattle.clap.specs.Matches.{subcommand_name_of}
 use Rattle.clap.specs.declared.parser.ArgMatches.{ArgMatches}
 use Rattle.clap.specs.Simple.{new_shape, entered, names_of}
@@ -15,8 +12,7 @@ use Rattle.clap.proofs.OnLiterals.{clap_on_literals}
 use Rattle.std.specs.Borrow.{Bor}
 use Rattle.clap.specs.Takes.{built_takes, entered_passes}
 use Rattle.cli.specs.Options.{HasNumber}
-use Rattle.spawnrun_lib.specs.CommandLine.{AsksFor, HasRun, HasShow, MayHaveBlocks, program, program_of}
-use Rattle.spawnrun_lib.specs.CommandLine.{references_to, shown}
+use Rattle.spawnrun_lib.specs.CommandLine.{AsksFor, HasRun, HasShow, MayHaveBlocks, program, program_of, references_to, shown}
 use Rattle.spawnrun_lib.specs.declared.task.Task.{Task}
 use Rattle.spawnrun_lib.proofs.MovedFaults.{level_fault-moved}
 use Rattle.spawnrun_lib.proofs.MovedNames.{rows_after-moved}
@@ -24,8 +20,7 @@ use Rattle.spawnrun_lib.proofs.MovedTakes.{level_passes-moved}
 use Rattle.spawnrun_lib.proofs.CommandLineOptions.{replay_shape, IsAsked, IsAsked-no_fault}
 
 -- the name of the subcommand that a parse met
-pub subcommand_name-rows : (m : ArgMatches) → subcommand_name_of m
-    ≡ option_map (λ p. p.0) (subcommand_rows_of m)
+pub subcommand_name-rows : (m : ArgMatches) → subcommand_name_of m ≡ option_map (λ p. p.0) (subcommand_rows_of m)
 subcommand_name-rows m = search rules
 
 -- ---- where the names stand in memory
@@ -37,8 +32,7 @@ abbrev run_shape_of : TextRefs → Shape
 run_shape_of names = slice_index_or (built (program_of names)).subs 1 (new_shape [])
 
 entered-moved : (names : TextRefs) (stop : Option (Text × List Text))
-    → entered (built (program_of (references_to (texts names.now)))) stop
-    ≡ entered (built (program_of names)) stop
+    → entered (built (program_of (references_to (texts names.now)))) stop ≡ entered (built (program_of names)) stop
 entered-moved names it = search (rules, rows_after-moved (run_shape_of names).rules [], replay_shape)
 
 entered_fault-moved : (names : TextRefs) (stop : Option (Text × List Text))
@@ -48,17 +42,16 @@ entered_fault-moved names None = refl
 entered_fault-moved names (Some p) = search
     (rules, level_fault-moved (run_shape_of names) [] nothing_held p.1 false [], replay_shape)
 
-fault_of-moved : (names : TextRefs) (words : List Text)
-    → fault_of (program_of (references_to (texts names.now))) words ≡ fault_of (program_of names)
-    words
+fault_of-moved : (names : TextRefs) (words : List Text) → fault_of (program_of (references_to (texts names.now))) words
+    ≡ fault_of (program_of names) words
 fault_of-moved names words = search (rules, entered-moved, entered_fault-moved)
 
 entered_passes-moved : (names : TextRefs) (stop : Option (Text × List Text))
     → entered_passes (built (program_of (references_to (texts names.now)))) stop
     ≡ entered_passes (built (program_of names)) stop
 entered_passes-moved names None = refl
-entered_passes-moved names (Some p) =
-    search (rules, level_passes-moved (run_shape_of names) [] nothing_held p.1 false, replay_shape)
+entered_passes-moved names (Some p) = search
+    (rules, level_passes-moved (run_shape_of names) [] nothing_held p.1 false, replay_shape)
 
 built_takes-moved : (names : TextRefs) (words : List Text)
     → built_takes (built (program_of (references_to (texts names.now)))) nothing_held words
@@ -81,27 +74,25 @@ program_of-free : (names : TextRefs) → is_simple_and_free (program_of names) �
 unfolding clap_on_literals
 program_of-free names = refl
 
-program_of-takes : (names : TextRefs) (words : List Text) → takes (program_of names) words
-    ≡ built_takes (built (program_of names)) nothing_held words
+program_of-takes : (names : TextRefs) (words : List Text) → takes (program_of names) words ≡ built_takes (built
+    (program_of names)) nothing_held words
 program_of-takes names words = search rules
 
 program_of-IsProgram : (names : TextRefs) → texts names.now ≡ shown → IsProgram (program_of names)
 program_of-IsProgram names same = record {
   simple = program_of-simple names;
   free = program_of-free names;
-  fault = λ words. sym (fault_of-moved names words)
-      ∙ ap (λ known. fault_of (program_of (references_to known)) words) same;
-  subcommand = λ words.
-      sym (entered-moved names (stop_after (built (program_of names)).top.rules
-      (names_of (built (program_of names))) words))
-      ∙ ap (λ known. subcommand_of (program_of (references_to known)) words) same;
+  fault = λ words. sym (fault_of-moved names words) ∙ ap (λ known. fault_of (program_of (references_to known)) words)
+      same;
+  subcommand = λ words. sym (entered-moved names (stop_after (built (program_of names)).top.rules
+      (names_of (built (program_of names))) words)) ∙ ap (λ known. subcommand_of (program_of (references_to known))
+      words) same;
   taken = λ words yes. program_of-takes names words ∙ (sym (built_takes-moved names words)
       ∙ (sym (program_of-takes (references_to (texts names.now)) words)
       ∙ (ap (λ known. takes (program_of (references_to known)) words) same ∙ yes)));
 }
 
-pub IsProgram-names : (app : App) (names : TextRefs) → app ≡ program_of names → texts names.now
-    ≡ shown → IsProgram app
+pub IsProgram-names : (app : App) (names : TextRefs) → app ≡ program_of names → texts names.now ≡ shown → IsProgram app
 IsProgram-names app names is same = subst IsProgram (sym is) (program_of-IsProgram names same)
 
 -- what a parse by the program's command met
@@ -112,8 +103,7 @@ pub record MeetsTask (words : List Text) (m : ArgMatches) : Type 0 where
   pub name : subcommand_name_of m ≡ option_map (λ p. p.0) (subcommand_of program words)
 
 pub MeetsTask-parse : (app : App) (words : List Text) (m : ArgMatches) → IsProgram app
-    → (is_simple_and_free app ≡ true → fault_of app words ≡ []) → HasMatchesOf app words m
-    → MeetsTask words m
+    → (is_simple_and_free app ≡ true → fault_of app words ≡ []) → HasMatchesOf app words m → MeetsTask words m
 MeetsTask-parse app words m is faults matches =
     let no_fault : fault_of program words ≡ [] = sym (is.fault words) ∙ faults is.free in
     let met = (matches is.simple).1 ∙ is.subcommand words in record {
@@ -125,34 +115,29 @@ MeetsTask-parse app words m is faults matches =
 
 -- the subcommand that clap's getter returns is the one that the words name
 pub subcommand_met-named : (words : List Text) (m : ArgMatches) → MeetsTask words m
-    → (r : Option (Bor Text × Bor ArgMatches)) (name : Bor Text) (options : Bor ArgMatches)
-    (text : Text)
-    → option_map (λ p. p.0.now) r ≡ subcommand_name_of m
-    → option_map (λ p. rows_of (found_of p.1.now)) r
-    ≡ option_map (λ p. p.1) (subcommand_rows_of m)
-    → r ≡ Some (name, options) → name.now ≡ text → subcommand_of program words
-    ≡ Some (text, rows_of (found_of options.now))
+    → (r : Option (Bor Text × Bor ArgMatches)) (name : Bor Text) (options : Bor ArgMatches) (text : Text)
+    → option_map (λ p. p.0.now) r ≡ subcommand_name_of m → option_map (λ p. rows_of (found_of p.1.now)) r
+    ≡ option_map (λ p. p.1) (subcommand_rows_of m) → r ≡ Some (name, options) → name.now ≡ text
+    → subcommand_of program words ≡ Some (text, rows_of (found_of options.now))
 subcommand_met-named words m met r name options text named rowed is spelled = search rules
 
 -- and so are its options
-pub replay_asked : (found : Option (Text × List Row)) (rows : List Row) → IsAsked found → found
-    ≡ Some (codes "replay", rows)
-    → HasNumber (codes "slots") 4294967295 rows × HasNumber (codes "generations") 2147483647 rows
+pub replay_asked : (found : Option (Text × List Row)) (rows : List Row) → IsAsked found
+    → found ≡ Some (codes "replay", rows) → HasNumber (codes "slots") 4294967295 rows
+    × HasNumber (codes "generations") 2147483647 rows
 replay_asked found rows it same = search rules
 
-pub run_asked : (found : Option (Text × List Row)) (rows : List Row) → IsAsked found → found
-    ≡ Some (codes "run", rows)
+pub run_asked : (found : Option (Text × List Row)) (rows : List Row) → IsAsked found → found ≡ Some (codes "run", rows)
     → HasNumber (codes "workers") 64 rows × MayHaveBlocks rows × HasShow rows
 run_asked found rows it same = search rules
 
 -- what the options of a run ask for
-pub run_task : (words : List Text) (rows : List Row) (task : Task) → subcommand_of program words
-    ≡ Some (codes "run", rows) → HasRun rows task → AsksFor words task
+pub run_task : (words : List Text) (rows : List Row) (task : Task)
+    → subcommand_of program words ≡ Some (codes "run", rows) → HasRun rows task → AsksFor words task
 run_task words rows it is has = search rules
 
 -- there is no third subcommand
-pub none_other : (found : Option (Text × List Row)) → IsAsked found
-    → (r : Option (Bor Text × Bor ArgMatches)) → option_map (λ p. p.0.now) r
-    ≡ option_map (λ p. p.0) found
-    → IfSome r (λ p. (p.0.now ≡ codes "replay" → ⊥) × (p.0.now ≡ codes "run" → ⊥)) → ⊥
+pub none_other : (found : Option (Text × List Row)) → IsAsked found → (r : Option (Bor Text × Bor ArgMatches))
+    → option_map (λ p. p.0.now) r ≡ option_map (λ p. p.0) found → IfSome r (λ p. (p.0.now ≡ codes "replay" → ⊥)
+    × (p.0.now ≡ codes "run" → ⊥)) → ⊥
 none_other found it it2 named other = search rules

@@ -1,8 +1,5 @@
 -- Where births alone tell each frame of a run, its text by births is that of births alone.
-use Rattle.std.proofs.Common.{arith, rules, ◌≡◌, refl, sym, ap, ◌∙◌, ℕ, ◌+◌, Bool, true, false, T}
-use Rattle.std.proofs.Common.{List, [], ◌∷◌, ◌++◌, length, map, All, Contains, Option}
-use Rattle.std.proofs.Common.{is_some, option_map, unwrap_or, IsSomeAnd, IsTrue, append_assoc}
-use Rattle.std.proofs.Common.{append-nil}
+use Rattle.std.proofs.Common.{arith, rules, ◌≡◌, refl, sym, ap, ◌∙◌, ℕ, ◌+◌, Bool, true, false, T, List, [], ◌∷◌, ◌++◌, length, map, All, Contains, Option, is_some, option_map, unwrap_or, IsSomeAnd, IsTrue, append_assoc, append-nil}
 use Rattle.std.proofs.lemmas.Grind.{common_steps}
 use Rattle.std.specs.Cmp.{then_total, on_total}
 use Rattle.std.specs.Cmp.Lexicographic.{options_total}
@@ -22,8 +19,7 @@ use Rattle.ent_handle.specs.declared.birth.Birth.{Birth}
 use Rattle.ent_handle.specs.Birth.{birth_cmp_total}
 use Rattle.ent_handle.specs.Handle.{Handle, handle_cmp, handle_cmp_total}
 use Rattle.ent_alloc.specs.Sequential.{stands_in}
-use Rattle.ent_alloc.proofs.HandleSets.{same_handle, Contains-from_stands_in}
-use Rattle.ent_alloc.proofs.HandleSets.{stands_in-from_Contains}
+use Rattle.ent_alloc.proofs.HandleSets.{same_handle, Contains-from_stands_in, stands_in-from_Contains}
 use Rattle.ent_storage.specs.BirthOrder.{ListsAll}
 use Rattle.ent_storage.specs.EntityMap.{Entity, EntityMap, birth_of}
 use Rattle.ent_storage.proofs.ByBirth.{filter-all}
@@ -41,40 +37,33 @@ use Rattle.spawnrun_lib.specs.declared.show.Show.TheVariants.{Births}
 use Rattle.spawnrun_lib.specs.FrameText.{fault_line, frame_text}
 use Rattle.spawnrun_lib.specs.WorldText.{IsWorldText, line_in, alive_line}
 use Rattle.spawnrun_lib.specs.Report.{Execution, synced, born_in, last_world, frames_text}
-use Rattle.spawnrun_lib.specs.ScriptAlone.{birth_fault_line, birth_line, frame_text_alone}
-use Rattle.spawnrun_lib.specs.ScriptAlone.{text_from}
+use Rattle.spawnrun_lib.specs.ScriptAlone.{birth_fault_line, birth_line, frame_text_alone, text_from}
 
 -- ---- the text of a frame
 
-faults_alike : (faults : List Fault) (by_births : List BirthFault)
-    → AllZip IsSameFault faults by_births
+faults_alike : (faults : List Fault) (by_births : List BirthFault) → AllZip IsSameFault faults by_births
     → flat_map (fault_line Births) faults ≡ flat_map birth_fault_line by_births
 faults_alike [] [] are = refl
-faults_alike (fault ∷ faults) (b ∷ by_births) are =
-    grind (arith, common_steps, faults_alike faults by_births are.1)
+faults_alike (fault ∷ faults) (b ∷ by_births) are = grind (arith, common_steps, faults_alike faults by_births are.1)
 faults_alike _ _ are = absurd are
 
-frame_alike : (w : World) (e : Execution) (systems : List (List Operation)) (view : BirthMap)
-    → (number : ℕ) → IsFrameAlone w e.queues e.history systems view
-    → frame_text Births number (born_in w e) (synced w e).faults
-    ≡ frame_text_alone number (queues_by_births w view systems)
-    (frame_alone (queues_by_births w view systems) view)
+frame_alike : (w : World) (e : Execution) (systems : List (List Operation)) (view : BirthMap) → (number : ℕ)
+    → IsFrameAlone w e.queues e.history systems view → frame_text Births number (born_in w e) (synced w e).faults
+    ≡ frame_text_alone number (queues_by_births w view systems) (frame_alone (queues_by_births w view systems) view)
 frame_alike w e systems view number one = search (rules, faults_alike, AllZip-long)
 
 -- ---- the text of a world
 
 module _ {K X : Type 0} (R : K → K → Ordering) where
-  below_apart : (q : K) (es : List (K × X)) → T (below_all R q es)
-      → AllByRecursion (λ y. eq_by_cmp R q y ≡ false) (map (λ e. e.0) es)
+  below_apart : (q : K) (es : List (K × X)) → T (below_all R q es) → AllByRecursion (λ y. eq_by_cmp R q y ≡ false) (map
+      (λ e. e.0) es)
   below_apart q [] below = tt
   below_apart q (e ∷ es) below = search (rules, below_apart q es)
 
-  keys_apart : (es : List (K × X)) → T (is_sorted R es)
-      → IsDistinct (eq_by_cmp R) (map (λ e. e.0) es)
+  keys_apart : (es : List (K × X)) → T (is_sorted R es) → IsDistinct (eq_by_cmp R) (map (λ e. e.0) es)
   unfolding IsDistinct
   keys_apart [] sorted = tt
-  keys_apart (e ∷ es) sorted =
-      (below_apart e.0 es (first _ _ sorted), keys_apart es (second _ _ sorted))
+  keys_apart (e ∷ es) sorted = (below_apart e.0 es (first _ _ sorted), keys_apart es (second _ _ sorted))
 
 module _ (m : EntityMap) (handles : List Handle) (lists : ListsAll m handles) where
   some_entity : (o : Option Entity) → is_some o ≡ true → IsSomeAnd o (λ e. IsTrue true)
@@ -85,10 +74,9 @@ module _ (m : EntityMap) (handles : List Handle) (lists : ListsAll m handles) wh
 
   handles_apart : IsDistinct (eq_by_cmp handle_cmp) handles
   handles_apart =
-      let total = then_total (on_total (birth_of m) (options_total birth_cmp_total))
-      handle_cmp_total in
-      IsDistinct-from_apart (eq_by_cmp handle_cmp) handles (λ i j d less within.
-      grind (arith, common_steps, same_handle, tied_itself total, lists.rising i j d less within))
+      let total = then_total (on_total (birth_of m) (options_total birth_cmp_total)) handle_cmp_total in
+      IsDistinct-from_apart (eq_by_cmp handle_cmp) handles
+      (λ i j d less within. grind (arith, common_steps, same_handle, tied_itself total, lists.rising i j d less within))
 
   alike : (h : Handle) → stands_in handles h ≡ stands_in (finite.keys m) h
   alike h = same_answer (stands_in handles h) (stands_in (finite.keys m) h)
@@ -102,37 +90,31 @@ module _ (m : EntityMap) (handles : List Handle) (lists : ListsAll m handles) wh
 
   -- there are as many handles as entities
   as_many : finite.len m ≡ length handles
-  as_many =
-      finite.len-entries m
-      ∙ sym (length-map (finite.entries m) (λ e. e.0))
-      ∙ sym (length-from_same_keys (eq_by_cmp_equiv handle_cmp_total) handles (finite.keys m)
-      handles_apart (keys_apart handle_cmp (finite.entries m) (finite.entries_sorted m)) alike)
+  as_many = finite.len-entries m ∙ sym (length-map (finite.entries m) (λ e. e.0))
+      ∙ sym (length-from_same_keys (eq_by_cmp_equiv handle_cmp_total) handles (finite.keys m) handles_apart
+      (keys_apart handle_cmp (finite.entries m) (finite.entries_sorted m)) alike)
 
 module _ (components : List (List ℕ)) (name : Handle → Birth) (m : EntityMap) (births : BirthMap)
     (named : AreNamed m births) (names : AreNames name m) where
   abbrev entry_of : Handle → Birth × Bundle
-  entry_of h =
-      (name h, unwrap_or (option_map (λ e. finite.entries e.components) (finite.get m h)) [])
+  entry_of h = (name h, unwrap_or (option_map (λ e. finite.entries e.components) (finite.get m h)) [])
 
-  line_alike : (h : Handle) → IsThere m h
-      → line_in components Births m h ≡ birth_line components (entry_of h)
+  line_alike : (h : Handle) → IsThere m h → line_in components Births m h ≡ birth_line components (entry_of h)
   line_alike h there = search (rules, entity_there, append-nil)
 
-  lines_alike : (handles : List Handle) → All (IsThere m) handles
-      → flat_map (line_in components Births m) handles
+  lines_alike : (handles : List Handle) → All (IsThere m) handles → flat_map (line_in components Births m) handles
       ≡ flat_map (birth_line components) (map entry_of handles)
   lines_alike [] all = refl
   lines_alike (h ∷ handles) all =
       let here = line_alike h (All-head (IsThere m) h handles all) in
       search (rules, lines_alike handles (All-tail (IsThere m) h handles all), here)
 
-  world_alike : (text : List ℕ) → IsWorldText components Births m text
-      → text ≡ flat_map (birth_line components) births ++ alive_line (length births)
+  world_alike : (text : List ℕ) → IsWorldText components Births m text → text ≡ flat_map (birth_line components) births
+      ++ alive_line (length births)
   world_alike text is =
       let handles = is.handles in
-      let all : map entry_of handles ≡ births =
-      listed-named name m births named names (λ _. true) (λ _. true) (λ _. refl) handles is.lists
-      ∙ filter-all births in
+      let all : map entry_of handles ≡ births = listed-named name m births named names (λ _. true) (λ _. true)
+      (λ _. refl) handles is.lists ∙ filter-all births in
       search (rules, as_many, length-map, lines_alike, All-weaker, is_there, All-contains_itself)
 
 -- ---- the text of a run
@@ -142,9 +124,8 @@ abbrev pub AreToldAlone : World → BirthMap → List (List (List Operation)) �
 AreToldAlone w view [] [] = Unit {0}
 AreToldAlone w view [] (e ∷ executions) = ⊥
 AreToldAlone w view (systems ∷ frames) [] = ⊥
-AreToldAlone w view (systems ∷ frames) (e ∷ executions) =
-    IsFrameAlone w e.queues e.history systems view × AreToldAlone (synced w e).world
-    (frame_alone (queues_by_births w view systems) view).entities frames executions
+AreToldAlone w view (systems ∷ frames) (e ∷ executions) = IsFrameAlone w e.queues e.history systems view
+    × AreToldAlone (synced w e).world (frame_alone (queues_by_births w view systems) view).entities frames executions
 
 -- the birth of each entity is a name for it
 some_names : (m : EntityMap) (other : Birth) → AreNames (λ h. unwrap_or (birth_of m h) other) m
@@ -153,19 +134,16 @@ some_names m other h e there = ap (λ o. unwrap_or (option_map (λ x. x.birth) o
 nobodys : Birth
 nobodys = record { frame = 0; system = 0; ordinal = 0 }
 
-pub text_alike : (components : List (List ℕ)) (w : World) (view : BirthMap)
-    (frames : List (List (List Operation))) (executions : List Execution) (world_text : List ℕ)
-    → AreNamed w.entities view → AreToldAlone w view frames executions
-    → IsWorldText components Births (last_world w executions).entities world_text
-    → frames_text Births w.phase w executions ++ world_text
-    ≡ text_from components w.phase view frames
-text_alike components w view [] [] world_text named told is =
-    world_alike components (λ h. unwrap_or (birth_of w.entities h) nobodys) w.entities view named
-    (some_names w.entities nobodys) world_text is
+pub text_alike : (components : List (List ℕ)) (w : World) (view : BirthMap) (frames : List (List (List Operation)))
+    (executions : List Execution) (world_text : List ℕ) → AreNamed w.entities view
+    → AreToldAlone w view frames executions → IsWorldText components Births (last_world w executions).entities
+    world_text → frames_text Births w.phase w executions ++ world_text ≡ text_from components w.phase view frames
+text_alike components w view [] [] world_text named told is = world_alike components
+    (λ h. unwrap_or (birth_of w.entities h) nobodys) w.entities view named (some_names w.entities nobodys) world_text is
 text_alike components w view (systems ∷ frames) (e ∷ executions) world_text named told is =
     let rest = rw told.0.phase at (text_alike components (synced w e).world
-    (frame_alone (queues_by_births w view systems) view).entities frames executions world_text
-    told.0.after.entities told.1 is) in
+    (frame_alone (queues_by_births w view systems) view).entities frames executions world_text told.0.after.entities
+    told.1 is) in
     let here = frame_alike w e systems view w.phase told.0 in
     rw append_assoc (λ i. here i ++ rest i)
 text_alike components w view _ _ world_text named told is = absurd told

@@ -21,8 +21,7 @@ of_systems first second = record {
 }
 
 -- one entity, then four more and three: eight requests, though seven slots would do
-eight : requested_in_all (of_systems
-    (operation.Spawn [] (Some 0) ∷ operation.Despawn (target.Name 0)
+eight : requested_in_all (of_systems (operation.Spawn [] (Some 0) ∷ operation.Despawn (target.Name 0)
     ∷ operation.SpawnMany 4 [] None ∷ []) (operation.SpawnMany 3 [] None ∷ [])) ≡ 8
 eight = refl
 

@@ -8,8 +8,8 @@ use Rattle.spawnrun_lib.proofs.first.first_unlisted.Goals as goal
 pub returns-then-not-is_listed : goal.returns-then-not-is_listed
 returns-then-not-is_listed c =
     let known = c.args.listed.now in
-    ap Some c.as_str-then-not-is_listed.ensures.value
-    ∙ sym (c.loop-key.invariant ∙ next_key (is_listed (map view known)) _ (c.in-Some.key.now, c.in-Some._value.now) _
+    ap Some c.as_str-then-not-is_listed.ensures.value ∙ sym
+    (c.loop-key.invariant ∙ next_key (is_listed (map view known)) _ (c.in-Some.key.now, c.in-Some._value.now) _
     c.as_str.result.now false c.in-Some.ensures.steps c.as_str.ensures.value
     (sym (listed_lent c.as_str.result.now known) ∙ sym c.is_listed.ensures ∙ c.if-not-is_listed.true))
 

@@ -1,5 +1,4 @@
-use Rattle.std.proofs.Common.{rules}
-use Rattle.std.proofs.Common.{◌≡◌, ◌∷◌, ◌++◌, [], ℕ, List}
+use Rattle.std.proofs.Common.{rules, ◌≡◌, ◌∷◌, ◌++◌, [], ℕ, List}
 use Rattle.spawnrun_lib.specs.Place.{key_char}
 use Rattle.spawnrun_lib.specs.Shown.{front, plain}
 use Rattle.spawnrun_lib.proofs.Printable.{passes, plain_same}

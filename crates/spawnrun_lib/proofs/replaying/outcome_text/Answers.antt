@@ -1,7 +1,6 @@
-use Rattle.std.proofs.lemmas.Grind.{common_steps}
+use Rattle.std.proofs.lemmas.Grind.{common_steps, flat_map-append}
 use Rattle.std.proofs.Common.{rules, arith}
 use Rattle.std.proofs.lemmas.List.{append-nil, take_more}
-use Rattle.std.proofs.lemmas.Grind.{flat_map-append}
 use Rattle.ent_replay.proofs.Schedules.{outcomes_of-append}
 use Rattle.spawnrun_lib.proofs.EventsApplied.{after-more}
 use Rattle.spawnrun_lib.proofs.replaying.outcome_text.Goals as goal

@@ -1,5 +1,4 @@
-use Rattle.std.proofs.Common.{rules}
-use Rattle.std.proofs.Common.{◌≡◌, ◌++◌, List, [], ℕ, codes}
+use Rattle.std.proofs.Common.{rules, ◌≡◌, ◌++◌, List, [], ℕ, codes}
 use Rattle.std.proofs.lemmas.List.Elements.{All-nil}
 use Rattle.spawnrun_lib.specs.Shown.{ArePrintable}
 use Rattle.spawnrun_lib.proofs.Pieces.{added}

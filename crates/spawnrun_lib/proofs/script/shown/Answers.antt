@@ -1,5 +1,4 @@
-use Rattle.std.proofs.Common.{rules}
-use Rattle.std.proofs.Common.{◌≡◌, List, ℕ, subst, sym}
+use Rattle.std.proofs.Common.{rules, ◌≡◌, List, ℕ, subst, sym}
 use Rattle.std.specs.Prelude.{Option, MatchOption}
 use Rattle.std.specs.Fmt.InlineText.{inline_text}
 use Rattle.std.proofs.lemmas.Bool.{iff_false}
@@ -14,18 +13,15 @@ use Rattle.spawnrun_lib.proofs.Pieces.{if_some}
 use Rattle.spawnrun_lib.proofs.script.shown.Goals as goal
 
 abbrev ShowsOf : ReadFault → List ℕ → Option Data → Type 0
-ShowsOf e shown o =
-    MatchOption o ((words : List ℕ) × (shown ≡ front (plain words)))
+ShowsOf e shown o = MatchOption o ((words : List ℕ) × (shown ≡ front (plain words)))
     (λ d. (place : Place) × IsPlaceOf d e place × Shows place shown)
 
 pub returns-in-Ok-clause-shows : goal.returns-in-Ok-clause-shows
 returns-in-Ok-clause-shows c =
     let ok = c.in-Ok.ensures.ok in
     let json = json_some c.args.text.now (view c.in-Ok.script) ok.0 ok.1 in
-    if_some c.shown.result _ _
-    (λ shown h. subst (ShowsOf c.args.fault (inline_text shown)) (sym json)
-    (place_of c.part.result, c.part.ensures, h))
-    c.shown.ensures.text
+    if_some c.shown.result _ _ (λ shown h. subst (ShowsOf c.args.fault (inline_text shown)) (sym json)
+    (place_of c.part.result, c.part.ensures, h)) c.shown.ensures.text
 
 pub returns-in-Err-clause-shows : goal.returns-in-Err-clause-shows
 returns-in-Err-clause-shows c = search (rules, json_none, iff_false)

@@ -1,12 +1,9 @@
-use Rattle.std.proofs.Common.{rules}
-use Rattle.std.proofs.Common.{arith}
+use Rattle.std.proofs.Common.{rules, arith, ◌≡◌, ◌++◌, List, ℕ, append_assoc, refl}
 use Rattle.std.proofs.lemmas.Grind.{common_steps}
-use Rattle.std.proofs.Common.{◌≡◌, ◌++◌, List, ℕ, append_assoc, refl}
 use Rattle.spawnrun_lib.proofs.Pieces.{added}
 use Rattle.spawnrun_lib.proofs.script.with_position.Goals as goal
 
-seven : (s a b c d e f g : List ℕ)
-    → s ++ a ++ b ++ c ++ d ++ e ++ f ++ g ≡ s ++ (a ++ b ++ c ++ d ++ e ++ f ++ g)
+seven : (s a b c d e f g : List ℕ) → s ++ a ++ b ++ c ++ d ++ e ++ f ++ g ≡ s ++ (a ++ b ++ c ++ d ++ e ++ f ++ g)
 seven s a b c d e f g = simp append_assoc refl
 
 pub returns-in-Frame-clause-printable : goal.returns-in-Frame-clause-printable

@@ -1,7 +1,6 @@
 use Rattle.std.proofs.lemmas.Grind.{common_steps}
 use Rattle.std.proofs.Common.{rules, arith}
-use Rattle.spawnrun_lib.proofs.NextFrame.{goes_on, has_gone_on, next_is_few, one_more}
-use Rattle.spawnrun_lib.proofs.NextFrame.{others_are_few}
+use Rattle.spawnrun_lib.proofs.NextFrame.{goes_on, has_gone_on, next_is_few, one_more, others_are_few}
 use Rattle.spawnrun_lib.proofs.script_run.run_frames.Goals as goal
 
 pub run-requires-clause-systems : goal.run-requires-clause-systems
@@ -17,8 +16,8 @@ loop-current-preserved g c =
     let front = c.in-Some.ensures.steps.0 in
     let went = c.in_ok-report.ensures.went in
     let ends = rw c.systems.ensures at went.1 in
-    let on = has_gone_on c.args.workers c.args.show c.args.world.now c.loop-current.world
-    c.run.new.world gone x c.loop-current.text.items went.0 _ _ i.run ends in
+    let on = has_gone_on c.args.workers c.args.show c.args.world.now c.loop-current.world c.run.new.world gone x
+    c.loop-current.text.items went.0 _ _ i.run ends in
     record {
       all = goes_on gone old rest x front c.args.frames.items i.all;
       counted = search (rules, one_more gone old rest x front c.loop-current.number i.counted);

@@ -1,5 +1,4 @@
-use Rattle.std.proofs.Common.{rules}
-use Rattle.std.proofs.Common.{◌≡◌, ◌<◌, ℕ, ◌∙◌, List, length, take, drop, min, ap, sym, arith, inl, inr}
+use Rattle.std.proofs.Common.{rules, ◌≡◌, ◌<◌, ℕ, ◌∙◌, List, length, take, drop, min, ap, sym, arith, inl, inr}
 use Rattle.std.proofs.lemmas.Bool.{cases_lt}
 use Rattle.std.proofs.lemmas.List.{take_all, take-append-drop, length-take}
 use Rattle.std.proofs.lemmas.List.Elements.{All-nil}
@@ -12,12 +11,12 @@ byte_text-some : (byte : ℕ) → 0 < length (byte_text byte)
 byte_text-some byte = search rules
 
 -- the first 61 bytes are enough
-looked_at : (line : List ℕ) (n : ℕ) → n ≡ min (length line) 61
-    → front (flat_map byte_text (take n line)) ≡ front (flat_map byte_text line)
+looked_at : (line : List ℕ) (n : ℕ) → n ≡ min (length line) 61 → front (flat_map byte_text (take n line)) ≡ front
+    (flat_map byte_text line)
 looked_at line n far = elim (cases_lt 61 (length line)) [
   | inl long ↦ sym (front-of_parts byte_text byte_text-some (take n line) (drop n line)
-      (omega (arith, length-take n line, long, far)))
-      ∙ ap (λ (bs : List ℕ). front (flat_map byte_text bs)) (take-append-drop n line)
+      (omega (arith, length-take n line, long, far))) ∙ ap (λ (bs : List ℕ). front (flat_map byte_text bs))
+      (take-append-drop n line)
   | inr short ↦ ap (λ (bs : List ℕ). front (flat_map byte_text bs))
       (take_all n line (omega (arith, short, far)))
 ]

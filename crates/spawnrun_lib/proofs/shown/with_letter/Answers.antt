@@ -1,6 +1,5 @@
-use Rattle.std.proofs.Common.{rules}
+use Rattle.std.proofs.Common.{rules, ◌≡◌, ◌∷◌, ◌++◌, [], arith}
 use Rattle.std.proofs.lemmas.Grind.{common_steps}
-use Rattle.std.proofs.Common.{◌≡◌, ◌∷◌, ◌++◌, [], arith}
 use Rattle.std.proofs.lemmas.Str.{encode_ascii}
 use Rattle.std.proofs.lemmas.List.Elements.{All-push}
 use Rattle.std.specs.Fmt.InlineText.{inline_text}
@@ -12,12 +11,11 @@ use Rattle.spawnrun_lib.proofs.shown.with_letter.Goals as goal
 piece : (c : goal.After-bytes-2-1) → c.encode_utf8.result.now ≡ c.args.letter ∷ []
 piece c = search (rules, encode_ascii)
 
-printable : (c : goal.After-bytes-2-1) → ArePrintable
-    (inline_text c.args.shown ++ c.args.letter ∷ [])
+printable : (c : goal.After-bytes-2-1) → ArePrintable (inline_text c.args.shown ++ c.args.letter ∷ [])
 printable c = search (rules, All-push)
 
-text : (c : goal.After-bytes-2-1)
-    → inline_text c.and_str.result ≡ front (inline_text c.args.shown ++ c.args.letter ∷ [])
+text : (c : goal.After-bytes-2-1) → inline_text c.and_str.result ≡ front (inline_text c.args.shown ++ c.args.letter
+    ∷ [])
 text c = grind (arith, common_steps, piece, cut_is_front, printable)
 
 pub returns-clause-text : goal.returns-clause-text

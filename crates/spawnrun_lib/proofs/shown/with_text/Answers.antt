@@ -21,6 +21,6 @@ loop-letter-preserved c =
     }
 
 pub returns-clause-text : goal.returns-clause-text
-returns-clause-text c =
-    all_letters char_text (inline_text c.loop-letter.shown) (chars_rest c.loop-letter.letter-iterator) _
-    c.in-None.ensures.steps.0.0 c.loop-letter.invariant.short c.loop-letter.invariant.text
+returns-clause-text c = all_letters char_text (inline_text c.loop-letter.shown)
+    (chars_rest c.loop-letter.letter-iterator) _ c.in-None.ensures.steps.0.0 c.loop-letter.invariant.short
+    c.loop-letter.invariant.text

@@ -12,16 +12,13 @@ returns-clause-text c =
     let second = hex (unit / 256 % 16) in
     let third = hex (unit / 16 % 16) in
     let one = c.with_letter-shown.ensures.text in
-    let two = c.with_letter-shown-2.ensures.text
-    ∙ go_on old (inline_text c.with_letter-shown.result) (92 ∷ []) (117 ∷ []) one in
-    let three = c.with_digit-shown.ensures.text
-    ∙ go_on old (inline_text c.with_letter-shown-2.result) (92 ∷ 117 ∷ []) (first ∷ []) two in
-    let four = c.with_digit-shown-2.ensures.text
-    ∙ go_on old (inline_text c.with_digit-shown.result) (92 ∷ 117 ∷ first ∷ []) (second ∷ [])
-    three in
-    let five = c.with_digit-shown-3.ensures.text
-    ∙ go_on old (inline_text c.with_digit-shown-2.result) (92 ∷ 117 ∷ first ∷ second ∷ [])
-    (third ∷ []) four in
-    c.with_digit.ensures.text
-    ∙ go_on old (inline_text c.with_digit-shown-3.result)
+    let two = c.with_letter-shown-2.ensures.text ∙ go_on old (inline_text c.with_letter-shown.result) (92 ∷ [])
+    (117 ∷ []) one in
+    let three = c.with_digit-shown.ensures.text ∙ go_on old (inline_text c.with_letter-shown-2.result) (92 ∷ 117 ∷ [])
+    (first ∷ []) two in
+    let four = c.with_digit-shown-2.ensures.text ∙ go_on old (inline_text c.with_digit-shown.result)
+    (92 ∷ 117 ∷ first ∷ []) (second ∷ []) three in
+    let five = c.with_digit-shown-3.ensures.text ∙ go_on old (inline_text c.with_digit-shown-2.result)
+    (92 ∷ 117 ∷ first ∷ second ∷ []) (third ∷ []) four in
+    c.with_digit.ensures.text ∙ go_on old (inline_text c.with_digit-shown-3.result)
     (92 ∷ 117 ∷ first ∷ second ∷ third ∷ []) (hex (unit % 16) ∷ []) five

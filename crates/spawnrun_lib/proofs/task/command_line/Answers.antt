@@ -1,28 +1,24 @@
-use Rattle.std.proofs.Common.{rules}
-use Rattle.std.proofs.Common.{◌≡◌, ℕ, List, codes, true, refl, map, subst, Some}
+use Rattle.std.proofs.Common.{rules, ◌≡◌, ℕ, List, codes, true, refl, map, subst, Some}
 use Rattle.clap.specs.Words.{HasKind, fault_of, rows_of, found_of, takes, subcommand_of}
 use Rattle.spawnrun_lib.specs.CommandLine.{program}
 use Rattle.cli.proofs.Faults.{found_fault, only_memory}
-use Rattle.spawnrun_lib.proofs.TaskOfWords.{IsProgram-names, MeetsTask-parse, none_other}
-use Rattle.spawnrun_lib.proofs.TaskOfWords.{replay_asked, run_asked, run_task}
-use Rattle.spawnrun_lib.proofs.TaskOfWords.{subcommand_met-named, MeetsTask}
+use Rattle.spawnrun_lib.proofs.TaskOfWords.{IsProgram-names, MeetsTask-parse, none_other, replay_asked, run_asked, run_task, subcommand_met-named, MeetsTask}
 use Rattle.spawnrun_lib.proofs.task.command_line.Given as given
 use Rattle.spawnrun_lib.proofs.task.command_line.Goals.{After-unwrap}
 use Rattle.spawnrun_lib.proofs.task.command_line.Goals as goal
 
 -- what the words were parsed to meets a task, and the subcommand is the one that is named
-named : (g : given.Over) (c : After-unwrap g)
-    → MeetsTask (map g.S.AsStr.text c.args.words.now) c.in_ok-matches.matches
-    × ((text : List ℕ) → c.unwrap.result.0.now ≡ text
-    → subcommand_of program (map g.S.AsStr.text c.args.words.now)
+named : (g : given.Over) (c : After-unwrap g) → MeetsTask (map g.S.AsStr.text c.args.words.now) c.in_ok-matches.matches
+    × ((text : List ℕ) → c.unwrap.result.0.now ≡ text → subcommand_of program (map g.S.AsStr.text c.args.words.now)
     ≡ Some (text, rows_of (found_of c.unwrap.result.1.now)))
 named g c =
     let words : List (List ℕ) = map g.S.AsStr.text c.args.words.now in
     let met : MeetsTask words c.in_ok-matches.matches = MeetsTask-parse _ words _
-    (IsProgram-names _ _ c.in_ok-program.ensures refl) c.in_ok-matches.ensures.kinds
-    c.in_ok-matches.ensures.matches in
-    (met, λ text. subcommand_met-named words _ met _ _ _ text c.subcommand.ensures.name
-    c.subcommand.ensures.rows c.unwrap.ensures)
+    (IsProgram-names _ _ c.in_ok-program.ensures refl) c.in_ok-matches.ensures.kinds c.in_ok-matches.ensures.matches in (
+      met,
+      λ text. subcommand_met-named words _ met _ _ _ text c.subcommand.ensures.name c.subcommand.ensures.rows
+          c.unwrap.ensures,
+    )
 
 pub returns-in_err-matches-clause-refused : goal.returns-in_err-matches-clause-refused
 returns-in_err-matches-clause-refused g c =
@@ -36,8 +32,7 @@ returns-in_err-matches-clause-fault g c =
     let words : List (List ℕ) = map g.S.AsStr.text c.args.words.now in
     let is = IsProgram-names _ _ c.in_ok-program.ensures refl in
     let kind = c.in_err-matches.ensures.kinds is.free in
-    found_fault _ c.in_err-matches.field-0.0 (fault_of program words)
-    c.from_residual-in_err-matches.ensures.1
+    found_fault _ c.in_err-matches.field-0.0 (fault_of program words) c.from_residual-in_err-matches.ensures.1
     (subst (λ kinds. HasKind kinds c.in_err-matches.field-0.0) (is.fault words) kind)
 
 pub limits_of-requires : goal.limits_of-requires
@@ -57,7 +52,12 @@ returns-in-replay g c =
     let named = named g (goal.at.returns-in-replay g c).After-unwrap in
     let is = named.1 (codes "replay") c.in-replay.is in
     let made = c.limits_of.ensures in
-    record { asked = (_, is, made.slots, made.generations, made.within); taken = named.0.no_fault; fault = tt; refused = tt }
+    record {
+      asked = (_, is, made.slots, made.generations, made.within);
+      taken = named.0.no_fault;
+      fault = tt;
+      refused = tt;
+    }
 
 pub returns-in-run : goal.returns-in-run
 returns-in-run g c =

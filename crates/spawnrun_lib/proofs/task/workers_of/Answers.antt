@@ -5,8 +5,8 @@ use Rattle.spawnrun_lib.proofs.task.workers_of.Goals as goal
 
 pub unwrap-requires : goal.unwrap-requires
 unwrap-requires c =
-    let read = number_read 64 (codes "workers") 64 (found_of c.args.options.now) c.get_one.result
-    (lit< tt) c.requires c.get_one.ensures.value in
+    let read = number_read 64 (codes "workers") 64 (found_of c.args.options.now) c.get_one.result (lit< tt) c.requires
+    c.get_one.ensures.value in
     ap is_some read.1
 
 pub returns : goal.returns

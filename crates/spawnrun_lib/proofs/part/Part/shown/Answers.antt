@@ -9,7 +9,11 @@ use Rattle.spawnrun_lib.proofs.Printable.{decimal-printable, passes}
 use Rattle.spawnrun_lib.proofs.part.Part.shown.Goals as goal
 
 pub returns-in-Absent-clause-text : goal.returns-in-Absent-clause-text
-returns-in-Absent-clause-text c = rw c.in-Absent.is (record { text = codes "none"; spells = refl; is = search (rules, from_nothing, more_text, passes) })
+returns-in-Absent-clause-text c = rw c.in-Absent.is (record {
+  text = codes "none";
+  spells = refl;
+  is = search (rules, from_nothing, more_text, passes);
+})
 
 pub returns-in-Twice-clause-text : goal.returns-in-Twice-clause-text
 returns-in-Twice-clause-text c = rw c.in-Twice.is (record { text = quoted c.in-Twice.name.now ++ codes " twice"; spells = refl; is = search (rules, from_nothing, two_pieces, more_text, passes) })

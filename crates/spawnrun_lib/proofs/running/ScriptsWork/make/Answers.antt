@@ -1,5 +1,4 @@
-use Rattle.std.proofs.Common.{rules}
-use Rattle.std.proofs.Common.{◌∙◌, ap, sym}
+use Rattle.std.proofs.Common.{rules, ◌∙◌, ap, sym}
 use Rattle.ent_script.specs.Reading.{script_of_text}
 use Rattle.spawnrun_lib.proofs.running.ScriptsWork.make.Goals as goal
 
