@@ -68,8 +68,8 @@ module _ {S : Type 0} (may leave : S → View → List Command → Type 0) (syst
     draws = λ n block at. let less = slice_get_within (blocks_of reservers) n block at in let long = length-map
         reservers (λ (r : Reserver). r.block) in let one = at_within all n (omega (arith, many, ready.count)) in drawn
         all n one.0 one.1 (each n (omega (arith, ready.count)) one.0 one.1).draws block at;
-    used = blocks_are reservers all (omega (arith, many, ready.count)) (λ n r one at there. let less = slice_get_within
-        all n one there in ((each n (omega (arith, many)) one there).draws r at).used);
+    used = blocks_are reservers all (omega (arith, many, ready.count)) (λ n r one at there.
+        let less = slice_get_within all n one there in ((each n (omega (arith, many)) one there).draws r at).used);
   }
 
   all_of : (all : List (List Command × Reserver)) → length all ≡ length systems
@@ -97,11 +97,14 @@ module _ {S : Type 0} (may leave : S → View → List Command → Type 0) (syst
         draws = λ n block less at. let one = at_within all n (omega (arith, done.each_output)) in drawn all n one.0
             one.1 (λ r there. ⊎_elim (λ issued. issued.draws r there) (λ issued. issued.draws r there)
             (each n less one.0 one.1)) block at;
-        why = ⊎_elim (λ s. let until = s.7 in let last = until.stopped in inl (
-          until.last,
-          omega (arith, slice_get_within all until.last last.0 last.1, done.each_output),
-          rw (queue_is all until.last last.0 last.1) last.2.system,
-        )) inr done.why;
+        why = ⊎_elim (λ s.
+            let until = s.7 in
+            let last = until.stopped in
+            inl (
+              until.last,
+              omega (arith, slice_get_within all until.last last.0 last.1, done.each_output),
+              rw (queue_is all until.last last.0 last.1) last.2.system,
+            )) inr done.why;
       }
 
   module _ {L : Type 0} (before after : List L) (same : length after ≡ length before) (jobs : ℕ)

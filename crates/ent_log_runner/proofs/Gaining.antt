@@ -44,16 +44,24 @@ module _ {C : Type 0} where
       → RepliesOne shared before reply after → handles_given after.own ≡ handles_given before.own ++ spawned_in entries
       → LogGains before.own entries after.own
   gains_one shared before after reply entries r given = elim (cases_lt 0 before.own.left) [
-    | inl some ↦ let g = r.gains some in let one = reservation_at before.own g.high 1 in rw g.after
-        (record {
+    | inl some ↦
+        let g = r.gains some in
+        let one = reservation_at before.own g.high 1 in
+        rw g.after (record {
           gained = record { number = refl; reservations = one ∷ []; entries = refl };
-          callers = All-cons
-              (λ (c : Reservation). c.caller ≡ before.own.number) one [] refl (no_callers before.own);
-          given = rw g.after at
+          callers =
+              All-cons (λ (c : Reservation). c.caller ≡ before.own.number) one [] refl (no_callers before.own);
+          given = rw
+              g.after at given;
+        })
+    | inr none ↦
+        let same = (r.quota (omega arith)).1 in
+        rw same (record {
+          gained = gained_nothing before.own;
+          callers = no_callers before.own;
+          given = rw same at
               given;
         })
-    | inr none ↦ let same = (r.quota (omega arith)).1 in rw same
-        (record { gained = gained_nothing before.own; callers = no_callers before.own; given = rw same at given })
   ]
 
   -- entries that reserve nothing

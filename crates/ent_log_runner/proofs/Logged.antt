@@ -148,9 +148,11 @@ module _ {C : Type 0} where
       ours = All-map (λ (call : Call). call.caller < workers) as_call (reservations_of records)
           (all_sorted (λ (c : Reservation). c.caller < workers) (own_of_all records)
           (all_flat (λ (c : Reservation). c.caller < workers) (λ (r : Record). own_reservations r.entries) records
-          (λ k d within. let there = at_within ran k (omega (arith, long, teams)) in let r = get_or records k d in let
-          g = gains_at k there.0 r there.1 (slice_get-get_or records k d within) in rw (own_are k r there.0 g)
-          (λ m e inner. let same = g.callers m e inner in omega (arith, long)))))
+          (λ k d within.
+          let there = at_within ran k (omega (arith, long, teams)) in
+          let r = get_or records k d in
+          let g = gains_at k there.0 r there.1 (slice_get-get_or records k d within) in
+          rw (own_are k r there.0 g) (λ m e inner. let same = g.callers m e inner in omega (arith, long)))))
 
       pub run_is : HaveRun workers count start logs after
       run_is = record {
@@ -167,9 +169,10 @@ module _ {C : Type 0} where
       }
 
       pub each_holds : (n : ℕ) → n < count → P n (log_at logs n)
-      each_holds = everywhere (λ n. P n (log_at logs n)) count ran once (λ k mine at. let less = slice_get_within ran k
-          mine at in let r = at_within records k (omega (arith, teams, long)) in all_hold logs P (opened start k) mine
-          r.0 (did_at k mine r.0 at r.1))
+      each_holds = everywhere (λ n. P n (log_at logs n)) count ran once (λ k mine at.
+          let less = slice_get_within ran k mine at in
+          let r = at_within records k (omega (arith, teams, long)) in
+          all_hold logs P (opened start k) mine r.0 (did_at k mine r.0 at r.1))
 
     module _ {S : Type 0} (may leave : S → List (Entry C) → Type 0) (systems : List S) where
       abbrev Either : ℕ → Record → List (Entry C) → Record → Type 0
@@ -226,8 +229,9 @@ module _ {C : Type 0} where
                 ≡ workers = done.each_worker ∙ many in let r = at_within records k (omega (arith, teams, long)) in let
                 before = opened_at start workers opens opened_are k (omega (arith, teams)) in in_turn done.outputs
                 (opened start k) mine r.0 (done.did k mine (opened start k) r.0 at before r.1);
-            why = ⊎_elim
-                (λ s. let did = s.7 in inl (
+            why = ⊎_elim (λ s.
+                let did = s.7 in
+                inl (
                   s.0,
                   s.1,
                   did.last,

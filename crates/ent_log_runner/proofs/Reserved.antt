@@ -84,14 +84,13 @@ reserved_all start after workers count logs run sound flushed =
     let given : List Handle = given_in run.history in
     let taken : List Handle = (after_history start run.history).taken in
     let perm = given_in-taken start run.history sound run.legal flushed in
-    let there = All-permutation (λ h. IsTrue (stands_in taken h)) taken given
-    (IsPermutation-sym given taken perm) (stand_there taken) in
+    let there = All-permutation (λ h. IsTrue (stands_in taken h)) taken given (IsPermutation-sym given taken perm)
+    (stand_there taken) in
     let away = given_in-not_live start run.history sound run.legal in
     let live = live_still start run.history in
-    none_unreserved after (spawned_in (entries_of logs))
-    (in_all start after workers count logs run (IsReserved after) (rw run.after_is (λ k d within.
-    reserved_here (after_history start run.history) (get_or given k d) (there k d within)
-    (λ alive. away k d within (rw live at alive)))))
+    none_unreserved after (spawned_in (entries_of logs)) (in_all start after workers count logs run (IsReserved after)
+    (rw run.after_is (λ k d within. reserved_here (after_history start run.history) (get_or given k d)
+    (there k d within) (λ alive. away k d within (rw live at alive)))))
   where
     live_still : (s : Allocator) (history : List Call) → (after_history s history).live ≡ s.live
     live_still s history =

@@ -66,8 +66,7 @@ module _ (shared : Shared) (before after : Reserver) (n : ℕ) where
       → (n ≤ before.own.left → FitsQuota before.own.left c) → Gains before.own (c ∷ []) after.own
   served_gains hs c replied one none within = elim (cases_lt before.own.left n) [
     | inl short ↦ let no = (replied.quota short).0 in absurd (cc)
-    | inr enough ↦ search
-        (rules, cases_lt, gains_one, gains_none)
+    | inr enough ↦ search (rules, cases_lt, gains_one, gains_none)
   ]
 
   -- what was refused
@@ -76,12 +75,13 @@ module _ (shared : Shared) (before after : Reserver) (n : ℕ) where
   refused_gains (Space wanted left) replied = elim (cases_lt before.own.left n) [
     | inl short ↦ let no = (replied.quota short).0 in absurd (cc)
     | inr enough ↦ elim (cases_lt 0 n) [
-      | inl some ↦ let g = replied.gains some enough in let asks : stands_for (Refused n (Space wanted left))
-          ≡ (n, (reservation_at before.own g.high n).reply) ∷ [] = ap (λ r. (n, r) ∷ []) (sym g.recorded) in subst
-          (λ (r : Reserver). Gains before.own (Refused n (Space wanted left) ∷ []) r.own) (sym g.after)
+      | inl some ↦
+          let g = replied.gains some enough in
+          let asks : stands_for (Refused n (Space wanted left)) ≡ (n, (reservation_at before.own g.high n).reply)
+          ∷ [] = ap (λ r. (n, r) ∷ []) (sym g.recorded) in
+          subst (λ (r : Reserver). Gains before.own (Refused n (Space wanted left) ∷ []) r.own) (sym g.after)
           (gains_one before.own g.high n (Refused n (Space wanted left)) enough asks enough)
-      | inr nothing ↦ let no =
-          (replied.nothing (omega arith)).0 in absurd (cc)
+      | inr nothing ↦ let no = (replied.nothing (omega arith)).0 in absurd (cc)
     ]
   ]
   refused_gains (Quota left) replied = search (rules, cases_lt, gains_none)

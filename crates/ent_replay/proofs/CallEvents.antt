@@ -129,9 +129,8 @@ module _ (s : Allocator) (spent : FinMap nat_cmp ℕ) (calls : FinMap nat_cmp St
           )
       step-taken sound waits =
           let t = after_take s call.requested in
-          when (nat_lt caller callers) _ _ is_caller
-          ∙ ap (step_open (machine_state s spent calls) caller) (opened (Some call) is)
-          ∙ ap (λ o. step_with (machine_state s spent calls) caller call.requested
+          when (nat_lt caller callers) _ _ is_caller ∙ ap (step_open (machine_state s spent calls) caller)
+          (opened (Some call) is) ∙ ap (λ o. step_with (machine_state s spent calls) caller call.requested
           (option_map (λ span. reply_from s.made (pool_at s span.high) call.requested) o)) waits
           ∙ (λ i. (
             Ok (outcome.Cursor (cursor-after_take s call.requested sound i)),
@@ -172,11 +171,14 @@ module _ (s : Allocator) (spent : FinMap nat_cmp ℕ) (calls : FinMap nat_cmp St
         requests = on_inserted (λ q c. c.requested < 2 ^ 32) calls caller (λ q c _. h.requests q c) stepped
             (h.requests caller call is);
         spans = λ q other_call span at. on_inserted (λ q c. c.span ≡ Some span
-            → HasPassed (after_take s call.requested) c.requested span) calls caller
-            (λ q c _ at passed. let old = h.spans q c span at passed in let tops = top-after_take s call.requested
-            h.sound in record { least = old.least; high = rw tops old.high; low = old.low }) stepped
-            (λ passed. let at_span : record { high = cursor s; low = cursor s -ℤ pos call.requested }
-            ≡ span = same_Some _ span passed in search (rules, asked-bound, top-after_take, ints)) q other_call at;
+            → HasPassed (after_take s call.requested) c.requested span) calls caller (λ q c _ at passed.
+            let old = h.spans q c span at passed in
+            let tops = top-after_take s call.requested h.sound in
+            record { least = old.least; high = rw tops old.high; low = old.low })
+            stepped (λ passed.
+            let at_span : record { high = cursor s; low = cursor s -ℤ pos call.requested }
+            ≡ span = same_Some _ span passed in
+            search (rules, asked-bound, top-after_take, ints)) q other_call at;
         once = all_held-next (machine_state s spent calls) (event.Step caller)
             (Ok (outcome.Cursor (cursor s -ℤ pos call.requested))) (machine_state (after_take s call.requested) spent
             (finite.insert calls caller stepped)) (step-taken h.sound waits) h.sound h.once;

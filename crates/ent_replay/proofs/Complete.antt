@@ -129,26 +129,36 @@ module _ (given : List Handle) where
       let floor_small = floor.1 in
       let least_own = head.least in
       elim (cases_lt (length s.pool) n) [
-        | inr enough ↦ let place = served_key given s sound is n head.own
-            c.reservation.reply some.0 enough answered.0 head.key_of in let from = place.from in let below = place.below in
-            let small = place.small in let key_own : c.key ≤ head.own = elim head.either
-            [ inl own ↦ omega arith | inr old ↦ omega arith ] in let asked = asked-after_take s n in let t_sound =
-            after_take-sound s n sound in let t_is = available-after_take s n sound
-            ∙ is in let order_later = later_keys given order (after_take s n) (head.own + 1) t_sound t_is (omega arith)
-            (omega arith) some.1 order_keys answered.1 in let later = all_unordered (λ (p : Placed). head.own + 1 ≤ p.key)
-            (before ++ after) order more order_later in elim (parted before after sp.before sp.after c h both) [
+        | inr enough ↦
+            let place = served_key given s sound is n head.own c.reservation.reply some.0 enough answered.0
+            head.key_of in
+            let from = place.from in
+            let below = place.below in
+            let small = place.small in
+            let key_own : c.key ≤ head.own = elim head.either [ inl own ↦ omega arith | inr old ↦ omega arith ] in
+            let asked = asked-after_take s n in
+            let t_sound = after_take-sound s n sound in
+            let t_is = available-after_take s n sound ∙ is in
+            let order_later = later_keys given order (after_take s n) (head.own + 1) t_sound t_is (omega arith)
+            (omega arith) some.1 order_keys answered.1 in
+            let later = all_unordered (λ (p : Placed). head.own + 1 ≤ p.key) (before ++ after) order more order_later in
+            elim (parted before after sp.before sp.after c h both) [
               | inl p ↦ absurd
                   (omega (
                     arith,
                     all_at (λ (p : Placed). head.own + 1 ≤ p.key) sp.before p.more h
                         (rw (← p.front_is) (all_left (λ (p : Placed). head.own + 1 ≤ p.key) before after later)),
                   ))
-              | inr (inl p) ↦ let same_rest : sp.before ++ sp.after ≡ before ++ after = λ i. p.before_is i
-                  ++ p.after_is i in let asks_same : asks h ≡ asks c = ap asks p.is in let rest_sum : total sorted
-                  ≡ total order = omega arith in let rest = sorted_is order sorted (before ++ after) (after_take s n) (raised f c)
-                  t_sound t_is (low_next f s c low (omega arith) (omega arith)) rest_keyed more some.1 answered.1 up.1
-                  (rw (← same_rest) alike_here) rest_sum in
-                  (rw p.is (answered.0, rest.0), rest.1 ∙ ap (λ (y : Placed). after_run (after_take s (asks y)) sorted) (sym p.is))
+              | inr (inl p) ↦
+                  let same_rest : sp.before ++ sp.after ≡ before ++ after = λ i. p.before_is i ++ p.after_is i in
+                  let asks_same : asks h ≡ asks c = ap asks p.is in
+                  let rest_sum : total sorted ≡ total order = omega arith in
+                  let rest = sorted_is order sorted (before ++ after) (after_take s n) (raised f c) t_sound t_is
+                  (low_next f s c low (omega arith) (omega arith)) rest_keyed more some.1 answered.1 up.1
+                  (rw (← same_rest) alike_here) rest_sum in (
+                    rw p.is (answered.0, rest.0),
+                    rest.1 ∙ ap (λ (y : Placed). after_run (after_take s (asks y)) sorted) (sym p.is),
+                  )
               | inr (inr p) ↦ absurd
                   (omega (
                     arith,
@@ -156,38 +166,52 @@ module _ (given : List Handle) where
                         (rw (← p.rest_is) (all_right (λ (p : Placed). head.own + 1 ≤ p.key) before after later)),
                   ))
             ]
-        | inl short ↦ let left = length s.pool in let fits = rw reply-refused at answered.0 in let emptied = ap
-            (λ (t : Allocator). t.pool) (after_take-refused s n short) in let order_none = empty-Answers order
-            (after_take s n) emptied some.1 answered.1 in let rest_none = all_unordered FindsNone (before ++ after) order more
-            order_none in let high = refused_key given n head.own left c.reservation.reply head.small fits head.key_of in let
-            key_own : c.key ≤ head.own = elim head.either [ inl own ↦ omega arith | inr old ↦ omega arith ] in let ordered =
-            refused_run s c order short fits order_none in let ends : left < asks h → FitsLeft left h
-            → AllByRecursion FindsNone sorted → Answers s (h ∷ sorted)
-            × (after_run s (c ∷ order) ≡ after_run s (h ∷ sorted)) = λ h_short h_fits none. let other = refused_run s h sorted
-            h_short h_fits none in let same : s.asked + (n + total order) ≡ s.asked
-            + (asks h + total sorted) = omega arith in
-            (other.0, ordered.1 ∙ (λ i. record s { aside = s.aside ++ s.pool; pool = []; asked = same i }) ∙ sym other.1) in
+        | inl short ↦
+            let left = length s.pool in
+            let fits = rw reply-refused at answered.0 in
+            let emptied = ap (λ (t : Allocator). t.pool) (after_take-refused s n short) in
+            let order_none = empty-Answers order (after_take s n) emptied some.1 answered.1 in
+            let rest_none = all_unordered FindsNone (before ++ after) order more order_none in
+            let high = refused_key given n head.own left c.reservation.reply head.small fits head.key_of in
+            let key_own : c.key ≤ head.own = elim head.either [ inl own ↦ omega arith | inr old ↦ omega arith ] in
+            let ordered = refused_run s c order short fits order_none in
+            let ends : left < asks h → FitsLeft left h → AllByRecursion FindsNone sorted
+            → Answers s (h ∷ sorted) × (after_run s (c ∷ order) ≡ after_run s (h ∷ sorted)) =
+            λ h_short h_fits none. let other = refused_run s h sorted h_short h_fits none in let same : s.asked
+            + (n + total order) ≡ s.asked + (asks h + total sorted) = omega arith in (
+              other.0,
+              ordered.1 ∙ (λ i. record s { aside = s.aside ++ s.pool; pool = []; asked = same i }) ∙ sym other.1,
+            ) in
             elim (later_or_first given n left c.reservation.reply fits) [
-              | inl c_later ↦ let c_none : FindsNone c = record
-                  { some = some.0; fits = c_later } in let all_none = all_with FindsNone before after c c_none rest_none in let
-                  h_all = rw both at all_none in let h_none = all_at FindsNone sp.before sp.after h h_all in let h_key = all_at
-                  (HasKey given) sp.before sp.after h (rw (← sp.is) (has_keys given f run keyed)) in let h_least = h_key.least in
-                  let first = takes_place given n (asks h) left head.own h_key.own c.reservation.reply h.reservation.reply fits
-                  c_later short head.key_of h_none.fits h_none.some h_key.key_of (omega arith) in ends first.1 first.0
-                  (all_alike FindsNone sorted (sp.before ++ sp.after) alike_here (all_without FindsNone sp.before sp.after h h_all))
-              | inr only ↦ let own : head.own ≡ 2 ^ 32 = only head.own head.key_of in let not_other : FindsNone h
-                  → Answers s (h ∷ sorted) × (after_run s (c ∷ order) ≡ after_run s (h ∷ sorted)) = λ none. let h_key = all_at
-                  (HasKey given) sp.before sp.after h (rw (← sp.is) (has_keys given f run keyed)) in let h_least = h_key.least in
-                  let above = none_high given (asks h) h_key.own h.reservation.reply h_key.small none.fits h_key.key_of in absurd
-                  (omega arith) in elim (parted before after sp.before sp.after c h both) [
+              | inl c_later ↦
+                  let c_none : FindsNone c = record { some = some.0; fits = c_later } in
+                  let all_none = all_with FindsNone before after c c_none rest_none in
+                  let h_all = rw both at all_none in
+                  let h_none = all_at FindsNone sp.before sp.after h h_all in
+                  let h_key = all_at (HasKey given) sp.before sp.after h (rw (← sp.is) (has_keys given f run keyed)) in
+                  let h_least = h_key.least in
+                  let first = takes_place given n (asks h) left head.own h_key.own c.reservation.reply
+                  h.reservation.reply fits c_later short head.key_of h_none.fits h_none.some h_key.key_of
+                  (omega arith) in
+                  ends first.1 first.0 (all_alike FindsNone sorted (sp.before ++ sp.after) alike_here
+                  (all_without FindsNone sp.before sp.after h h_all))
+              | inr only ↦
+                  let own : head.own ≡ 2 ^ 32 = only head.own head.key_of in
+                  let not_other : FindsNone h → Answers s (h ∷ sorted) × (after_run s (c ∷ order) ≡ after_run s
+                  (h ∷ sorted)) = λ none. let h_key = all_at (HasKey given) sp.before sp.after h
+                  (rw (← sp.is) (has_keys given f run keyed)) in let h_least = h_key.least in let above = none_high
+                  given (asks h) h_key.own h.reservation.reply h_key.small none.fits h_key.key_of in absurd
+                  (omega arith) in
+                  elim (parted before after sp.before sp.after c h both) [
                     | inl p ↦ not_other (all_at FindsNone sp.before p.more h
                         (rw (← p.front_is) (all_left FindsNone before after rest_none)))
-                    | inr (inl p) ↦ let same_rest : sp.before
-                        ++ sp.after ≡ before ++ after = λ i. p.before_is i ++ p.after_is i in let asks_same : asks h
-                        ≡ asks c = ap asks p.is in ends (omega arith) (rw p.is fits) (all_alike FindsNone sorted (before ++ after)
+                    | inr (inl p) ↦
+                        let same_rest : sp.before ++ sp.after ≡ before ++ after = λ i. p.before_is i ++ p.after_is i in
+                        let asks_same : asks h ≡ asks c = ap asks p.is in
+                        ends (omega arith) (rw p.is fits) (all_alike FindsNone sorted (before ++ after)
                         (rw (← same_rest) alike_here) rest_none)
-                    | inr (inr p) ↦ not_other
-                        (all_at FindsNone p.more sp.after h (rw (← p.rest_is) (all_right FindsNone before after rest_none)))
+                    | inr (inr p) ↦ not_other (all_at FindsNone p.more sp.after h
+                        (rw (← p.rest_is) (all_right FindsNone before after rest_none)))
                   ]
             ]
       ]

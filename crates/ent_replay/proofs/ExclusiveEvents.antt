@@ -40,8 +40,7 @@ module _ (s : Allocator) (spent : FinMap nat_cmp ℕ) (calls : FinMap nat_cmp St
   busy some = elim (cases_eq (finite.len (map_values (open_call_of s) calls)) 0) [
     | inl is ↦ absurd (some (maps_alike calls finite.empty (λ q. none_is_none (open_call_of s) (finite.get calls q)
         (sym (get-map_values (open_call_of s) calls q) ∙ ap (λ m. finite.get m q)
-        (empty_of_len (map_values (open_call_of s) calls) is) ∙ get-empty nat_cmp q)
-        ∙ sym (get-empty nat_cmp q))))
+        (empty_of_len (map_values (open_call_of s) calls) is) ∙ get-empty nat_cmp q) ∙ sym (get-empty nat_cmp q))))
     | inr other ↦ grind (arith, nat_tests)
   ]
 

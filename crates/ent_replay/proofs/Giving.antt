@@ -49,13 +49,17 @@ joined-more : (f g : ℕ → List Handle) (c n : ℕ) → c < n → f c ≡ [] �
 unfolding joined
 joined-more f g c zero lt none alike = absurd (omega arith)
 joined-more f g c (suc n) lt none alike = elim (cases_lt c n) [
-  | inl below ↦ let rest = joined-more f g c n below none
-      alike in let last : f n ≡ g n = alike n (λ same. absurd (omega arith)) in IsPermutation-trans
-      ((joined f n ++ f n) ++ g c) ((joined f n ++ g c) ++ f n) (joined g n ++ g n) (swapped (joined f n) (f n) (g c))
-      (rw (← last) (IsPermutation-append_left (f n) (joined f n ++ g c) (joined g n) rest))
-  | inr past ↦ let here : c
-      ≡ n = omega arith in let rest = joined-alike f g n (λ q below. alike q (λ same. absurd (omega arith))) in let
-      nothing : f n ≡ [] = ap f (sym here) ∙ none in same_order ((joined f n ++ f n) ++ g c) (joined g n ++ g n)
+  | inl below ↦
+      let rest = joined-more f g c n below none alike in
+      let last : f n ≡ g n = alike n (λ same. absurd (omega arith)) in
+      IsPermutation-trans ((joined f n ++ f n) ++ g c) ((joined f n ++ g c) ++ f n) (joined g n ++ g n)
+      (swapped (joined f n) (f n) (g c)) (rw (← last) (IsPermutation-append_left (f n) (joined f n ++ g c)
+      (joined g n) rest))
+  | inr past ↦
+      let here : c ≡ n = omega arith in
+      let rest = joined-alike f g n (λ q below. alike q (λ same. absurd (omega arith))) in
+      let nothing : f n ≡ [] = ap f (sym here) ∙ none in
+      same_order ((joined f n ++ f n) ++ g c) (joined g n ++ g n)
       (λ i. (ap (joined f n ++◌) nothing ∙ append-nil (joined f n) ∙ rest) i ++ g (here i))
 ]
 

@@ -22,8 +22,7 @@ other_end count x others = search rules
 
 longer : (count : Word) (x : ℕ) (xs : List ℕ) → count_in (count ∷ parts (x ∷ xs)) ≡ no_count
 longer count x xs = elim (cases_Bool (eqb x 41)) [
-  | inl closes ↦ search
-      (rules, more_parts count (parts xs) (parts_nonempty 41 xs))
+  | inl closes ↦ search (rules, more_parts count (parts xs) (parts_nonempty 41 xs))
   | inr other ↦ search (rules, cond-false, other_end)
 ]
 

@@ -43,10 +43,12 @@ module _ (given : List Handle) (s : Allocator) (sound : IsSound s) (is : availab
       let small = key.0 in
       let apart = rw is at sound.apart in
       elim key.1 [
-        | inl own_at ↦ let own_in = slice_get_within given own h own_at in let own_is = get_or_from_slice_get
-            given own h h own_at in search rules
-        | inr nowhere ↦ absurd
-            (true≢false (sym (stands_in-from_Contains given h (s.asked + i, there, found)) ∙ nowhere))
+        | inl own_at ↦
+            let own_in = slice_get_within given own h own_at in
+            let own_is = get_or_from_slice_get given own h h own_at in
+            search rules
+        | inr nowhere ↦ absurd (true≢false (sym (stands_in-from_Contains given h (s.asked + i, there, found))
+            ∙ nowhere))
       ]
 
   some_listed : 0 < n → n ≤ length s.pool → [] ≡ listed s.made (take n s.pool) → ⊥

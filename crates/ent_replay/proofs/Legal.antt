@@ -55,17 +55,14 @@ pub Answers-some : (run : List Placed) (s : Allocator) → Answers s run → Ans
 Answers-some [] s answered = tt
 Answers-some (p ∷ run) s answered = elim (some_or_none (asks p)) [
   | inl some ↦ search (rules, kept, Answers-some run (after_take s (asks p)) answered.1)
-  | inr none ↦ rw
-      (left_out p run none.0) (Answers-some run s (rw (← nothing-after s p none.1) answered.1))
+  | inr none ↦ rw (left_out p run none.0) (Answers-some run s (rw (← nothing-after s p none.1) answered.1))
 ]
 
 pub after-some : (run : List Placed) (s : Allocator) → after_run s run ≡ after_run s (filter asks_some run)
 after-some [] s = refl
 after-some (p ∷ run) s = elim (some_or_none (asks p)) [
-  | inl some ↦ cc
-      (after-some run (after_take s (asks p)), kept p run some.0)
-  | inr none ↦ search
-      (rules, nothing-after, left_out, after-some run s)
+  | inl some ↦ cc (after-some run (after_take s (asks p)), kept p run some.0)
+  | inr none ↦ search (rules, nothing-after, left_out, after-some run s)
 ]
 
 pub nothing-fits : (run : List Placed) (s : Allocator) → Answers s run → AllByRecursion FitsNothing run

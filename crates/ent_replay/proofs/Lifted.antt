@@ -99,13 +99,11 @@ swap_filters p q (x ∷ xs) =
     elim (cases_Bool (p x)) [
       | inl first ↦ elim (cases_Bool (q x)) [
         | inl both ↦ simp (first, both, rest)
-        | inr only ↦
-            simp (first, only, rest)
+        | inr only ↦ simp (first, only, rest)
       ]
       | inr fails ↦ elim (cases_Bool (q x)) [
         | inl only ↦ simp (fails, only, rest)
-        | inr neither
-            ↦ simp (fails, neither, rest)
+        | inr neither ↦ simp (fails, neither, rest)
       ]
     ]
 
@@ -144,9 +142,9 @@ keyed_filtered given f [] keyed fits = tt
 keyed_filtered given f (p ∷ run) keyed fits = elim (some_or_none (asks p)) [
   | inl some ↦ rw (kept p run some.0) (keyed.0, keyed_filtered given (raised f p) run keyed.1 fits.1)
   | inr none ↦
-      let key = keyed.0 in let zero_own = nothing_key given (asks p) key.own p.reservation.reply (fits.0 none.1)
-      key.key_of in search
-      (rules, left_out, asks_some, not_raised, keyed_filtered given (raised f p) run keyed.1 fits.1)
+      let key = keyed.0 in
+      let zero_own = nothing_key given (asks p) key.own p.reservation.reply (fits.0 none.1) key.key_of in
+      search (rules, left_out, asks_some, not_raised, keyed_filtered given (raised f p) run keyed.1 fits.1)
 ]
 
 total_filtered : (run : List Placed) → total (filter asks_some run) ≡ total run

@@ -106,15 +106,19 @@ module _ (p : Phase) (s : MachineState) (h : IsFollowed p s) where
         legal = IsLegal-append p.start p.calls (made ∷ []) h.legal (rw h.reached (omega arith, refl, tt));
         reached = simp (after_history-append, h.reached);
         rest = λ zero_asked. absurd (omega arith);
-        open_calls = on_inserted (Told (IsOfHistory (p.calls ++ made ∷ []))) s.calls caller
-            (λ q call other at r told. elim (h.open_calls q call at r told) [
+        open_calls = on_inserted (Told (IsOfHistory (p.calls ++ made ∷ []))) s.calls caller (λ q call other at r told.
+            elim (h.open_calls q call at r told) [
               | inl nothing ↦ inl nothing
-              | inr found ↦
-                  inr (found.0, last_of-append_other q p.calls made (λ same. other (sym same)) ∙ found.1, found.2, found.3)
+              | inr found ↦ inr
+                  (found.0, last_of-append_other q p.calls made (λ same. other (sym same)) ∙ found.1, found.2, found.3)
             ])
             (record { requested = suc n; reply = Some (reply_to s.allocator (suc n)) })
-            (λ r told. inr
-            (made, last_of-append caller p.calls made refl, refl, sym (same_Some (reply_to s.allocator (suc n)) r told)));
+            (λ r told. inr (
+              made,
+              last_of-append caller p.calls made refl,
+              refl,
+              sym (same_Some (reply_to s.allocator (suc n)) r told),
+            ));
       }
 
   -- the phase goes on, or nothing is asked for and no call is open
@@ -136,17 +140,20 @@ module _ (p : Phase) (s : MachineState) (h : IsFollowed p s) where
   }))
 
   pub followed-next : (e : Event) → IsFollowed (phase_after p s e) (after_event s e)
-  followed-next e = cond_both ((after_event s e).allocator.asked == 0) _ _ (λ q. IsFollowed q (after_event s e))
-      (λ is. let zero_asked : (after_event s e).allocator.asked ≡ 0 = grind (arith, nat_tests) in let quiet :
-      NothingTold (after_event s e) = elim (goes_on (move s e)) [ inl f ↦ f.rest zero_asked | inr still ↦ still.1 ] in
+  followed-next e = cond_both ((after_event s e).allocator.asked == 0) _ _ (λ q. IsFollowed q (after_event s e)) (λ is.
+      let zero_asked : (after_event s e).allocator.asked ≡ 0 = grind (arith, nat_tests) in
+      let quiet : NothingTold (after_event s e) = elim (goes_on (move s e)) [
+        | inl f ↦ f.rest zero_asked
+        | inr still ↦ still.1
+      ] in
       record {
         legal = tt;
         reached = refl;
         rest = λ _. quiet;
         open_calls = λ q call at r told. inl
             (quiet q call at r told);
-      }) (λ is. elim (goes_on (move s e))
-      [ inl f ↦ f | inr still ↦ absurd (grind (arith, nat_tests, still.0)) ])
+      })
+      (λ is. elim (goes_on (move s e)) [ inl f ↦ f | inr still ↦ absurd (grind (arith, nat_tests, still.0)) ])
 
 -- ---- what an answer tells
 
@@ -158,8 +165,7 @@ tells p s h (answers caller call reply below some stepped) = (
   some,
   elim (h.open_calls caller call some reply stepped) [
     | inl nothing ↦ inl (nothing.0, ap reported nothing.1)
-    | inr
-        found ↦ inr (found.0, found.1, found.2, ap reported found.3)
+    | inr found ↦ inr (found.0, found.1, found.2, ap reported found.3)
   ],
 )
 tells p s h _ = tt

@@ -127,7 +127,41 @@ module _ (s : Allocator) (start : Lineup) (placed left rest : List Placed) (p : 
   -- it isn't, or doesn't fit
   pub Passing-leave : (key : ℕ) → ((v : ℕ) × (finite.get blocked caller ≡ Some v)) ⊎ (FitsAt (after s placed) p → ⊥)
       → Passing s start placed (left ++ p ∷ []) rest at (finite.insert blocked caller key)
-  Passing-leave key why = record { keeps = rw (append_assoc left (p ∷ []) rest) h.keeps; answered = h.answered; at_is = h.at_is; sum = rw (append_assoc left (p ∷ []) rest) h.sum; count = omega (arith, length-append left (p ∷ [])); grown = h.grown; free = λ q is. elim (cases_eq q caller) [ inl same ↦ let no : Some key ≡ None = sym (get-inserted blocked caller key) ∙ ap (finite.get (finite.insert blocked caller key)) (sym same) ∙ is in absurd cc | inr apart ↦ simp (filter-append, other p q (λ e. apart (sym e)), append-nil) (h.free q (sym (get-insert_other blocked caller key q apart) ∙ is)) ]; held = λ q v is empty. elim (cases_eq q caller) [ inl same ↦ no_middle (filter (is_of q) left) [] p (simp (filter-append, own p q (sym same)) at empty) | inr apart ↦ h.held q v (sym (get-insert_other blocked caller key q apart) ∙ is) (simp (filter-append, other p q (λ e. apart (sym e)), append-nil) at empty) ]; still = λ same. let before = h.still same in (before.0, λ front x more parts first. elim (parted left [] front more p x parts) [ inl inside ↦ before.1 front x inside.more inside.front_is first | inr (inl itself) ↦ λ fits. last front x before.0 itself.before_is itself.is first fits | inr (inr behind) ↦ absurd (no_middle behind.more more x (sym behind.rest_is)) ]); whole = λ all. let before = h.whole all in let fits : FitsAt (after s placed) p = (answered_back s (lines_of placed) (lines_of (p ∷ rest)) (rw (← lines_append placed (p ∷ rest)) before.1)).0 in elim why [ inl found ↦ absurd (h.held caller found.0 found.1 (ap (filter (is_of caller)) before.0)) | inr unfit ↦ absurd (unfit fits) ] }
+  Passing-leave key why = record {
+    keeps = rw (append_assoc left (p ∷ []) rest) h.keeps;
+    answered = h.answered;
+    at_is = h.at_is;
+    sum = rw (append_assoc left (p ∷ []) rest) h.sum;
+    count = omega (arith, length-append left (p ∷ []));
+    grown = h.grown;
+    free = λ q is. elim (cases_eq q caller) [
+      | inl same ↦
+          let no : Some key ≡ None = sym (get-inserted blocked caller key)
+          ∙ ap (finite.get (finite.insert blocked caller key)) (sym same) ∙ is in
+          absurd cc
+      | inr apart ↦ simp (filter-append, other p q (λ e. apart (sym e)), append-nil)
+          (h.free q (sym (get-insert_other blocked caller key q apart) ∙ is))
+    ];
+    held = λ q v is empty. elim (cases_eq q caller) [
+      | inl same ↦ no_middle (filter (is_of q) left) [] p (simp (filter-append, own p q (sym same)) at empty)
+      | inr apart ↦ h.held q v (sym (get-insert_other blocked caller key q apart) ∙ is)
+          (simp (filter-append, other p q (λ e. apart (sym e)), append-nil) at empty)
+    ];
+    still = λ same. let before = h.still same in (
+      before.0,
+      λ front x more parts first. elim (parted left [] front more p x parts) [
+        | inl inside ↦ before.1 front x inside.more inside.front_is first
+        | inr (inl itself) ↦ λ fits. last front x before.0 itself.before_is itself.is first fits
+        | inr (inr behind) ↦ absurd (no_middle behind.more more x (sym behind.rest_is))
+      ],
+    );
+    whole = λ all. let before = h.whole all in let fits : FitsAt (after s placed) p =
+        (answered_back s (lines_of placed) (lines_of (p ∷ rest)) (rw (← lines_append placed (p ∷ rest)) before.1)).0 in
+        elim why [
+          | inl found ↦ absurd (h.held caller found.0 found.1 (ap (filter (is_of caller)) before.0))
+          | inr unfit ↦ absurd (unfit fits)
+        ];
+  }
     where
       last : (front : List Placed) (x : Placed) → placed ≡ start.placed.items → front ≡ left
           → x ≡ p → filter (is_of x.reservation.caller) front ≡ [] → FitsAt (reached s start) x → ⊥
@@ -177,12 +211,9 @@ module _ (s : Allocator) (start : Lineup) (placed left all rest : List Placed) (
       → ((v : ℕ) × (finite.get blocked p.reservation.caller ≡ Some v))
       ⊎ (FitsReserved p.reservation.reply (reply_from s.made (pool_at s at) (asks p)) → ⊥)
       → Passing s start placed items rest at now
-  left_next items now key parts is inserted why = rw (is, inserted) (Passing-leave s start placed left rest p at blocked
-      begun.sound (rw parts at h) key (elim why [
-        | inl found ↦ inl found
-        | inr unfit ↦ inr
-            (λ fits. unfit (rw fits_here fits))
-      ]))
+  left_next items now key parts is inserted why = rw (is, inserted)
+      (Passing-leave s start placed left rest p at blocked begun.sound (rw parts at h) key
+      (elim why [ inl found ↦ inl found | inr unfit ↦ inr (λ fits. unfit (rw fits_here fits)) ]))
 
 -- nothing is left to go over
 module _ (s : Allocator) (start l : Lineup) (all : List Placed) (blocked : finite.FinMap nat_cmp ℕ)

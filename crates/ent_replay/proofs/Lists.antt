@@ -57,16 +57,19 @@ module _ {X : Type 0} (p : X → Bool) (h : X) (rest : List X) where
   pub split : (xs : List X) → filter p xs ≡ h ∷ rest → Splits p h rest xs
   split [] e = absurd (let no : [] ≡ h ∷ rest = e in cc)
   split (d ∷ xs) e = elim (cases_Bool (p d)) [
-    | inl passes ↦ let here : d ∷ filter p xs ≡ h
-        ∷ rest = simp passes at e in let first : d ≡ h = cc in let others : filter p xs
-        ≡ rest = cc in record { before = []; after = xs; is = ap (λ x. x ∷ xs) first; none = tt; rest_is = others }
-    | inr
-        fails ↦ let s = split xs (simp fails at e) in record {
+    | inl passes ↦
+        let here : d ∷ filter p xs ≡ h ∷ rest = simp passes at e in
+        let first : d ≡ h = cc in
+        let others : filter p xs ≡ rest = cc in
+        record { before = []; after = xs; is = ap (λ x. x ∷ xs) first; none = tt; rest_is = others }
+    | inr fails ↦
+        let s = split xs (simp fails at e) in
+        record {
           before = d ∷ s.before;
           after = s.after;
-          is = ap
-              (λ ys. d ∷ ys) s.is;
+          is = ap (λ ys. d ∷ ys) s.is;
           none = (fails, s.none);
-          rest_is = s.rest_is;
+          rest_is =
+              s.rest_is;
         }
   ]

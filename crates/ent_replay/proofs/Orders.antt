@@ -86,7 +86,8 @@ length-ordered (l ∷ order) lines (before, after, parts, passes, more) =
 -- an alone line isn't one of a run
 not_in_run : (run : List Reservation) (order before after : List Call) (l : Call) → IsOrderOf (reserve_lines run) order
     → order ≡ before ++ l ∷ after → IsAlone l → ⊥
-not_in_run run order before after l is parts alone = not_both l alone (all_at IsReserve before after l (rw (← parts) (reserves-ordered order (reserve_lines run) is (all_reserve run))))
+not_in_run run order before after l is parts alone = not_both l alone
+    (all_at IsReserve before after l (rw (← parts) (reserves-ordered order (reserve_lines run) is (all_reserve run))))
   where
     not_both : (l : Call) → IsAlone l → IsReserve l → ⊥
     not_both (line.Reserve r) alone reserve = alone
@@ -119,10 +120,11 @@ Shows-more c n l d alone shows = record {
             (inside.more ++ shows.next ∷ shows.left) l own (ap (λ (ls : List Call). ls ++ shows.next ∷ shows.left)
             inside.front_is ∙ append_assoc p.first (l ∷ inside.more) (shows.next ∷ shows.left)) alone)
         | inr (inl itself) ↦
-            let a = length-ordered p.first (reserve_lines c.run) p.first_is in let b = length-ordered
-            (shows.placed ++ shows.next ∷ shows.left) (reserve_lines c.run) own in let e = length-append shows.placed
-            (shows.next ∷ shows.left) in let f : length p.first ≡ length shows.placed = ap length itself.before_is in absurd
-            (omega arith)
+            let a = length-ordered p.first (reserve_lines c.run) p.first_is in
+            let b = length-ordered (shows.placed ++ shows.next ∷ shows.left) (reserve_lines c.run) own in
+            let e = length-append shows.placed (shows.next ∷ shows.left) in
+            let f : length p.first ≡ length shows.placed = ap length itself.before_is in
+            absurd (omega arith)
         | inr (inr behind) ↦ shows.stuck x behind.more (some_rest c.run (shows.placed ++ x ∷ behind.more)
             (rw (← behind.before_is) p.first_is))
       ];
@@ -147,13 +149,13 @@ called-Shows c l after n d alone settled differs = record {
   stuck = λ x more is fits. let p = parts (reserve_lines c.run) [] l (settled.order ++ x ∷ more) (all_reserve c.run)
       alone is in elim (parted settled.order more p.first p.second x l p.is) [
         | inl inside ↦ not_in_run c.run settled.order p.first inside.more l settled.is_order inside.front_is alone
-        | inr
-            (inl itself) ↦ differs.unlike (subst (λ s. Fits s l) (sym settled.after_is) (rw itself.is fits))
-        | inr
-            (inr behind) ↦ let a = length-ordered p.first (reserve_lines c.run) p.first_is in let b = length-ordered
-            settled.order (reserve_lines c.run) settled.is_order in let e = length-append settled.order (x ∷ behind.more) in
-            let f : length p.first ≡ length (settled.order ++ x ∷ behind.more) = ap length behind.before_is in absurd
-            (omega arith)
+        | inr (inl itself) ↦ differs.unlike (subst (λ s. Fits s l) (sym settled.after_is) (rw itself.is fits))
+        | inr (inr behind) ↦
+            let a = length-ordered p.first (reserve_lines c.run) p.first_is in
+            let b = length-ordered settled.order (reserve_lines c.run) settled.is_order in
+            let e = length-append settled.order (x ∷ behind.more) in
+            let f : length p.first ≡ length (settled.order ++ x ∷ behind.more) = ap length behind.before_is in
+            absurd (omega arith)
       ];
 }
 

@@ -65,9 +65,11 @@ pub parts : (front rest : List Call) (x : Call) (order : List Call) → AllByRec
 parts front rest x [] reserves alone e = absurd (no_middle front rest x e)
 parts front rest x (l ∷ order) reserves alone (before, after, is, passes, more) = elim
     (parted front rest before after x l is) [
-      | inl p ↦ let here = subst (λ (ls : List Call). IsOrderOf ls order)
-          (grind (arith, common_steps, append_assoc)) more in let left = all_without IsReserve before p.more l
-          (rw (← p.front_is) reserves) in let next = parts (before ++ p.more) rest x order left alone here in record {
+      | inl p ↦
+          let here = subst (λ (ls : List Call). IsOrderOf ls order) (grind (arith, common_steps, append_assoc)) more in
+          let left = all_without IsReserve before p.more l (rw (← p.front_is) reserves) in
+          let next = parts (before ++ p.more) rest x order left alone here in
+          record {
             first = l ∷ next.first;
             second = next.second;
             is = cc next.is;
@@ -75,8 +77,6 @@ parts front rest x (l ∷ order) reserves alone (before, after, is, passes, more
                 (before, p.more, p.front_is, passes, next.first_is);
             second_is = next.second_is;
           }
-      | inr (inl p) ↦ search
-          (rules, none_before)
-      | inr (inr p) ↦ absurd (not_passed l x alone
-          (all_at (MayPass l) front p.more x (rw (← p.before_is) passes)))
+      | inr (inl p) ↦ search (rules, none_before)
+      | inr (inr p) ↦ absurd (not_passed l x alone (all_at (MayPass l) front p.more x (rw (← p.before_is) passes)))
     ]

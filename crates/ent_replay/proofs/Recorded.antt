@@ -46,8 +46,7 @@ all_follow (l ∷ lines) old new c d is new_is (next, takes, more) = elim (ok_or
   | inl ok ↦ rw (← counted old next l c is takes) (both_follow c ok.0 d (numbered next.calls l)
       (numbered_after next.calls lines) (compared old next l c (Ok ok.0) is ok.1 takes).follows
       (all_follow lines next new ok.0 d ok.1 new_is more))
-  | inr bad ↦ let same = ap (λ (x : Checker). x.comparer)
-      (stopped-all lines next new bad.0 bad.1 more) in absurd cc
+  | inr bad ↦ let same = ap (λ (x : Checker). x.comparer) (stopped-all lines next new bad.0 bad.1 more) in absurd cc
 ]
 
 -- it has stopped for a difference: no trace that begins so agrees
@@ -59,9 +58,12 @@ taken-differs (l ∷ lines) old new c d is new_is (next, takes, more) rest agree
     let here = rw (← counted old next l c is takes) at agrees in
     elim (ok_or_err next.comparer) [
       | inl ok ↦ taken-differs lines next new ok.0 d ok.1 new_is more rest
-          ((compared old next l c (Ok ok.0) is ok.1 takes).follows.complete (numbered_after next.calls lines ++ rest) here)
-      | inr bad ↦ let same = ap (λ (x : Checker). x.comparer) (stopped-all lines next new bad.0 bad.1 more) in let named :
-          bad.0 ≡ error.Differs d = cc in (rw named at (compared old next l c (Err bad.0) is bad.1 takes).none)
+          ((compared old next l c (Ok ok.0) is ok.1 takes).follows.complete (numbered_after next.calls lines ++ rest)
+          here)
+      | inr bad ↦
+          let same = ap (λ (x : Checker). x.comparer) (stopped-all lines next new bad.0 bad.1 more) in
+          let named : bad.0 ≡ error.Differs d = cc in
+          (rw named at (compared old next l c (Err bad.0) is bad.1 takes).none)
           (numbered_after next.calls lines ++ rest) here
     ]
 
@@ -77,8 +79,7 @@ pub finished-agrees : {A : Type 0} (limits : Limits) (start : Checker) (lines : 
 finished-agrees limits start lines answer opens (taken, all, closes, stopped) ok = elim (ok_or_err taken.comparer) [
   | inl c ↦ rw append-nil at ((all_follow lines start taken (opened limits) c.0 opens c.1 all).sound []
       (given_ok answer (AgreesWith c.0 []) ok (rw c.1 at closes).agrees))
-  | inr e ↦ let same : answer
-      ≡ Err e.0 = rw e.1 at stopped in let failed = rw same at ok in absurd cc
+  | inr e ↦ let same : answer ≡ Err e.0 = rw e.1 at stopped in let failed = rw same at ok in absurd cc
 ]
 
 -- It ends with a difference: the trace doesn't agree.
@@ -88,9 +89,11 @@ pub finished-differs : {A : Type 0} (limits : Limits) (start : Checker) (lines :
 finished-differs limits start lines answer d opens (taken, all, closes, stopped) named agrees =
     let whole = rw (← append-nil (numbered_after start.calls lines)) at agrees in
     elim (ok_or_err taken.comparer) [
-      | inl c ↦ (rw named at (rw c.1 at closes).none)
-          ((all_follow lines start taken (opened limits) c.0 opens c.1 all).complete [] whole)
-      | inr e ↦ let kept : answer
-          ≡ Err e.0 = rw e.1 at stopped in let same : e.0 ≡ error.Differs d = cc in taken-differs lines start taken
-          (opened limits) d opens (e.1 ∙ ap (λ (x : CheckError). Err x) same) all [] whole
+      | inl c ↦ (rw named at (rw c.1 at closes).none) ((all_follow lines start taken (opened limits) c.0 opens c.1
+          all).complete [] whole)
+      | inr e ↦
+          let kept : answer ≡ Err e.0 = rw e.1 at stopped in
+          let same : e.0 ≡ error.Differs d = cc in
+          taken-differs lines start taken (opened limits) d opens (e.1 ∙ ap (λ (x : CheckError). Err x) same) all []
+          whole
     ]

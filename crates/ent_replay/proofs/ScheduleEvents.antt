@@ -85,8 +85,8 @@ event_lacks it is = grind (arith, common_steps, handle_lacks, decimal_lacks)
 
 lacks_all : (separator : ℕ) (bytes : List ℕ) → lacks separator bytes ≡ true
     → All (λ byte. eqb byte separator ≡ false) bytes
-lacks_all separator bytes h k d lt =
-    not_true _ (AllPass-from_list_all (λ byte. not (eqb byte separator)) bytes h k d lt)
+lacks_all separator bytes h k d lt = not_true _ (AllPass-from_list_all (λ byte. not (eqb byte separator)) bytes h k d
+    lt)
   where
     not_true : (b : Bool) → not b ≡ true → b ≡ false
     not_true true e = absurd (false≢true e)

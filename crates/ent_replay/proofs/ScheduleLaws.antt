@@ -149,10 +149,8 @@ onto_first-append x parts more long = search rules
 split_ended : (text : List ℕ) → slice_split is_end (text ++ 10 ∷ []) ≡ slice_split is_end text ++ [] ∷ []
 split_ended [] = refl
 split_ended (x ∷ xs) = elim (cases_Bool (is_end x)) [
-  | inl same ↦ rw same
-      (ap (λ (ps : List (List ℕ)). [] ∷ ps) (split_ended xs))
-  | inr other ↦ rw other
-      (ap (onto_first x) (split_ended xs) ∙ onto_first-append x (slice_split is_end xs) ([] ∷ [])
+  | inl same ↦ rw same (ap (λ (ps : List (List ℕ)). [] ∷ ps) (split_ended xs))
+  | inr other ↦ rw other (ap (onto_first x) (split_ended xs) ∙ onto_first-append x (slice_split is_end xs) ([] ∷ [])
       (parts_nonempty 10 xs))
 ]
 

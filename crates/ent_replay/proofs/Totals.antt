@@ -16,10 +16,9 @@ unfolding sum_below
 sum_below-changed f g c zero lt alike = absurd (omega arith)
 sum_below-changed f g c (suc n) lt alike = elim (cases_lt c n) [
   | inl below ↦ omega (arith, sum_below-changed f g c n below alike, alike n (λ same. absurd (omega arith)))
-  | inr
-      past ↦ let here : c
-      ≡ n = omega arith in omega
-      (arith, sum_below-alike f g n (λ q below. alike q (λ same. absurd (omega arith))), ap f here, ap g here)
+  | inr past ↦
+      let here : c ≡ n = omega arith in
+      omega (arith, sum_below-alike f g n (λ q below. alike q (λ same. absurd (omega arith))), ap f here, ap g here)
 ]
 
 pub sum_below-bound : (f : ℕ → ℕ) (b n : ℕ) → ((q : ℕ) → f q ≤ b) → sum_below f n ≤ n * b
@@ -36,8 +35,7 @@ unfolding sum_below
 sum_below-part f c zero lt = absurd (omega arith)
 sum_below-part f c (suc n) lt = elim (cases_lt c n) [
   | inl below ↦ omega (arith, sum_below-part f c n below)
-  | inr past
-      ↦ let here : c ≡ n = omega arith in omega (arith, ap f here)
+  | inr past ↦ let here : c ≡ n = omega arith in omega (arith, ap f here)
 ]
 
 pub sum_below-none : (f : ℕ → ℕ) (n : ℕ) → ((q : ℕ) → f q ≡ 0) → sum_below f n ≡ 0

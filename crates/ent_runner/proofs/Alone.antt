@@ -26,10 +26,9 @@ rising_from a [] rises least below = refl
 rising_from a (x ∷ xs) rises least below =
     let above : All (λ n. x < n) xs = λ k d within. rises 0 (suc k) d (omega arith) (omega arith) in
     let low : a ≤ x = least 0 x (omega arith) in
-    let rest = rising_from (a + 1) xs
-    (λ i j d less within. rises (suc i) (suc j) d (omega arith) (omega arith))
-    (λ k d within. let l = above k d within in omega arith)
-    (λ k d within. let l = below (suc k) d (omega arith) in omega arith) in
+    let rest = rising_from (a + 1) xs (λ i j d less within. rises (suc i) (suc j) d (omega arith) (omega arith))
+    (λ k d within.
+    let l = above k d within in omega arith) (λ k d within. let l = below (suc k) d (omega arith) in omega arith) in
     let here : x ≡ a = first xs x a low above (below 0 x (omega arith)) rest in
     (λ i. here i ∷ rest i)
   where
@@ -70,15 +69,14 @@ module _ {S : Type 0} (may : S → View → List Command → Type 0) (systems : 
       (ap (flat_map (λ mine. mine)) single ∙ append-nil mine) frame.once in
       let long : length mine ≡ length systems = sym (length_permutation mine range same)
       ∙ length-range_with_len 0 (length systems) in
-      let below = All-permutation (λ n. n < length systems) range mine
-      (IsPermutation-sym mine range same) (all_below (length systems)) in
-      let whole = rising_from 0 mine work.rising (λ k d within. omega arith)
-      (λ k d within. let b = below k d within in omega arith) in
-      let commands : commands_of queues mine ≡ flat_map (λ queue. queue) queues =
-      ap (commands_of queues) (whole ∙ ap (range_with_len 0) (long ∙ sym frame.count))
-      ∙ queues_in_order queues [] queues 0 refl refl in
-      let callers : All (λ (call : Call). call.caller < 1) history =
-      subst (λ w. All (λ (call : Call). call.caller < w) history) one frame.callers in
+      let below = All-permutation (λ n. n < length systems) range mine (IsPermutation-sym mine range same)
+      (all_below (length systems)) in
+      let whole = rising_from 0 mine work.rising (λ k d within. omega arith) (λ k d within.
+      let b = below k d within in omega arith) in
+      let commands : commands_of queues mine ≡ flat_map (λ queue. queue) queues = ap (commands_of queues)
+      (whole ∙ ap (range_with_len 0) (long ∙ sym frame.count)) ∙ queues_in_order queues [] queues 0 refl refl in
+      let callers : All (λ (call : Call). call.caller < 1) history = subst
+      (λ w. All (λ (call : Call). call.caller < w) history) one frame.callers in
       search (rules, calls_back history callers, work.calls, commands)
     where
       alone : (ran : List (List ℕ)) (mine : List ℕ) → length ran ≡ 1 → slice_get ran 0 ≡ Some mine

@@ -152,14 +152,15 @@ module _ {O : Type 0} where
   module _ (numbers : ℕ) (team : List (Worker O)) (first : HaveDoneFirst numbers team) where
     -- if each job has an output, all were done
     pub all_ran : (outputs : List O) → map Some outputs ≡ by_number numbers team → first.count ≡ numbers
-    all_ran outputs each = ⊎_elim (λ (less : first.count < numbers). let lacks : get_or (by_number numbers team)
-        first.count no_output ≡ no_output = left_out first.count (all_done team) first.once numbers first.count
-        no_output (omega arith) less in let long = length-map outputs Some in let put = length_put (all_done team)
+    all_ran outputs each = ⊎_elim
+        (λ (less : first.count < numbers). let lacks : get_or (by_number numbers team) first.count no_output
+        ≡ no_output = left_out first.count (all_done team) first.once numbers first.count no_output (omega arith)
+        less in let long = length-map outputs Some in let put = length_put (all_done team)
         (replicate numbers None) in let many = length-replicate numbers no_output in let there = at_within outputs
         first.count (omega (arith, long, put, many, ap length each, less)) in let some = get_or_from_slice_get
-        (map Some outputs) first.count (Some there.0) no_output (get_mapped Some outputs first.count there.0 there.1) in
-        absurd (none-some there.0 (sym lacks ∙ (ap (λ all. get_or all first.count no_output) (sym each) ∙ some))))
-        (λ (all : numbers ≤ first.count). omega (arith, first.within)) (cases_lt first.count numbers)
+        (map Some outputs) first.count (Some there.0) no_output (get_mapped Some outputs first.count there.0
+        there.1) in absurd (none-some there.0 (sym lacks ∙ (ap (λ all. get_or all first.count no_output) (sym each)
+        ∙ some)))) (λ (all : numbers ≤ first.count). omega (arith, first.within)) (cases_lt first.count numbers)
 
     -- if one lacks it, some are left
     pub some_left : Any (λ (output : Option O). output ≡ None) (by_number numbers team)
@@ -216,8 +217,8 @@ module _ {O : Type 0} where
         let less : k < length before = omega (arith, worked.count) in
         let a = at_within before k less in
         let b = at_within after k (omega (arith, worked.lent)) in
-        has_claimed (get_or team k d) a.0 b.0
-        (worked_at k (get_or team k d) a.0 b.0 (slice_get-get_or team k d within) a.1 b.1)
+        has_claimed (get_or team k d) a.0 b.0 (worked_at k (get_or team k d) a.0 b.0 (slice_get-get_or team k d within)
+        a.1 b.1)
       where
         has_claimed : (w : Worker O) (a b : L) → HasWorked may leave may_have claims a b w
             → HasClaimed claims w
@@ -238,8 +239,8 @@ module _ {O : Type 0} where
     ran_flat = search (rules, flat_map-map, map_flat)
 
     rising : All (AllPairs (λ m n. m < n)) (map (λ (w : Worker O). numbers_of w.done.items) team)
-    rising = All-map (AllPairs (λ m n. m < n)) (λ (w : Worker O). numbers_of w.done.items) team
-        (λ k d within. let has = all_claimed k d within in rw has.claimed has.claimer.rises)
+    rising = All-map (AllPairs (λ m n. m < n)) (λ (w : Worker O). numbers_of w.done.items) team (λ k d within.
+        let has = all_claimed k d within in rw has.claimed has.claimer.rises)
 
     long_ran : length (map (λ (w : Worker O). numbers_of w.done.items) team) ≡ length before
     long_ran = length-map team _ ∙ worked.count
@@ -257,14 +258,13 @@ module _ {O : Type 0} where
           → HasStoppedAt may leave a w.done.items b → DidUntil may leave outputs a (numbers_of w.done.items) b
       until a b w own s =
           let whole = rw s.done_are at own in
-          let last : slice_get outputs s.last.number ≡ Some s.last.output =
-          each_of_all (λ (d : Done O). slice_get outputs d.number ≡ Some d.output)
-          (s.earlier ++ s.last ∷ []) (length s.earlier) s.last whole (seam s.earlier s.last) in
+          let last : slice_get outputs s.last.number ≡ Some s.last.output = each_of_all
+          (λ (d : Done O). slice_get outputs d.number ≡ Some d.output) (s.earlier ++ s.last ∷ []) (length s.earlier)
+          s.last whole (seam s.earlier s.last) in
           record {
             earlier = numbers_of s.earlier;
             last = s.last.number;
-            numbers_are = ap numbers_of s.done_are
-                ∙ map-append (λ (d : Done O). d.number) s.earlier (s.last ∷ []);
+            numbers_are = ap numbers_of s.done_are ∙ map-append (λ (d : Done O). d.number) s.earlier (s.last ∷ []);
             between = s.between;
             ended = kept_all may outputs a s.earlier s.between (front s.earlier s.last whole) s.ended;
             stopped = (s.last.output, last, s.stopped);
@@ -315,8 +315,7 @@ module _ {O : Type 0} where
     pub are_broken_off : HaveDoneFirst claims.numbers team → IsLostFor claims.numbers team
         → AreBrokenOff may leave claims.numbers before after
     are_broken_off first lost =
-        let there = unwrapped (by_number first.count team)
-        (full first.count (all_done team) first.once) in
+        let there = unwrapped (by_number first.count team) (full first.count (all_done team) first.once) in
         let outputs : List O = there.0 in
         let at = outputs_at first.count (all_done team) first.once outputs there.1 in
         record {
@@ -329,13 +328,12 @@ module _ {O : Type 0} where
           rising = rising;
           outputs = outputs;
           each_output = long first.count (all_done team) first.once outputs there.1;
-          did = λ k mine a b at_mine at_a at_b.
-              let w = mapped_at (λ (w : Worker O). numbers_of w.done.items) team k mine at_mine in
-              rw (sym w.2) (either_by outputs at k w.0 a b w.1 at_a at_b w.0.stopped refl);
+          did = λ k mine a b at_mine at_a at_b. let w = mapped_at (λ (w : Worker O). numbers_of w.done.items) team k
+              mine at_mine in rw (sym w.2) (either_by outputs at k w.0 a b w.1 at_a at_b w.0.stopped refl);
           why = why first outputs at lost;
-          busy = λ less. All-map (λ mine. 0 < length mine)
-              (λ (w : Worker O). numbers_of w.done.items) team
-              (λ k d within. let some = first.busy less k d within in
+          busy = λ less. All-map (λ mine. 0 < length mine) (λ (w : Worker O). numbers_of w.done.items) team
+              (λ k d within.
+              let some = first.busy less k d within in
               omega (arith, some, length-map (get_or team k d).done.items (λ (d : Done O). d.number)));
         }
       where

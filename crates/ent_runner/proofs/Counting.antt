@@ -25,8 +25,9 @@ found_in n (x ∷ xs) (suc k, within, at) = search (rules, sum_by-cons, found_in
 
 pub inside : (n : ℕ) (xs : List ℕ) → 1 ≤ sum_by (is n) xs → Contains xs n
 inside n [] some = absurd (omega arith)
-inside n (x ∷ xs) some = dite (ℕ_discrete x n) (λ same. (0, omega arith, same))
-    (λ other. let sums = sum_by-cons (is n) x xs in let rest = inside n xs (omega (arith, is_other n x other)) in
+inside n (x ∷ xs) some = dite (ℕ_discrete x n) (λ same. (0, omega arith, same)) (λ other.
+    let sums = sum_by-cons (is n) x xs in
+    let rest = inside n xs (omega (arith, is_other n x other)) in
     (suc rest.0, omega (arith, rest.1), rest.2))
 
 -- how often a number stands among those from low on

@@ -38,9 +38,11 @@ module _ {O : Type 0} where
         → length after ≡ length before → AreDone (Alone P) jobs before outputs after → (n : ℕ) → n < jobs
         → HoldsAt P outputs n
     each_done P jobs before outputs after same done = everywhere (HoldsAt P outputs) jobs done.ran done.once
-        (λ k mine at. let less = slice_get_within done.ran k mine at in let a = at_within before k
-        (omega (arith, done.each_worker)) in let b = at_within after k (omega (arith, done.each_worker, same)) in held P
-        outputs a.0 mine b.0 (done.did k mine a.0 b.0 at a.1 b.1))
+        (λ k mine at.
+        let less = slice_get_within done.ran k mine at in
+        let a = at_within before k (omega (arith, done.each_worker)) in
+        let b = at_within after k (omega (arith, done.each_worker, same)) in
+        held P outputs a.0 mine b.0 (done.did k mine a.0 b.0 at a.1 b.1))
 
     held_either : (P Q : ℕ → O → Type 0) (outputs : List O) (a : L) (mine : List ℕ) (b : L)
         → DidAll (Alone P) outputs a mine b ⊎ DidUntil (Alone P) (Alone Q) outputs a mine b
@@ -57,6 +59,8 @@ module _ {O : Type 0} where
         → (done : AreBrokenOff (Alone P) (Alone Q) jobs before after) → (n : ℕ) → n < done.count
         → HoldsAt (λ m output. P m output ⊎ Q m output) done.outputs n
     each_either P Q jobs before after same done = everywhere (HoldsAt (Either P Q) done.outputs) done.count done.ran
-        done.once (λ k mine at. let less = slice_get_within done.ran k mine at in let a = at_within before k
-        (omega (arith, done.each_worker)) in let b = at_within after k (omega (arith, done.each_worker, same)) in
+        done.once (λ k mine at.
+        let less = slice_get_within done.ran k mine at in
+        let a = at_within before k (omega (arith, done.each_worker)) in
+        let b = at_within after k (omega (arith, done.each_worker, same)) in
         held_either P Q done.outputs a.0 mine b.0 (done.did k mine a.0 b.0 at a.1 b.1))

@@ -128,9 +128,11 @@ module _ (before : World) (workers : ℕ) (records : List Record) (queues : List
   ours = All-map (λ (call : Call). call.caller < workers) as_call (reservations_of records)
       (all_sorted (λ (c : Reservation). c.caller < workers) (own_of_all records)
       (all_flat (λ (c : Reservation). c.caller < workers) (λ (r : Record). own_reservations r.entries) records
-      (λ k d within. let there = at_within ran k (omega (arith, long, teams)) in let r = get_or records k d in let g =
-      gains k there.0 r there.1 (slice_get-get_or records k d within) in rw (own_are k r there.0 g)
-      (λ m e inner. let same = g.callers m e inner in omega (arith, long)))))
+      (λ k d within.
+      let there = at_within ran k (omega (arith, long, teams)) in
+      let r = get_or records k d in
+      let g = gains k there.0 r there.1 (slice_get-get_or records k d within) in
+      rw (own_are k r there.0 g) (λ m e inner. let same = g.callers m e inner in omega (arith, long)))))
 
 module _ {S : Type 0} (may : S → View → List Command → Type 0) (systems : List S) (view : View) where
   -- what a system may do as a job
@@ -167,9 +169,11 @@ module _ {S : Type 0} (may : S → View → List Command → Type 0) (systems : 
         work = worked before workers records queues done.ran long teams respects gains done.rising;
         count = done.count;
         each_system = λ n system at. everywhere (λ n. May n (queue_at queues n)) (length systems) done.ran done.once
-            (λ k mine at_mine. let less = slice_get_within done.ran k mine at_mine in let r = at_within records k
-            (omega (arith, teams, long)) in all_hold queues May (opened before.allocator k) mine r.0
-            (did k mine r.0 at_mine r.1)) n (slice_get_within systems n system at) system at;
+            (λ k mine at_mine.
+            let less = slice_get_within done.ran k mine at_mine in
+            let r = at_within records k (omega (arith, teams, long)) in
+            all_hold queues May (opened before.allocator k) mine r.0 (did k mine r.0 at_mine r.1))
+            n (slice_get_within systems n system at) system at;
       }
 
   module _ (leave : S → View → List Command → Type 0) where
@@ -222,10 +226,11 @@ module _ {S : Type 0} (may : S → View → List Command → Type 0) (systems : 
           once = done.once;
           queues = queues;
           each_queue = done.each_output;
-          each_system = everywhere (λ n. Left n (queue_at queues n)) done.count done.ran done.once
-              (λ k mine at_mine. let less = slice_get_within done.ran k mine at_mine in let r = at_within records k
-              (omega (arith, teams, long)) in all_hold queues Left (opened before.allocator k) mine r.0
-              (either queues (opened before.allocator k) mine r.0 (any k mine r.0 at_mine r.1)));
+          each_system = everywhere (λ n. Left n (queue_at queues n)) done.count done.ran done.once (λ k mine at_mine.
+              let less = slice_get_within done.ran k mine at_mine in
+              let r = at_within records k (omega (arith, teams, long)) in
+              all_hold queues Left (opened before.allocator k) mine r.0 (either queues (opened before.allocator k) mine
+              r.0 (any k mine r.0 at_mine r.1)));
           work = worked before workers records queues done.ran long teams respects gains done.rising;
           ended = λ k mine at_mine. let less = slice_get_within done.ran k mine at_mine in let r = at_within records k
               (omega (arith, teams, long)) in in_turn queues (opened before.allocator k) mine r.0

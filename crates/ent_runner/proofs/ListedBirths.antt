@@ -52,12 +52,12 @@ module _ {X : Type 0} (f : X → ℕ) where
   unfolding others
   one_less n [] apart = omega arith
   one_less n (x ∷ xs) apart = elim (cases_eq (f x) n) [
-    | inl e ↦ let same : others n xs
-        ≡ xs = filter_all (λ x. not (f x == n)) xs (λ k d l. rw
-        (ne_eqb (f (get_or xs k d)) n (λ is. apart 0 (suc k) d (omega arith) (omega arith) (e ∙ sym is)))) in rw
-        (eq-eqb (f x) n e) (omega (arith, ap length same))
-    | inr ne ↦ rw (ne_eqb (f x) n ne)
-        (omega (arith, one_less n xs (AllPairs-tail HaveTwo x xs apart)))
+    | inl e ↦
+        let same : others n xs ≡ xs = filter_all (λ x. not (f x == n)) xs
+        (λ k d l. rw (ne_eqb (f (get_or xs k d)) n (λ is. apart 0 (suc k) d (omega arith) (omega arith)
+        (e ∙ sym is)))) in
+        rw (eq-eqb (f x) n e) (omega (arith, ap length same))
+    | inr ne ↦ rw (ne_eqb (f x) n ne) (omega (arith, one_less n xs (AllPairs-tail HaveTwo x xs apart)))
   ]
 
   -- elements with numbers below n, no two with the same one, are n at most
@@ -85,8 +85,8 @@ IsListed queues h = (system : ℕ) × (k : ℕ) × (system < length queues) × L
 all_listed : (queues : List (List Command)) → All (IsListed queues) (flat_map handles_listed queues)
 all_listed [] = All-nil (IsListed [])
 all_listed (q ∷ qs) = All-append (IsListed (q ∷ qs)) (handles_listed q) (flat_map handles_listed qs)
-    (λ k d within. (0, k, omega arith, slice_get-get_or (handles_listed q) k d within))
-    (λ k d within. let there = all_listed qs k d within in (suc there.0, there.1, omega (arith, there.2), there.3))
+    (λ k d within. (0, k, omega arith, slice_get-get_or (handles_listed q) k d within)) (λ k d within.
+    let there = all_listed qs k d within in (suc there.0, there.1, omega (arith, there.2), there.3))
 
 not_there : (hs : List Handle) (h : Handle) → ¬ (Contains hs h) → stands_in hs h ≡ false
 not_there hs h away = search (rules, Contains-from_stands_in)

@@ -121,9 +121,8 @@ by_callers workers (call ∷ history) callers =
     let rest = by_callers workers history (λ k d within. callers (suc k) d (omega arith)) in
     let less : call.caller < workers = callers 0 call (omega arith) in
     let whole : flat_map (with_call call.caller handles (given_to history)) numbers
-    ≡ flat_map (given_to (call ∷ history)) numbers =
-    λ i. flat_map (λ k. by_test (call.caller == k) (filter (λ (c : Call). c.caller == k) history) i)
-    numbers in
+    ≡ flat_map (given_to (call ∷ history)) numbers = λ i. flat_map
+    (λ k. by_test (call.caller == k) (filter (λ (c : Call). c.caller == k) history) i) numbers in
     rw (sym whole) (IsPermutation-trans _ _ _ (IsPermutation-append_right handles _ _ rest)
     (one_gets call.caller 0 workers handles (given_to history) (omega arith) (omega arith)))
   where

@@ -38,8 +38,10 @@ flat_all P f (x ∷ xs) all = All-cons (λ x. All P (f x)) x xs (All-left P (f x
 pub same_flat : {X Y : Type 0} (f g : X → List Y) (xs : List X) → All (λ x. f x ≡ g x) xs
     → flat_map f xs ≡ flat_map g xs
 same_flat f g [] all = refl
-same_flat f g (x ∷ xs) all = let here = All-head (λ x. f x ≡ g x) x xs all in let rest =
-    same_flat f g xs (All-tail (λ x. f x ≡ g x) x xs all) in (λ i. here i ++ rest i)
+same_flat f g (x ∷ xs) all =
+    let here = All-head (λ x. f x ≡ g x) x xs all in
+    let rest = same_flat f g xs (All-tail (λ x. f x ≡ g x) x xs all) in
+    (λ i. here i ++ rest i)
 
 pub map_flat : {X Y Z : Type 0} (g : Y → Z) (f : X → List Y) (xs : List X)
     → map g (flat_map f xs) ≡ flat_map (λ x. map g (f x)) xs

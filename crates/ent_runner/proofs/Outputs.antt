@@ -23,9 +23,11 @@ module _ {O : Type 0} where
   found n [] some = absurd (omega arith)
   found n (d ∷ done) some = elim (cases_eq d.number n) [
     | inl e ↦ (0, d, refl, e)
-    | inr ne ↦ let sums = sum_by-cons
-        (is_of n) d done in let away : is_of n d ≡ 0 = rw (ne_eqb d.number n ne) in let rest = found n done
-        (omega arith) in (suc rest.0, rest.1, rest.2, rest.3)
+    | inr ne ↦
+        let sums = sum_by-cons (is_of n) d done in
+        let away : is_of n d ≡ 0 = rw (ne_eqb d.number n ne) in
+        let rest = found n done (omega arith) in
+        (suc rest.0, rest.1, rest.2, rest.3)
   ]
 
   abbrev none : Option O

@@ -138,9 +138,10 @@ module _ (numbers workers : ℕ) where
         words = set s.words 0 ((get_or s.words 0 0 + 1) % 2 ^ 64);
         views = set s.views id
             (w ∷ []);
-      }) = ⊎_elim (λ (below : word < numbers). let is : w ≡ with_claim r k.claimed = search (rules, lt-ltb) in
-      rw is (after_number s k id r _ at below now)) (λ (above : numbers ≤ word). let is : w
-      ≡ with_end r = search (rules, le-ltb) in rw is (after_end s k id r _ at going above now))
+      }) = ⊎_elim (λ (below : word < numbers).
+      let is : w ≡ with_claim r k.claimed = search (rules, lt-ltb) in rw is (after_number s k id r _ at below now))
+      (λ (above : numbers ≤ word).
+      let is : w ≡ with_end r = search (rules, le-ltb) in rw is (after_end s k id r _ at going above now))
       (cases_lt word numbers) in
       (w ∷ [], keeps, tt, ruled, (refl, λ x is _. search (rules, told)))
 

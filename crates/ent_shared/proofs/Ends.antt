@@ -66,8 +66,8 @@ module _ (start : Allocator) (count : ℕ) where
         spans = record { log = []; follow = sym at; all = λ f. search (rules, sum_by-cons, weigh-opened) };
         replied = All-nil (HasItsReply start);
         records = search (rules, sum_by-cons, length-opened);
-        numbers = λ number. (let sums = sum_by-cons (numbered number) v [] in let n =
-            (numbered-opened number 0 count).0 in omega arith);
+        numbers = λ number. (
+            let sums = sum_by-cons (numbered number) v [] in let n = (numbered-opened number 0 count).0 in omega arith);
         each = all_one (All (IsKept start (cursor_of word) [])) v (all_kept-opened (cursor_of word) 0 count least);
       }
 

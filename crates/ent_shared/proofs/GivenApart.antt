@@ -62,9 +62,9 @@ once (g ∷ gs) differ h =
 -- and the other way around
 differ_if_once : (gs : List Handle) → ((h : Handle) → sum_by (is_one h) gs ≤ 1) → Differ gs
 differ_if_once [] few = λ i j d lt within. absurd (omega arith)
-differ_if_once (g ∷ gs) few = AllPairs-cons (λ g h. g ≢ h) g gs
-    (λ i d lt same. let there = counted g gs (subst (Contains gs) (sym same) (All-contains_itself gs i d lt)) in grind
-    (arith, common_steps, sum_by-cons, one_itself g, few g))
+differ_if_once (g ∷ gs) few = AllPairs-cons (λ g h. g ≢ h) g gs (λ i d lt same.
+    let there = counted g gs (subst (Contains gs) (sym same) (All-contains_itself gs i d lt)) in
+    grind (arith, common_steps, sum_by-cons, one_itself g, few g))
     (differ_if_once gs (λ h. grind (arith, common_steps, sum_by-cons, few h)))
 
 -- a handle is in replies as often as in the lists of their handles
@@ -76,7 +76,11 @@ in_replies h (c ∷ cs) = search (rules, sum_by-append, sum_by-cons, in_replies 
 -- what these records were given differs if what all were given does
 pub some_differ : (records : List Record) (log : List Reservation) → ((f : Reservation → ℕ) → weigh f records ≤ sum_by f
     log) → Differ (handles_of log) → Differ (handles_of (own_of_all records))
-some_differ records log some differ = differ_if_once _ (λ h. let here = in_replies h (own_of_all records) in let all =
-    in_replies h log in let less = some (λ c. sum_by (is_one h) (handles_in c.reply)) in let few = once (handles_of log)
-    differ h in let apart = sum_by-flat_map (λ (r : Record). own_reservations r.entries)
-    (λ (c : Reservation). sum_by (is_one h) (handles_in c.reply)) records in omega arith)
+some_differ records log some differ = differ_if_once _ (λ h.
+    let here = in_replies h (own_of_all records) in
+    let all = in_replies h log in
+    let less = some (λ c. sum_by (is_one h) (handles_in c.reply)) in
+    let few = once (handles_of log) differ h in
+    let apart = sum_by-flat_map (λ (r : Record). own_reservations r.entries)
+    (λ (c : Reservation). sum_by (is_one h) (handles_in c.reply)) records in
+    omega arith)

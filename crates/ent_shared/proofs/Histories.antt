@@ -120,15 +120,16 @@ module _ (start : Allocator) (count : ℕ) (records : List Record) (at : ℤ) (k
       let weighs : WeighSame own (reservations_by r.number log) = λ f. let g : Record
       → ℕ = λ (x : Record). sum_by f (own_reservations x.entries) in let h : Record
       → ℕ = λ (x : Record). sum_by (only r.number f) (own_reservations x.entries) in let parted : sum_by h records
-      ≡ sum_by (of_number r.number g) records = search (rules, sum_same, of_number, All-weaker, own_by_caller) in let
-      alone = one_of_number r.number g records r (k.numbers r.number) inside refl in search
+      ≡ sum_by (of_number r.number g) records = search (rules, sum_same, of_number, All-weaker, own_by_caller) in
+      let alone = one_of_number r.number g records r (k.numbers r.number) inside refl in search
       (rules, only, sum_by_caller) in
       let same = same_fall own (reservations_by r.number log) (own_fall r.entries own_requests kept.marks.order)
       (strictly_by r.number log falls) (λ i c lt. contains_by r.number log _ (own_in i c lt) (kept.caller i c lt))
       weighs in
       record {
         own = ap (reservations_by r.number) is ∙ sym same;
-        after = rw is (follows log r.entries falls requests kept.marks.known kept.marks.order);
+        after = rw is
+            (follows log r.entries falls requests kept.marks.known kept.marks.order);
       }
 
   pub respects_all : All (Respects (reservations_of records)) records

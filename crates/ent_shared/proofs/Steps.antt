@@ -73,22 +73,18 @@ module _ (start : Allocator) (count : ℕ) where
           word = word - n;
           words = search rules;
           spans = record {
-            log = log ++ c
-                ∷ [];
+            log = log ++ c ∷ [];
             follow = subst (Follow (cursor start) (log ++ c ∷ [])) (sym now)
                 (follow-snoc (cursor start) log c high k.spans.follow refl some_request);
             all = λ f. search
                 (rules, sum_at, own-made, sum_by-append, sum_by-cons);
           };
-          replied = All-append (HasItsReply start) log
-              (c ∷ []) k.replied (search (rules, all_one, kept.start_is));
-          records =
-              (let changed = sum_at length s.views id (r ∷ []) w at in let was = k.records in omega arith);
-          numbers =
-              λ number. let same = sum_at (numbered number) s.views id (r ∷ []) w at in let was = k.numbers number in
-              omega arith;
-          each = subst (λ z. All (K z) (set s.views id w)) (sym now)
-              (All-set (K (high -ℤ pos n)) s.views id w own others);
+          replied = All-append (HasItsReply start) log (c ∷ []) k.replied (search (rules, all_one, kept.start_is));
+          records = (let changed = sum_at length s.views id (r ∷ []) w at in let was = k.records in omega arith);
+          numbers = λ number. let same = sum_at (numbered number) s.views id (r ∷ []) w at in let was = k.numbers
+              number in omega arith;
+          each = subst (λ z. All (K z) (set s.views id w)) (sym now) (All-set (K (high -ℤ pos n)) s.views id w own
+              others);
         },
         (refl, λ x is. search (rules, is, told)),
       )

@@ -106,10 +106,8 @@ module _ (m : EntityMap) (phase : ℕ) (queues : List (List Command)) (hs : List
   -- those that have no birth of a system are those that no queue lists
   others_are : waiting listed hs ≡ others
   others_are = filter_alike (is_unnamed listed) (λ h. is_none (listed_birth 0 0 queues h)) hs
-      (λ h there.
-      ap (λ (o : Option Entity). option_map_or (λ e. eqb e.birth.system no_system) o false)
-      (listed-born h there)
-      ∙ by_birth (By h) (listed_of_system phase 0 queues h (omega (arith, few)))
+      (λ h there. ap (λ (o : Option Entity). option_map_or (λ e. eqb e.birth.system no_system) o false)
+      (listed-born h there) ∙ by_birth (By h) (listed_of_system phase 0 queues h (omega (arith, few)))
       ∙ sym (listed_anyhow queues phase 0 0 h))
     where
       by_birth : (b : Option Birth) → IsOfSystem b
@@ -141,13 +139,10 @@ module _ (m : EntityMap) (phase : ℕ) (queues : List (List Command)) (hs : List
   pub births_given : numbered (first_birth phase no_system) hs (named_queues hs phase 0 queues all)
       ≡ with_born m (birth_in phase queues hs) hs
   unfolding listed
-  births_given = map.same_map handle_cmp_total handle_cmp-IsAntisymmetric _ _ (λ q.
-      get-numbered phase 0 hs listed q once
-      ∙ ap (λ gs. or_numbered (map.get listed q)
-      (birth_by_index phase no_system (position_from (eq_by_cmp handle_cmp q) 0 gs)))
-      others_are
-      ∙ by_test q (stands_in hs q) refl
-      ∙ sym (get-with_born (birth_in phase queues hs) hs m q))
+  births_given = map.same_map handle_cmp_total handle_cmp-IsAntisymmetric _ _
+      (λ q. get-numbered phase 0 hs listed q once ∙ ap (λ gs. or_numbered (map.get listed q)
+      (birth_by_index phase no_system (position_from (eq_by_cmp handle_cmp q) 0 gs))) others_are
+      ∙ by_test q (stands_in hs q) refl ∙ sym (get-with_born (birth_in phase queues hs) hs m q))
     where
       by_test : (q : Handle) (b : Bool) → stands_in hs q ≡ b
           → or_numbered (map.get listed q) (birth_by_index phase no_system (index q))

@@ -101,8 +101,8 @@ module _ (queues : List (List Command)) (w : World) (sound : IsSound w.allocator
 -- it gives nothing
 pub sync-given : (queues : List (List Command)) (w : World) (given : List Handle) → IsSound w.allocator
     → AreLiving w.allocator w.entities → AreSpent w.allocator given → AreSpent (sync queues w).world.allocator given
-sync-given queues w given sound living once = (after_queues-keeps (IsOnTheWay given)
-    (on_the_way-kept given) 0 queues (applied (after_births queues w) []) at_start).spent
+sync-given queues w given sound living once = (after_queues-keeps (IsOnTheWay given) (on_the_way-kept given) 0 queues
+    (applied (after_births queues w) []) at_start).spent
   where
     at_start : IsOnTheWay given (after_births queues w)
     at_start = search (rules, births-flushed, flush-given)

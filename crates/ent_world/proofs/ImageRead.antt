@@ -125,8 +125,8 @@ listed w has e is hs rising lists = search (rules, living_keys)
 -- none has a row
 pub no_rows : (e : Allocator) → HasAllocatorImage e → (hs : List Handle) → set.from_list hs ≡ e.allocator.live
     → All (λ h. map.get e.rows h ≡ None) hs → e.rows ≡ map.empty
-no_rows e has hs lists bare = map.same_map total same e.rows map.empty (λ h.
-    none_at h (stands_in hs h) refl ∙ sym (map.get-empty handle_cmp h))
+no_rows e has hs lists bare = map.same_map total same e.rows map.empty
+    (λ h. none_at h (stands_in hs h) refl ∙ sym (map.get-empty handle_cmp h))
   where
     none_at : (h : Handle) (b : Bool) → stands_in hs h ≡ b → map.get e.rows h ≡ None
     none_at h true is = All-contains (λ h. map.get e.rows h ≡ None) hs h bare (Contains-from_stands_in hs h is)

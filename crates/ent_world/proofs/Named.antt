@@ -114,7 +114,8 @@ module _ (start : EntityMap) (name : Handle → Birth) (distinct : AreDistinct n
     rising = rising;
     lived = λ g there. grind (arith, common_steps, gets g, same_handle g h, before.lived g);
     named = λ g e is. grind (arith, common_steps, gets g, same_handle g h, before.named g e, birth e);
-    there = λ g there. grind (arith, common_steps, alike g h there (before.lived h here), finds (name g), gets g, before.there g there);
+    there = λ g there. grind
+        (arith, common_steps, alike g h there (before.lived h here), finds (name g), gets g, before.there g there);
     only = λ b some. only_by b (eq_by_cmp birth_cmp b (name h)) refl (ap is_some (sym (finds b)) ∙ some);
   }
     where
@@ -184,13 +185,12 @@ module _ (start : EntityMap) (name : Handle → Birth) (distinct : AreDistinct n
       entity-told : (h : Handle) (a : Applied) (b : AppliedAlone) → IsThere start h → AreAppliedTold a b
           → AreAppliedTold (on_entity system command change h a) (on_birth system command change_alone (name h) b)
       entity-told h a b here before =
-          let same : is_some (find birth_cmp (name h) b.entities) ≡ lives_in a.world h =
-          ap is_some (before.told.there h here) ∙ told_some (finite.get a.world.entities h) in
+          let same : is_some (find birth_cmp (name h) b.entities) ≡ lives_in a.world h = ap is_some (before.told.there h
+          here) ∙ told_some (finite.get a.world.entities h) in
           let fault : BirthFault = record { system = system; command = command } in
           subst (λ t. AreAppliedTold (on_entity system command change h a)
           (cond t (record b { entities = change_alone (name h) b.entities })
-          (record b { faults = b.faults ++ fault ∷ [] }))) (sym same)
-          (by (lives_in a.world h) refl)
+          (record b { faults = b.faults ++ fault ∷ [] }))) (sym same) (by (lives_in a.world h) refl)
         where
           by : (t : Bool) → lives_in a.world h ≡ t
               → AreAppliedTold (cond t (record a { world = change h a.world })

@@ -61,8 +61,7 @@ Owner birth hs b = (h : Handle) × ((stands_in hs h ≡ true) × (birth h ≡ b)
 owner : (birth : Handle → Birth) (hs : List Handle) (b : Birth) → list_any (eq_by_cmp birth_cmp b) (map birth hs) ≡ true
     → Owner birth hs b
 owner birth [] b there = absurd (true≢false (sym there))
-owner birth (h ∷ hs) b there =
-    by (eq_by_cmp birth_cmp b (birth h)) refl there (λ rest. owner birth hs b rest)
+owner birth (h ∷ hs) b there = by (eq_by_cmp birth_cmp b (birth h)) refl there (λ rest. owner birth hs b rest)
   where
     others : Bool
     others = list_any (eq_by_cmp birth_cmp b) (map birth hs)

@@ -72,9 +72,7 @@ module _ (name : Handle → Birth) (m : EntityMap) (births : BirthMap) (named : 
   found_name : (hs : List Handle) (q : Birth) (o : Option Bundle) → find birth_cmp q (map entry_of hs) ≡ o
       → is_some o ≡ true → (h : Handle) × ((stands_in hs h ≡ true) × ((name h ≡ q) × (o ≡ Some (items_of h))))
   found_name [] q o is some = absurd (true≢false (sym some ∙ ap is_some (sym is)))
-  found_name (h ∷ hs) q o is some =
-      by (eq_by_cmp birth_cmp q (name h)) refl is
-      (λ rest. found_name hs q o rest some)
+  found_name (h ∷ hs) q o is some = by (eq_by_cmp birth_cmp q (name h)) refl is (λ rest. found_name hs q o rest some)
     where
       by : (b : Bool) → eq_by_cmp birth_cmp q (name h) ≡ b
           → cond b (Some (items_of h)) (find birth_cmp q (map entry_of hs)) ≡ o

@@ -58,8 +58,7 @@ some_index q index (h ∷ hs) there = elim (eq_by_cmp handle_cmp q h) as
     (λ b. (b || stands_in hs q) ≡ true → (k : ℕ) × (cond b (Some index)
     (position_from (eq_by_cmp handle_cmp q) (index + 1) hs) ≡ Some k)) [
       | true ↦ λ _. (index, refl)
-      | false ↦
-          λ others. some_index q (index + 1) hs others
+      | false ↦ λ others. some_index q (index + 1) hs others
     ] there
 
 pub no_index : (q : Handle) (index : ℕ) (hs : List Handle) → stands_in hs q ≡ false

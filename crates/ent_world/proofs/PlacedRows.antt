@@ -113,14 +113,13 @@ module _ (rows : Rows) (places left : List Handle) (m : EntityMap) (h : Handle) 
   -- it was the last one
   rows-last : slice_get left place ≡ None → AreRows gone left (map.remove m h)
   rows-last none = record {
-    at =
-        λ g k. (
-          λ is. let before = was g k is (same_or_apart total same g h) in let apart = other_place g k before.1
-              before.0 in let below = slice_get_within places k g before.1 in let inside = slice_get_within places place
-              h here in let end : length left ≤ place = grind (arith, common_steps, slice_get-get_or left place h) in
-              without.others k apart (omega (arith, without.one_less)) ∙ before.1,
-          λ is. (stays g k is (λ e. none-some g (sym none ∙ ap (slice_get left) (sym e) ∙ is))).2,
-        );
+    at = λ g k. (
+      λ is. let before = was g k is (same_or_apart total same g h) in let apart = other_place g k before.1 before.0 in
+          let below = slice_get_within places k g before.1 in let inside = slice_get_within places place h here in let
+          end : length left ≤ place = grind (arith, common_steps, slice_get-get_or left place h) in without.others k
+          apart (omega (arith, without.one_less)) ∙ before.1,
+      λ is. (stays g k is (λ e. none-some g (sym none ∙ ap (slice_get left) (sym e) ∙ is))).2,
+    );
     each = each_gone;
   }
 
@@ -173,8 +172,8 @@ distinct_places : (xs : List Handle) → ((h : Handle) (i j : ℕ) → slice_get
     → i ≡ j) → AreDistinct xs
 distinct_places [] once = tt
 distinct_places (x ∷ xs) once = (
-  false_from_ne_true _ (λ there. let other = place_of xs x there in let twice = once x 0 (suc other.0) refl
-      other.1 in omega arith),
+  false_from_ne_true _ (λ there.
+      let other = place_of xs x there in let twice = once x 0 (suc other.0) refl other.1 in omega arith),
   distinct_places xs (λ h i j first second. let next = once h (suc i) (suc j) first second in omega arith),
 )
 
@@ -197,9 +196,10 @@ rows_stand rows places at h = by_row (map.get rows h) refl
 pub rows-count : (s : Allocator) (rows : Rows) (places : List Handle) (m : EntityMap) → AreRows rows places m
     → AreLiving s m → set.len s.live ≡ length places
 rows-count s rows places m are living =
-    let listed : s.live ≡ set.from_list places = set.same_set total same _ _
-    (λ q. let each = are.each q in let lives = living q in cc
-    (rows_stand rows places are.at q, set.contains-from_list total places q)) in
+    let listed : s.live ≡ set.from_list places = set.same_set total same _ _ (λ q.
+    let each = are.each q in
+    let lives = living q in
+    cc (rows_stand rows places are.at q, set.contains-from_list total places q)) in
     ap (λ l. set.len l) listed ∙ len_distinct places (distinct_places places
     (λ h i j first second. same_Some _ _ (sym ((are.at h i).1 first) ∙ (are.at h j).1 second)))
 

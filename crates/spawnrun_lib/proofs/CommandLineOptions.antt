@@ -90,8 +90,8 @@ stopped : (stop : Option (Text × List Text)) (rows : List Row) → entered_faul
     → check_fault (built program).top rows (is_some (entered (built program) stop)) ≡ []
     → IsAsked (entered (built program) stop)
 stopped None rows below check = cc
-stopped (Some p) rows below check = go (answers_to p.0 (label_of replay_shape))
-    (answers_to p.0 (label_of run_shape)) below check
+stopped (Some p) rows below check = go (answers_to p.0 (label_of replay_shape)) (answers_to p.0 (label_of run_shape))
+    below check
   where
     met : Bool → Bool → Option Shape
     met is_replay is_run = cond is_replay (Some replay_shape) (cond is_run (Some run_shape) None)

@@ -124,9 +124,11 @@ module _ (systems : List (List Operation)) (workers : ℕ) (w : World) (queues :
       let all = All-permutation IsGrantedAt ran (range_with_len 0 (length systems)) frame.once
       (all_flat IsGrantedAt (λ mine. mine) frame.ran (all_from_each (λ mine. All IsGrantedAt mine) frame.ran
       worker-granted)) in
-      all_from_each (All IsGranted) queues (λ k q at. let within = slice_get_within queues k q at in let count =
-      frame.count in subst (All IsGranted) (get_or_from_slice_get queues k q [] at)
-      (below_each IsGrantedAt (length systems) all k (omega arith)))
+      all_from_each (All IsGranted) queues (λ k q at.
+      let within = slice_get_within queues k q at in
+      let count = frame.count in
+      subst (All IsGranted) (get_or_from_slice_get queues k q [] at) (below_each IsGrantedAt (length systems) all k
+      (omega arith)))
 
   -- what its systems have not requested is left for the frames after it
   frame-left : (n : ℕ) → requested_by_systems systems + n ≤ length w.allocator.pool

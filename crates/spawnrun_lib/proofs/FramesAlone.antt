@@ -145,8 +145,8 @@ module _ (systems : List (List Operation)) (workers : ℕ) (w : World) (queues :
   all_named system _ _ same free granted may at = absurd (omega arith)
 
   are_named : AreNamedBy name all_born queues (queues_by_births w view systems)
-  are_named = all_named 0 queues systems frame.count free granted frame.each_system
-      (λ n k h is. let same : 0 + n ≡ n = omega arith in rw same (placed n k h is))
+  are_named = all_named 0 queues systems frame.count free granted frame.each_system (λ n k h is.
+      let same : 0 + n ≡ n = omega arith in rw same (placed n k h is))
 
   -- the queues list just what is reserved, each handle once
   are_listed : AreListed queues reserved.allocator

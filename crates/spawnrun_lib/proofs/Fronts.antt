@@ -55,10 +55,9 @@ length-front text = grind (arith, common_steps, front-long, front-short, length-
 
 pub front-more : (text more : List ℕ) → front (front text ++ more) ≡ front (text ++ more)
 front-more text more = elim (cases_lt 60 (length text)) [
-  | inl long ↦ ap (λ (kept : List ℕ). front (kept ++ more))
-      (front-long text long) ∙ front-cut text more long ∙ sym (front-past text more long ∙ front-long text long)
-  | inr
-      short ↦ ap (λ (kept : List ℕ). front (kept ++ more)) (front-short text short)
+  | inl long ↦ ap (λ (kept : List ℕ). front (kept ++ more)) (front-long text long) ∙ front-cut text more long
+      ∙ sym (front-past text more long ∙ front-long text long)
+  | inr short ↦ ap (λ (kept : List ℕ). front (kept ++ more)) (front-short text short)
 ]
 
 dot-printable : IsPrintable 46
@@ -69,10 +68,8 @@ dots-printable = search (rules, All-cons, dot-printable, All-nil)
 
 pub front-printable : (text : List ℕ) → ArePrintable text → ArePrintable (front text)
 front-printable text h = elim (cases_lt 60 (length text)) [
-  | inl long ↦ subst ArePrintable (sym (front-long text long))
-      (search (rules, All-append, All-take, dots-printable))
-  | inr short ↦ subst ArePrintable
-      (sym (front-short text short)) h
+  | inl long ↦ subst ArePrintable (sym (front-long text long)) (search (rules, All-append, All-take, dots-printable))
+  | inr short ↦ subst ArePrintable (sym (front-short text short)) h
 ]
 
 cut_to-short : (text : List ℕ) → length text ≤ 60 → cut_to 60 text ≡ text

@@ -115,11 +115,13 @@ same_queues size w systems q r a b =
     let blocks = blocks_of_frame size w systems in
     let many : length blocks ≡ length systems = count_from 0 (length w.allocator.pool) (sizes_of size systems)
     ∙ count_sizes size systems in
-    ext_get_or [] q r (a.each_queue ∙ sym b.each_queue) (λ n less. let within : n
-    < length systems = omega (arith, less, a.each_queue) in let system = at_within systems n within in let block =
-    at_within blocks n (omega (arith, within, many)) in same_queue (view_of w) unbound system.0 w.allocator block.0
-    (queue_at q n) (queue_at r n) (a.each_system n system.0 system.1) (b.each_system n system.0 system.1)
-    (a.draws n block.0 block.1) (b.draws n block.0 block.1))
+    ext_get_or [] q r (a.each_queue ∙ sym b.each_queue) (λ n less.
+    let within : n < length systems = omega (arith, less, a.each_queue) in
+    let system = at_within systems n within in
+    let block = at_within blocks n (omega (arith, within, many)) in
+    same_queue (view_of w) unbound system.0 w.allocator block.0 (queue_at q n) (queue_at r n)
+    (a.each_system n system.0 system.1) (b.each_system n system.0 system.1) (a.draws n block.0 block.1)
+    (b.draws n block.0 block.1))
 
 -- ---- one text
 

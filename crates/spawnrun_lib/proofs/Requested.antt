@@ -68,8 +68,7 @@ one_caller c n a (suc many) from below =
     let sums = sum_by-cons (λ k. cond (c == k) n 0) a (range_with_len (a + 1) many) in
     elim (cases_eq c a) [
       | inl e ↦ search (rules, eq-eqb)
-      | inr ne ↦ let rest = one_caller c n (a + 1) many
-          (omega arith) (omega arith) in omega arith
+      | inr ne ↦ let rest = one_caller c n (a + 1) many (omega arith) (omega arith) in omega arith
     ]
 
 by_callers : (callers : ℕ) (history : List Call) → All (λ (call : Call). call.caller < callers) history
@@ -79,14 +78,11 @@ by_callers callers (call ∷ history) all =
     let numbers : List ℕ = range_with_len 0 callers in
     let own : ℕ → ℕ = λ k. cond (call.caller == k) call.requested 0 in
     let less = All-head (λ (call : Call). call.caller < callers) call history all in
-    let rest = by_callers callers history
-    (All-tail (λ (call : Call). call.caller < callers) call history all) in
+    let rest = by_callers callers history (All-tail (λ (call : Call). call.caller < callers) call history all) in
     let here = one_caller call.caller call.requested 0 callers (omega arith) (omega arith) in
     let both = sum_of_two own (requested_of history) numbers in
-    let whole : sum_by (λ k. own k + requested_of history k) numbers
-    ≡ sum_by (requested_of (call ∷ history)) numbers =
-    λ i. sum_by (λ k. by_test (call.caller == k)
-    (filter (λ (c : Call). c.caller == k) history) i) numbers in
+    let whole : sum_by (λ k. own k + requested_of history k) numbers ≡ sum_by (requested_of (call ∷ history)) numbers =
+    λ i. sum_by (λ k. by_test (call.caller == k) (filter (λ (c : Call). c.caller == k) history) i) numbers in
     let sums = sum_by-cons requested call history in
     omega arith
   where

@@ -56,16 +56,13 @@ module _ (view : View) (birth : Birth) where
   -- who stands before an earlier birth has an earlier birth
   before_too : (a b : Handle) → birth_order m a b ≡ Less → is_before view birth b ≡ true → is_before view birth a ≡ true
   before_too a b e is = elim (in_order a b e) [
-    | inl first ↦ ap is_lt
-        (key_total.trans (birth_of m a) _ (Some birth) first (less_if _ is))
-    | inr tie ↦ ap is_lt
-        (key_total.congr (birth_of m a) _ (Some birth) tie.0 ∙ less_if _ is)
+    | inl first ↦ ap is_lt (key_total.trans (birth_of m a) _ (Some birth) first (less_if _ is))
+    | inr tie ↦ ap is_lt (key_total.congr (birth_of m a) _ (Some birth) tie.0 ∙ less_if _ is)
   ]
 
   pub parted : (handles : List Handle) → ListsAll m handles → IsPartitionedBy (is_before view birth) handles
   parted handles lists i j d le lt is = elim (cases_lt i j) [
-    | inl less ↦ before_too _ _ (lists.rising i j d less lt)
-        is
+    | inl less ↦ before_too _ _ (lists.rising i j d less lt) is
     | inr not ↦ search rules
   ]
 
@@ -90,8 +87,7 @@ module _ (view : View) (birth : Birth) where
             let same = get_or_default handles index g h within in
             elim (cases_lt index at.0) [
               | inl less ↦ inr (search (rules, lists.rising index at.0 g less at.1))
-              | inr
-                  not ↦ let k : at.0 ≡ index = omega (arith, le, not) in inl (cc at.2)
+              | inr not ↦ let k : at.0 ≡ index = omega (arith, le, not) in inl (cc at.2)
             ]
 
         pub least_here : birth_of m h ≡ Some birth → (g : Handle) → birth_of m g ≡ Some birth → handle_cmp h g ≢ Greater
@@ -100,8 +96,7 @@ module _ (view : View) (birth : Birth) where
             let key : key_cmp (Some birth) (Some birth) ≡ Equal = tied_itself birth_cmp_total birth in
             elim (after g is) [
               | inl same ↦ absurd cc
-              | inr less ↦ elim (in_order h g less)
-                  [ inl first ↦ absurd cc | inr tie ↦ absurd (cc tie.1) ]
+              | inr less ↦ elim (in_order h g less) [ inl first ↦ absurd cc | inr tie ↦ absurd (cc tie.1) ]
             ]
 
         pub none_here : birth_of m h ≢ Some birth → (g : Handle) → birth_of m g ≢ Some birth
@@ -111,7 +106,6 @@ module _ (view : View) (birth : Birth) where
               | inl same ↦ other cc
               | inr less ↦ elim (rw is at (in_order h g less)) [
                 | inl earlier ↦ absurd (false≢true (sym not ∙ ap is_lt earlier))
-                | inr tie ↦ other
-                    (same_key (birth_of m h) birth tie.0)
+                | inr tie ↦ other (same_key (birth_of m h) birth tie.0)
               ]
             ]

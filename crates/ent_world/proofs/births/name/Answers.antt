@@ -22,10 +22,9 @@ returns-else-before-place-clause-named c =
       | else-before-place-via-then-before-place+else-birth_at w ↦ sym
           (keeps_name born c.args.handle c.args.birth c.args.storage.now.entities w.birth_at.result w.birth_at.ensures
           w.if-birth_at.false)
-      | else-before-place-via-else-before-place w ↦ sym
-          (named_before born c.args.handle c.args.birth c.args.storage.now.entities
-          (stands_before places c.args.before c.in-Some.place c.args.handle (λ k is. sym c.in-Some.is ∙ c.place_of.ensures
-          ∙ (c.requires c.args.handle k).1 is) w.if-before-place.false))
+      | else-before-place-via-else-before-place w ↦ sym (named_before born c.args.handle c.args.birth
+          c.args.storage.now.entities (stands_before places c.args.before c.in-Some.place c.args.handle
+          (λ k is. sym c.in-Some.is ∙ c.place_of.ensures ∙ (c.requires c.args.handle k).1 is) w.if-before-place.false))
     ]
 
 -- it has no place

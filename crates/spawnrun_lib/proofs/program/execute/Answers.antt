@@ -22,9 +22,9 @@ returns-after-task-clause-reads g c = λ unfailed _ other. let source = g.I.Sour
       | in-Replay w ↦ subst (HaveRead source.failures source.remaining before) (sym w.input-is)
           (λ same. w.replay-status.ensures.reads same (λ is. other (c.finish.ensures.status ∙ c.number.ensures ∙ ap
           exit_number (w.status-is ∙ is)))) unfailed
-      | in-Run w ↦ subst (HaveRead source.failures source.remaining before)
-          (sym w.input-is) (λ same. w.run-status.ensures.reads same
-          (λ is. other (c.finish.ensures.status ∙ c.number.ensures ∙ ap exit_number (w.status-is ∙ is)))) unfailed
+      | in-Run w ↦ subst (HaveRead source.failures source.remaining before) (sym w.input-is)
+          (λ same. w.run-status.ensures.reads same (λ is. other (c.finish.ensures.status ∙ c.number.ensures ∙ ap exit_number
+          (w.status-is ∙ is)))) unfailed
       | in-RunInBlocks w ↦ subst (HaveRead source.failures source.remaining before) (sym w.input-is)
           (λ same. w.run_in_blocks-status.ensures.reads same (λ is. other (c.finish.ensures.status ∙ c.number.ensures ∙ ap
           exit_number (w.status-is ∙ is)))) unfailed

@@ -17,8 +17,7 @@ looked_at line n far = elim (cases_lt 61 (length line)) [
   | inl long ↦ sym (front-of_parts byte_text byte_text-some (take n line) (drop n line)
       (omega (arith, length-take n line, long, far))) ∙ ap (λ (bs : List ℕ). front (flat_map byte_text bs))
       (take-append-drop n line)
-  | inr short ↦ ap (λ (bs : List ℕ). front (flat_map byte_text bs))
-      (take_all n line (omega (arith, short, far)))
+  | inr short ↦ ap (λ (bs : List ℕ). front (flat_map byte_text bs)) (take_all n line (omega (arith, short, far)))
 ]
 
 pub loop-byte-init : goal.loop-byte-init

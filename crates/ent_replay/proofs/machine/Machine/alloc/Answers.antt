@@ -16,14 +16,13 @@ invariant_of-self c =
     let s = e.entities.allocator in
     let none = c.if-not-is_empty.ensures.0 refl in
     elim c.match-alloc.branch [
-      | in-Ok w ↦ let h = w.in-Ok.handle in consistent_as w.in-Ok.ensures.ok
-          (alloc-consistent s e.spent e.calls none h c.self.invariant
+      | in-Ok w ↦
+          let h = w.in-Ok.handle in
+          consistent_as w.in-Ok.ensures.ok (alloc-consistent s e.spent e.calls none h c.self.invariant
           (λ some. ok_not_err h why.NeedsFlush (w.in-Ok.ensures.needs_flush.1 some)) w.in-Ok.ensures.front)
       | in-Err-NeedsFlush w ↦ consistent_as (allocator_is w.in-Err-NeedsFlush.ensures.err) c.self.invariant
-      | in-Err-Space w
-          ↦ consistent_as (allocator_is w.in-Err-Space.ensures.err) c.self.invariant
-      | in-Err-Memory w ↦ consistent_as
-          (allocator_is w.in-Err-Memory.ensures.err) c.self.invariant
+      | in-Err-Space w ↦ consistent_as (allocator_is w.in-Err-Space.ensures.err) c.self.invariant
+      | in-Err-Memory w ↦ consistent_as (allocator_is w.in-Err-Memory.ensures.err) c.self.invariant
     ]
 
 pub returns : goal.returns

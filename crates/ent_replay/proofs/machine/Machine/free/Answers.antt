@@ -15,13 +15,12 @@ invariant_of-self c =
     let e = c.self.inside in
     let none = c.if-not-is_empty.ensures.0 refl in
     elim c.match-free.branch [
-      | in-Ok w ↦ consistent_as w.in-Ok.ensures.ok
-          (free-consistent e.entities.allocator e.spent e.calls none c.args.handle c.self.invariant
-          (λ some. ok_not_err w.in-Ok.freed why.NeedsFlush (w.in-Ok.ensures.needs_flush.1 some)) w.in-Ok.ensures.lived)
+      | in-Ok w ↦ consistent_as w.in-Ok.ensures.ok (free-consistent e.entities.allocator e.spent e.calls none
+          c.args.handle c.self.invariant (λ some. ok_not_err w.in-Ok.freed why.NeedsFlush
+          (w.in-Ok.ensures.needs_flush.1 some)) w.in-Ok.ensures.lived)
       | in-Err-NeedsFlush w ↦ consistent_as (allocator_is w.in-Err-NeedsFlush.ensures.err) c.self.invariant
       | in-Err-NotAlive w ↦ consistent_as (allocator_is w.in-Err-NotAlive.ensures.err) c.self.invariant
-      | in-Err-Memory w ↦
-          consistent_as (allocator_is w.in-Err-Memory.ensures.err) c.self.invariant
+      | in-Err-Memory w ↦ consistent_as (allocator_is w.in-Err-Memory.ensures.err) c.self.invariant
     ]
 
 pub returns : goal.returns

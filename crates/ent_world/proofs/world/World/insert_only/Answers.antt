@@ -12,10 +12,13 @@ invariant_of-self c =
     elim (on_either c.insert_at.result c.insert_at.ensures.ok c.insert_at.ensures.err) [
       | inl changed ↦ record {
         world = components-world (λ held. with_items held (c.args.item ∷ [])) c.args.handle
-            c.self.inside.entities.allocator c.self.inside.phase before.entities after.entities changed c.self.invariant.world;
-        rows = rows-components c.self.inside.entities.rows before.places after.places before.entities after.entities
-            c.args.handle (λ held. with_items held (c.args.item ∷ [])) c.self.invariant.rows c.insert_at.ensures.places changed;
-        room = rw c.insert_at.ensures.spare c.self.invariant.room;
+            c.self.inside.entities.allocator c.self.inside.phase before.entities after.entities changed
+            c.self.invariant.world;
+        rows = rows-components c.self.inside.entities.rows before.places after.places
+            before.entities after.entities c.args.handle (λ held. with_items held (c.args.item ∷ []))
+            c.self.invariant.rows c.insert_at.ensures.places changed;
+        room = rw c.insert_at.ensures.spare
+            c.self.invariant.room;
       }
       | inr same ↦ rw same c.self.invariant
     ]

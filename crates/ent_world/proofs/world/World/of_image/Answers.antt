@@ -148,8 +148,8 @@ pub returns-in_err-entities-clause-fault : goal.returns-in_err-entities-clause-f
 returns-in_err-entities-clause-fault c =
     let parts = parts_of (goal.at.returns-in_err-entities-clause-fault c).In_ok-phase in
     handed_on c.from_residual-in_err-entities.result c.in_err-entities.field-0.0 _
-    c.from_residual-in_err-entities.ensures.1 (λ other. let fault = c.in_err-entities.ensures.fault other in rw
-    fault.named (parts, fault.first))
+    c.from_residual-in_err-entities.ensures.1 (λ other.
+    let fault = c.in_err-entities.ensures.fault other in rw fault.named (parts, fault.first))
 
 pub returns-in_err-entities-clause-memory : goal.returns-in_err-entities-clause-memory
 returns-in_err-entities-clause-memory c =
@@ -194,8 +194,8 @@ returns-in_err-handles-clause-fault c =
     let read = read_of (goal.at.returns-in_err-handles-clause-fault c).In_ok-entities c.iter.result
     c.iter.ensures.rising c.iter.ensures.living in
     handed_on c.from_residual-in_err-handles.result c.in_err-handles.field-0.0 _
-    c.from_residual-in_err-handles.ensures.1 (λ other. let fault = c.in_err-handles.ensures.fault other in rw
-    fault.named (read, fault.first))
+    c.from_residual-in_err-handles.ensures.1 (λ other.
+    let fault = c.in_err-handles.ensures.fault other in rw fault.named (read, fault.first))
 
 pub returns-in_err-handles-clause-memory : goal.returns-in_err-handles-clause-memory
 returns-in_err-handles-clause-memory c =

@@ -53,8 +53,8 @@ loop-one-preserved c =
     (elim c.else-free.branch [
       | else-free-via-then-free+in_ok-fits_at+else-branch w ↦ inr
           (λ fits. search (rules, w.in_ok-fits_at.ensures, w.if-branch.false))
-      | else-free-via-else-free w ↦ let some =
-          some_of c.get.result w.if-free.ensures in inl (some.0, sym c.get.ensures ∙ some.1)
+      | else-free-via-else-free w ↦
+          let some = some_of c.get.result w.if-free.ensures in inl (some.0, sym c.get.ensures ∙ some.1)
     ])
 
 over : (c : After-drop-blocked-inside-2) → c.loop-one.one-iterator.rest.items ≡ []
