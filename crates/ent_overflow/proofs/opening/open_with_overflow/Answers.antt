@@ -9,7 +9,10 @@ pub hand_out-requires-clause-phase : goal.hand_out-requires-clause-phase
 hand_out-requires-clause-phase c =
     let s = c.args.entities.allocator in
     let is = c.deref-2.ensures.value ∙ c.in-Ok.ensures.blocks in
-    search (rules, opened)
+    opened s c.args.sizes.now c.in_ok-shared.shared c.deal.new.dealer c.deref-2.result.now c.dealt.result
+    c.requires.flushed c.in_ok-shared.ensures.sound c.in_ok-shared.ensures.shared.0 (c.in_ok-shared.ensures.shared.1) is
+    (subst (λ (bs : List Block). dealt bs < 2 ^ 32) (sym c.deref-2.ensures.value) c.in-Ok.ensures.few) c.deal.ensures.of
+    (c.dealt.ensures ∙ ap dealt (c.deref.ensures.value ∙ sym c.deref-2.ensures.value)) c.deal.ensures.dealt
 
 pub hand_out-requires-clause-fresh : goal.hand_out-requires-clause-fresh
 hand_out-requires-clause-fresh c = others_fresh c.in_ok-shared.shared c.in_ok-shared.reservers.items
