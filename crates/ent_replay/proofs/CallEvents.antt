@@ -150,8 +150,14 @@ module _ (s : Allocator) (spent : FinMap nat_cmp ℕ) (calls : FinMap nat_cmp St
 
           inserted : finite.insert (map_values (open_call_of s) calls) caller
               (record { requested = call.requested; reply = Some (reply_to s call.requested) })
-              ≡ map_values (open_call_of (after_take s call.requested)) (finite.insert calls caller stepped)
-          inserted = grind (arith, common_steps, reply-cursor, map_values-insert)
+              ≡ map_values (open_call_of (after_take s call.requested))
+              (finite.insert calls caller stepped)
+          inserted =
+              ap (λ r. finite.insert (map_values (open_call_of s) calls) caller
+              (record { requested = call.requested; reply = Some r }))
+              (sym (reply-cursor s call.requested sound))
+              ∙ sym (map_values-insert (open_call_of s) calls caller stepped)
+              ∙ ap (λ f. map_values f (finite.insert calls caller stepped)) same
 
       pub step-consistent : AreConsistent s spent calls → call.span ≡ None → AreConsistent (after_take s call.requested)
           spent (finite.insert calls caller stepped)
