@@ -59,10 +59,9 @@ birth_of_split before text frame others system ordinal e e' f s = rw (
   slice_split_at is_dot frame 46 others (fails frame f) refl,
   e',
   slice_split_at is_dot system 46 ordinal (fails system s) refl,
-) (elim (cases_Bool (is_decimal ordinal)) [
-  | inl is ↦ rw
-      (slice_split_none is_dot ordinal (fails ordinal (decimal_without_dot ordinal is))) refl
-  | inr lacks ↦ one_part
-      before frame system ordinal _ refl lacks ∙ sym (ordinal_refused before frame system ordinal
-      (number_refused ordinal lacks))
-])
+)
+    (elim (cases_Bool (is_decimal ordinal)) [
+      | inl is ↦ rw (slice_split_none is_dot ordinal (fails ordinal (decimal_without_dot ordinal is))) refl
+      | inr lacks ↦ one_part before frame system ordinal _ refl lacks ∙ sym (ordinal_refused before frame system ordinal
+          (number_refused ordinal lacks))
+    ])

@@ -1,13 +1,13 @@
 -- Values that are cut, beside the members of an object as they are put in.
 use Rattle.std.proofs.lemmas.Grind.{common_steps}
-use Rattle.std.proofs.Common.{◌≡◌, ℕ, List, [], ◌∷◌, Some, String, Vec, BTreeMap, Global, string_bytes, string_cmp, refl, rules, zero, suc, ◌<◌, ◌-◌, length, arith, Ordering, Less, Equal, Greater, Bor, nat_cmp, ◌∙◌}
+use Rattle.std.proofs.Common.{◌≡◌, ℕ, List, [], ◌∷◌, Option, Some, String, Vec, BTreeMap, Global, string_bytes, string_cmp, refl, rules, zero, suc, ◌<◌, ◌-◌, length, arith, Ordering, Less, Equal, Greater, Bor, nat_cmp, ◌∙◌}
 use Rattle.std.specs.Cmp.Lexicographic.{slice_cmp}
 use Rattle.std.specs.Ordering.{match_ordering}
 use Rattle.ent_script.specs.Part.{leaf_data, leaves_of}
 use Rattle.ent_script.specs.declared.leaf.Leaf.{Leaf}
 use Rattle.std.specs.BTreeMap.{insert_entry}
 use Rattle.json.specs.Token.{Token}
-use Rattle.json.specs.Json.{value, items, members}
+use Rattle.json.specs.Json.{parse_map, value, items, members}
 use Rattle.json.proofs.Grammar.{value-begin_array, value-begin_object}
 use Rattle.serde_json.specs.Read.{of_json, of_items, of_members, converted}
 use Rattle.ent_script.proofs.Turns.{converted-array, converted-object}
@@ -45,12 +45,20 @@ pub cut_members-put : (levels : ℕ) (k : List ℕ) (d : Data) (ms : Members)
 cut_members-put levels k d no_members = refl
 cut_members-put levels k d (member l e ms) = grind (arith, common_steps, cut_members-put levels k d ms)
 
+pub array_read : (o : Option (Items × List Token)) (d : Data) (r : List Token) → parse_map array o ≡ Some (d, r)
+    → (ds : Items) × (d ≡ array ds) × (o ≡ Some (ds, r))
+array_read it d r e = search rules
+
+pub object_read : (o : Option (Members × List Token)) (d : Data) (r : List Token) → parse_map object o ≡ Some (d, r)
+    → (ms : Members) × (d ≡ object ms) × (o ≡ Some (ms, r))
+object_read it d r e = search rules
+
 pub opened_array : (depth : ℕ) (ts r : List Token) (d : Data) → converted of_json (value depth (Token.begin_array ∷ ts))
     ≡ Some (d, r) → (0 < depth) × ((ds : Items) × (d ≡ array ds)
     × (converted of_items (items (value (depth - 1)) (length ts) ts) ≡ Some (ds, r)))
 unfolding value
 opened_array zero ts r d e = absurd (cc)
-opened_array (suc n) ts r d e = search (rules, value-begin_array, converted-array)
+opened_array (suc n) ts r d e = search (rules, array_read, value-begin_array, converted-array)
 
 pub opened_object : (depth : ℕ) (ts r : List Token) (d : Data)
     → converted of_json (value depth (Token.begin_object ∷ ts)) ≡ Some (d, r)
@@ -58,4 +66,4 @@ pub opened_object : (depth : ℕ) (ts r : List Token) (d : Data)
     (members (value (depth - 1)) (length ts) ts) ≡ Some (ms, r)))
 unfolding value
 opened_object zero ts r d e = absurd (cc)
-opened_object (suc n) ts r d e = search (rules, value-begin_object, converted-object)
+opened_object (suc n) ts r d e = search (rules, object_read, value-begin_object, converted-object)

@@ -6,6 +6,7 @@ use Rattle.json.specs.Json.{Parse, parse_map, after_end_array, read_key, items, 
 use Rattle.json.proofs.Grammar.{value_is}
 use Rattle.serde_json.specs.Data.{Data, Items, no_items, item, Members, put}
 use Rattle.serde_json.specs.Find.{as_array, as_object, get}
+use Rattle.json.specs.Lex.{tokens}
 use Rattle.ent_script.specs.Streaming.{begins_object}
 use Rattle.serde_json.specs.Read.{of_json, of_items, of_members, converted, read}
 use Rattle.ent_script.proofs.Turns.{item_read, item_refused, member_read, member_refused, key_refused, converted-object, converted-array}
@@ -93,3 +94,8 @@ pub no_object : (depth : ℕ) (ts r : List Token) (d : Data) (k : List ℕ) → 
 no_object depth ts r d k other e = search (rules, impossible, mapped, converted-array, value_is)
 
 -- ---- the whole text
+
+-- the tokens of a text that is read are those of a value, and no more
+pub whole_text : (text : List ℕ) (d : Data) → read text ≡ Some d → converted of_json (value 127 (tokens text)) ≡ Some
+    (d, [])
+whole_text text d e = search (rules, impossible)

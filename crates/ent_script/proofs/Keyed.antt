@@ -1,5 +1,5 @@
 -- The keys of an operation as they are put in, and what it is by them.
-use Rattle.std.proofs.Common.{rules, ◌≡◌, ◌∙◌, ℕ, List, [], ◌∷◌, Bool, true, false, ◌&&◌, Option, Some, None, option_map, is_some, Ordering, Less, Equal, Greater, nat_cmp, is_eq, bytes_eq, refl, sym, ap, Bor, codes, Err, ◌||◌}
+use Rattle.std.proofs.Common.{rules, ◌≡◌, ◌∙◌, ℕ, List, [], ◌∷◌, Bool, true, false, ◌&&◌, Option, Some, None, option_map, is_some, Ordering, Less, Equal, Greater, nat_cmp, is_eq, bytes_eq, refl, sym, ap, Bor, option_and_then, codes, Err, ◌||◌}
 use Rattle.std.specs.Prelude.{option_copied}
 use Rattle.std.proofs.lemmas.Map.Text.{is_eq-slice_cmp}
 use Rattle.std.proofs.lemmas.Slice.Eq.{bytes_eq-Decides}
@@ -13,12 +13,13 @@ use Rattle.ent_script.specs.declared.part.Part.{Part}
 use Rattle.ent_script.specs.Cut.{cut}
 use Rattle.ent_script.specs.Fields.{IsUnder, AreAmong, AreFields, of_fields}
 use Rattle.ent_script.specs.Json.{keys_among, pairs_of}
-use Rattle.ent_script.specs.Reading.{has_keys, is_spawn, is_spawn_many, is_insert, is_remove, is_despawn, of_kind, operation_of, read_bundle, count_of, binding_of, removed_of, target_of}
+use Rattle.ent_script.specs.Reading.{has_keys, is_spawn, is_spawn_many, is_insert, is_remove, is_despawn, of_kind, operation_of, bound_name, read_bundle, with_of, count_of, binding_of, removed_of, target_of}
+use Rattle.ent_script.specs.Names.{as_name}
 use Rattle.ent_script.specs.declared.cause.Cause.TheVariants as cause
 use Rattle.ent_script.specs.declared.fields.Fields.{Fields}
 use Rattle.ent_script.specs.declared.kind.Kind.{Kind}
 use Rattle.ent_script.specs.declared.kind.Kind.TheVariants as kinds
-use Rattle.ent_script.proofs.CutMeanings.{bundle-cut, with-cut, count-cut, binding-cut, removed-cut, target-cut}
+use Rattle.ent_script.proofs.CutMeanings.{bundle-cut, with-cut, count-cut, binding-cut, removed-cut, target-cut, as_name-cut}
 use Rattle.ent_script.proofs.Puts.{found_here, found_before}
 
 -- ---- whether each key is one of some
@@ -131,6 +132,10 @@ module _ (k l : List ℕ) (allowed : List (List ℕ)) (ms : Members) (f g : Opti
 
 -- ---- what its fields mean
 
+name-cut : (o : Option Data) → option_and_then as_name (option_map (cut 1) o) ≡ option_and_then as_name o
+name-cut None = refl
+name-cut (Some d) = as_name-cut 1 d
+
 pub lent : (r : Option (Bor Part)) → option_map (λ (v : Bor Part). data_of v.now) r
     ≡ option_map data_of (option_copied r)
 lent None = refl
@@ -140,6 +145,10 @@ module _ (components bound : List (List ℕ)) (before : Option ℕ) (f : Fields)
   bundle_under : (k : List ℕ) (o : Option Part) → IsUnder k o ms → read_bundle components (option_map data_of o)
       ≡ read_bundle components (get_member k ms)
   bundle_under k o e = search (rules, bundle-cut)
+
+  with_under : (k : List ℕ) (o : Option Part) → IsUnder k o ms → with_of components (option_map data_of o) ≡ with_of
+      components (get_member k ms)
+  with_under k o e = search (rules, with-cut)
 
   count_under : (k : List ℕ) (o : Option Part) → IsUnder k o ms → count_of (option_map data_of o) ≡ count_of (get_member
       k ms)
@@ -161,10 +170,13 @@ module _ (components bound : List (List ℕ)) (before : Option ℕ) (f : Fields)
       ≡ of_kind components bound before (object ms) kind
   unfolding of_kind of_fields
   of_fields-means kinds.Spawn = search (rules, bundle_under, binding_under)
-  of_fields-means kinds.SpawnMany = search (rules, count_under, binding_under, with-cut)
+  of_fields-means kinds.SpawnMany = search (rules, count_under, with_under, binding_under)
   of_fields-means kinds.Insert = search (rules, bundle_under, target_under)
   of_fields-means kinds.Remove = search (rules, removed_under, target_under)
   of_fields-means kinds.Despawn = rw (target_under (codes "despawn") f.despawn at.despawn)
+
+  pub name_under : option_and_then as_name (option_map data_of f.binds) ≡ bound_name (object ms)
+  name_under = search (rules, name-cut)
 
 -- what is no object is no operation
 pub no_operation : (components bound : List (List ℕ)) (before : Option ℕ) (d : Data) → as_object d ≡ None

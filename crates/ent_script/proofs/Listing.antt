@@ -1,5 +1,5 @@
 -- Reading the elements of an array one after another, of at most so many.
-use Rattle.std.proofs.Common.{le-leb, rules, ◌≡◌, ℕ, ◌+◌, ◌-◌, ◌≤◌, List, [], ◌∷◌, ◌++◌, length, Some, None, Result, Ok, Err, false, cond, ok_or}
+use Rattle.std.proofs.Common.{le-leb, rules, ◌≡◌, ℕ, ◌+◌, ◌-◌, ◌<◌, ◌≤◌, List, [], ◌∷◌, ◌++◌, length, Some, None, Result, Ok, Err, false, cond, ok_or}
 use Rattle.std.proofs.lemmas.Bool.{lt-leb}
 use Rattle.std.proofs.lemmas.List.{append-nil}
 use Rattle.std.specs.Global.{Vec}
@@ -43,6 +43,10 @@ At p f done number now ds rest = (m : ℕ) × (later : Items) × (converted of_i
     ≡ numbered f 0 (list_of ds))
 
 module _ {A : Type 0} (p : Parse json.Json) (f : ℕ → Data → Result A ReadFault) where
+  pub listed_many : (most : ℕ) (limit : ReadFault) (ds : List Data) → most < length ds
+      → listed most f limit ds ≡ Err limit
+  listed_many most limit ds h = search (rules, lt-leb)
+
   pub at_next : (done : List A) (number : ℕ) (now left : List Token) (x : A) (ds : Items) (rest : List Token)
       → At p f done number now ds rest → after_end_array now ≡ None → ((d : Data) (r : List Token) → converted of_json
       (p now) ≡ Some (d, r) → Streams (Ok x) left (f number d) r) → At p f (done ++ x ∷ []) (number + 1) left ds rest
@@ -59,7 +63,8 @@ module _ {A : Type 0} (p : Parse json.Json) (f : ℕ → Data → Result A ReadF
       (ds : Items) (rest : List Token) → At p f done number now ds rest → after_end_array now ≡ None → number ≡ most
       → ((n : ℕ) (later : Items) (r : List Token) → converted of_items (items p n now) ≡ Some (later, r)
       → FaultOfArray 0 limit limit found left later r) → (listed most f limit (list_of ds) ≡ Err found) × (left ≡ rest)
-  at_most_many most limit found done number now left ds rest at going full faults = search (rules, next_item, lt-leb)
+  at_most_many most limit found done number now left ds rest at going full faults = search
+      (rules, next_item, listed_many)
 
   -- an element that means nothing
   pub at_fault : (most room : ℕ) (limit e found : ReadFault) (done : List A) (number : ℕ) (now left after : List Token)

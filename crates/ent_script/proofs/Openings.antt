@@ -1,5 +1,4 @@
 -- What stands behind the bracket that a reader took, and behind a value that it passed over.
-use Rattle.ent_script.proofs.Finding.{impossible, no_object}
 use Rattle.std.proofs.Common.{rules, ◌≡◌, ◌-◌, ℕ, [], ◌∷◌, List, length, Some, None, Bool, true, false}
 use Rattle.std.specs.Prelude.{Ok}
 use Rattle.json.specs.Lex.{tokens}
@@ -13,6 +12,7 @@ use Rattle.ent_script.specs.Passing.{left}
 use Rattle.ent_script.specs.Fields.{BeginsObject}
 use Rattle.ent_script.specs.Streaming.{BeginsArray, begins_object}
 use Rattle.ent_script.proofs.Cuts.{opened_object}
+use Rattle.ent_script.proofs.Finding.{whole_text, no_object}
 
 -- whether the value was an array
 module _ (depth : ℕ) (b : Bool) (ts : List Token) (d : Data) (rest : List Token)
@@ -38,7 +38,7 @@ module _ (depth : ℕ) (b : Bool) (ts : List Token) (d : Data) (rest : List Toke
 module _ (text : List ℕ) (d : Data) (read_as : read text ≡ Some d) (all : List Token)
     (of_text : all ≡ tokens text) where
   whole : converted of_json (value 127 all) ≡ Some (d, [])
-  whole = search (rules, impossible)
+  whole = search (rules, whole_text)
 
   pub text_object : (ts : List Token) → all ≡ Token.begin_object ∷ ts → (ms : Members) × (d ≡ object ms) × (converted
       (λ ms. of_members ms no_members) (members (value 126) (length ts) ts) ≡ Some (ms, []))

@@ -1,6 +1,6 @@
 -- A script that is read is in its ranges: its systems, its frames and the whole.
 use Rattle.std.proofs.Common.{rules, ℕ, ◌+◌, ◌≤◌, List, [], ◌∷◌, length, take, Option, ok_or, Result, Ok, Err, IfSome, codes, arith}
-use Rattle.ent_script.specs.Reading.{◌>>=◌, numbered, at_operation, operation_at, bound_name, system_of, frame_of, component_at, component_names, heading_of, script_of, ReadsAs}
+use Rattle.ent_script.specs.Reading.{◌>>=◌, numbered, or_absent, at_operation, operation_at, bound_name, system_of, frame_of, component_at, component_names, heading_of, script_of, ReadsAs}
 use Rattle.ent_script.proofs.PartRanges.{then_any, then_ok, numbered_each, Between, whole_in, few, few_names, operation_in}
 use Rattle.std.proofs.lemmas.Grind.{common_steps}
 use Rattle.std.specs.Prelude.{IfOk}
@@ -12,6 +12,7 @@ use Rattle.ent_script.specs.declared.cause.ScriptCause.TheVariants as script_cau
 use Rattle.ent_script.specs.declared.format.Format.{Format}
 use Rattle.ent_script.specs.declared.heading.Heading.{Heading}
 use Rattle.ent_script.specs.declared.read_fault.ReadFault.{ReadFault}
+use Rattle.ent_script.specs.Json.{whole_within}
 use Rattle.ent_script.specs.Names.{names_in}
 use Rattle.ent_script.specs.Script.{Script}
 use Rattle.ent_script.specs.Ranges.{AllFrom, IsOperationAt, IsSystemOf, IsFrameOf, IsScript}
@@ -52,18 +53,26 @@ components_in part =
     let each = λ (ds : List Data). numbered_each (λ _. Unit {0}) (component_at ds) 0 ds (λ i e. search rules) in
     search (rules, few, each)
 
+absent_in : (absent low high : ℕ) → Between low high absent → (part : Option Data)
+    → IfSome (or_absent absent (whole_within low high) part) (Between low high)
+absent_in absent low high h it = search (rules, whole_in)
+
 abbrev HasLimits : Heading → Type 0
 HasLimits heading = AreLimits heading.limits
+
+limits_in2 : (slots generations : ℕ) → Between 1 4294967295 slots → Between 1 2147483647 generations
+    → AreLimits (record { slots = slots; generations = generations })
+limits_in2 slots generations s g = search rules
 
 after_slots : (f : Format) (slots generations : Option ℕ) → IfSome slots (Between 1 4294967295)
     → IfSome generations (Between 1 2147483647) → IfOk (ok_or slots script_cause.Slots >>= λ s. ok_or generations
     script_cause.Generations >>= λ g. Ok (record { format = f; limits = record { slots = s; generations = g } }))
     HasLimits
-after_slots f it us s g = search (rules)
+after_slots f it us s g = search (rules, limits_in2)
 
 heading_in : (d : Data) → IfOk (heading_of d) HasLimits
 unfolding heading_of
-heading_in d = search (rules, after_slots, then_any, whole_in)
+heading_in d = search (rules, absent_in, after_slots, then_any)
 
 -- what a value means is a script
 pub script_in : (d : Data) → IfOk (script_of d) IsScript

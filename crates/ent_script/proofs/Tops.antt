@@ -44,6 +44,10 @@ among-headed : (allowed : List (List ℕ)) (ms : List (List ℕ × Data)) → ke
 among-headed allowed [] = refl
 among-headed allowed (m ∷ ms) = search (rules, among-headed allowed ms)
 
+among-heads : (allowed : List (List ℕ)) (ms : Members) → keys_among allowed (pairs_of (heads ms)) ≡ keys_among allowed
+    (pairs_of ms)
+among-heads allowed ms = search (rules, pairs_of-heads, among-headed)
+
 get_member-heads_at : (o : Ordering) (q k : List ℕ) (d : Data) (x y : Option Data) → slice_cmp nat_cmp q k ≡ o
     → bytes_eq q (codes "components") ≡ false → x ≡ option_map (cut 0) y
     → match_ordering o x (Some (head k d)) x ≡ option_map (cut 0) (match_ordering o y (Some d) y)
@@ -65,7 +69,7 @@ part-heads absent low high q ms other = search (rules, get_member-heads, whole-c
 
 pub heading_of-heads : (ms : Members) → heading_of (object (heads ms)) ≡ heading_of (object ms)
 unfolding heading_of
-heading_of-heads ms = search (rules, part-heads, pairs_of-heads, among-headed)
+heading_of-heads ms = search (rules, among-heads, part-heads)
 
 -- what is no object has no heading
 pub no_heading : (d : Data) → as_object d ≡ None → heading_of null ≡ heading_of d

@@ -43,11 +43,15 @@ module _ (p : Parse json.Json) where
       let j = converted_some of_json (p ts) d r e in
       ap (converted of_items) (items_more p n ts r j.0 some going j.1) ∙ with_item j.0 d j.2 _
 
+  no_item : (more : Parse json.Items) (o : Option (json.Json × List Token)) → converted of_json o ≡ None
+      → converted of_items (option_and_then (λ q. parse_map (json.item q.0) (more q.1)) o) ≡ None
+  no_item more it e = search (rules, refused)
+
   pub item_refused : (n : ℕ) (ts : List Token) → after_end_array ts ≡ None → converted of_json (p ts) ≡ None
       → converted of_items (items p n ts) ≡ None
   unfolding items
   item_refused zero ts going e = refl
-  item_refused (suc n) ts going e = search (rules, refused)
+  item_refused (suc n) ts going e = search (rules, no_item)
 
   pub items_over : (n : ℕ) (ts r : List Token) → length ts ≤ n → after_end_array ts ≡ Some r
       → converted of_items (items p n ts) ≡ Some (no_items, r)

@@ -1,5 +1,5 @@
 -- A script, of the parts that are read one after another.
-use Rattle.std.proofs.Common.{rules, ◌≡◌, ℕ, List, map, Option, Some, None, option_map, option_and_then, codes, Result}
+use Rattle.std.proofs.Common.{rules, ◌≡◌, ℕ, List, map, Option, Some, None, option_map, option_and_then, ok_or, codes, Result}
 use Rattle.std.specs.Prelude.{Ok, Err}
 use Rattle.serde_json.specs.Data.{Data}
 use Rattle.serde_json.specs.Find.{get}
@@ -7,7 +7,7 @@ use Rattle.serde_json.specs.View.{view}
 use Rattle.serde_json.specs.declared.value.Value.{Value}
 use Rattle.ent_script.specs.Cut.{cut}
 use Rattle.ent_script.specs.Json.{at_most}
-use Rattle.ent_script.specs.Reading.{◌>>=◌, numbered, component_at, component_names, heading_of, in_script, script_of}
+use Rattle.ent_script.specs.Reading.{◌>>=◌, numbered, frame_of, component_at, component_names, heading_of, in_script, script_of}
 use Rattle.ent_script.specs.Script.{Script}
 use Rattle.ent_script.specs.Streaming.{frames_of}
 use Rattle.ent_script.specs.declared.cause.ScriptCause.TheVariants as script_cause
@@ -34,11 +34,26 @@ names_meant part vs e = search (rules, components-cut)
 abbrev pub all_of : Heading → Names → List (List (List Operation)) → Result Script ReadFault
 all_of heading names frames = Ok (record { limits = heading.limits; components = names; frames = frames })
 
+abbrev after_these : Heading → Names → Option (List Data) → Result Script ReadFault
+after_these heading names o = ok_or o (fault.Script script_cause.Frames) >>= λ ds. numbered
+    (frame_of heading.format names) 0 ds >>= λ frames. all_of heading names frames
+
+after_frames : (heading : Heading) (names : Names) (o : Option (List Data))
+    → after_these heading names o ≡ ((ok_or o (fault.Script script_cause.Frames) >>= λ ds. numbered
+    (frame_of heading.format names) 0 ds) >>= λ frames. all_of heading names frames)
+after_frames heading names it = search rules
+
+abbrev after_names : Data → Heading → Names → Result Script ReadFault
+after_names d heading names = after_these heading names (option_and_then (at_most 1000) (get (codes "frames") d))
+
+abbrev after_heading : Data → Heading → Result Script ReadFault
+after_heading d heading = in_script (component_names (get (codes "components") d)) >>= after_names d heading
+
 pub script_is : (d : Data) (heading : Heading) (names : Names) → in_script (heading_of d) ≡ Ok heading
     → in_script (component_names (get (codes "components") d)) ≡ Ok names
     → script_of d ≡ (frames_of heading.format names (get (codes "frames") d) >>= λ frames. all_of heading names frames)
 unfolding script_of
-script_is d heading names a b = search (rules)
+script_is d heading names a b = search (rules, after_frames)
 
 pub names_refused : (d : Data) (heading : Heading) (e : ReadFault) → in_script (heading_of d) ≡ Ok heading
     → in_script (component_names (get (codes "components") d)) ≡ Err e → script_of d ≡ Err e

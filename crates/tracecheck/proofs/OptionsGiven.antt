@@ -111,23 +111,19 @@ module _ (c : Command) (id : Text) (most : ℕ) (no_groups : groups_of c ≡ [])
   entry-number f x found got =
       let e = got.0 in
       let key : e.0.now ≡ id = (bytes_eq-Decides e.0.now id).0 got.2 in
-      let alone : e.1.is_group ≡ true → ⊥ = λ group.
-      no_group (subst (IsKnownGroup c) key (got.3.3 group)) in
+      let alone : e.1.is_group ≡ true → ⊥ = λ group. no_group (subst (IsKnownGroup c) key (got.3.3 group)) in
       number_in f e.1 (found ∙ ap (λ y. Some y) (sym got.1))
       (read e.1.reading (subst (λ (text : Text). HasReading c text e.1.reading) key
-      (not_left (e.1.is_group ≡ true) _ alone got.3.4)))
-      e.1.vals.items refl
+      (not_left (e.1.is_group ≡ true) _ alone got.3.4))) e.1.vals.items refl
       (subst (λ (text : Text). All (λ v. PassesArg c text v.now) e.1.vals.items) key
-      (not_left (e.1.is_group ≡ true) _ alone got.3.0))
-      (filled e key got.3.1)
+      (not_left (e.1.is_group ≡ true) _ alone got.3.0)) (filled e key got.3.1)
     where
       not_left : (A B : Type 0) → (A → ⊥) → A ⊎ B → B
       not_left A B never (inl a) = absurd (never a)
       not_left A B never (inr b) = b
 
   number-found : (f : Found) → ValuesPass c f → HasId f id → HasNumber id most (rows_of f)
-  number-found f values has =
-      go (matched_of f id) refl (has-found f.entries.items id has.0 has.1 has.2)
+  number-found f values has = go (matched_of f id) refl (has-found f.entries.items id has.0 has.1 has.2)
     where
       go : (o : Option MatchedArg) → matched_of f id ≡ o → is_some o ≡ true
           → HasNumber id most (rows_of f)
@@ -158,45 +154,36 @@ number-given cmd m is p k option most default below at alone named own =
     let rule : rule_of a ≡ number_option option most default = rule_at (args_of cmd) k d lt
     ∙ (ap (λ (rs : List Rule). slice_index_or rs k (rule_of d)) rules ∙ at (rule_of d)) in
     let id : a.id.now ≡ option = ap (λ (r : Rule). r.id) rule in
-    let simple : IsSimple cmd = ready_simple cmd
-    (ap (λ (a : App). is_ready a.top) is ∙ program-ready)
+    let simple : IsSimple cmd = ready_simple cmd (ap (λ (a : App). is_ready a.top) is ∙ program-ready)
     (ap (λ (a : App). list_all is_ready_leaf a.subs) is) in
     let simple_arg : IsSimpleArg a = simple.args k d lt in
     let set : a.action ≡ Some Set = ap (λ (r : Rule). r.action) rule in
-    let least : least_values a ≡ 1 =
-    ap (λ (r : Rule). (unwrap_or_range r.range).start_inclusive) rule in
+    let least : least_values a ≡ 1 = ap (λ (r : Rule). (unwrap_or_range r.range).start_inclusive) rule in
     let parsed = p.parsed (p.from.globals ∙ simple.globals) in
-    let groups : groups_of p.built ≡ [] = (p.from.same_groups (simple_groups cmd
-    (ap (λ (a : App). list_all (λ (r : Rule). r.is_simple) a.top.rules) is))).1 ∙ simple.groups in
-    let wants : WantsDefault a = (
-      simple_arg.default_ifs,
-      some_text (items_of a.default_vals) default (ap (λ (r : Rule). r.defaults) rule),
-    ) in
-    let unique : (j : ℕ) (e : Arg) → j < length (args_of cmd)
-    → bytes_eq (slice_index_or (args_of cmd) j e).id.now a.id.now ≡ true → j ≡ k =
-    λ j e low same. alone j (rule_of e) (omega arith)
-    (subst (λ (r : Rule). bytes_eq r.id option ≡ true)
-    (rule_at (args_of cmd) j e low
+    let groups : groups_of p.built ≡ [] = (p.from.same_groups
+    (simple_groups cmd (ap (λ (a : App). list_all (λ (r : Rule). r.is_simple) a.top.rules) is))).1 ∙ simple.groups in
+    let wants : WantsDefault a =
+    (simple_arg.default_ifs, some_text (items_of a.default_vals) default (ap (λ (r : Rule). r.defaults) rule)) in
+    let unique : (j : ℕ) (e : Arg) → j < length (args_of cmd) → bytes_eq (slice_index_or (args_of cmd) j e).id.now
+    a.id.now ≡ true → j ≡ k = λ j e low same. alone j (rule_of e) (omega arith)
+    (subst (λ (r : Rule). bytes_eq r.id option ≡ true) (rule_at (args_of cmd) j e low
     ∙ ap (λ (rs : List Rule). slice_index_or rs j (rule_of e)) rules)
-    (subst (λ (text : Text). bytes_eq (slice_index_or (args_of cmd) j e).id.now text ≡ true) id
-    same)) in
+    (subst (λ (text : Text). bytes_eq (slice_index_or (args_of cmd) j e).id.now text ≡ true) id same)) in
     let free : IsAuto a → ⊥ = λ auto. own (renamed a.id.now option id auto) in
-    let only : (j : ℕ) (x : Arg) → j < length (args_of p.built)
-    → slice_index_or (args_of p.built) j x ≡ x → bytes_eq x.id.now option ≡ true
-    → TakesNumber most x =
-    λ j x high here same.
-    let kept : SameRules a x = same_rules_by_id cmd m p k d lt unique free j x high here
-    (subst (λ (text : Text). bytes_eq x.id.now text ≡ true) (sym id) same) in
-    record {
+    let only : (j : ℕ) (x : Arg) → j < length (args_of p.built) → slice_index_or (args_of p.built) j x ≡ x
+    → bytes_eq x.id.now option ≡ true → TakesNumber most x = λ j x high here same. let kept : SameRules a x =
+    same_rules_by_id cmd m p k d lt unique free j x high here
+    (subst (λ (text : Text). bytes_eq x.id.now text ≡ true) (sym id) same) in record {
       parser = kept.parser _ (ap (λ (r : Rule). r.parser) rule);
-      ignore_case = kept.ignore_case ∙ ap (λ (r : Rule). r.ignore_case) rule;
+      ignore_case = kept.ignore_case
+          ∙ ap (λ (r : Rule). r.ignore_case) rule;
       action = kept.action Set set;
-      delimiter = kept.val_delim ∙ simple_arg.delimiter;
+      delimiter = kept.val_delim
+          ∙ simple_arg.delimiter;
       least = kept.least set (omega (arith, least));
     } in
     number-found p.built option most groups named only (found_of m) parsed.values
-    (subst (λ (text : Text). HasId (found_of m) text) id
-    (default_present cmd m p simple.globals k d lt wants))
+    (subst (λ (text : Text). HasId (found_of m) text) id (default_present cmd m p simple.globals k d lt wants))
   where
     renamed : (name option : Text) → name ≡ option
         → (name ≡ codes "help") ⊎ (name ≡ codes "version")

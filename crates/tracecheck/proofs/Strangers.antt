@@ -77,8 +77,7 @@ only_first s next left (b ∷ [], after, parts, passes, more) fits =
     flush_stays : (b next : Call) → next ≡ line.Flush None → MayPass next b → ⊥
     flush_stays b next is pass = subst (λ (l : Call). MayPass l b) is pass
 only_first s next left (b ∷ d ∷ before, after, parts, passes, more) fits =
-    let no : [] ≡ before ++ next ∷ after = ap (λ ls. rest_of (rest_of ls)) parts in
-    none_in before after next no
+    let no : [] ≡ before ++ next ∷ after = ap (λ ls. rest_of (rest_of ls)) parts in none_in before after next no
   where
     none_in : (before after : List Call) (l : Call) → [] ≡ before ++ l ∷ after → ⊥
     none_in [] after l is = cc

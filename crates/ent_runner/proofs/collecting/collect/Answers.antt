@@ -1,6 +1,10 @@
-use Rattle.std.proofs.Common.{rules}
+use Rattle.std.proofs.Common.{arith}
 use Rattle.ent_runner.proofs.ByNumber.{collected_on}
 use Rattle.ent_runner.proofs.collecting.collect.Goals as goal
 
 pub loop-output-preserved : goal.loop-output-preserved
-loop-output-preserved g c = search (rules, collected_on)
+loop-output-preserved g c =
+    let i = c.loop-output.invariant in
+    let p = c.push_reserved.ensures in
+    let next = collected_on _ _ _ _ _ _ (rw c.in_ok-output.was at c.in-Some.ensures.steps.0) p.items i.same in
+    record { same = next.0; room = omega (arith, next.1, p.len, p.capacity, i.room) }

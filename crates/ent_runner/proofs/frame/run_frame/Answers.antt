@@ -1,10 +1,11 @@
-use Rattle.std.proofs.Common.{rules, ◌≡◌, ◌++◌, length, take, drop}
+use Rattle.std.proofs.Common.{rules, ◌≡◌, ◌∙◌, ◌++◌, ap, length, take, drop}
 use Rattle.std.proofs.lemmas.List.{length-map}
-use Rattle.ent_shared.specs.Phase.{records_of}
+use Rattle.ent_shared.specs.Phase.{Reserver, records_of}
 use Rattle.ent_shared.specs.Record.{opened_records}
 use Rattle.ent_world.specs.OpenWorld.{world_at_start}
 use Rattle.ent_runner.proofs.Alone.{ends_in_order, ends}
 use Rattle.ent_runner.proofs.Conducting.{written_back, none_weaker, some_weaker}
+use Rattle.ent_runner.proofs.Framed.{Issues}
 use Rattle.ent_runner.proofs.Lending.{done_seen, broken_off_seen}
 use Rattle.ent_runner.proofs.NoSystems.{ends_none}
 use Rattle.ent_runner.proofs.Lost.{ClosedAgain, closed_again, lost_again, broken_again, view_is}
@@ -19,11 +20,13 @@ same g c = search rules
 -- the reservers are written back
 back : (g : given.Over) (c : After-work-queues g) → take c.in-Ok-open.made.1.len
     (c.work-queues.new.lent ++ drop (length c.work-queues.new.lent) c.in-Ok-open.made.1.items) ≡ c.work-queues.new.lent
-back g c = search (rules, written_back)
+back g c = written_back c.in-Ok-open.made.1.len c.in-Ok-open.made.1.items c.work-queues.new.lent
+    c.in-Ok-open.made.1.ok.0 (c.work-queues.ensures.count ∙ ap length c.deref_mut.ensures.value)
 
 back_end : (g : given.Over) (c : After-close g) → take c.in-Ok-open.made.1.len
     (c.work-queues.new.lent ++ drop (length c.work-queues.new.lent) c.in-Ok-open.made.1.items) ≡ c.work-queues.new.lent
-back_end g c = search (rules, written_back)
+back_end g c = written_back c.in-Ok-open.made.1.len c.in-Ok-open.made.1.items c.work-queues.new.lent
+    c.in-Ok-open.made.1.ok.0 (c.work-queues.ensures.count ∙ ap length c.deref_mut.ensures.value)
 
 opened : (g : given.Over) (c : After-close g) → records_of c.deref_mut.result.now
     ≡ opened_records c.in-Ok-open.made.0.shared.start 0 c.in-Ok-open.made.0.shared.count
@@ -36,40 +39,73 @@ many g c = rw c.deref_mut.ensures.value (search rules)
 -- the crew has worked, and the world was closed
 closed : (g : given.Over) (c : After-close g) → ClosedAgain g.S.System.may_issue g.S.System.may_leave c.args.systems.now
     c.in-Ok-open.made.0 c.close.result c.work-queues.result
-closed g c = search (
-  rules,
-  closed_again,
-  view_is,
-  opened,
-  length-map,
-  many,
-  some_weaker,
-  done_seen,
-  none_weaker,
-  broken_off_seen,
-  back_end,
-)
+closed g c =
+    let e = c.close.ensures in
+    let w = c.work-queues.ensures in
+    let own = λ (r : Reserver). r.own in
+    let may = Issues g.S.System.may_issue c.args.systems.now c.view.result in
+    let leave = Issues g.S.System.may_leave c.args.systems.now c.view.result in
+    closed_again g.S.System.may_issue g.S.System.may_leave c.args.systems.now c.in-Ok-open.made.0 c.close.result
+    c.work-queues.result (records_of c.deref_mut.result.now) (records_of c.work-queues.new.lent) _ c.view.result
+    (search rules) (view_is c.in-Ok-open.made.0 c.view.result c.view.ensures.phase c.view.ensures.entities) (opened g c)
+    (length-map c.deref_mut.result.now own ∙ many g c) (length-map c.work-queues.new.lent own ∙ (w.count ∙ many g c))
+    (some_weaker c.work-queues.result (λ q. done_seen own may leave _ c.deref_mut.result.now q.items
+    c.work-queues.new.lent) w.done) (none_weaker c.work-queues.result
+    (broken_off_seen own may leave _ c.deref_mut.result.now c.work-queues.new.lent) w.broken_off) e.phase e.entities
+    (rw (back_end g c) at e.after) (rw (back_end g c) at e.legal) (rw (back_end g c) at e.respects)
 
 pub close-requires-clause-own : goal.close-requires-clause-own
-close-requires-clause-own g c = search (rules, back)
+close-requires-clause-own g c = rw (back g (goal.at.close-requires-clause-own g c).After-work-queues)
+    (rw c.shared.ensures at c.work-queues.ensures.lent)
 
 pub returns-in-Ok-apply-clause-ok : goal.returns-in-Ok-apply-clause-ok
-returns-in-Ok-apply-clause-ok g c = search (rules, ends, closed, same)
+returns-in-Ok-apply-clause-ok g c =
+    let a = c.in-Ok-apply.ensures in
+    ends g.S.System.may_issue g.S.System.may_leave c.args.systems.now c.args.workers c.args.world.now
+    c.in-Ok-open.made.0 c.close.result c.apply.new.self c.work-queues.result c.in-Some.queues c.deref.result.now
+    c.in-Ok-apply.sync.born.items c.in-Ok-apply.sync.faults.items
+    (closed g (goal.at.returns-in-Ok-apply-clause-ok g c).After-close) c.in-Some.is
+    (same g (goal.at.returns-in-Ok-apply-clause-ok g c).In-Ok-open) c.in-Ok-open.ensures.shared.1 c.deref.ensures.value
+    a.ok a.born a.faults
 
 pub returns-in-Ok-apply-clause-alone : goal.returns-in-Ok-apply-clause-alone
-returns-in-Ok-apply-clause-alone g c one = search (rules, ends_in_order, ends, closed, same)
+returns-in-Ok-apply-clause-alone g c one =
+    let a = c.in-Ok-apply.ensures in
+    ends_in_order g.S.System.may_issue c.args.systems.now _ _ c.args.workers _ _ _ one
+    (ends g.S.System.may_issue g.S.System.may_leave c.args.systems.now c.args.workers c.args.world.now
+    c.in-Ok-open.made.0 c.close.result c.apply.new.self c.work-queues.result c.in-Some.queues c.deref.result.now
+    c.in-Ok-apply.sync.born.items c.in-Ok-apply.sync.faults.items
+    (closed g (goal.at.returns-in-Ok-apply-clause-alone g c).After-close) c.in-Some.is
+    (same g (goal.at.returns-in-Ok-apply-clause-alone g c).In-Ok-open) c.in-Ok-open.ensures.shared.1
+    c.deref.ensures.value a.ok a.born a.faults)
 
 pub returns-in-Err-apply-clause-stopped : goal.returns-in-Err-apply-clause-stopped
-returns-in-Err-apply-clause-stopped g c = search (rules, closed, same)
+returns-in-Err-apply-clause-stopped g c =
+    let known = closed g (goal.at.returns-in-Err-apply-clause-stopped g c).After-close in
+    let opened_is = same g (goal.at.returns-in-Err-apply-clause-stopped g c).In-Ok-open in
+    search (rules, known, opened_is)
 
 pub returns-in_default-queues-clause-still : goal.returns-in_default-queues-clause-still
-returns-in_default-queues-clause-still g c lost = search (rules, lost_again, same, closed)
+returns-in_default-queues-clause-still g c lost = lost_again g.S.System.may_issue g.S.System.may_leave _ _ _
+    c.in-Ok-open.made.0 _ (same g (goal.at.returns-in_default-queues-clause-still g c).In-Ok-open)
+    (closed g (goal.at.returns-in_default-queues-clause-still g c).After-close) c.in-Ok-open.ensures.sound
+    c.requires.flushed
 
 pub returns-in_default-queues-clause-lost : goal.returns-in_default-queues-clause-lost
-returns-in_default-queues-clause-lost g c lost = search (rules, broken_again, same, closed)
+returns-in_default-queues-clause-lost g c lost = broken_again g.S.System.may_issue g.S.System.may_leave _ _ _
+    c.in-Ok-open.made.0 _ (same g (goal.at.returns-in_default-queues-clause-lost g c).In-Ok-open)
+    (closed g (goal.at.returns-in_default-queues-clause-lost g c).After-close) c.args.workers
+    c.in-Ok-open.ensures.shared.1 (search rules)
 
 pub returns-then-is_empty-clause-ok : goal.returns-then-is_empty-clause-ok
-returns-then-is_empty-clause-ok g c = search (rules, ends_none)
+returns-then-is_empty-clause-ok g c =
+    let w = c.without_systems.ensures in
+    ends_none g.S.System.may_issue c.args.systems.now c.args.workers c.args.world.now _ _ _ _ (search rules) w.queues
+    w.world w.born w.faults
 
 pub returns-then-is_empty-clause-alone : goal.returns-then-is_empty-clause-alone
-returns-then-is_empty-clause-alone g c one = search (rules, ends_in_order, ends_none)
+returns-then-is_empty-clause-alone g c one =
+    let w = c.without_systems.ensures in
+    ends_in_order g.S.System.may_issue c.args.systems.now _ _ c.args.workers _ _ _ one
+    (ends_none g.S.System.may_issue c.args.systems.now c.args.workers c.args.world.now _ _ _ _ (search rules) w.queues
+    w.world w.born w.faults)

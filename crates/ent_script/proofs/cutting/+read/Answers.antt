@@ -1,10 +1,11 @@
 use Rattle.std.proofs.lemmas.Grind.{common_steps}
 use Rattle.json.proofs.Grammar.{members_end, value_is, value-begin_object, read_key-shorter}
-use Rattle.std.proofs.Common.{◌≡◌, ◌-◌, ◌∷◌, ap, arith, rules, suc}
+use Rattle.std.proofs.Common.{◌≡◌, ◌-◌, ◌∷◌, length, Some, refl, ap, ◌∙◌, arith, rules, suc}
 use Rattle.json.specs.Token.{Token}
-use Rattle.json.specs.Json.{value}
+use Rattle.json.specs.Json.{read_key, value}
 use Rattle.json.specs.Reads.{token_of}
-use Rattle.serde_json.specs.Data.{string, object}
+use Rattle.serde_json.specs.Data.{null, boolean, number, string, object, no_members, put}
+use Rattle.serde_json.specs.View.{number_view, members_view}
 use Rattle.serde_json.specs.declared.value.Value.{the_lemmas}
 use Rattle.ent_script.proofs.Turns.{converted-object, member_read, member_refused, key_refused}
 use Rattle.ent_script.proofs.Cuts.{view-Array, view-Object, members_view-insert_entry, cut_members-put, opened_array, opened_object}
@@ -29,13 +30,14 @@ read_cut-returns-in_ok-from_str-in-String-clause-ok t c =
     (string c.in-String.text.now, search (rules, value_is), search (rules, the_lemmas))
 
 pub read_cut-returns-in-Bool-clause-ok : goal.read_cut-returns-in-Bool-clause-ok
-read_cut-returns-in-Bool-clause-ok t c = search (rules, value_is)
+read_cut-returns-in-Bool-clause-ok t c = (boolean c.in-Bool.b, search (rules, value_is), search (rules, the_lemmas))
 
 pub read_cut-returns-in-Null-clause-ok : goal.read_cut-returns-in-Null-clause-ok
-read_cut-returns-in-Null-clause-ok t c = search (rules, value_is)
+read_cut-returns-in-Null-clause-ok t c = (null, search (rules, value_is), search (rules, the_lemmas))
 
 pub read_cut-returns-in-Some-clause-ok : goal.read_cut-returns-in-Some-clause-ok
-read_cut-returns-in-Some-clause-ok t c = search (rules, value_is)
+read_cut-returns-in-Some-clause-ok t c =
+    (number (number_view c.in-Some.number), search (rules, value_is), search (rules, the_lemmas))
 
 pub read_cut-returns-in-None-clause-json : goal.read_cut-returns-in-None-clause-json
 read_cut-returns-in-None-clause-json t c refused = search (rules, value_is)
@@ -55,7 +57,8 @@ read_cut-returns-in_ok-cut_members-in-BeginObject-clause-ok t c =
     (object ms, search (rules, is, value-begin_object, converted-object), search (rules, seen, view-Object))
 
 pub cut_members-members-init : goal.cut_members-members-init
-cut_members-members-init t c = search rules
+cut_members-members-init t c =
+    (length c.args.reader.now, omega arith, (no_members, refl, ap members_view c.new-found.ensures.empty), omega arith)
 
 pub cut_members-returns-in_err-name-clause-json : goal.cut_members-returns-in_err-name-clause-json
 cut_members-returns-in_err-name-clause-json t c refused = search (rules, key_refused)
@@ -64,14 +67,35 @@ pub cut_members-returns-in_err-member-clause-json : goal.cut_members-returns-in_
 cut_members-returns-in_err-member-clause-json t c refused = search (rules, member_refused)
 
 pub cut_members-members-preserved : goal.cut_members-members-preserved
-cut_members-members-preserved t c = search
-    (rules, read_key-shorter, member_read, members_view-insert_entry, cut_members-put)
+cut_members-members-preserved t c =
+    let l = c.members in
+    let k = c.in-Some.name.now in
+    let done = c.in_ok-member.ensures in
+    let named : read_key l.reader ≡ Some (Some k, c.next_key.new.self) = grind arith in
+    let less = read_key-shorter l.reader (Some k) c.next_key.new.self named in
+    let lesser = done.shorter in (
+      l.invariant.0 - 1,
+      omega (arith, l.invariant.1),
+      (
+        put k done.ok.0 l.invariant.2.0,
+        l.invariant.2.1 ∙ member_read (value c.args.depth) l.invariant.2.0 l.invariant.0 k l.reader c.next_key.new.self
+            c.read_cut.new.reader done.ok.0 (omega (arith, l.invariant.1)) named done.ok.1,
+        search (rules, members_view-insert_entry, cut_members-put),
+      ),
+      omega (arith, l.invariant.3),
+    )
 
 pub cut_members-returns-clause-ok : goal.cut_members-returns-clause-ok
 cut_members-returns-clause-ok t c = search (rules, members_end)
 
 pub read_cut-returns-then-levels-eq0-clause-ok : goal.read_cut-returns-then-levels-eq0-clause-ok
-read_cut-returns-then-levels-eq0-clause-ok t c = search (rules, passed_nested, opened_object, view-Object)
+read_cut-returns-then-levels-eq0-clause-ok t c =
+    let d = passed_nested c.args.depth (token_of c.in_ok-token.token) Token.begin_object c.args.reader.now
+    c.next.new.self c.pass_rest-then-levels-eq0.new.reader (grind arith) (ap token_of c.in-BeginObject.is)
+    c.in_ok-pass_rest-in-BeginObject.ensures.value in
+    let ms = opened_object c.args.depth c.next.new.self c.pass_rest-then-levels-eq0.new.reader d.0 d.2 in
+    let none : c.args.levels ≡ 0 = omega arith in
+    (d.0, d.1, search (rules, view-Object, none, ms))
 
 pub read_cut-returns-in_ok-pass_rest-in-BeginArray-clause-ok :
     goal.read_cut-returns-in_ok-pass_rest-in-BeginArray-clause-ok

@@ -1,6 +1,6 @@
-use Rattle.std.proofs.Common.{rules}
+use Rattle.std.proofs.Common.{◌∙◌}
 use Rattle.ent_script.proofs.Values.{keys_lent}
 use Rattle.ent_script.proofs.elements.are_keys_among.Goals as goal
 
 pub returns : goal.returns
-returns c = search (rules, keys_lent)
+returns c = c.are_among.ensures ∙ keys_lent c.args.members.now.entries c.args.allowed.now

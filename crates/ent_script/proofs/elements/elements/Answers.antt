@@ -1,6 +1,7 @@
-use Rattle.std.proofs.Common.{rules}
+use Rattle.serde_json.specs.Find.{as_array}
+use Rattle.serde_json.specs.View.{view}
 use Rattle.ent_script.proofs.Values.{elements_seen}
 use Rattle.ent_script.proofs.elements.elements.Goals as goal
 
 pub returns : goal.returns
-returns c = search (rules, elements_seen)
+returns c = elements_seen c.as_array.result (as_array (view c.args.value.now)) c.as_array.ensures

@@ -1,6 +1,9 @@
-use Rattle.std.proofs.Common.{rules, ◌-◌, arith}
+use Rattle.std.proofs.Common.{rules, ◌≡◌, ◌+◌, ◌-◌, length, None, ap, ◌∙◌, arith}
 use Rattle.std.proofs.lemmas.Grind.{common_steps}
-use Rattle.ent_script.specs.Reading.{system_of}
+use Rattle.json.specs.Json.{after_end_array, value}
+use Rattle.ent_script.specs.Json.{list_of}
+use Rattle.ent_script.specs.Reading.{system_of, operation_at}
+use Rattle.ent_script.specs.declared.read_fault.ReadFault.TheVariants as fault
 use Rattle.ent_script.proofs.Listing.{at_end, at_most_many, at_fault, fault_streams}
 use Rattle.ent_script.proofs.Operations.{reached_next, listed_among}
 use Rattle.ent_script.proofs.frames.operations.Goals as goal
@@ -10,15 +13,56 @@ operations-init c = grind (arith, common_steps)
 
 pub returns-then-number-eq-OPERATIONS-clause-value : goal.returns-then-number-eq-OPERATIONS-clause-value
 unfolding system_of
-returns-then-number-eq-OPERATIONS-clause-value c n ds rest e = search (rules, at_most_many, listed_among, fault_streams)
+returns-then-number-eq-OPERATIONS-clause-value c n ds rest e =
+    let l = c.operations in
+    let g = operation_at c.args.format c.args.components.now c.args.frame c.args.system in
+    let limit = fault.System c.args.frame c.args.system in
+    let at = l.invariant.at n ds rest e in
+    let many = at_most_many (value c.args.depth) (g (list_of ds)) 10000 limit c.fault_of_array.result l.operations.items
+    l.number l.reader c.fault_of_array.new.reader ds rest (at.0, at.1, at.2, at.3, at.4) in
+    let among = listed_among 10000 g limit (list_of ds) in
+    search (rules, fault_streams, many, among)
 
 pub returns-in-Err-clause-value : goal.returns-in-Err-clause-value
 unfolding system_of
-returns-in-Err-clause-value c n ds rest e = search (rules, fault_streams, at_fault, listed_among)
+returns-in-Err-clause-value c n ds rest e =
+    let l = c.operations in
+    let g = operation_at c.args.format c.args.components.now c.args.frame c.args.system in
+    let going : (after_end_array l.reader ≡ None) × (c.take_end_array.new.self ≡ l.reader) = grind arith in
+    let limit = fault.System c.args.frame c.args.system in
+    let found = c.fault_of_array-in-Err in
+    let room : 9999 - l.number + l.number + 1 ≡ 10000 = omega (arith, l.invariant.few) in
+    let at = l.invariant.at n ds rest e in
+    fault_streams found.result found.new.reader _ rest (λ other.
+    let known : c.in-Err.fault ≡ fault.Memory → ⊥ = λ same. other (found.ensures.memory same) in
+    let is = at_fault (value c.args.depth) (g (list_of ds)) 10000 (9999 - l.number) limit c.in-Err.fault
+    found.result l.operations.items l.number l.reader c.next_operation.new.reader found.new.reader ds rest
+    (at.0, at.1, at.2, at.3, at.4) going.0 room known (λ d r is. rw (← at.6)
+    (c.in-Err.ensures.value d r (rw going.1 is))) (found.ensures.value known) in
+    (listed_among 10000 g limit (list_of ds) ∙ is.0, is.1))
 
 pub operations-preserved : goal.operations-preserved
-operations-preserved c = search (rules, reached_next)
+operations-preserved c =
+    let l = c.operations in
+    let g = operation_at c.args.format c.args.components.now c.args.frame c.args.system in
+    let going : (after_end_array l.reader ≡ None) × (c.take_end_array.new.self ≡ l.reader) = grind arith in
+    record {
+      at = λ n ds rest e. let at = l.invariant.at n ds rest e in rw c.in_ok-push-in-Ok.ensures.items
+          (reached_next (value c.args.depth) (g (list_of ds)) l.operations.items l.number l.reader
+          c.next_operation.new.reader c.in-Ok.operation ds rest l.bound c.next_operation.new.bound at going.0
+          (λ d r is. rw (← at.6) (c.in-Ok.ensures.value d r (rw going.1 is)))
+          (λ d r is. c.in-Ok.ensures.binds d r (rw going.1 is)));
+      few = omega (arith, l.invariant.few);
+      shorter = omega (arith, l.invariant.shorter, ap length going.1, c.in-Ok.ensures.shorter);
+    }
 
 pub returns-clause-value : goal.returns-clause-value
 unfolding system_of
-returns-clause-value c n ds rest e = search (rules, at_end, listed_among)
+returns-clause-value c n ds rest e =
+    let l = c.operations in
+    let g = operation_at c.args.format c.args.components.now c.args.frame c.args.system in
+    let limit = fault.System c.args.frame c.args.system in
+    let at = l.invariant.at n ds rest e in
+    let over = at_end (value c.args.depth) (g (list_of ds)) 10000 limit l.operations.items l.number l.reader
+    c.take_end_array.new.self ds rest (at.0, at.1, at.2, at.3, at.4) in
+    rw (listed_among 10000 g limit (list_of ds)) (search (rules, over))

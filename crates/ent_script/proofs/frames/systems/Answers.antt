@@ -1,6 +1,8 @@
-use Rattle.std.proofs.Common.{rules, ◌-◌, arith}
+use Rattle.std.proofs.Common.{rules, ◌≡◌, ◌+◌, ◌-◌, length, None, ap, arith}
 use Rattle.std.proofs.lemmas.Grind.{common_steps}
-use Rattle.ent_script.specs.Reading.{frame_of}
+use Rattle.json.specs.Json.{after_end_array, value}
+use Rattle.ent_script.specs.Reading.{frame_of, system_of}
+use Rattle.ent_script.specs.declared.read_fault.ReadFault.TheVariants as fault
 use Rattle.ent_script.proofs.Listing.{at_next, at_end, at_most_many, at_fault, fault_streams}
 use Rattle.ent_script.proofs.frames.systems.Goals as goal
 
@@ -9,15 +11,45 @@ systems-init c = grind (arith, common_steps)
 
 pub returns-then-number-eq-SYSTEMS-clause-value : goal.returns-then-number-eq-SYSTEMS-clause-value
 unfolding frame_of
-returns-then-number-eq-SYSTEMS-clause-value c n ds rest e = search (rules, at_most_many, fault_streams)
+returns-then-number-eq-SYSTEMS-clause-value c n ds rest e =
+    let l = c.systems in
+    let many = at_most_many (value c.args.depth) (system_of c.args.format c.args.components.now c.args.frame) 256
+    (fault.Frame c.args.frame) c.fault_of_array.result l.systems.items l.number l.reader c.fault_of_array.new.reader ds
+    rest (l.invariant.at n ds rest e) in
+    search (rules, fault_streams, many)
 
 pub returns-in-Err-clause-value : goal.returns-in-Err-clause-value
 unfolding frame_of
-returns-in-Err-clause-value c n ds rest e = search (rules, fault_streams, at_fault)
+returns-in-Err-clause-value c n ds rest e =
+    let l = c.systems in
+    let going : (after_end_array l.reader ≡ None) × (c.take_end_array.new.self ≡ l.reader) = grind arith in
+    let found = c.fault_of_array-in-Err in
+    let room : 255 - l.number + l.number + 1 ≡ 256 = omega (arith, l.invariant.few) in
+    fault_streams found.result found.new.reader _ rest (λ other.
+    let known : c.in-Err.fault ≡ fault.Memory → ⊥ = λ same. other (found.ensures.memory same) in
+    at_fault (value c.args.depth) (system_of c.args.format c.args.components.now c.args.frame) 256 (255 - l.number)
+    (fault.Frame c.args.frame) c.in-Err.fault found.result l.systems.items l.number l.reader c.system.new.reader
+    found.new.reader ds rest (l.invariant.at n ds rest e) going.0 room known
+    (λ d r is. c.in-Err.ensures.value d r (rw going.1 is)) (found.ensures.value known))
 
 pub systems-preserved : goal.systems-preserved
-systems-preserved c = search (rules, at_next)
+systems-preserved c =
+    let l = c.systems in
+    let going : (after_end_array l.reader ≡ None) × (c.take_end_array.new.self ≡ l.reader) = grind arith in
+    let next = at_next (value c.args.depth) (system_of c.args.format c.args.components.now c.args.frame) l.systems.items
+    l.number l.reader c.system.new.reader c.in-Ok.system in
+    record {
+      at = λ n ds rest e. rw c.in_ok-push-in-Ok.ensures.items (next ds rest (l.invariant.at n ds rest e) going.0
+          (λ d r is. c.in-Ok.ensures.value d r (rw going.1 is)));
+      few = omega (arith, l.invariant.few);
+      shorter = omega (arith, l.invariant.shorter, ap length going.1, c.in-Ok.ensures.shorter);
+    }
 
 pub returns-clause-value : goal.returns-clause-value
 unfolding frame_of
-returns-clause-value c n ds rest e = search (rules, at_end)
+returns-clause-value c n ds rest e =
+    let l = c.systems in
+    let over = at_end (value c.args.depth) (system_of c.args.format c.args.components.now c.args.frame) 256
+    (fault.Frame c.args.frame) l.systems.items l.number l.reader c.take_end_array.new.self ds rest
+    (l.invariant.at n ds rest e) in
+    search (rules, over)

@@ -1,12 +1,14 @@
-use Rattle.std.proofs.Common.{rules}
+use Rattle.std.proofs.Common.{◌∷◌, [], ◌∙◌, codes, sym}
 use Rattle.ent_script.specs.Reading.{is_spawn}
 use Rattle.ent_script.proofs.Keyed.{one_there, one_absent}
 use Rattle.ent_script.proofs.kind.is_spawn.Goals as goal
 
 pub returns-then-is_some : goal.returns-then-is_some
 unfolding is_spawn
-returns-then-is_some c ms at = search (rules, one_there)
+returns-then-is_some c ms at = one_there (codes "spawn") (codes "spawn" ∷ codes "as" ∷ []) ms c.args.fields.now.spawn
+    c.args.fields.now.kinds.spawn at.spawn at.kinds.spawn (sym c.if-is_some.ensures)
 
 pub returns-else-is_some : goal.returns-else-is_some
 unfolding is_spawn
-returns-else-is_some c ms at = search (rules, one_absent)
+returns-else-is_some c ms at = c.if-is_some.false ∙ one_absent (codes "spawn") (codes "spawn" ∷ codes "as" ∷ []) ms
+    c.args.fields.now.spawn c.args.fields.now.kinds.spawn at.spawn at.kinds.spawn (sym c.if-is_some.ensures)

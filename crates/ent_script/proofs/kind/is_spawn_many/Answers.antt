@@ -1,12 +1,16 @@
-use Rattle.std.proofs.Common.{rules}
+use Rattle.std.proofs.Common.{◌∷◌, [], ◌∙◌, codes, sym}
 use Rattle.ent_script.specs.Reading.{is_spawn_many}
 use Rattle.ent_script.proofs.Keyed.{one_there, one_absent}
 use Rattle.ent_script.proofs.kind.is_spawn_many.Goals as goal
 
 pub returns-then-is_some : goal.returns-then-is_some
 unfolding is_spawn_many
-returns-then-is_some c ms at = search (rules, one_there)
+returns-then-is_some c ms at = one_there (codes "spawn_many") (codes "spawn_many" ∷ codes "with" ∷ codes "as" ∷ []) ms
+    c.args.fields.now.spawn_many c.args.fields.now.kinds.spawn_many at.spawn_many at.kinds.spawn_many
+    (sym c.if-is_some.ensures)
 
 pub returns-else-is_some : goal.returns-else-is_some
 unfolding is_spawn_many
-returns-else-is_some c ms at = search (rules, one_absent)
+returns-else-is_some c ms at = c.if-is_some.false ∙ one_absent (codes "spawn_many")
+    (codes "spawn_many" ∷ codes "with" ∷ codes "as" ∷ []) ms c.args.fields.now.spawn_many
+    c.args.fields.now.kinds.spawn_many at.spawn_many at.kinds.spawn_many (sym c.if-is_some.ensures)

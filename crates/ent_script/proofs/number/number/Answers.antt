@@ -1,11 +1,16 @@
 use Rattle.std.proofs.lemmas.Grind.{common_steps}
-use Rattle.std.proofs.Common.{rules, arith, length-drop}
+use Rattle.std.proofs.Common.{rules, ◌≡◌, drop, ap, ◌∙◌, arith, take_all, length-drop}
+use Rattle.fast_float.specs.Text.{scan}
 use Rattle.serde_json.specs.Read.{number_of}
 use Rattle.ent_script.proofs.number.number.Goals as goal
 
 pub returns-then-has_minus : goal.returns-then-has_minus
 unfolding number_of
-returns-then-has_minus c = search (rules, length-drop)
+returns-then-has_minus c =
+    let s = c.as_bytes-bytes.result.now in
+    let parts : c.scan.result ≡ scan (drop 1 s) = c.scan.ensures.parts
+    ∙ ap scan (take_all _ (drop 1 s) (omega (arith, length-drop 1 s))) in
+    search (rules, parts)
 
 pub returns-else-has_minus : goal.returns-else-has_minus
 unfolding number_of

@@ -1,11 +1,13 @@
 use Rattle.json.proofs.Grammar.{members_end, read_key-shorter}
-use Rattle.std.proofs.Common.{◌-◌, rules}
+use Rattle.std.proofs.Common.{◌≡◌, ◌-◌, length, Some, refl, ◌∙◌, arith, rules}
+use Rattle.json.specs.Json.{read_key, value}
+use Rattle.serde_json.specs.Data.{no_members, put}
 use Rattle.ent_script.proofs.Turns.{member_read, member_refused, key_refused}
 use Rattle.ent_script.proofs.Cuts.{cut_members-put}
 use Rattle.ent_script.proofs.part.read_object.Goals as goal
 
 pub members-init : goal.members-init
-members-init c = search rules
+members-init c = (length c.args.reader.now, omega arith, (no_members, refl, refl), omega arith)
 
 pub returns-in_err-name-clause-json : goal.returns-in_err-name-clause-json
 returns-in_err-name-clause-json c refused = search (rules, key_refused)
@@ -14,7 +16,23 @@ pub returns-in_err-leaf-clause-json : goal.returns-in_err-leaf-clause-json
 returns-in_err-leaf-clause-json c refused = search (rules, member_refused)
 
 pub members-preserved : goal.members-preserved
-members-preserved c = search (rules, read_key-shorter, member_read, cut_members-put)
+members-preserved c =
+    let l = c.members in
+    let k = c.in-Some.name.now in
+    let done = c.in_ok-leaf.ensures in
+    let named : read_key l.reader ≡ Some (Some k, c.next_key.new.self) = grind arith in
+    let less = read_key-shorter l.reader (Some k) c.next_key.new.self named in
+    let lesser = done.shorter in (
+      l.invariant.0 - 1,
+      omega (arith, l.invariant.1),
+      (
+        put k done.ok.0 l.invariant.2.0,
+        l.invariant.2.1 ∙ member_read (value c.args.depth) l.invariant.2.0 l.invariant.0 k l.reader c.next_key.new.self
+            c.read_leaf.new.reader done.ok.0 (omega (arith, l.invariant.1)) named done.ok.1,
+        search (rules, cut_members-put),
+      ),
+      omega (arith, l.invariant.3),
+    )
 
 pub returns-clause-ok : goal.returns-clause-ok
 returns-clause-ok c = search (rules, members_end)

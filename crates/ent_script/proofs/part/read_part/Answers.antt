@@ -4,7 +4,8 @@ use Rattle.std.proofs.Common.{◌≡◌, ◌∷◌, refl, ap, arith, rules}
 use Rattle.json.specs.Token.{Token}
 use Rattle.json.specs.Json.{value}
 use Rattle.json.specs.Reads.{token_of}
-use Rattle.serde_json.specs.Data.{string, object}
+use Rattle.serde_json.specs.Data.{null, boolean, number, string, object}
+use Rattle.serde_json.specs.View.{number_view}
 use Rattle.ent_script.proofs.Turns.{converted-object}
 use Rattle.ent_script.proofs.Cuts.{opened_array}
 use Rattle.ent_script.proofs.Openings.{passed_nested}
@@ -24,13 +25,13 @@ pub returns-in-String-clause-ok : goal.returns-in-String-clause-ok
 returns-in-String-clause-ok c = (string c.in-String.text.now, search (rules, value_is), refl)
 
 pub returns-in-Bool-clause-ok : goal.returns-in-Bool-clause-ok
-returns-in-Bool-clause-ok c = search (rules, value_is)
+returns-in-Bool-clause-ok c = (boolean c.in-Bool.b, search (rules, value_is), refl)
 
 pub returns-in-Null-clause-ok : goal.returns-in-Null-clause-ok
-returns-in-Null-clause-ok c = search (rules, value_is)
+returns-in-Null-clause-ok c = (null, search (rules, value_is), refl)
 
 pub returns-in-Some-clause-ok : goal.returns-in-Some-clause-ok
-returns-in-Some-clause-ok c = search (rules, value_is)
+returns-in-Some-clause-ok c = (number (number_view c.in-Some.number), search (rules, value_is), refl)
 
 pub returns-in-None-clause-json : goal.returns-in-None-clause-json
 returns-in-None-clause-json c refused = search (rules, value_is)

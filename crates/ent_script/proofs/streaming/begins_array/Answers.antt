@@ -1,6 +1,6 @@
 use Rattle.std.proofs.lemmas.Grind.{common_steps}
 use Rattle.json.proofs.Grammar.{left-parse_map, value_is, value-begin_array}
-use Rattle.std.proofs.Common.{rules, arith}
+use Rattle.std.proofs.Common.{rules, ◌≡◌, [], arith}
 use Rattle.json.specs.Json.{value}
 use Rattle.ent_script.proofs.Turns.{converted-array}
 use Rattle.ent_script.proofs.Cuts.{opened_array}
@@ -8,7 +8,8 @@ use Rattle.ent_script.proofs.Finding.{no_token, no_array, passed}
 use Rattle.ent_script.proofs.streaming.begins_array.Goals as goal
 
 pub returns-in_err-token-clause-value : goal.returns-in_err-token-clause-value
-returns-in_err-token-clause-value c d rest e = search (rules, no_token)
+returns-in_err-token-clause-value c d rest e =
+    let empty : c.args.reader.now ≡ [] = grind arith in no_token c.args.depth rest d (rw empty at e)
 
 pub returns-then-depth-eq0-clause-value : goal.returns-then-depth-eq0-clause-value
 returns-then-depth-eq0-clause-value c d rest e = search (rules, opened_array)

@@ -1,4 +1,5 @@
-use Rattle.std.proofs.Common.{rules, ◌≡◌, ℕ, ◌+◌, ◌<◌, List, length, Bool, true, false, refl, arith}
+use Rattle.std.proofs.Common.{rules, ◌≡◌, ℕ, ◌+◌, ◌<◌, List, length, Bool, true, false, refl, [], None, arith}
+use Rattle.json.specs.Json.{after_end_array, value}
 use Rattle.std.specs.Prelude.{Ok}
 use Rattle.json.specs.Token.{Token}
 use Rattle.serde_json.specs.Data.{Items}
@@ -17,14 +18,32 @@ few false all room most later none some fitting full = full refl
 verdict : (fits : Bool) (most room later : ℕ) (left : List Token) (ds : Items) (rest : List Token) → later ≡ 0
     → (fits ≡ true → length (list_of ds) + room ≡ most + later) → (fits ≡ false → most < length (list_of ds))
     → left ≡ rest → PassesAtMost most (Ok fits) left ds rest
-verdict true most room later left ds rest none fitting full same = search rules
+verdict true most room later left ds rest none fitting full same = (omega (arith, none, fitting refl), same)
 verdict false most room later left ds rest none fitting full same = (full refl, same)
 
 pub loop-reader-preserved-then-room-eq0 : goal.loop-reader-preserved-then-room-eq0
-loop-reader-preserved-then-room-eq0 c = search (rules, item_over, few, goes_on)
+loop-reader-preserved-then-room-eq0 c =
+    let l = c.loop-reader in
+    let going : (after_end_array l.reader ≡ None) × (c.take_end_array.new.self ≡ l.reader) = grind arith in
+    let less : length c.pass_value.new.reader < length l.reader = rw (← going.1) c.in_ok-pass_value.ensures.shorter in
+    record {
+      counted = λ n ds rest e. search (rules, item_over, few);
+      same = λ n h. goes_on (value c.args.depth) _ l.reader c.pass_value.new.reader (l.invariant.same n h) going.0
+          (rw (← going.1) c.in_ok-pass_value.ensures.value) less;
+      shorter = omega (arith, less, l.invariant.shorter);
+    }
 
 pub loop-reader-preserved : goal.loop-reader-preserved
-loop-reader-preserved c = search (rules, item_over, goes_on)
+loop-reader-preserved c =
+    let l = c.loop-reader in
+    let going : (after_end_array l.reader ≡ None) × (c.take_end_array.new.self ≡ l.reader) = grind arith in
+    let less : length c.pass_value.new.reader < length l.reader = rw (← going.1) c.in_ok-pass_value.ensures.shorter in
+    record {
+      counted = λ n ds rest e. search (rules, item_over);
+      same = λ n h. goes_on (value c.args.depth) _ l.reader c.pass_value.new.reader (l.invariant.same n h) going.0
+          (rw (← going.1) c.in_ok-pass_value.ensures.value) less;
+      shorter = omega (arith, less, l.invariant.shorter);
+    }
 
 pub returns-in_err-pass_value-clause-value : goal.returns-in_err-pass_value-clause-value
 returns-in_err-pass_value-clause-value c n ds rest e = search (rules, next_item, not_passed)
@@ -33,7 +52,14 @@ pub returns-clause-value : goal.returns-clause-value
 returns-clause-value c n ds rest e = search (rules, last_item, verdict)
 
 pub returns-in_err-pass_value-clause-passes : goal.returns-in_err-pass_value-clause-passes
-returns-in_err-pass_value-clause-passes c n h = search (rules, goes_stuck)
+returns-in_err-pass_value-clause-passes c n h =
+    let l = c.loop-reader in
+    let going : (after_end_array l.reader ≡ None) × (c.take_end_array.new.self ≡ l.reader) = grind arith in
+    let stuck = goes_stuck (value c.args.depth) _ l.reader [] (l.invariant.same n h) going.0
+    (rw (← going.1) c.in_err-pass_value.ensures.value) in
+    search (rules, stuck)
 
 pub returns-clause-passes : goal.returns-clause-passes
-returns-clause-passes c n h = search (rules, goes_over)
+returns-clause-passes c n h =
+    let l = c.loop-reader in
+    goes_over (value c.args.depth) _ l.reader c.take_end_array.new.self (l.invariant.same n h) (grind arith)

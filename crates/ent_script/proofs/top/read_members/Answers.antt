@@ -1,5 +1,12 @@
+use Rattle.std.proofs.lemmas.Grind.{common_steps}
 use Rattle.json.proofs.Grammar.{members_end, left_none, read_key-shorter}
-use Rattle.std.proofs.Common.{◌-◌, rules}
+use Rattle.std.proofs.Common.{◌≡◌, ◌-◌, length, Some, None, refl, sym, ap, ◌∙◌, arith, rules, codes, Option, Vec, Global}
+use Rattle.json.specs.Json.{read_key, value}
+use Rattle.serde_json.specs.Data.{object, no_members, put}
+use Rattle.serde_json.specs.Read.{of_json, of_members, converted}
+use Rattle.serde_json.specs.View.{members_view}
+use Rattle.serde_json.specs.declared.value.Value.{Value, the_lemmas}
+use Rattle.ent_script.specs.declared.read_fault.ReadFault.TheVariants.{Json}
 use Rattle.ent_script.proofs.Stepping.{passes_json}
 use Rattle.ent_script.proofs.Turns.{member_read, member_refused, key_refused}
 use Rattle.ent_script.proofs.Cuts.{members_view-insert_entry, view-Object}
@@ -8,7 +15,8 @@ use Rattle.ent_script.proofs.Tops.{heads-put, read_there}
 use Rattle.ent_script.proofs.top.read_members.Goals as goal
 
 pub members-init : goal.members-init
-members-init c = search rules
+members-init c =
+    (length c.args.reader.now, omega arith, (no_members, refl, ap members_view c.new-found.ensures.empty, refl), tt)
 
 pub returns-in_err-name-clause-json : goal.returns-in_err-name-clause-json
 returns-in_err-name-clause-json c refused = search (rules, key_refused)
@@ -17,14 +25,67 @@ pub returns-in_err-member-clause-json : goal.returns-in_err-member-clause-json
 returns-in_err-member-clause-json c refused = search (rules, member_refused)
 
 pub returns-in_err-components-clause-json : goal.returns-in_err-components-clause-json
-returns-in_err-components-clause-json c refused = search (rules, passes_json, member_refused, left_none)
+returns-in_err-components-clause-json c refused =
+    let l = c.members in
+    let k = c.in-Some.name.now in
+    let named : read_key l.reader ≡ Some (Some k, c.next_key.new.self) = grind arith in
+    let is : c.in_err-components.field-0.0 ≡ Json = grind (arith, common_steps, refused) in
+    let none = passes_json (Option (Vec Value Global)) c.in_err-components.field-0.0 c.read_elements.new.reader _
+    c.in_err-components.ensures.passes is in
+    l.invariant.2.1 ∙ member_refused (value c.args.depth) l.invariant.2.0 l.invariant.0 k l.reader c.next_key.new.self
+    named (left_none _ none)
 
 pub members-preserved-then-eq : goal.members-preserved-then-eq
-members-preserved-then-eq c = search
-    (rules, read_key-shorter, read_there, member_read, members_view-insert_entry, heads-put, found_here)
+members-preserved-then-eq c =
+    let l = c.members in
+    let k = c.in-Some.name.now in
+    let done = c.in_ok-components.ensures in
+    let named : read_key l.reader ≡ Some (Some k, c.next_key.new.self) = grind arith in
+    let less = read_key-shorter l.reader (Some k) c.next_key.new.self named in
+    let lesser = done.shorter in
+    let here = sym c.if-eq.ensures in
+    let was = read_there (converted of_json (value c.args.depth c.next_key.new.self)) c.read_elements.new.reader
+    done.passes done.value in (
+      l.invariant.0 - 1,
+      omega (arith, l.invariant.1, less, lesser),
+      (
+        put k was.0 l.invariant.2.0,
+        l.invariant.2.1 ∙ member_read (value c.args.depth) l.invariant.2.0 l.invariant.0 k l.reader c.next_key.new.self
+            c.read_elements.new.reader was.0 (omega (arith, l.invariant.1, less)) named was.1,
+        search (rules, members_view-insert_entry, heads-put, the_lemmas, here),
+        rw (found_here (codes "components") k was.0 l.invariant.2.0 here) was.2.0,
+      ),
+      done.few,
+    )
 
 pub members-preserved : goal.members-preserved
-members-preserved c = search (rules, read_key-shorter, member_read, members_view-insert_entry, heads-put, found_before)
+members-preserved c =
+    let l = c.members in
+    let k = c.in-Some.name.now in
+    let done = c.in_ok-member.ensures in
+    let named : read_key l.reader ≡ Some (Some k, c.next_key.new.self) = grind arith in
+    let less = read_key-shorter l.reader (Some k) c.next_key.new.self named in
+    let lesser = done.shorter in
+    let other = sym c.if-eq.ensures in (
+      l.invariant.0 - 1,
+      omega (arith, l.invariant.1, less, lesser),
+      (
+        put k done.ok.0 l.invariant.2.0,
+        l.invariant.2.1 ∙ member_read (value c.args.depth) l.invariant.2.0 l.invariant.0 k l.reader c.next_key.new.self
+            c.read_cut.new.reader done.ok.0 (omega (arith, l.invariant.1, less)) named done.ok.1,
+        search (rules, members_view-insert_entry, heads-put, other),
+        rw (found_before (codes "components") k done.ok.0 l.invariant.2.0 other) l.invariant.2.3,
+      ),
+      l.invariant.3,
+    )
 
 pub returns-clause-ok : goal.returns-clause-ok
-returns-clause-ok c = search (rules, members_end, view-Object)
+returns-clause-ok c =
+    let l = c.members in
+    let over : read_key l.reader ≡ Some (None, c.next_key.new.self) = grind arith in (
+      l.invariant.2.0,
+      l.invariant.2.1 ∙ ap (converted (λ ms. of_members ms l.invariant.2.0))
+          (members_end (value c.args.depth) l.invariant.0 l.reader c.next_key.new.self l.invariant.1 over),
+      view-Object l.found ∙ ap object l.invariant.2.2,
+      l.invariant.2.3,
+    )

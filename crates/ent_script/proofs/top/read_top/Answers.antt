@@ -1,7 +1,13 @@
 use Rattle.std.proofs.lemmas.Grind.{common_steps}
 use Rattle.json.proofs.Grammar.{value_is, value-begin_object}
-use Rattle.std.proofs.Common.{arith, rules}
+use Rattle.std.proofs.Common.{◌≡◌, ◌∷◌, refl, ap, ◌∙◌, arith, rules, codes, None}
+use Rattle.json.specs.Token.{Token}
 use Rattle.json.specs.Json.{value}
+use Rattle.json.specs.Reads.{token_of}
+use Rattle.serde_json.specs.Data.{object}
+use Rattle.serde_json.specs.Find.{as_object}
+use Rattle.serde_json.specs.declared.value.Value.{the_lemmas}
+use Rattle.ent_script.specs.Reading.{heading_of}
 use Rattle.ent_script.proofs.Finding.{no_object_at}
 use Rattle.ent_script.proofs.Openings.{passed_nested}
 use Rattle.ent_script.proofs.Stepping.{if_ok}
@@ -17,10 +23,23 @@ unfolding value
 returns-then-depth-eq0-clause-json c never = grind (arith, common_steps)
 
 pub returns-in-BeginObject-clause-ok : goal.returns-in-BeginObject-clause-ok
-returns-in-BeginObject-clause-ok c = search (rules, if_ok, value-begin_object, converted-object, heading_of-heads)
+returns-in-BeginObject-clause-ok c =
+    let is : c.args.reader.now ≡ Token.begin_object ∷ c.next.new.self = grind arith in
+    if_ok c.read_members.result c.read_members.ensures.ok
+    (λ top ms. (
+      object ms.0,
+      search (rules, is, ms.1, value-begin_object, converted-object),
+      ap heading_of ms.2 ∙ heading_of-heads ms.0,
+      ms.3,
+    ))
 
 pub returns-in-BeginObject-clause-json : goal.returns-in-BeginObject-clause-json
-returns-in-BeginObject-clause-json c refused = search (rules, value-begin_object, converted-object)
+returns-in-BeginObject-clause-json c refused =
+    let none = c.read_members.ensures.json refused in search (rules, none, value-begin_object, converted-object)
 
 pub returns-clause-ok : goal.returns-clause-ok
-returns-clause-ok c = search (rules, passed_nested, no_object_at, no_heading, no_member)
+returns-clause-ok c =
+    let d = passed_nested c.args.depth (token_of c.in_ok-token.token) (token_of c.in_ok-token.token) c.args.reader.now
+    c.next.new.self c.pass_rest.new.reader (grind arith) refl c.in_ok-pass_rest.ensures.value in
+    let other : as_object d.0 ≡ None = search (rules, no_object_at, d) in
+    (d.0, d.1, search (rules, the_lemmas, no_heading d.0 other), rw (no_member d.0 (codes "components") other) refl)

@@ -1,13 +1,18 @@
-use Rattle.std.proofs.Common.{rules, arith, List, ℕ, map}
+use Rattle.std.proofs.Common.{rules, arith, ◌≡◌, ◌∙◌, List, ℕ, true, ap, map}
 use Rattle.std.proofs.lemmas.Grind.{common_steps}
+use Rattle.clap.specs.Words.{App, takes}
 use Rattle.cli.proofs.Faults.{only_memory}
+use Rattle.tracecheck.specs.CommandLine.{is_taken}
 use Rattle.tracecheck.proofs.Beginnings.{both_not_taken, clap_fault, faultless, faultless_of_one, faulty_of_both, is_taken-takes, rows_asked}
 use Rattle.tracecheck.proofs.OptionsGiven.{generations-given, slots-given}
 use Rattle.tracecheck.proofs.command_line.command_line.Goals as goal
 
 pub returns-in_err-matches-clause-refused : goal.returns-in_err-matches-clause-refused
 returns-in_err-matches-clause-refused g c =
-    let words : List (List ℕ) = map g.S.AsStr.text c.args.words.now in search (rules, only_memory, is_taken-takes)
+    let words : List (List ℕ) = map g.S.AsStr.text c.args.words.now in
+    only_memory _ _ (is_taken words ≡ true) c.from_residual-in_err-matches.ensures.1
+    (λ yes. c.in_err-matches.ensures.passes (ap (λ (a : App). takes a words) c.in_ok-program.ensures
+    ∙ is_taken-takes words yes))
 
 pub returns-in_err-matches-clause-fault : goal.returns-in_err-matches-clause-fault
 returns-in_err-matches-clause-fault g c = clap_fault _ _ _ (map g.S.AsStr.text c.args.words.now) c.in_ok-program.ensures
@@ -25,13 +30,19 @@ returns-clause-asked g c = grind (arith, common_steps, rows_asked)
 pub returns-clause-taken : goal.returns-clause-taken
 returns-clause-taken g c =
     let words : List (List ℕ) = map g.S.AsStr.text c.args.words.now in
-    search (rules, faultless_of_one, rows_asked, faultless)
+    faultless_of_one c.beginning_of.result words _ (rows_asked _ words _ c.in_ok-program.ensures
+    c.in_ok-matches.ensures.matches) (faultless _ words c.in_ok-program.ensures c.in_ok-matches.ensures.kinds)
+    c.beginning_of.ensures.one
 
 pub returns-clause-fault : goal.returns-clause-fault
 returns-clause-fault g c =
     let words : List (List ℕ) = map g.S.AsStr.text c.args.words.now in
-    search (rules, faulty_of_both, rows_asked, faultless)
+    faulty_of_both c.beginning_of.result words _ (rows_asked _ words _ c.in_ok-program.ensures
+    c.in_ok-matches.ensures.matches) (faultless _ words c.in_ok-program.ensures c.in_ok-matches.ensures.kinds)
+    c.beginning_of.ensures.both c.beginning_of.ensures.fault
 
 pub returns-clause-refused : goal.returns-clause-refused
 returns-clause-refused g c =
-    let words : List (List ℕ) = map g.S.AsStr.text c.args.words.now in search (rules, both_not_taken, rows_asked)
+    let words : List (List ℕ) = map g.S.AsStr.text c.args.words.now in
+    both_not_taken c.beginning_of.result words _ (rows_asked _ words _ c.in_ok-program.ensures
+    c.in_ok-matches.ensures.matches) c.beginning_of.ensures.both

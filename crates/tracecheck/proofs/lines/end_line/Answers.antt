@@ -1,5 +1,6 @@
-use Rattle.std.proofs.Common.{rules, ◌≡◌, ◌++◌}
+use Rattle.std.proofs.Common.{rules, ◌≡◌, ◌++◌, List, ℕ, subst, sym}
 use Rattle.std.proofs.lemmas.Result.{err_from_is_err_and}
+use Rattle.tracecheck.specs.Verdict.{MayEnd}
 use Rattle.ent_replay.specs.Text.{without_return}
 use Rattle.tracecheck.proofs.LinesRead.{cut_line, HasRead-line}
 use Rattle.tracecheck.proofs.lines.end_line.Goals.{After-without_return}
@@ -14,7 +15,9 @@ pub returns-in_err-checking-clause-ends : goal.returns-in_err-checking-clause-en
 returns-in_err-checking-clause-ends c =
     let is = taken_is (goal.at.returns-in_err-checking-clause-ends c).After-without_return in
     let p = err_from_is_err_and c.from_residual-in_err-checking.result c.from_residual-in_err-checking.ensures.1 in
-    search (rules, cut_line)
+    rw (p.1, p.2) (λ begin text more read. subst (λ (ls : List (List ℕ)). MayEnd begin ls c.in_err-checking.field-0.0)
+    (sym (cut_line begin text c.args.checking c.args.pending.now.items c.args.bytes.now c.requires read more))
+    (search (rules, c.in_err-checking.field-0.0, c.in_err-checking.ensures.ends)))
 
 pub returns-clause-taken : goal.returns-clause-taken
 returns-clause-taken c = λ begin text read. let is = taken_is (goal.at.returns-clause-taken c).After-without_return in

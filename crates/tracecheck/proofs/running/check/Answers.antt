@@ -1,6 +1,8 @@
-use Rattle.std.proofs.Common.{rules, ◌++◌, ◌∙◌, take, ap}
+use Rattle.std.proofs.Common.{◌++◌, ◌∙◌, List, ℕ, take, ap, sym, subst, arith}
 use Rattle.std.proofs.lemmas.List.{append-nil}
+use Rattle.std.specs.Io.KnownBytes.{Consumes}
 use Rattle.devices.proofs.TakenInSteps.{Consumes-append}
+use Rattle.tracecheck.specs.Checking.{HasRead}
 use Rattle.tracecheck.proofs.InputRead.{ended_at_end, ended_early}
 use Rattle.tracecheck.proofs.running.check.Goals as goal
 
@@ -9,16 +11,30 @@ returns-then-count-eq0-clause-ends g c =
     let device = g.I.Source in
     let before = c.loop.invariant.read in
     let last = ap (λ n. before.0 ++ take n c.take.new.buffer) c.if-count-eq0.true ∙ append-nil before.0 in
-    search (rules, ended_at_end, Consumes-append)
+    ended_at_end c.args.entities.allocator (device.remaining c.args.input.now) (device.remaining c.take.new.self)
+    before.0 c.loop.pending.items c.loop.checking c.finish.result
+    (subst (λ (bs : List ℕ). Consumes (device.remaining c.args.input.now) (device.remaining c.take.new.self) bs) last
+    (Consumes-append _ _ _ _ _ before.1 c.in_ok-count.ensures.bytes)) (c.in_ok-count.ensures.end c.if-count-eq0.true
+    (omega arith)) before.2 (λ all read. c.finish.ensures c.args.entities.allocator all
+    (subst (HasRead c.args.entities.allocator all c.loop.checking) (sym c.deref.ensures.value) read))
 
 pub returns-in-Err-clause-ends : goal.returns-in-Err-clause-ends
-returns-in-Err-clause-ends g c = let before = c.loop.invariant.read in search (rules, ended_early)
+returns-in-Err-clause-ends g c =
+    let before = c.loop.invariant.read in
+    ended_early c.args.entities.allocator (g.I.Source.remaining c.args.input.now) (g.I.Source.remaining c.loop.input)
+    (g.I.Source.remaining c.take.new.self) before.0 (take c.in_ok-count.count c.take.new.buffer) c.loop.pending.items
+    c.loop.checking c.in-Err.end before.1 c.in_ok-count.ensures.bytes before.2
+    (c.in-Err.ensures.ends c.args.entities.allocator)
 
 pub loop-preserved : goal.loop-preserved
 loop-preserved g c =
     let before = c.loop.invariant.read in
     record {
-      read = search (rules, Consumes-append);
+      read = (
+        before.0 ++ take c.in_ok-count.count c.take.new.buffer,
+        Consumes-append _ _ _ _ _ before.1 c.in_ok-count.ensures.bytes,
+        c.in-Ok.ensures.taken c.args.entities.allocator before.0 before.2,
+      );
       failures = c.in_ok-count.ensures.taken ∙ c.loop.invariant.failures;
       untold = λ off. c.tell-told.ensures.unwanted off ∙ c.loop.invariant.untold off;
     }

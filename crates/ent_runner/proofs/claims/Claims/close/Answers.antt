@@ -1,4 +1,4 @@
-use Rattle.std.proofs.Common.{◌<◌, rules}
+use Rattle.std.proofs.Common.{◌<◌, sym, ◌∙◌, rules}
 use Rattle.ent_runner.specs.Rule.{AreClaimsClosed}
 use Rattle.ent_shared.proofs.HandedIn.{items_all}
 use Rattle.ent_runner.proofs.Steps.{goes_by_records}
@@ -13,7 +13,13 @@ merge-requires-clause-rule c = goes_by_records _ _
 
 closed : (c : goal.After-close) → AreClaimsClosed c.args.self.numbers c.args.self.workers
     (records_of c.args.claimers.items)
-closed c = search (rules, items_all)
+closed c =
+    let i = c.loop-claimer.invariant in
+    let ok = c.loop-claimer.claimer-iterator.rest.ok in
+    let all = items_all c.args.claimers.items c.loop-claimer.yielded c.loop-claimer.claimer-iterator.rest.items i.all
+    (sym ok.0 ∙ c.in-None.ensures.steps.0) in
+    let key = c.self.invariant.key_is in
+    search (rules, all, key)
 
 some : (c : goal.After-close) → 0 < c.args.self.workers
 some c = search rules
@@ -25,7 +31,7 @@ pub returns-clause-apart : goal.returns-clause-apart
 returns-clause-apart c = apart _ _ c.args.claimers.items c.requires.all (closed c)
 
 pub returns-clause-claimed : goal.returns-clause-claimed
-returns-clause-claimed c = search (rules, claimed, closed, some)
+returns-clause-claimed c = claimed _ _ c.args.claimers.items c.requires.all (closed c) (some c)
 
 pub returns-clause-once : goal.returns-clause-once
-returns-clause-once c = search (rules, once, closed, some)
+returns-clause-once c = once _ _ c.args.claimers.items c.requires.all (closed c) (some c)

@@ -1,7 +1,7 @@
-use Rattle.std.proofs.Common.{rules, ◌≡◌, ap, length, take, drop, ◌++◌, All}
+use Rattle.std.proofs.Common.{◌≡◌, ◌∙◌, ap, length, arith, take, drop, ◌++◌, inl, All}
 use Rattle.std.proofs.lemmas.List.{length-replicate}
 use Rattle.ent_runner.specs.Crew.{Crew}
-use Rattle.ent_runner.specs.Worker.{HaveDoneFirst, HasClaimed}
+use Rattle.ent_runner.specs.Worker.{HaveDoneFirst, HasClaimed, all_done}
 use Rattle.ent_runner.proofs.Conducting.{written_back, outputs_back, all_claimed, numbers_below, claimers_own, first_closed, stay, are_broken_off, done_of, lost_of, some_jobs, any_stopped, none_stopped, claimers_are}
 use Rattle.ent_runner.proofs.crew.Crew.work.Given as given
 use Rattle.ent_runner.proofs.crew.Crew.work.Goals.{After-run_all, After-close}
@@ -13,7 +13,14 @@ jobs_end g c = cc (ap (λ (k : Crew). k.jobs) c.self.view_is)
 -- the workers are written back
 team : (g : given.Over) (c : After-run_all g) → take c.self.inside.workers.len
     (c.run_all.new.workers ++ drop (length c.run_all.new.workers) c.self.inside.workers.items) ≡ c.run_all.new.workers
-team g c = search (rules, written_back)
+team g c = written_back c.self.inside.workers.len c.self.inside.workers.items
+    c.run_all.new.workers c.self.inside.workers.ok.0 (omega (
+      arith,
+      c.run_all.ensures.count,
+      c.requires.workers,
+      ap (λ (k : Crew). k.workers) c.self.view_is,
+      c.self.invariant.count,
+    ))
 
 -- what each of them has claimed
 claimed : (g : given.Over) (c : After-run_all g) → All (HasClaimed c.self.inside.claims) c.run_all.new.workers
@@ -22,19 +29,40 @@ claimed g c = all_claimed _ _ _ _ _ _ _ c.run_all.ensures
 -- the same at the end
 team_end : (g : given.Over) (c : After-close g) → take c.self.inside.workers.len
     (c.run_all.new.workers ++ drop (length c.run_all.new.workers) c.self.inside.workers.items) ≡ c.run_all.new.workers
-team_end g c = search (rules, written_back)
+team_end g c = written_back c.self.inside.workers.len c.self.inside.workers.items
+    c.run_all.new.workers c.self.inside.workers.ok.0 (omega (
+      arith,
+      c.run_all.ensures.count,
+      c.requires.workers,
+      ap (λ (k : Crew). k.workers) c.self.view_is,
+      c.self.invariant.count,
+    ))
 
 claimed_end : (g : given.Over) (c : After-close g) → All (HasClaimed c.self.inside.claims) c.run_all.new.workers
 claimed_end g c = all_claimed _ _ _ _ _ _ _ c.run_all.ensures
 
 first : (g : given.Over) (c : After-close g) → HaveDoneFirst c.self.inside.claims.numbers c.run_all.new.workers
-first g c = search (rules, first_closed, claimed_end, claimers_are, team_end)
+first g c = first_closed c.self.inside.claims c.run_all.new.workers (claimed_end g c) c.disband.new.claimers.items
+    (c.disband.ensures.claimers ∙ claimers_are _ _ (team_end g c))
+    (omega (
+      arith,
+      c.run_all.ensures.count,
+      c.requires.workers,
+      ap (λ (k : Crew). k.workers) c.self.view_is,
+      c.self.invariant.some,
+    )) c.close.ensures.first
 
 pub disband-requires-clause-inside : goal.disband-requires-clause-inside
-disband-requires-clause-inside g c = search (rules, length-replicate, team, numbers_below, claimed)
+disband-requires-clause-inside g c =
+    let a = (goal.at.disband-requires-clause-inside g c).After-run_all in
+    let many : length c.deref_mut-2.result.now ≡ c.self.inside.claims.numbers = ap length c.deref_mut-2.ensures.value
+    ∙ (ap length c.self.invariant.by_number_empty ∙ length-replicate c.self.inside.claims.numbers _) in
+    rw (team g a, many) (numbers_below _ _ (claimed g a))
 
 pub close-requires-clause-own : goal.close-requires-clause-own
-close-requires-clause-own g c = search (rules, team, claimers_own, claimed)
+close-requires-clause-own g c =
+    let a = (goal.at.close-requires-clause-own g c).After-run_all in
+    rw (c.disband.ensures.claimers, team g a) (claimers_own _ _ (claimed g a))
 
 pub returns-then-stopped-clause-lent : goal.returns-then-stopped-clause-lent
 returns-then-stopped-clause-lent g c = stay _ _ _ _ _ _ _ c.run_all.ensures
@@ -43,13 +71,31 @@ pub returns-clause-lent : goal.returns-clause-lent
 returns-clause-lent g c = stay _ _ _ _ _ _ _ c.run_all.ensures
 
 pub returns-then-stopped-clause-broken_off : goal.returns-then-stopped-clause-broken_off
-returns-then-stopped-clause-broken_off g c = search (rules, jobs_end, are_broken_off, first, any_stopped, team_end)
+returns-then-stopped-clause-broken_off g c =
+    let b = (goal.at.returns-then-stopped-clause-broken_off g c).After-close in
+    rw (jobs_end g b) (are_broken_off _ _ _ _ _ _ _ c.run_all.ensures (first g b)
+    (inl (any_stopped _ _ (c.deref.ensures.value ∙ team_end g b)
+    (c.some_stopped-stopped.ensures.some c.if-stopped.true))))
 
 pub returns-then-stopped-clause-some : goal.returns-then-stopped-clause-some
-returns-then-stopped-clause-some g c = search (rules, jobs_end, some_jobs, any_stopped, team_end)
+returns-then-stopped-clause-some g c =
+    let b = (goal.at.returns-then-stopped-clause-some g c).After-close in
+    rw (jobs_end g b) (some_jobs _ _ _ _ _ _ _ c.run_all.ensures
+    (inl (any_stopped _ _ (c.deref.ensures.value ∙ team_end g b)
+    (c.some_stopped-stopped.ensures.some c.if-stopped.true))))
 
 pub returns-clause-done : goal.returns-clause-done
-returns-clause-done g c = search (rules, jobs_end, done_of, first, outputs_back, team_end, none_stopped)
+returns-clause-done g c =
+    let b = (goal.at.returns-clause-done g c).After-close in
+    rw (jobs_end g b) (done_of _ _ _ _ _ _ _ c.run_all.ensures (first g b) c.collect.result _
+    (outputs_back _ _ (all_done c.run_all.new.workers) _ _ c.self.invariant.by_number_empty c.self.inside.by_number.ok.0
+    (rw (c.deref_mut-2.ensures.value, team_end g b) at c.disband.ensures.by_number))
+    (none_stopped _ _ (c.deref.ensures.value ∙ team_end g b) (c.some_stopped-stopped.ensures.going c.if-stopped.false))
+    c.collect.ensures.all)
 
 pub returns-clause-broken_off : goal.returns-clause-broken_off
-returns-clause-broken_off g c = search (rules, jobs_end, lost_of, first, outputs_back, team_end)
+returns-clause-broken_off g c =
+    let b = (goal.at.returns-clause-broken_off g c).After-close in
+    rw (jobs_end g b) (lost_of _ _ _ _ _ _ _ c.run_all.ensures (first g b) c.collect.result _
+    (outputs_back _ _ (all_done c.run_all.new.workers) _ _ c.self.invariant.by_number_empty c.self.inside.by_number.ok.0
+    (rw (c.deref_mut-2.ensures.value, team_end g b) at c.disband.ensures.by_number)) c.collect.ensures.lacking)

@@ -1,12 +1,34 @@
-use Rattle.std.proofs.Common.{rules}
+use Rattle.std.proofs.Common.{◌∙◌, arith, rules}
 use Rattle.ent_runner.proofs.Working.{numbers_more, ended_more, stopped_at, of_ok, of_err, on_ok, on_err, claims_more}
 use Rattle.ent_runner.proofs.worker.Worker.work.Goals as goal
 
 pub loop-number-preserved : goal.loop-number-preserved
-loop-number-preserved g c = search (rules, on_ok, numbers_more, claims_more, ended_more, of_ok)
+loop-number-preserved g c =
+    let i = c.loop-number.invariant in
+    let room = on_ok c.reserve.result (search rules) c.reserve.ensures.ok in
+    let done = c.reserve.ensures.items ∙ c.push_reserved.ensures.items in
+    let r = c.run-output.ensures in
+    record {
+      lent = r.stays;
+      claimer = c.next.ensures.stays;
+      claimed = numbers_more _ _ _ _ _ done i.claimed (claims_more c.loop-number.self.claimer.own _ _
+          c.in-Some.ensures.claims);
+      ended = ended_more (g.J.Jobs.may_do c.args.site.now.jobs.now) (g.J.Jobs.may_leave c.args.site.now.jobs.now) _ _ _
+          _ _ _ i.ended (of_ok _ _ _ c.in_ok-ran.was r.does) done;
+      stopped = i.stopped;
+      room = omega (arith, room);
+    }
 
 pub returns-then-is_err-clause-ended : goal.returns-then-is_err-clause-ended
-returns-then-is_err-clause-ended g c = search (rules, ended_more, of_ok)
+returns-then-is_err-clause-ended g c =
+    let done = c.reserve.ensures.items ∙ c.push_reserved.ensures.items in
+    let r = c.run-output.ensures in
+    ended_more (g.J.Jobs.may_do c.args.site.now.jobs.now) (g.J.Jobs.may_leave c.args.site.now.jobs.now) _ _ _ _ _ _
+    c.loop-number.invariant.ended (of_ok _ _ _ c.in_ok-ran.was r.does) done
 
 pub returns-in_err-ran-clause-stopped : goal.returns-in_err-ran-clause-stopped
-returns-in_err-ran-clause-stopped g c = search (rules, on_err, stopped_at, of_err)
+returns-in_err-ran-clause-stopped g c =
+    let r = c.run-output.ensures in
+    on_err c.from_residual.result (stopped_at (g.J.Jobs.may_do c.args.site.now.jobs.now)
+    (g.J.Jobs.may_leave c.args.site.now.jobs.now) _ _ _ _ _ _ c.loop-number.invariant.ended
+    (of_err _ _ _ c.in_err-ran.was r.leaves) c.push_reserved.ensures.items)

@@ -3,4 +3,5 @@ use Rattle.ent_script.proofs.NamesLaws.{number_within}
 use Rattle.ent_script.proofs.names.Names.find.Goals as goal
 
 pub returns-clause-within : goal.returns-clause-within
-returns-clause-within c = search (rules, number_within)
+returns-clause-within c =
+    let found = number_within c.args.name.now in search (rules, found, c.self.invariant c.args.name.now, c.self.view_is)
