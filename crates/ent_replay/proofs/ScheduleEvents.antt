@@ -131,7 +131,21 @@ caller_found make keyword fits text word others e is h = search (rules, bind_ok,
 begin_found : (word : List ℕ) (others : List (List ℕ)) (e : Event) → word ≡ codes "begin" → begin_of others ≡ Ok e
     → IsRead (word ∷ others) e
 unfolding begin_of
-begin_found word others e is h = let a = bind_ok (two others) (λ pair. number_word pair.0 >>= λ caller. number_word pair.1 >>= λ n. Ok (Begin caller n)) e h in let b = bind_ok (number_word a.0.0) (λ caller. number_word a.0.1 >>= λ n. Ok (Begin caller n)) e a.2 in let c = bind_ok (number_word a.0.1) (λ n. Ok (Begin b.0 n)) e b.2 in let p = number_ok a.0.0 b.0 b.1 in let q = number_ok a.0.1 c.0 c.1 in rw (← ok_is (Begin b.0 c.0) e c.2) ((p.0, q.0), ap (λ (ws : List (List ℕ)). joined (word ∷ ws)) (two_ok others a.0 a.1) ∙ ap (λ (w : List ℕ). w ++ 32 ∷ (a.0.0 ++ 32 ∷ a.0.1)) is ∙ ap (λ (w : List ℕ). codes "begin " ++ (w ++ 32 ∷ a.0.1)) p.1 ∙ ap (λ (w : List ℕ). codes "begin " ++ (decimal b.0 ++ 32 ∷ w)) q.1 ∙ ap (λ (w : List ℕ). codes "begin " ++ w) (sym (append_assoc (decimal b.0) (codes " ") (decimal c.0))))
+begin_found word others e is h =
+    let a = bind_ok (two others) (λ pair. number_word pair.0 >>= λ caller. number_word pair.1 >>= λ n. Ok (Begin caller n))
+    e h in
+    let b = bind_ok (number_word a.0.0) (λ caller. number_word a.0.1 >>= λ n. Ok (Begin caller n)) e a.2 in
+    let c = bind_ok (number_word a.0.1) (λ n. Ok (Begin b.0 n)) e b.2 in
+    let p = number_ok a.0.0 b.0 b.1 in
+    let q = number_ok a.0.1 c.0 c.1 in
+    rw (← ok_is (Begin b.0 c.0) e c.2) (
+      (p.0, q.0),
+      ap (λ (ws : List (List ℕ)). joined (word ∷ ws)) (two_ok others a.0 a.1)
+          ∙ ap (λ (w : List ℕ). w ++ 32 ∷ (a.0.0 ++ 32 ∷ a.0.1)) is
+          ∙ ap (λ (w : List ℕ). codes "begin " ++ (w ++ 32 ∷ a.0.1)) p.1
+          ∙ ap (λ (w : List ℕ). codes "begin " ++ (decimal b.0 ++ 32 ∷ w)) q.1
+          ∙ ap (λ (w : List ℕ). codes "begin " ++ w) (sym (append_assoc (decimal b.0) (codes " ") (decimal c.0))),
+    )
 
 -- one test of the first word
 tested : (word : List ℕ) (others : List (List ℕ)) (e : Event) (keyword : List ℕ) (x y : Result Event Cause)
@@ -158,7 +172,13 @@ unfolding event_with begin_of
 event_again Alloc is = refl
 event_again (Free h) is = rw (split_lacking 32 (handle_text h) (handle_lacks 32 h refl refl is), handle_again h is) refl
 event_again Flush is = refl
-event_again (Begin caller n) is = let words : words_of (event_text (Begin caller n)) ≡ codes "begin" ∷ decimal caller ∷ decimal n ∷ [] = cc (append_assoc (decimal caller) (codes " ") (decimal n), split_at_lacking 32 (decimal caller) (decimal n) refl (decimal_lacks 32 caller refl (omega (arith, is.0))), split_lacking 32 (decimal n) (decimal_lacks 32 n refl (omega (arith, is.1)))) in ap event_of words ∙ rw (number_again caller is.0, number_again n is.1) refl
+event_again (Begin caller n) is =
+    let words : words_of (event_text (Begin caller n)) ≡ codes "begin" ∷ decimal caller ∷ decimal n ∷ [] = cc (
+      append_assoc (decimal caller) (codes " ") (decimal n),
+      split_at_lacking 32 (decimal caller) (decimal n) refl (decimal_lacks 32 caller refl (omega (arith, is.0))),
+      split_lacking 32 (decimal n) (decimal_lacks 32 n refl (omega (arith, is.1))),
+    ) in
+    ap event_of words ∙ rw (number_again caller is.0, number_again n is.1) refl
 event_again (Step caller) is = rw
     (split_lacking 32 (decimal caller) (decimal_lacks 32 caller refl (omega (arith, is))), number_again caller is) refl
 event_again (Answer caller) is = rw
