@@ -1,21 +1,7 @@
 -- What a request in one call is given, by the pool that it found.
-use Rattle.std.proofs.Common.{◌≡◌, ap, ◌∙◌, ℕ, ◌<◌, ◌≤◌, ℤ, pos, ◌-ℤ◌, rules, List, [], ◌∷◌, length, take, Result, Ok, Err, arith, slice_get, Some, ◌⊎◌, All, subst}
-use Rattle.std.specs.Result.{IsErrAnd, IsErrOf, IfErr}
-use Rattle.std.proofs.lemmas.Bool.Decides.{nat_tests}
-use Rattle.std.proofs.lemmas.Grind.{common_steps}
-use Rattle.std.proofs.lemmas.List.{length-take-le, nil_from_length}
-use Rattle.std.proofs.lemmas.List.Elements.{All-take}
-use Rattle.std.proofs.lemmas.Option.{get_or_from_slice_get, slice_get_within}
-use Rattle.std.proofs.lemmas.List.Sorted.{length_permutation}
-use Rattle.ent_handle.specs.Handle.{Handle}
-use Rattle.ent_alloc.specs.declared.space.Space.{Space}
-use Rattle.ent_alloc.specs.declared.span.Span.{Span}
-use Rattle.ent_alloc.specs.declared.refused.Refused.{Refused}
+use Rattle.ent_alloc.proofs.Common.{◌≡◌, ap, ◌∙◌, ℕ, ◌<◌, ◌≤◌, ℤ, pos, ◌-ℤ◌, rules, List, [], ◌∷◌, length, take, Result, Ok, Err, arith, slice_get, Some, ◌⊎◌, All, subst, IsErrAnd, IsErrOf, IfErr, nat_tests, common_steps, length-take-le, nil_from_length, All-take, get_or_from_slice_get, slice_get_within, length_permutation, Handle, Space, Span, Refused, ReserveError, Allocator, after_take, cursor, listed, reply_from, reply_to, pool_at, listed_alone, IsSound, IsWithin}
 use Rattle.ent_alloc.specs.declared.refused.Refused.TheVariants as refused
-use Rattle.ent_alloc.specs.declared.reserve_error.ReserveError.{ReserveError}
 use Rattle.ent_alloc.specs.declared.reserve_error.ReserveError.TheVariants as failed
-use Rattle.ent_alloc.specs.Sequential.{Allocator, after_take, cursor, listed, reply_from, reply_to, pool_at, listed_alone}
-use Rattle.ent_alloc.specs.Sound.{IsSound, IsWithin}
 use Rattle.ent_alloc.proofs.PoolLaw.{reply-later}
 use Rattle.ent_alloc.proofs.Replies.{served_from, reply-IsPermutation, of_pool, of_reply}
 

@@ -1,8 +1,5 @@
 -- Which of some tests fails first.
-use Rattle.std.proofs.Common.{◌≡◌, refl, sym, ap, ◌∙◌, ℕ, zero, suc, ◌+◌, ◌<◌, Bool, true, false, List, [], ◌∷◌, ◌++◌, map, Option, None, Some, arith, ◌||◌, rules}
-use Rattle.std.specs.List.{list_any, range_with_len}
-use Rattle.ent_alloc.specs.FirstFault.{Test, first_failing}
-use Rattle.ent_alloc.specs.declared.image_fault.ImageFault.{ImageFault}
+use Rattle.ent_alloc.proofs.Common.{◌≡◌, refl, sym, ap, ◌∙◌, ℕ, zero, suc, ◌+◌, ◌<◌, Bool, true, false, List, [], ◌∷◌, ◌++◌, map, Option, None, Some, arith, ◌||◌, rules, list_any, range_with_len, Test, first_failing, ImageFault}
 
 abbrev no_fault : Option ImageFault
 no_fault = None

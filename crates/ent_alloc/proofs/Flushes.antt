@@ -1,10 +1,5 @@
 -- What a flush brings to life: exactly what was taken.
-use Rattle.std.proofs.Common.{rules, ◌++◌, get_or, reverse, filter, All, AllPairs, Contains, IsPermutation, ◌⊎◌}
-use Rattle.std.proofs.lemmas.List.Elements.{All-contains_itself}
-use Rattle.std.proofs.lemmas.List.Sorted.{IsPermutation-refl, IsPermutation-trans, IsPermutation-append, IsPermutation-append_comm, IsPermutation-reverse, IsPermutation-filter_both, All-permutation}
-use Rattle.ent_handle.specs.Handle.{Handle}
-use Rattle.ent_alloc.specs.Sequential.{Allocator, after_flush, born, is_old, is_fresh}
-use Rattle.ent_alloc.specs.Sound.{IsSound, AreApart, IsLive}
+use Rattle.ent_alloc.proofs.Common.{rules, ◌++◌, get_or, reverse, filter, All, AllPairs, Contains, IsPermutation, ◌⊎◌, All-contains_itself, IsPermutation-refl, IsPermutation-trans, IsPermutation-append, IsPermutation-append_comm, IsPermutation-reverse, IsPermutation-filter_both, All-permutation, Handle, Allocator, after_flush, born, is_old, is_fresh, IsSound, AreApart, IsLive}
 use Rattle.ent_alloc.proofs.ListLaws.{AllPairs-left, AllPairs-IsPermutation, All-left}
 use Rattle.ent_alloc.proofs.HandleSets.{in_union_list, union_list_keeps, union_list_has}
 use Rattle.ent_alloc.proofs.Replies.{fresh_is_not_old, apart_both, not_apart}

@@ -1,11 +1,7 @@
 -- Laws of `fresh`, the first occupants of slots that were never made. Nothing here computes it at a
 -- number.
-use Rattle.std.proofs.Common.{rules, ◌≡◌, refl, ap, ℕ, zero, suc, ◌+◌, ◌-◌, ◌<◌, ◌≤◌, true, false, List, [], ◌∷◌, ◌++◌, length, get_or, take, drop, filter, All, AllPairs, arith, lt-ltb, le-ltb, le-leb, append-nil}
-use Rattle.std.proofs.lemmas.Bool.{lt-leb}
-use Rattle.std.proofs.lemmas.List.Elements.{All-weaker, filter-append}
-use Rattle.ent_handle.specs.Handle.{Handle}
-use Rattle.ent_alloc.specs.Sequential.{fresh, is_old, is_fresh}
-use Rattle.ent_alloc.specs.Sound.{AreApart}
+use Rattle.ent_alloc.proofs.Common.{rules, ◌≡◌, refl, ap, ℕ, zero, suc, ◌+◌, ◌-◌, ◌<◌, ◌≤◌, true, false, List, [], ◌∷◌, ◌++◌, length, get_or, take, drop, filter, All, AllPairs, arith, lt-leb, All-weaker, filter-append, Handle, fresh, is_old, is_fresh, AreApart}
+use Rattle.std.proofs.Common.{lt-ltb, le-ltb, le-leb, append-nil}
 use Rattle.ent_alloc.proofs.ListLaws.{filter_all, filter_none, take-append, drop-append}
 
 -- the first occupant of a slot

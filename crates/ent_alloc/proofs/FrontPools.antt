@@ -1,23 +1,7 @@
 -- A pool whose front comes in another order: the allocator stays sound, and the roster stands for
 -- it.
-use Rattle.std.proofs.lemmas.Grind.{common_steps}
-use Rattle.std.proofs.Common.{◌≡◌, inl, inr, sym, ap, ◌∙◌, subst, ℕ, ◌+◌, ◌-◌, ◌<◌, ◌≤◌, rules, List, [], ◌++◌, length, take, drop, reverse, All, AllPairs, arith, IsPermutation, refl, get_or, slice_get, Some, ◌∷◌, map}
-use Rattle.std.proofs.lemmas.List.{length-map, get_or-map, get_or_append_left, get_or-append-add, get_or-reverse, get_or_default, length-take-le, drop-append-le, take-append-le, length-drop, drop-take, length-append, length-reverse, append_assoc, append-nil, take-append-drop, reverse-append, reverse-reverse, take_all}
-use Rattle.std.proofs.lemmas.Option.{slice_get_read, get_or_from_slice_get}
-use Rattle.ent_alloc.specs.Limits.{Limits}
-use Rattle.ent_alloc.specs.Slots.{handle_at, roster_of}
-use Rattle.ent_alloc.specs.declared.slot_record.SlotRecord.{SlotRecord}
+use Rattle.ent_alloc.proofs.Common.{common_steps, ◌≡◌, inl, inr, sym, ap, ◌∙◌, subst, ℕ, ◌+◌, ◌-◌, ◌<◌, ◌≤◌, rules, List, [], ◌++◌, length, take, drop, reverse, All, AllPairs, arith, IsPermutation, refl, get_or, slice_get, Some, ◌∷◌, map, length-map, get_or-map, get_or_append_left, get_or-append-add, get_or-reverse, get_or_default, length-take-le, drop-append-le, take-append-le, length-drop, drop-take, length-append, length-reverse, append_assoc, append-nil, take-append-drop, reverse-append, reverse-reverse, take_all, slice_get_read, get_or_from_slice_get, Limits, handle_at, roster_of, SlotRecord, cases_lt, All-append, All-weaker, All-take, All-drop, All-permutation, IsPermutation-append_left, IsPermutation-reverse, IsPermutation-trans, Handle, Roster, Allocator, available, top, fresh, IsSound, IsWithin, AreApart, idle, allocator_of, AreReserved, Requests, with_front, slots_of, AreSlotsOf}
 use Rattle.ent_alloc.proofs.Portioned.{map-append}
-use Rattle.std.proofs.lemmas.Bool.{cases_lt}
-use Rattle.std.proofs.lemmas.List.Elements.{All-append, All-weaker, All-take, All-drop}
-use Rattle.std.proofs.lemmas.List.Sorted.{All-permutation, IsPermutation-append_left, IsPermutation-reverse, IsPermutation-trans}
-use Rattle.ent_handle.specs.Handle.{Handle}
-use Rattle.ent_alloc.specs.Roster.{Roster}
-use Rattle.ent_alloc.specs.Sequential.{Allocator, available, top, fresh}
-use Rattle.ent_alloc.specs.Sound.{IsSound, IsWithin, AreApart}
-use Rattle.ent_alloc.specs.Entities.{idle, allocator_of, AreReserved}
-use Rattle.ent_alloc.specs.declared.requests.Requests.{Requests}
-use Rattle.ent_alloc.specs.Front.{with_front, slots_of, AreSlotsOf}
 use Rattle.ent_alloc.proofs.FreshHandles.{length-fresh, All-fresh, take_joined, drop_joined, fresh-none, get_or-fresh}
 use Rattle.ent_alloc.proofs.LaidOut.{old_ones, IsLaidOut, flushed-laid_out, laid_out-sound}
 use Rattle.ent_alloc.proofs.ListLaws.{All-left, AllPairs-left, AllPairs-IsPermutation}

@@ -1,21 +1,8 @@
 -- The slots that wait last in another order: the vectors stay linked, and the roster has the
 -- handles in that order.
-use Rattle.std.proofs.Common.{rules, ◌≡◌, ◌≢◌, ◌⊎◌, inl, inr, ℕ, zero, suc, ◌+◌, ◌-◌, ◌<◌, ◌≤◌, refl, sym, ap, ◌∙◌, List, [], ◌∷◌, ◌++◌, length, get_or, set, take, drop, map, subst, reverse, All, AllPairs, IsPermutation, arith, false, None}
-use Rattle.std.proofs.lemmas.Grind.{common_steps}
-use Rattle.std.proofs.lemmas.Bool.{cases_lt, cases_eq}
-use Rattle.std.proofs.lemmas.List.{length-set, get_or-set_same, get_or-set_other, get_or-map, length-map, length-drop, get_or-drop, get_or-take, same_lists, length-take-le, length-append, length-reverse, get_or-reverse, get_or_append_left, get_or-append-add}
+use Rattle.ent_alloc.proofs.Common.{rules, ◌≡◌, ◌≢◌, ◌⊎◌, inl, inr, ℕ, zero, suc, ◌+◌, ◌-◌, ◌<◌, ◌≤◌, refl, sym, ap, ◌∙◌, List, [], ◌∷◌, ◌++◌, length, get_or, set, take, drop, map, subst, reverse, All, AllPairs, IsPermutation, arith, false, None, common_steps, cases_lt, cases_eq, length-set, get_or-set_same, get_or-set_other, get_or-map, length-map, length-drop, get_or-drop, get_or-take, same_lists, length-take-le, length-append, length-reverse, get_or-reverse, get_or_append_left, get_or-append-add, All-tail, All-cons, All-permutation, Contains-permutation, Handle, Limits, Roster, AreApart, SlotRecord, Pending, is_alive, row_of, record_at, no_slot, handle_at, occupants, rows_from, roster_of, AreLinked, waiting_at, placed, moved, slots_of, AreSlotsOf}
 use Rattle.std.specs.FinSet as sets
 use Rattle.std.specs.FinMap as maps
-use Rattle.std.proofs.lemmas.List.Elements.{All-tail, All-cons}
-use Rattle.std.proofs.lemmas.List.Sorted.{All-permutation, Contains-permutation}
-use Rattle.ent_handle.specs.Handle.{Handle}
-use Rattle.ent_alloc.specs.Limits.{Limits}
-use Rattle.ent_alloc.specs.Roster.{Roster}
-use Rattle.ent_alloc.specs.Sound.{AreApart}
-use Rattle.ent_alloc.specs.declared.slot_record.SlotRecord.{SlotRecord}
-use Rattle.ent_alloc.specs.declared.slot_record.Occupancy.TheVariants.{Pending}
-use Rattle.ent_alloc.specs.Slots.{is_alive, row_of, record_at, no_slot, handle_at, occupants, rows_from, roster_of, AreLinked}
-use Rattle.ent_alloc.specs.Front.{waiting_at, placed, moved, slots_of, AreSlotsOf}
 use Rattle.ent_alloc.proofs.ListLaws.{AllPairs-head, AllPairs-tail, AllPairs-IsPermutation}
 use Rattle.ent_alloc.proofs.KeptRows.{rows_from-set}
 

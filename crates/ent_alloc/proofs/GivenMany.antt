@@ -1,14 +1,6 @@
 -- Many handles that come to life at once: as if they were requested and flushed.
-use Rattle.std.proofs.Common.{rules, ◌≡◌, ap, ◌∙◌, refl, ℕ, ◌+◌, ◌-◌, ◌≤◌, length, take, drop, reverse, ◌++◌, All, None, arith, List, slice_index_or}
+use Rattle.ent_alloc.proofs.Common.{rules, ◌≡◌, ap, ◌∙◌, refl, ℕ, ◌+◌, ◌-◌, ◌≤◌, length, take, drop, reverse, ◌++◌, All, None, arith, List, slice_index_or, length-append, length-reverse, take_at, drop_at, All-take, Handle, Requests, Roster, Allocator, available, fresh, after_take, after_flush, IsSound, IsLive, Entities, allocator_of, HasRowsOfLiving}
 use Rattle.std.specs.FinMap as maps
-use Rattle.std.proofs.lemmas.List.{length-append, length-reverse, take_at, drop_at}
-use Rattle.std.proofs.lemmas.List.Elements.{All-take}
-use Rattle.ent_handle.specs.Handle.{Handle}
-use Rattle.ent_alloc.specs.declared.requests.Requests.{Requests}
-use Rattle.ent_alloc.specs.Roster.{Roster}
-use Rattle.ent_alloc.specs.Sequential.{Allocator, available, fresh, after_take, after_flush}
-use Rattle.ent_alloc.specs.Sound.{IsSound, IsLive}
-use Rattle.ent_alloc.specs.Entities.{Entities, allocator_of, HasRowsOfLiving}
 use Rattle.ent_alloc.proofs.Soundness.{after_take-sound, after_flush-sound}
 use Rattle.ent_alloc.proofs.Replies.{not_apart, of_pool}
 use Rattle.ent_alloc.proofs.RowsOfLiving.{rows-joined}

@@ -1,14 +1,6 @@
 -- No handle is given twice: each step keeps the list of all given handles free of repetitions.
-use Rattle.std.proofs.lemmas.Grind.{common_steps}
-use Rattle.std.proofs.Common.{rules, le_of_eq, append-nil, ◌≡◌, ◌≢◌, refl, sym, subst, ℕ, ◌<◌, ◌≤◌, List, [], ◌∷◌, ◌++◌, length, get_or, drop, All, Contains, IsPermutation, Ok, arith, inl, inr}
-use Rattle.std.proofs.lemmas.Bool.{cases_lt}
-use Rattle.std.proofs.lemmas.List.Elements.{All-push, All-nil, All-append, All-head, All-contains, All-contains_itself, All-weaker, All-take, All-drop, Contains-append_left}
-use Rattle.std.proofs.lemmas.List.Quantifiers.{all_pairs_push}
-use Rattle.std.proofs.lemmas.List.Sorted.{All-permutation}
-use Rattle.ent_handle.specs.Handle.{Handle}
-use Rattle.ent_alloc.specs.Sequential.{Allocator, available, after_take, after_flush, after_alloc, after_free, next, in_front, reply_to}
-use Rattle.ent_alloc.specs.Sound.{IsSound, AreApart, IsLive}
-use Rattle.ent_alloc.specs.Spent.{IsSpent, AreSpent}
+use Rattle.ent_alloc.proofs.Common.{common_steps, rules, le_of_eq, ◌≡◌, ◌≢◌, refl, sym, subst, ℕ, ◌<◌, ◌≤◌, List, [], ◌∷◌, ◌++◌, length, get_or, drop, All, Contains, IsPermutation, Ok, arith, inl, inr, cases_lt, All-push, All-nil, All-append, All-head, All-contains, All-contains_itself, All-weaker, All-take, All-drop, Contains-append_left, all_pairs_push, All-permutation, Handle, Allocator, available, after_take, after_flush, after_alloc, after_free, next, in_front, reply_to, IsSound, AreApart, IsLive, IsSpent, AreSpent}
+use Rattle.std.proofs.Common.{append-nil}
 use Rattle.ent_alloc.proofs.ListLaws.{All-left, All-right, AllPairs-append, AllPairs-left, AllPairs-across, AllPairs-IsPermutation, same_from_AllPairs}
 use Rattle.ent_alloc.proofs.HandleSets.{inserted, in_removed, of_inserted, of_joined}
 use Rattle.ent_alloc.proofs.Taken.{after_take-served, after_take-refused}

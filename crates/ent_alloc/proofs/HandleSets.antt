@@ -1,16 +1,7 @@
 -- Which handles a set or a list of handles has after a change.
-use Rattle.std.proofs.Common.{arith, rules, ◌≡◌, ◌≢◌, Bool, true, ◌&&◌, ◌||◌, List, IsTrue, ◌⊎◌, Contains, All, AllPairs}
-use Rattle.std.proofs.lemmas.Grind.{common_steps}
+use Rattle.ent_alloc.proofs.Common.{arith, rules, ◌≡◌, ◌≢◌, Bool, true, ◌&&◌, ◌||◌, List, IsTrue, ◌⊎◌, Contains, All, AllPairs, common_steps, eq_by_cmp, eq_by_cmp_equiv, Contains-from_any, tells_apart, All-contains, Handle, handle_cmp, handle_cmp_total, handle_cmp-IsAntisymmetric, stands_in, AreApart, and_parts}
 use Rattle.std.specs.FinSet as set
-use Rattle.std.specs.Ordering.{eq_by_cmp}
-use Rattle.std.proofs.lemmas.Cmp.{eq_by_cmp_equiv}
-use Rattle.std.proofs.lemmas.Map.Views.{Contains-from_any, tells_apart}
-use Rattle.std.proofs.lemmas.List.Elements.{All-contains}
-use Rattle.ent_handle.specs.Handle.{Handle, handle_cmp, handle_cmp_total, handle_cmp-IsAntisymmetric}
-use Rattle.ent_alloc.specs.Sequential.{stands_in}
-use Rattle.ent_alloc.specs.Sound.{AreApart}
 use Rattle.ent_alloc.proofs.ListLaws.{same_from_AllPairs}
-use Rattle.std.proofs.lemmas.Bool.{and_parts}
 
 -- a set of handles
 abbrev Handles : Type 0

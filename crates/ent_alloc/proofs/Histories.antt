@@ -1,9 +1,5 @@
 -- What a legal history leaves and gives.
-use Rattle.std.proofs.Common.{rules, ◌≡◌, ◌≢◌, refl, List, [], ◌∷◌, length, sum, All, AllPairs, Contains, IsPermutation, ◌↔◌, ◌⊎◌}
-use Rattle.ent_handle.specs.Handle.{Handle}
-use Rattle.ent_alloc.specs.Sequential.{Allocator, after_take, after_flush, settled}
-use Rattle.ent_alloc.specs.Sound.{IsSound, IsLive}
-use Rattle.ent_alloc.specs.History.{Call, IsLegal, after_history, given_in, requests_of}
+use Rattle.ent_alloc.proofs.Common.{rules, ◌≡◌, ◌≢◌, refl, List, [], ◌∷◌, length, sum, All, AllPairs, Contains, IsPermutation, ◌↔◌, ◌⊎◌, Handle, Allocator, after_take, after_flush, settled, IsSound, IsLive, Call, IsLegal, after_history, given_in, requests_of}
 use Rattle.ent_alloc.proofs.PoolLaw.{after_takes}
 use Rattle.ent_alloc.proofs.Replies.{distinct_from_apart}
 use Rattle.ent_alloc.proofs.RequestLaws.{given_by, given_by-apart, given_by-not_live, taken-since_flush, live-since_flush}

@@ -1,12 +1,5 @@
 -- Bytes in pieces of twelve, one for each slot.
-use Rattle.std.proofs.Common.{◌≡◌, ◌≢◌, refl, sym, ap, ◌∙◌, ℕ, zero, suc, ◌+◌, ◌*◌, ◌/◌, ◌<◌, rules, List, ◌++◌, length, get_or, take, drop, arith}
-use Rattle.std.specs.Simd.{first_chunks}
-use Rattle.std.proofs.lemmas.List.{drop-drop, take-append-drop, length-take-le, length-drop}
-use Rattle.std.proofs.lemmas.Nat.{div-mul-add}
-use Rattle.ent_alloc.specs.Limits.{Limits}
-use Rattle.ent_alloc.specs.Image.{slot_bytes}
-use Rattle.ent_alloc.specs.ImageRecords.{IsWritten}
-use Rattle.ent_alloc.specs.declared.slot_record.SlotRecord.{SlotRecord}
+use Rattle.ent_alloc.proofs.Common.{◌≡◌, ◌≢◌, refl, sym, ap, ◌∙◌, ℕ, zero, suc, ◌+◌, ◌*◌, ◌/◌, ◌<◌, rules, List, ◌++◌, length, get_or, take, drop, arith, first_chunks, drop-drop, take-append-drop, length-take-le, length-drop, div-mul-add, Limits, slot_bytes, IsWritten, SlotRecord}
 use Rattle.ent_alloc.proofs.ImageWords.{same_parts, length-slot_bytes}
 
 chunk_at : (k i : ℕ) (bytes d : List ℕ) → i < k → get_or (first_chunks 12 k bytes) i d ≡ take 12 (drop (12 * i) bytes)

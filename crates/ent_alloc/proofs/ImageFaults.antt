@@ -1,18 +1,5 @@
 -- What the tests of slots answer of bytes of which some have been read.
-use Rattle.std.proofs.Common.{rules, ◌≡◌, ◌≢◌, refl, sym, ap, ◌∙◌, ℕ, zero, suc, ◌+◌, ◌*◌, ◌^◌, ◌<◌, ◌≤◌, Bool, true, false, ◌&&◌, eqb, List, [], ◌∷◌, ◌++◌, length, get_or, map, arith, subst, None, Some, inl, inr}
-use Rattle.std.specs.List.{flat_map, range_with_len}
-use Rattle.std.proofs.lemmas.Grind.{common_steps}
-use Rattle.std.proofs.lemmas.Bool.{cases_lt, cases_eq, and_from}
-use Rattle.std.proofs.lemmas.List.{length-append, append_assoc}
-use Rattle.ent_alloc.specs.Limits.{Limits, AreLimits}
-use Rattle.ent_alloc.specs.Slots.{record_at}
-use Rattle.ent_alloc.specs.Image.{kind_of, number_of}
-use Rattle.ent_alloc.specs.ImageRecords.{kept, kept_generation, record_bytes, IsGeneration, vacant, CanWait, AreRead}
-use Rattle.ent_alloc.specs.FirstFault.{word_at, generation_of, kind_in, number_in, is_slot, waits_at, is_taken, has_place, slot_test, position_test, slots_tests, first_failing, Test}
-use Rattle.ent_alloc.specs.declared.image_fault.ImageFault.TheVariants.{Slot, Position}
-use Rattle.ent_alloc.specs.declared.slot_record.SlotRecord.{SlotRecord}
-use Rattle.ent_alloc.specs.declared.slot_record.Occupancy.{Occupancy}
-use Rattle.ent_alloc.specs.declared.slot_record.Occupancy.TheVariants.{Alive, AliveWithRow, Pending, Retired}
+use Rattle.ent_alloc.proofs.Common.{rules, ◌≡◌, ◌≢◌, refl, sym, ap, ◌∙◌, ℕ, zero, suc, ◌+◌, ◌*◌, ◌^◌, ◌<◌, ◌≤◌, Bool, true, false, ◌&&◌, eqb, List, [], ◌∷◌, ◌++◌, length, get_or, map, arith, subst, None, Some, inl, inr, flat_map, range_with_len, common_steps, cases_lt, cases_eq, and_from, length-append, append_assoc, Limits, AreLimits, record_at, kind_of, number_of, kept, kept_generation, record_bytes, IsGeneration, vacant, CanWait, AreRead, word_at, generation_of, kind_in, number_in, is_slot, waits_at, is_taken, has_place, slot_test, position_test, slots_tests, first_failing, Test, Slot, Position, SlotRecord, Occupancy, Alive, AliveWithRow, Pending, Retired}
 use Rattle.ent_alloc.proofs.ImageWords.{IsSmall, length-slot_bytes, kind_below}
 use Rattle.ent_alloc.proofs.ImageRefused.{slot_in_words}
 use Rattle.ent_alloc.proofs.ImageWordAt.{word_past, word_before, first_word, second_word, third_word}

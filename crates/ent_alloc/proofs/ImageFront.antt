@@ -1,20 +1,6 @@
 -- What the tests of the first forty bytes answer.
-use Rattle.std.proofs.lemmas.Grind.{common_steps}
-use Rattle.std.proofs.Common.{◌≡◌, ◌≢◌, refl, sym, ap, ◌∙◌, ℕ, ◌+◌, ◌-◌, ◌*◌, ◌^◌, ◌<◌, ◌≤◌, ◌⊎◌, Bool, true, false, ◌||◌, eqb, ltb, List, [], ◌∷◌, ◌++◌, length, drop, Option, None, Some, arith, rules}
-use Rattle.std.specs.Prelude.{nat_eq}
-use Rattle.std.specs.List.{starts_with}
-use Rattle.std.proofs.lemmas.Bool.{eq-eqb, ne_eqb, le-leb, lt-leb, leb-true, ltb-true, lt-ltb, cases_eq, cases_lt, and_from, and_parts, false≢true, le-ltb}
-use Rattle.std.proofs.Math.Bool.{or-true}
-use Rattle.std.proofs.lemmas.Bool.Decides.{Decides-eqb}
-use Rattle.std.proofs.lemmas.Slice.Eq.{starts_is}
-use Rattle.std.proofs.lemmas.List.{length-append, drop_at}
-use Rattle.ent_alloc.specs.Limits.{AreLimits}
-use Rattle.ent_alloc.specs.Image.{word, long, magic, version, header_bytes}
-use Rattle.ent_alloc.specs.ImageRecords.{AreNumbers, AreServed}
-use Rattle.ent_alloc.specs.FirstFault.{Test, first_failing, first_fault, word_at, long_at, front_tests, header_in, in_limits, in_counts, in_requests, header_tests, slots_tests, header_fault}
-use Rattle.ent_alloc.specs.declared.image.Header.{Header}
-use Rattle.ent_alloc.specs.declared.image_fault.ImageFault.{ImageFault}
-use Rattle.ent_alloc.specs.declared.image_fault.ImageFault.TheVariants.{Magic, Version, Length, Limits as BadLimits, Counts, Requests}
+use Rattle.ent_alloc.proofs.Common.{common_steps, ◌≡◌, ◌≢◌, refl, sym, ap, ◌∙◌, ℕ, ◌+◌, ◌-◌, ◌*◌, ◌^◌, ◌<◌, ◌≤◌, ◌⊎◌, Bool, true, false, ◌||◌, eqb, ltb, List, [], ◌∷◌, ◌++◌, length, drop, Option, None, Some, arith, rules, nat_eq, starts_with, eq-eqb, ne_eqb, le-leb, lt-leb, leb-true, ltb-true, lt-ltb, cases_eq, cases_lt, and_from, and_parts, false≢true, le-ltb, or-true, Decides-eqb, starts_is, length-append, drop_at, AreLimits, word, long, magic, version, header_bytes, AreNumbers, AreServed, Test, first_failing, first_fault, word_at, long_at, front_tests, header_in, in_limits, in_counts, in_requests, header_tests, slots_tests, header_fault, Header, ImageFault, Magic, Version, Length, BadLimits, Counts}
+use Rattle.ent_alloc.specs.declared.image_fault.ImageFault.TheVariants.{Requests}
 use Rattle.ent_alloc.proofs.ImageHeader.{letters, letters_are, header_then, numbers_then, same_longs, length-long, length-header_bytes}
 use Rattle.ent_alloc.proofs.ImageWords.{length-word}
 use Rattle.ent_alloc.proofs.ImageWordAt.{word_here, word_past, long_here, long_past}

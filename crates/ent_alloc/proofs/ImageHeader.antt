@@ -1,11 +1,6 @@
 -- What stands before the slots of an image, byte by byte.
-use Rattle.std.proofs.Common.{rules, ◌≡◌, ◌≢◌, refl, sym, ap, ◌∙◌, ℕ, ◌^◌, ◌<◌, List, ◌++◌, length}
-use Rattle.std.specs.Int.{w64, from_le_bytes}
-use Rattle.std.proofs.lemmas.Nat.{from_le_bytes-to_le_bytes_8}
-use Rattle.std.proofs.lemmas.List.{length-append, append_assoc}
-use Rattle.ent_alloc.specs.Image.{word, long, magic, version, numbers_bytes, header_bytes}
-use Rattle.ent_alloc.specs.ImageRecords.{AreNumbers}
-use Rattle.ent_alloc.specs.declared.image.Header.{Header}
+use Rattle.ent_alloc.proofs.Common.{rules, ◌≡◌, ◌≢◌, refl, sym, ap, ◌∙◌, ℕ, ◌^◌, ◌<◌, List, ◌++◌, length, from_le_bytes, from_le_bytes-to_le_bytes_8, length-append, append_assoc, word, long, magic, version, numbers_bytes, header_bytes, AreNumbers, Header}
+use Rattle.std.specs.Int.{w64}
 use Rattle.ent_alloc.proofs.ImageWords.{length-word, same_words, same_parts}
 
 pub length-long : (n : ℕ) → length (long n) ≡ 8

@@ -1,20 +1,7 @@
 -- What records and pending indexes stand for has an image, which is that of the records in order.
-use Rattle.std.proofs.Common.{◌≡◌, refl, sym, ap, ◌∙◌, ℕ, suc, ◌+◌, ◌^◌, ◌<◌, ◌≤◌, rules, true, cond, eqb, IsTrue, List, [], ◌∷◌, ◌++◌, length, get_or, arith, Option, None, Some}
-use Rattle.std.specs.List.{flat_map, range_with_len}
+use Rattle.ent_alloc.proofs.Common.{◌≡◌, refl, sym, ap, ◌∙◌, ℕ, suc, ◌+◌, ◌^◌, ◌<◌, ◌≤◌, rules, true, cond, eqb, IsTrue, List, [], ◌∷◌, ◌++◌, length, get_or, arith, Option, None, Some, flat_map, range_with_len, common_steps, cases_lt, false≢true, eq-eqb, and_from, get_or-map, length-map, get_or_past, Handle, Limits, AreLimits, Roster, is_alive, row_of, record_at, handle_at, roster_of, AreLinked, occupied, slot, slots_bytes, AreSlots, number_of, record_bytes, kept, SlotRecord, Occupancy, Alive, AliveWithRow, Pending, Retired}
 use Rattle.std.specs.FinSet as sets
 use Rattle.std.specs.FinMap as maps
-use Rattle.std.proofs.lemmas.Grind.{common_steps}
-use Rattle.std.proofs.lemmas.Bool.{cases_lt, false≢true, eq-eqb, and_from}
-use Rattle.std.proofs.lemmas.List.{get_or-map, length-map, get_or_past}
-use Rattle.ent_handle.specs.Handle.{Handle}
-use Rattle.ent_alloc.specs.Limits.{Limits, AreLimits}
-use Rattle.ent_alloc.specs.Roster.{Roster}
-use Rattle.ent_alloc.specs.Slots.{is_alive, row_of, record_at, handle_at, roster_of, AreLinked}
-use Rattle.ent_alloc.specs.Image.{occupied, slot, slots_bytes, AreSlots, number_of}
-use Rattle.ent_alloc.specs.ImageRecords.{record_bytes, kept}
-use Rattle.ent_alloc.specs.declared.slot_record.SlotRecord.{SlotRecord}
-use Rattle.ent_alloc.specs.declared.slot_record.Occupancy.{Occupancy}
-use Rattle.ent_alloc.specs.declared.slot_record.Occupancy.TheVariants.{Alive, AliveWithRow, Pending, Retired}
 use Rattle.ent_alloc.proofs.Occupants.{is_occupant, contains_occupants}
 use Rattle.ent_alloc.proofs.KeptRows.{row_at, get_rows}
 use Rattle.ent_alloc.proofs.LivingOccupant.{occupant_made, occupant_alive, occupant_generation}

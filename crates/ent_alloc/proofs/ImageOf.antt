@@ -1,17 +1,8 @@
 -- The image of a sound allocator: its numbers fit, it tells the allocator, and that of what was read
 -- is what was read.
-use Rattle.std.proofs.Common.{rules, ◌≡◌, ◌≢◌, refl, sym, ap, ◌∙◌, subst, ℕ, ◌+◌, ◌-◌, ◌*◌, ◌<◌, ◌≤◌, List, ◌++◌, length, take, drop, filter, arith, Ok, Err, Result, IfOk, IfErr, IsErrAnd, ◌⊎◌, inl, inr}
-use Rattle.ent_alloc.specs.declared.image_fault.ImageFault.{ImageFault}
-use Rattle.ent_alloc.specs.declared.image_fault.ImageFault.TheVariants.{Magic, Version, Limits, Counts, Length, Requests, Slot, Position, Memory}
-use Rattle.std.proofs.lemmas.Grind.{common_steps}
-use Rattle.std.proofs.lemmas.List.{length-append, length-reverse, length-drop, length-take-le}
-use Rattle.ent_alloc.specs.Roster.{Roster}
-use Rattle.ent_alloc.specs.Sequential.{Allocator, available, top, is_old}
-use Rattle.ent_alloc.specs.Sound.{IsSound}
-use Rattle.ent_alloc.specs.Entities.{Entities, allocator_of, entities_of, AreReserved}
-use Rattle.ent_alloc.specs.Image.{slot, slot_bytes, slots_bytes, AreSlots, HasImage, roster, header, header_bytes, image, kept_bytes}
-use Rattle.ent_alloc.specs.ImageRecords.{AreServed, AreNumbers}
-use Rattle.ent_alloc.specs.declared.image.Header.{Header}
+use Rattle.ent_alloc.proofs.Common.{rules, ◌≡◌, ◌≢◌, refl, sym, ap, ◌∙◌, subst, ℕ, ◌+◌, ◌-◌, ◌*◌, ◌<◌, ◌≤◌, List, ◌++◌, length, take, drop, filter, arith, Ok, Err, Result, IfOk, ◌⊎◌, inl, inr, ImageFault, Magic, Version, Counts, Length, Slot, Position, Memory, common_steps, length-append, length-reverse, length-drop, length-take-le, Roster, Allocator, available, top, is_old, IsSound, Entities, allocator_of, entities_of, AreReserved, slot, slot_bytes, slots_bytes, AreSlots, HasImage, roster, header, header_bytes, image, kept_bytes, AreServed, AreNumbers, Header}
+use Rattle.std.proofs.Common.{IfErr, IsErrAnd}
+use Rattle.ent_alloc.specs.declared.image_fault.ImageFault.TheVariants.{Limits, Requests}
 use Rattle.ent_alloc.proofs.PoolLaw.{length-taken}
 use Rattle.ent_alloc.proofs.Meaning.{length-idle, top_is}
 use Rattle.ent_alloc.proofs.Settled.{settled-sound}

@@ -1,16 +1,6 @@
 -- Slots read one by one: the records and the positions so far point at each other, and where a slot
 -- is refused no allocator has the bytes for its image.
-use Rattle.std.proofs.Common.{◌≡◌, ◌≢◌, refl, sym, ap, ◌∙◌, ℕ, ◌+◌, ◌^◌, ◌<◌, rules, ◌≤◌, ◌⊎◌, inl, inr, List, [], ◌∷◌, ◌++◌, length, get_or, set, take, drop, arith}
-use Rattle.std.proofs.lemmas.Grind.{common_steps}
-use Rattle.std.proofs.lemmas.Bool.{cases_lt, cases_eq}
-use Rattle.std.proofs.lemmas.List.{length-append, length_push, get_or_push, get_or_append_left, get_or-set_same, get_or-set_other, length-set, drop_all, take_all, append-nil}
-use Rattle.ent_alloc.specs.Limits.{Limits, AreLimits}
-use Rattle.ent_alloc.specs.Slots.{is_alive, record_at, no_slot, occupants}
-use Rattle.ent_alloc.specs.Image.{number_of}
-use Rattle.ent_alloc.specs.ImageRecords.{IsGeneration, vacant, CanWait, with_waiting, AreRead}
-use Rattle.ent_alloc.specs.declared.slot_record.SlotRecord.{SlotRecord}
-use Rattle.ent_alloc.specs.declared.slot_record.Occupancy.{Occupancy}
-use Rattle.ent_alloc.specs.declared.slot_record.Occupancy.TheVariants.{Alive, AliveWithRow, Pending, Retired}
+use Rattle.ent_alloc.proofs.Common.{◌≡◌, ◌≢◌, refl, sym, ap, ◌∙◌, ℕ, ◌+◌, ◌^◌, ◌<◌, rules, ◌≤◌, ◌⊎◌, inl, inr, List, [], ◌∷◌, ◌++◌, length, get_or, set, take, drop, arith, common_steps, cases_lt, cases_eq, length-append, length_push, get_or_push, get_or_append_left, get_or-set_same, get_or-set_other, length-set, drop_all, take_all, append-nil, Limits, AreLimits, is_alive, record_at, no_slot, occupants, number_of, IsGeneration, vacant, CanWait, with_waiting, AreRead, SlotRecord, Occupancy, Alive, AliveWithRow, Pending, Retired}
 use Rattle.ent_alloc.proofs.Occupants.{one, occupants-append}
 use Rattle.ent_alloc.proofs.ImageLinked.{AreTied}
 

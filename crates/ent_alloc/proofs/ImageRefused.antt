@@ -1,16 +1,5 @@
 -- Where a slot of an image is refused, no slots of an allocator have the bytes for their image.
-use Rattle.std.proofs.Common.{◌≡◌, ◌≢◌, refl, sym, ap, ◌∙◌, ℕ, zero, suc, ◌+◌, ◌-◌, ◌^◌, ◌<◌, rules, ◌≤◌, inl, inr, List, [], ◌∷◌, ◌++◌, length, get_or, arith}
-use Rattle.std.specs.List.{flat_map, range_with_len}
-use Rattle.std.proofs.lemmas.Bool.{cases_eq}
-use Rattle.std.proofs.lemmas.List.{append_assoc}
-use Rattle.ent_alloc.specs.Limits.{Limits, AreLimits}
-use Rattle.ent_alloc.specs.Roster.{Roster}
-use Rattle.ent_alloc.specs.Slots.{record_at}
-use Rattle.ent_alloc.specs.Image.{word, slot, slot_bytes, slots_bytes, AreSlots, number_of, kind_of}
-use Rattle.ent_alloc.specs.ImageRecords.{kept, record_bytes, IsGeneration, IsWritten, vacant, CanWait, AreRead}
-use Rattle.ent_alloc.specs.declared.slot_record.SlotRecord.{SlotRecord}
-use Rattle.ent_alloc.specs.declared.slot_record.Occupancy.{Occupancy}
-use Rattle.ent_alloc.specs.declared.slot_record.Occupancy.TheVariants.{Alive, AliveWithRow, Pending, Retired}
+use Rattle.ent_alloc.proofs.Common.{◌≡◌, ◌≢◌, refl, sym, ap, ◌∙◌, ℕ, zero, suc, ◌+◌, ◌-◌, ◌^◌, ◌<◌, rules, ◌≤◌, inl, inr, List, [], ◌∷◌, ◌++◌, length, get_or, arith, flat_map, range_with_len, cases_eq, append_assoc, Limits, AreLimits, Roster, record_at, word, slot, slot_bytes, slots_bytes, AreSlots, number_of, kind_of, kept, record_bytes, IsGeneration, IsWritten, vacant, CanWait, AreRead, SlotRecord, Occupancy, Alive, AliveWithRow, Pending, Retired}
 use Rattle.ent_alloc.proofs.ImageWords.{IsSmall, same_slot, same_parts, same_words, length-slot_bytes, kind_below}
 use Rattle.ent_alloc.proofs.ImageSlots.{waiter, small, slot_waits, waits_from, written}
 

@@ -1,20 +1,7 @@
 -- Records without the rows of their occupants: they point at the pending indexes as before, and stand
 -- for the same slots without rows.
-use Rattle.std.proofs.Common.{◌≡◌, ◌≢◌, refl, sym, ap, ◌∙◌, subst, ℕ, ◌+◌, rules, List, [], ◌∷◌, map, None, arith}
-use Rattle.std.specs.List.{flat_map}
+use Rattle.ent_alloc.proofs.Common.{◌≡◌, ◌≢◌, refl, sym, ap, ◌∙◌, subst, ℕ, ◌+◌, rules, List, [], ◌∷◌, map, None, arith, flat_map, common_steps, length-map, flat_map-map, get_or_mapped, Handle, Limits, is_alive, row_of, record_at, no_slot, handle_at, occupants, rows_from, with_row, roster_of, AreLinked, slots_bytes, AreSlots, without_row, without_row_of, record_bytes, rowless_bytes, SlotRecord, Occupancy, Alive, AliveWithRow, Pending, Retired}
 use Rattle.std.specs.FinMap as maps
-use Rattle.std.proofs.lemmas.Grind.{common_steps}
-use Rattle.std.proofs.lemmas.List.{length-map}
-use Rattle.std.proofs.lemmas.List.Folds.{flat_map-map}
-use Rattle.std.proofs.Math.ListN.{get_or-map as get_or_mapped}
-use Rattle.ent_handle.specs.Handle.{Handle}
-use Rattle.ent_alloc.specs.Limits.{Limits}
-use Rattle.ent_alloc.specs.Slots.{is_alive, row_of, record_at, no_slot, handle_at, occupants, rows_from, with_row, roster_of, AreLinked}
-use Rattle.ent_alloc.specs.Image.{slots_bytes, AreSlots}
-use Rattle.ent_alloc.specs.ImageRecords.{without_row, without_row_of, record_bytes, rowless_bytes}
-use Rattle.ent_alloc.specs.declared.slot_record.SlotRecord.{SlotRecord}
-use Rattle.ent_alloc.specs.declared.slot_record.Occupancy.{Occupancy}
-use Rattle.ent_alloc.specs.declared.slot_record.Occupancy.TheVariants.{Alive, AliveWithRow, Pending, Retired}
 use Rattle.ent_alloc.proofs.ImageLinked.{AreTied, are_slots, slots_bytes_are}
 
 -- ---- one record

@@ -1,11 +1,6 @@
 -- A slot that is read of its twelve bytes.
-use Rattle.std.proofs.Common.{◌≡◌, ◌≢◌, refl, ◌∷◌, sym, ap, ◌∙◌, ℕ, ◌^◌, ◌<◌, false, List, [], ◌++◌, length, Option, None, Some, IfSome, IfNone, append-nil, arith, rules}
-use Rattle.ent_alloc.specs.Limits.{Limits, AreLimits}
-use Rattle.ent_alloc.specs.Image.{word, long, slot_bytes, kind_of, number_of}
-use Rattle.ent_alloc.specs.ImageRecords.{kept, record_bytes, IsWritten}
-use Rattle.ent_alloc.specs.FirstFault.{is_slot, word_at}
-use Rattle.ent_alloc.specs.declared.slot_record.SlotRecord.{SlotRecord}
-use Rattle.ent_alloc.specs.declared.slot_record.Occupancy.TheVariants.{Alive}
+use Rattle.ent_alloc.proofs.Common.{◌≡◌, ◌≢◌, refl, ◌∷◌, sym, ap, ◌∙◌, ℕ, ◌^◌, ◌<◌, false, List, [], ◌++◌, length, Option, None, Some, IfSome, IfNone, arith, rules, Limits, AreLimits, word, long, slot_bytes, kind_of, number_of, kept, record_bytes, IsWritten, is_slot, word_at, SlotRecord, Alive}
+use Rattle.std.proofs.Common.{append-nil}
 use Rattle.ent_alloc.proofs.ImageRefused.{slot_in_words, not_written}
 use Rattle.ent_alloc.proofs.ImageWordAt.{first_word, second_word, third_word}
 

@@ -1,23 +1,8 @@
 -- What is written of each slot, and that it tells the slots.
-use Rattle.std.proofs.Common.{◌≡◌, ◌≢◌, refl, sym, ap, ◌∙◌, ℕ, zero, suc, ◌+◌, rules, ◌^◌, ◌<◌, ◌≤◌, ◌⊎◌, Bool, true, false, eqb, IsTrue, List, [], ◌∷◌, length, get_or, arith, All, AllPairs, Contains, Option, None, Some, inl, inr, map as maps}
+use Rattle.ent_alloc.proofs.Common.{◌≡◌, ◌≢◌, refl, sym, ap, ◌∙◌, ℕ, zero, suc, ◌+◌, rules, ◌^◌, ◌<◌, ◌≤◌, ◌⊎◌, Bool, true, false, eqb, IsTrue, List, [], ◌∷◌, length, get_or, arith, All, AllPairs, Contains, Option, None, Some, inl, inr, maps, cases_eq, cases_lt, eq-eqb, eqb-true, ne_eqb, false≢true, get_or_default, get_or-map, length-map, same_lists, Any-from_list_any, length-le_from_distinct_below, IsDistinct-from_AllPairs, Decides-eqb, All-contains, Handle, handle_cmp_total, handle_cmp-IsAntisymmetric, Roster, SlotRecord, Pending, is_alive, row_of, occupied, retired_slot, waiting_slot, living_slot, slot, AreSlots, Limits, IsGeneration, IsWritten}
 use Rattle.std.specs.FinSet as set
 use Rattle.std.specs.FinMap as map
-use Rattle.std.proofs.lemmas.Bool.{cases_eq, cases_lt, eq-eqb, eqb-true, ne_eqb, false≢true}
-use Rattle.std.proofs.lemmas.List.{get_or_default, get_or-map, length-map, same_lists}
-use Rattle.std.proofs.lemmas.List.Folds.{Any-from_list_any}
-use Rattle.std.proofs.lemmas.Map.Steps.{length-le_from_distinct_below}
-use Rattle.std.proofs.lemmas.Map.Made.{IsDistinct-from_AllPairs}
-use Rattle.std.proofs.lemmas.Bool.Decides.{Decides-eqb}
-use Rattle.std.proofs.lemmas.List.Elements.{All-contains}
-use Rattle.ent_handle.specs.Handle.{Handle, handle_cmp_total, handle_cmp-IsAntisymmetric}
-use Rattle.ent_alloc.specs.Roster.{Roster}
-use Rattle.ent_alloc.specs.declared.slot_record.SlotRecord.{SlotRecord}
-use Rattle.ent_alloc.specs.declared.slot_record.Occupancy.TheVariants.{Pending}
-use Rattle.ent_alloc.specs.Slots.{is_alive, row_of}
-use Rattle.ent_alloc.specs.Image.{occupied, retired_slot, waiting_slot, living_slot, slot, AreSlots}
 use Rattle.ent_alloc.proofs.HandleSets.{Contains-from_stands_in, stands_in-from_Contains}
-use Rattle.ent_alloc.specs.Limits.{Limits}
-use Rattle.ent_alloc.specs.ImageRecords.{IsGeneration, IsWritten}
 use Rattle.ent_alloc.proofs.ImageWords.{IsSmall}
 
 -- what stands past the last handle

@@ -1,18 +1,6 @@
 -- Sound slots are those of a sound allocator, and a sound allocator has sound slots.
-use Rattle.std.proofs.Common.{◌≡◌, refl, sym, ap, ◌∙◌, ℕ, ◌+◌, ◌-◌, rules, ◌<◌, ◌≤◌, List, length, take, drop, reverse, filter, arith, All, AllPairs}
+use Rattle.ent_alloc.proofs.Common.{◌≡◌, refl, sym, ap, ◌∙◌, ℕ, ◌+◌, ◌-◌, rules, ◌<◌, ◌≤◌, List, length, take, drop, reverse, filter, arith, All, AllPairs, length-map, reverse-reverse, get_or-reverse, length-reverse, All-filter, AllPairs-filter, Handle, Limits, Roster, Allocator, available, is_old, IsSound, IsWithin, AreApart, Entities, idle, allocator_of, entities_of, AreReserved, occupants, roster_of, AreLinked, handle_at, AreSlots, HasImage, roster, SlotRecord}
 use Rattle.std.specs.FinSet as sets
-use Rattle.std.proofs.lemmas.List.{length-map, reverse-reverse, get_or-reverse, length-reverse}
-use Rattle.std.proofs.lemmas.List.Elements.{All-filter}
-use Rattle.std.proofs.lemmas.List.Kept.{AllPairs-filter}
-use Rattle.ent_handle.specs.Handle.{Handle}
-use Rattle.ent_alloc.specs.Limits.{Limits}
-use Rattle.ent_alloc.specs.Roster.{Roster}
-use Rattle.ent_alloc.specs.Sequential.{Allocator, available, is_old}
-use Rattle.ent_alloc.specs.Sound.{IsSound, IsWithin, AreApart}
-use Rattle.ent_alloc.specs.Entities.{Entities, idle, allocator_of, entities_of, AreReserved}
-use Rattle.ent_alloc.specs.Slots.{occupants, roster_of, AreLinked, handle_at}
-use Rattle.ent_alloc.specs.Image.{AreSlots, HasImage, roster}
-use Rattle.ent_alloc.specs.declared.slot_record.SlotRecord.{SlotRecord}
 use Rattle.ent_alloc.proofs.LaidOut.{laid_out-sound, old_ones_below}
 use Rattle.ent_alloc.proofs.PoolLaw.{taken_is, aside_is}
 use Rattle.ent_alloc.proofs.Retired.{retired-rest}

@@ -1,9 +1,5 @@
 -- The number at a place of bytes that are spelled word by word.
-use Rattle.std.proofs.Common.{rules, ◌≡◌, ap, ◌∙◌, sym, ℕ, ◌+◌, ◌^◌, ◌<◌, ◌≤◌, List, ◌++◌, length, drop, arith}
-use Rattle.std.proofs.lemmas.Grind.{common_steps}
-use Rattle.std.proofs.lemmas.List.{take_at, drop_at, drop-drop, drop-append-le, take-append-le, length-drop}
-use Rattle.ent_alloc.specs.Image.{word, long}
-use Rattle.ent_alloc.specs.FirstFault.{word_at, long_at}
+use Rattle.ent_alloc.proofs.Common.{rules, ◌≡◌, ap, ◌∙◌, sym, ℕ, ◌+◌, ◌^◌, ◌<◌, ◌≤◌, List, ◌++◌, length, drop, arith, common_steps, take_at, drop_at, drop-drop, drop-append-le, take-append-le, length-drop, word, long, word_at, long_at}
 use Rattle.ent_alloc.proofs.ImageWords.{length-word, from_word}
 use Rattle.ent_alloc.proofs.ImageHeader.{length-long, from_long}
 

@@ -1,13 +1,5 @@
 -- The words of an image, and its slots, byte by byte.
-use Rattle.std.proofs.Common.{rules, ◌≡◌, refl, sym, ap, ◌∙◌, ℕ, zero, suc, ◌+◌, ◌*◌, ◌^◌, ◌<◌, List, ◌++◌, length, take, drop, arith}
-use Rattle.std.specs.Int.{w32, from_le_bytes}
-use Rattle.std.specs.List.{flat_map, range_with_len}
-use Rattle.std.proofs.lemmas.Nat.{from_le_bytes-to_le_bytes_4}
-use Rattle.std.proofs.lemmas.List.{length-append, take_at, drop_at, drop-drop}
-use Rattle.ent_alloc.specs.Image.{word, slot_bytes, kind_of, number_of}
-use Rattle.ent_alloc.specs.declared.slot_record.SlotRecord.{SlotRecord}
-use Rattle.ent_alloc.specs.declared.slot_record.Occupancy.{Occupancy}
-use Rattle.ent_alloc.specs.declared.slot_record.Occupancy.TheVariants.{Alive, AliveWithRow, Pending, Retired}
+use Rattle.ent_alloc.proofs.Common.{rules, ◌≡◌, refl, sym, ap, ◌∙◌, ℕ, zero, suc, ◌+◌, ◌*◌, ◌^◌, ◌<◌, List, ◌++◌, length, take, drop, arith, w32, from_le_bytes, flat_map, range_with_len, from_le_bytes-to_le_bytes_4, length-append, take_at, drop_at, drop-drop, word, slot_bytes, kind_of, number_of, SlotRecord, Occupancy, Alive, AliveWithRow, Pending, Retired}
 
 pub length-word : (n : ℕ) → length (word n) ≡ 4
 unfolding word

@@ -1,9 +1,5 @@
 -- The living occupants, slot by slot.
-use Rattle.std.proofs.Common.{rules, ℕ, ◌+◌, ◌<◌, ◌≤◌, List, [], ◌∷◌, arith, All, AllPairs}
-use Rattle.std.proofs.lemmas.Grind.{common_steps}
-use Rattle.std.proofs.lemmas.List.Kept.{AllPairs-cons}
-use Rattle.ent_alloc.specs.declared.slot_record.SlotRecord.{SlotRecord}
-use Rattle.ent_alloc.specs.Slots.{occupants}
+use Rattle.ent_alloc.proofs.Common.{rules, ℕ, ◌+◌, ◌<◌, ◌≤◌, List, [], ◌∷◌, arith, All, AllPairs, common_steps, AllPairs-cons, SlotRecord, occupants}
 
 -- ---- by rising slot
 

@@ -1,14 +1,7 @@
 -- The rows that the records keep with their occupants.
-use Rattle.std.proofs.Common.{rules, ◌≡◌, ℕ, ◌+◌, ◌-◌, Bool, cond, ◌&&◌, eqb, leb, List, [], ◌∷◌, ◌++◌, get_or, set, refl, suc, zero, replicate, Option, None}
-use Rattle.std.specs.Ordering.{eq_by_cmp}
+use Rattle.ent_alloc.proofs.Common.{rules, ◌≡◌, ℕ, ◌+◌, ◌-◌, Bool, cond, ◌&&◌, eqb, leb, List, [], ◌∷◌, ◌++◌, get_or, set, refl, suc, zero, replicate, Option, None, eq_by_cmp, le-leb, find, is_some, Handle, handle_cmp, handle_cmp_total, SlotRecord, record_at, no_slot, row_of, rows_from, with_row, new_record}
 use Rattle.std.specs.FinMap as maps
-use Rattle.std.proofs.lemmas.Bool.{le-leb}
-use Rattle.std.specs.FinMap.{find}
-use Rattle.std.specs.Option.{is_some}
-use Rattle.ent_handle.specs.Handle.{Handle, handle_cmp, handle_cmp_total}
 use Rattle.ent_alloc.proofs.ListLaws.{eqb_sym, tests_of}
-use Rattle.ent_alloc.specs.declared.slot_record.SlotRecord.{SlotRecord}
-use Rattle.ent_alloc.specs.Slots.{record_at, no_slot, row_of, rows_from, with_row, new_record}
 use Rattle.ent_alloc.proofs.Occupants.{ties}
 
 -- the row that a record keeps with its occupant of a generation

@@ -1,12 +1,5 @@
 -- A sound allocator that is flushed, by the old handles of its pool.
-use Rattle.std.proofs.Common.{rules, ◌≡◌, sym, ap, ◌∙◌, ℕ, ◌+◌, ◌-◌, ◌<◌, ◌≤◌, List, [], ◌++◌, length, get_or, drop, filter, All, AllPairs, arith}
-use Rattle.std.proofs.lemmas.List.{nil_from_length, length-append}
-use Rattle.std.proofs.lemmas.List.Elements.{All-append, All-weaker, filter_passes, All-filter}
-use Rattle.std.proofs.lemmas.List.Kept.{AllPairs-filter}
-use Rattle.ent_handle.specs.Handle.{Handle}
-use Rattle.ent_alloc.specs.Limits.{AreLimits}
-use Rattle.ent_alloc.specs.Sequential.{Allocator, available, fresh, is_old}
-use Rattle.ent_alloc.specs.Sound.{IsSound, IsWithin, AreApart, IsLive}
+use Rattle.ent_alloc.proofs.Common.{rules, ◌≡◌, sym, ap, ◌∙◌, ℕ, ◌+◌, ◌-◌, ◌<◌, ◌≤◌, List, [], ◌++◌, length, get_or, drop, filter, All, AllPairs, arith, nil_from_length, length-append, All-append, All-weaker, filter_passes, All-filter, AllPairs-filter, Handle, AreLimits, Allocator, available, fresh, is_old, IsSound, IsWithin, AreApart, IsLive}
 use Rattle.ent_alloc.proofs.ListLaws.{AllPairs-append}
 use Rattle.ent_alloc.proofs.FreshHandles.{first_of_slot, All-fresh, fresh_apart, old_of_joined}
 

@@ -54,3 +54,4 @@ pub mod Waits
 pub mod FrontPools
 pub mod Portioned
 pub mod PortionPools
+pub mod Common

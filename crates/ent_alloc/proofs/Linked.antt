@@ -1,15 +1,7 @@
 -- Slots that get their next occupants, and slots that are made: the vectors stay linked, and the
 -- roster gains the occupants.
-use Rattle.std.proofs.Common.{rules, ◌≡◌, ℕ, ◌+◌, ◌-◌, ◌<◌, ◌≤◌, List, [], ◌∷◌, ◌++◌, length, get_or, set, take, drop, map, replicate, slice_get, refl, sym, ap, ◌∙◌, arith, Some}
+use Rattle.ent_alloc.proofs.Common.{rules, ◌≡◌, ℕ, ◌+◌, ◌-◌, ◌<◌, ◌≤◌, List, [], ◌∷◌, ◌++◌, length, get_or, set, take, drop, map, replicate, slice_get, refl, sym, ap, ◌∙◌, arith, Some, cases_lt, slice_get_read, take_at, drop_at, get_or-map, length-map, get_or-take, get_or-drop, length-drop, length-append, length-replicate, length_push, drop-map, take-map, get_or_append_left, get_or-append_right, get_or-replicate, get_or_push, Limits, fresh, SlotRecord, Pending, occupants, record_at, no_slot, new_record, handle_at, reuse, reused, roster_of, AreLinked}
 use Rattle.std.specs.FinSet as sets
-use Rattle.std.proofs.lemmas.Bool.{cases_lt}
-use Rattle.std.proofs.lemmas.Option.{slice_get_read}
-use Rattle.std.proofs.lemmas.List.{take_at, drop_at, get_or-map, length-map, get_or-take, get_or-drop, length-drop, length-append, length-replicate, length_push, drop-map, take-map, get_or_append_left, get_or-append_right, get_or-replicate, get_or_push}
-use Rattle.ent_alloc.specs.Limits.{Limits}
-use Rattle.ent_alloc.specs.Sequential.{fresh}
-use Rattle.ent_alloc.specs.declared.slot_record.SlotRecord.{SlotRecord}
-use Rattle.ent_alloc.specs.declared.slot_record.Occupancy.TheVariants.{Pending}
-use Rattle.ent_alloc.specs.Slots.{occupants, record_at, no_slot, new_record, handle_at, reuse, reused, roster_of, AreLinked}
 use Rattle.ent_alloc.proofs.FreshHandles.{length-fresh}
 use Rattle.ent_alloc.proofs.Occupants.{occupants-append, occupants-new, from_list-append}
 use Rattle.ent_alloc.proofs.Reused.{Wait, Alive≢Pending, length-reused, generation-reused, waiting-reused, waited-reused, length-occupants-reused, rows_from-reused, live-reused}

@@ -1,15 +1,5 @@
 -- What a reply that borrows the slots lists, one handle after the other.
-use Rattle.std.proofs.Common.{rules, ◌≡◌, ℕ, ◌+◌, ◌-◌, ◌<◌, ◌≤◌, List, [], ◌∷◌, ◌++◌, length, drop, replicate, slice_get, Some, refl, arith, suc, zero, add-zero}
-use Rattle.std.proofs.lemmas.Grind.{common_steps}
-use Rattle.std.proofs.lemmas.List.{length-append, drop_more, length-map}
-use Rattle.std.proofs.lemmas.List.Elements.{All-tail}
-use Rattle.std.proofs.lemmas.Option.{get_or_from_slice_get}
-use Rattle.ent_handle.specs.Handle.{Handle, IsHandle}
-use Rattle.ent_alloc.specs.Slots.{handle_at}
-use Rattle.ent_alloc.specs.Roster.{Roster}
-use Rattle.ent_alloc.specs.Sequential.{fresh}
-use Rattle.ent_alloc.specs.Reserved.{reserved_handles, handles_of, AreToList}
-use Rattle.ent_alloc.specs.declared.slot_record.SlotRecord.{SlotRecord}
+use Rattle.ent_alloc.proofs.Common.{rules, ◌≡◌, ℕ, ◌+◌, ◌-◌, ◌<◌, ◌≤◌, List, [], ◌∷◌, ◌++◌, length, drop, replicate, slice_get, Some, refl, arith, suc, zero, add-zero, common_steps, length-append, drop_more, length-map, All-tail, get_or_from_slice_get, Handle, IsHandle, handle_at, Roster, fresh, reserved_handles, handles_of, AreToList, SlotRecord}
 use Rattle.ent_alloc.proofs.FreshHandles.{length-fresh, fresh-next, fresh-none}
 
 -- a list from where it has an item

@@ -1,13 +1,6 @@
 -- What the record of a living occupant has.
-use Rattle.std.proofs.Common.{rules, ◌≡◌, ◌<◌, true, List, length, ℕ, arith}
-use Rattle.std.proofs.lemmas.Grind.{common_steps}
+use Rattle.ent_alloc.proofs.Common.{rules, ◌≡◌, ◌<◌, true, List, length, ℕ, arith, common_steps, and_parts, Handle, Limits, Roster, SlotRecord, is_alive, record_at, roster_of}
 use Rattle.std.specs.FinSet as sets
-use Rattle.std.proofs.lemmas.Bool.{and_parts}
-use Rattle.ent_handle.specs.Handle.{Handle}
-use Rattle.ent_alloc.specs.Limits.{Limits}
-use Rattle.ent_alloc.specs.Roster.{Roster}
-use Rattle.ent_alloc.specs.declared.slot_record.SlotRecord.{SlotRecord}
-use Rattle.ent_alloc.specs.Slots.{is_alive, record_at, roster_of}
 use Rattle.ent_alloc.proofs.Occupants.{is_occupant, contains_occupants}
 
 -- a handle that lives in the roster is that of an occupant

@@ -1,20 +1,9 @@
 -- What looking a handle up in the records tells of the pending list, of the fresh handles and of
 -- the rows.
-use Rattle.std.proofs.lemmas.Grind.{common_steps}
-use Rattle.std.proofs.Common.{rules, ◌≡◌, ◌≢◌, ℕ, ◌+◌, ◌-◌, ◌<◌, ◌≤◌, Bool, true, false, ◌&&◌, eqb, ltb, List, length, get_or, set, drop, map, refl, arith}
-use Rattle.std.specs.List.{Contains}
+use Rattle.ent_alloc.proofs.Common.{common_steps, rules, ◌≡◌, ◌≢◌, ℕ, ◌+◌, ◌-◌, ◌<◌, ◌≤◌, Bool, true, false, ◌&&◌, eqb, ltb, List, length, get_or, set, drop, map, refl, arith, cases_eq, false≢true, and_parts, and_from, eqb-true, leb-true, ltb-true, eq-eqb, le-leb, lt-ltb, false_from_ne_true, get_or-drop, get_or-map, length-drop, length-map, length-set, get_or-set_same, get_or-set_other, Handle, handle_cmp, handle_cmp_total, handle_cmp-IsAntisymmetric, Limits, fresh, stands_in, SlotRecord, Occupancy, Alive, AliveWithRow, Pending, Retired, occupants, occupancy_of, lives, row_kept, record_at, no_slot, handle_at, rows_from, is_pending_from, waits_from, roster_of, AreLinked, Contains}
 use Rattle.std.specs.FinSet as sets
 use Rattle.std.specs.FinMap as maps
-use Rattle.std.proofs.lemmas.Bool.{cases_eq, false≢true, and_parts, and_from, eqb-true, leb-true, ltb-true, eq-eqb, le-leb, lt-ltb, false_from_ne_true}
-use Rattle.std.proofs.lemmas.List.{get_or-drop, get_or-map, length-drop, length-map, length-set, get_or-set_same, get_or-set_other}
-use Rattle.ent_handle.specs.Handle.{Handle, handle_cmp, handle_cmp_total, handle_cmp-IsAntisymmetric}
 use Rattle.ent_alloc.proofs.ListLaws.{map_alike}
-use Rattle.ent_alloc.specs.Limits.{Limits}
-use Rattle.ent_alloc.specs.Sequential.{fresh, stands_in}
-use Rattle.ent_alloc.specs.declared.slot_record.SlotRecord.{SlotRecord}
-use Rattle.ent_alloc.specs.declared.slot_record.Occupancy.{Occupancy}
-use Rattle.ent_alloc.specs.declared.slot_record.Occupancy.TheVariants.{Alive, AliveWithRow, Pending, Retired}
-use Rattle.ent_alloc.specs.Slots.{occupants, occupancy_of, lives, row_kept, record_at, no_slot, handle_at, rows_from, is_pending_from, waits_from, roster_of, AreLinked}
 use Rattle.ent_alloc.proofs.HandleSets.{Contains-from_stands_in, stands_in-from_Contains}
 use Rattle.ent_alloc.proofs.FreshHandles.{length-fresh, get_or-fresh}
 use Rattle.ent_alloc.proofs.Occupants.{is_occupant, contains_occupants, ties, one, length-occupants-set}

@@ -1,18 +1,9 @@
 -- What an `Entities` stands for: where nothing is reserved, what is left to give, and where a call
 -- begins and ends.
-use Rattle.std.proofs.Common.{rules, ◌≡◌, ℕ, ℤ, pos, negsuc, ◌-ℤ◌, ◌≤ℤ◌, ◌+◌, ◌-◌, ◌<◌, ◌≤◌, Bool, false, List, [], ◌∷◌, ◌++◌, length, take, drop, reverse, filter, refl, ap, arith, suc, zero, subst, All, IsTrue, ◌↔◌, append_assoc}
-use Rattle.std.proofs.lemmas.Grind.{common_steps}
+use Rattle.ent_alloc.proofs.Common.{rules, ◌≡◌, ℕ, ℤ, pos, negsuc, ◌-ℤ◌, ◌≤ℤ◌, ◌+◌, ◌-◌, ◌<◌, ◌≤◌, Bool, false, List, [], ◌∷◌, ◌++◌, length, take, drop, reverse, filter, refl, ap, arith, suc, zero, subst, All, IsTrue, ◌↔◌, common_steps, ints, append_cancel_right, length-append, length-reverse, length-drop, take-append-drop, take-take, Handle, Limits, Requests, Roster, Allocator, opening, is_old, available, top, asked_at, pool_at, IsSound, Entities, idle, allocator_of, entities_of, beneath, AreReserved, HasRowsOfLiving}
+use Rattle.std.proofs.Common.{append_assoc}
 use Rattle.std.specs.FinSet as sets
 use Rattle.std.specs.FinMap as maps
-use Rattle.std.proofs.lemmas.Int.{ints}
-use Rattle.std.proofs.lemmas.List.{append_cancel_right, length-append, length-reverse, length-drop, take-append-drop, take-take}
-use Rattle.ent_handle.specs.Handle.{Handle}
-use Rattle.ent_alloc.specs.Limits.{Limits}
-use Rattle.ent_alloc.specs.declared.requests.Requests.{Requests}
-use Rattle.ent_alloc.specs.Roster.{Roster}
-use Rattle.ent_alloc.specs.Sequential.{Allocator, opening, is_old, available, top, asked_at, pool_at}
-use Rattle.ent_alloc.specs.Sound.{IsSound}
-use Rattle.ent_alloc.specs.Entities.{Entities, idle, allocator_of, entities_of, beneath, AreReserved, HasRowsOfLiving}
 use Rattle.ent_alloc.proofs.FreshHandles.{length-fresh}
 use Rattle.ent_alloc.proofs.LaidOut.{old_ones_below}
 

@@ -1,18 +1,7 @@
 -- What `alloc` and `free` make of the roster is the allocator's step.
-use Rattle.std.proofs.Common.{rules, ◌≡◌, ◌+◌, ◌-◌, ◌<◌, List, [], ◌∷◌, ◌++◌, length, take, reverse, sym, ap, ◌∙◌, arith, suc, slice_get, Some, None, refl}
+use Rattle.ent_alloc.proofs.Common.{rules, ◌≡◌, ◌+◌, ◌-◌, ◌<◌, List, [], ◌∷◌, ◌++◌, length, take, reverse, sym, ap, ◌∙◌, arith, suc, slice_get, Some, None, refl, lt-ltb, le-ltb, take_all, reverse-append, take_more, nil_from_length, All-head, get_or_from_slice_get, slice_get_within, or_comm, or-false, Handle, handle_cmp, handle_cmp_total, handle_cmp-IsAntisymmetric, Roster, Requests, Allocator, fresh, after_alloc, IsSound, idle, allocator_of, entities_of, HasRowsOfLiving}
 use Rattle.std.specs.FinSet as sets
 use Rattle.std.specs.FinMap as maps
-use Rattle.std.proofs.lemmas.Bool.{lt-ltb, le-ltb}
-use Rattle.std.proofs.lemmas.List.{take_all, reverse-append, take_more, nil_from_length}
-use Rattle.std.proofs.lemmas.List.Elements.{All-head}
-use Rattle.std.proofs.lemmas.Option.{get_or_from_slice_get, slice_get_within}
-use Rattle.std.proofs.Math.Bool.{or_comm, or-false}
-use Rattle.ent_handle.specs.Handle.{Handle, handle_cmp, handle_cmp_total, handle_cmp-IsAntisymmetric}
-use Rattle.ent_alloc.specs.Roster.{Roster}
-use Rattle.ent_alloc.specs.declared.requests.Requests.{Requests}
-use Rattle.ent_alloc.specs.Sequential.{Allocator, fresh, after_alloc}
-use Rattle.ent_alloc.specs.Sound.{IsSound}
-use Rattle.ent_alloc.specs.Entities.{idle, allocator_of, entities_of, HasRowsOfLiving}
 use Rattle.ent_alloc.proofs.FreshHandles.{fresh-next}
 use Rattle.ent_alloc.proofs.RowsOfLiving.{rows-joined}
 use Rattle.ent_alloc.proofs.HandleSets.{contains-union_list}

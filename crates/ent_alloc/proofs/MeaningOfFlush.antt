@@ -1,15 +1,6 @@
 -- A flush of the roster is the allocator's flush.
-use Rattle.std.proofs.lemmas.Grind.{common_steps}
-use Rattle.std.proofs.Common.{rules, ◌≡◌, ℕ, ◌+◌, ◌-◌, ◌<◌, ◌≤◌, ◌||◌, List, ◌++◌, length, take, drop, reverse, filter, ap, ◌∙◌, arith, All}
+use Rattle.ent_alloc.proofs.Common.{common_steps, rules, ◌≡◌, ℕ, ◌+◌, ◌-◌, ◌<◌, ◌≤◌, ◌||◌, List, ◌++◌, length, take, drop, reverse, filter, ap, ◌∙◌, arith, All, length-reverse, reverse-reverse, list_any-append, or_comm, or_assoc, Handle, handle_cmp, handle_cmp_total, handle_cmp-IsAntisymmetric, Roster, fresh, is_old, is_fresh, made_at_flush, after_flush, born, stands_in, IsSound, idle, allocator_of}
 use Rattle.std.specs.FinSet as sets
-use Rattle.std.proofs.lemmas.List.{length-reverse, reverse-reverse}
-use Rattle.std.proofs.lemmas.List.Folds.{list_any-append}
-use Rattle.std.proofs.Math.Bool.{or_comm, or_assoc}
-use Rattle.ent_handle.specs.Handle.{Handle, handle_cmp, handle_cmp_total, handle_cmp-IsAntisymmetric}
-use Rattle.ent_alloc.specs.Roster.{Roster}
-use Rattle.ent_alloc.specs.Sequential.{fresh, is_old, is_fresh, made_at_flush, after_flush, born, stands_in}
-use Rattle.ent_alloc.specs.Sound.{IsSound}
-use Rattle.ent_alloc.specs.Entities.{idle, allocator_of}
 use Rattle.ent_alloc.proofs.FreshHandles.{length-fresh, take_joined, drop_joined, old_of_joined, fresh_of_joined}
 use Rattle.ent_alloc.proofs.HandleSets.{contains-union_list}
 use Rattle.ent_alloc.proofs.Meaning.{drop_rest, pending_below}

@@ -1,16 +1,7 @@
 -- What `reply` lists of the vectors is the reply in the allocator's pool.
-use Rattle.std.proofs.Common.{rules, ◌≡◌, ℕ, ◌+◌, ◌-◌, ◌<◌, ◌≤◌, List, [], ◌++◌, length, take, drop, reverse, filter, arith, All, Ok, Err}
-use Rattle.std.proofs.lemmas.Grind.{common_steps}
-use Rattle.std.proofs.lemmas.Bool.{le-leb, lt-leb, cond-true, cond-false}
-use Rattle.std.proofs.lemmas.List.{append-nil, length-reverse, length-take-le, length-drop, drop-take, reverse-reverse}
-use Rattle.std.proofs.lemmas.List.Elements.{All-take, All-drop, filter-append}
-use Rattle.ent_handle.specs.Handle.{Handle}
-use Rattle.ent_alloc.specs.Roster.{Roster}
-use Rattle.ent_alloc.specs.Sequential.{fresh, is_old, is_fresh, listed, reply_from}
-use Rattle.ent_alloc.specs.Entities.{idle}
+use Rattle.ent_alloc.proofs.Common.{rules, ◌≡◌, ℕ, ◌+◌, ◌-◌, ◌<◌, ◌≤◌, List, [], ◌++◌, length, take, drop, reverse, filter, arith, All, Ok, Err, common_steps, le-leb, lt-leb, cond-true, cond-false, append-nil, length-reverse, length-take-le, length-drop, drop-take, reverse-reverse, All-take, All-drop, filter-append, Handle, Roster, fresh, is_old, is_fresh, listed, reply_from, idle, reserved_handles}
 use Rattle.ent_alloc.proofs.FreshHandles.{take-fresh, drop_joined, all_old_are_old, no_fresh_is_old, no_old_is_fresh, all_fresh_are_fresh}
 use Rattle.ent_alloc.proofs.ListLaws.{take-append}
-use Rattle.ent_alloc.specs.Reserved.{reserved_handles}
 use Rattle.ent_alloc.proofs.Meaning.{length_left}
 use Rattle.ent_alloc.proofs.Reversed.{drop-reverse, take-reverse}
 

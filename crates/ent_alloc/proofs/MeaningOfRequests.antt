@@ -1,12 +1,5 @@
 -- What `lower` and `settle` leave is the allocator after those requests.
-use Rattle.std.proofs.Common.{rules, ◌≡◌, ℕ, ◌+◌, ◌-◌, ◌<◌, ◌≤◌, ◌^◌, length}
-use Rattle.std.proofs.lemmas.Grind.{common_steps}
-use Rattle.std.proofs.lemmas.Bool.{cases_lt, le-leb, cond-true}
-use Rattle.std.proofs.lemmas.List.{length-take, take_all, drop_all, drop-drop}
-use Rattle.std.proofs.Math.Seq.{take-add}
-use Rattle.ent_alloc.specs.Roster.{Roster}
-use Rattle.ent_alloc.specs.Sequential.{Allocator, after_take, settled, before_requests}
-use Rattle.ent_alloc.specs.Entities.{idle, allocator_of, AreReserved}
+use Rattle.ent_alloc.proofs.Common.{rules, ◌≡◌, ℕ, ◌+◌, ◌-◌, ◌<◌, ◌≤◌, ◌^◌, length, common_steps, cases_lt, le-leb, cond-true, length-take, take_all, drop_all, drop-drop, take-add, Roster, Allocator, after_take, settled, before_requests, idle, allocator_of, AreReserved}
 use Rattle.ent_alloc.proofs.Soundness.{after_take-sound, IsSound-moved}
 use Rattle.ent_alloc.proofs.Settled.{settled-sound}
 use Rattle.ent_alloc.proofs.Meaning.{length_left, drop_rest, length-idle, rest_is, available_is, AreReserved-flushed}

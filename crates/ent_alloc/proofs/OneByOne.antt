@@ -1,19 +1,6 @@
 -- Handles that come to life at once leave what single calls of `alloc` leave.
-use Rattle.std.proofs.Common.{rules, ◌≡◌, sym, ap, ◌∙◌, subst, refl, ℕ, suc, zero, ◌+◌, ◌-◌, ◌<◌, ◌≤◌, List, [], ◌∷◌, ◌++◌, length, take, drop, reverse, Some, slice_get, arith, ◌⊎◌, inl, inr, slice_index_or, ◌||◌, Bool, false}
-use Rattle.std.specs.Ordering.{eq_by_cmp}
+use Rattle.ent_alloc.proofs.Common.{rules, ◌≡◌, sym, ap, ◌∙◌, subst, refl, ℕ, suc, zero, ◌+◌, ◌-◌, ◌<◌, ◌≤◌, List, [], ◌∷◌, ◌++◌, length, take, drop, reverse, Some, slice_get, arith, ◌⊎◌, inl, inr, slice_index_or, ◌||◌, Bool, false, eq_by_cmp, common_steps, cases_lt, take_all, take-take, take_more, drop-append-le, length-take-le, nil_from_length, drop_all, list_any-append, slice_get-get_or, get_or_from_slice_get, or-false, Handle, handle_cmp, handle_cmp_total, handle_cmp-IsAntisymmetric, Requests, Roster, Allocator, fresh, after_alloc, after_allocs, after_take, after_flush, stands_in, IsSound, idle, allocator_of}
 use Rattle.std.specs.FinSet as sets
-use Rattle.std.proofs.lemmas.Grind.{common_steps}
-use Rattle.std.proofs.lemmas.Bool.{cases_lt}
-use Rattle.std.proofs.lemmas.List.{take_all, take-take, take_more, drop-append-le, length-take-le, nil_from_length, drop_all}
-use Rattle.std.proofs.lemmas.List.Folds.{list_any-append}
-use Rattle.std.proofs.lemmas.Option.{slice_get-get_or, get_or_from_slice_get}
-use Rattle.std.proofs.Math.Bool.{or-false}
-use Rattle.ent_handle.specs.Handle.{Handle, handle_cmp, handle_cmp_total, handle_cmp-IsAntisymmetric}
-use Rattle.ent_alloc.specs.declared.requests.Requests.{Requests}
-use Rattle.ent_alloc.specs.Roster.{Roster}
-use Rattle.ent_alloc.specs.Sequential.{Allocator, fresh, after_alloc, after_allocs, after_take, after_flush, stands_in}
-use Rattle.ent_alloc.specs.Sound.{IsSound}
-use Rattle.ent_alloc.specs.Entities.{idle, allocator_of}
 use Rattle.ent_alloc.proofs.FreshHandles.{fresh-next, fresh-none}
 use Rattle.ent_alloc.proofs.HandleSets.{contains-union_list}
 use Rattle.ent_alloc.proofs.Soundness.{after_alloc-sound}

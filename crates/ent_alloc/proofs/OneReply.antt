@@ -1,11 +1,5 @@
 -- The reply to a request, and to a request for one handle, by what the vectors hold.
-use Rattle.std.proofs.Common.{rules, ◌≡◌, ℕ, ℤ, ◌+◌, ◌-◌, ◌<◌, ◌≤◌, pos, ◌≤ℤ◌, ◌-ℤ◌, length, drop, Ok, Err, [], ◌∷◌, slice_get, Some, refl, sym, ap, ◌∙◌, arith, ◌^◌}
-use Rattle.std.proofs.lemmas.Int.{ints}
-use Rattle.ent_handle.specs.Handle.{Handle}
-use Rattle.ent_alloc.specs.Roster.{Roster}
-use Rattle.ent_alloc.specs.Sequential.{Allocator, reply_from, pool_at, top}
-use Rattle.ent_alloc.specs.Entities.{idle, allocator_of, beneath, AreReserved}
-use Rattle.ent_alloc.specs.Reserved.{reserved_handles, IsInRange}
+use Rattle.ent_alloc.proofs.Common.{rules, ◌≡◌, ℕ, ℤ, ◌+◌, ◌-◌, ◌<◌, ◌≤◌, pos, ◌≤ℤ◌, ◌-ℤ◌, length, drop, Ok, Err, [], ◌∷◌, slice_get, Some, refl, sym, ap, ◌∙◌, arith, ◌^◌, ints, Handle, Roster, Allocator, reply_from, pool_at, top, idle, allocator_of, beneath, AreReserved, reserved_handles, IsInRange}
 use Rattle.ent_alloc.proofs.Listing.{reserved_handles-pending, reserved_handles-fresh, reserved_handles-none}
 use Rattle.ent_alloc.proofs.Meaning.{top_view, asked_at-is, pool_at_is, pending_below, length_left}
 use Rattle.ent_alloc.proofs.MeaningOfReplies.{reply_served, reply_refused}

@@ -1,13 +1,5 @@
 -- Where a handle stands among those that there were to give at the last flush.
-use Rattle.std.proofs.Common.{rules, ◌≡◌, ℕ, ◌+◌, ◌-◌, ◌<◌, ◌≤◌, true, false, ◌||◌, List, length, get_or, drop, arith, slice_get, Some}
-use Rattle.std.proofs.lemmas.Grind.{common_steps}
-use Rattle.std.proofs.lemmas.List.{get_or-append-add, get_or_append_left, length-reverse, get_or-reverse}
-use Rattle.std.proofs.lemmas.List.Folds.{list_any-append}
-use Rattle.std.proofs.lemmas.Option.{slice_get-get_or}
-use Rattle.ent_handle.specs.Handle.{Handle}
-use Rattle.ent_alloc.specs.Roster.{Roster}
-use Rattle.ent_alloc.specs.Sequential.{Allocator, available, fresh, stands_in}
-use Rattle.ent_alloc.specs.Entities.{idle, allocator_of, AreReserved}
+use Rattle.ent_alloc.proofs.Common.{rules, ◌≡◌, ℕ, ◌+◌, ◌-◌, ◌<◌, ◌≤◌, true, false, ◌||◌, List, length, get_or, drop, arith, slice_get, Some, common_steps, get_or-append-add, get_or_append_left, length-reverse, get_or-reverse, list_any-append, slice_get-get_or, Handle, Roster, Allocator, available, fresh, stands_in, idle, allocator_of, AreReserved}
 use Rattle.ent_alloc.proofs.FreshHandles.{length-fresh, get_or-fresh}
 use Rattle.ent_alloc.proofs.HandleSets.{Contains-from_stands_in}
 use Rattle.ent_alloc.proofs.Meaning.{available_is, length-idle}

@@ -1,14 +1,7 @@
 -- What requests take off the pool, whether they are served or not. It depends on their sum alone,
 -- so a reply depends on the cursor alone, and can be computed later.
-use Rattle.std.proofs.Common.{rules, ◌≡◌, refl, sym, ap, ◌∙◌, ℕ, ◌+◌, ◌≤◌, ℤ, pos, negsuc, ◌-ℤ◌, List, [], ◌∷◌, ◌++◌, length, take, drop, sum, Ok, le-leb, arith, append-nil}
-use Rattle.std.proofs.lemmas.Grind.{common_steps}
-use Rattle.std.proofs.lemmas.Bool.{cases_lt}
-use Rattle.std.proofs.lemmas.Int.{ints}
-use Rattle.std.proofs.lemmas.List.{take_all, drop_all, length-append}
-use Rattle.std.proofs.lemmas.List.Sums.{sum_by-cons}
-use Rattle.std.proofs.Math.Seq.{take-append_seam, drop-append_seam}
-use Rattle.ent_alloc.specs.Sequential.{Allocator, available, top, cursor, after_take, asked_at, pool_at, reply_from, reply_to}
-use Rattle.ent_alloc.specs.Sound.{IsSound}
+use Rattle.ent_alloc.proofs.Common.{rules, ◌≡◌, refl, sym, ap, ◌∙◌, ℕ, ◌+◌, ◌≤◌, ℤ, pos, negsuc, ◌-ℤ◌, List, [], ◌∷◌, ◌++◌, length, take, drop, sum, Ok, arith, common_steps, cases_lt, ints, take_all, drop_all, length-append, sum_by-cons, take-append_seam, drop-append_seam, Allocator, available, top, cursor, after_take, asked_at, pool_at, reply_from, reply_to, IsSound}
+use Rattle.std.proofs.Common.{le-leb, append-nil}
 use Rattle.ent_alloc.proofs.Taken.{available-after_take, length-pool}
 use Rattle.ent_alloc.proofs.Soundness.{after_take-sound}
 

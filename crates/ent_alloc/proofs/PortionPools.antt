@@ -1,21 +1,8 @@
 -- Portions of a pool: the allocator whose pool begins with what was used, and what a request for it
 -- leaves.
-use Rattle.std.proofs.Common.{◌≡◌, ◌⊎◌, inl, inr, sym, ◌∙◌, subst, ℕ, ◌-◌, ◌≤◌, rules, List, [], length, take, arith, IsPermutation, append_assoc}
-use Rattle.std.specs.Prelude.{◌≢◌}
-use Rattle.std.proofs.lemmas.Grind.{common_steps}
-use Rattle.std.proofs.lemmas.Bool.{cases_eq}
-use Rattle.std.proofs.lemmas.List.{length-append, take_at, drop_at, length-map, length-take-le, take-append-drop}
-use Rattle.std.proofs.lemmas.List.Sorted.{length_permutation}
-use Rattle.ent_handle.specs.Handle.{Handle}
-use Rattle.ent_alloc.specs.Roster.{Roster}
-use Rattle.ent_alloc.specs.Sequential.{Allocator, after_take}
-use Rattle.ent_alloc.specs.Entities.{idle, allocator_of, AreReserved}
-use Rattle.ent_alloc.specs.Front.{with_front, slots_of, AreSlotsOf}
-use Rattle.ent_alloc.specs.declared.portion.Portion.{Portion}
-use Rattle.ent_alloc.specs.declared.requests.Requests.{Requests}
-use Rattle.ent_alloc.specs.Portions.{used_of, size_of, count_of, reach_of, AreUsed, front_of, after_portions, arranged}
+use Rattle.ent_alloc.proofs.Common.{◌≡◌, ◌⊎◌, inl, inr, sym, ◌∙◌, subst, ℕ, ◌-◌, ◌≤◌, rules, List, [], length, take, arith, IsPermutation, common_steps, cases_eq, length-append, take_at, drop_at, length-map, length-take-le, take-append-drop, length_permutation, Handle, Roster, Allocator, after_take, idle, allocator_of, AreReserved, with_front, slots_of, AreSlotsOf, Portion, Requests, used_of, size_of, count_of, reach_of, AreUsed, front_of, after_portions, arranged, IsSound, ◌≢◌}
+use Rattle.std.proofs.Common.{append_assoc}
 use Rattle.ent_alloc.proofs.Meaning.{rest_is}
-use Rattle.ent_alloc.specs.Sound.{IsSound}
 use Rattle.ent_alloc.proofs.FrontPools.{with_front-sound}
 use Rattle.ent_alloc.proofs.LaidOut.{flushed-laid_out}
 use Rattle.ent_alloc.proofs.Soundness.{after_take-sound}

@@ -1,16 +1,6 @@
 -- Portions of a list: where what was used of them ends, and what is left.
-use Rattle.std.proofs.Common.{rules, ◌≡◌, ◌⊎◌, inl, inr, refl, sym, ap, ◌∙◌, subst, ℕ, zero, suc, ◌+◌, ◌-◌, ◌<◌, ◌≤◌, List, [], ◌∷◌, ◌++◌, length, take, drop, get_or, map, arith, IsPermutation, append_assoc}
-use Rattle.std.proofs.lemmas.Grind.{common_steps}
-use Rattle.std.proofs.Math.Seq.{take-add, take-append-add, drop-append-add}
-use Rattle.std.proofs.lemmas.List.{take-append-drop, length-append, length-drop, drop-drop, length-take-le, append-nil, drop-append-le, drop_more, take_more, get_or-drop, take-append-le, drop-take, get_or_default}
-use Rattle.std.proofs.lemmas.List.Elements.{All-tail}
-use Rattle.std.proofs.lemmas.Option.{get_or_from_slice_get}
-use Rattle.std.specs.Prelude.{min, slice_get, Some}
-use Rattle.std.proofs.Math.Nat.{min-eq_left, min-eq_right}
-use Rattle.std.proofs.lemmas.Bool.{cases_lt}
-use Rattle.std.proofs.lemmas.List.Sorted.{IsPermutation-refl, IsPermutation-append_left, IsPermutation-append_right, IsPermutation-append_comm, IsPermutation-trans}
-use Rattle.ent_alloc.specs.declared.portion.Portion.{Portion}
-use Rattle.ent_alloc.specs.Portions.{used_of, left_of, size_of, count_of, reach_of, AreUsed, front_of}
+use Rattle.ent_alloc.proofs.Common.{rules, ◌≡◌, ◌⊎◌, inl, inr, refl, sym, ap, ◌∙◌, subst, ℕ, zero, suc, ◌+◌, ◌-◌, ◌<◌, ◌≤◌, List, [], ◌∷◌, ◌++◌, length, take, drop, get_or, map, arith, IsPermutation, common_steps, take-add, take-append-add, drop-append-add, take-append-drop, length-append, length-drop, drop-drop, length-take-le, append-nil, drop-append-le, drop_more, take_more, get_or-drop, take-append-le, drop-take, get_or_default, All-tail, get_or_from_slice_get, min, min-eq_left, min-eq_right, cases_lt, IsPermutation-refl, IsPermutation-append_left, IsPermutation-append_right, IsPermutation-append_comm, IsPermutation-trans, Portion, used_of, left_of, size_of, count_of, reach_of, AreUsed, front_of, slice_get, Some}
+use Rattle.std.proofs.Common.{append_assoc}
 
 pub first_used : (p : Portion) (ps : List Portion) → AreUsed (p ∷ ps) → p.used ≤ p.size
 first_used p ps fits = fits 0 p (omega arith)

@@ -1,21 +1,12 @@
 -- A slot whose occupant is freed, and waits for the next one or is retired: the vectors stay
 -- linked, and the roster loses the occupant.
-use Rattle.std.proofs.Common.{rules, ◌≡◌, ◌≢◌, ℕ, ◌+◌, ◌-◌, ◌<◌, ◌≤◌, true, false, List, [], ◌∷◌, ◌++◌, length, get_or, set, refl, arith, None, map}
+use Rattle.ent_alloc.proofs.Common.{rules, ◌≡◌, ◌≢◌, ℕ, ◌+◌, ◌-◌, ◌<◌, ◌≤◌, true, false, List, [], ◌∷◌, ◌++◌, length, get_or, set, refl, arith, None, map, cases_lt, cases_eq, false≢true, length-set, length_push, map_push, get_or-set_same, get_or-set_other, get_or_append_left, get_or_push, Handle, handle_cmp, handle_cmp_total, handle_cmp-IsAntisymmetric, Limits, following, SlotRecord, Pending, Retired, occupants, is_alive, row_of, record_at, no_slot, handle_at, rows_from, roster_of, AreLinked, common_steps}
 use Rattle.std.specs.FinSet as sets
 use Rattle.std.specs.FinMap as maps
-use Rattle.std.proofs.lemmas.Bool.{cases_lt, cases_eq, false≢true}
-use Rattle.std.proofs.lemmas.List.{length-set, length_push, map_push, get_or-set_same, get_or-set_other, get_or_append_left, get_or_push}
-use Rattle.ent_handle.specs.Handle.{Handle, handle_cmp, handle_cmp_total, handle_cmp-IsAntisymmetric}
 use Rattle.ent_alloc.proofs.ListLaws.{map_alike}
-use Rattle.ent_alloc.specs.Limits.{Limits}
-use Rattle.ent_alloc.specs.Sequential.{following}
-use Rattle.ent_alloc.specs.declared.slot_record.SlotRecord.{SlotRecord}
-use Rattle.ent_alloc.specs.declared.slot_record.Occupancy.TheVariants.{Pending, Retired}
-use Rattle.ent_alloc.specs.Slots.{occupants, is_alive, row_of, record_at, no_slot, handle_at, rows_from, roster_of, AreLinked}
 use Rattle.ent_alloc.proofs.Occupants.{is_occupant, contains_occupants, ties, one, length-occupants-set}
 use Rattle.ent_alloc.proofs.LivingOccupant.{occupant_made, occupant_alive}
 use Rattle.ent_alloc.proofs.KeptRows.{get_rows}
-use Rattle.std.proofs.lemmas.Grind.{common_steps}
 
 module _ (limits : Limits) (records : List SlotRecord) (pending : List ℕ) (live : ℕ) (h : Handle)
     (linked : AreLinked limits records pending live) (lives : is_occupant records h ≡ true) where

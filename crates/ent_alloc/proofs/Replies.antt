@@ -1,15 +1,7 @@
 -- What a served reply lists: handles of different slots, none of them alive, all of them taken, and
 -- none twice in two replies.
-use Rattle.std.proofs.Common.{rules, ◌≡◌, ◌≢◌, refl, sym, ap, subst, ℕ, ◌<◌, ◌≤◌, not, List, ◌++◌, length, take, reverse, filter, All, AllPairs, Contains, IsPermutation, Ok, Err, arith, le-leb}
-use Rattle.std.proofs.lemmas.Grind.{common_steps}
-use Rattle.std.proofs.lemmas.Bool.{lt-leb}
-use Rattle.std.proofs.lemmas.Bool.Decides.{nat_tests}
-use Rattle.std.proofs.lemmas.List.Elements.{All-take, Contains-append_right, All-contains_itself}
-use Rattle.std.proofs.lemmas.List.Sorted.{IsPermutation-refl, IsPermutation-sym, IsPermutation-trans, IsPermutation-append, IsPermutation-reverse, IsPermutation-filter_both, All-permutation}
-use Rattle.ent_handle.specs.Handle.{Handle}
-use Rattle.ent_alloc.specs.declared.space.Space.{Space}
-use Rattle.ent_alloc.specs.Sequential.{Allocator, available, after_take, listed, reply_to, is_old, is_fresh}
-use Rattle.ent_alloc.specs.Sound.{IsSound, AreApart, IsLive}
+use Rattle.ent_alloc.proofs.Common.{rules, ◌≡◌, ◌≢◌, refl, sym, ap, subst, ℕ, ◌<◌, ◌≤◌, not, List, ◌++◌, length, take, reverse, filter, All, AllPairs, Contains, IsPermutation, Ok, Err, arith, common_steps, lt-leb, nat_tests, All-take, Contains-append_right, All-contains_itself, IsPermutation-refl, IsPermutation-sym, IsPermutation-trans, IsPermutation-append, IsPermutation-reverse, IsPermutation-filter_both, All-permutation, Handle, Space, Allocator, available, after_take, listed, reply_to, is_old, is_fresh, IsSound, AreApart, IsLive}
+use Rattle.std.proofs.Common.{le-leb}
 use Rattle.ent_alloc.proofs.ListLaws.{AllPairs-right, AllPairs-take, AllPairs-IsPermutation, All-right}
 use Rattle.ent_alloc.proofs.Taken.{after_take-served}
 

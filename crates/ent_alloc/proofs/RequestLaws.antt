@@ -1,12 +1,7 @@
 -- All replies to requests in turn, taken together: no handle twice, none alive before, and a flush
 -- brings to life exactly those.
-use Rattle.std.proofs.Common.{rules, get_or, ◌≡◌, refl, ℕ, List, [], ◌∷◌, ◌++◌, All, AllPairs, Contains, IsPermutation, Ok, Err, ◌⊎◌, ◌↔◌, append-nil, append_assoc, inl, inr}
-use Rattle.std.proofs.lemmas.List.Sorted.{IsPermutation-refl, IsPermutation-sym, IsPermutation-trans, IsPermutation-append_left, All-permutation, Contains-permutation}
-use Rattle.ent_handle.specs.Handle.{Handle}
-use Rattle.ent_alloc.specs.Sequential.{Allocator, after_take, after_flush, reply_to}
-use Rattle.ent_alloc.specs.Sound.{IsSound, AreApart, IsLive}
-use Rattle.ent_alloc.specs.Spent.{AreSpent}
-use Rattle.ent_alloc.specs.History.{handles_in}
+use Rattle.ent_alloc.proofs.Common.{rules, get_or, ◌≡◌, refl, ℕ, List, [], ◌∷◌, ◌++◌, All, AllPairs, Contains, IsPermutation, Ok, Err, ◌⊎◌, ◌↔◌, inl, inr, IsPermutation-refl, IsPermutation-sym, IsPermutation-trans, IsPermutation-append_left, All-permutation, Contains-permutation, Handle, Allocator, after_take, after_flush, reply_to, IsSound, AreApart, IsLive, AreSpent, handles_in}
+use Rattle.std.proofs.Common.{append-nil, append_assoc}
 use Rattle.ent_alloc.proofs.ListLaws.{All-left, All-right, AllPairs-left, AllPairs-right, AllPairs-IsPermutation}
 use Rattle.ent_alloc.proofs.LaidOut.{flushed-laid_out}
 use Rattle.ent_alloc.proofs.PoolLaw.{after_takes, live-after_takes, after_takes-sound}

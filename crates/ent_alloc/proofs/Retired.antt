@@ -1,20 +1,10 @@
 -- How many slots are retired: all that were made but those of the living and those of the old
 -- handles that may be given.
-use Rattle.std.proofs.Common.{rules, ◌≡◌, ℕ, ◌+◌, ◌<◌, ◌≤◌, Bool, true, false, cond, not, ◌||◌, eqb, List, [], ◌∷◌, length, get_or, filter, refl, sym, ap, ◌∙◌, arith, suc, zero, All, AllPairs, Contains, true≢false}
-use Rattle.std.proofs.lemmas.Grind.{common_steps}
-use Rattle.std.specs.List.{count_by, range_with_len}
+use Rattle.ent_alloc.proofs.Common.{rules, ◌≡◌, ℕ, ◌+◌, ◌<◌, ◌≤◌, Bool, true, false, cond, not, ◌||◌, eqb, List, [], ◌∷◌, length, get_or, filter, refl, sym, ap, ◌∙◌, arith, suc, zero, All, AllPairs, Contains, true≢false, common_steps, count_by, range_with_len, cases_eq, eq-eqb, ne_eqb, eqb-true, false_from_ne_true, AllPairs-filter, sum_by-cons, All-head, All-tail, All-contains, Contains-get_or, Handle, handle_cmp, handle_cmp_total, handle_cmp-IsAntisymmetric, Allocator, available, top, is_old, has_slot, retired, stands_in, IsSound, AreApart, IsLive, Any-from_list_any, list_any_at, list_any_none}
 use Rattle.std.specs.FinSet as set
-use Rattle.std.proofs.lemmas.Bool.{cases_eq, eq-eqb, ne_eqb, eqb-true, false_from_ne_true}
-use Rattle.std.proofs.lemmas.List.Kept.{AllPairs-filter}
-use Rattle.std.proofs.lemmas.List.Sums.{sum_by-cons}
-use Rattle.std.proofs.lemmas.List.Elements.{All-head, All-tail, All-contains, Contains-get_or}
-use Rattle.ent_handle.specs.Handle.{Handle, handle_cmp, handle_cmp_total, handle_cmp-IsAntisymmetric}
-use Rattle.ent_alloc.specs.Sequential.{Allocator, available, top, is_old, has_slot, retired, stands_in}
-use Rattle.ent_alloc.specs.Sound.{IsSound, AreApart, IsLive}
 use Rattle.ent_alloc.proofs.ListLaws.{AllPairs-head, AllPairs-tail}
 use Rattle.ent_alloc.proofs.HandleSets.{Contains-from_stands_in, stands_in-from_Contains}
 use Rattle.ent_alloc.proofs.LaidOut.{old_ones, old_ones_below}
-use Rattle.std.proofs.lemmas.List.Folds.{Any-from_list_any, list_any_at, list_any_none}
 
 -- ---- counting numbers
 

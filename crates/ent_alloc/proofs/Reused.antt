@@ -1,15 +1,7 @@
 -- What becomes of the records when pending slots get their next occupants.
-use Rattle.std.proofs.Common.{rules, ◌≡◌, ◌≢◌, ℕ, ◌+◌, ◌<◌, ◌||◌, List, [], ◌∷◌, length, get_or, set, map, refl, arith, suc}
-use Rattle.std.proofs.lemmas.Grind.{common_steps}
-use Rattle.std.specs.List.{list_any}
-use Rattle.std.specs.Ordering.{eq_by_cmp}
+use Rattle.ent_alloc.proofs.Common.{rules, ◌≡◌, ◌≢◌, ℕ, ◌+◌, ◌<◌, ◌||◌, List, [], ◌∷◌, length, get_or, set, map, refl, arith, suc, common_steps, list_any, eq_by_cmp, get_or-set_other, length-set, Handle, handle_cmp, handle_cmp_total, handle_cmp-IsAntisymmetric, SlotRecord, Alive, Pending, occupants, record_at, rows_from, reuse, reused, handle_at}
 use Rattle.std.specs.FinSet as sets
-use Rattle.std.proofs.lemmas.List.{get_or-set_other, length-set}
-use Rattle.ent_handle.specs.Handle.{Handle, handle_cmp, handle_cmp_total, handle_cmp-IsAntisymmetric}
 use Rattle.ent_alloc.proofs.ListLaws.{map_alike}
-use Rattle.ent_alloc.specs.declared.slot_record.SlotRecord.{SlotRecord}
-use Rattle.ent_alloc.specs.declared.slot_record.Occupancy.TheVariants.{Alive, Pending}
-use Rattle.ent_alloc.specs.Slots.{occupants, record_at, rows_from, reuse, reused, handle_at}
 use Rattle.ent_alloc.proofs.Occupants.{is_occupant, contains_occupants, is_occupant-set, length-occupants-set, ties}
 use Rattle.ent_alloc.proofs.KeptRows.{rows_from-set}
 

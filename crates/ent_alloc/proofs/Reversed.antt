@@ -1,10 +1,5 @@
 -- A list from its other end.
-use Rattle.std.proofs.Common.{rules, ◌≡◌, ℕ, ◌-◌, Bool, List, ◌++◌, length, take, drop, reverse, sym, ap, ◌∙◌}
-use Rattle.std.specs.List.{list_any}
-use Rattle.std.proofs.lemmas.Bool.{cases_lt}
-use Rattle.std.proofs.lemmas.List.{length-reverse, length-drop, take-append-drop, take_all, drop_all, drop_at, take_at, reverse-append}
-use Rattle.ent_handle.specs.Handle.{Handle}
-use Rattle.std.proofs.lemmas.List.Sorted.{IsPermutation-reverse, list_any-IsPermutation}
+use Rattle.ent_alloc.proofs.Common.{rules, ◌≡◌, ℕ, ◌-◌, Bool, List, ◌++◌, length, take, drop, reverse, sym, ap, ◌∙◌, list_any, cases_lt, length-reverse, length-drop, take-append-drop, take_all, drop_all, drop_at, take_at, reverse-append, Handle, IsPermutation-reverse, list_any-IsPermutation}
 
 module _ {X : Type 0} (n : ℕ) (xs : List X) where
   -- how many stand before the last n

@@ -1,12 +1,7 @@
 -- Rows are kept of the living alone, whatever a call does.
-use Rattle.std.proofs.Common.{rules, ◌≡◌, true, false, cond, not, ◌&&◌, ℕ, List, refl, ap, ◌∙◌, None, Some, IsTrue, All}
-use Rattle.std.specs.Ordering.{eq_by_cmp}
+use Rattle.ent_alloc.proofs.Common.{rules, ◌≡◌, true, false, cond, not, ◌&&◌, ℕ, List, refl, ap, ◌∙◌, None, Some, IsTrue, All, eq_by_cmp, Handle, handle_cmp, handle_cmp_total, born, IsSound, Entities, HasRowsOfLiving}
 use Rattle.std.specs.FinSet as sets
 use Rattle.std.specs.FinMap as maps
-use Rattle.ent_handle.specs.Handle.{Handle, handle_cmp, handle_cmp_total}
-use Rattle.ent_alloc.specs.Sequential.{born}
-use Rattle.ent_alloc.specs.Sound.{IsSound}
-use Rattle.ent_alloc.specs.Entities.{Entities, HasRowsOfLiving}
 use Rattle.ent_alloc.proofs.HandleSets.{union_list_keeps, same_handle}
 use Rattle.ent_alloc.proofs.Flushes.{born-not_live}
 

@@ -1,10 +1,7 @@
 -- Two numbers tell what requests leave of a flushed allocator: how many handles were given, and how
 -- many were asked for.
-use Rattle.std.proofs.Common.{rules, ◌≡◌, ◌∙◌, ℕ, ◌+◌, ◌-◌, ◌≤◌, List, [], length, sum, append-nil}
-use Rattle.std.proofs.lemmas.List.{take_all, drop_all, length-take, length-drop}
-use Rattle.std.proofs.lemmas.List.Sorted.{length_permutation}
-use Rattle.ent_alloc.specs.Sequential.{Allocator, available, top, after_take, settled}
-use Rattle.ent_alloc.specs.Sound.{IsSound}
+use Rattle.ent_alloc.proofs.Common.{rules, ◌≡◌, ◌∙◌, ℕ, ◌+◌, ◌-◌, ◌≤◌, List, [], length, sum, take_all, drop_all, length-take, length-drop, length_permutation, Allocator, available, top, after_take, settled, IsSound}
+use Rattle.std.proofs.Common.{append-nil}
 use Rattle.ent_alloc.proofs.LaidOut.{flushed-laid_out}
 use Rattle.ent_alloc.proofs.Taken.{length-available, after_take-served}
 use Rattle.ent_alloc.proofs.PoolLaw.{limits-after_takes, live-after_takes, after_takes, after_takes-sound, available-after_takes, made-after_takes, asked-after_takes, taken_is, aside_is}

@@ -1,16 +1,7 @@
 -- Every step of the sequential allocator leads from a sound state to a sound state.
-use Rattle.std.proofs.Common.{rules, ◌≡◌, refl, sym, ap, ◌∙◌, subst, ℕ, zero, suc, ◌+◌, ◌-◌, ◌<◌, ◌≤◌, true≢false, List, [], ◌∷◌, ◌++◌, length, get_or, take, drop, All, AllPairs, arith, append-nil, lt-ltb, le-ltb, ◌≢◌, inl, inr, Some, None, Option}
-use Rattle.std.proofs.lemmas.Grind.{common_steps}
-use Rattle.std.specs.Option.{IfSome}
-use Rattle.std.proofs.lemmas.Bool.{cases_lt}
+use Rattle.ent_alloc.proofs.Common.{rules, ◌≡◌, refl, sym, ap, ◌∙◌, subst, ℕ, zero, suc, ◌+◌, ◌-◌, ◌<◌, ◌≤◌, true≢false, List, [], ◌∷◌, ◌++◌, length, get_or, take, drop, All, AllPairs, arith, ◌≢◌, inl, inr, Some, None, Option, common_steps, cases_lt, drop-drop, drop_all, All-drop, All-head, All-tail, All-nil, All-cons, All-weaker, All-filter, AllPairs-filter, AllPairs-cons, Handle, handle_cmp, Limits, AreLimits, Allocator, opening, available, after_take, after_flush, after_alloc, after_free, next, following, in_front, fresh, is_old, IsSound, IsWithin, AreApart, IsLive, IfSome}
+use Rattle.std.proofs.Common.{append-nil, lt-ltb, le-ltb}
 use Rattle.std.specs.FinSet as set
-use Rattle.std.proofs.lemmas.List.{drop-drop, drop_all}
-use Rattle.std.proofs.lemmas.List.Elements.{All-drop, All-head, All-tail, All-nil, All-cons, All-weaker, All-filter}
-use Rattle.std.proofs.lemmas.List.Kept.{AllPairs-filter, AllPairs-cons}
-use Rattle.ent_handle.specs.Handle.{Handle, handle_cmp}
-use Rattle.ent_alloc.specs.Limits.{Limits, AreLimits}
-use Rattle.ent_alloc.specs.Sequential.{Allocator, opening, available, after_take, after_flush, after_alloc, after_free, next, following, in_front, fresh, is_old}
-use Rattle.ent_alloc.specs.Sound.{IsSound, IsWithin, AreApart, IsLive}
 use Rattle.ent_alloc.proofs.ListLaws.{AllPairs-left, AllPairs-across, All-left, AllPairs-drop, AllPairs-head, AllPairs-tail}
 use Rattle.ent_alloc.proofs.FreshHandles.{fresh-next, fresh-none, first_of_slot}
 use Rattle.ent_alloc.proofs.HandleSets.{in_removed, one_occupant_inserted, one_occupant_joined, of_inserted, of_joined}

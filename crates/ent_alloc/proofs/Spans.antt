@@ -1,10 +1,5 @@
 -- The span of a request is one that the allocator can reply to.
-use Rattle.std.proofs.Common.{rules, ◌≡◌, ℕ, pos, ◌^◌, ◌<◌, ◌≤◌, ◌-ℤ◌}
-use Rattle.std.proofs.lemmas.Int.{ints}
-use Rattle.ent_alloc.specs.declared.span.Span.{Span}
-use Rattle.ent_alloc.specs.Sequential.{Allocator, cursor, after_take}
-use Rattle.ent_alloc.specs.Sound.{IsSound}
-use Rattle.ent_alloc.specs.Span.{IsSpanOf}
+use Rattle.ent_alloc.proofs.Common.{rules, ◌≡◌, ℕ, pos, ◌^◌, ◌<◌, ◌≤◌, ◌-ℤ◌, ints, Span, Allocator, cursor, after_take, IsSound, IsSpanOf}
 use Rattle.ent_alloc.proofs.PoolLaw.{top-after_take}
 
 requested : (s : Allocator) (n : ℕ) → IsSound s → s.asked ≤ 2 ^ 50 → n < 2 ^ 32

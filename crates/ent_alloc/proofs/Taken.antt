@@ -1,13 +1,6 @@
 -- What a request does to the lists of a sound allocator, and what is taken by all requests.
-use Rattle.std.proofs.Common.{rules, ◌≡◌, sym, ap, ◌∙◌, subst, ℕ, ◌+◌, ◌-◌, ◌<◌, ◌≤◌, List, [], ◌++◌, length, take, drop, filter, All, arith, le-leb, ◌⊎◌}
-use Rattle.std.proofs.lemmas.Grind.{common_steps}
-use Rattle.std.proofs.lemmas.Bool.{cases_lt, lt-leb}
-use Rattle.std.proofs.Math.Seq.{take-append_seam, drop-append_seam}
-use Rattle.std.proofs.lemmas.List.{length-append, length-drop}
-use Rattle.std.proofs.lemmas.List.Elements.{All-take, All-append, All-weaker}
-use Rattle.ent_handle.specs.Handle.{Handle}
-use Rattle.ent_alloc.specs.Sequential.{Allocator, top, available, after_take, after_flush, fresh, is_fresh}
-use Rattle.ent_alloc.specs.Sound.{IsSound}
+use Rattle.ent_alloc.proofs.Common.{rules, ◌≡◌, sym, ap, ◌∙◌, subst, ℕ, ◌+◌, ◌-◌, ◌<◌, ◌≤◌, List, [], ◌++◌, length, take, drop, filter, All, arith, ◌⊎◌, common_steps, cases_lt, lt-leb, take-append_seam, drop-append_seam, length-append, length-drop, All-take, All-append, All-weaker, Handle, Allocator, top, available, after_take, after_flush, fresh, is_fresh, IsSound}
+use Rattle.std.proofs.Common.{le-leb}
 use Rattle.ent_alloc.proofs.FreshHandles.{All-fresh, fresh_of_joined, take_joined, drop_joined, length-fresh}
 use Rattle.ent_alloc.proofs.LaidOut.{old_ones, old_ones_below}
 

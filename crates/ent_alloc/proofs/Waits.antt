@@ -1,20 +1,8 @@
 -- Slots that are made, and wait after all others: the vectors stay linked, and the roster has their
 -- first occupants.
-use Rattle.std.proofs.Common.{rules, ◌≡◌, inl, inr, ℕ, zero, suc, ◌+◌, ◌-◌, ◌<◌, ◌≤◌, refl, sym, ap, ◌∙◌, List, [], ◌∷◌, ◌++◌, length, get_or, map, arith}
-use Rattle.std.specs.List.{range_with_len}
+use Rattle.ent_alloc.proofs.Common.{rules, ◌≡◌, inl, inr, ℕ, zero, suc, ◌+◌, ◌-◌, ◌<◌, ◌≤◌, refl, sym, ap, ◌∙◌, List, [], ◌∷◌, ◌++◌, length, get_or, map, arith, range_with_len, common_steps, cases_lt, length-append, get_or_append_left, get_or-append-add, same_lists, get_or-map, length-map, append-nil, length-range_with_len, get_or-range_with_len, Handle, Limits, fresh, SlotRecord, Pending, record_at, no_slot, handle_at, occupants, rows_from, roster_of, AreLinked, waiting_at, new_waiting}
 use Rattle.std.specs.FinSet as sets
 use Rattle.std.specs.FinMap as maps
-use Rattle.std.proofs.lemmas.Grind.{common_steps}
-use Rattle.std.proofs.lemmas.Bool.{cases_lt}
-use Rattle.std.proofs.lemmas.List.{length-append, get_or_append_left, get_or-append-add, same_lists, get_or-map, length-map, append-nil}
-use Rattle.std.proofs.lemmas.List.FromFn.{length-range_with_len, get_or-range_with_len}
-use Rattle.ent_handle.specs.Handle.{Handle}
-use Rattle.ent_alloc.specs.Limits.{Limits}
-use Rattle.ent_alloc.specs.Sequential.{fresh}
-use Rattle.ent_alloc.specs.declared.slot_record.SlotRecord.{SlotRecord}
-use Rattle.ent_alloc.specs.declared.slot_record.Occupancy.TheVariants.{Pending}
-use Rattle.ent_alloc.specs.Slots.{record_at, no_slot, handle_at, occupants, rows_from, roster_of, AreLinked}
-use Rattle.ent_alloc.specs.Front.{waiting_at, new_waiting}
 use Rattle.ent_alloc.proofs.FreshHandles.{length-fresh, get_or-fresh}
 use Rattle.ent_alloc.proofs.Occupants.{occupants-append}
 

@@ -1,20 +1,8 @@
 -- What a call on a system's log draws from its block.
-use Rattle.std.proofs.Common.{rules, ◌≡◌, refl, sym, ap, ◌∙◌, ℕ, List, [], ◌∷◌, ◌++◌, take, append-nil, arith, Result, Ok, Err}
-use Rattle.std.specs.Prelude.{IfOk, OnOk, OnErr, IsErrOf}
-use Rattle.std.proofs.lemmas.Grind.{common_steps}
-use Rattle.ent_handle.specs.Handle.{Handle}
-use Rattle.ent_alloc.specs.Sequential.{reply_from, listed}
-use Rattle.ent_alloc.specs.declared.refused.Refused.{Refused}
+use Rattle.ent_block_runner.proofs.Common.{rules, ◌≡◌, refl, sym, ap, ◌∙◌, ℕ, List, [], ◌∷◌, ◌++◌, take, append-nil, arith, Result, Ok, Err, IfOk, OnOk, OnErr, IsErrOf, common_steps, Handle, reply_from, listed, Refused, ReserveError, Block, Entry, Spawn, spawned_in, returned, Source, DrawsOne, Draws, Filling, Extends}
 use Rattle.ent_alloc.specs.declared.refused.Refused.TheVariants as refused
-use Rattle.ent_alloc.specs.declared.reserve_error.ReserveError.{ReserveError}
 use Rattle.ent_alloc.specs.declared.reserve_error.ReserveError.TheVariants as failed
-use Rattle.ent_blocks.specs.Blocks.{Block}
-use Rattle.ent_log.specs.declared.entry.Entry.{Entry}
-use Rattle.ent_log.specs.declared.entry.Entry.TheVariants.{Spawn, Command}
-use Rattle.ent_log.specs.Logs.{spawned_in}
-use Rattle.ent_log.specs.Spawning.{returned}
-use Rattle.ent_block_runner.specs.Drawing.{Source, DrawsOne}
-use Rattle.ent_block_runner.specs.Filling.{Draws, Filling, Extends}
+use Rattle.ent_log.specs.declared.entry.Entry.TheVariants.{Command}
 
 single : (made : ℕ) (x : Handle) → listed made (x ∷ []) ≡ x ∷ []
 single made x = grind (arith, common_steps)

@@ -1,18 +1,5 @@
 -- Systems that filled logs as the jobs of a crew: each from its own block.
-use Rattle.std.proofs.Common.{◌≡◌, ℕ, zero, suc, ◌<◌, List, [], ◌∷◌, length, map, refl, sym, ◌∙◌, arith, Some, inl, inr, ⊎_elim, get_or}
-use Rattle.std.specs.Prelude.{slice_get}
-use Rattle.std.specs.List.{All}
-use Rattle.std.proofs.lemmas.Option.{get_or_from_slice_get, slice_get_within, slice_get-get_or}
-use Rattle.std.proofs.lemmas.List.{length-map}
-use Rattle.std.proofs.lemmas.List.Elements.{All-map}
-use Rattle.ent_blocks.specs.Blocks.{Block, Phase, Reserver, after_use, blocks_of}
-use Rattle.ent_log.specs.declared.entry.Entry.{Entry}
-use Rattle.ent_log.specs.Logs.{spawned_in}
-use Rattle.ent_runner.specs.Crew.{AreDone, AreBrokenOff}
-use Rattle.ent_runner.proofs.Lists.{mapped_at, get_mapped, at_within}
-use Rattle.ent_runner.proofs.EachOutput.{HoldsAt, each_done, each_either}
-use Rattle.ent_block_runner.specs.Filling.{Draws}
-use Rattle.ent_block_runner.specs.Running.{FillsAt, AreReady, HaveFilled, IsBrokenOff, log_at, blocks_after}
+use Rattle.ent_block_runner.proofs.Common.{◌≡◌, ℕ, zero, suc, ◌<◌, List, [], ◌∷◌, length, map, refl, sym, ◌∙◌, arith, Some, inl, inr, ⊎_elim, get_or, slice_get, get_or_from_slice_get, slice_get_within, slice_get-get_or, length-map, All-map, Block, Phase, Reserver, after_use, blocks_of, Entry, spawned_in, AreDone, AreBrokenOff, mapped_at, get_mapped, at_within, HoldsAt, each_done, each_either, Draws, FillsAt, AreReady, HaveFilled, IsBrokenOff, log_at, blocks_after, All}
 
 module _ {C : Type 0} where
   -- the logs that systems hand back, and the reservers

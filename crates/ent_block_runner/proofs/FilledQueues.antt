@@ -1,20 +1,6 @@
 -- Systems that filled queues as the jobs of a crew: each from its own block.
-use Rattle.std.proofs.Common.{◌≡◌, ℕ, zero, suc, ◌<◌, List, [], ◌∷◌, length, map, refl, sym, ◌∙◌, arith, Some, inl, inr, ⊎_elim, get_or}
-use Rattle.std.specs.Prelude.{slice_get}
-use Rattle.std.specs.List.{All}
-use Rattle.std.proofs.lemmas.Option.{get_or_from_slice_get, slice_get_within, slice_get-get_or}
-use Rattle.std.proofs.lemmas.List.{length-map}
-use Rattle.std.proofs.lemmas.List.Elements.{All-map}
-use Rattle.ent_blocks.specs.Blocks.{Block, Phase, Reserver, blocks_of}
-use Rattle.ent_queue.specs.Command.{Command}
-use Rattle.ent_queue.specs.Drawing.{AreDrawnBy, Draws, after_commands}
-use Rattle.ent_runner.specs.Crew.{AreDone, AreBrokenOff}
-use Rattle.ent_runner.specs.Frame.{queue_at}
-use Rattle.ent_runner.proofs.Lists.{mapped_at, get_mapped, at_within}
-use Rattle.ent_runner.proofs.EachOutput.{HoldsAt, each_done, each_either}
-use Rattle.ent_world.specs.OpenWorld.{View}
-use Rattle.ent_block_runner.specs.Running.{AreReady}
-use Rattle.ent_block_runner.specs.Queues.{IssuesAt, HaveIssued, HaveStopped, blocks_after_queues}
+use Rattle.ent_block_runner.proofs.Common.{◌≡◌, ℕ, zero, suc, ◌<◌, List, [], ◌∷◌, length, map, refl, sym, ◌∙◌, arith, Some, inl, inr, ⊎_elim, get_or, slice_get, get_or_from_slice_get, slice_get_within, slice_get-get_or, length-map, All-map, Block, Phase, Reserver, blocks_of, Command, AreDrawnBy, after_commands, AreDone, AreBrokenOff, queue_at, mapped_at, get_mapped, at_within, HoldsAt, each_done, each_either, View, AreReady, IssuesAt, HaveIssued, HaveStopped, blocks_after_queues, All}
+use Rattle.ent_queue.specs.Drawing.{Draws}
 
 -- the queues that systems hand back, and the reservers
 abbrev pub queues_of : List (List Command × Reserver) → List (List Command)

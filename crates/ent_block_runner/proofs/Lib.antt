@@ -2,3 +2,4 @@ pub mod Drawn
 pub mod Filled
 pub mod FilledQueues
 pub mod Whole
+pub mod Common

@@ -1,14 +1,6 @@
 -- Reservers of all blocks, in their order, still are so after systems have used the blocks.
-use Rattle.std.proofs.Common.{◌≡◌, refl, sym, ap, ◌∙◌, subst, arith, ℕ, suc, ◌-◌, ◌<◌, List, [], ◌∷◌, length, map, true, IsTrue}
-use Rattle.std.specs.Prelude.{if◌then◌else◌}
-use Rattle.std.proofs.lemmas.Grind.{common_steps}
-use Rattle.std.proofs.lemmas.List.{length-map}
-use Rattle.ent_blocks.specs.Blocks.{Block, unused, is_same, are_among}
-use Rattle.ent_blocks.specs.Faults.{IsMissing}
-use Rattle.ent_blocks.specs.declared.unended.EndError.{EndError}
+use Rattle.ent_block_runner.proofs.Common.{◌≡◌, refl, sym, ap, ◌∙◌, subst, arith, ℕ, suc, ◌-◌, ◌<◌, List, [], ◌∷◌, length, map, true, IsTrue, if◌then◌else◌, common_steps, length-map, Block, unused, is_same, are_among, IsMissing, EndError, Command, blocks_after_queues}
 use Rattle.ent_blocks.specs.declared.unended.EndError.TheVariants as unended
-use Rattle.ent_queue.specs.Command.{Command}
-use Rattle.ent_block_runner.specs.Queues.{blocks_after_queues}
 
 among_used : (blocks before : List Block) (queues : List (List Command))
     → are_among blocks (blocks_after_queues before queues) ≡ are_among blocks before

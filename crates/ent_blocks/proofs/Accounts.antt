@@ -1,8 +1,5 @@
 -- Reservers of some blocks, in their order, and what was used of all.
-use Rattle.std.proofs.Common.{rules, ◌≡◌, refl, sym, ap, ◌∙◌, ℕ, zero, suc, ◌+◌, ◌<◌, ◌≤◌, List, [], ◌∷◌, length, map, drop, get_or, arith, Bool, true, false}
-use Rattle.std.proofs.lemmas.Grind.{common_steps}
-use Rattle.std.proofs.lemmas.List.{drop_more, get_or-map, length-map, length-drop}
-use Rattle.ent_blocks.specs.Blocks.{Block, Reserver, unused, is_same, are_among, accounted, blocks_of, AreLaid}
+use Rattle.ent_blocks.proofs.Common.{rules, ◌≡◌, refl, sym, ap, ◌∙◌, ℕ, zero, suc, ◌+◌, ◌<◌, ◌≤◌, List, [], ◌∷◌, length, map, drop, get_or, arith, Bool, true, false, common_steps, drop_more, get_or-map, length-map, length-drop, Block, Reserver, unused, is_same, are_among, accounted, blocks_of, AreLaid}
 
 same_size : (b r : Block) → is_same b r ≡ true → b.size ≡ r.size
 same_size b r same = grind (arith, common_steps)

@@ -1,14 +1,6 @@
 -- Blocks that are dealt one after the other: where they lie in the pool, and what becomes of it.
-use Rattle.std.proofs.Common.{rules, ◌≡◌, refl, sym, ap, ◌∙◌, ℕ, zero, suc, ◌+◌, ◌-◌, ◌<◌, ◌≤◌, List, [], ◌∷◌, ◌++◌, length, take, drop, get_or, map, arith, Contains, append_assoc}
-use Rattle.std.specs.List.{flat_map}
-use Rattle.std.proofs.lemmas.Grind.{common_steps}
-use Rattle.std.proofs.lemmas.List.{drop_more, drop-drop}
-use Rattle.ent_handle.specs.Handle.{Handle}
-use Rattle.ent_alloc.specs.Sequential.{Allocator}
+use Rattle.ent_blocks.proofs.Common.{rules, ◌≡◌, refl, sym, ap, ◌∙◌, ℕ, zero, suc, ◌+◌, ◌-◌, ◌<◌, ◌≤◌, List, [], ◌∷◌, ◌++◌, length, take, drop, get_or, map, arith, Contains, append_assoc, flat_map, common_steps, drop_more, drop-drop, Handle, Allocator, left_of, size_of, count_of, after_portions, AreUsed, first_used, others_used, length-used, take_of_take, Block, used_of, rest_of, dealt, lesser, blocks_from, portion_of, portions_of, after_blocks, unused, AreLaid}
 use Rattle.ent_alloc.specs.Portions as portions
-use Rattle.ent_alloc.specs.Portions.{left_of, size_of, count_of, after_portions, AreUsed}
-use Rattle.ent_alloc.proofs.Portioned.{first_used, others_used, length-used, take_of_take}
-use Rattle.ent_blocks.specs.Blocks.{Block, used_of, rest_of, dealt, lesser, blocks_from, portion_of, portions_of, after_blocks, unused, AreLaid}
 
 add-zero : (n : ℕ) → n + 0 ≡ n
 add-zero n = omega arith

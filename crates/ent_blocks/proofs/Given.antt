@@ -1,16 +1,6 @@
 -- What was used of the blocks: no handle twice, none that was alive, and a flush brings to life just
 -- these.
-use Rattle.std.proofs.Common.{rules, ◌≡◌, ◌≢◌, ◌⊎◌, ◌↔◌, inl, inr, ap, ◌≤◌, List, ◌++◌, length, get_or, map, All, AllPairs, Contains}
-use Rattle.std.specs.List.{flat_map}
-use Rattle.ent_handle.specs.Handle.{Handle}
-use Rattle.ent_alloc.specs.Sequential.{Allocator, after_flush}
-use Rattle.ent_alloc.specs.Sound.{IsSound, AreApart, IsLive}
-use Rattle.ent_alloc.specs.Portions.{AreUsed}
-use Rattle.ent_alloc.proofs.PortionPools.{after_portions-sound}
-use Rattle.ent_alloc.proofs.Flushes.{live-after_flush, live-stays, taken-lives}
-use Rattle.ent_alloc.proofs.ListLaws.{All-left, AllPairs-left}
-use Rattle.ent_alloc.proofs.Replies.{not_apart}
-use Rattle.ent_blocks.specs.Blocks.{Block, used_of, dealt, unused, AreLaid, portions_of, after_blocks}
+use Rattle.ent_blocks.proofs.Common.{rules, ◌≡◌, ◌≢◌, ◌⊎◌, ◌↔◌, inl, inr, ap, ◌≤◌, List, ◌++◌, length, get_or, map, All, AllPairs, Contains, flat_map, Handle, Allocator, after_flush, IsSound, AreApart, IsLive, AreUsed, after_portions-sound, live-after_flush, live-stays, taken-lives, All-left, AllPairs-left, not_apart, Block, used_of, dealt, unused, AreLaid, portions_of, after_blocks}
 use Rattle.ent_blocks.proofs.Dealing.{closed_is, portions_within}
 
 module _ (s : Allocator) (blocks : List Block) (sound : IsSound s) (flushed : s.asked ≡ 0)

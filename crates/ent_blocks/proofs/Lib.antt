@@ -5,3 +5,4 @@ pub mod Accounts
 pub mod Phases
 pub mod Openings
 pub mod Waiting
+pub mod Common

@@ -1,8 +1,5 @@
 -- What an opening leaves: the blocks lie in the pool.
-use Rattle.std.proofs.Common.{rules, ◌≡◌, refl, ℕ, zero, suc, ◌+◌, ◌-◌, ◌^◌, ◌<◌, List, [], ◌∷◌, length, get_or, arith}
-use Rattle.ent_alloc.specs.Sequential.{Allocator}
-use Rattle.ent_alloc.specs.Sound.{IsSound}
-use Rattle.ent_blocks.specs.Blocks.{Block, blocks_from, dealt, lesser, AreDealt, AreLaid}
+use Rattle.ent_blocks.proofs.Common.{rules, ◌≡◌, refl, ℕ, zero, suc, ◌+◌, ◌-◌, ◌^◌, ◌<◌, List, [], ◌∷◌, length, get_or, arith, Allocator, IsSound, Block, blocks_from, dealt, lesser, AreDealt, AreLaid}
 use Rattle.ent_blocks.proofs.Dealing.{laid_from, dealt_from}
 
 pub are_dealt : (s : Allocator) (sizes : List ℕ) → IsSound s → s.asked ≡ 0

@@ -1,7 +1,5 @@
 -- What a phase says of a reserver's block, and of all blocks as they come back.
-use Rattle.std.proofs.Common.{rules, ◌≡◌, sym, subst, ℕ, ◌+◌, ◌^◌, ◌<◌, ◌≤◌, List, length, map, arith}
-use Rattle.ent_alloc.specs.Sequential.{Allocator}
-use Rattle.ent_blocks.specs.Blocks.{Block, Blocks, dealt, unused, IsOf, AreLaid, AreDealt, accounted}
+use Rattle.ent_blocks.proofs.Common.{rules, ◌≡◌, sym, subst, ℕ, ◌+◌, ◌^◌, ◌<◌, ◌≤◌, List, length, map, arith, Allocator, Block, Blocks, dealt, unused, IsOf, AreLaid, AreDealt, accounted}
 use Rattle.ent_blocks.proofs.Dealing.{of_phase, dealt-unused}
 use Rattle.ent_blocks.proofs.Accounts.{unused_accounted}
 

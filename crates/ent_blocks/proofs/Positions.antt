@@ -1,18 +1,5 @@
 -- A position of the pool, from its front, and what a request finds there.
-use Rattle.std.proofs.Common.{rules, ◌≡◌, refl, sym, ap, ◌∙◌, ℕ, zero, suc, ℤ, pos, ◌-ℤ◌, ◌+◌, ◌-◌, ◌<◌, ◌≤◌, List, [], ◌∷◌, ◌++◌, length, take, drop, get_or, arith, Ok, Err, slice_get, Some, Result}
-use Rattle.std.proofs.lemmas.Grind.{common_steps}
-use Rattle.std.proofs.lemmas.Bool.{le-leb, lt-leb}
-use Rattle.std.proofs.lemmas.List.{get_or-drop, length-drop, take_more, drop_more, drop-take, length-take-le, drop-drop}
-use Rattle.std.proofs.lemmas.List.Sorted.{length_permutation}
-use Rattle.std.proofs.lemmas.Option.{get_or_from_slice_get, slice_get_read}
-use Rattle.ent_handle.specs.Handle.{Handle}
-use Rattle.ent_alloc.specs.declared.space.Space.{Space}
-use Rattle.ent_alloc.specs.Sequential.{Allocator, available, top, cursor, asked_at, pool_at, reply_from, listed, listed_alone}
-use Rattle.ent_alloc.specs.Sound.{IsSound}
-use Rattle.ent_alloc.proofs.Meaning.{asked_at-is}
-use Rattle.ent_alloc.proofs.LaidOut.{flushed-laid_out}
-use Rattle.ent_alloc.proofs.Replies.{listed-IsPermutation}
-use Rattle.ent_blocks.specs.Blocks.{Block, used_of, rest_of}
+use Rattle.ent_blocks.proofs.Common.{rules, ◌≡◌, refl, sym, ap, ◌∙◌, ℕ, zero, suc, ℤ, pos, ◌-ℤ◌, ◌+◌, ◌-◌, ◌<◌, ◌≤◌, List, [], ◌∷◌, ◌++◌, length, take, drop, get_or, arith, Ok, Err, slice_get, Some, Result, common_steps, le-leb, lt-leb, get_or-drop, length-drop, take_more, drop_more, drop-take, length-take-le, drop-drop, length_permutation, get_or_from_slice_get, slice_get_read, Handle, Space, Allocator, available, top, cursor, asked_at, pool_at, reply_from, listed, listed_alone, IsSound, asked_at-is, flushed-laid_out, listed-IsPermutation, Block, used_of, rest_of}
 
 -- one more of what begins at a position
 pub list_more : (pool : List Handle) (from more : ℕ) (h : Handle) → slice_get pool (from + more) ≡ Some h

@@ -1,21 +1,6 @@
 -- How many slots wait after a close: those that waited before, or no more than were dealt.
-use Rattle.std.proofs.Common.{rules, ◌≡◌, ◌≢◌, ◌⊎◌, inl, inr, sym, ap, ◌∙◌, subst, ◌-◌, ◌≤◌, max, List, length, take, map, arith, length-append, length-drop, length-take-le}
-use Rattle.std.proofs.lemmas.List.Sorted.{length_permutation}
-use Rattle.std.proofs.lemmas.Bool.{cases_eq}
-use Rattle.std.proofs.lemmas.Grind.{common_steps}
-use Rattle.ent_handle.specs.Handle.{Handle}
-use Rattle.ent_alloc.specs.Front.{with_front}
-use Rattle.ent_alloc.specs.Portions.{AreUsed, arranged, after_portions, front_of, count_of, reach_of, size_of}
-use Rattle.ent_alloc.specs.Sequential.{Allocator, available, top}
-use Rattle.ent_alloc.specs.Sound.{IsSound}
-use Rattle.ent_alloc.specs.declared.portion.Portion.{Portion}
-use Rattle.ent_alloc.proofs.FrontPools.{with_front-sound}
-use Rattle.ent_alloc.proofs.LaidOut.{flushed-laid_out}
-use Rattle.ent_alloc.proofs.PoolLaw.{top-after_take}
-use Rattle.ent_alloc.proofs.PortionPools.{portions_taken}
-use Rattle.ent_alloc.proofs.Portioned.{front_same, reach_within}
-use Rattle.ent_alloc.proofs.Taken.{length-available}
-use Rattle.ent_blocks.specs.Blocks.{Block, dealt, unused, AreLaid, portions_of, after_blocks}
+use Rattle.ent_blocks.proofs.Common.{rules, ◌≡◌, ◌≢◌, ◌⊎◌, inl, inr, sym, ap, ◌∙◌, subst, ◌-◌, ◌≤◌, max, List, length, take, map, arith, length-append, length_permutation, cases_eq, common_steps, Handle, with_front, AreUsed, arranged, after_portions, front_of, count_of, reach_of, size_of, Allocator, available, top, IsSound, Portion, with_front-sound, flushed-laid_out, top-after_take, portions_taken, front_same, reach_within, length-available, Block, dealt, unused, AreLaid, portions_of, after_blocks}
+use Rattle.std.proofs.Common.{length-drop, length-take-le}
 use Rattle.ent_blocks.proofs.Dealing.{closed_is, portions_within, size-portions}
 
 module _ (s : Allocator) (ps : List Portion) (sound : IsSound s) (flushed : s.asked ≡ 0) (fits : AreUsed ps)

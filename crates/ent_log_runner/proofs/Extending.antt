@@ -1,7 +1,6 @@
 -- For who writes a system that fills a log: what its calls add up to. Put
 -- `#[tactic(auto, using(ent_log_runner::proofs::Extending::extends_then))]` above it.
-use Rattle.std.proofs.Common.{refl, sym, ap, ◌∙◌, [], ◌++◌, append-nil, append_assoc}
-use Rattle.ent_log_runner.specs.Logging.{Filled, IsReady, Extends}
+use Rattle.ent_log_runner.proofs.Common.{refl, sym, ap, ◌∙◌, [], ◌++◌, append-nil, append_assoc, Filled, IsReady, Extends}
 use Rattle.ent_log_runner.proofs.Gaining.{log_gains_nothing, log_gains_then}
 
 -- where nothing is entered: on a path without a call, and before the first turn of a loop

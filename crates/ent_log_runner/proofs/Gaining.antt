@@ -1,26 +1,8 @@
 -- What a call on a system's log adds to it.
-use Rattle.std.proofs.Common.{rules, ◌≡◌, refl, sym, ap, ◌∙◌, List, [], ◌∷◌, ◌++◌, append-nil, append_assoc, subst, All, arith, Result, Ok, Err, inl, inr}
-use Rattle.std.proofs.lemmas.List.Elements.{All-nil, All-cons, All-append}
-use Rattle.std.specs.Prelude.{IfOk, OnOk, OnErr, IsErrOf}
-use Rattle.std.proofs.lemmas.Bool.{cases_lt}
-use Rattle.std.proofs.lemmas.List.{map-append}
-use Rattle.ent_handle.specs.Handle.{Handle}
-use Rattle.ent_alloc.specs.declared.refused.Refused.{Refused}
+use Rattle.ent_log_runner.proofs.Common.{rules, ◌≡◌, refl, sym, ap, ◌∙◌, List, [], ◌∷◌, ◌++◌, append-nil, append_assoc, subst, arith, Result, Ok, Err, inl, inr, All-nil, All-cons, All-append, IfOk, OnOk, OnErr, IsErrOf, cases_lt, map-append, Handle, Refused, ReserveError, Record, Reservation, reservation_at, handles_given, Shared, Reserver, Entry, Spawn, Command, spawned_in, spawned_by, returned, Lent, RepliesOne, ReservesOne, HasGained, Extends, IsReady, LogGains, Filled}
+use Rattle.std.proofs.Common.{All}
 use Rattle.ent_alloc.specs.declared.refused.Refused.TheVariants as refused
-use Rattle.ent_alloc.specs.declared.reserve_error.ReserveError.{ReserveError}
 use Rattle.ent_alloc.specs.declared.reserve_error.ReserveError.TheVariants as failed
-use Rattle.ent_shared.specs.declared.record.Record.{Record}
-use Rattle.ent_shared.specs.declared.record.Reservation.{Reservation}
-use Rattle.ent_shared.specs.Record.{reservation_at}
-use Rattle.ent_shared.specs.Order.{handles_given}
-use Rattle.ent_shared.specs.Phase.{Shared, Reserver}
-use Rattle.ent_log.specs.declared.entry.Entry.{Entry}
-use Rattle.ent_log.specs.declared.entry.Entry.TheVariants.{Spawn, Command}
-use Rattle.ent_log.specs.Logs.{spawned_in, spawned_by}
-use Rattle.ent_log.specs.Spawning.{returned}
-use Rattle.ent_log_runner.specs.declared.lent.Lent.{Lent}
-use Rattle.ent_log_runner.specs.Lending.{RepliesOne, ReservesOne}
-use Rattle.ent_log_runner.specs.Logging.{HasGained, Extends, IsReady, LogGains, Filled}
 
 abbrev gained_nothing : (r : Record) → HasGained r r
 gained_nothing r = record { number = refl; reservations = []; entries = sym (append-nil r.entries) }

@@ -3,3 +3,4 @@ pub mod Logged
 pub mod Reserved
 pub mod Nothing
 pub mod Extending
+pub mod Common

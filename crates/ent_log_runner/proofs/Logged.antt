@@ -1,29 +1,5 @@
 -- What a crew did whose jobs are systems that fill logs, and the history of its reservers.
-use Rattle.std.proofs.Common.{◌≡◌, ℕ, zero, suc, ◌+◌, ◌<◌, List, [], ◌∷◌, length, map, get_or, refl, ap, ◌∙◌, ◌++◌, ◌-◌, arith, subst, Some, inl, inr, ◌⊎◌, ⊎_elim}
-use Rattle.std.specs.Prelude.{slice_get, ◌==◌}
-use Rattle.std.specs.List.{All, AllPairs, flat_map, range_with_len}
-use Rattle.std.specs.List.Sorted.{IsPermutation}
-use Rattle.std.proofs.lemmas.Fn.{FoldsTo-push}
-use Rattle.std.proofs.lemmas.Option.{slice_get_within, slice_get-get_or, get_or_from_slice_get}
-use Rattle.std.proofs.lemmas.List.{length-append, get_or_push}
-use Rattle.std.proofs.lemmas.List.Quantifiers.{all_pairs_push}
-use Rattle.std.proofs.lemmas.List.Elements.{All-nil, All-cons, All-map}
-use Rattle.std.proofs.lemmas.List.FromFn.{get_or-range_with_len, length-range_with_len}
-use Rattle.std.proofs.lemmas.List.Sorted.{All-permutation}
-use Rattle.ent_alloc.specs.Sequential.{Allocator}
-use Rattle.ent_alloc.specs.History.{Call, IsLegal, after_history, given_in}
-use Rattle.ent_shared.specs.declared.record.Reservation.{Reservation}
-use Rattle.ent_shared.specs.declared.record.RecordEntry.TheVariants.{Own}
-use Rattle.ent_shared.specs.declared.record.Record.{Record}
-use Rattle.ent_shared.specs.Record.{opened, opened_records, own_reservations}
-use Rattle.ent_shared.specs.Order.{own_of_all, reservations_of, reservations_by, history_of, as_call, Respects, handles_of}
-use Rattle.ent_shared.proofs.Sorting.{all_sorted}
-use Rattle.ent_log.specs.declared.entry.Entry.{Entry}
-use Rattle.ent_log.specs.Logs.{spawned_in}
-use Rattle.ent_runner.specs.Crew.{DoesAt, DidAll, DidUntil, AreDone, AreBrokenOff}
-use Rattle.ent_runner.proofs.Lists.{each_of_all, all_flat, all_from_each, filter_map_is, at_within}
-use Rattle.ent_log_runner.specs.Logging.{LogGains}
-use Rattle.ent_log_runner.specs.Running.{HaveRun, HaveLogged, IsBrokenOff, SystemMayLog, log_at, SystemMayHaveLogged, entries_by, given_to}
+use Rattle.ent_log_runner.proofs.Common.{◌≡◌, ℕ, zero, suc, ◌+◌, ◌<◌, List, [], ◌∷◌, length, map, get_or, refl, ap, ◌∙◌, ◌++◌, ◌-◌, arith, subst, Some, inl, inr, ◌⊎◌, ⊎_elim, slice_get, ◌==◌, All, AllPairs, flat_map, range_with_len, IsPermutation, FoldsTo-push, slice_get_within, slice_get-get_or, get_or_from_slice_get, length-append, get_or_push, all_pairs_push, All-nil, All-cons, All-map, get_or-range_with_len, length-range_with_len, All-permutation, Allocator, Call, IsLegal, after_history, given_in, Reservation, Own, Record, opened, opened_records, own_reservations, own_of_all, reservations_of, reservations_by, history_of, as_call, Respects, handles_of, all_sorted, Entry, spawned_in, DoesAt, DidAll, DidUntil, AreDone, AreBrokenOff, each_of_all, all_flat, all_from_each, filter_map_is, at_within, LogGains, HaveRun, HaveLogged, IsBrokenOff, SystemMayLog, log_at, SystemMayHaveLogged, entries_by, given_to}
 use Rattle.ent_log_runner.proofs.Gaining.{log_gains_nothing, log_gains_then}
 
 own_mapped : (rs : List Reservation) → own_reservations (map Own rs) ≡ rs

@@ -1,13 +1,5 @@
 -- What holds of a run of no systems.
-use Rattle.std.proofs.Common.{◌≡◌, ℕ, ◌<◌, List, [], ◌∷◌, length, refl, arith}
-use Rattle.std.specs.Prelude.{replicate}
-use Rattle.std.proofs.lemmas.List.{length-replicate}
-use Rattle.std.proofs.lemmas.List.Elements.{All-nil}
-use Rattle.ent_alloc.specs.Sequential.{Allocator}
-use Rattle.ent_alloc.specs.History.{Call}
-use Rattle.ent_log.specs.declared.entry.Entry.{Entry}
-use Rattle.ent_runner.proofs.NoSystems.{no_jobs, none_once, all_rise, is_none}
-use Rattle.ent_log_runner.specs.Running.{HaveLogged}
+use Rattle.ent_log_runner.proofs.Common.{◌≡◌, ℕ, ◌<◌, List, [], ◌∷◌, length, refl, arith, replicate, length-replicate, All-nil, Allocator, Call, Entry, no_jobs, none_once, all_rise, is_none, HaveLogged}
 
 logged_none : {C S : Type 0} (may : S → List (Entry C) → Type 0) (workers : ℕ) (s : Allocator)
     → HaveLogged may [] workers s [] s

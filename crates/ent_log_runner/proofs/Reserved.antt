@@ -1,23 +1,5 @@
 -- The handles of all spawns are reserved in the allocator after the run.
-use Rattle.std.proofs.Common.{rules, ◌≡◌, ℕ, ◌<◌, List, [], ◌∷◌, refl, ap, ◌∙◌, sym, subst, arith, get_or, Bool, true, false, None}
-use Rattle.std.specs.Prelude.{filter, ◌==◌, if◌then◌else◌, IsTrue}
-use Rattle.std.specs.List.{All}
-use Rattle.std.proofs.lemmas.Grind.{common_steps}
-use Rattle.std.proofs.lemmas.Option.{slice_get_within}
-use Rattle.std.proofs.lemmas.List.Elements.{All-nil, All-cons, All-head, All-tail, All-append, Contains-get_or}
-use Rattle.std.proofs.lemmas.List.Sorted.{All-permutation, IsPermutation-sym}
-use Rattle.ent_handle.specs.Handle.{Handle}
-use Rattle.ent_alloc.specs.Sequential.{Allocator, state_of, stands_in}
-use Rattle.ent_alloc.specs.Sound.{IsSound, IsLive}
-use Rattle.ent_alloc.proofs.Histories.{given_in-taken, given_in-not_live, after_history-takes}
-use Rattle.ent_alloc.proofs.PoolLaw.{live-after_takes}
-use Rattle.ent_alloc.proofs.HandleSets.{stands_in-from_Contains}
-use Rattle.ent_alloc.specs.History.{Call, given_in, handles_in, after_history, requests_of}
-use Rattle.ent_alloc.proofs.ListLaws.{All-left, All-right}
-use Rattle.ent_log.specs.declared.entry.Entry.{Entry}
-use Rattle.ent_log.specs.Logs.{spawned_in, entries_of, first_unreserved, is_reserved}
-use Rattle.ent_runner.proofs.Lists.{all_from_each}
-use Rattle.ent_log_runner.specs.Running.{HaveRun, log_at, entries_by}
+use Rattle.ent_log_runner.proofs.Common.{rules, ◌≡◌, ℕ, ◌<◌, List, [], ◌∷◌, refl, ap, ◌∙◌, sym, subst, arith, get_or, Bool, true, false, None, filter, ◌==◌, if◌then◌else◌, IsTrue, All, common_steps, slice_get_within, All-nil, All-cons, All-head, All-tail, All-append, Contains-get_or, All-permutation, IsPermutation-sym, Handle, Allocator, state_of, stands_in, IsSound, IsLive, given_in-taken, given_in-not_live, after_history-takes, live-after_takes, stands_in-from_Contains, Call, given_in, handles_in, after_history, requests_of, All-left, All-right, Entry, spawned_in, entries_of, first_unreserved, is_reserved, all_from_each, HaveRun, log_at, entries_by}
 use Rattle.ent_log_runner.proofs.Gaining.{spawned_both}
 use Rattle.ent_log_runner.proofs.Logged.{everywhere, log_is}
 

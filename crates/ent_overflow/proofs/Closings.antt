@@ -1,17 +1,6 @@
 -- What the end of a phase says, of the phase and of its callers.
-use Rattle.std.proofs.Common.{rules, ◌≡◌, ◌≢◌, ap, ◌∙◌, ◌+◌, ◌≤◌, ◌<ℤ◌, List, [], ◌∷◌, ◌↔◌, length, take, drop, sum, All, AllPairs, Contains}
-use Rattle.std.proofs.lemmas.List.Elements.{All-nil, All-cons, All-head, All-tail}
-use Rattle.ent_handle.specs.Handle.{Handle}
-use Rattle.ent_alloc.specs.Sequential.{Allocator, after_take, before_requests}
+use Rattle.ent_overflow.proofs.Common.{rules, ◌≡◌, ◌≢◌, ap, ◌∙◌, ◌+◌, ◌≤◌, ◌<ℤ◌, List, [], ◌∷◌, ◌↔◌, length, take, drop, sum, All, AllPairs, Contains, All-nil, All-cons, All-head, All-tail, Handle, Allocator, after_take, before_requests, after_history-takes, AllPairs-across, dealt, Record, own_reservations, reservations_of, history_of, Respects, IsReserverOf, Phase, Caller, IsOf, IsPhase, IsInOrder, past_of, past_records, past_history}
 use Rattle.ent_alloc.specs.History as history
-use Rattle.ent_alloc.proofs.Histories.{after_history-takes}
-use Rattle.ent_alloc.proofs.ListLaws.{AllPairs-across}
-use Rattle.ent_blocks.specs.Blocks.{dealt}
-use Rattle.ent_shared.specs.declared.record.Record.{Record}
-use Rattle.ent_shared.specs.Record.{own_reservations}
-use Rattle.ent_shared.specs.Order.{reservations_of, history_of, Respects}
-use Rattle.ent_shared.specs.Phase.{IsOf as IsReserverOf}
-use Rattle.ent_overflow.specs.Overflow.{Phase, Caller, IsOf, IsPhase, IsInOrder, past_of, past_records, past_history}
 use Rattle.ent_overflow.proofs.Splitting.{AreBehind, Splits, all_behind, splits}
 use Rattle.ent_overflow.proofs.Endings as ends
 

@@ -1,27 +1,5 @@
 -- The dealer's one reservation, and the reservers that come after it.
-use Rattle.std.proofs.Common.{rules, ◌≡◌, refl, sym, ap, ◌∙◌, subst, ℕ, zero, suc, ◌+◌, ◌^◌, ◌<◌, ◌≤ℤ◌, List, [], ◌∷◌, ◌++◌, length, take, get_or, arith, Contains, All}
-use Rattle.std.specs.Prelude.{Result}
-use Rattle.std.proofs.lemmas.List.{get_or_default, map-append, take_more}
-use Rattle.std.proofs.lemmas.List.Elements.{All-nil, All-head, All-tail}
-use Rattle.std.proofs.lemmas.Int.{ints}
-use Rattle.ent_handle.specs.Handle.{Handle}
-use Rattle.ent_alloc.specs.Limits.{quota}
-use Rattle.ent_alloc.specs.Sequential.{Allocator}
-use Rattle.ent_alloc.specs.Sound.{IsSound}
-use Rattle.ent_alloc.specs.declared.refused.Refused.{Refused}
-use Rattle.ent_blocks.specs.Blocks.{Block, dealt, unused, blocks_from, AreLaid, AreDealt}
-use Rattle.ent_shared.specs.declared.record.RecordEntry.{RecordEntry}
-use Rattle.ent_shared.specs.declared.record.RecordEntry.TheVariants.{Met}
-use Rattle.ent_shared.specs.declared.record.Reservation.{Reservation}
-use Rattle.ent_shared.specs.declared.record.Record.{Record}
-use Rattle.ent_shared.specs.Record.{reservation_at, after_reservation, own_reservations, known_reservations}
-use Rattle.ent_shared.specs.Moves.{after_meeting}
-use Rattle.ent_shared.specs.Phase.{Shared, Reserver, IsOf as IsReserverOf}
-use Rattle.ent_shared.specs.Replies.{Reserves}
-use Rattle.ent_shared.specs.Order.{own_of_all}
-use Rattle.ent_alloc.proofs.ListLaws.{All-left, All-right}
-use Rattle.ent_blocks.proofs.Openings.{none_used, are_dealt, length-from}
-use Rattle.ent_overflow.specs.Overflow.{Phase, Caller, IsOf, IsFresh, IsPhase, HasDealt, IsDealer, past_records, past_history, blocks_of}
+use Rattle.ent_overflow.proofs.Common.{rules, ◌≡◌, refl, sym, ap, ◌∙◌, subst, ℕ, zero, suc, ◌+◌, ◌^◌, ◌<◌, ◌≤ℤ◌, List, [], ◌∷◌, ◌++◌, length, take, get_or, arith, Contains, All, Result, get_or_default, map-append, take_more, All-nil, All-head, All-tail, ints, Handle, quota, Allocator, IsSound, Refused, Block, dealt, unused, blocks_from, AreLaid, AreDealt, RecordEntry, Met, Reservation, Record, reservation_at, after_reservation, own_reservations, known_reservations, after_meeting, Shared, Reserver, IsReserverOf, Reserves, own_of_all, All-left, All-right, none_used, are_dealt, length-from, Phase, Caller, IsOf, IsFresh, IsPhase, HasDealt, IsDealer, past_records, past_history, blocks_of}
 
 -- a reserver that has done nothing has its whole quota
 pub whole_quota : (s : Shared) (r : Reserver) → IsReserverOf s r → r.own.entries ≡ [] → r.own.left ≡ quota

@@ -1,25 +1,7 @@
 -- The end of a phase, in the numbers of its code.
-use Rattle.std.proofs.Common.{rules, ◌≡◌, refl, ap, ◌∙◌, subst, ℕ, zero, suc, ◌+◌, ◌≤◌, List, [], ◌∷◌, ◌++◌, map, All, AllPairs, Contains, ◌↔◌, arith, length, take, drop, sum, IsPermutation, length-append, inl, inr}
-use Rattle.std.proofs.lemmas.Grind.{common_steps}
-use Rattle.std.proofs.lemmas.List.{length-take-le, length-take, map-append}
-use Rattle.std.proofs.lemmas.List.Sums.{sum_by-cons}
-use Rattle.std.proofs.lemmas.List.Elements.{All-contains, Contains-append_right, Contains-append_cases}
-use Rattle.std.proofs.lemmas.List.Sorted.{length_permutation, Contains-permutation, IsPermutation-sym}
-use Rattle.std.proofs.Math.Seq.{take-add}
-use Rattle.ent_handle.specs.Handle.{Handle}
-use Rattle.ent_alloc.specs.Sequential.{Allocator, available, after_take, before_requests}
+use Rattle.ent_overflow.proofs.Common.{rules, ◌≡◌, refl, ap, ◌∙◌, subst, ℕ, zero, suc, ◌+◌, ◌≤◌, List, [], ◌∷◌, ◌++◌, map, All, AllPairs, Contains, ◌↔◌, arith, length, take, drop, sum, IsPermutation, inl, inr, common_steps, length-take-le, length-take, map-append, sum_by-cons, All-contains, Contains-append_right, Contains-append_cases, length_permutation, Contains-permutation, IsPermutation-sym, take-add, Handle, Allocator, available, after_take, before_requests, IsSound, AreApart, flushed-laid_out, given_in-legal, AllPairs-left, AllPairs-across, AllPairs-IsPermutation, after_takes, after_takes-sound, available-after_takes, limits-after_takes, live-after_takes, made-after_takes, asked-after_takes, asked-after_take, limits-after_take, live-after_take, made-after_take, taken_is, not_apart, apart_both, taken-after_takes, after_take-sound, available-after_take, after_take-served, Block, dealt, unused, AreLaid, past_block}
+use Rattle.std.proofs.Common.{length-append}
 use Rattle.ent_alloc.specs.History as history
-use Rattle.ent_alloc.specs.Sound.{IsSound, AreApart}
-use Rattle.ent_alloc.proofs.LaidOut.{flushed-laid_out}
-use Rattle.ent_alloc.proofs.Histories.{given_in-legal}
-use Rattle.ent_alloc.proofs.ListLaws.{AllPairs-left, AllPairs-across, AllPairs-IsPermutation}
-use Rattle.ent_alloc.proofs.PoolLaw.{after_takes, after_takes-sound, available-after_takes, limits-after_takes, live-after_takes, made-after_takes, asked-after_takes, asked-after_take, limits-after_take, live-after_take, made-after_take, taken_is}
-use Rattle.ent_alloc.proofs.Replies.{not_apart, apart_both}
-use Rattle.ent_alloc.proofs.RequestLaws.{taken-after_takes}
-use Rattle.ent_alloc.proofs.Soundness.{after_take-sound}
-use Rattle.ent_alloc.proofs.Taken.{available-after_take, after_take-served}
-use Rattle.ent_blocks.specs.Blocks.{Block, dealt, unused, AreLaid}
-use Rattle.ent_overflow.specs.Overflow.{past_block}
 
 -- what else the two have, if both begin with the same handles and no slot is there twice
 also_behind : (front xs ys : List Handle) → AllPairs AreApart (front ++ xs) → IsPermutation (front ++ xs) (front ++ ys)

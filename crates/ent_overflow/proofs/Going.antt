@@ -1,19 +1,5 @@
 -- What a reservation leaves of a caller: from its block, and past it.
-use Rattle.std.proofs.Common.{rules, ◌≡◌, ap, ℕ, ◌+◌, ◌^◌, ◌<◌, ◌≤◌, ◌≤ℤ◌, List, length, All, arith}
-use Rattle.std.proofs.lemmas.Grind.{common_steps}
-use Rattle.std.specs.Prelude.{Result}
-use Rattle.std.proofs.lemmas.Bool.{cases_lt}
-use Rattle.std.proofs.lemmas.List.Elements.{All-push}
-use Rattle.ent_handle.specs.Handle.{Handle}
-use Rattle.ent_alloc.specs.declared.refused.Refused.{Refused}
-use Rattle.ent_blocks.specs.Blocks.{after_use}
-use Rattle.ent_blocks.proofs.Dealing.{of_phase}
-use Rattle.ent_shared.specs.declared.record.Reservation.{Reservation}
-use Rattle.ent_shared.specs.Record.{own_reservations, reservation_at, after_reservation}
-use Rattle.ent_shared.specs.Phase.{Reserver, IsOf as IsReserverOf}
-use Rattle.ent_shared.specs.Replies.{Reserves}
-use Rattle.ent_shared.proofs.Records.{own-made}
-use Rattle.ent_overflow.specs.Overflow.{Phase, Caller, IsOf, IsPhase}
+use Rattle.ent_overflow.proofs.Common.{rules, ◌≡◌, ap, ℕ, ◌+◌, ◌^◌, ◌<◌, ◌≤◌, ◌≤ℤ◌, List, length, All, arith, common_steps, Result, cases_lt, All-push, Handle, Refused, after_use, of_phase, Reservation, own_reservations, reservation_at, after_reservation, Reserver, IsReserverOf, Reserves, own-made, Phase, Caller, IsOf, IsPhase}
 
 -- the same phase and the same caller
 pub here : (p q : Phase) (c d : Caller) → p ≡ q → c ≡ d → IsOf q d → IsOf p c

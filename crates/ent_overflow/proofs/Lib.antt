@@ -3,3 +3,4 @@ pub mod Going
 pub mod Splitting
 pub mod Endings
 pub mod Closings
+pub mod Common

@@ -1,17 +1,6 @@
 -- The dealer's reservation is the first one of all, and the others are a history of their own.
-use Rattle.std.proofs.Common.{rules, ◌≡◌, ◌≢◌, refl, ap, ◌∙◌, subst, ℕ, zero, suc, ◌≤ℤ◌, ◌<ℤ◌, ℤ, List, [], ◌∷◌, ◌++◌, map, All, AllPairs}
-use Rattle.std.proofs.lemmas.List.Elements.{All-nil, All-head, All-tail, All-append, All-weaker}
-use Rattle.ent_alloc.specs.Sequential.{Allocator, after_take}
+use Rattle.ent_overflow.proofs.Common.{rules, ◌≡◌, ◌≢◌, refl, ap, ◌∙◌, subst, ℕ, zero, suc, ◌≤ℤ◌, ◌<ℤ◌, ℤ, List, [], ◌∷◌, ◌++◌, map, All, AllPairs, All-nil, All-head, All-tail, All-append, All-weaker, Allocator, after_take, AllPairs-right, after_take-none, RecordEntry, Reservation, Record, own_reservations, as_call, insert_reservation, by_falling_high, own_of_all, reservations_of, history_of, Respects, all_sorted, IsDealer, HasDealt, IsInOrder}
 use Rattle.ent_alloc.specs.History as history
-use Rattle.ent_alloc.proofs.ListLaws.{AllPairs-right}
-use Rattle.ent_alloc.proofs.PoolLaw.{after_take-none}
-use Rattle.ent_shared.specs.declared.record.RecordEntry.{RecordEntry}
-use Rattle.ent_shared.specs.declared.record.Reservation.{Reservation}
-use Rattle.ent_shared.specs.declared.record.Record.{Record}
-use Rattle.ent_shared.specs.Record.{own_reservations}
-use Rattle.ent_shared.specs.Order.{as_call, insert_reservation, by_falling_high, own_of_all, reservations_of, history_of, Respects}
-use Rattle.ent_shared.proofs.Sorting.{all_sorted}
-use Rattle.ent_overflow.specs.Overflow.{IsDealer, HasDealt, IsInOrder}
 
 -- all that was reserved begins at this position or below it
 abbrev pub AreBehind : ℤ → List Reservation → Type 0

@@ -1,7 +1,5 @@
 -- A list in chunks of one length.
-use Rattle.std.proofs.Common.{rules, ◌≡◌, refl, ℕ, zero, suc, ◌+◌, ◌*◌, List, [], ◌∷◌, take, drop, ap, suc-add}
-use Rattle.std.proofs.lemmas.List.{drop-take}
-use Rattle.std.specs.Simd.{first_chunks}
+use Rattle.ent_queue.proofs.Common.{rules, ◌≡◌, refl, ℕ, zero, suc, ◌+◌, ◌*◌, List, [], ◌∷◌, take, drop, ap, suc-add, drop-take, first_chunks}
 
 take_of_take : {X : Type 0} (n m : ℕ) (xs : List X) → take n (take (n + m) xs) ≡ take n xs
 take_of_take zero m xs = refl

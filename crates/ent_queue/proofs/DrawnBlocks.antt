@@ -1,21 +1,7 @@
 -- What commands draw from a block, one by one and together.
-use Rattle.std.proofs.Common.{rules, ◌≡◌, refl, sym, ap, ◌∙◌, subst, ℕ, ◌+◌, ◌-◌, List, [], ◌∷◌, ◌++◌, take, arith, append-nil, Result, Ok, Err, IfOk, IfErr, OnOk, OnErr, IsErrOf, Vec, Global}
-use Rattle.std.specs.List.{sum_by}
-use Rattle.std.proofs.lemmas.Grind.{common_steps}
-use Rattle.std.proofs.lemmas.List.Sums.{sum_by-append, sum_by-cons}
-use Rattle.ent_handle.specs.Handle.{Handle}
-use Rattle.ent_alloc.specs.Sequential.{Allocator, listed, listed_alone}
-use Rattle.ent_alloc.specs.Fault.{as_reserve_error}
-use Rattle.ent_alloc.specs.declared.refused.Refused.{Refused as Refusal}
-use Rattle.ent_alloc.specs.declared.refused.Refused.TheVariants.{Space, Quota}
-use Rattle.ent_alloc.specs.declared.reserve_error.ReserveError.{ReserveError as QueueFault}
+use Rattle.ent_queue.proofs.Common.{rules, ◌≡◌, refl, sym, ap, ◌∙◌, subst, ℕ, ◌+◌, ◌-◌, List, [], ◌∷◌, ◌++◌, take, arith, append-nil, Result, Ok, Err, IfOk, IfErr, OnOk, OnErr, IsErrOf, Vec, Global, sum_by, common_steps, sum_by-append, sum_by-cons, Handle, Allocator, listed, listed_alone, as_reserve_error, Refusal, Space, Quota, QueueFault, Block, Phase, rest_of, after_use, Bundle, Command, Spawn, SpawnMany, Refused, queued, as_list, refused_by, IsDrawn, IsDrawnBy, AreDrawnBy, Draws, left_of, used_by, after_commands, Issuing, ExtendsInBlocks}
 use Rattle.ent_alloc.specs.declared.reserve_error.ReserveError.TheVariants as fault
-use Rattle.ent_blocks.specs.Blocks.{Block, Phase, Reserver, rest_of, after_use}
-use Rattle.ent_storage.specs.Bundle.{Bundle}
-use Rattle.ent_queue.specs.Command.{Command, Spawn, SpawnMany, Refused}
-use Rattle.ent_queue.specs.Reserving.{queued, as_list, refused_by}
-use Rattle.ent_queue.specs.Drawing.{IsDrawn, IsDrawnBy, AreDrawnBy, Draws, left_of, used_by, after_commands}
-use Rattle.ent_queue.specs.InBlocks.{Issuing, ExtendsInBlocks}
+use Rattle.ent_blocks.specs.Blocks.{Reserver}
 
 single : (made : ℕ) (x : Handle) → listed made (x ∷ []) ≡ x ∷ []
 single made x = grind (arith, common_steps)

@@ -1,8 +1,6 @@
 -- For who writes a system, or any function that issues commands: what its calls add up to. Put
 -- `#[tactic(auto, using(ent_queue::proofs::Extending::extends_then))]` above it.
-use Rattle.std.proofs.Common.{arith, rules, append_assoc}
-use Rattle.std.proofs.lemmas.Grind.{common_steps}
-use Rattle.ent_queue.specs.Commands.{Issued, IsReady, Extends}
+use Rattle.ent_queue.proofs.Common.{arith, rules, append_assoc, common_steps, Issued, IsReady, Extends}
 use Rattle.ent_queue.proofs.Gaining.{gains_then}
 
 -- where nothing is issued: on a path without a call, and before the first turn of a loop

@@ -1,11 +1,6 @@
 -- For who writes a system, or any function that issues commands from a block: what its calls add up to.
 -- Put `#[tactic(auto, using(ent_queue::proofs::ExtendingInBlocks::extends_then))]` above it.
-use Rattle.std.proofs.Common.{rules, ◌∙◌, ◌++◌, ap, subst, append-nil, append_assoc}
-use Rattle.std.specs.Prelude.{List}
-use Rattle.ent_blocks.specs.Blocks.{Phase}
-use Rattle.ent_queue.specs.Command.{Command}
-use Rattle.ent_queue.specs.Drawing.{Draws}
-use Rattle.ent_queue.specs.InBlocks.{Issuing, ExtendsInBlocks}
+use Rattle.ent_queue.proofs.Common.{rules, ◌∙◌, ◌++◌, ap, subst, append-nil, append_assoc, Phase, Command, Draws, Issuing, ExtendsInBlocks, List}
 use Rattle.ent_queue.proofs.DrawnBlocks.{draws_nothing, draws_then}
 
 -- where nothing is issued: on a path without a call, and before the first turn of a loop

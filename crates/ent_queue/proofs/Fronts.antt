@@ -1,11 +1,5 @@
 -- What bytes that begin with a command let be read, kind by kind.
-use Rattle.std.proofs.Common.{rules, ◌≡◌, ℕ, ◌+◌, ◌*◌, ◌<◌, ◌≤◌, List, ◌++◌, length, drop, length-drop, slice_index, refl, [], ◌∷◌, arith, sym, subst}
-use Rattle.std.specs.List.{All, flat_map}
-use Rattle.ent_handle.specs.Handle.{Handle, IsHandle}
-use Rattle.ent_storage.specs.Bundle.{Bundle, IsBundle}
-use Rattle.ent_queue.specs.Command.{Command, IsRefusal, IsCommand, Spawn, SpawnMany, Insert, Remove, Despawn, Refused}
-use Rattle.ent_queue.specs.Packing.{command_bytes, bytes_4, handle_bytes, bundle_bytes, refusal_bytes}
-use Rattle.ent_queue.specs.Unpacking.{number_2, number_4, unpacked_handle, unpacked_handles, unpacked_bundle, unpacked_refusal, after_first, BeginsWith}
+use Rattle.ent_queue.proofs.Common.{rules, ◌≡◌, ℕ, ◌+◌, ◌*◌, ◌<◌, ◌≤◌, List, ◌++◌, length, drop, length-drop, slice_index, refl, [], ◌∷◌, arith, sym, subst, All, flat_map, Handle, IsHandle, Bundle, IsBundle, Command, IsRefusal, IsCommand, Spawn, SpawnMany, Insert, Remove, Despawn, Refused, command_bytes, bytes_4, handle_bytes, bundle_bytes, refusal_bytes, number_2, number_4, unpacked_handle, unpacked_handles, unpacked_bundle, unpacked_refusal, after_first, BeginsWith}
 use Rattle.ent_queue.proofs.Parts.{BundleBegins}
 use Rattle.ent_queue.proofs.Queues.{WithBundle, with_bundle, with_handles, with_component, handle_alone, with_reason, after_first-bytes}
 

@@ -1,21 +1,5 @@
 -- How a reserver's record gains what commands have asked of it.
-use Rattle.std.proofs.Common.{rules, ◌≡◌, refl, ℕ, ◌+◌, ◌-◌, ◌<◌, ◌≤◌, ℤ, List, [], ◌∷◌, ◌++◌, arith, ap, ◌∙◌, subst, append_assoc, Ok, Err, sym, inl, inr}
-use Rattle.std.proofs.lemmas.Grind.{common_steps, flat_map-append}
-use Rattle.std.specs.List.{sum_by}
-use Rattle.std.proofs.lemmas.List.Elements.{All-nil, All-cons}
-use Rattle.std.proofs.lemmas.Bool.{cases_lt}
-use Rattle.std.proofs.lemmas.List.Sums.{sum_by-append, sum_by-cons}
-use Rattle.ent_handle.specs.Handle.{Handle}
-use Rattle.ent_shared.specs.declared.record.Record.{Record}
-use Rattle.ent_alloc.specs.declared.refused.Refused.{Refused as Refusal}
-use Rattle.ent_alloc.specs.declared.refused.Refused.TheVariants.{Quota, Space}
-use Rattle.ent_shared.specs.Phase.{Shared, Reserver}
-use Rattle.ent_shared.specs.Record.{after_reservation, reservation_at}
-use Rattle.ent_queue.specs.Command.{Command, Refused, HasRange, SaysWanted, IsRefusal}
-use Rattle.ent_queue.specs.Reserving.{stands_for, cost, FitsQuota, FitQuota, Gains, IsReturned, refused_by}
-use Rattle.ent_alloc.specs.Fault.{as_reserve_error}
-use Rattle.std.proofs.lemmas.List.{map-append}
-use Rattle.ent_shared.specs.declared.record.Reservation.{Reservation}
+use Rattle.ent_queue.proofs.Common.{rules, ◌≡◌, refl, ℕ, ◌+◌, ◌-◌, ◌<◌, ◌≤◌, ℤ, List, [], ◌∷◌, ◌++◌, arith, ap, ◌∙◌, subst, append_assoc, Ok, Err, sym, inl, inr, common_steps, flat_map-append, sum_by, All-nil, All-cons, cases_lt, sum_by-append, sum_by-cons, Handle, Record, Refusal, Quota, Space, Shared, Reserver, after_reservation, reservation_at, Command, Refused, HasRange, SaysWanted, IsRefusal, stands_for, cost, FitsQuota, FitQuota, Gains, IsReturned, refused_by, as_reserve_error, map-append, Reservation}
 
 pub gains_nothing : (r : Record) → Gains r [] r
 gains_nothing r = grind (arith, common_steps)

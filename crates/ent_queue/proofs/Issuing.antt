@@ -1,21 +1,7 @@
 -- What a call of `Commands` adds.
-use Rattle.std.proofs.Common.{rules, ◌≡◌, ℕ, List, [], ◌∷◌, ◌++◌, length, Result, Ok, Err, IfOk, IfErr, OnOk, OnErr, IsErrOf, Vec, Global, ◌<◌, arith, refl, ap, sym, subst, ◌≤◌}
-use Rattle.std.proofs.lemmas.Grind.{common_steps}
-use Rattle.ent_handle.specs.Handle.{Handle}
-use Rattle.ent_handle.specs.declared.memory.Memory.{Memory}
-use Rattle.ent_shared.specs.declared.record.Record.{Record}
-use Rattle.ent_alloc.specs.declared.refused.Refused.{Refused as Refusal}
-use Rattle.ent_shared.specs.Phase.{Shared, Reserver}
-use Rattle.ent_alloc.specs.Sequential.{listed_alone}
-use Rattle.ent_alloc.specs.declared.reserve_error.ReserveError.{ReserveError as QueueFault}
+use Rattle.ent_queue.proofs.Common.{rules, ◌≡◌, ℕ, List, [], ◌∷◌, ◌++◌, length, Result, Ok, Err, IfOk, IfErr, OnOk, OnErr, IsErrOf, Vec, Global, ◌<◌, arith, refl, ap, sym, subst, ◌≤◌, common_steps, Handle, Memory, Record, Refusal, Shared, Reserver, listed_alone, QueueFault, Bundle, Command, Spawn, SpawnMany, Refused, Issued, IsReady, Extends, queue_of, reserver_of, shared_of, stands_for, FitsQuota, Gains, IsReturned, queued, as_list, refused_by, as_reserve_error, Space, Quota}
 use Rattle.ent_alloc.specs.declared.reserve_error.ReserveError.TheVariants as fault
-use Rattle.ent_storage.specs.Bundle.{Bundle}
-use Rattle.ent_queue.specs.Command.{Command, Spawn, SpawnMany, Refused}
-use Rattle.ent_queue.specs.Commands.{Issued, IsReady, Extends, queue_of, reserver_of, shared_of}
-use Rattle.ent_queue.specs.Reserving.{stands_for, FitsQuota, Gains, IsReturned, queued, as_list, refused_by}
-use Rattle.ent_alloc.specs.Fault.{as_reserve_error}
 use Rattle.ent_queue.proofs.Gaining.{gains_nothing, gains_none, served_gains, refused_gains}
-use Rattle.ent_alloc.specs.declared.refused.Refused.TheVariants.{Space, Quota}
 
 -- the commands that a call added, and that the record has gained them
 pub record Added (old new : List Command) (before after : Record) : Type 0 where

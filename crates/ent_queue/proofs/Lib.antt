@@ -9,3 +9,4 @@ pub mod Issuing
 pub mod Extending
 pub mod DrawnBlocks
 pub mod ExtendingInBlocks
+pub mod Common

@@ -1,10 +1,5 @@
 -- Numbers as bytes, and back.
-use Rattle.std.proofs.Common.{rules, ◌≡◌, refl, ℕ, ◌^◌, ◌<◌, List, ◌++◌, length, take, drop, arith}
-use Rattle.std.proofs.lemmas.Grind.{common_steps}
-use Rattle.std.proofs.lemmas.Nat.{from_le_bytes-to_le_bytes_2, from_le_bytes-to_le_bytes_4, from_le_bytes-to_le_bytes_8}
-use Rattle.ent_handle.specs.Handle.{Handle, IsHandle, bits}
-use Rattle.ent_queue.specs.Packing.{bytes_2, bytes_4, bytes_8, handle_bytes}
-use Rattle.ent_queue.specs.Unpacking.{number_2, number_4, number_8, handle_of_bits, unpacked_handle}
+use Rattle.ent_queue.proofs.Common.{rules, ◌≡◌, refl, ℕ, ◌^◌, ◌<◌, List, ◌++◌, length, take, drop, arith, common_steps, from_le_bytes-to_le_bytes_2, from_le_bytes-to_le_bytes_4, from_le_bytes-to_le_bytes_8, Handle, IsHandle, bits, bytes_2, bytes_4, bytes_8, handle_bytes, number_2, number_4, number_8, handle_of_bits, unpacked_handle}
 
 pub length-bytes_2 : (n : ℕ) → length (bytes_2 n) ≡ 2
 unfolding bytes_2

@@ -1,19 +1,5 @@
 -- Handles, items and bundles as bytes, and back.
-use Rattle.std.proofs.Common.{rules, ◌≡◌, refl, ℕ, ◌+◌, ◌*◌, ◌^◌, ◌<◌, ℤ, List, [], ◌∷◌, ◌++◌, length, take, drop, map, arith, append_assoc, length-append}
-use Rattle.std.proofs.lemmas.Grind.{common_steps}
-use Rattle.std.specs.List.{All, flat_map}
-use Rattle.std.proofs.lemmas.List.Elements.{All-head, All-tail}
-use Rattle.std.proofs.Math.Seq.{drop-append_seam}
-use Rattle.std.specs.Simd.{first_chunks}
-use Rattle.std.specs.Int.{w64, cast_unsigned}
-use Rattle.std.specs.Int.RustNames.{FitsSigned}
-use Rattle.std.proofs.lemmas.Int.{to_z-of_z}
-use Rattle.std.proofs.Math.Facts.{Fits-lt-pow, Fits-of_z}
-use Rattle.ent_handle.specs.declared.component.ComponentId.{ComponentId}
-use Rattle.ent_handle.specs.Handle.{Handle, IsHandle}
-use Rattle.ent_storage.specs.Bundle.{Bundle, IsItem}
-use Rattle.ent_queue.specs.Packing.{handle_bytes, item_bytes, bundle_bytes}
-use Rattle.ent_queue.specs.Unpacking.{number_2, unpacked_handles, unpacked_item, unpacked_bundle}
+use Rattle.ent_queue.proofs.Common.{rules, ◌≡◌, refl, ℕ, ◌+◌, ◌*◌, ◌^◌, ◌<◌, ℤ, List, [], ◌∷◌, ◌++◌, length, take, drop, map, arith, append_assoc, length-append, common_steps, All, flat_map, All-head, All-tail, drop-append_seam, first_chunks, w64, cast_unsigned, FitsSigned, to_z-of_z, Fits-lt-pow, Fits-of_z, ComponentId, Handle, IsHandle, Bundle, IsItem, handle_bytes, item_bytes, bundle_bytes, number_2, unpacked_handles, unpacked_item, unpacked_bundle}
 use Rattle.ent_queue.proofs.Numbers.{length-bytes_2, length-bytes_8, number_2-bytes, number_8-alone, drop-bytes_2, drop-bytes_8, take-bytes_8, unpacked_handle-alone}
 
 pub length-handles : (hs : List Handle) → length (flat_map handle_bytes hs) ≡ 8 * length hs

@@ -1,14 +1,6 @@
 -- A command at the end of a queue.
-use Rattle.std.proofs.Common.{rules, ◌≡◌, ℕ, ◌+◌, ◌≤◌, List, [], ◌∷◌, ◌++◌, length, arith, append-nil, length-append, Fits, Vec, w64, ap, sym, ◌∙◌}
-use Rattle.std.proofs.lemmas.Grind.{common_steps}
-use Rattle.std.proofs.Math.Facts.{Fits-of_lt}
-use Rattle.std.specs.List.{flat_map, All}
-use Rattle.std.proofs.lemmas.List.Elements.{All-nil, All-push}
-use Rattle.ent_handle.specs.Handle.{Handle}
-use Rattle.ent_storage.specs.Bundle.{Bundle}
-use Rattle.ent_queue.specs.Command.{Command, SpawnMany, IsCommand}
-use Rattle.ent_queue.specs.Packing.{command_bytes, queue_bytes, bytes_4, handle_bytes, bundle_bytes}
-use Rattle.ent_queue.specs.Unpacking.{unpacked_commands, ArePacked}
+use Rattle.ent_queue.proofs.Common.{rules, ◌≡◌, ℕ, ◌+◌, ◌≤◌, List, [], ◌∷◌, ◌++◌, length, arith, append-nil, length-append, Fits, Vec, ap, sym, ◌∙◌, common_steps, Fits-of_lt, flat_map, All, All-nil, All-push, Handle, Bundle, Command, SpawnMany, IsCommand, command_bytes, queue_bytes, bytes_4, handle_bytes, bundle_bytes, unpacked_commands, ArePacked}
+use Rattle.std.proofs.Common.{w64}
 use Rattle.ent_queue.proofs.Queues.{unpacked_commands-bytes, are_packed, length_of_commands}
 
 queue_bytes-push : (cs : List Command) (c : Command) → queue_bytes (cs ++ c ∷ []) ≡ queue_bytes cs ++ command_bytes c

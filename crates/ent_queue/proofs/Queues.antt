@@ -1,18 +1,7 @@
 -- Commands as bytes, and back.
-use Rattle.std.proofs.Common.{◌≡◌, refl, ℕ, zero, suc, ◌+◌, ◌*◌, ◌^◌, ◌<◌, List, [], ◌∷◌, ◌++◌, length, drop, arith, ap, sym, ◌∙◌, append_assoc, length-append, slice_index, IsTrue, nat_eq, rules, subst}
-use Rattle.std.specs.List.{All, flat_map}
-use Rattle.std.proofs.lemmas.List.Elements.{All-head, All-tail}
-use Rattle.std.proofs.Math.Seq.{drop-append_seam}
-use Rattle.ent_handle.specs.Handle.{Handle, IsHandle, bits}
-use Rattle.ent_alloc.specs.declared.refused.Refused.{Refused as Refusal}
-use Rattle.ent_storage.specs.Bundle.{Bundle, IsBundle}
-use Rattle.ent_queue.specs.Command.{Command, IsRefusal, IsCommand, Spawn, SpawnMany, Insert, Remove, Despawn, Refused}
-use Rattle.ent_queue.specs.Packing.{bytes_4, bytes_8, handle_bytes, bundle_bytes, refusal_bytes, command_bytes, queue_bytes}
-use Rattle.ent_queue.specs.Unpacking.{number_4, unpacked_handle, unpacked_handles, unpacked_refusal, unpacked_command, after_first, unpacked_commands, ArePacked, BeginsWith, number_8, unpacked_bundle}
+use Rattle.ent_queue.proofs.Common.{◌≡◌, refl, ℕ, zero, suc, ◌+◌, ◌*◌, ◌^◌, ◌<◌, List, [], ◌∷◌, ◌++◌, length, drop, arith, ap, sym, ◌∙◌, append_assoc, length-append, slice_index, IsTrue, nat_eq, rules, subst, All, flat_map, All-head, All-tail, drop-append_seam, Handle, IsHandle, bits, Refusal, Bundle, IsBundle, Command, IsRefusal, IsCommand, Spawn, SpawnMany, Insert, Remove, Despawn, Refused, bytes_4, bytes_8, handle_bytes, bundle_bytes, refusal_bytes, command_bytes, queue_bytes, number_4, unpacked_handle, unpacked_handles, unpacked_refusal, unpacked_command, after_first, unpacked_commands, ArePacked, BeginsWith, number_8, unpacked_bundle, few_items, Space, Quota}
 use Rattle.ent_queue.proofs.Numbers.{number_4-bytes, number_8-bytes, drop-bytes_4, drop-bytes_8, unpacked_handle-bytes, length-bytes_4, length-bytes_8}
 use Rattle.ent_queue.proofs.Parts.{length-handles, unpacked_handles-bytes, drop-handles, BundleBegins, bundle_begins}
-use Rattle.ent_storage.proofs.Few.{few_items}
-use Rattle.ent_alloc.specs.declared.refused.Refused.TheVariants.{Space, Quota}
 
 -- What the parts after the byte for a kind say: a handle and a bundle, many handles and a bundle,
 -- and a refusal.

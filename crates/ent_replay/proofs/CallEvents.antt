@@ -1,28 +1,10 @@
 -- What the events of a call do to the fields of a `Machine`, and that they keep them in order.
-use Rattle.std.proofs.lemmas.Grind.{common_steps}
-use Rattle.std.specs.FinMap.{get-remove, FinMap}
+use Rattle.ent_replay.proofs.Common.{common_steps, get-remove, FinMap, rules, ◌≡◌, sym, ap, ◌∙◌, ℕ, ◌+◌, ◌^◌, ◌<◌, ◌≤◌, pos, ◌-ℤ◌, true, nat_lt, length, drop, filter, Option, Some, None, Ok, Err, arith, ints, option_map, unwrap_or, nat_cmp, nat_tests, same_Some, none-some, ℕ_discrete, Span, Allocator, cursor, reply_from, reply_to, pool_at, asked_at, is_old, after_take, IsSound, available-after_take, after_take-sound, made-after_take, asked-after_take, top-after_take, cursor-after_take, reply-cursor, StoredCall, on_begin, on_step, on_answer, begin_with, step_with, step_open, answer_with, answer_open, left_of, callers, reported, sum_below, map_values, open_call_of, machine_state, unasked, awaited, AreConsistent, HasPassed}
 use Rattle.ent_replay.proofs.Maps.{maps_alike, get-inserted, get-insert_other, get-removed, get-remove_other, get-map_values, map_values-insert, on_inserted, on_removed}
-use Rattle.std.proofs.Common.{rules, ◌≡◌, sym, ap, ◌∙◌, ℕ, ◌+◌, ◌^◌, ◌<◌, ◌≤◌, pos, ◌-ℤ◌, true, nat_lt, length, drop, filter, Option, Some, None, Ok, Err, arith}
-use Rattle.std.proofs.lemmas.Int.{ints}
-use Rattle.std.specs.Option.{option_map, unwrap_or}
-use Rattle.std.specs.Ordering.{nat_cmp}
 use Rattle.std.specs.FinMap as finite
-use Rattle.std.proofs.lemmas.Bool.Decides.{nat_tests}
-use Rattle.std.proofs.lemmas.Option.{same_Some, none-some}
-use native.Mathlib.Decide.{ℕ_discrete}
-use Rattle.ent_alloc.specs.declared.span.Span.{Span}
-use Rattle.ent_alloc.specs.Sequential.{Allocator, cursor, reply_from, reply_to, pool_at, asked_at, is_old, after_take}
-use Rattle.ent_alloc.specs.Sound.{IsSound}
-use Rattle.ent_alloc.proofs.Taken.{available-after_take}
-use Rattle.ent_alloc.proofs.Soundness.{after_take-sound}
-use Rattle.ent_alloc.proofs.PoolLaw.{made-after_take, asked-after_take, top-after_take, cursor-after_take, reply-cursor}
-use Rattle.ent_replay.specs.declared.stored_call.StoredCall.{StoredCall}
 use Rattle.ent_replay.specs.declared.event.Event.TheVariants as event
 use Rattle.ent_replay.specs.declared.outcome.Outcome.TheVariants as outcome
 use Rattle.ent_replay.specs.declared.fault.ReplayFault.TheVariants as fault
-use Rattle.ent_replay.specs.Schedule.{on_begin, on_step, on_answer, begin_with, step_with, step_open, answer_with, answer_open, left_of, callers, reported}
-use Rattle.ent_replay.specs.Totals.{sum_below}
-use Rattle.ent_replay.specs.Machine.{map_values, open_call_of, machine_state, unasked, awaited, AreConsistent, HasPassed}
 use Rattle.ent_replay.proofs.Conditions.{when, unless}
 use Rattle.ent_replay.proofs.Giving.{all_held-next}
 use Rattle.ent_replay.proofs.Totals.{sum_below-changed, sum_below-part}

@@ -1,12 +1,6 @@
 -- Lists that have the reservations of each caller in the same order.
-use Rattle.std.proofs.lemmas.Grind.{common_steps}
-use Rattle.std.proofs.Common.{◌≡◌, ◌≢◌, ℕ, true, false, List, [], ◌∷◌, ◌++◌, filter, refl, sym, ap, ◌∙◌, true≢false, eq-eqb, ne_eqb, arith}
-use Rattle.std.proofs.lemmas.List.Elements.{filter-append}
-use Rattle.std.specs.List.{AllByRecursion}
-use Rattle.ent_replay.specs.declared.trace.placed.Placed.{Placed}
+use Rattle.ent_replay.proofs.Common.{common_steps, ◌≡◌, ◌≢◌, ℕ, true, false, List, [], ◌∷◌, ◌++◌, filter, refl, sym, ap, ◌∙◌, true≢false, eq-eqb, ne_eqb, arith, filter-append, AllByRecursion, Placed, MayPass, IsOrderOf, KeepsCallers, is_of}
 use Rattle.ent_replay.specs.declared.trace.call.Call.TheVariants as line
-use Rattle.ent_replay.specs.Trace.{MayPass, IsOrderOf}
-use Rattle.ent_replay.specs.Lineup.{KeepsCallers, is_of}
 use Rattle.ent_replay.proofs.Lists.{split, none_kept, kept_forward, kept_rest, all_weaker}
 use Rattle.ent_replay.proofs.KeysOf.{IsOfOther}
 use Rattle.ent_replay.proofs.Complete.{IsPlacedOrder}

@@ -1,21 +1,6 @@
 -- If any order of a run is answered so, the sorted one is.
-use Rattle.std.proofs.Common.{rules, ◌≡◌, ℕ, zero, suc, ◌+◌, ◌^◌, ◌<◌, ◌≤◌, List, [], ◌∷◌, ◌++◌, length, filter, Err, refl, sym, ap, ◌∙◌, arith, inl, inr, ◌⊎◌}
-use Rattle.std.proofs.lemmas.Grind.{common_steps}
-use Rattle.std.specs.List.{AllByRecursion}
-use Rattle.std.proofs.lemmas.Bool.{cases_lt}
-use Rattle.std.proofs.lemmas.List.Elements.{All-filter, All-from_recursion}
-use Rattle.ent_handle.specs.Handle.{Handle}
-use Rattle.ent_alloc.specs.Sequential.{Allocator, available, after_take}
-use Rattle.ent_alloc.specs.Sound.{IsSound}
-use Rattle.ent_alloc.proofs.Replies.{reply-refused}
-use Rattle.ent_alloc.proofs.PoolLaw.{asked-after_take}
-use Rattle.ent_alloc.proofs.Soundness.{after_take-sound}
-use Rattle.ent_alloc.proofs.Taken.{available-after_take, after_take-refused}
-use Rattle.ent_replay.specs.declared.trace.reply.ReserveReply.{ReserveReply}
+use Rattle.ent_replay.proofs.Common.{rules, ◌≡◌, ℕ, zero, suc, ◌+◌, ◌^◌, ◌<◌, ◌≤◌, List, [], ◌∷◌, ◌++◌, length, filter, Err, refl, sym, ap, ◌∙◌, arith, inl, inr, ◌⊎◌, common_steps, AllByRecursion, cases_lt, All-filter, All-from_recursion, Handle, Allocator, available, after_take, IsSound, reply-refused, asked-after_take, after_take-sound, available-after_take, after_take-refused, ReserveReply, Placed, FitsReserved, KeyOf, AreKeyed, raised}
 use Rattle.ent_replay.specs.declared.trace.reply.ReserveReply.TheVariants as reserve
-use Rattle.ent_replay.specs.declared.trace.placed.Placed.{Placed}
-use Rattle.ent_replay.specs.Trace.{FitsReserved}
-use Rattle.ent_replay.specs.Checker.{KeyOf, AreKeyed, raised}
 use Rattle.ent_replay.proofs.Lists.{no_middle, split, all_at, all_without, all_left, all_weaker}
 use Rattle.ent_replay.proofs.Parting.{parted}
 use Rattle.ent_replay.proofs.Sorted.{tie, tie_from, IsRising, TieAlike, whole, least, begins, nothing_left, alike_rest}

@@ -1,33 +1,15 @@
 -- What the events that need the allocator to themselves do to the fields of a `Machine`, and that
 -- they keep them in order.
-use Rattle.std.proofs.lemmas.List.Elements.{All-nil}
-use Rattle.std.proofs.Common.{rules, ◌≡◌, ◌≢◌, sym, ap, ◌∙◌, ℕ, ◌+◌, ◌*◌, ◌^◌, ◌<◌, ◌≤◌, true, false, [], length, slice_get, Some, Ok, Err, arith, inl, inr}
-use Rattle.std.specs.Option.{unwrap_or}
-use Rattle.std.specs.Ordering.{nat_cmp}
+use Rattle.ent_replay.proofs.Common.{All-nil, rules, ◌≡◌, ◌≢◌, sym, ap, ◌∙◌, ℕ, ◌+◌, ◌*◌, ◌^◌, ◌<◌, ◌≤◌, true, false, [], length, slice_get, Some, Ok, Err, arith, inl, inr, unwrap_or, nat_cmp, FinMap, get-empty, len-empty, empty_of_len, nat_tests, length_permutation, Handle, quota, Allocator, top, next, born, after_alloc, after_free, after_flush, IsSound, born-IsPermutation, after_alloc-sound, after_free-sound, after_flush-sound, next-later, StoredCall, OpenCall, is_busy, on_alloc, on_free, on_flush, alloc_front, event_takes_memory, callers, sum_below, all_held, map_values, open_call_of, machine_state, awaited, AreConsistent, cases_eq}
 use Rattle.std.specs.FinSet as set
 use Rattle.std.specs.FinMap as finite
-use Rattle.std.specs.FinMap.{FinMap, get-empty, len-empty, empty_of_len}
-use Rattle.std.proofs.lemmas.Bool.Decides.{nat_tests}
-use Rattle.std.proofs.lemmas.List.Sorted.{length_permutation}
-use Rattle.ent_handle.specs.Handle.{Handle}
-use Rattle.ent_alloc.specs.Limits.{quota}
-use Rattle.ent_alloc.specs.Sequential.{Allocator, top, next, born, after_alloc, after_free, after_flush}
-use Rattle.ent_alloc.specs.Sound.{IsSound}
 use Rattle.ent_alloc.specs.Spent as given
-use Rattle.ent_alloc.proofs.Flushes.{born-IsPermutation}
-use Rattle.ent_alloc.proofs.Soundness.{after_alloc-sound, after_free-sound, after_flush-sound, next-later}
-use Rattle.ent_replay.specs.declared.stored_call.StoredCall.{StoredCall}
 use Rattle.ent_replay.specs.declared.outcome.Outcome.TheVariants as outcome
 use Rattle.ent_replay.specs.declared.fault.ReplayFault.TheVariants as fault
-use Rattle.ent_replay.specs.Schedule.{OpenCall, is_busy, on_alloc, on_free, on_flush, alloc_front, event_takes_memory, callers}
-use Rattle.ent_replay.specs.Totals.{sum_below}
-use Rattle.ent_replay.specs.Held.{all_held}
-use Rattle.ent_replay.specs.Machine.{map_values, open_call_of, machine_state, awaited, AreConsistent}
 use Rattle.ent_replay.proofs.Conditions.{when, unless}
 use Rattle.ent_replay.proofs.Giving.{all_held-none}
 use Rattle.ent_replay.proofs.Totals.{sum_below-bound, sum_below-none}
 use Rattle.ent_replay.proofs.Maps.{maps_alike, get-map_values, map_values-empty, nothing_in}
-use Rattle.std.proofs.lemmas.Bool.{cases_eq}
 use Rattle.ent_replay.proofs.MachineAnswers.{front, none_is_none, some_handles, not_false}
 
 module _ (s : Allocator) (spent : FinMap nat_cmp ℕ) (calls : FinMap nat_cmp StoredCall) where

@@ -1,11 +1,5 @@
 -- The front of the pool at a position, handle by handle.
-use Rattle.std.proofs.Common.{rules, ◌≡◌, ℕ, suc, ◌+◌, ◌-◌, ◌<◌, ◌≤◌, ℤ, pos, ◌+ℤ◌, ◌-ℤ◌, ◌≤ℤ◌, List, [], ◌∷◌, ◌++◌, length, take, drop, slice_get, Some, arith}
-use Rattle.std.proofs.lemmas.Int.{ints}
-use Rattle.std.proofs.lemmas.List.{drop-drop, append_assoc, length-append}
-use Rattle.ent_handle.specs.Handle.{Handle}
-use Rattle.ent_alloc.specs.Sequential.{Allocator, top, cursor, asked_at, pool_at}
-use Rattle.ent_alloc.specs.Sound.{IsSound}
-use Rattle.ent_alloc.proofs.PoolLaw.{pool_at-cursor}
+use Rattle.ent_replay.proofs.Common.{rules, ◌≡◌, ℕ, suc, ◌+◌, ◌-◌, ◌<◌, ◌≤◌, ℤ, pos, ◌+ℤ◌, ◌-ℤ◌, ◌≤ℤ◌, List, [], ◌∷◌, ◌++◌, length, take, drop, slice_get, Some, arith, ints, drop-drop, append_assoc, length-append, Handle, Allocator, top, cursor, asked_at, pool_at, IsSound, pool_at-cursor}
 
 -- one position below, one more was asked for
 asked_below : (high : ℕ) (p : ℤ) → p ≤ℤ pos high → asked_at high (p -ℤ pos 1) ≡ asked_at high p + 1

@@ -1,25 +1,9 @@
 -- No handle is given twice in a run.
-use Rattle.std.proofs.Common.{rules, ◌≡◌, ◌≢◌, refl, sym, ap, subst, ◌∙◌, ℕ, zero, suc, ◌<◌, List, [], ◌∷◌, ◌++◌, append-nil, append_assoc, Some, None, Result, Ok, AllPairs, IsPermutation, inl, inr, arith}
-use Rattle.std.specs.Ordering.{nat_cmp}
+use Rattle.ent_replay.proofs.Common.{rules, ◌≡◌, ◌≢◌, refl, sym, ap, subst, ◌∙◌, ℕ, zero, suc, ◌<◌, List, [], ◌∷◌, ◌++◌, Some, None, Result, Ok, AllPairs, IsPermutation, inl, inr, arith, nat_cmp, FinMap, get-empty, cases_lt, IsPermutation-refl, IsPermutation-sym, IsPermutation-trans, IsPermutation-append_left, IsPermutation-append_right, IsPermutation-append_comm, Handle, Allocator, after_take, reply_to, IsSound, handles_in, AreGivenOnce, All-right, AllPairs-left, AllPairs-right, requested-given, alloc-given, free-given, flush-given, given-IsPermutation, after_take-sound, after_alloc-sound, after_free-sound, after_flush-sound, Event, Outcome, ReplayFault, MachineState, OpenCall, Reply, Returned, on_event, outcome_of, after_event, outcomes_of, reported, callers, joined, held_by, held, all_held, given_by, given_by_all}
+use Rattle.std.proofs.Common.{append-nil, append_assoc}
 use Rattle.std.specs.FinMap as finite
-use Rattle.std.specs.FinMap.{FinMap, get-empty}
-use Rattle.std.proofs.lemmas.Bool.{cases_lt}
-use Rattle.std.proofs.lemmas.List.Sorted.{IsPermutation-refl, IsPermutation-sym, IsPermutation-trans, IsPermutation-append_left, IsPermutation-append_right, IsPermutation-append_comm}
-use Rattle.ent_handle.specs.Handle.{Handle}
-use Rattle.ent_alloc.specs.Sequential.{Allocator, after_take, reply_to}
-use Rattle.ent_alloc.specs.Sound.{IsSound}
 use Rattle.ent_alloc.specs.Spent as spent
-use Rattle.ent_alloc.specs.History.{Call, handles_in, AreGivenOnce}
-use Rattle.ent_alloc.proofs.ListLaws.{All-right, AllPairs-left, AllPairs-right}
-use Rattle.ent_alloc.proofs.RequestLaws.{requested-given}
-use Rattle.ent_alloc.proofs.GivenOnce.{alloc-given, free-given, flush-given, given-IsPermutation}
-use Rattle.ent_alloc.proofs.Soundness.{after_take-sound, after_alloc-sound, after_free-sound, after_flush-sound}
-use Rattle.ent_replay.specs.declared.event.Event.{Event}
-use Rattle.ent_replay.specs.declared.outcome.Outcome.{Outcome}
-use Rattle.ent_replay.specs.declared.fault.ReplayFault.{ReplayFault}
-use Rattle.ent_replay.specs.Schedule.{MachineState, OpenCall, Reply, Returned, on_event, outcome_of, after_event, outcomes_of, reported, callers}
-use Rattle.ent_replay.specs.Held.{joined, held_by, held, all_held}
-use Rattle.ent_replay.specs.Histories.{given_by, given_by_all}
+use Rattle.ent_alloc.specs.History.{Call}
 use Rattle.ent_replay.proofs.Maps.{get-inserted, get-insert_other, get-removed, get-remove_other}
 use Rattle.ent_replay.proofs.Moves.{Move, move, stays, allocates, frees, flushes, begins, steps, answers}
 

@@ -1,10 +1,6 @@
 -- A decimal in brackets: what stands before the closing one, which ends the word.
-use Rattle.std.proofs.Common.{rules, ◌≡◌, ◌≢◌, ℕ, ◌<◌, false, eqb, List, [], ◌∷◌, ◌++◌, length, All, Result, Err, ap, ◌∙◌, inl, inr}
-use Rattle.std.specs.List.{slice_split, onto_first}
-use Rattle.std.proofs.lemmas.Bool.{cases_Bool, cond-false}
-use Rattle.std.proofs.lemmas.List.{nil_from_length}
+use Rattle.ent_replay.proofs.Common.{rules, ◌≡◌, ◌≢◌, ℕ, ◌<◌, false, eqb, List, [], ◌∷◌, ◌++◌, length, All, Result, Err, ap, ◌∙◌, inl, inr, slice_split, onto_first, cases_Bool, cond-false, nil_from_length, Word, count_in, number_told}
 use Rattle.ent_replay.proofs.ScheduleWords.{parts_whole, parts_first, parts_nonempty}
-use Rattle.ent_replay.specs.Text.{Word, count_in, number_told}
 use Rattle.ent_replay.specs.declared.trace.read_fault.Cause.{Cause}
 use Rattle.ent_replay.specs.declared.trace.read_fault.Cause.TheVariants as cause
 

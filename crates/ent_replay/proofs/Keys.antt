@@ -1,17 +1,7 @@
 -- The keys of a run: along a caller they don't fall.
-use Rattle.std.proofs.Common.{rules, ◌≡◌, ℕ, ◌+◌, ◌^◌, ◌≤◌, List, [], ◌∷◌, ◌++◌, arith, refl}
-use Rattle.std.proofs.lemmas.Grind.{common_steps}
-use Rattle.std.specs.List.{AllByRecursion}
-use Rattle.std.specs.Option.{unwrap_or}
-use Rattle.std.specs.Ordering.{nat_cmp}
+use Rattle.ent_replay.proofs.Common.{rules, ◌≡◌, ℕ, ◌+◌, ◌^◌, ◌≤◌, List, [], ◌∷◌, ◌++◌, arith, refl, common_steps, AllByRecursion, unwrap_or, nat_cmp, cases_eq, Reservation, Placed, reservations_of, requested_in, ComesAfter, AreSteady, IsLatest, IsChecking, IsKeyed, AreKeyed, keys_after, raised, Handle, Allocator, available, eq-eqb, ne_eqb}
 use Rattle.std.specs.FinMap as finite
-use Rattle.std.proofs.lemmas.Bool.{cases_eq, eq-eqb, ne_eqb}
 use Rattle.ent_replay.proofs.Maps.{get-inserted, get-insert_other}
-use Rattle.ent_replay.specs.declared.trace.reservation.Reservation.{Reservation}
-use Rattle.ent_replay.specs.declared.trace.placed.Placed.{Placed}
-use Rattle.ent_replay.specs.Checker.{reservations_of, requested_in, ComesAfter, AreSteady, IsLatest, IsChecking, IsKeyed, AreKeyed, keys_after, raised}
-use Rattle.ent_handle.specs.Handle.{Handle}
-use Rattle.ent_alloc.specs.Sequential.{Allocator, available}
 use Rattle.ent_replay.proofs.Lists.{all_push}
 
 abbrev requested : Reservation → ℕ

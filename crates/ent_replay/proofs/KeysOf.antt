@@ -1,24 +1,6 @@
 -- What the key of a reservation tells of where it comes.
-use Rattle.std.proofs.Common.{rules, ◌≡◌, ◌≢◌, ℕ, ◌+◌, ◌-◌, ◌^◌, ◌<◌, ◌≤◌, false, List, [], ◌∷◌, ◌++◌, length, take, drop, get_or, slice_get, Some, Ok, Err, refl, sym, ◌∙◌, arith, true≢false, inl, inr, ◌⊎◌, Contains, eq-eqb, ne_eqb}
-use Rattle.std.proofs.lemmas.Grind.{common_steps}
-use Rattle.std.specs.List.{AllByRecursion}
-use Rattle.std.proofs.lemmas.Bool.{cases_lt}
-use Rattle.std.proofs.lemmas.List.{get_or-take, get_or-drop, length-take, length-drop}
-use Rattle.std.proofs.lemmas.List.Sorted.{Contains-permutation, IsPermutation-sym, length_permutation}
-use Rattle.std.proofs.lemmas.Option.{get_or_from_slice_get, slice_get_within}
-use Rattle.ent_handle.specs.Handle.{Handle}
-use Rattle.ent_alloc.specs.Sequential.{Allocator, available, after_take, reply_to, listed, stands_in}
-use Rattle.ent_alloc.specs.Sound.{IsSound}
-use Rattle.ent_alloc.proofs.Replies.{reply-served, reply-refused, listed-IsPermutation}
-use Rattle.ent_alloc.proofs.HandleSets.{stands_in-from_Contains}
-use Rattle.ent_alloc.proofs.PoolLaw.{asked-after_take}
-use Rattle.ent_alloc.proofs.Soundness.{after_take-sound}
-use Rattle.ent_alloc.proofs.Taken.{available-after_take}
-use Rattle.ent_replay.specs.declared.trace.reply.ReserveReply.{ReserveReply}
+use Rattle.ent_replay.proofs.Common.{rules, ◌≡◌, ◌≢◌, ℕ, ◌+◌, ◌-◌, ◌^◌, ◌<◌, ◌≤◌, false, List, [], ◌∷◌, ◌++◌, length, take, drop, get_or, slice_get, Some, Ok, Err, refl, sym, ◌∙◌, arith, true≢false, inl, inr, ◌⊎◌, Contains, eq-eqb, ne_eqb, common_steps, AllByRecursion, cases_lt, get_or-take, get_or-drop, length-take, length-drop, Contains-permutation, IsPermutation-sym, length_permutation, get_or_from_slice_get, slice_get_within, Handle, Allocator, available, after_take, reply_to, listed, stands_in, IsSound, reply-served, reply-refused, listed-IsPermutation, stands_in-from_Contains, asked-after_take, after_take-sound, available-after_take, ReserveReply, Placed, FitsReserved, KeyOf, IsKeyed, AreKeyed, raised}
 use Rattle.ent_replay.specs.declared.trace.reply.ReserveReply.TheVariants as reserve
-use Rattle.ent_replay.specs.declared.trace.placed.Placed.{Placed}
-use Rattle.ent_replay.specs.Trace.{FitsReserved}
-use Rattle.ent_replay.specs.Checker.{KeyOf, IsKeyed, AreKeyed, raised}
 use Rattle.ent_replay.proofs.Legal.{asks, Answers}
 
 module _ (given : List Handle) (s : Allocator) (sound : IsSound s) (is : available s ≡ given) (n own : ℕ) where

@@ -1,14 +1,7 @@
 -- Reservations one after the other: those for nothing can be left out, and of those that follow a
 -- refusal none is served.
-use Rattle.std.proofs.Common.{rules, ◌≡◌, ℕ, ◌+◌, ◌<◌, Bool, true, false, nat_lt, List, [], ◌∷◌, length, filter, Ok, Err, refl, ap, ◌∙◌, arith, inl, inr, ◌⊎◌, append-nil}
-use Rattle.std.proofs.lemmas.Grind.{common_steps}
-use Rattle.std.specs.List.{AllByRecursion}
-use Rattle.std.proofs.lemmas.Bool.{lt-ltb}
-use Rattle.ent_alloc.specs.Sequential.{Allocator, after_take, reply_to}
-use Rattle.ent_alloc.proofs.PoolLaw.{reply-none, after_take-none}
-use Rattle.ent_alloc.proofs.Taken.{after_take-refused}
-use Rattle.ent_replay.specs.declared.trace.placed.Placed.{Placed}
-use Rattle.ent_replay.specs.Trace.{AreAnswered, FitsReserved, after_lines}
+use Rattle.ent_replay.proofs.Common.{rules, ◌≡◌, ℕ, ◌+◌, ◌<◌, Bool, true, false, nat_lt, List, [], ◌∷◌, length, filter, Ok, Err, refl, ap, ◌∙◌, arith, inl, inr, ◌⊎◌, common_steps, AllByRecursion, lt-ltb, Allocator, after_take, reply_to, reply-none, after_take-none, after_take-refused, Placed, AreAnswered, FitsReserved, after_lines}
+use Rattle.std.proofs.Common.{append-nil}
 use Rattle.ent_replay.proofs.Sorted.{lines}
 
 abbrev pub asks : Placed → ℕ

@@ -37,3 +37,4 @@ pub mod Requested
 pub mod Keys
 pub mod WordParts
 pub mod InBrackets
+pub mod Common

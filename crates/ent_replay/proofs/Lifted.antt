@@ -1,19 +1,7 @@
 -- Orders of the lines of a run as orders of its reservations with their keys, and without those for
 -- nothing.
-use Rattle.std.proofs.Common.{rules, ◌≡◌, ℕ, ◌+◌, ◌<◌, ◌≤◌, Bool, List, [], ◌∷◌, ◌++◌, filter, Ok, refl, sym, ap, subst, ◌∙◌, arith, inl, inr}
-use Rattle.std.specs.List.{AllByRecursion}
-use Rattle.std.proofs.lemmas.Bool.{cases_eq, cases_Bool, cond_both}
-use Rattle.std.proofs.lemmas.List.Elements.{filter-append}
-use Rattle.std.proofs.lemmas.List.Sums.{sum_by-cons}
-use Rattle.ent_handle.specs.Handle.{Handle}
-use Rattle.ent_alloc.specs.Sequential.{Allocator, available}
-use Rattle.ent_alloc.specs.Sound.{IsSound}
-use Rattle.ent_replay.specs.declared.trace.call.Call.{Call}
+use Rattle.ent_replay.proofs.Common.{rules, ◌≡◌, ℕ, ◌+◌, ◌<◌, ◌≤◌, Bool, List, [], ◌∷◌, ◌++◌, filter, Ok, refl, sym, ap, subst, ◌∙◌, arith, inl, inr, AllByRecursion, cases_eq, cases_Bool, cond_both, filter-append, sum_by-cons, Handle, Allocator, available, IsSound, Call, ReserveReply, Placed, MayPass, IsOrderOf, FitsReserved, AreAnswered, after_lines, KeyOf, AreKeyed, raised, reservations_of, requested_in}
 use Rattle.ent_replay.specs.declared.trace.call.Call.TheVariants as line
-use Rattle.ent_replay.specs.declared.trace.reply.ReserveReply.{ReserveReply}
-use Rattle.ent_replay.specs.declared.trace.placed.Placed.{Placed}
-use Rattle.ent_replay.specs.Trace.{MayPass, IsOrderOf, FitsReserved, AreAnswered, after_lines}
-use Rattle.ent_replay.specs.Checker.{KeyOf, AreKeyed, raised, reservations_of, requested_in}
 use Rattle.ent_replay.proofs.Sorted.{lines, lines_append, tie, IsRising, TieAlike}
 use Rattle.ent_replay.proofs.Legal.{asks, asks_some, some_or_none, kept, left_out, total, FitsNothing, Answers-some, after-some, nothing-fits, Answers-from_some}
 use Rattle.ent_replay.proofs.KeysOf.{IsOfOther, raised_own, raised_other}

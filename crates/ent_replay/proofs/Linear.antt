@@ -1,21 +1,11 @@
 -- The reservations of a run, in the order of their steps, are a legal history, and each answer
 -- tells a reply of it.
-use Rattle.std.proofs.Common.{rules, ◌≡◌, ◌≢◌, refl, sym, ap, ◌∙◌, ℕ, zero, suc, ◌+◌, List, [], ◌∷◌, ◌++◌, append-nil, Some, None, Ok, ◌⊎◌, inl, inr, arith}
-use Rattle.std.specs.Prelude.{◌==◌}
-use Rattle.std.specs.Ordering.{nat_cmp}
+use Rattle.ent_replay.proofs.Common.{rules, ◌≡◌, ◌≢◌, refl, sym, ap, ◌∙◌, ℕ, zero, suc, ◌+◌, List, [], ◌∷◌, ◌++◌, Some, None, Ok, ◌⊎◌, inl, inr, arith, ◌==◌, nat_cmp, FinMap, nat_tests, same_Some, none-some, Allocator, after_take, reply_to, IsLegal, after_history, asked-after_take, after_take-none, reply-none, Event, MachineState, OpenCall, Reply, Returned, after_event, outcomes_of, reported, reserved_by_request, reservations, Phase, phase_after, last_of, TellsReply, StandInHistory, IsAtRest, new_phase, cond_both}
+use Rattle.std.proofs.Common.{append-nil}
 use Rattle.std.specs.FinMap as finite
-use Rattle.std.specs.FinMap.{FinMap}
-use Rattle.std.proofs.lemmas.Bool.Decides.{nat_tests}
-use Rattle.std.proofs.lemmas.Option.{same_Some, none-some}
-use Rattle.ent_alloc.specs.Sequential.{Allocator, after_take, reply_to}
-use Rattle.ent_alloc.specs.History.{Call, IsLegal, after_history}
-use Rattle.ent_alloc.proofs.PoolLaw.{asked-after_take, after_take-none, reply-none}
-use Rattle.ent_replay.specs.declared.event.Event.{Event}
+use Rattle.ent_alloc.specs.History.{Call}
 use Rattle.ent_replay.specs.declared.event.Event.TheVariants as event
-use Rattle.ent_replay.specs.Schedule.{MachineState, OpenCall, Reply, Returned, after_event, outcomes_of, reported}
-use Rattle.ent_replay.specs.Histories.{reserved_by_request, reservations, Phase, phase_after, last_of, TellsReply, StandInHistory, IsAtRest, new_phase}
 use Rattle.ent_replay.proofs.Maps.{nothing_in, on_inserted, on_removed}
-use Rattle.std.proofs.lemmas.Bool.{cond_both}
 use Rattle.ent_replay.proofs.Conditions.{when, unless}
 use Rattle.ent_replay.proofs.Moves.{Move, move, stays, allocates, frees, flushes, begins, steps, answers}
 

@@ -1,23 +1,8 @@
 -- What is placed of a run, and what is left: one pass over what is left, and what stops it.
-use Rattle.std.proofs.Common.{rules, arith, ◌≡◌, ℕ, ◌+◌, ◌^◌, ◌≤◌, ℤ, pos, ◌-ℤ◌, ◌+ℤ◌, ◌≤ℤ◌, List, [], ◌∷◌, ◌++◌, filter, length, Option, Some, None, refl, sym, ap, subst, ◌∙◌, inl, inr, ◌⊎◌, append-nil, drop, true, false, true≢false, get_or, take}
-use Rattle.std.proofs.lemmas.Int.{ints}
-use Rattle.std.specs.Option.{is_some}
-use Rattle.std.proofs.lemmas.Bool.{cases_eq}
-use Rattle.std.proofs.lemmas.List.{append_assoc, length-append}
-use Rattle.std.proofs.lemmas.List.Elements.{filter-append}
-use Rattle.std.specs.Ordering.{nat_cmp}
+use Rattle.ent_replay.proofs.Common.{rules, arith, ◌≡◌, ℕ, ◌+◌, ◌^◌, ◌≤◌, ℤ, pos, ◌-ℤ◌, ◌+ℤ◌, ◌≤ℤ◌, List, [], ◌∷◌, ◌++◌, filter, length, Option, Some, None, refl, sym, ap, subst, ◌∙◌, inl, inr, ◌⊎◌, drop, true, false, true≢false, get_or, take, ints, is_some, cases_eq, append_assoc, length-append, filter-append, nat_cmp, Allocator, after_take, available, cursor, pool_at, reply_from, asked_at, reply_to, top, IsSound, asked-after_take, cursor-after_take, made-after_take, pool_at-cursor, reply-cursor, top-after_take, after_take-sound, available-after_take, Lineup, Placed, AreAnswered, FitsReserved, after_lines, reserve_reply, FitsAt, IsLineup, KeepsCallers, NoneFits, all_of, is_of, lines_of, IsFirstAt, NamesOne, reached, Difference}
+use Rattle.std.proofs.Common.{append-nil}
 use Rattle.std.specs.FinMap as finite
-use Rattle.ent_alloc.specs.Sequential.{Allocator, after_take, available, cursor, pool_at, reply_from, asked_at, reply_to, top}
-use Rattle.ent_alloc.specs.Sound.{IsSound}
-use Rattle.ent_alloc.proofs.PoolLaw.{asked-after_take, cursor-after_take, made-after_take, pool_at-cursor, reply-cursor, top-after_take}
-use Rattle.ent_alloc.proofs.Soundness.{after_take-sound}
-use Rattle.ent_alloc.proofs.Taken.{available-after_take}
-use Rattle.ent_replay.specs.declared.trace.lineup.Lineup.{Lineup}
 use Rattle.ent_replay.specs.declared.trace.call.Call.TheVariants as line
-use Rattle.ent_replay.specs.declared.trace.placed.Placed.{Placed}
-use Rattle.ent_replay.specs.Trace.{AreAnswered, FitsReserved, after_lines, reserve_reply}
-use Rattle.ent_replay.specs.Lineup.{FitsAt, IsLineup, KeepsCallers, NoneFits, all_of, is_of, lines_of, IsFirstAt, NamesOne, reached}
-use Rattle.ent_replay.specs.declared.trace.difference.Difference.{Difference}
 use Rattle.ent_replay.proofs.Legal.{asks, total}
 use Rattle.ent_replay.proofs.Lifted.{total_append, total_is}
 use Rattle.ent_replay.proofs.Maps.{get-inserted, get-insert_other, nothing_in}

@@ -1,8 +1,5 @@
 -- Lists of which one element is taken out.
-use Rattle.std.proofs.Common.{rules, ◌≡◌, Bool, true, false, List, [], ◌∷◌, ◌++◌, filter, refl, ap, inl, inr}
-use Rattle.std.proofs.lemmas.Bool.{cases_Bool}
-use Rattle.std.proofs.lemmas.List.Elements.{filter-append}
-use Rattle.std.specs.List.{AllByRecursion}
+use Rattle.ent_replay.proofs.Common.{rules, ◌≡◌, Bool, true, false, List, [], ◌∷◌, ◌++◌, filter, refl, ap, inl, inr, cases_Bool, filter-append, AllByRecursion}
 
 -- what holds of all
 module _ {X : Type 0} (P : X → Type 0) where

@@ -1,19 +1,8 @@
 -- What a test of a machine's answer tells, and what a refusal for lack of memory has to be.
-use Rattle.std.proofs.Common.{rules, ◌≡◌, sym, ◌∙◌, ℕ, ◌<◌, Bool, true, false, nat_lt, List, ◌∷◌, length, drop, slice_get, Option, Some, None, Result, Ok, Err, arith}
-use Rattle.std.specs.Option.{option_map, is_some}
-use Rattle.std.specs.Result.{OnOk, OnErr, is_err}
-use Rattle.std.proofs.lemmas.Bool.Decides.{nat_tests}
+use Rattle.ent_replay.proofs.Common.{rules, ◌≡◌, sym, ◌∙◌, ℕ, ◌<◌, Bool, true, false, nat_lt, List, ◌∷◌, length, drop, slice_get, Option, Some, None, Result, Ok, Err, arith, option_map, is_some, OnOk, OnErr, is_err, nat_tests, Handle, next, Allocator, Outcome, ReplayFault, MachineState, Returned, event_takes_memory, Makes, machine_state, AreConsistent, nat_cmp, StoredCall}
 use Rattle.std.specs.FinMap as finite
-use Rattle.ent_handle.specs.Handle.{Handle}
-use Rattle.ent_alloc.specs.Sequential.{next, Allocator}
-use Rattle.ent_replay.specs.declared.outcome.Outcome.{Outcome}
-use Rattle.ent_replay.specs.declared.fault.ReplayFault.{ReplayFault}
 use Rattle.ent_replay.specs.declared.fault.ReplayFault.TheVariants as fault
-use Rattle.ent_replay.specs.Schedule.{MachineState, Returned, event_takes_memory}
-use Rattle.ent_replay.specs.Machine.{Makes, machine_state, AreConsistent}
 use Rattle.ent_replay.proofs.Maps.{no_test}
-use Rattle.std.specs.Ordering.{nat_cmp}
-use Rattle.ent_replay.specs.declared.stored_call.StoredCall.{StoredCall}
 
 -- The machine did what the step says, or refused for lack of memory: told of the values that a
 -- contract sees.

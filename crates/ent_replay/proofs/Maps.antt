@@ -1,19 +1,7 @@
 -- Maps of callers: what a tree's entries stand for, and the values of a map under a function.
-use Rattle.std.proofs.Common.{rules, ◌≡◌, ◌≢◌, refl, sym, ap, ◌∙◌, ℕ, true, false, cond, List, [], ◌∷◌, map, Some, None, arith, eq-eqb, ne_eqb}
-use Rattle.std.proofs.lemmas.Bool.{cases_eq}
-use Rattle.std.proofs.lemmas.Option.{same_Some}
-use Rattle.std.proofs.lemmas.Grind.{common_steps}
-use Rattle.std.specs.Option.{option_map, IsSome}
-use Rattle.std.specs.Ordering.{nat_cmp, eq_by_cmp}
-use Rattle.std.specs.Cmp.{nat_cmp_total, eq_by_cmp_equiv, unsigned_tied}
-use Rattle.std.proofs.lemmas.Bool.Decides.{nat_tests}
-use Rattle.std.specs.Map.{lookup, set_value}
-use Rattle.std.proofs.lemmas.Map.{lookup-set_value}
+use Rattle.ent_replay.proofs.Common.{rules, ◌≡◌, ◌≢◌, refl, sym, ap, ◌∙◌, ℕ, true, false, cond, List, [], ◌∷◌, map, Some, None, arith, eq-eqb, ne_eqb, cases_eq, same_Some, common_steps, option_map, IsSome, nat_cmp, eq_by_cmp, nat_cmp_total, eq_by_cmp_equiv, unsigned_tied, nat_tests, lookup, set_value, lookup-set_value, BTreeMap, is_at, FinMap, find, same_map, nat_cmp-IsAntisymmetric, get-from_entries, get-entries, get-insert, get-remove, get-empty, map_values}
 use Rattle.std.specs.BTreeMap as tree
-use Rattle.std.specs.BTreeMap.{BTreeMap, is_at}
 use Rattle.std.specs.FinMap as finite
-use Rattle.std.specs.FinMap.{FinMap, find, same_map, nat_cmp-IsAntisymmetric, get-from_entries, get-entries, get-insert, get-remove, get-empty}
-use Rattle.ent_replay.specs.Machine.{map_values}
 
 -- ---- keys
 

@@ -1,23 +1,11 @@
 -- The kinds of event, by what they do to a machine.
-use Rattle.std.proofs.Common.{rules, ◌≡◌, refl, ℕ, ◌+◌, ◌<◌, Bool, true, false, cond, nat_lt, List, [], ◌∷◌, Option, Some, None, Result, Ok, Err, arith}
-use Rattle.std.specs.Ordering.{nat_cmp}
+use Rattle.ent_replay.proofs.Common.{rules, ◌≡◌, refl, ℕ, ◌+◌, ◌<◌, Bool, true, false, cond, nat_lt, List, [], ◌∷◌, Option, Some, None, Result, Ok, Err, arith, nat_cmp, FinMap, empty_of_len, cond_both, nat_tests, Handle, cursor, after_take, after_alloc, after_free, after_flush, next, born, reply_to, IsLive, Event, Outcome, ReplayFault, MachineState, OpenCall, Reply, Returned, is_busy, on_event, alloc_front, begin_with, step_with, step_open, answer_with, say, answer_open, spent_by, left_of, callers, reported, refuse, reserved_by_request, reserved_by_call, reservations, given_by}
 use Rattle.std.specs.FinSet as set
 use Rattle.std.specs.FinMap as finite
-use Rattle.std.specs.FinMap.{FinMap, empty_of_len}
-use Rattle.std.proofs.lemmas.Bool.{cond_both}
-use Rattle.std.proofs.lemmas.Bool.Decides.{nat_tests}
-use Rattle.ent_handle.specs.Handle.{Handle}
-use Rattle.ent_alloc.specs.Sequential.{cursor, after_take, after_alloc, after_free, after_flush, next, born, reply_to}
-use Rattle.ent_alloc.specs.Sound.{IsLive}
 use Rattle.ent_alloc.specs.History.{Call}
-use Rattle.ent_replay.specs.declared.event.Event.{Event}
 use Rattle.ent_replay.specs.declared.event.Event.TheVariants as event
-use Rattle.ent_replay.specs.declared.outcome.Outcome.{Outcome}
 use Rattle.ent_replay.specs.declared.outcome.Outcome.TheVariants as outcome
-use Rattle.ent_replay.specs.declared.fault.ReplayFault.{ReplayFault}
 use Rattle.ent_replay.specs.declared.fault.ReplayFault.TheVariants as fault
-use Rattle.ent_replay.specs.Schedule.{MachineState, OpenCall, Reply, Returned, is_busy, on_event, alloc_front, begin_with, step_with, step_open, answer_with, say, answer_open, spent_by, left_of, callers, reported, refuse}
-use Rattle.ent_replay.specs.Histories.{reserved_by_request, reserved_by_call, reservations, given_by}
 
 -- What the event returns, with the state after it, and what it reserves: it leaves all as it was; it
 -- allocates, frees, flushes; it begins a call, makes its step, answers it.

@@ -1,17 +1,9 @@
 -- Orders that lines may have come in: of a front and a rest, and what they are answered.
-use Rattle.std.proofs.Common.{arith, rules, ◌≡◌, ℕ, List, [], ◌∷◌, ◌++◌, refl, ap, subst, length, sym, ◌∙◌, inl, inr}
-use Rattle.std.proofs.lemmas.Grind.{common_steps}
-use Rattle.std.proofs.lemmas.List.{append_assoc, append-nil, length-append}
-use Rattle.ent_alloc.specs.Sequential.{Allocator}
-use Rattle.ent_replay.specs.declared.trace.call.Call.{Call}
+use Rattle.ent_replay.proofs.Common.{arith, rules, ◌≡◌, ℕ, List, [], ◌∷◌, ◌++◌, refl, ap, subst, length, sym, ◌∙◌, inl, inr, common_steps, append_assoc, append-nil, length-append, Allocator, Call, Reservation, Fits, AreAnswered, after_line, after_lines, IsAlone, IsOrderOf, Checked, reserve_lines, AgreesWith, IsSettled, Follows, Reaches, Differs, IfReserve, Shows, HasNoOrder, NoneFollows, Difference}
 use Rattle.ent_replay.specs.declared.trace.call.Call.TheVariants as line
-use Rattle.ent_replay.specs.declared.trace.reservation.Reservation.{Reservation}
-use Rattle.ent_replay.specs.Trace.{Fits, AreAnswered, after_line, after_lines, IsAlone, IsOrderOf}
-use Rattle.ent_replay.specs.Checker.{Checked, reserve_lines, AgreesWith, IsSettled, Follows, Reaches, Differs, IfReserve, Shows, HasNoOrder, NoneFollows}
 use Rattle.ent_replay.proofs.Parting.{IsReserve, parts, parted, all_reserve}
 use Rattle.ent_replay.proofs.Lists.{all_at}
 use Rattle.ent_replay.proofs.Requested.{reserves-ordered}
-use Rattle.ent_replay.specs.declared.trace.difference.Difference.{Difference}
 
 -- an order of the front and one of the rest are one of all
 pub IsOrderOf-append : (front rest first second : List Call) → IsOrderOf front first → IsOrderOf rest second

@@ -1,14 +1,7 @@
 -- An order of lines of which one overlaps nothing: an order of those before it, that line, and an
 -- order of those after it.
-use Rattle.std.proofs.lemmas.Grind.{common_steps}
-use Rattle.std.proofs.Common.{rules, arith, ◌≡◌, List, [], ◌∷◌, ◌++◌, refl, subst, ◌⊎◌, inl, inr}
-use Rattle.std.specs.List.{AllByRecursion}
-use Rattle.std.proofs.lemmas.List.{append_assoc}
-use Rattle.ent_replay.specs.declared.trace.call.Call.{Call}
+use Rattle.ent_replay.proofs.Common.{common_steps, rules, arith, ◌≡◌, List, [], ◌∷◌, ◌++◌, refl, subst, ◌⊎◌, inl, inr, AllByRecursion, append_assoc, Call, Reservation, MayPass, IsAlone, IsOrderOf, reserve_lines}
 use Rattle.ent_replay.specs.declared.trace.call.Call.TheVariants as line
-use Rattle.ent_replay.specs.declared.trace.reservation.Reservation.{Reservation}
-use Rattle.ent_replay.specs.Trace.{MayPass, IsAlone, IsOrderOf}
-use Rattle.ent_replay.specs.Checker.{reserve_lines}
 use Rattle.ent_replay.proofs.Lists.{all_at, all_without, no_middle}
 
 abbrev pub IsReserve : Call → Type 0

@@ -1,17 +1,6 @@
 -- What the answers of a checker say of all its calls together.
-use Rattle.std.proofs.Common.{◌≡◌, List, [], ◌∷◌, ◌++◌, Result, Ok, Err, refl, ap, subst, ◌∙◌, rules, inl, inr, ◌⊎◌}
-use Rattle.std.specs.Prelude.{IsOk, OnOk, OnErr}
-use Rattle.std.proofs.lemmas.List.{append-nil}
-use Rattle.ent_alloc.specs.Limits.{Limits}
-use Rattle.ent_alloc.specs.Sequential.{opening}
-use Rattle.ent_replay.specs.declared.trace.call.Call.{Call}
-use Rattle.ent_replay.specs.declared.trace.check_error.CheckError.{CheckError}
+use Rattle.ent_replay.proofs.Common.{◌≡◌, List, [], ◌∷◌, ◌++◌, Result, Ok, Err, refl, ap, subst, ◌∙◌, rules, inl, inr, ◌⊎◌, IsOk, append-nil, Limits, opening, Call, CheckError, Checker, Difference, AgreesWith, AllFollow, Checked, Follows, opened, Agrees, Compares, Finishes, Takes, TakesAll, numbered, numbered_after, one_more, OnOk, OnErr}
 use Rattle.ent_replay.specs.declared.trace.check_error.CheckError.TheVariants as error
-use Rattle.ent_replay.specs.declared.trace.checker.Checker.{Checker}
-use Rattle.ent_replay.specs.declared.trace.difference.Difference.{Difference}
-use Rattle.ent_replay.specs.Checker.{AgreesWith, AllFollow, Checked, Follows, opened}
-use Rattle.ent_replay.specs.Trace.{Agrees}
-use Rattle.ent_replay.specs.Recording.{Compares, Finishes, Takes, TakesAll, numbered, numbered_after, one_more}
 
 ok_or_err : {X E : Type 0} (r : Result X E) → ((x : X) × (r ≡ Ok x)) ⊎ ((e : E) × (r ≡ Err e))
 ok_or_err (Ok x) = inl (x, refl)

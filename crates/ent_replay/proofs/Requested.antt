@@ -1,19 +1,6 @@
 -- What the lines that were taken request.
-use Rattle.std.proofs.Common.{rules, ◌≡◌, ℕ, ◌+◌, Bool, true, false, if◌then◌else◌, arith, List, [], ◌∷◌, ◌++◌, Option, ap, sym, refl}
-use Rattle.std.proofs.lemmas.List.Sums.{sum_by-cons, sum_by_push}
-use Rattle.std.specs.List.{AllByRecursion}
-use Rattle.ent_handle.specs.Handle.{Handle}
-use Rattle.ent_alloc.specs.Sequential.{Allocator, after_free}
-use Rattle.ent_alloc.proofs.PoolLaw.{asked-after_take}
-use Rattle.ent_replay.specs.declared.trace.call.Call.{Call}
+use Rattle.ent_replay.proofs.Common.{rules, ◌≡◌, ℕ, ◌+◌, Bool, true, false, if◌then◌else◌, arith, List, [], ◌∷◌, ◌++◌, Option, ap, sym, refl, sum_by-cons, sum_by_push, AllByRecursion, Handle, Allocator, after_free, asked-after_take, Call, Reservation, IsOrderOf, after_front, after_line, after_lines, Checked, IsSettled, Reaches, ReachesAll, requested_in, reserve_lines, AllocReply, FreeReply, FlushReply, State}
 use Rattle.ent_replay.specs.declared.trace.call.Call.TheVariants as line
-use Rattle.ent_replay.specs.declared.trace.reservation.Reservation.{Reservation}
-use Rattle.ent_replay.specs.Trace.{IsOrderOf, after_front, after_line, after_lines}
-use Rattle.ent_replay.specs.Checker.{Checked, IsSettled, Reaches, ReachesAll, requested_in, reserve_lines}
-use Rattle.ent_replay.specs.declared.trace.reply.AllocReply.{AllocReply}
-use Rattle.ent_replay.specs.declared.trace.reply.FreeReply.{FreeReply}
-use Rattle.ent_replay.specs.declared.trace.reply.FlushReply.{FlushReply}
-use Rattle.ent_alloc.specs.declared.state.State.{State}
 use Rattle.ent_replay.proofs.Lists.{all_at, all_without}
 use Rattle.ent_replay.proofs.Parting.{IsReserve, all_reserve}
 

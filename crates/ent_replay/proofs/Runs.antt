@@ -1,14 +1,5 @@
 -- The reservations of a run one after the other: what is left to be made.
-use Rattle.std.proofs.Common.{rules, ◌≡◌, ℕ, ◌+◌, ◌^◌, ◌<◌, ◌≤◌, List, length, drop, get_or, arith}
-use Rattle.std.proofs.lemmas.Grind.{common_steps}
-use Rattle.std.proofs.Math.Seq.{drop-cons}
-use Rattle.std.proofs.lemmas.List.{drop_all}
-use Rattle.std.proofs.lemmas.List.Sums.{sum_by-cons}
-use Rattle.ent_alloc.specs.Sequential.{Allocator, after_take}
-use Rattle.ent_alloc.proofs.PoolLaw.{asked-after_take}
-use Rattle.ent_replay.specs.declared.trace.placed.Placed.{Placed}
-use Rattle.ent_replay.specs.Trace.{after_lines}
-use Rattle.ent_replay.specs.Checker.{reservations_of, requested_in}
+use Rattle.ent_replay.proofs.Common.{rules, ◌≡◌, ℕ, ◌+◌, ◌^◌, ◌<◌, ◌≤◌, List, length, drop, get_or, arith, common_steps, drop-cons, drop_all, sum_by-cons, Allocator, after_take, asked-after_take, Placed, after_lines, reservations_of, requested_in}
 use Rattle.ent_replay.proofs.Sorted.{lines}
 
 -- those before an index were made

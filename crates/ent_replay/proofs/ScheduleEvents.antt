@@ -1,25 +1,7 @@
 -- An event is read from its own text and from no other.
-use Rattle.std.proofs.Common.{rules, ◌≡◌, ℕ, ◌^◌, ◌<◌, Bool, true, false, not, cond, eqb, List, [], ◌∷◌, ◌++◌, All, Result, Ok, refl, sym, ap, ◌∙◌, append_assoc, arith}
-use Rattle.std.proofs.lemmas.Grind.{common_steps}
-use Rattle.std.specs.Prelude.{codes}
-use Rattle.std.specs.Char.{is_ascii_digit}
-use Rattle.std.specs.Fmt.{decimal}
-use Rattle.std.specs.List.{join_with_byte, list_all, slice_split}
-use Rattle.std.specs.Str.{bytes_eq}
-use Rattle.std.proofs.lemmas.Bool.{and_parts, and_from, false≢true}
-use Rattle.std.proofs.lemmas.List.Splits.{slice_split_none, slice_split_at}
-use Rattle.std.proofs.lemmas.List.Sums.{AllPass-from_list_all}
-use Rattle.std.proofs.lemmas.Slice.Eq.{bytes_eq-Decides}
-use Rattle.ent_handle.specs.Handle.{Handle, IsHandle}
-use Rattle.ent_handle.specs.Text.{number_of, handle_of, handle_text}
-use Rattle.ent_handle.specs.declared.text.TextFault.{TextFault}
-use Rattle.ent_handle.proofs.Decimals.{plain_from_decimal, decimal_is_decimal, number_found, number_of-decimal}
-use Rattle.ent_handle.proofs.HandleTexts.{handle_found, handle_of_text}
-use Rattle.ent_replay.specs.declared.event.Event.{Event}
-use Rattle.ent_replay.specs.declared.event.Event.TheVariants.{Alloc, Free, Flush, Begin, Step, Answer}
-use Rattle.ent_replay.specs.declared.read_fault.Cause.{Cause}
+use Rattle.ent_replay.proofs.Common.{rules, ◌≡◌, ℕ, ◌^◌, ◌<◌, Bool, true, false, not, cond, eqb, List, [], ◌∷◌, ◌++◌, All, Result, Ok, refl, sym, ap, ◌∙◌, arith, common_steps, codes, is_ascii_digit, decimal, join_with_byte, list_all, slice_split, bytes_eq, and_parts, and_from, false≢true, slice_split_none, slice_split_at, AllPass-from_list_all, bytes_eq-Decides, Handle, IsHandle, number_of, handle_of, handle_text, TextFault, plain_from_decimal, decimal_is_decimal, number_found, number_of-decimal, handle_found, handle_of_text, Event, Alloc, Free, Flush, Begin, Step, Answer, Cause, ◌>>=◌, event_text, IsEvent, words_of, or_cause, number_word, handle_word, none, one, two, begin_of, event_with, event_of}
+use Rattle.std.proofs.Common.{append_assoc}
 use Rattle.ent_replay.specs.declared.read_fault.Cause.TheVariants as cause
-use Rattle.ent_replay.specs.ScheduleText.{◌>>=◌, event_text, IsEvent, words_of, or_cause, number_word, handle_word, none, one, two, begin_of, event_with, event_of}
 
 -- ---- steps that did not fail
 

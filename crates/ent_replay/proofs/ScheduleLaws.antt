@@ -1,17 +1,8 @@
 -- What is read is spelled so, what is spelled so is read, and a refused text has events up to the
 -- line that is named.
-use Rattle.std.proofs.Common.{rules, ◌≡◌, ℕ, ◌+◌, ◌<◌, ◌⊎◌, Bool, eqb, List, [], ◌∷◌, ◌++◌, length, map, Result, Ok, Err, refl, sym, ap, subst, ◌∙◌, inl, inr, append_assoc, arith}
-use Rattle.std.proofs.lemmas.Grind.{common_steps}
-use Rattle.std.specs.List.{flat_map, join_with_byte, slice_split, onto_first}
-use Rattle.std.proofs.lemmas.Bool.{cases_Bool}
-use Rattle.std.proofs.lemmas.List.Folds.{flat_map-map}
-use Rattle.std.proofs.lemmas.List.Splits.{join_with_byte-slice_split}
-use Rattle.ent_replay.specs.declared.event.Event.{Event}
-use Rattle.ent_replay.specs.declared.event.Event.TheVariants.{Alloc}
-use Rattle.ent_replay.specs.declared.read_fault.Cause.{Cause}
-use Rattle.ent_replay.specs.declared.read_fault.ReadFault.{ReadFault}
-use Rattle.ent_replay.specs.declared.read_fault.ReadFault.TheVariants.{Line}
-use Rattle.ent_replay.specs.ScheduleText.{event_text, AreEvents, schedule_text, Spells, without_empty_end, lines_of, words_of, event_of, goes_on, events_of, schedule_of, ExplainsFault}
+use Rattle.ent_replay.proofs.Common.{rules, ◌≡◌, ℕ, ◌+◌, ◌<◌, ◌⊎◌, Bool, eqb, List, [], ◌∷◌, ◌++◌, length, map, Result, Ok, Err, refl, sym, ap, subst, ◌∙◌, inl, inr, arith, common_steps, flat_map, join_with_byte, slice_split, onto_first, cases_Bool, flat_map-map, join_with_byte-slice_split, Event, Alloc, Cause, ReadFault, Line, event_text, AreEvents, schedule_text, Spells, without_empty_end, words_of, event_of, goes_on, events_of, schedule_of, ExplainsFault}
+use Rattle.std.proofs.Common.{append_assoc}
+use Rattle.ent_replay.specs.ScheduleText.{lines_of}
 use Rattle.ent_replay.proofs.ScheduleEvents.{split_at_lacking, event_lacks, event_found, event_again}
 use Rattle.ent_replay.proofs.ScheduleWords.{parts_nonempty, without_empty_end-cons}
 

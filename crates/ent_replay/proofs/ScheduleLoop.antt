@@ -1,11 +1,6 @@
 -- Reading line after line, as a loop does.
-use Rattle.std.proofs.Common.{rules, ◌≡◌, ℕ, ◌+◌, List, ◌∷◌, ◌++◌, length, Result, Ok, Err}
-use Rattle.std.proofs.lemmas.List.{append-nil, nil_from_length}
-use Rattle.ent_replay.specs.declared.event.Event.{Event}
-use Rattle.ent_replay.specs.declared.read_fault.Cause.{Cause}
-use Rattle.ent_replay.specs.declared.read_fault.ReadFault.{ReadFault}
-use Rattle.ent_replay.specs.declared.read_fault.ReadFault.TheVariants.{Line}
-use Rattle.ent_replay.specs.ScheduleText.{lines_of, words_of, event_of, events_of}
+use Rattle.ent_replay.proofs.Common.{rules, ◌≡◌, ℕ, ◌+◌, List, ◌∷◌, ◌++◌, length, Result, Ok, Err, append-nil, nil_from_length, Event, Cause, ReadFault, Line, words_of, event_of, events_of}
+use Rattle.ent_replay.specs.ScheduleText.{lines_of}
 
 -- the events so far, and what is read after them
 abbrev pub with_front : List Event → Result (List Event) ReadFault → Result (List Event) ReadFault

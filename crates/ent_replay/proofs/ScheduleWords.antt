@@ -1,11 +1,8 @@
 -- Lines and words: what stands before the first separator, and then the parts of what stands after
 -- it.
-use Rattle.std.proofs.Common.{rules, ◌≡◌, ◌≢◌, ℕ, ◌<◌, false, eqb, List, [], ◌∷◌, ◌++◌, length, All, Err, arith}
-use Rattle.std.specs.List.{slice_split}
-use Rattle.std.proofs.lemmas.Bool.{eq-eqb, ne_eqb}
-use Rattle.std.proofs.lemmas.List.Splits.{slice_split_none, slice_split_at, length-slice_split}
+use Rattle.ent_replay.proofs.Common.{rules, ◌≡◌, ◌≢◌, ℕ, ◌<◌, false, eqb, List, [], ◌∷◌, ◌++◌, length, All, Err, arith, slice_split, slice_split_none, slice_split_at, length-slice_split, without_empty_end, words_of, none, one, eq-eqb, ne_eqb}
 use Rattle.ent_replay.specs.declared.read_fault.Cause.TheVariants as cause
-use Rattle.ent_replay.specs.ScheduleText.{without_empty_end, lines_of, words_of, none, one}
+use Rattle.ent_replay.specs.ScheduleText.{lines_of}
 
 abbrev pub IsWithout : ℕ → List ℕ → Type 0
 IsWithout separator bytes = All (λ byte. byte ≢ separator) bytes

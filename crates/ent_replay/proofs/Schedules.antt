@@ -1,7 +1,5 @@
 -- Whole schedules: one event more, and one part after the other.
-use Rattle.std.proofs.Common.{rules, ◌≡◌, refl, List, [], ◌∷◌, ◌++◌}
-use Rattle.ent_replay.specs.declared.event.Event.{Event}
-use Rattle.ent_replay.specs.Schedule.{MachineState, after_event, outcomes_of, after_events}
+use Rattle.ent_replay.proofs.Common.{rules, ◌≡◌, refl, List, [], ◌∷◌, ◌++◌, Event, MachineState, after_event, outcomes_of, after_events}
 
 pub after_events-append : (s : MachineState) (xs ys : List Event)
     → after_events s (xs ++ ys) ≡ after_events (after_events s xs) ys

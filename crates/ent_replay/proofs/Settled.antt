@@ -1,15 +1,5 @@
 -- The sorted run is lined up: all of it is placed, or no order of the run is answered so.
-use Rattle.std.proofs.Common.{rules, ◌≡◌, ◌≢◌, ℕ, ◌++◌, ◌≤◌, List, [], ◌∷◌, filter}
-use Rattle.std.proofs.lemmas.List.{append-nil}
-use Rattle.ent_alloc.specs.Sequential.{Allocator, available}
-use Rattle.ent_alloc.specs.Sound.{IsSound}
-use Rattle.ent_replay.specs.declared.trace.call.Call.{Call}
-use Rattle.ent_replay.specs.declared.trace.lineup.Lineup.{Lineup}
-use Rattle.ent_replay.specs.declared.trace.placed.Placed.{Placed}
-use Rattle.ent_replay.specs.declared.trace.difference.Difference.{Difference}
-use Rattle.ent_replay.specs.Trace.{AreAnswered, IsOrderOf, after_lines}
-use Rattle.ent_replay.specs.Checker.{AreKeyed, AreSteady, HasNoOrder, IsSettled, Shows, requested_in, reservations_of}
-use Rattle.ent_replay.specs.Lineup.{IsLineup, KeepsCallers, NamesOne, NoneFits, all_of, lines_of, reached}
+use Rattle.ent_replay.proofs.Common.{rules, ◌≡◌, ◌≢◌, ℕ, ◌++◌, ◌≤◌, List, [], ◌∷◌, filter, append-nil, Allocator, available, IsSound, Call, Lineup, Placed, Difference, AreAnswered, IsOrderOf, after_lines, AreKeyed, AreSteady, HasNoOrder, IsSettled, Shows, requested_in, reservations_of, IsLineup, KeepsCallers, NamesOne, NoneFits, all_of, lines_of, reached}
 use Rattle.ent_replay.proofs.Lists.{split, all_left}
 use Rattle.ent_replay.proofs.Complete.{IsPlacedOrder}
 use Rattle.ent_replay.proofs.Lifted.{others_of, sorted_run}

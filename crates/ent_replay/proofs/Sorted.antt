@@ -1,17 +1,7 @@
 -- A sorted run is in an order that its reservations may have come in: a stable sort by keys that don't
 -- fall along a caller keeps each caller's order.
-use Rattle.std.proofs.Common.{rules, ◌≡◌, ℕ, suc, ◌≤◌, Bool, true, false, not, ◌&&◌, cond, nat_lt, List, [], ◌∷◌, ◌++◌, filter, All, refl, sym, ◌∙◌, arith, true≢false}
-use Rattle.std.proofs.lemmas.Grind.{common_steps}
-use Rattle.std.specs.List.{AllByRecursion}
-use Rattle.std.specs.List.Sorted.{ties, IsNonDecreasingBy}
-use Rattle.std.specs.Ordering.{nat_cmp, is_lt}
-use Rattle.std.proofs.lemmas.Bool.{le-ltb, cases_Bool}
-use Rattle.std.proofs.lemmas.List.Elements.{All-head, All-tail, All-cons, All-filter, All-from_recursion, recursion_from_All}
-use Rattle.ent_replay.specs.declared.trace.call.Call.{Call}
+use Rattle.ent_replay.proofs.Common.{rules, ◌≡◌, ℕ, suc, ◌≤◌, Bool, true, false, not, ◌&&◌, cond, nat_lt, List, [], ◌∷◌, ◌++◌, filter, All, refl, sym, ◌∙◌, arith, true≢false, common_steps, AllByRecursion, ties, IsNonDecreasingBy, nat_cmp, is_lt, le-ltb, cases_Bool, All-head, All-tail, All-cons, All-filter, All-from_recursion, recursion_from_All, Call, Placed, MayPass, reservations_of, reserve_lines, ComesAfter, AreSteady}
 use Rattle.ent_replay.specs.declared.trace.call.Call.TheVariants as line
-use Rattle.ent_replay.specs.declared.trace.placed.Placed.{Placed}
-use Rattle.ent_replay.specs.Trace.{MayPass}
-use Rattle.ent_replay.specs.Checker.{reservations_of, reserve_lines, ComesAfter, AreSteady}
 use Rattle.ent_replay.proofs.Lists.{all_at, all_without, all_weaker, none_kept, kept_forward, kept_rest}
 
 abbrev pub lines : List Placed → List Call

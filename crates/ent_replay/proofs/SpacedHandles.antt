@@ -1,10 +1,6 @@
 -- Handles following one another, each with its space.
-use Rattle.std.proofs.Common.{rules, ◌≡◌, ℕ, ◌+◌, ◌<◌, ◌≤◌, List, [], ◌∷◌, ◌++◌, length, get_or, drop, max, refl, sym, ap, ◌∙◌, arith, length-append}
-use Rattle.std.proofs.lemmas.Grind.{common_steps}
-use Rattle.std.proofs.lemmas.List.{append-nil}
-use Rattle.ent_handle.specs.Handle.{Handle}
-use Rattle.ent_handle.specs.Text.{handle_text}
-use Rattle.ent_replay.specs.OutcomeText.{handles_text, spaced}
+use Rattle.ent_replay.proofs.Common.{rules, ◌≡◌, ℕ, ◌+◌, ◌<◌, ◌≤◌, List, [], ◌∷◌, ◌++◌, length, get_or, drop, max, refl, sym, ap, ◌∙◌, arith, common_steps, append-nil, Handle, handle_text, handles_text, spaced}
+use Rattle.std.proofs.Common.{length-append}
 
 -- the texts from a handle on begin with its own
 pub length-spaced_drop : (handles : List Handle) (i : ℕ) (h : Handle) → i < length handles → h ≡ get_or handles i h

@@ -1,9 +1,5 @@
 -- What holds of a result holds of it in other words.
-use Rattle.std.proofs.Common.{rules, Result}
-use Rattle.std.specs.Result.{IfOk, IfErr, OnOk}
-use Rattle.ent_replay.specs.declared.trace.difference.Difference.{Difference}
-use Rattle.ent_replay.specs.declared.trace.check_error.CheckError.{CheckError}
-use Rattle.ent_replay.specs.Checker.{OnDiffers}
+use Rattle.ent_replay.proofs.Common.{rules, Result, IfOk, IfErr, OnOk, Difference, CheckError, OnDiffers}
 
 pub on_differs : (s : CheckError) (P Q : Difference → Type 0) → ((d : Difference) → P d → Q d) → OnDiffers s P
     → OnDiffers s Q

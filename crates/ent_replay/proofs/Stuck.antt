@@ -1,16 +1,7 @@
 -- If no caller's first reservation that is left fits, no line that may come next does.
-use Rattle.std.proofs.Common.{arith, ◌≡◌, ℕ, List, [], ◌∷◌, ◌++◌, filter, length, refl, sym, ap, subst, Bool, true, false, cond, ◌==◌}
-use Rattle.std.proofs.lemmas.List.{append-nil}
-use Rattle.std.proofs.lemmas.List.Elements.{filter-append}
-use Rattle.ent_alloc.specs.Sequential.{Allocator}
-use Rattle.ent_replay.specs.declared.trace.difference.Difference.{Difference}
-use Rattle.ent_replay.specs.declared.trace.call.Call.{Call}
+use Rattle.ent_replay.proofs.Common.{arith, ◌≡◌, ℕ, List, [], ◌∷◌, ◌++◌, filter, length, refl, sym, ap, subst, Bool, true, false, cond, append-nil, filter-append, Allocator, Difference, Call, Lineup, Placed, Fits, IsOrderOf, HasNoOrder, Shows, reservations_of, IsLineup, KeepsCallers, NamesOne, NoneFits, all_of, is_of, lines_of, reached}
+use Rattle.std.proofs.Common.{◌==◌}
 use Rattle.ent_replay.specs.declared.trace.call.Call.TheVariants as line
-use Rattle.ent_replay.specs.declared.trace.lineup.Lineup.{Lineup}
-use Rattle.ent_replay.specs.declared.trace.placed.Placed.{Placed}
-use Rattle.ent_replay.specs.Trace.{Fits, IsOrderOf}
-use Rattle.ent_replay.specs.Checker.{HasNoOrder, Shows, reservations_of}
-use Rattle.ent_replay.specs.Lineup.{IsLineup, KeepsCallers, NamesOne, NoneFits, all_of, is_of, lines_of, reached}
 use Rattle.ent_replay.proofs.Lists.{split, none_kept}
 use Rattle.ent_replay.proofs.Lifted.{lifted, unmapped}
 use Rattle.ent_replay.proofs.Sorted.{lines_append}

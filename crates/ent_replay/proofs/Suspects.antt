@@ -1,13 +1,7 @@
 -- Which of those that are left is its caller's first one.
-use Rattle.std.proofs.Common.{rules, arith, ◌≡◌, ◌≢◌, ℕ, suc, ◌+◌, ◌<◌, List, [], ◌∷◌, ◌++◌, filter, length, take, drop, get_or, None, refl, append-nil}
-use Rattle.std.proofs.Math.Seq.{drop-cons}
-use Rattle.std.proofs.lemmas.Bool.{cases_eq}
-use Rattle.std.proofs.lemmas.List.{take_more, take-append-drop, length-take}
-use Rattle.std.proofs.lemmas.List.Elements.{filter-append}
-use Rattle.std.specs.Ordering.{nat_cmp}
+use Rattle.ent_replay.proofs.Common.{rules, arith, ◌≡◌, ◌≢◌, ℕ, suc, ◌+◌, ◌<◌, List, [], ◌∷◌, ◌++◌, filter, length, take, drop, get_or, None, refl, drop-cons, cases_eq, take_more, take-append-drop, length-take, filter-append, nat_cmp, Placed, IsFirstAt, is_of}
+use Rattle.std.proofs.Common.{append-nil}
 use Rattle.std.specs.FinMap as finite
-use Rattle.ent_replay.specs.declared.trace.placed.Placed.{Placed}
-use Rattle.ent_replay.specs.Lineup.{IsFirstAt, is_of}
 use Rattle.ent_replay.proofs.Maps.{get-inserted, get-insert_other}
 use Rattle.ent_replay.proofs.Callers.{other}
 

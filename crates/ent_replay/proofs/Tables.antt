@@ -1,15 +1,8 @@
 -- Tables with a place for each number: what the map of their values has, and how many there are.
-use Rattle.std.proofs.lemmas.Grind.{common_steps, get_or-set_at}
-use Rattle.std.proofs.Common.{◌≡◌, refl, sym, ap, ◌∙◌, ℕ, zero, suc, ◌+◌, ◌<◌, ◌≤◌, List, [], ◌∷◌, ◌++◌, length, get_or, set, take, replicate, Option, Some, None, IsSome, rules, arith}
-use Rattle.std.proofs.Math.ListN.{get_or-eq_default}
-use Rattle.std.proofs.lemmas.Bool.{cases_eq}
-use Rattle.std.proofs.lemmas.List.{get_or-set_other, take_all}
-use Rattle.std.proofs.lemmas.List.Sums.{sum_by-cons}
-use Rattle.std.specs.Ordering.{nat_cmp}
-use Rattle.std.specs.Cmp.{nat_cmp_total}
+use Rattle.ent_replay.proofs.Common.{common_steps, get_or-set_at, ◌≡◌, refl, sym, ap, ◌∙◌, ℕ, zero, suc, ◌+◌, ◌<◌, ◌≤◌, List, [], ◌∷◌, ◌++◌, length, get_or, set, take, replicate, Option, Some, None, rules, arith, get_or-eq_default, cases_eq, get_or-set_other, take_all, sum_by-cons, nat_cmp, nat_cmp_total, find, get-from_entries, get-empty, by_place, one_if_some, values_in}
+use Rattle.std.proofs.Common.{IsSome}
 use Rattle.std.specs.FinMap as finite
-use Rattle.std.specs.FinMap.{find, get-from_entries, get-empty}
-use Rattle.ent_replay.specs.Table.{numbered, by_place, one_if_some, values_in}
+use Rattle.ent_replay.specs.Table.{numbered}
 use Rattle.ent_replay.proofs.Maps.{maps_alike, itself, apart, get-inserted, get-insert_other, get-removed, get-remove_other}
 
 -- ---- what the map has

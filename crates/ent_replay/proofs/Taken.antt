@@ -1,15 +1,7 @@
 -- What a checker takes, one call after the other.
-use Rattle.std.proofs.Common.{rules, ◌≡◌, ℕ, ◌+◌, ◌<◌, ◌≤◌, List, [], ◌∷◌, ◌++◌, map, length, get_or, set, take, drop, refl, drop-cons}
-use Rattle.std.specs.Prelude.{reverse}
-use Rattle.std.proofs.Math.Numerals.{add-one}
-use Rattle.std.proofs.lemmas.List.{append-nil, drop-set-lt, drop_all, reverse-append, reverse-reverse, take_all}
-use Rattle.ent_replay.specs.declared.trace.call.Call.{Call}
+use Rattle.ent_replay.proofs.Common.{rules, ◌≡◌, ℕ, ◌+◌, ◌<◌, ◌≤◌, List, [], ◌∷◌, ◌++◌, map, length, get_or, set, take, drop, refl, reverse, add-one, append-nil, drop-set-lt, drop_all, reverse-append, reverse-reverse, take_all, Call, Checker, Reservation, reserve_lines, Log, emptied, new_logs, Takes, TakesAll, lines_in, lines_in_all}
+use Rattle.std.proofs.Common.{drop-cons}
 use Rattle.ent_replay.specs.declared.trace.call.Call.TheVariants as line
-use Rattle.ent_replay.specs.declared.trace.checker.Checker.{Checker}
-use Rattle.ent_replay.specs.declared.trace.reservation.Reservation.{Reservation}
-use Rattle.ent_replay.specs.Checker.{reserve_lines}
-use Rattle.ent_replay.specs.Logs.{Log, emptied, new_logs}
-use Rattle.ent_replay.specs.Recording.{Takes, TakesAll, lines_in, lines_in_all}
 
 pub TakesAll-append : (first second : List Call) (old middle new : Checker) → TakesAll old first middle
     → TakesAll middle second new → TakesAll old (first ++ second) new

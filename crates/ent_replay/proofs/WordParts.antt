@@ -1,11 +1,5 @@
 -- Words: what stands before a comment, blanks that part words, and the front of a text's words.
-use Rattle.std.proofs.Common.{rules, ◌≡◌, ◌≢◌, ℕ, ◌<◌, Bool, true, false, not, eqb, List, [], ◌∷◌, ◌++◌, length, take, All, refl, ◌∙◌, arith, suc}
-use Rattle.std.proofs.lemmas.Grind.{common_steps}
-use Rattle.std.specs.List.{before_first, filter}
-use Rattle.std.proofs.lemmas.Bool.{ne_eqb}
-use Rattle.std.proofs.lemmas.List.{append-nil}
-use Rattle.std.proofs.lemmas.List.Splits.{slice_split_none, slice_split_at}
-use Rattle.ent_replay.specs.Text.{is_blank, words_in, before_comment}
+use Rattle.ent_replay.proofs.Common.{rules, ◌≡◌, ◌≢◌, ℕ, ◌<◌, Bool, true, false, not, eqb, List, [], ◌∷◌, ◌++◌, length, take, All, refl, ◌∙◌, arith, suc, common_steps, before_first, append-nil, slice_split_none, slice_split_at, is_blank, words_in, before_comment, filter, ne_eqb}
 
 -- the first element passes, and what is so of the rest
 first_of : {X : Type 0} (P : X → Type 0) (x : X) (xs : List X) → All P (x ∷ xs) → P x

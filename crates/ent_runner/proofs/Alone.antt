@@ -1,21 +1,5 @@
 -- A frame of one worker: its reservations stand in the order of the systems.
-use Rattle.std.proofs.Common.{rules, ◌≡◌, ℕ, suc, ◌+◌, ◌<◌, ◌≤◌, List, [], ◌∷◌, ◌++◌, length, map, get_or, refl, ap, sym, ◌∙◌, arith, subst, Some, eq-eqb, append-nil, append_assoc, Option, Vec, Global}
-use Rattle.std.specs.Prelude.{slice_get}
-use Rattle.std.specs.List.{All, AllPairs, flat_map, range_with_len}
-use Rattle.std.specs.List.Sorted.{IsPermutation}
-use Rattle.std.proofs.Math.Seq.{get_or-append_seam}
-use Rattle.std.proofs.lemmas.List.{length-append}
-use Rattle.std.proofs.lemmas.List.FromFn.{length-range_with_len}
-use Rattle.std.proofs.lemmas.List.Sorted.{All-permutation, IsPermutation-sym, length_permutation}
-use Rattle.ent_handle.specs.Handle.{Handle}
-use Rattle.ent_alloc.specs.Sequential.{born}
-use Rattle.ent_alloc.specs.History.{Call}
-use Rattle.ent_queue.specs.Command.{Command}
-use Rattle.ent_world.specs.World.{World}
-use Rattle.ent_world.specs.Sync.{sync}
-use Rattle.ent_world.specs.OpenWorld.{OpenWorld, View, world_at_start}
-use Rattle.ent_world.specs.declared.fault.Fault.{Fault}
-use Rattle.ent_runner.specs.Frame.{IsFrame, Ends, EndsInOrder, commands_of, requests_by, first_call, calls_in_order}
+use Rattle.ent_runner.proofs.Common.{rules, ◌≡◌, ℕ, suc, ◌+◌, ◌<◌, ◌≤◌, List, [], ◌∷◌, ◌++◌, length, map, get_or, refl, ap, sym, ◌∙◌, arith, subst, Some, eq-eqb, append-nil, append_assoc, Option, Vec, Global, slice_get, All, AllPairs, flat_map, range_with_len, IsPermutation, get_or-append_seam, length-append, length-range_with_len, All-permutation, IsPermutation-sym, length_permutation, Handle, born, Call, Command, World, sync, OpenWorld, View, world_at_start, Fault, IsFrame, Ends, EndsInOrder, commands_of, requests_by, first_call, calls_in_order}
 use Rattle.ent_runner.proofs.Lost.{ClosedAgain}
 use Rattle.ent_runner.proofs.Lists.{at_within, all_below}
 

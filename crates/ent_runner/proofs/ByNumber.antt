@@ -1,13 +1,5 @@
 -- Outputs put at the numbers of their jobs: each is there if no job has two.
-use Rattle.std.proofs.lemmas.Grind.{common_steps}
-use Rattle.std.proofs.Common.{rules, append_assoc, ◌≡◌, ℕ, ◌+◌, ◌<◌, ◌≤◌, List, [], ◌∷◌, ◌++◌, length, map, get_or, refl, ap, ◌∙◌, arith, Option, Some, cond, eq-eqb, suc}
-use Rattle.std.specs.Prelude.{slice_set, ◌==◌}
-use Rattle.std.specs.List.{All, sum_by}
-use Rattle.std.proofs.lemmas.List.Elements.{All-nil, All-cons, All-rest}
-use Rattle.std.proofs.lemmas.List.Sums.{sum_by-cons}
-use Rattle.std.proofs.lemmas.List.{get_or-set_same, get_or-set_other, length-set, map-append}
-use Rattle.ent_runner.specs.declared.worker.Done.{Done}
-use Rattle.ent_runner.specs.Collecting.{outputs_put}
+use Rattle.ent_runner.proofs.Common.{common_steps, rules, append_assoc, ◌≡◌, ℕ, ◌+◌, ◌<◌, ◌≤◌, List, [], ◌∷◌, ◌++◌, length, map, get_or, refl, ap, ◌∙◌, arith, Option, Some, cond, eq-eqb, suc, slice_set, ◌==◌, All, sum_by, All-nil, All-cons, All-rest, sum_by-cons, get_or-set_same, get_or-set_other, length-set, map-append, Done, outputs_put}
 
 module _ {O : Type 0} where
   -- how often a number is there among these

@@ -1,12 +1,5 @@
 -- A claimer after a claim: it stays of its claims.
-use Rattle.std.proofs.Common.{rules, ◌≡◌, ℕ, suc, ◌+◌, ◌<◌, ◌≤◌, List, [], ◌∷◌, ◌++◌, length, sym, subst, arith, lt-ltb}
-use Rattle.std.specs.List.{All, AllPairs}
-use Rattle.std.proofs.lemmas.List.Elements.{All-push}
-use Rattle.std.proofs.lemmas.List.Quantifiers.{all_pairs_push}
-use Rattle.atomic_table.specs.Seated.{TableId}
-use Rattle.ent_runner.specs.declared.record.ClaimRecord.{ClaimRecord}
-use Rattle.ent_runner.specs.Record.{after_claim, claims_of}
-use Rattle.ent_runner.specs.Claims.{Claims, Claimer, IsClaimerOf}
+use Rattle.ent_runner.proofs.Common.{rules, ◌≡◌, ℕ, suc, ◌+◌, ◌<◌, ◌≤◌, List, [], ◌∷◌, ◌++◌, length, sym, subst, arith, lt-ltb, All, AllPairs, All-push, all_pairs_push, TableId, ClaimRecord, after_claim, claims_of, Claims, Claimer, IsClaimerOf}
 
 -- numbers from low on that rise and are below n are no more than there are
 rising_from : (low n : ℕ) (xs : List ℕ) → low ≤ n → All (λ x. low ≤ x) xs → AllPairs (λ x y. x < y) xs

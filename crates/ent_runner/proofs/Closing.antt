@@ -1,18 +1,7 @@
 -- What all claimers together have claimed.
-use Rattle.std.proofs.lemmas.Grind.{common_steps}
-use Rattle.std.proofs.Common.{rules, ◌≡◌, ℕ, zero, suc, ◌<◌, ◌≤◌, List, [], ◌∷◌, length, map, flat_map, sym, refl, ap, ◌∙◌, arith, IsPermutation, ⊎_elim}
-use Rattle.std.proofs.lemmas.Option.{none-some}
-use Rattle.std.proofs.lemmas.Bool.{cases_lt}
-use Rattle.std.specs.Prelude.{true, slice_get, Some}
-use Rattle.std.specs.List.{sum_by, All, range_with_len}
-use Rattle.std.proofs.lemmas.List.Elements.{All-head}
-use Rattle.std.proofs.lemmas.List.{length-map}
-use Rattle.std.proofs.lemmas.List.Folds.{fold-map}
-use Rattle.std.proofs.lemmas.List.Sums.{sum_by-cons}
-use Rattle.ent_shared.proofs.Weighing.{sum_by-flat_map}
-use Rattle.ent_runner.specs.declared.record.ClaimRecord.{ClaimRecord}
-use Rattle.ent_runner.specs.Rule.{weigh_claims, IsClaimKept, AreClaimsClosed}
-use Rattle.ent_runner.specs.Claims.{Claimer, IsClaimedBy, HaveEnded, AreFirst}
+use Rattle.ent_runner.proofs.Common.{common_steps, rules, ◌≡◌, ℕ, zero, suc, ◌<◌, ◌≤◌, List, [], ◌∷◌, length, map, sym, refl, ap, ◌∙◌, arith, ⊎_elim, none-some, cases_lt, true, slice_get, sum_by, All, range_with_len, All-head, length-map, fold-map, sum_by-cons, sum_by-flat_map, ClaimRecord, weigh_claims, IsClaimKept, AreClaimsClosed, Claimer, IsClaimedBy, AreFirst, Some}
+use Rattle.std.proofs.Common.{flat_map, IsPermutation}
+use Rattle.ent_runner.specs.Claims.{HaveEnded}
 use Rattle.ent_runner.proofs.Counting.{is, found_in, inside, in_range, weigh_same}
 
 abbrev pub records_of : List Claimer → List ClaimRecord

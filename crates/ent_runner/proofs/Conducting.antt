@@ -1,23 +1,6 @@
 -- What the workers of a crew have done together, once all of them are back.
-use Rattle.std.proofs.lemmas.Grind.{common_steps}
-use Rattle.std.proofs.Common.{rules, ◌≡◌, ℕ, ◌<◌, ◌≤◌, List, [], ◌∷◌, ◌++◌, length, map, get_or, refl, ap, sym, ◌∙◌, arith, subst, Option, Some, None, true, false, Bool, take, drop, inl, inr, ⊎_elim, ◌⊎◌, Vec, Global, reverse}
-use Rattle.std.specs.Prelude.{slice_get, replicate, IsSome, IfSome, IfNone, Any, vec_capacity}
-use Rattle.std.specs.List.{All, AllPairs, flat_map, range_with_len}
-use Rattle.std.specs.List.Sorted.{IsPermutation}
-use Rattle.std.proofs.lemmas.Bool.{cases_lt}
-use Rattle.std.proofs.lemmas.Option.{slice_get_within, get_or_from_slice_get, slice_get-get_or, none-some}
-use Rattle.std.proofs.lemmas.List.{length-map, length-append, take-append-le, take_all, length-replicate, map-append, length-reverse}
-use Rattle.std.proofs.lemmas.List.Folds.{flat_map-map}
-use Rattle.std.proofs.lemmas.List.Sorted.{All-permutation, IsPermutation-reverse, length_permutation}
-use Rattle.std.proofs.lemmas.List.FromFn.{length-range_with_len}
-use Rattle.std.proofs.lemmas.List.Elements.{All-head, All-map}
-use Rattle.ent_alloc.proofs.ListLaws.{All-left}
-use Rattle.ent_runner.specs.Claims.{Claims, Claimer, AreFirst, IsClaimerOf}
-use Rattle.ent_runner.specs.Collecting.{outputs_put}
-use Rattle.ent_runner.specs.Crew.{AreDone, AreBrokenOff, DidAll, DidUntil}
-use Rattle.ent_runner.specs.declared.worker.Done.{Done}
-use Rattle.ent_runner.specs.declared.worker.Worker.{Worker}
-use Rattle.ent_runner.specs.Worker.{HasWorked, HaveAllWorked, HaveDoneFirst, HasClaimed, IsUnused, IsRoomForOne, IsNewWorker, IsLostFor, numbers_of, all_done, HasStoppedAt, IsRoom}
+use Rattle.ent_runner.proofs.Common.{common_steps, rules, ◌≡◌, ℕ, ◌<◌, ◌≤◌, List, [], ◌∷◌, ◌++◌, length, map, get_or, refl, ap, sym, ◌∙◌, arith, subst, Option, Some, None, false, Bool, take, drop, inl, inr, ⊎_elim, ◌⊎◌, Vec, Global, reverse, slice_get, replicate, IsSome, IfSome, IfNone, Any, vec_capacity, All, AllPairs, flat_map, range_with_len, IsPermutation, cases_lt, slice_get_within, get_or_from_slice_get, slice_get-get_or, none-some, length-map, length-append, take-append-le, take_all, length-replicate, map-append, length-reverse, flat_map-map, All-permutation, IsPermutation-reverse, length_permutation, length-range_with_len, All-head, All-map, All-left, Claims, Claimer, AreFirst, IsClaimerOf, outputs_put, AreDone, AreBrokenOff, DidAll, DidUntil, Done, Worker, HasWorked, HaveAllWorked, HaveDoneFirst, HasClaimed, IsUnused, IsRoomForOne, IsNewWorker, IsLostFor, numbers_of, all_done, HasStoppedAt, IsRoom}
+use Rattle.std.proofs.Common.{true}
 use Rattle.ent_runner.proofs.Lists.{of_mapped, each_of_all, mapped_at, same_flat, get_mapped, map_flat, at_within, flat_all}
 use Rattle.ent_runner.proofs.ByNumber.{length_put}
 use Rattle.ent_runner.proofs.Outputs.{full, left_out, long, outputs_at, unwrapped, kept_all}

@@ -1,12 +1,6 @@
 -- Lists of numbers that weigh the same, however each number is weighed.
-use Rattle.std.proofs.lemmas.Grind.{common_steps}
-use Rattle.std.proofs.Common.{rules, ◌≡◌, ℕ, zero, suc, ◌+◌, ◌<◌, ◌≤◌, List, [], ◌∷◌, sym, refl, ap, arith, eq-eqb, ne_eqb, IsPermutation, remove, cond, Bool}
-use Rattle.std.specs.Prelude.{◌==◌}
-use Rattle.std.specs.List.{sum_by, Contains, range_with_len}
-use Rattle.std.proofs.lemmas.List.Sums.{sum_by-cons}
-use Rattle.std.proofs.lemmas.List.Sorted.{IsPermutation-refl, IsPermutation-trans, IsPermutation-cons, IsPermutation-remove, sum_by_popped}
-use mathlib.Core.Logic.{dite}
-use native.Mathlib.Decide.{ℕ_discrete}
+use Rattle.ent_runner.proofs.Common.{common_steps, rules, ◌≡◌, ℕ, zero, suc, ◌+◌, ◌<◌, ◌≤◌, List, [], ◌∷◌, sym, refl, ap, arith, eq-eqb, ne_eqb, remove, cond, Bool, ◌==◌, sum_by, Contains, range_with_len, sum_by-cons, IsPermutation-refl, IsPermutation-trans, IsPermutation-cons, IsPermutation-remove, sum_by_popped, dite, ℕ_discrete}
+use Rattle.std.proofs.Common.{IsPermutation}
 
 -- 1 for the number itself
 abbrev pub is : ℕ → ℕ → ℕ

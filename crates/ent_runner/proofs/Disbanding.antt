@@ -1,11 +1,5 @@
 -- Workers are taken apart, one after the other.
-use Rattle.std.proofs.Common.{rules, ◌≡◌, ◌<◌, List, [], ◌∷◌, ◌++◌, length, map, Option, append_assoc, arith}
-use Rattle.std.specs.List.{All, flat_map}
-use Rattle.std.proofs.lemmas.List.{map-append}
-use Rattle.std.proofs.lemmas.List.Elements.{All-rest}
-use Rattle.ent_runner.specs.declared.worker.Done.{Done}
-use Rattle.ent_runner.specs.declared.worker.Worker.{Worker}
-use Rattle.ent_runner.specs.Collecting.{outputs_put}
+use Rattle.ent_runner.proofs.Common.{rules, ◌≡◌, ◌<◌, List, [], ◌∷◌, ◌++◌, length, map, Option, append_assoc, arith, All, flat_map, map-append, All-rest, Done, Worker, outputs_put}
 use Rattle.ent_runner.proofs.ByNumber.{put_both, length_put}
 
 module _ {O : Type 0} where

@@ -1,10 +1,5 @@
 -- What a relation says of the output of a job alone holds of each output.
-use Rattle.std.proofs.Common.{rules, ◌≡◌, ℕ, ◌<◌, List, [], ◌∷◌, length, subst, arith, Some, inl, inr, ◌⊎◌}
-use Rattle.std.specs.Prelude.{slice_get}
-use Rattle.std.specs.List.{All}
-use Rattle.std.proofs.lemmas.Option.{slice_get_within}
-use Rattle.std.proofs.lemmas.List.Elements.{All-nil, All-cons, All-append}
-use Rattle.ent_runner.specs.Crew.{DidAll, DidUntil, AreDone, AreBrokenOff}
+use Rattle.ent_runner.proofs.Common.{rules, ◌≡◌, ℕ, ◌<◌, List, [], ◌∷◌, length, subst, arith, Some, inl, inr, ◌⊎◌, slice_get, All, slice_get_within, All-nil, All-cons, All-append, DidAll, DidUntil, AreDone, AreBrokenOff}
 use Rattle.ent_runner.proofs.Lists.{at_within}
 use Rattle.ent_runner.proofs.Framed.{everywhere}
 

@@ -1,33 +1,5 @@
 -- What a crew did whose jobs are the systems of a frame, and the history of its reservers, are a frame.
-use Rattle.std.proofs.lemmas.Grind.{common_steps}
-use Rattle.std.proofs.Common.{rules, ◌≡◌, ℕ, zero, suc, ◌+◌, ◌<◌, List, [], ◌∷◌, ◌++◌, length, map, get_or, refl, ap, ◌∙◌, arith, subst, Some, inl, inr, ◌⊎◌, ◌-◌, Result}
-use Rattle.std.specs.Prelude.{slice_get}
-use Rattle.std.specs.List.{All, AllPairs, flat_map, range_with_len}
-use Rattle.std.specs.List.Sorted.{IsPermutation}
-use Rattle.std.proofs.lemmas.Fn.{FoldsTo-push}
-use Rattle.std.proofs.lemmas.Option.{slice_get_within, slice_get-get_or, get_or_from_slice_get}
-use Rattle.std.proofs.lemmas.List.{length-append, get_or_push}
-use Rattle.std.proofs.lemmas.List.Elements.{All-nil, All-cons, All-map}
-use Rattle.std.proofs.lemmas.List.FromFn.{get_or-range_with_len, length-range_with_len}
-use Rattle.std.proofs.lemmas.List.Quantifiers.{all_pairs_push}
-use Rattle.std.proofs.lemmas.List.Sorted.{All-permutation}
-use Rattle.ent_handle.specs.Handle.{Handle}
-use Rattle.ent_alloc.specs.declared.space.Space.{Space}
-use Rattle.ent_alloc.specs.Sequential.{Allocator}
-use Rattle.ent_alloc.specs.History.{Call, IsLegal}
-use Rattle.ent_shared.specs.declared.record.Reservation.{Reservation}
-use Rattle.ent_shared.specs.declared.record.RecordEntry.TheVariants.{Own}
-use Rattle.ent_shared.specs.declared.record.Record.{Record}
-use Rattle.ent_shared.specs.Record.{opened, opened_records, own_reservations}
-use Rattle.ent_shared.specs.Order.{own_of_all, reservations_of, reservations_by, history_of, as_call, Respects}
-use Rattle.ent_shared.proofs.Sorting.{all_sorted}
-use Rattle.ent_queue.specs.Command.{Command}
-use Rattle.ent_queue.specs.Reserving.{Gains}
-use Rattle.ent_queue.proofs.Gaining.{gains_nothing, gains_then}
-use Rattle.ent_world.specs.World.{World}
-use Rattle.ent_world.specs.OpenWorld.{View}
-use Rattle.ent_runner.specs.Crew.{DoesAt, DidAll, DidUntil, AreDone, AreBrokenOff}
-use Rattle.ent_runner.specs.Frame.{IsFrame, IsBrokenOff, IsWork, SystemMayIssue, SystemMayHaveIssued, view_of, queue_at, commands_of, requests_by}
+use Rattle.ent_runner.proofs.Common.{common_steps, rules, ◌≡◌, ℕ, zero, suc, ◌+◌, ◌<◌, List, [], ◌∷◌, ◌++◌, length, map, get_or, refl, ap, ◌∙◌, arith, subst, Some, inl, inr, ◌⊎◌, ◌-◌, Result, slice_get, All, AllPairs, flat_map, range_with_len, IsPermutation, FoldsTo-push, slice_get_within, slice_get-get_or, get_or_from_slice_get, length-append, get_or_push, All-nil, All-cons, All-map, get_or-range_with_len, length-range_with_len, all_pairs_push, All-permutation, Handle, Space, Allocator, Call, IsLegal, Reservation, Own, Record, opened, opened_records, own_reservations, own_of_all, reservations_of, reservations_by, history_of, as_call, Respects, all_sorted, Command, Gains, gains_nothing, gains_then, World, View, DoesAt, DidAll, DidUntil, AreDone, AreBrokenOff, IsFrame, IsBrokenOff, IsWork, SystemMayIssue, SystemMayHaveIssued, view_of, queue_at, commands_of, requests_by}
 use Rattle.ent_runner.proofs.Lists.{each_of_all, all_flat, all_from_each, filter_map_is, map_map_is, at_within}
 
 own_mapped : (rs : List Reservation) → own_reservations (map Own rs) ≡ rs

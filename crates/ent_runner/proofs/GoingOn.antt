@@ -1,14 +1,6 @@
 -- Who goes on after a stop of the frame's sync point, as far as the end, ends the frame.
-use Rattle.std.proofs.Common.{rules, ◌≡◌, ℕ, List, ◌++◌, refl}
-use Rattle.ent_queue.specs.Command.{Command}
-use Rattle.ent_world.specs.World.{World}
-use Rattle.ent_world.specs.OpenWorld.{View}
-use Rattle.ent_world.specs.Sync.{sync}
-use Rattle.ent_world.specs.Rest.{HasStoppedSo}
-use Rattle.ent_world.specs.declared.fault.Fault.{Fault}
+use Rattle.ent_runner.proofs.Common.{rules, ◌≡◌, ℕ, List, ◌++◌, refl, Command, World, View, sync, HasStoppedSo, Fault, SyncReport, StopsAt, Ends}
 use Rattle.ent_world.specs.declared.fault.SyncFault.TheVariants as stop
-use Rattle.ent_world.specs.declared.fault.SyncReport.{SyncReport}
-use Rattle.ent_runner.specs.Frame.{StopsAt, Ends}
 
 pub ends_frame : {S : Type 0} (may : S → View → List Command → Type 0) (systems : List S) (workers : ℕ)
     (before now after : World) (queues : List (List Command)) (system command done : ℕ) (so_far : SyncReport)

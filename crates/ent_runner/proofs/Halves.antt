@@ -1,10 +1,5 @@
 -- Two parts of the workers have worked, so all of them have.
-use Rattle.std.proofs.Common.{◌≡◌, ◌-◌, ◌<◌, ◌≤◌, ℕ, List, ◌++◌, length, arith, ⊎_elim, sym, refl}
-use Rattle.std.proofs.lemmas.Bool.{cases_lt}
-use Rattle.std.proofs.lemmas.List.{length-append, get_or_append_left, get_or-append_right}
-use Rattle.ent_runner.specs.Claims.{Claims}
-use Rattle.ent_runner.specs.declared.worker.Worker.{Worker}
-use Rattle.ent_runner.specs.Worker.{HaveAllWorked}
+use Rattle.ent_runner.proofs.Common.{◌≡◌, ◌-◌, ◌<◌, ◌≤◌, ℕ, List, ◌++◌, length, arith, ⊎_elim, sym, refl, cases_lt, length-append, get_or_append_left, get_or-append_right, Claims, Worker, HaveAllWorked}
 
 module _ {O L : Type 0} (may leave : ℕ → L → O → L → Type 0) (may_have : L → Type 0) (claims : Claims) where
   abbrev HaveDone : List L → List L → List (Worker O) → Type 0

@@ -1,12 +1,5 @@
 -- A system that was run as a job: what it issued, and what its reserver gained.
-use Rattle.std.proofs.Common.{rules, ◌≡◌, ℕ, List, get_or}
-use Rattle.std.specs.Prelude.{Result, Ok, Err, OnOk, OnErr}
-use Rattle.std.proofs.lemmas.Option.{get_or_from_slice_get}
-use Rattle.ent_shared.specs.declared.record.Record.{Record}
-use Rattle.ent_queue.specs.Command.{Command}
-use Rattle.ent_queue.specs.Reserving.{Gains}
-use Rattle.ent_world.specs.OpenWorld.{View}
-use Rattle.ent_runner.specs.Frame.{SystemMayIssue}
+use Rattle.ent_runner.proofs.Common.{rules, ◌≡◌, ℕ, List, get_or, Ok, Err, OnOk, OnErr, get_or_from_slice_get, Record, Command, Gains, View, SystemMayIssue, Result}
 
 module _ {S A E : Type 0} (may : S → View → List Command → Type 0) (systems : List S) (view : View) (n : ℕ) (d : S)
     (a b : Record) (queue finished : List Command) (same : finished ≡ queue) (gains : Gains a finished b) where

@@ -1,7 +1,5 @@
 -- What jobs did with what was lent to them, seen by one part of it.
-use Rattle.std.proofs.Common.{rules, ℕ, List, [], ◌∷◌, map, ap, sym, ◌∙◌, inl, inr, ◌⊎◌, ⊎_elim}
-use Rattle.std.proofs.lemmas.List.{length-map}
-use Rattle.ent_runner.specs.Crew.{OfEach, DidAll, DidUntil, AreDone, AreBrokenOff}
+use Rattle.ent_runner.proofs.Common.{rules, ℕ, List, [], ◌∷◌, map, ap, sym, ◌∙◌, inl, inr, ◌⊎◌, ⊎_elim, length-map, OfEach, DidAll, DidUntil, AreDone, AreBrokenOff}
 use Rattle.ent_runner.proofs.Lists.{mapped_at, get_mapped}
 
 module _ {L K : Type 0} (f : L → K) where

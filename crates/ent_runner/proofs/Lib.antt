@@ -20,3 +20,4 @@ pub mod Lending
 pub mod EachOutput
 pub mod Disbanding
 pub mod NoSystems
+pub mod Common

@@ -1,33 +1,9 @@
 -- The births of a frame: the system whose queue lists a handle, and its ordinal there, are its
 -- birth in this phase. So births follow from the queues, whatever handles the workers were given.
 -- It speaks of the definitions alone.
-use Rattle.std.proofs.Common.{rules, ◌≡◌, ◌≢◌, ℕ, zero, suc, ◌+◌, ◌^◌, ◌<◌, ◌≤◌, List, [], ◌∷◌, ◌++◌, length, refl, ap, sym, ◌∙◌, arith, inl, inr, eq-eqb, ne_eqb, false, not, Some, None, IsPermutation, get_or}
-use Rattle.std.proofs.lemmas.Grind.{common_steps}
-use Rattle.std.specs.Prelude.{◌==◌, filter}
-use Rattle.std.specs.List.{All, AllPairs, Contains, flat_map}
+use Rattle.ent_runner.proofs.Common.{rules, ◌≡◌, ◌≢◌, ℕ, zero, suc, ◌+◌, ◌^◌, ◌<◌, ◌≤◌, List, [], ◌∷◌, ◌++◌, length, refl, ap, sym, ◌∙◌, arith, inl, inr, eq-eqb, ne_eqb, false, not, Some, None, get_or, common_steps, ◌==◌, filter, All, AllPairs, Contains, flat_map, cases_eq, slice_get_within, slice_get-get_or, length-append, All-nil, All-cons, All-append, All-contains, AllPairs-filter, Contains-permutation, IsPermutation-sym, length_permutation, Handle, available, born, stands_in, IsSound, IsLive, Call, AreGivenOnce, after_history, given_in, filter_all, AllPairs-tail, AllPairs-left, AllPairs-right, Contains-from_stands_in, stands_in-from_Contains, born-IsPermutation, given_in-not_live, Command, World, AreLiving, View, handles_listed, ordinal, listed_birth, birth_in, after_births, no_index, get-with_born, no_entity, history-sound, IsFrame, queue_at, reserved_by}
+use Rattle.std.proofs.Common.{IsPermutation}
 use Rattle.std.specs.FinMap as map
-use Rattle.std.proofs.lemmas.Bool.{cases_eq}
-use Rattle.std.proofs.lemmas.Option.{slice_get_within, slice_get-get_or}
-use Rattle.std.proofs.lemmas.List.{length-append}
-use Rattle.std.proofs.lemmas.List.Elements.{All-nil, All-cons, All-append, All-contains}
-use Rattle.std.proofs.lemmas.List.Kept.{AllPairs-filter}
-use Rattle.std.proofs.lemmas.List.Sorted.{Contains-permutation, IsPermutation-sym, length_permutation}
-use Rattle.ent_handle.specs.Handle.{Handle}
-use Rattle.ent_alloc.specs.Sequential.{available, born, stands_in}
-use Rattle.ent_alloc.specs.Sound.{IsSound, IsLive}
-use Rattle.ent_alloc.specs.History.{Call, AreGivenOnce, after_history, given_in}
-use Rattle.ent_alloc.proofs.ListLaws.{filter_all, AllPairs-tail, AllPairs-left, AllPairs-right}
-use Rattle.ent_alloc.proofs.HandleSets.{Contains-from_stands_in, stands_in-from_Contains}
-use Rattle.ent_alloc.proofs.Flushes.{born-IsPermutation}
-use Rattle.ent_alloc.proofs.Histories.{given_in-not_live}
-use Rattle.ent_queue.specs.Command.{Command}
-use Rattle.ent_world.specs.World.{World, AreLiving}
-use Rattle.ent_world.specs.OpenWorld.{View}
-use Rattle.ent_world.specs.Sync.{handles_listed, ordinal, listed_birth, birth_in, after_births}
-use Rattle.ent_world.proofs.Numbered.{no_index}
-use Rattle.ent_world.proofs.Born.{get-with_born, no_entity}
-use Rattle.ent_world.proofs.GivenOnce.{history-sound}
-use Rattle.ent_runner.specs.Frame.{IsFrame, queue_at, reserved_by}
 use Rattle.ent_runner.proofs.ListedOnce.{Differ, Lists, contains_listed, not_in_both, position_is, listed-IsPermutation, listed-distinct, listed-born}
 
 -- ---- how many handles there are

@@ -1,31 +1,6 @@
 -- The handles that the queues of a frame list are those that its history gave. After this law
 -- neither the workers nor the history count. It speaks of the definitions alone.
-use Rattle.std.proofs.Common.{rules, ◌≡◌, ℕ, zero, suc, ◌+◌, ◌<◌, ◌≤◌, List, [], ◌∷◌, ◌++◌, length, map, refl, ap, sym, ◌∙◌, arith, subst, Some, Bool, cond, eq-eqb, ne_eqb, append-nil, append_assoc, inl, inr, Result, get_or, swap, set, ◌≢◌}
-use Rattle.std.proofs.lemmas.Grind.{common_steps}
-use Rattle.std.specs.Prelude.{◌==◌, filter, slice_get}
-use Rattle.std.specs.List.{All, Contains, flat_map, range_with_len, position_from}
-use Rattle.std.specs.Ordering.{eq_by_cmp}
-use Rattle.std.specs.List.Sorted.{IsPermutation}
-use Rattle.std.proofs.lemmas.Bool.{cases_eq}
-use Rattle.std.proofs.lemmas.Option.{get_or_from_slice_get, slice_get_within}
-use Rattle.std.proofs.lemmas.List.Edits.{swap_is}
-use Rattle.std.proofs.lemmas.List.Elements.{Contains-append_left, Contains-append_right}
-use Rattle.std.proofs.lemmas.List.Sorted.{IsPermutation-refl, IsPermutation-sym, IsPermutation-trans, IsPermutation-keeps, IsPermutation-append_left, IsPermutation-append_right, IsPermutation-append_comm}
-use Rattle.ent_handle.specs.Handle.{Handle, handle_cmp}
-use Rattle.ent_alloc.specs.declared.space.Space.{Space}
-use Rattle.ent_alloc.specs.Sequential.{born}
-use Rattle.ent_alloc.specs.Sound.{IsSound}
-use Rattle.ent_alloc.specs.History.{Call, handles_in, given_in, AreGivenOnce, after_history}
-use Rattle.ent_alloc.proofs.ListLaws.{AllPairs-head, AllPairs-tail, AllPairs-across, AllPairs-IsPermutation}
-use Rattle.ent_alloc.proofs.HandleSets.{itself}
-use Rattle.ent_alloc.proofs.Flushes.{born-IsPermutation}
-use Rattle.ent_alloc.proofs.Histories.{given_in-distinct, given_in-taken}
-use Rattle.ent_queue.specs.Command.{Command}
-use Rattle.ent_queue.specs.Reserving.{stands_for}
-use Rattle.ent_world.specs.World.{World}
-use Rattle.ent_world.specs.OpenWorld.{View}
-use Rattle.ent_world.specs.Sync.{handles_listed}
-use Rattle.ent_runner.specs.Frame.{IsFrame, queue_at}
+use Rattle.ent_runner.proofs.Common.{rules, ◌≡◌, ℕ, zero, suc, ◌+◌, ◌<◌, ◌≤◌, List, [], ◌∷◌, ◌++◌, length, map, refl, ap, sym, ◌∙◌, arith, subst, Some, Bool, cond, eq-eqb, ne_eqb, append-nil, append_assoc, inl, inr, Result, get_or, swap, set, ◌≢◌, common_steps, ◌==◌, filter, slice_get, All, Contains, flat_map, range_with_len, position_from, eq_by_cmp, IsPermutation, cases_eq, get_or_from_slice_get, slice_get_within, swap_is, Contains-append_left, Contains-append_right, IsPermutation-refl, IsPermutation-sym, IsPermutation-trans, IsPermutation-keeps, IsPermutation-append_left, IsPermutation-append_right, IsPermutation-append_comm, Handle, handle_cmp, Space, born, IsSound, Call, handles_in, given_in, AreGivenOnce, after_history, AllPairs-head, AllPairs-tail, AllPairs-across, AllPairs-IsPermutation, itself, born-IsPermutation, given_in-distinct, given_in-taken, Command, stands_for, World, View, handles_listed, IsFrame, queue_at}
 use Rattle.ent_runner.proofs.Lists.{each_of_all}
 
 -- ---- lists in another order

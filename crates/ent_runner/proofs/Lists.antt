@@ -1,15 +1,5 @@
 -- Lists of lists, and the numbers of a range.
-use Rattle.std.proofs.Common.{rules, ◌≡◌, ◌≢◌, ℕ, zero, suc, ◌+◌, ◌<◌, ◌≤◌, List, [], ◌∷◌, ◌++◌, length, map, refl, ap, arith, subst, Some, Bool, cond, ◌⊎◌, eq-eqb, ne_eqb, ◌∙◌}
-use Rattle.std.proofs.lemmas.Grind.{common_steps}
-use Rattle.std.specs.Prelude.{◌==◌, filter, slice_get}
-use Rattle.std.specs.List.{All, sum_by, flat_map, range_with_len}
-use Rattle.std.proofs.lemmas.Bool.{cases_eq}
-use Rattle.std.proofs.lemmas.List.Elements.{All-nil, All-cons, All-head, All-tail, All-append}
-use Rattle.std.proofs.lemmas.List.Sums.{sum_by-cons}
-use Rattle.ent_alloc.proofs.ListLaws.{All-left, All-right}
-use Rattle.std.proofs.lemmas.Option.{slice_get-get_or, get_or_from_slice_get, slice_get_within, slice_get-map}
-use Rattle.std.specs.Option.{option_map}
-use Rattle.std.proofs.lemmas.List.{get_or-map, length-map}
+use Rattle.ent_runner.proofs.Common.{rules, ◌≡◌, ◌≢◌, ℕ, zero, suc, ◌+◌, ◌<◌, ◌≤◌, List, [], ◌∷◌, ◌++◌, length, map, refl, ap, arith, subst, Some, Bool, cond, ◌⊎◌, eq-eqb, ne_eqb, ◌∙◌, common_steps, ◌==◌, filter, slice_get, All, sum_by, flat_map, range_with_len, cases_eq, All-nil, All-cons, All-head, All-tail, All-append, sum_by-cons, All-left, All-right, slice_get-get_or, get_or_from_slice_get, slice_get_within, slice_get-map, option_map, get_or-map, length-map}
 
 -- what holds of each element at its index holds of all
 pub all_from_each : {X : Type 0} (P : X → Type 0) (xs : List X) → ((k : ℕ) (x : X) → slice_get xs k ≡ Some x → P x)

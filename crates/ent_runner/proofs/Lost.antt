@@ -1,21 +1,5 @@
 -- What a frame leaves if no queue was applied.
-use Rattle.std.proofs.Common.{rules, ◌≡◌, ℕ, Option, Vec, Global, List, drop, ap, ◌∙◌, subst, length}
-use Rattle.std.specs.List.{All}
-use Rattle.std.specs.Prelude.{IfSome, IfNone, None}
-use Rattle.std.proofs.Math.ListN.{drop_of_length-le}
-use Rattle.ent_alloc.specs.Sequential.{Allocator, available}
-use Rattle.ent_alloc.specs.Sound.{IsSound}
-use Rattle.ent_alloc.specs.History.{Call, IsLegal, after_history}
-use Rattle.ent_alloc.proofs.PoolLaw.{after_takes-sound, available-after_takes, limits-after_takes, live-after_takes, made-after_takes, length-taken}
-use Rattle.ent_alloc.proofs.Histories.{after_history-takes}
-use Rattle.ent_shared.specs.declared.record.Record.{Record}
-use Rattle.ent_shared.specs.Record.{opened_records}
-use Rattle.ent_shared.specs.Order.{history_of, reservations_of, Respects}
-use Rattle.ent_queue.specs.Command.{Command}
-use Rattle.ent_world.specs.World.{World}
-use Rattle.ent_world.specs.OpenWorld.{OpenWorld, View, world_at_start}
-use Rattle.ent_runner.specs.Crew.{AreDone, AreBrokenOff}
-use Rattle.ent_runner.specs.Frame.{IsFrame, IsLost, IsBrokenOff, reserved_by, view_of}
+use Rattle.ent_runner.proofs.Common.{rules, ◌≡◌, ℕ, Option, Vec, Global, List, drop, ap, ◌∙◌, subst, length, All, IfSome, IfNone, drop_of_length-le, Allocator, available, IsSound, Call, IsLegal, after_history, after_takes-sound, available-after_takes, limits-after_takes, live-after_takes, made-after_takes, length-taken, after_history-takes, Record, opened_records, history_of, reservations_of, Respects, Command, World, OpenWorld, View, world_at_start, AreDone, AreBrokenOff, IsFrame, IsLost, IsBrokenOff, reserved_by, view_of, None}
 use Rattle.ent_runner.proofs.Conducting.{none_weaker, some_weaker}
 use Rattle.ent_runner.proofs.Framed.{Issues, frame_is, broken_off}
 

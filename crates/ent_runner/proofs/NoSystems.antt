@@ -1,25 +1,7 @@
 -- Workers who have nothing to do, and a frame without systems.
-use Rattle.std.proofs.lemmas.Grind.{common_steps}
-use Rattle.std.proofs.Common.{rules, ◌≡◌, ℕ, zero, suc, ◌<◌, List, [], ◌∷◌, length, refl, arith, Result, Ok, Err, Some}
-use Rattle.std.specs.Prelude.{replicate, slice_get, IsErrOf, IsOk}
-use Rattle.std.specs.List.{All, AllPairs, flat_map}
-use Rattle.std.specs.List.Sorted.{IsPermutation}
-use Rattle.std.proofs.lemmas.List.{length-replicate}
-use Rattle.std.proofs.lemmas.List.Elements.{All-nil, All-replicate}
-use Rattle.std.proofs.lemmas.List.Sorted.{IsPermutation-refl}
-use Rattle.ent_alloc.proofs.LaidOut.{flushed-laid_out}
-use Rattle.ent_alloc.specs.Sequential.{born}
-use Rattle.ent_alloc.specs.History.{Call}
-use Rattle.ent_handle.specs.Handle.{Handle}
-use Rattle.ent_queue.specs.Command.{Command}
-use Rattle.ent_world.specs.World.{World, IsWorld}
-use Rattle.ent_world.specs.OpenWorld.{View}
-use Rattle.ent_world.specs.Sync.{sync, IsStop, IfStopped}
-use Rattle.ent_world.specs.declared.fault.Fault.{Fault}
-use Rattle.ent_world.specs.declared.fault.SyncFault.{SyncFault}
+use Rattle.ent_runner.proofs.Common.{common_steps, rules, ◌≡◌, ℕ, zero, suc, ◌<◌, List, [], ◌∷◌, length, refl, arith, Result, Some, replicate, slice_get, IsErrOf, IsOk, All, AllPairs, flat_map, IsPermutation, length-replicate, All-nil, All-replicate, IsPermutation-refl, flushed-laid_out, born, Call, Handle, Command, World, IsWorld, View, sync, IsStop, IfStopped, Fault, SyncFault, SyncReport, IsFrame, Ends}
+use Rattle.std.proofs.Common.{Ok, Err}
 use Rattle.ent_world.specs.declared.fault.SyncFault.TheVariants as stop
-use Rattle.ent_world.specs.declared.fault.SyncReport.{SyncReport}
-use Rattle.ent_runner.specs.Frame.{IsFrame, Ends}
 use Rattle.ent_runner.proofs.Lists.{each_of_all}
 
 abbrev pub no_jobs : List ℕ

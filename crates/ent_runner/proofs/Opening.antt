@@ -1,14 +1,6 @@
 -- The claimers of a number of workers, as they are made one by one.
-use Rattle.std.proofs.lemmas.Grind.{common_steps}
-use Rattle.std.proofs.Common.{rules, ◌≡◌, ℕ, ◌+◌, ◌-◌, ◌<◌, List, [], ◌∷◌, ◌++◌, take, drop, ap, ◌∙◌, arith, replicate}
-use Rattle.std.specs.Prelude.{false}
-use Rattle.std.specs.List.{All}
-use Rattle.std.proofs.lemmas.List.Elements.{All-push}
-use Rattle.atomic_table.specs.Seated.{TableId}
-use Rattle.atomic_table.specs.Table.{Me}
-use Rattle.ent_runner.specs.declared.record.ClaimRecord.{ClaimRecord}
-use Rattle.ent_runner.specs.Record.{nothing_claimed, claims_of}
-use Rattle.ent_runner.specs.Claims.{Claims, Claimer, IsClaimerOf, IsClaimerSeated}
+use Rattle.ent_runner.proofs.Common.{common_steps, rules, ◌≡◌, ℕ, ◌+◌, ◌-◌, ◌<◌, List, [], ◌∷◌, ◌++◌, take, drop, ap, ◌∙◌, arith, All, All-push, TableId, Me, ClaimRecord, nothing_claimed, claims_of, Claims, Claimer, IsClaimerOf, IsClaimerSeated, false}
+use Rattle.std.proofs.Common.{replicate}
 
 abbrev pub IsUnused : Claimer → Type 0
 IsUnused c = (c.own.claims ≡ []) × (c.own.ended ≡ false)

@@ -1,18 +1,5 @@
 -- The outputs of jobs that were done once each: each is there at its number.
-use Rattle.std.proofs.Common.{rules, ◌≡◌, ℕ, suc, ◌<◌, ◌≤◌, List, [], ◌∷◌, length, map, get_or, refl, ap, sym, ◌∙◌, arith, Option, Some, None, inl, inr, ne_eqb}
-use Rattle.std.specs.Prelude.{slice_get, replicate, IsSome}
-use Rattle.std.specs.List.{All, sum_by, range_with_len}
-use Rattle.std.specs.List.Sorted.{IsPermutation}
-use Rattle.std.proofs.lemmas.Bool.{cases_eq}
-use Rattle.std.proofs.lemmas.Option.{slice_get-get_or}
-use Rattle.std.proofs.lemmas.List.{length-replicate, length-map, get_or-replicate}
-use Rattle.std.proofs.lemmas.List.Elements.{All-head, All-tail}
-use Rattle.std.proofs.lemmas.List.Sums.{sum_by-cons}
-use Rattle.std.proofs.lemmas.List.Sorted.{sum_by-IsPermutation, All-permutation, IsPermutation-sym}
-use Rattle.ent_runner.specs.declared.worker.Done.{Done}
-use Rattle.ent_runner.specs.Collecting.{outputs_put}
-use Rattle.ent_runner.specs.Crew.{DidAll}
-use Rattle.ent_runner.specs.Worker.{numbers_of, HaveEnded}
+use Rattle.ent_runner.proofs.Common.{rules, ◌≡◌, ℕ, suc, ◌<◌, ◌≤◌, List, [], ◌∷◌, length, map, get_or, refl, ap, sym, ◌∙◌, arith, Option, Some, None, inl, inr, ne_eqb, slice_get, replicate, IsSome, All, sum_by, range_with_len, IsPermutation, cases_eq, slice_get-get_or, length-replicate, length-map, get_or-replicate, All-head, All-tail, sum_by-cons, sum_by-IsPermutation, All-permutation, IsPermutation-sym, Done, outputs_put, DidAll, numbers_of, HaveEnded}
 use Rattle.ent_runner.proofs.ByNumber.{is_of, times, all_put, length_put, put_other}
 use Rattle.ent_runner.proofs.Lists.{each_of_all, sum_map, mapped_at, of_mapped, is_number, once_in_range, some_in_range, all_below, above_range}
 

@@ -1,23 +1,6 @@
 -- Each step keeps the rule over the claim word and the records.
-use Rattle.std.proofs.lemmas.Grind.{common_steps}
-use Rattle.std.proofs.Common.{rules, ◌≡◌, ℕ, zero, suc, ◌+◌, ◌%◌, ◌^◌, ◌<◌, ◌≤◌, List, [], ◌∷◌, ◌++◌, length, replicate, set, get_or, sym, refl, ap, ◌∙◌, arith, ⊎_elim, lt-ltb, le-ltb}
-use Rattle.std.proofs.Math.Nat.{mod-eq_of_lt}
-use Rattle.std.specs.Prelude.{true, false, cond}
-use Rattle.std.specs.List.{sum_by, All, range_with_len}
-use Rattle.std.proofs.lemmas.Bool.{cases_lt}
-use Rattle.std.proofs.lemmas.List.Elements.{All-nil, All-set, All-replicate}
-use Rattle.std.proofs.lemmas.List.Folds.{sum_by-replicate}
-use Rattle.std.proofs.lemmas.List.Quantifiers.{all_pairs_push}
-use Rattle.std.proofs.lemmas.List.Sums.{sum_by-cons, sum_by_push, sum_by-le-sum_by}
-use mathlib.Core.Option.{some}
-use lib.ListN.{get_elem?}
-use Rattle.atomic_table.specs.Table.{State, Me, keeps, Allows, opening}
-use Rattle.ent_shared.specs.Seats.{GoesByRecords}
-use Rattle.ent_shared.proofs.Weighing.{all_one, sum_at, all_at, whole_weighs}
-use Rattle.ent_shared.proofs.Regrouping.{sum_regrouped, length-regrouped, all_regrouped}
-use Rattle.ent_runner.specs.declared.record.ClaimRecord.{ClaimRecord}
-use Rattle.ent_runner.specs.Record.{nothing_claimed, after_claim}
-use Rattle.ent_runner.specs.Rule.{weigh_claims, ended_in, IsClaimKept, AreClaimsRuled, AfterClaim, ClaimTells, AreClaimsClosed}
+use Rattle.ent_runner.proofs.Common.{common_steps, rules, ◌≡◌, ℕ, zero, suc, ◌+◌, ◌%◌, ◌^◌, ◌<◌, ◌≤◌, List, [], ◌∷◌, ◌++◌, length, set, get_or, sym, refl, ap, ◌∙◌, arith, ⊎_elim, lt-ltb, le-ltb, mod-eq_of_lt, true, sum_by, All, range_with_len, cases_lt, All-nil, All-set, All-replicate, sum_by-replicate, all_pairs_push, sum_by-cons, sum_by_push, sum_by-le-sum_by, some, get_elem?, State, Me, keeps, Allows, opening, GoesByRecords, all_one, sum_at, all_at, whole_weighs, sum_regrouped, length-regrouped, all_regrouped, ClaimRecord, nothing_claimed, after_claim, weigh_claims, ended_in, IsClaimKept, AreClaimsRuled, AfterClaim, ClaimTells, AreClaimsClosed, false, cond}
+use Rattle.std.proofs.Common.{replicate}
 
 range_last : (a n j : ℕ) → a + n ≡ j → range_with_len a (suc n) ≡ range_with_len a n ++ j ∷ []
 range_last a zero j e = ap (λ (k : ℕ). k ∷ []) (omega arith)

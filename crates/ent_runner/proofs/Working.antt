@@ -1,11 +1,5 @@
 -- A worker does one job after the other.
-use Rattle.std.proofs.Common.{rules, ◌≡◌, ℕ, List, [], ◌∷◌, ◌++◌, ap, subst, is_err, false, true≢false}
-use Rattle.std.specs.Prelude.{Result, Ok, Err, OnOk, OnErr}
-use Rattle.std.proofs.lemmas.Fn.{FoldsTo-push}
-use Rattle.std.proofs.lemmas.List.{map-append}
-use Rattle.ent_runner.specs.declared.record.ClaimRecord.{ClaimRecord as Claimed}
-use Rattle.ent_runner.specs.declared.worker.Done.{Done}
-use Rattle.ent_runner.specs.Worker.{numbers_of, HaveEnded, HasStoppedAt}
+use Rattle.ent_runner.proofs.Common.{rules, ◌≡◌, ℕ, List, [], ◌∷◌, ◌++◌, ap, subst, is_err, false, true≢false, Ok, Err, OnOk, OnErr, FoldsTo-push, map-append, Claimed, Done, numbers_of, HaveEnded, HasStoppedAt, Result}
 
 module _ {O : Type 0} where
   pub numbers_more : (done next : List (Done O)) (d : Done O) (claims more : List ℕ) → next ≡ done ++ d ∷ []

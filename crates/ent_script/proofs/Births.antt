@@ -1,13 +1,5 @@
 -- The texts of births, cut at their dots.
-use Rattle.std.proofs.Common.{rules, ◌≡◌, ◌≢◌, ℕ, Bool, true, false, eqb, List, [], ◌∷◌, ◌++◌, Err, All, refl, sym, ◌∙◌, inl, inr, arith}
-use Rattle.std.proofs.lemmas.Grind.{common_steps}
-use Rattle.std.specs.List.{slice_split}
-use Rattle.std.proofs.lemmas.Bool.{cases_Bool, ne_eqb, cond-false}
-use Rattle.std.proofs.lemmas.List.{get_or_default}
-use Rattle.std.proofs.lemmas.List.Splits.{slice_split_none, slice_split_at, join_with_byte-slice_split}
-use Rattle.ent_handle.specs.Text.{is_decimal}
-use Rattle.ent_handle.proofs.Decimals.{plain_from_decimal}
-use Rattle.ent_script.specs.Reading.{birth_number, birth_of_parts, birth_of}
+use Rattle.ent_script.proofs.Common.{rules, ◌≡◌, ◌≢◌, ℕ, Bool, true, false, eqb, List, [], ◌∷◌, ◌++◌, Err, All, refl, sym, ◌∙◌, inl, inr, arith, common_steps, slice_split, cases_Bool, ne_eqb, cond-false, get_or_default, slice_split_none, slice_split_at, join_with_byte-slice_split, is_decimal, plain_from_decimal, birth_number, birth_of_parts, birth_of}
 use Rattle.ent_script.specs.declared.cause.Cause.TheVariants as cause
 
 abbrev is_dot : ℕ → Bool

@@ -1,7 +1,5 @@
 -- Reading the members of a bundle one after another.
-use Rattle.std.proofs.Common.{Result, Ok, Err}
-use Rattle.ent_storage.specs.Bundle.{Bundle, with_put}
-use Rattle.ent_script.specs.declared.cause.Cause.{Cause}
+use Rattle.ent_script.proofs.Common.{Result, Ok, Err, Bundle, with_put, Cause}
 
 -- the bundle so far, with what is read after it
 abbrev pub onto : Bundle → Result Bundle Cause → Result Bundle Cause

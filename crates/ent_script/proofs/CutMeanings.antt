@@ -1,16 +1,7 @@
 -- One law, with a step for each test of the format: a value that is cut means the same.
-use Rattle.std.proofs.lemmas.List.{take-map}
-use Rattle.std.proofs.Common.{arith, rules, ◌≡◌, ℕ, suc, ◌+◌, List, [], ◌∷◌, map, refl, Option, option_map, Result, Ok, ok_or, codes}
-use Rattle.std.proofs.lemmas.Grind.{common_steps}
-use Rattle.serde_json.specs.Data.{Data, Members, no_members, member}
-use Rattle.serde_json.specs.Find.{get, as_str}
-use Rattle.ent_script.specs.Cut.{cut, cut_members}
-use Rattle.ent_script.specs.Json.{members, pairs_of, whole, whole_within}
-use Rattle.ent_script.specs.Names.{as_name}
-use Rattle.ent_script.specs.Reading.{◌>>=◌, items_of, read_bundle, with_of, count_of, binding_of, removed_of, target_of, format_of, or_absent, numbered, component_at}
-use Rattle.ent_script.specs.declared.cause.ScriptCause.{ScriptCause}
+use Rattle.ent_script.proofs.Common.{take-map, arith, rules, ◌≡◌, ℕ, suc, ◌+◌, List, [], ◌∷◌, map, refl, Option, option_map, Result, Ok, ok_or, codes, common_steps, Data, Members, no_members, member, get, as_str, cut, cut_members, pairs_of, whole, whole_within, as_name, ◌>>=◌, items_of, read_bundle, with_of, count_of, binding_of, removed_of, target_of, format_of, or_absent, numbered, component_at, ScriptCause, Heading}
+use Rattle.ent_script.specs.Json.{members}
 use Rattle.ent_script.specs.declared.cause.ScriptCause.TheVariants as script_cause
-use Rattle.ent_script.specs.declared.heading.Heading.{Heading}
 
 abbrev cut_pair : ℕ → List ℕ × Data → List ℕ × Data
 cut_pair l m = (m.0, cut l m.1)

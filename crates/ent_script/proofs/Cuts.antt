@@ -1,20 +1,6 @@
 -- Values that are cut, beside the members of an object as they are put in.
-use Rattle.std.proofs.lemmas.Grind.{common_steps}
-use Rattle.std.proofs.Common.{◌≡◌, ℕ, List, [], ◌∷◌, Option, Some, String, Vec, BTreeMap, Global, string_bytes, string_cmp, refl, rules, zero, suc, ◌<◌, ◌-◌, length, arith, Ordering, Less, Equal, Greater, Bor, nat_cmp, ◌∙◌}
-use Rattle.std.specs.Cmp.Lexicographic.{slice_cmp}
-use Rattle.std.specs.Ordering.{match_ordering}
-use Rattle.ent_script.specs.Part.{leaf_data, leaves_of}
-use Rattle.ent_script.specs.declared.leaf.Leaf.{Leaf}
-use Rattle.std.specs.BTreeMap.{insert_entry}
-use Rattle.json.specs.Token.{Token}
-use Rattle.json.specs.Json.{parse_map, value, items, members}
-use Rattle.json.proofs.Grammar.{value-begin_array, value-begin_object}
-use Rattle.serde_json.specs.Read.{of_json, of_items, of_members, converted}
+use Rattle.ent_script.proofs.Common.{common_steps, ◌≡◌, ℕ, List, [], ◌∷◌, Option, Some, String, Vec, BTreeMap, Global, string_bytes, string_cmp, refl, rules, zero, suc, ◌<◌, ◌-◌, length, arith, Ordering, Less, Equal, Greater, Bor, nat_cmp, ◌∙◌, slice_cmp, match_ordering, leaf_data, leaves_of, Leaf, insert_entry, Token, parse_map, value, items, members, value-begin_array, value-begin_object, of_json, of_items, of_members, converted, Data, array, object, Items, Members, no_members, member, put, view, items_view, members_view, Value, Array, Object, the_lemmas, cut, cut_members}
 use Rattle.ent_script.proofs.Turns.{converted-array, converted-object}
-use Rattle.serde_json.specs.Data.{Data, array, object, Items, Members, no_members, member, put}
-use Rattle.serde_json.specs.View.{view, items_view, members_view}
-use Rattle.serde_json.specs.declared.value.Value.{Value, Array, Object, the_lemmas}
-use Rattle.ent_script.specs.Cut.{cut, cut_members}
 
 pub view-Array : (v : Vec Value Global) → view (Array v) ≡ array (items_view v.items)
 view-Array v = search (rules, the_lemmas)

@@ -1,7 +1,5 @@
 -- What is returned instead of a value.
-use Rattle.std.proofs.Common.{rules, ◌≡◌, List, Result, Err}
-use Rattle.ent_script.specs.declared.read_fault.ReadFault.{ReadFault}
-use Rattle.ent_script.specs.Reading.{ReadsAs, ReadsList}
+use Rattle.ent_script.proofs.Common.{rules, ◌≡◌, List, Result, Err, ReadFault, ReadsAs, ReadsList}
 
 -- the fault of a part is the fault of the whole
 pub passes_on : {A B : Type 0} (e : ReadFault) (part : Result A ReadFault) (whole : Result B ReadFault)

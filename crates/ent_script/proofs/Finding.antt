@@ -1,14 +1,6 @@
 -- Of a text that is read as a value: what each step of a reader finds.
-use Rattle.std.proofs.Common.{rules, ◌≡◌, ℕ, zero, suc, ◌-◌, List, [], ◌∷◌, false, Option, Some, None, option_map, refl, sym, ap, ◌∙◌}
-use Rattle.json.specs.Token.{Token}
+use Rattle.ent_script.proofs.Common.{rules, ◌≡◌, ℕ, zero, suc, ◌-◌, List, [], ◌∷◌, false, Option, Some, None, option_map, refl, sym, ap, ◌∙◌, Token, Parse, parse_map, after_end_array, read_key, items, members, value, value_is, Data, Items, no_items, item, Members, put, as_array, as_object, get, tokens, begins_object, of_json, of_items, of_members, converted, read}
 use Rattle.json.specs.Json as json
-use Rattle.json.specs.Json.{Parse, parse_map, after_end_array, read_key, items, members, value}
-use Rattle.json.proofs.Grammar.{value_is}
-use Rattle.serde_json.specs.Data.{Data, Items, no_items, item, Members, put}
-use Rattle.serde_json.specs.Find.{as_array, as_object, get}
-use Rattle.json.specs.Lex.{tokens}
-use Rattle.ent_script.specs.Streaming.{begins_object}
-use Rattle.serde_json.specs.Read.{of_json, of_items, of_members, converted, read}
 use Rattle.ent_script.proofs.Turns.{item_read, item_refused, member_read, member_refused, key_refused, converted-object, converted-array}
 
 pub impossible : {A : Type 0} {P : Type 0} (x : A) → None ≡ Some x → P

@@ -1,18 +1,6 @@
 -- What the first pass over a text finds: whether it is JSON, and its heading.
-use Rattle.std.proofs.Common.{rules, ◌≡◌, ℕ, List, [], ◌∷◌, Option, Some, None, is_some, option_and_then, ok_or, Result, Ok, Err, false, MatchOption}
-use Rattle.std.specs.Str.{IsUtf8}
-use Rattle.std.proofs.lemmas.Str.{is_utf8-from_IsUtf8}
-use Rattle.json.specs.Lex.{tokens}
-use Rattle.json.specs.Token.{Token}
+use Rattle.ent_script.proofs.Common.{rules, ◌≡◌, ℕ, List, [], ◌∷◌, Option, Some, None, is_some, option_and_then, ok_or, Result, Ok, Err, false, MatchOption, IsUtf8, is_utf8-from_IsUtf8, tokens, Token, value, Data, of_json, converted, read, ◌>>=◌, heading_of, in_script, json_of, Script, Heading, ReadFault, Json}
 use Rattle.json.specs.Json as json
-use Rattle.json.specs.Json.{value}
-use Rattle.serde_json.specs.Data.{Data}
-use Rattle.serde_json.specs.Read.{of_json, converted, read}
-use Rattle.ent_script.specs.Reading.{◌>>=◌, heading_of, in_script, json_of}
-use Rattle.ent_script.specs.Script.{Script}
-use Rattle.ent_script.specs.declared.heading.Heading.{Heading}
-use Rattle.ent_script.specs.declared.read_fault.ReadFault.{ReadFault}
-use Rattle.ent_script.specs.declared.read_fault.ReadFault.TheVariants.{Json}
 
 -- the heading of what a text is read as
 abbrev pub headed : Option Data → Result Heading ReadFault

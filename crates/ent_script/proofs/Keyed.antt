@@ -1,23 +1,6 @@
 -- The keys of an operation as they are put in, and what it is by them.
-use Rattle.std.proofs.Common.{rules, ◌≡◌, ◌∙◌, ℕ, List, [], ◌∷◌, Bool, true, false, ◌&&◌, Option, Some, None, option_map, is_some, Ordering, Less, Equal, Greater, nat_cmp, is_eq, bytes_eq, refl, sym, ap, Bor, option_and_then, codes, Err, ◌||◌}
-use Rattle.std.specs.Prelude.{option_copied}
-use Rattle.std.proofs.lemmas.Map.Text.{is_eq-slice_cmp}
-use Rattle.std.proofs.lemmas.Slice.Eq.{bytes_eq-Decides}
-use Rattle.std.specs.Cmp.Lexicographic.{slice_cmp}
-use Rattle.std.specs.List.{list_any}
-use Rattle.std.specs.Ordering.{match_ordering}
-use Rattle.serde_json.specs.Data.{Data, null, boolean, number, string, array, object, Members, no_members, member, put}
-use Rattle.serde_json.specs.Find.{get_member, as_object}
-use Rattle.ent_script.specs.Part.{data_of}
-use Rattle.ent_script.specs.declared.part.Part.{Part}
-use Rattle.ent_script.specs.Cut.{cut}
-use Rattle.ent_script.specs.Fields.{IsUnder, AreAmong, AreFields, of_fields}
-use Rattle.ent_script.specs.Json.{keys_among, pairs_of}
-use Rattle.ent_script.specs.Reading.{has_keys, is_spawn, is_spawn_many, is_insert, is_remove, is_despawn, of_kind, operation_of, bound_name, read_bundle, with_of, count_of, binding_of, removed_of, target_of}
-use Rattle.ent_script.specs.Names.{as_name}
+use Rattle.ent_script.proofs.Common.{rules, ◌≡◌, ◌∙◌, ℕ, List, [], ◌∷◌, Bool, true, false, ◌&&◌, Option, Some, None, option_map, is_some, Ordering, Less, Equal, Greater, nat_cmp, is_eq, bytes_eq, refl, sym, ap, Bor, option_and_then, codes, Err, ◌||◌, option_copied, is_eq-slice_cmp, bytes_eq-Decides, slice_cmp, list_any, match_ordering, Data, null, boolean, number, string, array, object, Members, no_members, member, put, get_member, as_object, data_of, Part, cut, IsUnder, AreAmong, AreFields, of_fields, keys_among, pairs_of, has_keys, is_spawn, is_spawn_many, is_insert, is_remove, is_despawn, of_kind, operation_of, bound_name, read_bundle, with_of, count_of, binding_of, removed_of, target_of, as_name, Fields, Kind}
 use Rattle.ent_script.specs.declared.cause.Cause.TheVariants as cause
-use Rattle.ent_script.specs.declared.fields.Fields.{Fields}
-use Rattle.ent_script.specs.declared.kind.Kind.{Kind}
 use Rattle.ent_script.specs.declared.kind.Kind.TheVariants as kinds
 use Rattle.ent_script.proofs.CutMeanings.{bundle-cut, with-cut, count-cut, binding-cut, removed-cut, target-cut, as_name-cut}
 use Rattle.ent_script.proofs.Puts.{found_here, found_before}

@@ -21,3 +21,4 @@ pub mod Whole
 pub mod Headings
 pub mod PartRanges
 pub mod Ranges
+pub mod Common

@@ -1,19 +1,6 @@
 -- Reading the elements of an array one after another, of at most so many.
-use Rattle.std.proofs.Common.{le-leb, rules, ◌≡◌, ℕ, ◌+◌, ◌-◌, ◌<◌, ◌≤◌, List, [], ◌∷◌, ◌++◌, length, Some, None, Result, Ok, Err, false, cond, ok_or}
-use Rattle.std.proofs.lemmas.Bool.{lt-leb}
-use Rattle.std.proofs.lemmas.List.{append-nil}
-use Rattle.std.specs.Global.{Vec}
-use Rattle.std.specs.Prelude.{nat_le}
-use Rattle.json.specs.Token.{Token}
+use Rattle.ent_script.proofs.Common.{le-leb, rules, ◌≡◌, ℕ, ◌+◌, ◌-◌, ◌<◌, ◌≤◌, List, [], ◌∷◌, ◌++◌, length, Some, None, Result, Ok, Err, false, cond, ok_or, lt-leb, append-nil, nat_le, Token, Parse, after_end_array, items, Data, Items, of_json, of_items, converted, list_of, ◌>>=◌, numbered, ReadsList, Streams, StreamsList, FaultOfArray, ran_out, ReadFault, Memory, Vec}
 use Rattle.json.specs.Json as json
-use Rattle.json.specs.Json.{Parse, after_end_array, items}
-use Rattle.serde_json.specs.Data.{Data, Items}
-use Rattle.serde_json.specs.Read.{of_json, of_items, converted}
-use Rattle.ent_script.specs.Json.{list_of}
-use Rattle.ent_script.specs.Reading.{◌>>=◌, numbered, ReadsList}
-use Rattle.ent_script.specs.Streaming.{Streams, StreamsList, FaultOfArray, ran_out}
-use Rattle.ent_script.specs.declared.read_fault.ReadFault.{ReadFault}
-use Rattle.ent_script.specs.declared.read_fault.ReadFault.TheVariants.{Memory}
 use Rattle.ent_script.proofs.Numbering.{onto, onto_one}
 use Rattle.ent_script.proofs.Finding.{next_item, last_item}
 

@@ -1,16 +1,6 @@
 -- Names and their numbers.
-use Rattle.std.proofs.lemmas.List.{length-map, map-append}
-use Rattle.std.proofs.Common.{rules, ◌≡◌, ℕ, ◌+◌, ◌<◌, Bool, true, false, List, [], ◌∷◌, ◌++◌, length, map, Option, Some, None, option_map, is_some, IfSome, cond, refl, sym, ◌∙◌, arith, bytes_eq, true≢false, suc, add-one, Bor, BTreeMap, option_and_then}
-use Rattle.std.proofs.lemmas.Grind.{common_steps}
-use Rattle.std.specs.BTreeMap.{get_by, Updates}
-use Rattle.std.specs.Cmp.Lexicographic.{slice_cmp}
+use Rattle.ent_script.proofs.Common.{length-map, map-append, rules, ◌≡◌, ℕ, ◌+◌, ◌<◌, Bool, true, false, List, [], ◌∷◌, ◌++◌, length, map, Option, Some, None, option_map, is_some, IfSome, cond, refl, sym, ◌∙◌, arith, bytes_eq, true≢false, suc, add-one, Bor, BTreeMap, option_and_then, common_steps, get_by, Updates, slice_cmp, btree_map_updates_str, bytes_eq-Decides, Data, as_name, number_among, with_name, new_name, HaveNumbers}
 use Rattle.std.specs.Ordering.{nat_cmp}
-use Rattle.std.proofs.lemmas.Map.Text.{btree_map_updates_str}
-use Rattle.std.proofs.lemmas.Slice.Eq.{bytes_eq-Decides}
-use Rattle.serde_json.specs.Data.{Data}
-use Rattle.ent_script.specs.Names.{as_name, number_among, with_name}
-use Rattle.ent_script.specs.Reading.{new_name}
-use Rattle.ent_script.specs.Numbers.{HaveNumbers}
 
 -- a name's number is less than how many there are
 pub number_within : (name : List ℕ) (names : List (List ℕ)) → IfSome (number_among name names) (λ p. p < length names)

@@ -1,11 +1,5 @@
 -- Reading the elements of an array one after another.
-use Rattle.std.proofs.lemmas.Grind.{common_steps}
-use Rattle.std.proofs.Common.{rules, ◌≡◌, ℕ, ◌+◌, ◌<◌, zero, suc, List, [], ◌∷◌, ◌++◌, length, map, take, drop, get_or, Result, Ok, Err, Option, refl, sym, ap, arith, add-one, append_assoc}
-use Rattle.serde_json.specs.Data.{Data}
-use Rattle.serde_json.specs.View.{view}
-use Rattle.serde_json.specs.declared.value.Value.{Value}
-use Rattle.ent_script.specs.Names.{with_part, names_in}
-use Rattle.ent_script.specs.Reading.{◌>>=◌, numbered}
+use Rattle.ent_script.proofs.Common.{common_steps, rules, ◌≡◌, ℕ, ◌+◌, ◌<◌, zero, suc, List, [], ◌∷◌, ◌++◌, length, map, take, drop, get_or, Result, Ok, Err, Option, refl, sym, ap, arith, add-one, append_assoc, Data, view, Value, with_part, names_in, ◌>>=◌, numbered}
 
 -- the elements from this one on
 abbrev pub from : List Value → ℕ → List Data

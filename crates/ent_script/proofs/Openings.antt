@@ -1,16 +1,5 @@
 -- What stands behind the bracket that a reader took, and behind a value that it passed over.
-use Rattle.std.proofs.Common.{rules, ◌≡◌, ◌-◌, ℕ, [], ◌∷◌, List, length, Some, None, Bool, true, false}
-use Rattle.std.specs.Prelude.{Ok}
-use Rattle.json.specs.Lex.{tokens}
-use Rattle.json.specs.Token.{Token}
-use Rattle.json.specs.Json.{items, members, value}
-use Rattle.json.proofs.Grammar.{left_some}
-use Rattle.serde_json.specs.Data.{Data, Items, Members, array, object, no_members}
-use Rattle.serde_json.specs.Find.{as_array, as_object, get}
-use Rattle.serde_json.specs.Read.{of_json, of_items, of_members, converted, read}
-use Rattle.ent_script.specs.Passing.{left}
-use Rattle.ent_script.specs.Fields.{BeginsObject}
-use Rattle.ent_script.specs.Streaming.{BeginsArray, begins_object}
+use Rattle.ent_script.proofs.Common.{rules, ◌≡◌, ◌-◌, ℕ, [], ◌∷◌, List, length, Some, None, Bool, true, false, tokens, Token, items, members, value, left_some, Data, Items, Members, array, object, no_members, as_array, as_object, get, of_json, of_items, of_members, converted, read, left, BeginsObject, BeginsArray, begins_object, Ok}
 use Rattle.ent_script.proofs.Cuts.{opened_object}
 use Rattle.ent_script.proofs.Finding.{whole_text, no_object}
 

@@ -1,19 +1,6 @@
 -- Reading the operations of a system one after another, with the names that they bind.
-use Rattle.std.proofs.Common.{rules, ◌≡◌, ℕ, zero, suc, ◌+◌, List, [], ◌∷◌, ◌++◌, length, take, drop, Some, None, Result, Ok, Bool, cond, ok_or, ap, ◌∙◌, arith, add-one}
-use Rattle.std.proofs.lemmas.Grind.{common_steps}
-use Rattle.std.proofs.lemmas.List.Sums.{fold-append}
-use Rattle.std.specs.Prelude.{nat_le}
-use Rattle.json.specs.Token.{Token}
+use Rattle.ent_script.proofs.Common.{rules, ◌≡◌, ℕ, zero, suc, ◌+◌, List, [], ◌∷◌, ◌++◌, length, take, drop, Some, None, Result, Ok, Bool, cond, ok_or, ap, ◌∙◌, arith, add-one, common_steps, fold-append, nat_le, Token, Parse, after_end_array, items, Data, Items, of_json, of_items, converted, cut, list_of, with_part, names_in, ◌>>=◌, numbered, bound_name, Streams, ReadFault}
 use Rattle.json.specs.Json as json
-use Rattle.json.specs.Json.{Parse, after_end_array, items}
-use Rattle.serde_json.specs.Data.{Data, Items}
-use Rattle.serde_json.specs.Read.{of_json, of_items, converted}
-use Rattle.ent_script.specs.Cut.{cut}
-use Rattle.ent_script.specs.Json.{list_of}
-use Rattle.ent_script.specs.Names.{with_part, names_in}
-use Rattle.ent_script.specs.Reading.{◌>>=◌, numbered, bound_name}
-use Rattle.ent_script.specs.Streaming.{Streams}
-use Rattle.ent_script.specs.declared.read_fault.ReadFault.{ReadFault}
 use Rattle.ent_script.proofs.Finding.{next_item}
 use Rattle.ent_script.proofs.Listing.{listed}
 use Rattle.ent_script.proofs.Numbering.{onto, onto_one}

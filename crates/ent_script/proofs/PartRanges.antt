@@ -1,22 +1,8 @@
 -- The parts of a script that is read are in its ranges: numbers, components, bundles, names,
 -- targets and operations.
-use Rattle.std.proofs.Common.{rules, ℕ, ℤ, ◌+◌, ◌<◌, ◌≤◌, zero, suc, Bool, cond, List, [], ◌∷◌, length, length-append, take, Option, Result, IfSome, codes, arith}
-use Rattle.std.proofs.lemmas.Grind.{common_steps}
-use Rattle.std.specs.Prelude.{IfOk}
-use Rattle.std.specs.List.{AllByRecursion, fold}
+use Rattle.ent_script.proofs.Common.{rules, ℕ, ℤ, ◌+◌, ◌<◌, ◌≤◌, zero, suc, Bool, cond, List, [], ◌∷◌, length, length-append, take, Option, Result, IfSome, codes, arith, common_steps, IfOk, AllByRecursion, fold, Data, get, ComponentId, component_cmp, with_put, Format, Kind, at_most, whole_within, with_part, names_in, IsBundleOf, IsBindingAt, IsTargetAt, IsOperationAt, ◌>>=◌, numbered, component_of, items_of, read_bundle, with_of, count_of, binding_of, removed_of, target_at, target_of, of_kind, operation_of, bound_name, birth_of, births_before, target_birth}
 use Rattle.std.specs.FinMap.{put}
-use Rattle.serde_json.specs.Data.{Data}
-use Rattle.serde_json.specs.Find.{get}
-use Rattle.ent_handle.specs.declared.component.ComponentId.{ComponentId}
-use Rattle.ent_handle.specs.Component.{component_cmp}
-use Rattle.ent_storage.specs.Bundle.{with_put}
-use Rattle.ent_script.specs.declared.format.Format.{Format}
-use Rattle.ent_script.specs.declared.kind.Kind.{Kind}
 use Rattle.ent_script.specs.declared.kind.Kind.TheVariants as kinds
-use Rattle.ent_script.specs.Json.{at_most, whole_within}
-use Rattle.ent_script.specs.Names.{with_part, names_in}
-use Rattle.ent_script.specs.Ranges.{IsBundleOf, IsBindingAt, IsTargetAt, IsOperationAt}
-use Rattle.ent_script.specs.Reading.{◌>>=◌, numbered, component_of, items_of, read_bundle, with_of, count_of, binding_of, removed_of, target_at, target_of, of_kind, operation_of, bound_name, birth_of, births_before, target_birth}
 use Rattle.ent_script.proofs.NamesLaws.{number_within}
 
 pub then_ok : {A B E : Type 0} (Q : A → Type 0) (P : B → Type 0) (r : Result A E) (f : A → Result B E) → IfOk r Q

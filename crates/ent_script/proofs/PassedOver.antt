@@ -1,12 +1,6 @@
 -- An item or a member that was passed over, or that is none, and those after it.
-use Rattle.std.proofs.Common.{rules, ◌≡◌, ℕ, ◌+◌, ◌-◌, List, length, Some, None}
-use Rattle.json.specs.Token.{Token}
+use Rattle.ent_script.proofs.Common.{rules, ◌≡◌, ℕ, ◌+◌, ◌-◌, List, length, Some, None, Token, Parse, after_end_array, read_key, items, members, Data, Items, Members, put, of_json, of_items, of_members, converted, list_of, left}
 use Rattle.json.specs.Json as json
-use Rattle.json.specs.Json.{Parse, after_end_array, read_key, items, members}
-use Rattle.serde_json.specs.Data.{Data, Items, Members, put}
-use Rattle.serde_json.specs.Read.{of_json, of_items, of_members, converted}
-use Rattle.ent_script.specs.Json.{list_of}
-use Rattle.ent_script.specs.Passing.{left}
 use Rattle.ent_script.proofs.Finding.{next_item, next_member, passed, not_passed}
 
 module _ (p : Parse json.Json) where

@@ -1,12 +1,5 @@
 -- What an object has after a member is put into it.
-use Rattle.std.proofs.Common.{rules, ◌≡◌, ℕ, List, Option, Some, Ordering, Less, Equal, Greater, nat_cmp, is_eq, true, false, bytes_eq, true≢false, refl, sym, ap, ◌∙◌}
-use Rattle.std.proofs.lemmas.Cmp.{nat_list_cmp_total, tied_itself}
-use Rattle.std.proofs.lemmas.Map.Text.{is_eq-slice_cmp}
-use Rattle.std.proofs.lemmas.Slice.Eq.{bytes_eq-Decides}
-use Rattle.std.specs.Cmp.Lexicographic.{slice_cmp}
-use Rattle.std.specs.Ordering.{match_ordering}
-use Rattle.serde_json.specs.Data.{Data, Members, no_members, member, put}
-use Rattle.serde_json.specs.Find.{get_member}
+use Rattle.ent_script.proofs.Common.{rules, ◌≡◌, ℕ, List, Option, Some, Ordering, Less, Equal, Greater, nat_cmp, is_eq, true, false, bytes_eq, true≢false, refl, sym, ap, ◌∙◌, nat_list_cmp_total, tied_itself, is_eq-slice_cmp, bytes_eq-Decides, slice_cmp, match_ordering, Data, Members, no_members, member, put, get_member}
 
 same_text : (xs : List ℕ) → slice_cmp nat_cmp xs xs ≡ Equal
 same_text xs = tied_itself nat_list_cmp_total xs

@@ -1,21 +1,7 @@
 -- A script that is read is in its ranges: its systems, its frames and the whole.
-use Rattle.std.proofs.Common.{rules, ℕ, ◌+◌, ◌≤◌, List, [], ◌∷◌, length, take, Option, ok_or, Result, Ok, Err, IfSome, codes, arith}
-use Rattle.ent_script.specs.Reading.{◌>>=◌, numbered, or_absent, at_operation, operation_at, bound_name, system_of, frame_of, component_at, component_names, heading_of, script_of, ReadsAs}
+use Rattle.ent_script.proofs.Common.{rules, ℕ, ◌+◌, ◌≤◌, List, [], ◌∷◌, length, take, Option, ok_or, Result, Ok, Err, IfSome, codes, arith, ◌>>=◌, numbered, or_absent, at_operation, operation_at, bound_name, system_of, frame_of, component_at, component_names, heading_of, script_of, ReadsAs, common_steps, IfOk, Data, get, AreLimits, Cause, Format, Heading, ReadFault, whole_within, names_in, Script, AllFrom, IsOperationAt, IsSystemOf, IsFrameOf, IsScript}
 use Rattle.ent_script.proofs.PartRanges.{then_any, then_ok, numbered_each, Between, whole_in, few, few_names, operation_in}
-use Rattle.std.proofs.lemmas.Grind.{common_steps}
-use Rattle.std.specs.Prelude.{IfOk}
-use Rattle.serde_json.specs.Data.{Data}
-use Rattle.serde_json.specs.Find.{get}
-use Rattle.ent_alloc.specs.Limits.{AreLimits}
-use Rattle.ent_script.specs.declared.cause.Cause.{Cause}
 use Rattle.ent_script.specs.declared.cause.ScriptCause.TheVariants as script_cause
-use Rattle.ent_script.specs.declared.format.Format.{Format}
-use Rattle.ent_script.specs.declared.heading.Heading.{Heading}
-use Rattle.ent_script.specs.declared.read_fault.ReadFault.{ReadFault}
-use Rattle.ent_script.specs.Json.{whole_within}
-use Rattle.ent_script.specs.Names.{names_in}
-use Rattle.ent_script.specs.Script.{Script}
-use Rattle.ent_script.specs.Ranges.{AllFrom, IsOperationAt, IsSystemOf, IsFrameOf, IsScript}
 
 at_in : {A : Type 0} (P : A → Type 0) (f s o : ℕ) (r : Result A Cause) → IfOk r P → IfOk (at_operation f s o r) P
 at_in P f s o it h = search rules

@@ -1,16 +1,7 @@
 -- The grammar's loops, a turn at a time, of what is left alone.
-use Rattle.std.proofs.Common.{rules, ◌≡◌, ℕ, ◌-◌, ◌<◌, ◌≤◌, List, length, Option, Some, None, ap, ◌∙◌, arith, Result, Err, Bool, cond, true, false, ◌⊎◌}
-use Rattle.json.specs.Token.{Token}
+use Rattle.ent_script.proofs.Common.{rules, ◌≡◌, ℕ, ◌-◌, ◌<◌, ◌≤◌, List, length, Option, Some, None, ap, ◌∙◌, arith, Result, Err, Bool, cond, true, false, ◌⊎◌, Token, Parse, after_end_array, read_key, items, members, left_some, left_none, left-parse_map, Data, Members, item, put, of_json, of_items, of_members, converted, IfOk, left, Passes, ReadFault, Json, Memory}
 use Rattle.json.specs.Json as json
-use Rattle.json.specs.Json.{Parse, after_end_array, read_key, items, members}
-use Rattle.json.proofs.Grammar.{left_some, left_none, left-parse_map}
-use Rattle.serde_json.specs.Data.{Data, Members, item, put}
-use Rattle.serde_json.specs.Read.{of_json, of_items, of_members, converted}
 use Rattle.ent_script.proofs.Turns.{item_read, item_refused, items_over, member_read, member_refused}
-use Rattle.std.specs.Prelude.{IfOk}
-use Rattle.ent_script.specs.Passing.{left, Passes}
-use Rattle.ent_script.specs.declared.read_fault.ReadFault.{ReadFault}
-use Rattle.ent_script.specs.declared.read_fault.ReadFault.TheVariants.{Json, Memory}
 
 pub item_passed : (p : Parse json.Json) (n : ℕ) (ts r : List Token) → 0 < n → after_end_array ts ≡ None
     → left (converted of_json (p ts)) ≡ Some r → left (converted of_items (items p n ts))

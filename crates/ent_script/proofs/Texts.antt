@@ -1,10 +1,5 @@
 -- Texts: which of them are JSON, and names as texts of their own.
-use Rattle.std.proofs.Common.{rules, ◌≡◌, ℕ, ◌+◌, ◌<◌, zero, suc, List, [], ◌∷◌, ◌++◌, length, map, take, get_or, Bool, cond, None, Bor, String, Global, string_bytes, refl, ap, arith, add-one}
-use Rattle.std.specs.Str.{IsUtf8, is_utf8}
-use Rattle.std.proofs.lemmas.List.{map-append}
-use Rattle.std.proofs.lemmas.Str.{IsUtf8-from_is_utf8}
-use Rattle.serde_json.specs.Read.{read}
-use Rattle.ent_script.specs.Reading.{json_of}
+use Rattle.ent_script.proofs.Common.{rules, ◌≡◌, ℕ, ◌+◌, ◌<◌, zero, suc, List, [], ◌∷◌, ◌++◌, length, map, take, get_or, Bool, cond, None, Bor, String, Global, string_bytes, refl, ap, arith, add-one, IsUtf8, is_utf8, map-append, IsUtf8-from_is_utf8, read, json_of}
 
 none_by : (text : List ℕ) (b : Bool) → is_utf8 text ≡ b → (IsUtf8 text → read text ≡ None)
     → cond b (read text) None ≡ None

@@ -1,18 +1,5 @@
 -- What is kept of the top of a text means the same heading.
-use Rattle.std.proofs.Common.{rules, ◌≡◌, ◌∙◌, ℕ, List, [], ◌∷◌, map, refl, sym, ap, false, Option, Some, None, option_map, codes, bytes_eq, nat_cmp, is_eq, Ordering, Less, Equal, Greater}
-use Rattle.std.proofs.lemmas.Map.Text.{is_eq-slice_cmp}
-use Rattle.std.proofs.lemmas.Slice.Eq.{bytes_eq-Decides}
-use Rattle.std.specs.Cmp.Lexicographic.{slice_cmp}
-use Rattle.std.specs.Ordering.{match_ordering}
-use Rattle.json.specs.Token.{Token}
-use Rattle.json.proofs.Grammar.{left_some}
-use Rattle.serde_json.specs.Data.{Data, null, object, Members, no_members, member, put}
-use Rattle.serde_json.specs.Find.{get, get_member, as_object}
-use Rattle.ent_script.specs.Cut.{cut}
-use Rattle.ent_script.specs.Json.{pairs_of, keys_among, whole_within}
-use Rattle.ent_script.specs.Reading.{heading_of, or_absent}
-use Rattle.ent_script.specs.Passing.{left}
-use Rattle.ent_script.specs.Top.{head, heads}
+use Rattle.ent_script.proofs.Common.{rules, ◌≡◌, ◌∙◌, ℕ, List, [], ◌∷◌, map, refl, sym, ap, false, Option, Some, None, option_map, codes, bytes_eq, nat_cmp, is_eq, Ordering, Less, Equal, Greater, is_eq-slice_cmp, bytes_eq-Decides, slice_cmp, match_ordering, Token, left_some, Data, null, object, Members, no_members, member, put, get, get_member, as_object, cut, pairs_of, keys_among, whole_within, heading_of, or_absent, left, head, heads}
 use Rattle.ent_script.proofs.CutMeanings.{whole-cut}
 
 -- ---- putting in

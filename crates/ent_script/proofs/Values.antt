@@ -1,15 +1,5 @@
 -- The values in memory, and the lists that they are seen as.
-use Rattle.std.proofs.Common.{rules, ◌≡◌, ℕ, List, [], ◌∷◌, map, Option, Some, None, option_map, String, Vec, BTreeMap, Global, string_bytes, Bor, refl, sym, ap, bytes_eq, length, arith, slice_get}
-use Rattle.serde_json.specs.Data.{Data, Items, Members}
-use Rattle.serde_json.specs.View.{view, items_view, members_view}
-use Rattle.serde_json.specs.declared.value.Value.{Value}
-use Rattle.std.proofs.lemmas.List.{length-map}
-use Rattle.std.specs.List.{list_all, list_any}
-use Rattle.std.specs.Map.{keys_of}
-use Rattle.ent_script.specs.Reading.{only}
-use Rattle.ent_script.specs.Json.{list_of, pairs_of, keys_among}
-use Rattle.ent_script.specs.Part.{leaf_data, leaves_of}
-use Rattle.ent_script.specs.declared.leaf.Leaf.{Leaf}
+use Rattle.ent_script.proofs.Common.{rules, ◌≡◌, ℕ, List, [], ◌∷◌, map, Option, Some, None, option_map, String, Vec, BTreeMap, Global, string_bytes, Bor, refl, sym, ap, bytes_eq, length, arith, slice_get, Data, Items, Members, view, items_view, members_view, Value, length-map, list_all, list_any, keys_of, only, list_of, pairs_of, keys_among, leaf_data, leaves_of, Leaf}
 
 abbrev pub pair_view : String Global × Value → List ℕ × Data
 pair_view m = (string_bytes m.0, view m.1)

@@ -1,19 +1,6 @@
 -- A script, of the parts that are read one after another.
-use Rattle.std.proofs.Common.{rules, ◌≡◌, ℕ, List, map, Option, Some, None, option_map, option_and_then, ok_or, codes, Result}
-use Rattle.std.specs.Prelude.{Ok, Err}
-use Rattle.serde_json.specs.Data.{Data}
-use Rattle.serde_json.specs.Find.{get}
-use Rattle.serde_json.specs.View.{view}
-use Rattle.serde_json.specs.declared.value.Value.{Value}
-use Rattle.ent_script.specs.Cut.{cut}
-use Rattle.ent_script.specs.Json.{at_most}
-use Rattle.ent_script.specs.Reading.{◌>>=◌, numbered, frame_of, component_at, component_names, heading_of, in_script, script_of}
-use Rattle.ent_script.specs.Script.{Script}
-use Rattle.ent_script.specs.Streaming.{frames_of}
+use Rattle.ent_script.proofs.Common.{rules, ◌≡◌, ℕ, List, map, Option, Some, None, option_map, option_and_then, ok_or, codes, Result, Data, get, view, Value, cut, at_most, ◌>>=◌, numbered, frame_of, component_at, component_names, heading_of, in_script, script_of, Script, frames_of, Heading, Operation, ReadFault, Ok, Err}
 use Rattle.ent_script.specs.declared.cause.ScriptCause.TheVariants as script_cause
-use Rattle.ent_script.specs.declared.heading.Heading.{Heading}
-use Rattle.ent_script.specs.declared.operation.Operation.{Operation}
-use Rattle.ent_script.specs.declared.read_fault.ReadFault.{ReadFault}
 use Rattle.ent_script.specs.declared.read_fault.ReadFault.TheVariants as fault
 use Rattle.ent_script.proofs.CutMeanings.{components-cut}
 

@@ -1,14 +1,5 @@
 -- The calls of one caller among those of all, and records of which no two have one number.
-use Rattle.std.proofs.Common.{suc, ◌≡◌, ◌≢◌, ℕ, ◌≤◌, List, [], ◌∷◌, refl, arith}
-use Rattle.std.proofs.lemmas.Grind.{common_steps}
-use Rattle.std.specs.Prelude.{cond, ◌==◌, count_by}
-use Rattle.std.specs.List.{sum_by, All, AllPairs, Contains}
-use Rattle.std.proofs.lemmas.List.Elements.{All-head}
-use Rattle.std.proofs.lemmas.List.Kept.{AllPairs-cons}
-use Rattle.std.proofs.lemmas.List.Sums.{sum_by-cons}
-use Rattle.ent_shared.specs.declared.record.Reservation.{Reservation}
-use Rattle.ent_shared.specs.declared.record.Record.{Record}
-use Rattle.ent_shared.specs.Order.{reservations_by}
+use Rattle.ent_shared.proofs.Common.{suc, ◌≡◌, ◌≢◌, ℕ, ◌≤◌, List, [], ◌∷◌, refl, arith, common_steps, cond, ◌==◌, count_by, sum_by, All, Contains, All-head, AllPairs-cons, sum_by-cons, Reservation, Record, reservations_by, AllPairs}
 use Rattle.ent_shared.proofs.Sorting.{contains_cases}
 
 -- one caller's calls weigh what its own calls weigh

@@ -1,28 +1,11 @@
 -- The end of a phase: the history of all records is legal, and the cursor and the least floor tell
 -- the allocator after it.
 use Rattle.ent_shared.proofs.Histories.{falls_apart, reservations_are, respects_all}
-use Rattle.std.proofs.Common.{rules, ◌≡◌, ◌≢◌, ℕ, ◌+◌, ◌-◌, ◌^◌, ◌≤◌, ℤ, pos, ◌+ℤ◌, ◌-ℤ◌, ◌≤ℤ◌, ◌<ℤ◌, List, length, map, sym, ap, ◌∙◌, arith, sum, length-append, All, AllPairs, Contains, ◌↔◌, ◌⊎◌}
-use Rattle.std.proofs.lemmas.Grind.{common_steps}
-use Rattle.std.specs.List.{sum_by}
-use Rattle.std.proofs.lemmas.Bool.{cases_lt}
-use Rattle.std.proofs.lemmas.List.Sorted.{length_permutation}
-use Rattle.std.proofs.lemmas.Int.{ints}
-use Rattle.ent_handle.specs.Handle.{Handle}
-use Rattle.ent_alloc.specs.Entities.{Entities}
-use Rattle.ent_alloc.specs.Sequential.{Allocator, available, cursor, top, asked_at, settled, after_flush}
-use Rattle.ent_alloc.specs.Sound.{IsSound, IsLive}
+use Rattle.ent_shared.proofs.Common.{rules, ◌≡◌, ◌≢◌, ℕ, ◌+◌, ◌-◌, ◌^◌, ◌≤◌, ℤ, pos, ◌+ℤ◌, ◌-ℤ◌, ◌≤ℤ◌, ◌<ℤ◌, List, length, map, sym, ap, ◌∙◌, arith, sum, length-append, AllPairs, ◌↔◌, ◌⊎◌, common_steps, sum_by, cases_lt, length_permutation, ints, Handle, Entities, Allocator, available, cursor, top, asked_at, settled, after_flush, IsSound, IsLive, after_takes-sound, available-after_takes, asked-after_takes, cursor-after_takes, length-taken, length-available, flushed-laid_out, asked_at-is, after_history-takes, given_in-distinct, given_in-not_live, given_in-taken, given_in-bring_to_life, after_history-settled, Record, Opening, floor_of, least_floor, IsStart, IsClosed, as_call, own_of_all, reservations_of, history_of, Respects}
+use Rattle.std.proofs.Common.{All, Contains}
 use Rattle.ent_alloc.specs.History as history
-use Rattle.ent_alloc.proofs.PoolLaw.{after_takes-sound, available-after_takes, asked-after_takes, cursor-after_takes, length-taken}
-use Rattle.ent_alloc.proofs.Taken.{length-available}
-use Rattle.ent_alloc.proofs.LaidOut.{flushed-laid_out}
-use Rattle.ent_alloc.proofs.Meaning.{asked_at-is}
-use Rattle.ent_alloc.proofs.Histories.{after_history-takes, given_in-distinct, given_in-not_live, given_in-taken, given_in-bring_to_life, after_history-settled}
 use mir.Syntax.{w64}
 use mir.Val.{to_z, of_z}
-use Rattle.ent_shared.specs.declared.record.Record.{Record}
-use Rattle.ent_shared.specs.declared.rule.Opening.{Opening}
-use Rattle.ent_shared.specs.Rule.{floor_of, least_floor, IsStart, IsClosed}
-use Rattle.ent_shared.specs.Order.{as_call, own_of_all, reservations_of, history_of, Respects}
 use Rattle.ent_shared.proofs.Words.{requested, follow_asked, few_asked}
 use Rattle.ent_shared.proofs.Sorting.{follow_falls}
 use Rattle.ent_shared.proofs.Callers.{numbers_differ}

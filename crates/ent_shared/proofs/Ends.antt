@@ -1,19 +1,6 @@
 -- The rule at the ends of a phase: it holds before the first step, and what it says after the last.
-use Rattle.std.proofs.lemmas.Int.{ints}
-use Rattle.std.proofs.lemmas.Grind.{common_steps}
-use Rattle.std.proofs.Common.{rules, ◌≡◌, ℕ, zero, suc, ◌+◌, ◌<◌, ◌≤◌, ℤ, ◌≤ℤ◌, List, [], ◌∷◌, length, sym, refl, ap, ◌∙◌, arith}
-use Rattle.std.specs.List.{sum_by, All}
-use Rattle.std.proofs.lemmas.List.Elements.{All-nil, All-cons}
-use Rattle.std.proofs.lemmas.List.Sums.{sum_by-cons}
-use mathlib.Core.Option.{some}
-use lib.ListN.{get_elem?}
-use Rattle.atomic_table.specs.Table.{State, opening}
+use Rattle.ent_shared.proofs.Common.{ints, common_steps, rules, ◌≡◌, ℕ, zero, suc, ◌+◌, ◌<◌, ◌≤◌, ℤ, ◌≤ℤ◌, List, [], ◌∷◌, length, sym, refl, ap, ◌∙◌, arith, sum_by, All, All-nil, All-cons, sum_by-cons, some, get_elem?, State, opening, Allocator, cursor, Reservation, Record, own_reservations, opened, opened_records, cursor_of, weigh, HasItsReply, IsKept, IsStart, IsRuled, IsClosed}
 use Rattle.ent_shared.proofs.Weighing.{all_one, sum_at, all_at, whole_weighs}
-use Rattle.ent_alloc.specs.Sequential.{Allocator, cursor}
-use Rattle.ent_shared.specs.declared.record.Reservation.{Reservation}
-use Rattle.ent_shared.specs.declared.record.Record.{Record}
-use Rattle.ent_shared.specs.Record.{own_reservations, opened, opened_records}
-use Rattle.ent_shared.specs.Rule.{cursor_of, weigh, HasItsReply, IsKept, IsStart, IsRuled, IsClosed}
 use Rattle.ent_shared.proofs.Words.{left_of, numbered, all_quota}
 
 module _ (start : Allocator) (count : ℕ) where

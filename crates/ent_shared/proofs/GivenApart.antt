@@ -1,21 +1,7 @@
 -- The handles of a list differ if each is there at most once. So the handles of some reservers differ if
 -- those of all do.
-use Rattle.std.proofs.Common.{rules, arith, ◌≡◌, ◌≢◌, ℕ, ◌≤◌, List, [], ◌∷◌, refl, All, AllPairs, Contains, ◌⊎◌, sym, subst}
-use Rattle.std.specs.Prelude.{cond}
-use Rattle.std.specs.List.{sum_by}
-use Rattle.std.proofs.lemmas.Grind.{common_steps}
-use Rattle.std.proofs.lemmas.Bool.Decides.{nat_tests}
-use Rattle.std.proofs.lemmas.List.Elements.{All-tail, All-head, All-contains_itself}
-use Rattle.std.proofs.lemmas.List.Kept.{AllPairs-cons}
-use Rattle.std.proofs.lemmas.List.Sums.{sum_by-append, sum_by-cons}
-use Rattle.ent_handle.specs.Handle.{Handle, handle_eq}
-use Rattle.ent_alloc.specs.History.{handles_in}
-use Rattle.ent_alloc.proofs.ListLaws.{AllPairs-head, AllPairs-tail}
-use Rattle.ent_shared.specs.declared.record.Reservation.{Reservation}
-use Rattle.ent_shared.specs.declared.record.Record.{Record}
-use Rattle.ent_shared.specs.Record.{own_reservations}
-use Rattle.ent_shared.specs.Rule.{weigh}
-use Rattle.ent_shared.specs.Order.{own_of_all, handles_of}
+use Rattle.ent_shared.proofs.Common.{rules, arith, ◌≡◌, ◌≢◌, ℕ, ◌≤◌, List, [], ◌∷◌, refl, AllPairs, ◌⊎◌, sym, subst, cond, sum_by, common_steps, nat_tests, All-tail, All-head, All-contains_itself, AllPairs-cons, sum_by-append, sum_by-cons, Handle, handle_eq, handles_in, AllPairs-head, AllPairs-tail, Reservation, Record, own_reservations, weigh, own_of_all, handles_of}
+use Rattle.std.proofs.Common.{All, Contains}
 use Rattle.ent_shared.proofs.Sorting.{contains_cases}
 use Rattle.ent_shared.proofs.Weighing.{sum_by-flat_map}
 

@@ -1,6 +1,5 @@
 -- Those that hold seats, as they are handed in one by one.
-use Rattle.std.proofs.Common.{rules, ◌≡◌, List, ◌++◌, length, append-nil}
-use Rattle.std.proofs.lemmas.List.{nil_from_length}
+use Rattle.ent_shared.proofs.Common.{rules, ◌≡◌, List, ◌++◌, length, append-nil, nil_from_length}
 
 -- all that were handed in were taken in
 pub items_all : {X : Type 0} (items yielded now : List X) → yielded ++ now ≡ items → length now ≡ 0 → yielded ≡ items

@@ -1,23 +1,6 @@
 -- What all records together tell once no thread steps any more: their own calls are the calls that
 -- lead from the top to the cursor.
-use Rattle.std.proofs.lemmas.Grind.{common_steps}
-use Rattle.std.proofs.lemmas.List.{get_or_default}
-use Rattle.std.specs.List.{AllPairs, sum_by, All, Contains}
-use Rattle.std.proofs.Common.{rules, ◌≡◌, ℕ, suc, ◌<◌, ⊎_elim, ℤ, ◌≤ℤ◌, ◌<ℤ◌, List, [], ◌∷◌, length, get_or, refl, sym, ap, ◌∙◌, arith}
-use Rattle.std.specs.Prelude.{Bool, true, false, cond, ◌==◌}
-use Rattle.std.proofs.lemmas.List.Elements.{All-weaker, All-contains, All-contains_itself, All-filter}
-use Rattle.std.proofs.lemmas.List.Sums.{sum_by-cons}
-use Rattle.std.proofs.lemmas.Option.{slice_get-get_or}
-use Rattle.std.proofs.lemmas.Int.{ints}
-use Rattle.ent_alloc.specs.Sequential.{Allocator, cursor}
-use Rattle.ent_shared.specs.declared.record.Reservation.{Reservation}
-use Rattle.ent_shared.specs.declared.record.RecordEntry.{RecordEntry}
-use Rattle.ent_shared.specs.declared.record.RecordEntry.TheVariants.{Own, Met}
-use Rattle.ent_shared.specs.declared.record.Record.{Record}
-use Rattle.ent_shared.specs.Record.{low, reservations_in, own_reservations, known_reservations}
-use Rattle.ent_shared.specs.Rule.{InOrder, IsKept, IsClosed}
-use Rattle.ent_shared.specs.Order.{own_of_all, reservations_of, reservations_by, StandsBefore, FollowsEntries, Respects}
-use Rattle.ent_alloc.proofs.ListLaws.{All-left, All-right}
+use Rattle.ent_shared.proofs.Common.{common_steps, get_or_default, sum_by, All, Contains, rules, ◌≡◌, ℕ, suc, ◌<◌, ⊎_elim, ℤ, ◌≤ℤ◌, ◌<ℤ◌, List, [], ◌∷◌, length, get_or, refl, sym, ap, ◌∙◌, arith, Bool, true, false, cond, ◌==◌, All-weaker, All-contains, All-contains_itself, All-filter, sum_by-cons, slice_get-get_or, ints, Allocator, cursor, Reservation, RecordEntry, Own, Met, Record, low, reservations_in, own_reservations, known_reservations, InOrder, IsKept, IsClosed, own_of_all, reservations_of, reservations_by, StandsBefore, FollowsEntries, Respects, All-left, All-right, AllPairs}
 use Rattle.ent_shared.proofs.Weighing.{sum_by-flat_map, All-flat_map}
 use Rattle.ent_shared.proofs.Records.{all_own}
 use Rattle.ent_shared.proofs.Callers.{only, sum_by_caller, own_by_caller, of_number, one_of_number}

@@ -1,15 +1,8 @@
 -- What crates above need to know of records: what they were given, one by one and all together.
-use Rattle.std.proofs.Common.{arith, rules, ◌≡◌, ◌≢◌, List, [], ◌∷◌, ◌++◌, refl, sym, AllPairs, IsPermutation}
-use Rattle.std.proofs.lemmas.Grind.{common_steps}
-use Rattle.std.specs.List.{flat_map}
-use Rattle.std.proofs.lemmas.List.Sorted.{IsPermutation-refl, IsPermutation-sym, IsPermutation-trans, IsPermutation-append_right}
+use Rattle.ent_shared.proofs.Common.{arith, rules, ◌≡◌, ◌≢◌, List, [], ◌∷◌, ◌++◌, refl, sym, AllPairs, common_steps, flat_map, IsPermutation-refl, IsPermutation-sym, IsPermutation-trans, IsPermutation-append_right, Handle, AllPairs-IsPermutation, Reservation, Record, insert_reservation, by_falling_high, own_of_all, history_of, handles_of, handles_given}
+use Rattle.std.proofs.Common.{IsPermutation}
 use Rattle.ent_shared.proofs.Regrouping.{turned}
-use Rattle.ent_handle.specs.Handle.{Handle}
 use Rattle.ent_alloc.specs.History as history
-use Rattle.ent_alloc.proofs.ListLaws.{AllPairs-IsPermutation}
-use Rattle.ent_shared.specs.declared.record.Reservation.{Reservation}
-use Rattle.ent_shared.specs.declared.record.Record.{Record}
-use Rattle.ent_shared.specs.Order.{insert_reservation, by_falling_high, own_of_all, history_of, handles_of, handles_given}
 
 -- A reservation and a meeting, and what they add to a record.
 

@@ -18,3 +18,4 @@ pub mod GivenApart
 pub mod Losing
 pub mod Seating
 pub mod Laws
+pub mod Common

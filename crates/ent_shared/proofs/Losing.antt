@@ -1,35 +1,9 @@
 -- The end of a phase where some reservers are lost: the front of the pool counts as reserved.
-use Rattle.std.proofs.lemmas.Bool.{cases_eq}
-use Rattle.std.proofs.Common.{rules, ◌≡◌, ℕ, ◌+◌, ◌-◌, ◌*◌, ◌^◌, ◌<◌, ◌≤◌, ℤ, pos, ◌+ℤ◌, ◌-ℤ◌, ◌≤ℤ◌, get_or, List, [], ◌∷◌, length, take, drop, sym, ap, subst, ◌∙◌, arith, All, AllPairs, Contains, ◌⊎◌, ◌≢◌, neg_ℤ, zero-add, refl, map, Ok, Err}
-use Rattle.std.proofs.lemmas.Grind.{common_steps}
-use Rattle.std.specs.Prelude.{Result, Bool, true, false, cond, nat_le}
-use Rattle.std.specs.List.{sum_by}
-use Rattle.std.proofs.lemmas.List.{drop-take, take-take, take_all, drop_all, length-take, take-append-drop}
-use Rattle.std.proofs.lemmas.List.Elements.{All-head, All-tail, All-nil, All-append, All-take, All-drop, All-contains, All-contains_itself}
-use Rattle.std.proofs.lemmas.List.Sorted.{All-permutation}
-use Rattle.std.specs.Int.{int_max}
-use Rattle.std.proofs.lemmas.Int.{ints}
+use Rattle.ent_shared.proofs.Common.{cases_eq, rules, ◌≡◌, ℕ, ◌+◌, ◌-◌, ◌*◌, ◌^◌, ◌<◌, ◌≤◌, ℤ, pos, ◌+ℤ◌, ◌-ℤ◌, ◌≤ℤ◌, get_or, List, [], ◌∷◌, length, take, drop, sym, ap, subst, ◌∙◌, arith, AllPairs, ◌⊎◌, ◌≢◌, neg_ℤ, zero-add, refl, map, Ok, Err, common_steps, Result, Bool, true, false, cond, nat_le, sum_by, drop-take, take-take, take_all, drop_all, length-take, take-append-drop, All-head, All-tail, All-nil, All-append, All-take, All-drop, All-contains, All-contains_itself, All-permutation, int_max, ints, Handle, Space, Entities, quota, Allocator, available, cursor, top, asked_at, pool_at, listed, settled, IsSound, IsLive, length-available, flushed-laid_out, asked_at-is, listed-IsPermutation, not_apart, given_in-distinct, Reservation, Record, Opening, low, own_reservations, requested_by, after_loss, Follow, HasItsReply, IsStart, IsClosed, history_of, handles_of, as_call, own_of_all}
+use Rattle.std.proofs.Common.{All, Contains}
 use mir.Syntax.{w64}
 use mir.Val.{to_z, of_z}
-use Rattle.ent_handle.specs.Handle.{Handle}
-use Rattle.ent_alloc.specs.declared.space.Space.{Space}
-use Rattle.ent_alloc.specs.Entities.{Entities}
-use Rattle.ent_alloc.specs.Limits.{quota}
-use Rattle.ent_alloc.specs.Sequential.{Allocator, available, cursor, top, asked_at, pool_at, listed, settled}
-use Rattle.ent_alloc.specs.Sound.{IsSound, IsLive}
 use Rattle.ent_alloc.specs.History as history
-use Rattle.ent_alloc.proofs.Taken.{length-available}
-use Rattle.ent_alloc.proofs.LaidOut.{flushed-laid_out}
-use Rattle.ent_alloc.proofs.Meaning.{asked_at-is}
-use Rattle.ent_alloc.proofs.Replies.{listed-IsPermutation, not_apart}
-use Rattle.ent_alloc.proofs.Histories.{given_in-distinct}
-use Rattle.ent_shared.specs.declared.record.Reservation.{Reservation}
-use Rattle.ent_shared.specs.declared.record.Record.{Record}
-use Rattle.ent_shared.specs.declared.rule.Opening.{Opening}
-use Rattle.ent_shared.specs.Record.{low, own_reservations, requested_by}
-use Rattle.ent_shared.specs.Phase.{after_loss}
-use Rattle.ent_shared.specs.Rule.{Follow, HasItsReply, IsStart, IsClosed}
-use Rattle.ent_shared.specs.Order.{history_of, handles_of, as_call, own_of_all}
 use Rattle.ent_shared.proofs.Words.{requested}
 use Rattle.ent_shared.proofs.Records.{all_own}
 use Rattle.ent_shared.proofs.Closing.{asked_in_all, cursor_least, cursor_greatest, final_cursor}

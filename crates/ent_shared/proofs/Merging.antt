@@ -1,15 +1,5 @@
 -- The reservers that are handed in, as their records are merged one by one.
-use Rattle.std.proofs.Common.{arith, rules, ◌≡◌, ℕ, ◌+◌, ℤ, List, [], ◌∷◌, ◌++◌, length}
-use Rattle.std.proofs.lemmas.Grind.{common_steps}
-use Rattle.std.specs.List.{All, sum_by}
-use Rattle.std.specs.Int.{int_min}
-use Rattle.std.proofs.lemmas.List.Elements.{All-head, All-tail, All-nil, All-cons}
-use Rattle.std.proofs.lemmas.List.{length-map, map-append}
-use Rattle.std.proofs.lemmas.List.Folds.{fold-map}
-use Rattle.ent_shared.specs.declared.record.Record.{Record}
-use Rattle.ent_shared.specs.Phase.{Reserver, records_of}
-use Rattle.ent_shared.specs.Rule.{least_floor}
-use Rattle.ent_alloc.proofs.ListLaws.{All-right}
+use Rattle.ent_shared.proofs.Common.{arith, rules, ◌≡◌, ℕ, ◌+◌, ℤ, List, [], ◌∷◌, ◌++◌, length, common_steps, All, sum_by, int_min, All-head, All-tail, All-nil, All-cons, length-map, map-append, fold-map, Record, Reserver, records_of, least_floor, All-right}
 use Rattle.ent_shared.proofs.Settling.{least_floor-more}
 
 pub item_is : (P : Reserver → Type 0) (items yielded now rest : List Reserver) (r : Reserver) → yielded ++ now ≡ items

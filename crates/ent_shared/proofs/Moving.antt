@@ -1,9 +1,5 @@
 -- A rule that goes by the records holds on as they move from seat to seat.
-use Rattle.std.proofs.Common.{◌≡◌, ℕ, List, [], ◌∷◌, ◌++◌, take, drop, sym, refl, subst}
-use Rattle.std.specs.Prelude.{IsPermutation}
-use Rattle.std.proofs.lemmas.List.Sorted.{IsPermutation-refl, IsPermutation-append_comm}
-use Rattle.atomic_table.specs.Table.{State, Splits, Joins, Enters}
-use Rattle.ent_shared.specs.Seats.{records_in, GoesByRecords}
+use Rattle.ent_shared.proofs.Common.{◌≡◌, ℕ, List, [], ◌∷◌, ◌++◌, take, drop, sym, refl, subst, IsPermutation, IsPermutation-refl, IsPermutation-append_comm, State, Splits, Joins, Enters, records_in, GoesByRecords}
 use Rattle.ent_shared.proofs.Regrouping.{same_split, same_join, same_entered}
 
 module _ {R : Type 0} (holds : State (Unit {0}) (List R) → Type 0) (rule : GoesByRecords holds)

@@ -1,23 +1,6 @@
 -- What a reservation and a meeting add to a record.
-use Rattle.std.proofs.Common.{rules, ◌≡◌, ℕ, ◌+◌, ◌≤◌, ℤ, pos, ◌-ℤ◌, ◌≤ℤ◌, List, [], ◌∷◌, ◌++◌, length, sym, refl, ap, subst, ◌∙◌, arith, append-nil, add-zero}
-use Rattle.std.proofs.lemmas.Grind.{common_steps}
-use Rattle.std.specs.Prelude.{nat_le, cond, Bool, true, false}
-use Rattle.std.specs.List.{All, Contains}
-use Rattle.std.specs.Int.{int_min}
-use Rattle.std.proofs.lemmas.List.Elements.{All-head, All-tail, All-nil, All-cons, All-append, All-weaker, Contains-append_left, Contains-push}
-use Rattle.std.proofs.lemmas.List.Sums.{sum_by-cons, sum_by-append}
-use Rattle.std.proofs.lemmas.Int.{ints, int_min_is}
+use Rattle.ent_shared.proofs.Common.{rules, ◌≡◌, ℕ, ◌+◌, ◌≤◌, ℤ, pos, ◌-ℤ◌, ◌≤ℤ◌, List, [], ◌∷◌, ◌++◌, length, sym, refl, ap, subst, ◌∙◌, arith, append-nil, add-zero, common_steps, nat_le, cond, Bool, true, false, All, Contains, int_min, All-head, All-tail, All-nil, All-cons, All-append, All-weaker, Contains-append_left, Contains-push, sum_by-cons, sum_by-append, ints, int_min_is, Allocator, cursor, pool_at, All-left, All-right, Reservation, RecordEntry, Own, Met, Record, quota, low, reservations_in, own_reservations, known_reservations, requested_by, reservation_at, after_reservation, after_meeting, floor_after, floor_of, InOrder, IsKept}
 use Rattle.ent_shared.proofs.Weighing.{all_one}
-use Rattle.ent_alloc.specs.Sequential.{Allocator, cursor, pool_at}
-use Rattle.ent_alloc.proofs.ListLaws.{All-left, All-right}
-use Rattle.ent_shared.specs.declared.record.Reservation.{Reservation}
-use Rattle.ent_shared.specs.declared.record.RecordEntry.{RecordEntry}
-use Rattle.ent_shared.specs.declared.record.RecordEntry.TheVariants.{Own, Met}
-use Rattle.ent_shared.specs.declared.record.Record.{Record}
-use Rattle.ent_alloc.specs.Limits.{quota}
-use Rattle.ent_shared.specs.Record.{low, reservations_in, own_reservations, known_reservations, requested_by, reservation_at, after_reservation}
-use Rattle.ent_shared.specs.Moves.{after_meeting}
-use Rattle.ent_shared.specs.Rule.{floor_after, floor_of, InOrder, IsKept}
 
 pub own-made : (es : List RecordEntry) (c : Reservation) → own_reservations (es ++ Own c ∷ []) ≡ own_reservations es
     ++ c ∷ []

@@ -1,18 +1,5 @@
 -- What a reservation returns.
-use Rattle.std.proofs.Common.{rules, ◌≡◌, ℕ, ℤ, pos, ◌-ℤ◌, List, [], length, take, ◌∙◌, arith, Ok, Err, ◌≤◌, length-drop}
-use Rattle.std.proofs.lemmas.Grind.{common_steps}
-use Rattle.std.specs.Prelude.{Result, nat_le, true}
-use Rattle.std.proofs.lemmas.List.Sorted.{length_permutation}
-use Rattle.ent_alloc.proofs.Replies.{listed-IsPermutation}
-use Rattle.std.proofs.lemmas.Bool.Decides.{nat_tests}
-use Rattle.ent_handle.specs.Handle.{Handle}
-use Rattle.ent_alloc.specs.declared.space.Space.{Space}
-use Rattle.ent_alloc.specs.declared.span.Span.{Span}
-use Rattle.ent_shared.specs.declared.record.Record.{Record}
-use Rattle.ent_shared.specs.Record.{reservation_at, after_reservation}
-use Rattle.ent_alloc.specs.Sequential.{Allocator, pool_at, reply_from, listed, top}
-use Rattle.ent_alloc.specs.Sound.{IsSound}
-use Rattle.ent_alloc.proofs.Taken.{length-pool}
+use Rattle.ent_shared.proofs.Common.{rules, ◌≡◌, ℕ, ℤ, pos, ◌-ℤ◌, List, [], length, take, ◌∙◌, arith, Ok, Err, ◌≤◌, length-drop, common_steps, Result, nat_le, true, length_permutation, listed-IsPermutation, nat_tests, Handle, Space, Span, Record, reservation_at, after_reservation, Allocator, pool_at, reply_from, listed, top, IsSound, length-pool}
 
 pub reply-none : (made : ℕ) (pool : List Handle) → reply_from made pool 0 ≡ Ok []
 reply-none made pool = search (rules, nat_tests)

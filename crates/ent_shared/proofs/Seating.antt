@@ -1,24 +1,9 @@
 -- A reserver after a reservation and after a meeting: its fields say what its record says, and it
 -- stays of its allocator.
-use Rattle.std.proofs.lemmas.Grind.{common_steps}
-use Rattle.std.proofs.Common.{arith, append-nil, rules, ◌≡◌, ℕ, ◌-◌, ◌≤◌, ℤ, pos, ◌-ℤ◌, ◌≤ℤ◌, List, [], ◌∷◌, ◌++◌}
+use Rattle.ent_shared.proofs.Common.{common_steps, arith, append-nil, rules, ◌≡◌, ℕ, ◌-◌, ◌≤◌, ℤ, pos, ◌-ℤ◌, ◌≤ℤ◌, List, [], ◌∷◌, ◌++◌, All-append, All-weaker, ints, Result, TableId, Handle, Space, Span, Allocator, pool_at, reply_from, handles_in, Record, after_reservation, after_meeting, Shared, Reserver, IsOf, own_of, IsSeated, handles_given}
 use Rattle.ent_shared.proofs.Laws.{handles_of-append}
 use Rattle.ent_shared.proofs.Records.{own-made, known-more, quota-reserved, quota-met}
 use Rattle.ent_shared.proofs.Weighing.{all_one}
-use Rattle.std.proofs.lemmas.List.Elements.{All-append, All-weaker}
-use Rattle.std.proofs.lemmas.Int.{ints}
-use Rattle.std.specs.Prelude.{Result}
-use Rattle.atomic_table.specs.Seated.{TableId}
-use Rattle.ent_handle.specs.Handle.{Handle}
-use Rattle.ent_alloc.specs.declared.space.Space.{Space}
-use Rattle.ent_alloc.specs.declared.span.Span.{Span}
-use Rattle.ent_alloc.specs.Sequential.{Allocator, pool_at, reply_from}
-use Rattle.ent_alloc.specs.History.{handles_in}
-use Rattle.ent_shared.specs.declared.record.Record.{Record}
-use Rattle.ent_shared.specs.Record.{after_reservation}
-use Rattle.ent_shared.specs.Moves.{after_meeting}
-use Rattle.ent_shared.specs.Phase.{Shared, Reserver, IsOf, own_of, IsSeated}
-use Rattle.ent_shared.specs.Order.{handles_given}
 use Rattle.ent_shared.proofs.Returned.{recorded_reply}
 
 pub seated_reservation : (views after : List (List Record)) (number left n : ℕ) (was high now : ℤ)

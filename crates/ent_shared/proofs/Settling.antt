@@ -1,26 +1,7 @@
 -- Calls that lead from the top down to the cursor are a legal history, and two numbers tell the
 -- allocator after it.
-use Rattle.std.proofs.Common.{rules, ◌≡◌, ℕ, ◌+◌, ◌<◌, ◌≤◌, ⊎_elim, ℤ, pos, ◌-ℤ◌, ◌≤ℤ◌, List, [], ◌∷◌, ◌++◌, length, map, take, refl, sym, ap, subst, ◌∙◌, arith, le-leb, length-append}
-use Rattle.std.proofs.lemmas.Grind.{common_steps}
-use Rattle.std.specs.Prelude.{Bool, true, false, cond, nat_le}
-use Rattle.std.specs.List.{All, flat_map}
-use Rattle.std.specs.Int.{int_min}
-use Rattle.std.proofs.lemmas.Bool.{cases_lt, lt-leb}
-use Rattle.std.proofs.lemmas.List.{length-take-le}
-use Rattle.std.proofs.lemmas.List.Elements.{All-head, All-tail}
-use Rattle.std.proofs.lemmas.Int.{ints}
-use Rattle.ent_handle.specs.Handle.{Handle}
-use Rattle.ent_alloc.specs.Sequential.{Allocator, available, cursor, top, pool_at, reply_from, after_take}
-use Rattle.ent_alloc.specs.Sound.{IsSound}
+use Rattle.ent_shared.proofs.Common.{rules, ◌≡◌, ℕ, ◌+◌, ◌<◌, ◌≤◌, ⊎_elim, ℤ, pos, ◌-ℤ◌, ◌≤ℤ◌, List, [], ◌∷◌, ◌++◌, length, map, take, refl, sym, ap, subst, ◌∙◌, arith, le-leb, length-append, common_steps, Bool, true, false, cond, nat_le, All, flat_map, int_min, cases_lt, lt-leb, length-take-le, All-head, All-tail, ints, Handle, Allocator, available, cursor, top, pool_at, reply_from, after_take, IsSound, after_take-sound, available-after_take, after_take-served, after_take-refused, length-pool, made-after_take, cursor-after_take, pool_at-cursor, length-taken, Reservation, Record, low, own_reservations, Follow, HasItsReply, floor_after, floor_of, least_floor, IsKept, insert_reservation, by_falling_high, as_call}
 use Rattle.ent_alloc.specs.History as history
-use Rattle.ent_alloc.proofs.Soundness.{after_take-sound}
-use Rattle.ent_alloc.proofs.Taken.{available-after_take, after_take-served, after_take-refused, length-pool}
-use Rattle.ent_alloc.proofs.PoolLaw.{made-after_take, cursor-after_take, pool_at-cursor, length-taken}
-use Rattle.ent_shared.specs.declared.record.Reservation.{Reservation}
-use Rattle.ent_shared.specs.declared.record.Record.{Record}
-use Rattle.ent_shared.specs.Record.{low, own_reservations}
-use Rattle.ent_shared.specs.Rule.{Follow, HasItsReply, floor_after, floor_of, least_floor, IsKept}
-use Rattle.ent_shared.specs.Order.{insert_reservation, by_falling_high, as_call}
 
 -- the same things to give, and the same slots made
 pub record IsLater (start s : Allocator) : Type 0 where

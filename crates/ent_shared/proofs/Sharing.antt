@@ -1,17 +1,6 @@
 -- The reservers of a phase, as they are made one by one.
-use Rattle.std.proofs.Common.{rules, ◌≡◌, ℕ, zero, suc, ◌+◌, ◌-◌, ◌<◌, ◌≤◌, ℤ, List, [], ◌∷◌, ◌++◌, map, take, drop, refl, ap, arith}
+use Rattle.ent_shared.proofs.Common.{rules, ◌≡◌, ℕ, zero, suc, ◌+◌, ◌-◌, ◌<◌, ◌≤◌, ℤ, List, [], ◌∷◌, ◌++◌, map, take, drop, refl, ap, arith, All, map-append, All-nil, All-cons, TableId, Me, handle_cmp, Allocator, cursor, Record, quota, opened, opened_records, Reserver, IsOf, own_of, IsSeated}
 use Rattle.std.specs.FinMap as maps
-use Rattle.std.specs.List.{All}
-use Rattle.std.proofs.lemmas.List.{map-append}
-use Rattle.std.proofs.lemmas.List.Elements.{All-nil, All-cons}
-use Rattle.atomic_table.specs.Seated.{TableId}
-use Rattle.atomic_table.specs.Table.{Me}
-use Rattle.ent_handle.specs.Handle.{handle_cmp}
-use Rattle.ent_alloc.specs.Sequential.{Allocator, cursor}
-use Rattle.ent_shared.specs.declared.record.Record.{Record}
-use Rattle.ent_alloc.specs.Limits.{quota}
-use Rattle.ent_shared.specs.Record.{opened, opened_records}
-use Rattle.ent_shared.specs.Phase.{Reserver, IsOf, own_of, IsSeated}
 
 abbrev pub seated : TableId → Record → Reserver
 seated word r = record { word = word; own = r }

@@ -1,16 +1,6 @@
 -- The calls by falling high: a list that falls, has the same elements and weighs the same is the
 -- same list.
-use Rattle.std.proofs.Common.{suc, get_or, rules, ◌≡◌, ℕ, ◌<◌, ◌⊎◌, ℤ, ◌≤ℤ◌, ◌<ℤ◌, List, [], ◌∷◌, refl, arith}
-use Rattle.std.proofs.lemmas.Grind.{common_steps}
-use Rattle.std.specs.Prelude.{cond, int_lt, IsPermutation}
-use Rattle.std.specs.List.{sum_by, All, Contains}
-use Rattle.std.proofs.lemmas.List.Elements.{All-tail, All-nil, All-cons, All-contains}
-use Rattle.std.proofs.lemmas.List.Sorted.{IsPermutation-refl, IsPermutation-sym, IsPermutation-trans, IsPermutation-cons, IsPermutation-middle, All-permutation, sum_by-IsPermutation}
-use Rattle.std.proofs.lemmas.Int.{ints, by_lt_z}
-use Rattle.ent_shared.specs.declared.record.Reservation.{Reservation}
-use Rattle.ent_shared.specs.Record.{low}
-use Rattle.ent_shared.specs.Rule.{Follow}
-use Rattle.ent_shared.specs.Order.{insert_reservation, by_falling_high}
+use Rattle.ent_shared.proofs.Common.{suc, get_or, rules, ◌≡◌, ℕ, ◌<◌, ◌⊎◌, ℤ, ◌≤ℤ◌, ◌<ℤ◌, List, [], ◌∷◌, refl, arith, common_steps, cond, int_lt, IsPermutation, sum_by, All, Contains, All-tail, All-nil, All-cons, All-contains, IsPermutation-refl, IsPermutation-sym, IsPermutation-trans, IsPermutation-cons, IsPermutation-middle, All-permutation, sum_by-IsPermutation, ints, by_lt_z, Reservation, low, Follow, insert_reservation, by_falling_high}
 
 pub contains_cases : {X : Type 0} (y : X) (ys : List X) (x : X) → Contains (y ∷ ys) x → (x ≡ y) ⊎ Contains ys x
 contains_cases y ys x it = search rules

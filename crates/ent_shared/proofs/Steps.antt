@@ -1,26 +1,9 @@
 -- Each step keeps the rule over the cursor word and the records.
-use Rattle.ent_shared.specs.Record.{known_reservations, low, own_reservations, reservation_at, after_reservation}
-use Rattle.std.proofs.Common.{rules, ◌≡◌, ℕ, ◌+◌, ◌-◌, ◌%◌, ◌^◌, ◌<◌, ◌≤◌, ℤ, pos, ◌-ℤ◌, ◌≤ℤ◌, List, [], ◌∷◌, ◌++◌, length, set, get_or, take, drop, sym, refl, ap, subst, ◌∙◌, arith, take-append-drop}
-use Rattle.std.specs.Prelude.{◌==◌, cond}
-use Rattle.std.specs.List.{sum_by, All}
-use Rattle.std.proofs.lemmas.List.Elements.{All-head, All-nil, All-cons, All-append, All-set}
-use Rattle.std.proofs.lemmas.List.Sorted.{IsPermutation-refl}
-use Rattle.std.proofs.lemmas.List.Sums.{sum_by-cons, sum_by-append}
-use Rattle.std.proofs.lemmas.Int.{ints}
-use mathlib.Core.Option.{some}
-use lib.ListN.{get_elem?}
-use Rattle.atomic_table.specs.Table.{State, Me, keeps, Allows, Splits, Joins}
-use Rattle.atomic_table.proofs.Lists.{set_else}
-use Rattle.ent_shared.specs.Seats.{GoesByRecords}
+use Rattle.ent_shared.proofs.Common.{known_reservations, low, own_reservations, reservation_at, after_reservation, rules, ◌≡◌, ℕ, ◌+◌, ◌-◌, ◌%◌, ◌^◌, ◌<◌, ◌≤◌, ℤ, pos, ◌-ℤ◌, ◌≤ℤ◌, List, [], ◌∷◌, ◌++◌, length, set, get_or, take, drop, sym, refl, ap, subst, ◌∙◌, arith, ◌==◌, cond, sum_by, All, All-head, All-nil, All-cons, All-append, All-set, IsPermutation-refl, sum_by-cons, sum_by-append, ints, some, get_elem?, State, Me, keeps, Allows, Splits, Joins, set_else, GoesByRecords, quota, Allocator, cursor, Reservation, Record, after_meeting, met_in, cursor_of, Follow, HasItsReply, IsKept, IsRuled, AfterReserve, ReserveTells}
+use Rattle.std.proofs.Common.{take-append-drop}
 use Rattle.ent_shared.proofs.Weighing.{all_one, sum_at, all_at}
 use Rattle.ent_shared.proofs.Regrouping.{sum_regrouped, length-regrouped, all_regrouped}
 use Rattle.ent_shared.proofs.Moving.{splits}
-use Rattle.ent_alloc.specs.Limits.{quota}
-use Rattle.ent_alloc.specs.Sequential.{Allocator, cursor}
-use Rattle.ent_shared.specs.declared.record.Reservation.{Reservation}
-use Rattle.ent_shared.specs.declared.record.Record.{Record}
-use Rattle.ent_shared.specs.Moves.{after_meeting, met_in}
-use Rattle.ent_shared.specs.Rule.{cursor_of, Follow, HasItsReply, IsKept, IsRuled, AfterReserve, ReserveTells}
 use Rattle.ent_shared.proofs.Records.{own-made, own-met, kept_on, kept_reserved, kept_met}
 use Rattle.ent_shared.proofs.Words.{follow_asked, word_least, word_greatest, lowered, lowered_cursor, numbered}
 

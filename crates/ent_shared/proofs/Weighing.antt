@@ -1,11 +1,6 @@
 -- Sums over lists of which one element changes, and over lists of lists.
-use Rattle.std.proofs.lemmas.Grind.{common_steps}
-use Rattle.std.proofs.Common.{rules, ◌≡◌, ℕ, zero, suc, ◌+◌, List, [], ◌∷◌, set, sym, refl, subst, arith, flat_map, length}
-use Rattle.std.specs.List.{sum_by, All}
-use Rattle.std.proofs.lemmas.List.Elements.{All-head, All-tail, All-nil, All-cons, All-append}
-use Rattle.std.proofs.lemmas.List.Sums.{sum_by-cons, sum_by-append}
-use mathlib.Core.Option.{some, some-injective, some-ne-none}
-use lib.ListN.{get_elem?}
+use Rattle.ent_shared.proofs.Common.{common_steps, rules, ◌≡◌, ℕ, zero, suc, ◌+◌, List, [], ◌∷◌, set, sym, refl, subst, arith, length, sum_by, All, All-head, All-tail, All-nil, All-cons, All-append, sum_by-cons, sum_by-append, some, some-injective, some-ne-none, get_elem?}
+use Rattle.std.proofs.Common.{flat_map}
 
 module _ {X : Type 0} where
   pub all_one : (P : X → Type 0) (x : X) → P x → All P (x ∷ [])

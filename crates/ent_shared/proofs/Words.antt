@@ -1,21 +1,7 @@
 -- The cursor word stays in its range, and what the code makes of it.
-use Rattle.std.proofs.Common.{suc, rules, ◌≡◌, ℕ, ◌+◌, ◌*◌, ◌-◌, ◌%◌, ◌^◌, ◌<◌, ◌≤◌, ℤ, pos, ◌+ℤ◌, ◌-ℤ◌, ◌≤ℤ◌, List, [], ◌∷◌, length, arith, suc-mul, add-mul}
-use Rattle.std.proofs.lemmas.Grind.{common_steps}
-use Rattle.std.specs.Prelude.{◌==◌, count_by}
-use Rattle.std.specs.List.{sum_by, All}
-use Rattle.std.proofs.lemmas.List.Elements.{All-weaker}
-use Rattle.std.proofs.lemmas.List.Sums.{sum_by-cons}
-use Rattle.std.proofs.lemmas.Int.{ints}
-use lib.IntN.{nat_abs}
+use Rattle.ent_shared.proofs.Common.{suc, rules, ◌≡◌, ℕ, ◌+◌, ◌*◌, ◌-◌, ◌%◌, ◌^◌, ◌<◌, ◌≤◌, ℤ, pos, ◌+ℤ◌, ◌-ℤ◌, ◌≤ℤ◌, List, [], ◌∷◌, length, arith, suc-mul, add-mul, common_steps, ◌==◌, count_by, sum_by, All, All-weaker, sum_by-cons, ints, nat_abs, SFits, State, quota, Allocator, Reservation, Record, low, offset, cursor_of, Follow, weigh, IsKept, IsRuled}
 use mir.Syntax.{w64}
-use mir.Val.{SFits, to_z, of_z}
-use Rattle.atomic_table.specs.Table.{State}
-use Rattle.ent_alloc.specs.Limits.{quota}
-use Rattle.ent_alloc.specs.Sequential.{Allocator}
-use Rattle.ent_shared.specs.declared.record.Reservation.{Reservation}
-use Rattle.ent_shared.specs.declared.record.Record.{Record}
-use Rattle.ent_shared.specs.Record.{low}
-use Rattle.ent_shared.specs.Rule.{offset, cursor_of, Follow, weigh, IsKept, IsRuled}
+use mir.Val.{to_z, of_z}
 
 abbrev pub requested : Reservation → ℕ
 requested c = c.requested

@@ -1,11 +1,6 @@
 -- The last of some slots, from which a walk goes backwards.
-use Rattle.std.proofs.Common.{rules, ◌≡◌, ℕ, ◌+◌, ◌-◌, ◌≤◌, List, [], ◌∷◌, ◌++◌, length}
-use Rattle.std.proofs.lemmas.List.{append-nil, length_push}
-use Rattle.ent_handle.specs.Handle.{Handle}
-use Rattle.ent_storage.specs.Slots.{entries_from, AreCounted}
+use Rattle.ent_storage.proofs.Common.{rules, ◌≡◌, ℕ, ◌+◌, ◌-◌, ◌≤◌, List, [], ◌∷◌, ◌++◌, length, append-nil, length_push, Handle, entries_from, AreCounted, Slot, Vacant, Occupied}
 use Rattle.ent_storage.proofs.Kept.{entries-append}
-use Rattle.ent_storage.specs.declared.handle_map.slot.Slot.{Slot}
-use Rattle.ent_storage.specs.declared.handle_map.slot.Slot.TheVariants.{Vacant, Occupied}
 
 module _ {X : Type 0} where
   -- the last slot has a value: what is left before it

@@ -1,16 +1,5 @@
 -- A bundle stays one when a component is put.
-use Rattle.std.proofs.Common.{rules, ◌≡◌, ◌^◌, ◌<◌, ℤ, [], ◌∷◌, length, Ordering}
-use Rattle.std.specs.List.{All, refill}
-use Rattle.std.proofs.lemmas.List.Elements.{All-nil, All-head, All-tail, All-cons}
-use Rattle.std.proofs.Math.Seq.{take-append_seam}
-use Rattle.std.specs.declared.cmp.Ordering.TheVariants.{Less, Equal, Greater}
-use Rattle.std.specs.Int.{w64}
-use Rattle.std.specs.Int.RustNames.{FitsSigned}
-use Rattle.std.specs.FinMap.{put}
-use Rattle.std.specs.FinMap.Entries.{by_order, is_sorted-put}
-use Rattle.ent_handle.specs.declared.component.ComponentId.{ComponentId}
-use Rattle.ent_handle.specs.Component.{component_cmp, component_cmp_total}
-use Rattle.ent_storage.specs.Bundle.{Bundle, IsItem, IsBundle}
+use Rattle.ent_storage.proofs.Common.{rules, ◌≡◌, ◌^◌, ◌<◌, ℤ, [], ◌∷◌, length, Ordering, All, refill, All-nil, All-head, All-tail, All-cons, take-append_seam, Less, Equal, Greater, w64, FitsSigned, put, by_order, is_sorted-put, ComponentId, component_cmp, component_cmp_total, Bundle, IsItem, IsBundle}
 
 module _ (id : ComponentId) (value : ℤ) where
   abbrev putting : ComponentId × ℤ → Bundle → Ordering → Bundle

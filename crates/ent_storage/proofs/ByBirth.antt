@@ -1,25 +1,6 @@
 -- The handles of the living entities that pass, by birth and then by handle.
-use Rattle.std.proofs.Common.{rules, ◌≡◌, ◌≢◌, ℕ, zero, suc, ◌<◌, Bool, true, false, cond, List, [], ◌∷◌, map, length, get_or, Option, Some, None, Contains, IsSomeAnd, IsTrue, refl, sym, ap, subst, ◌∙◌, arith}
-use Rattle.std.proofs.lemmas.Grind.{common_steps}
-use Rattle.std.specs.declared.cmp.Ordering.{Ordering}
-use Rattle.std.specs.declared.cmp.Ordering.TheVariants.{Less, Equal}
-use Rattle.std.specs.Ordering.{is_lt, is_eq, eq_by_cmp, ordering_then, ordering_reverse}
-use Rattle.std.specs.Cmp.{IsTotalOrder, then_total, on_total, eq_by_cmp_equiv}
-use Rattle.std.specs.List.{All, AllPairs, filter, IsDistinct}
-use Rattle.std.proofs.lemmas.List.{get_or-map, get_or_default, length-map}
-use Rattle.std.proofs.lemmas.List.Sorted.{sorted_far, ranks_by, All-permutation, Contains-permutation}
-use Rattle.std.proofs.lemmas.List.Elements.{All-filter, filter_passes}
-use Rattle.std.proofs.lemmas.List.Kept.{AllPairs-filter}
-use Rattle.std.proofs.lemmas.Map.Keys.{IsDistinct-from_apart, IsDistinct-IsPermutation, apart_from_distinct}
+use Rattle.ent_storage.proofs.Common.{rules, ◌≡◌, ◌≢◌, ℕ, zero, suc, ◌<◌, Bool, true, false, cond, List, [], ◌∷◌, map, length, get_or, Option, Some, None, Contains, IsSomeAnd, IsTrue, refl, sym, ap, subst, ◌∙◌, arith, common_steps, Less, Equal, is_lt, is_eq, eq_by_cmp, ordering_then, ordering_reverse, IsTotalOrder, then_total, on_total, eq_by_cmp_equiv, All, AllPairs, IsDistinct, get_or-map, get_or_default, length-map, sorted_far, ranks_by, All-permutation, Contains-permutation, All-filter, filter_passes, AllPairs-filter, IsDistinct-from_apart, IsDistinct-IsPermutation, apart_from_distinct, FinMap, Birth, birth_cmp_total, Handle, handle_cmp, handle_cmp_total, handle_cmp-IsAntisymmetric, LivingEntity, Entity, entity_of, map_of, IsIndexed, birth_order, pair_cmp, ListsByBirth, IsInOrder, Ordering, filter}
 use Rattle.std.specs.FinMap as finite
-use Rattle.std.specs.FinMap.{FinMap}
-use Rattle.ent_handle.specs.declared.birth.Birth.{Birth}
-use Rattle.ent_handle.specs.Birth.{birth_cmp_total}
-use Rattle.ent_handle.specs.Handle.{Handle, handle_cmp, handle_cmp_total, handle_cmp-IsAntisymmetric}
-use Rattle.ent_storage.specs.Living.{LivingEntity}
-use Rattle.ent_storage.specs.EntityMap.{Entity}
-use Rattle.ent_storage.specs.Indexed.{entity_of, map_of, IsIndexed}
-use Rattle.ent_storage.specs.BirthOrder.{birth_order, pair_cmp, ListsByBirth, IsInOrder}
 use Rattle.ent_storage.proofs.Keys.{apart}
 use Rattle.ent_storage.proofs.Indexed.{some_entity, get_placed, placed_from_get, distinct}
 

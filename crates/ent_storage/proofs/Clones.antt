@@ -1,14 +1,7 @@
 -- Slots that are clones of others, one by one: their maps have the same handles, and each value is a
 -- clone of the other's.
-use Rattle.std.proofs.Common.{rules, ◌≡◌, ℕ, ◌+◌, List, [], ◌∷◌, length, map, refl, ap, ◌∙◌, sym}
-use Rattle.std.proofs.lemmas.List.{length-map}
-use Rattle.std.proofs.lemmas.List.Elements.{length_all_zip}
-use Rattle.std.specs.List.{AllZip}
+use Rattle.ent_storage.proofs.Common.{rules, ◌≡◌, ℕ, ◌+◌, List, [], ◌∷◌, length, map, refl, ap, ◌∙◌, sym, length-map, length_all_zip, AllZip, Handle, entries_from, map_of_slots, AreCounted, AreSlotClones, Slot, Vacant, Occupied}
 use Rattle.std.specs.FinMap as finite
-use Rattle.ent_handle.specs.Handle.{Handle}
-use Rattle.ent_storage.specs.Slots.{entries_from, map_of_slots, AreCounted, AreSlotClones}
-use Rattle.ent_storage.specs.declared.handle_map.slot.Slot.{Slot}
-use Rattle.ent_storage.specs.declared.handle_map.slot.Slot.TheVariants.{Vacant, Occupied}
 use Rattle.ent_storage.proofs.Entries.{entries_map}
 
 module _ {X : Type 0} (is_clone : X → X → Type 0) where

@@ -1,18 +1,7 @@
 -- What columns have at a place, and after each change.
-use Rattle.std.proofs.Common.{rules, ◌≡◌, ◌≢◌, ℕ, ℤ, zero, suc, ◌+◌, ◌<◌, ◌≤◌, cond, T, ◌⊎◌, inl, inr, List, [], ◌∷◌, length, get_or, set, Option, Some, None, refl, sym, ap, subst, ◌∙◌, arith}
-use Rattle.std.proofs.lemmas.Grind.{common_steps}
-use Rattle.std.proofs.lemmas.Option.{none-some}
-use Rattle.std.proofs.lemmas.List.{get_or_past, get_or-set_same, get_or-set_other}
-use Rattle.std.proofs.lemmas.Bool.{cases_lt, cases_eq}
-use Rattle.std.specs.Ordering.{nat_cmp, eq_by_cmp, is_lt}
-use Rattle.std.specs.Cmp.{nat_cmp_total}
+use Rattle.ent_storage.proofs.Common.{rules, ◌≡◌, ◌≢◌, ℕ, ℤ, zero, suc, ◌+◌, ◌<◌, ◌≤◌, cond, T, ◌⊎◌, inl, inr, List, [], ◌∷◌, length, get_or, set, Option, Some, None, refl, sym, ap, subst, ◌∙◌, arith, common_steps, none-some, get_or_past, get_or-set_same, get_or-set_other, cases_lt, cases_eq, nat_cmp, eq_by_cmp, is_lt, nat_cmp_total, find, is_sorted, below_all, ComponentId, component_cmp, Column, no_column, HasRoomAt, IsMovedDown, column_at, value_at, with_value, items_from, components_at}
 use Rattle.std.specs.FinMap as map
-use Rattle.std.specs.FinMap.{find, is_sorted}
-use Rattle.std.specs.FinMap.Entries.{below_all}
-use Rattle.ent_handle.specs.declared.component.ComponentId.{ComponentId}
-use Rattle.ent_handle.specs.Component.{component_cmp, component_cmp_total as total, component_cmp-IsAntisymmetric as same}
-use Rattle.ent_storage.specs.SparseSet.{Column, no_column, HasRoomAt, IsMovedDown}
-use Rattle.ent_storage.specs.Living.{column_at, value_at, with_value, items_from, components_at}
+use Rattle.ent_handle.specs.Component.{component_cmp_total as total, component_cmp-IsAntisymmetric as same}
 use Rattle.ent_storage.proofs.Rising.{both}
 use Rattle.ent_storage.proofs.Keys.{tied, apart, same_or_apart, get-insert_same, get-insert_other, get-remove_same, get-remove_other, remove_absent}
 

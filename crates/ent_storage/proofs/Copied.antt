@@ -1,23 +1,8 @@
 -- What a storage takes over from another one.
-use Rattle.std.proofs.Common.{rules, ◌≡◌, ◌≢◌, ℕ, ℤ, zero, suc, ◌+◌, ◌<◌, ◌≤◌, Bool, List, [], ◌∷◌, length, filter, take, get_or, set, subst, refl, ap, sym, ◌∙◌, arith, inl, inr, ◌⊎◌, None}
-use Rattle.std.proofs.lemmas.Grind.{common_steps}
-use Rattle.std.proofs.lemmas.Option.{none-some}
-use Rattle.std.proofs.lemmas.Bool.{cases_lt, cases_eq}
-use Rattle.std.proofs.lemmas.List.{get_or_default}
-use Rattle.std.specs.List.{All}
-use Rattle.std.specs.Ordering.{nat_cmp}
+use Rattle.ent_storage.proofs.Common.{rules, ◌≡◌, ◌≢◌, ℕ, ℤ, zero, suc, ◌+◌, ◌<◌, ◌≤◌, Bool, List, [], ◌∷◌, length, filter, take, get_or, set, subst, refl, ap, sym, ◌∙◌, arith, inl, inr, ◌⊎◌, None, common_steps, none-some, cases_lt, cases_eq, get_or_default, All, nat_cmp, component_cmp, Handle, handle_cmp, ComponentId, Resident, Components, AreBare, map_of, entity_of, IsIndexed, LivingEntity, column_at, value_at, components_at, entities_from, AreColumnsOf, Column, Values, IsDense, HasRoomFor, Fits, no_column}
 use Rattle.std.specs.Cmp.{nat_cmp_total as total}
 use Rattle.std.specs.FinMap as map
 use Rattle.std.specs.FinMap.{nat_cmp-IsAntisymmetric as same}
-use Rattle.ent_handle.specs.Component.{component_cmp}
-use Rattle.ent_handle.specs.Handle.{Handle, handle_cmp}
-use Rattle.ent_handle.specs.declared.component.ComponentId.{ComponentId}
-use Rattle.ent_storage.specs.declared.living.Resident.{Resident}
-use Rattle.ent_storage.specs.Components.{Components}
-use Rattle.ent_storage.specs.EntityMap.{AreBare}
-use Rattle.ent_storage.specs.Indexed.{map_of, entity_of, IsIndexed}
-use Rattle.ent_storage.specs.Living.{LivingEntity, column_at, value_at, components_at, entities_from, AreColumnsOf}
-use Rattle.ent_storage.specs.SparseSet.{Column, Values, IsDense, HasRoomFor, Fits, no_column}
 use Rattle.ent_storage.proofs.ColumnsAtPlaces.{get_components, column_set, column_kept}
 use Rattle.ent_storage.proofs.Dense.{has}
 use Rattle.ent_storage.proofs.EntitiesOfResidents.{at_from, length_from, same_from}

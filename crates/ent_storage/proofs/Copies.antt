@@ -1,15 +1,6 @@
 -- Copies of columns, and the entities that they stand for.
-use Rattle.std.proofs.Common.{rules, ◌≡◌, ℕ, ℤ, zero, suc, ◌≤◌, List, [], ◌∷◌, length, refl, sym, arith, inr, suc-ne-zero}
-use Rattle.std.proofs.lemmas.Option.{none-some}
-use Rattle.std.specs.List.{AllZip}
-use Rattle.std.proofs.lemmas.List.Elements.{length_all_zip}
-use Rattle.std.specs.Ordering.{nat_cmp}
+use Rattle.ent_storage.proofs.Common.{rules, ◌≡◌, ℕ, ℤ, zero, suc, ◌≤◌, List, [], ◌∷◌, length, refl, sym, arith, inr, suc-ne-zero, none-some, AllZip, length_all_zip, nat_cmp, ComponentId, Resident, Column, IsDense, IsCopy, column_at, value_at, entities_from, AreColumnsOf, AreInUse}
 use Rattle.std.specs.FinMap as map
-use Rattle.ent_handle.specs.declared.component.ComponentId.{ComponentId}
-use Rattle.ent_storage.specs.declared.living.Resident.{Resident}
-use Rattle.ent_storage.specs.SparseSet.{Column, IsDense}
-use Rattle.ent_storage.specs.Copies.{IsCopy}
-use Rattle.ent_storage.specs.Living.{column_at, value_at, entities_from, AreColumnsOf, AreInUse}
 use Rattle.ent_storage.proofs.EntitiesOfResidents.{same_from}
 use Rattle.ent_storage.proofs.InUse.{in_use_changed}
 

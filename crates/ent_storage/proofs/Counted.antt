@@ -1,20 +1,6 @@
 -- The places of an index that count.
-use Rattle.std.proofs.Common.{rules, ◌≡◌, ◌≢◌, ℕ, zero, suc, ◌<◌, ◌≤◌, Bool, true, false, cond, T, List, [], ◌∷◌, ◌+◌, map, ◌++◌, length, get_or, set, filter, Option, Some, None, is_some, Contains, refl, sym, ap, ◌∙◌, arith, eqb, eqb-true}
-use Rattle.std.specs.declared.cmp.Ordering.TheVariants.{Less, Greater}
-use Rattle.std.specs.Cmp.{tied_itself}
-use Rattle.std.proofs.lemmas.Bool.{false≢true, false_from_ne_true}
-use Rattle.std.proofs.lemmas.List.{get_or-map, get_or_default, length-map, length-set, length_push}
-use Rattle.std.specs.List.{AllWithin, insert}
-use Rattle.ent_storage.specs.Position.{IsGapFor}
-use Rattle.std.proofs.lemmas.List.Elements.{filter_passes}
-use Rattle.std.proofs.lemmas.Map.Keys.{IsDistinct-from_apart}
-use Rattle.std.proofs.lemmas.Map.Views.{Contains-from_any}
-use Rattle.std.proofs.lemmas.Map.Steps.{length-le_from_distinct_below}
+use Rattle.ent_storage.proofs.Common.{rules, ◌≡◌, ◌≢◌, ℕ, zero, suc, ◌<◌, ◌≤◌, Bool, true, false, cond, T, List, [], ◌∷◌, ◌+◌, map, ◌++◌, length, get_or, set, filter, Option, Some, None, is_some, Contains, refl, sym, ap, ◌∙◌, arith, eqb, eqb-true, Less, Greater, tied_itself, false≢true, false_from_ne_true, get_or-map, get_or_default, length-map, length-set, length_push, AllWithin, insert, IsGapFor, filter_passes, IsDistinct-from_apart, Contains-from_any, length-le_from_distinct_below, FinMap, find, is_sorted, Handle, handle_cmp, total, same, LivingEntity, IsMovedInto, IsFree, IsIndexed, IsKeptIndex, has_handle_at, counted, Keeps, HasAll}
 use Rattle.std.specs.FinMap as finite
-use Rattle.std.specs.FinMap.{FinMap, find, is_sorted}
-use Rattle.ent_handle.specs.Handle.{Handle, handle_cmp, handle_cmp_total as total, handle_cmp-IsAntisymmetric as same}
-use Rattle.ent_storage.specs.Living.{LivingEntity, IsMovedInto}
-use Rattle.ent_storage.specs.Indexed.{IsFree, IsIndexed, IsKeptIndex, has_handle_at, counted, Keeps, HasAll}
 use Rattle.ent_storage.proofs.Keys.{tied, insert_tells, remove_tells}
 use Rattle.ent_storage.proofs.Indexed.{some_not_none, some_entity, indexed_set, indexed_push, indexed_none}
 use Rattle.ent_storage.proofs.Positions.{rising_at}

@@ -1,12 +1,8 @@
 -- The dense and the sparse vector of a component: what they stand for, after each change.
-use Rattle.std.proofs.Common.{rules, ◌≡◌, ◌≢◌, ℕ, ℤ, ◌+◌, ◌<◌, ◌≤◌, false, ◌⊎◌, inl, inr, List, [], ◌∷◌, ◌++◌, length, set, get_or, Some, None, slice_get, sym, ◌∙◌, arith, ltb, lt-ltb}
-use Rattle.std.proofs.lemmas.Option.{same_Some, some_pair_parts, slice_get_within, none-some, slice_get-get_or}
-use Rattle.std.proofs.lemmas.Bool.{false≢true, cases_lt, cases_eq}
-use Rattle.std.specs.Ordering.{nat_cmp}
+use Rattle.ent_storage.proofs.Common.{rules, ◌≡◌, ◌≢◌, ℕ, ℤ, ◌+◌, ◌<◌, ◌≤◌, false, ◌⊎◌, inl, inr, List, [], ◌∷◌, ◌++◌, length, set, get_or, Some, None, slice_get, sym, ◌∙◌, arith, ltb, lt-ltb, same_Some, some_pair_parts, slice_get_within, none-some, slice_get-get_or, false≢true, cases_lt, cases_eq, nat_cmp, Values, IsDense, IsMovedDown}
 use Rattle.std.specs.Cmp.{nat_cmp_total as total}
 use Rattle.std.specs.FinMap as map
 use Rattle.std.specs.FinMap.{nat_cmp-IsAntisymmetric as same}
-use Rattle.ent_storage.specs.SparseSet.{Values, IsDense, IsMovedDown}
 use Rattle.ent_storage.proofs.Keys.{same_or_apart, get-insert_other, get-remove_same, get-remove_other, insert_tells, remove_tells, remove_absent}
 use Rattle.ent_storage.proofs.ElementsAt.{at_set_same, at_set_other, at_push_before, at_push_end, same_option, find_at, find_gives, IsFilled, left_was, was_left}
 

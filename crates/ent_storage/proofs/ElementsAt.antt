@@ -1,11 +1,6 @@
 -- The elements of a list by their positions, after each change, and the first pair of a key.
-use Rattle.std.proofs.Common.{rules, ◌≡◌, ◌≢◌, ℕ, Ordering, zero, suc, ◌<◌, ◌≤◌, cond, ◌⊎◌, inl, inr, List, [], ◌∷◌, ◌++◌, length, set, Option, Some, None, slice_get, refl, sym, ap, ◌∙◌, arith, get_or, ◌+◌, ◌-◌}
-use Rattle.std.proofs.lemmas.Option.{same_Some, none-some, slice_get-get_or, slice_get_past, slice_get_within}
-use Rattle.std.specs.Cmp.{IsTotalOrder}
-use Rattle.std.specs.FinMap.{find, IsAntisymmetric}
+use Rattle.ent_storage.proofs.Common.{rules, ◌≡◌, ◌≢◌, ℕ, Ordering, zero, suc, ◌<◌, ◌≤◌, cond, ◌⊎◌, inl, inr, List, [], ◌∷◌, ◌++◌, length, set, Option, Some, None, slice_get, refl, sym, ap, ◌∙◌, arith, get_or, ◌+◌, ◌-◌, same_Some, none-some, slice_get-get_or, slice_get_past, slice_get_within, IsTotalOrder, find, IsAntisymmetric, cases_lt, cases_eq, get_or-set_same, get_or-set_other, length-set, get_or_append_left, get_or_push, length_push}
 use Rattle.ent_storage.proofs.Keys.{apart, same_or_apart, tied}
-use Rattle.std.proofs.lemmas.Bool.{cases_lt, cases_eq}
-use Rattle.std.proofs.lemmas.List.{get_or-set_same, get_or-set_other, length-set, get_or_append_left, get_or_push, length_push}
 
 -- ---- elements by their positions
 

@@ -1,19 +1,7 @@
 -- The living entities that residents and columns stand for, after each change.
-use Rattle.std.proofs.Common.{rules, ◌≡◌, ◌≢◌, ℕ, zero, suc, ◌+◌, ◌-◌, ◌<◌, ◌≤◌, false, List, [], ◌∷◌, ◌++◌, map, length, get_or, Option, Some, None, slice_get, option_and_then, take, drop, refl, ap, arith}
-use Rattle.std.proofs.lemmas.Grind.{common_steps}
-use Rattle.std.proofs.lemmas.Option.{slice_get_past}
-use Rattle.std.proofs.lemmas.Bool.{cases_lt, cases_eq}
-use Rattle.std.specs.Option.{option_map, option_map_or}
-use Rattle.std.specs.Ordering.{eq_by_cmp}
+use Rattle.ent_storage.proofs.Common.{rules, ◌≡◌, ◌≢◌, ℕ, zero, suc, ◌+◌, ◌-◌, ◌<◌, ◌≤◌, false, List, [], ◌∷◌, ◌++◌, map, length, get_or, Option, Some, None, slice_get, take, drop, refl, ap, arith, common_steps, slice_get_past, cases_lt, cases_eq, option_map, option_map_or, eq_by_cmp, Birth, ComponentId, Handle, handle_cmp, Components, Column, IsMovedDown, Resident, LivingEntity, Living, IsMovedInto, AreColumnsOf, change_at, column_at, value_at, components_at, entities_from, born_at, has_handle_at}
+use Rattle.std.proofs.Common.{option_and_then}
 use Rattle.std.specs.FinMap as finite
-use Rattle.ent_handle.specs.declared.birth.Birth.{Birth}
-use Rattle.ent_handle.specs.declared.component.ComponentId.{ComponentId}
-use Rattle.ent_handle.specs.Handle.{Handle, handle_cmp}
-use Rattle.ent_storage.specs.Components.{Components}
-use Rattle.ent_storage.specs.SparseSet.{Column, IsMovedDown}
-use Rattle.ent_storage.specs.declared.living.Resident.{Resident}
-use Rattle.ent_storage.specs.Living.{LivingEntity, Living, IsMovedInto, AreColumnsOf, change_at, column_at, value_at, components_at, entities_from, born_at}
-use Rattle.ent_storage.specs.Indexed.{has_handle_at}
 use Rattle.ent_storage.proofs.ColumnsAtPlaces.{same_components, no_components, get_components}
 
 -- ---- the entity at a place

@@ -1,20 +1,7 @@
 -- The map that slots stand for: its entries, and what it has at each handle.
-use Rattle.std.proofs.Common.{rules, ◌≡◌, ◌≢◌, ℕ, zero, suc, ◌+◌, ◌-◌, ◌<◌, ◌≤◌, Bool, true, false, cond, ◌&&◌, inl, inr, eqb, T, List, [], ◌∷◌, ◌++◌, length, get_or, set, replicate, None, Some, refl, arith, not, All, AllPairs}
-use Rattle.std.proofs.lemmas.Grind.{common_steps}
-use Rattle.std.proofs.lemmas.List.Kept.{AllPairs-cons}
-use Rattle.std.proofs.lemmas.Bool.{cases_eq, eq-eqb}
-use Rattle.std.proofs.lemmas.Bool.Decides.{nat_tests}
-use Rattle.std.proofs.lemmas.List.{get_or_past, get_or-set_same, get_or-set_other}
-use Rattle.std.specs.declared.cmp.Ordering.TheVariants.{Equal}
-use Rattle.std.specs.Ordering.{eq_by_cmp, is_lt}
+use Rattle.ent_storage.proofs.Common.{rules, ◌≡◌, ◌≢◌, ℕ, zero, suc, ◌+◌, ◌-◌, ◌<◌, ◌≤◌, Bool, true, false, cond, ◌&&◌, inl, inr, eqb, T, List, [], ◌∷◌, ◌++◌, length, get_or, set, replicate, None, Some, refl, arith, not, common_steps, AllPairs-cons, cases_eq, eq-eqb, nat_tests, get_or_past, get_or-set_same, get_or-set_other, Equal, eq_by_cmp, is_lt, find, is_sorted, below_all, Handle, handle_cmp, handle_cmp_total, handle_cmp-IsAntisymmetric, HandleMap, HandleValues, without_slot, value_under, slot_at, value_in, entries_from, map_of_slots, padded, count_at, Slot, Vacant, Occupied}
+use Rattle.std.proofs.Common.{All, AllPairs}
 use Rattle.std.specs.FinMap as map
-use Rattle.std.specs.FinMap.{find, is_sorted}
-use Rattle.std.specs.FinMap.Entries.{below_all}
-use Rattle.ent_handle.specs.Handle.{Handle, handle_cmp, handle_cmp_total, handle_cmp-IsAntisymmetric}
-use Rattle.ent_storage.specs.HandleMap.{HandleMap, HandleValues, without_slot}
-use Rattle.ent_storage.specs.Slots.{value_under, slot_at, value_in, entries_from, map_of_slots, padded, count_at}
-use Rattle.ent_storage.specs.declared.handle_map.slot.Slot.{Slot}
-use Rattle.ent_storage.specs.declared.handle_map.slot.Slot.TheVariants.{Vacant, Occupied}
 
 -- ---- handles
 

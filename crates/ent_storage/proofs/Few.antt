@@ -1,11 +1,5 @@
 -- A bundle has no more items than there are components.
-use Rattle.std.proofs.Common.{rules, ◌+◌, ◌≤◌, ℤ, [], ◌∷◌, length, arith, T}
-use Rattle.std.specs.List.{All}
-use Rattle.std.proofs.lemmas.List.Elements.{All-head, All-tail}
-use Rattle.std.specs.FinMap.{is_sorted}
-use Rattle.ent_handle.specs.Component.{component_cmp}
-use Rattle.ent_handle.specs.declared.component.ComponentId.{ComponentId}
-use Rattle.ent_storage.specs.Bundle.{Bundle, IsItem, IsBundle}
+use Rattle.ent_storage.proofs.Common.{rules, ◌+◌, ◌≤◌, ℤ, [], ◌∷◌, length, arith, T, All, All-head, All-tail, is_sorted, component_cmp, ComponentId, Bundle, IsItem, IsBundle}
 use Rattle.ent_storage.proofs.Positions.{second}
 
 from_head : (item : ComponentId × ℤ) (items : Bundle) → T (is_sorted component_cmp (item ∷ items))

@@ -1,13 +1,7 @@
 -- The slot of a handle that has a value.
-use Rattle.std.proofs.Common.{rules, ◌≡◌, ℕ, ◌+◌, ◌-◌, ◌<◌, ◌≤◌, ◌^◌, true, false, List, [], ◌∷◌, length, get_or, set, Some, is_some, refl, ap, arith, true≢false, length-set}
-use Rattle.std.proofs.lemmas.Bool.{cases_lt, eq-eqb}
-use Rattle.std.proofs.lemmas.List.{get_or_past, length-append, length-replicate, get_or_default}
+use Rattle.ent_storage.proofs.Common.{rules, ◌≡◌, ℕ, ◌+◌, ◌-◌, ◌<◌, ◌≤◌, ◌^◌, true, false, List, [], ◌∷◌, length, get_or, set, Some, is_some, refl, ap, arith, true≢false, cases_lt, eq-eqb, get_or_past, length-append, length-replicate, get_or_default, Handle, handle_cmp_total, handle_cmp-IsAntisymmetric, HandleValues, without_slot, HasLater, value_under, slot_at, entries_from, map_of_slots, count_at, AreCounted, padded, generation_of, Slot, Vacant, Occupied}
+use Rattle.std.proofs.Common.{length-set}
 use Rattle.std.specs.FinMap as map
-use Rattle.ent_handle.specs.Handle.{Handle, handle_cmp_total, handle_cmp-IsAntisymmetric}
-use Rattle.ent_storage.specs.HandleMap.{HandleValues, without_slot, HasLater}
-use Rattle.ent_storage.specs.Slots.{value_under, slot_at, entries_from, map_of_slots, count_at, AreCounted, padded, generation_of}
-use Rattle.ent_storage.specs.declared.handle_map.slot.Slot.{Slot}
-use Rattle.ent_storage.specs.declared.handle_map.slot.Slot.TheVariants.{Vacant, Occupied}
 use Rattle.ent_storage.proofs.Entries.{HasValue, get_map, length-set_slot, map_padded, map-put, entries_padded}
 use Rattle.ent_storage.proofs.Keys.{remove_tells}
 

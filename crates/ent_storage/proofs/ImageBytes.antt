@@ -1,9 +1,5 @@
 -- The numbers of an image, byte by byte.
-use Rattle.std.proofs.Common.{◌≡◌, refl, sym, ap, ◌∙◌, ℕ, ◌^◌, ◌<◌, List, ◌++◌, length, take, drop}
-use Rattle.std.specs.Int.{w32, w64, from_le_bytes}
-use Rattle.std.proofs.lemmas.Nat.{from_le_bytes-to_le_bytes_4, from_le_bytes-to_le_bytes_8}
-use Rattle.std.proofs.lemmas.List.{take_at, drop_at}
-use Rattle.ent_storage.specs.Image.{word, long}
+use Rattle.ent_storage.proofs.Common.{◌≡◌, refl, sym, ap, ◌∙◌, ℕ, ◌^◌, ◌<◌, List, ◌++◌, length, take, drop, w32, w64, from_le_bytes, from_le_bytes-to_le_bytes_4, from_le_bytes-to_le_bytes_8, take_at, drop_at, word, long}
 
 pub length-word : (n : ℕ) → length (word n) ≡ 4
 unfolding word

@@ -1,17 +1,6 @@
 -- Entities, one by one: what is written of them tells them.
-use Rattle.std.proofs.lemmas.Grind.{common_steps}
-use Rattle.std.proofs.Common.{rules, ◌≡◌, ◌≢◌, refl, sym, ap, ◌∙◌, ℕ, zero, suc, ℤ, ◌+◌, ◌*◌, ◌<◌, ◌≤◌, Bool, true, false, IsTrue, List, [], ◌∷◌, ◌++◌, length, arith, Option, None, Some, IsSomeAnd, is_some, Contains, ◌||◌, ◌⊎◌, inl, inr}
-use Rattle.std.specs.Prelude.{if◌then◌else◌, option_and_then}
-use Rattle.std.specs.List.{flat_map, list_any}
+use Rattle.ent_storage.proofs.Common.{common_steps, rules, ◌≡◌, ◌≢◌, refl, sym, ap, ◌∙◌, ℕ, zero, suc, ℤ, ◌+◌, ◌*◌, ◌<◌, ◌≤◌, Bool, true, false, IsTrue, List, [], ◌∷◌, ◌++◌, length, arith, Option, None, Some, IsSomeAnd, is_some, Contains, ◌||◌, ◌⊎◌, inl, inr, if◌then◌else◌, option_and_then, flat_map, list_any, cases_eq, cases_lt, false≢true, append_assoc, length-append, Birth, ComponentId, component_cmp_total, component_cmp-IsAntisymmetric, Handle, handle_cmp_total, handle_cmp-IsAntisymmetric, Entity, EntityMap, birth_of, value_of, word, long, birth_bytes, values_bytes, component, entity_bytes, entities_bytes, is_held, width_below, width, IsBirth, IsStored, AreStored}
 use Rattle.std.specs.FinMap as map
-use Rattle.std.proofs.lemmas.Bool.{cases_eq, cases_lt, false≢true}
-use Rattle.std.proofs.lemmas.List.{append_assoc, length-append}
-use Rattle.ent_handle.specs.declared.birth.Birth.{Birth}
-use Rattle.ent_handle.specs.declared.component.ComponentId.{ComponentId}
-use Rattle.ent_handle.specs.Component.{component_cmp_total, component_cmp-IsAntisymmetric}
-use Rattle.ent_handle.specs.Handle.{Handle, handle_cmp_total, handle_cmp-IsAntisymmetric}
-use Rattle.ent_storage.specs.EntityMap.{Entity, EntityMap, birth_of, value_of}
-use Rattle.ent_storage.specs.Image.{word, long, birth_bytes, values_bytes, component, entity_bytes, entities_bytes, is_held, width_below, width, IsBirth, IsStored, AreStored}
 use Rattle.ent_storage.proofs.ImageBytes.{length-word, length-long, same_words, same_longs}
 use Rattle.ent_storage.proofs.ImageValues.{AllFit, same_values}
 

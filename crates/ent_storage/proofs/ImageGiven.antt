@@ -1,13 +1,6 @@
 -- An entity that was given a component.
-use Rattle.std.proofs.Common.{rules, ◌≡◌, ◌≢◌, refl, sym, ap, ◌∙◌, ℤ, true, [], ◌∷◌, Option, None, Some, is_some}
-use Rattle.std.specs.Prelude.{option_and_then}
+use Rattle.ent_storage.proofs.Common.{rules, ◌≡◌, ◌≢◌, refl, sym, ap, ◌∙◌, ℤ, true, [], ◌∷◌, Option, None, Some, is_some, option_and_then, false≢true, ComponentId, component_cmp_total, component_cmp-IsAntisymmetric, Handle, handle_cmp_total, handle_cmp-IsAntisymmetric, with_items, Entity, EntityMap, birth_of, value_of, with_components}
 use Rattle.std.specs.FinMap as map
-use Rattle.std.proofs.lemmas.Bool.{false≢true}
-use Rattle.ent_handle.specs.declared.component.ComponentId.{ComponentId}
-use Rattle.ent_handle.specs.Component.{component_cmp_total, component_cmp-IsAntisymmetric}
-use Rattle.ent_handle.specs.Handle.{Handle, handle_cmp_total, handle_cmp-IsAntisymmetric}
-use Rattle.ent_storage.specs.Components.{with_items}
-use Rattle.ent_storage.specs.EntityMap.{Entity, EntityMap, birth_of, value_of, with_components}
 use Rattle.ent_storage.proofs.Keys.{get-insert_same, get-insert_other}
 
 module _ (m : EntityMap) (h : Handle) (id : ComponentId) (v : ℤ) where

@@ -1,11 +1,5 @@
 -- Which components any of the entities has.
-use Rattle.std.proofs.Common.{◌≡◌, ◌↔◌, refl, sym, ap, ℕ, zero, suc, ℤ, ◌<◌, Bool, true, false, not, ◌||◌, List, [], ◌∷◌, length, Option, None, Some, Contains, is_some, slice_get, arith}
-use Rattle.std.specs.List.{list_any}
-use Rattle.std.specs.Prelude.{option_and_then}
-use Rattle.ent_handle.specs.declared.component.ComponentId.{ComponentId}
-use Rattle.ent_handle.specs.Handle.{Handle}
-use Rattle.ent_storage.specs.EntityMap.{Store, value_of, value_at_place}
-use Rattle.ent_storage.specs.Image.{is_held}
+use Rattle.ent_storage.proofs.Common.{◌≡◌, ◌↔◌, refl, sym, ap, ℕ, zero, suc, ℤ, ◌<◌, Bool, true, false, not, ◌||◌, List, [], ◌∷◌, length, Option, None, Some, Contains, is_some, slice_get, arith, list_any, option_and_then, ComponentId, Handle, Store, value_of, value_at_place, is_held}
 
 module _ {A : Type 0} (f : Handle → Option A) where
   none_at : (o : Option A) → o ≡ None → is_some o ≡ false

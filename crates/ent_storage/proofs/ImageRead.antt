@@ -1,16 +1,7 @@
 -- Entities that are read one by one, and where bytes are those of no entities.
-use Rattle.std.proofs.Common.{rules, ◌≡◌, ◌≢◌, sym, ap, ◌∙◌, subst, ℕ, ◌+◌, ◌^◌, ◌<◌, ◌≤◌, List, [], ◌∷◌, ◌++◌, length, take, drop, get_or, Contains, IsTrue, None, arith, inl, inr, is_some, AllPairs}
-use Rattle.std.proofs.lemmas.Grind.{common_steps}
-use Rattle.std.specs.List.{flat_map}
+use Rattle.ent_storage.proofs.Common.{rules, ◌≡◌, ◌≢◌, sym, ap, ◌∙◌, subst, ℕ, ◌+◌, ◌^◌, ◌<◌, ◌≤◌, List, [], ◌∷◌, ◌++◌, length, take, drop, get_or, Contains, IsTrue, None, arith, inl, inr, is_some, common_steps, flat_map, append_assoc, append-nil, length-append, flat_map_more, take_all, take-append-drop, drop_more, take_more, length-take, get_or-take, flat_map-append, Contains-append_left, Contains-push, Contains-push_cases, ComponentId, Handle, handle_cmp_total, handle_cmp-IsAntisymmetric, EntityMap, value_of, word, entity_bytes, entities_bytes, width, IsStored, AreStored, AreFirst}
+use Rattle.std.proofs.Common.{AllPairs}
 use Rattle.std.specs.FinMap as map
-use Rattle.std.proofs.lemmas.List.{append_assoc, append-nil, length-append, flat_map_more, take_all, take-append-drop, drop_more, take_more, length-take, get_or-take}
-use Rattle.std.proofs.lemmas.List.Concat.{flat_map-append}
-use Rattle.std.proofs.lemmas.List.Elements.{Contains-append_left, Contains-push, Contains-push_cases}
-use Rattle.ent_handle.specs.declared.component.ComponentId.{ComponentId}
-use Rattle.ent_handle.specs.Handle.{Handle, handle_cmp_total, handle_cmp-IsAntisymmetric}
-use Rattle.ent_storage.specs.EntityMap.{EntityMap, value_of}
-use Rattle.ent_storage.specs.Image.{word, entity_bytes, entities_bytes, width, IsStored, AreStored}
-use Rattle.ent_storage.specs.FirstFault.{AreFirst}
 use Rattle.ent_storage.proofs.Keys.{same_or_apart}
 use Rattle.ent_storage.proofs.ImageBytes.{length-word, same_words}
 use Rattle.ent_storage.proofs.ImageEntities.{IsAlike, all_alike, same_listed, same_all, never_stored, value_beyond, width_few, none_from, stored_alike}

@@ -1,13 +1,5 @@
 -- The values of an entity, one by one: what is written tells them.
-use Rattle.std.proofs.Common.{rules, ◌≡◌, ◌≢◌, refl, sym, ap, ◌∙◌, ℕ, zero, suc, ℤ, ◌+◌, ◌^◌, ◌<◌, ◌≤◌, List, ◌++◌, drop, Option, None, Some, add-one, arith}
-use Rattle.std.specs.Int.{w64, cast_unsigned}
-use Rattle.std.specs.Int.RustNames.{FitsSigned}
-use Rattle.std.specs.List.{flat_map, range_with_len}
-use Rattle.std.proofs.Math.Facts.{Fits-lt-pow, Fits-of_z, to_z-of_z}
-use Rattle.std.proofs.lemmas.Bool.{cases_eq}
-use Rattle.std.proofs.lemmas.List.{append_assoc, append-nil}
-use Rattle.ent_handle.specs.declared.component.ComponentId.{ComponentId}
-use Rattle.ent_storage.specs.Image.{value_bytes, values_bytes, component}
+use Rattle.ent_storage.proofs.Common.{rules, ◌≡◌, ◌≢◌, refl, sym, ap, ◌∙◌, ℕ, zero, suc, ℤ, ◌+◌, ◌^◌, ◌<◌, ◌≤◌, List, ◌++◌, drop, Option, None, Some, add-one, arith, w64, cast_unsigned, FitsSigned, flat_map, range_with_len, Fits-lt-pow, Fits-of_z, cases_eq, append_assoc, append-nil, ComponentId, value_bytes, values_bytes, component, to_z-of_z}
 use Rattle.ent_storage.proofs.ImageBytes.{same_longs}
 
 -- ---- pieces, one for each number

@@ -1,17 +1,6 @@
 -- Each component that an entity has is below the width.
-use Rattle.std.proofs.Common.{◌≡◌, refl, sym, ap, ◌∙◌, ℕ, ℤ, ◌<◌, ◌≤◌, List, Option, Some, None, arith, inl, inr, slice_get}
-use Rattle.std.specs.List.{All}
-use Rattle.std.specs.Prelude.{option_and_then}
+use Rattle.ent_storage.proofs.Common.{◌≡◌, refl, sym, ap, ◌∙◌, ℕ, ℤ, ◌<◌, ◌≤◌, List, Option, Some, None, arith, inl, inr, slice_get, All, option_and_then, FinMap, cases_lt, false≢true, same_Some, none-some, ComponentId, Handle, handle_cmp, Entity, Store, value_of, width, IsIndexed, map_of, handles_by_place, LivingEntity}
 use Rattle.std.specs.FinMap as finite
-use Rattle.std.specs.FinMap.{FinMap}
-use Rattle.std.proofs.lemmas.Bool.{cases_lt, false≢true}
-use Rattle.std.proofs.lemmas.Option.{same_Some, none-some}
-use Rattle.ent_handle.specs.declared.component.ComponentId.{ComponentId}
-use Rattle.ent_handle.specs.Handle.{Handle, handle_cmp}
-use Rattle.ent_storage.specs.EntityMap.{Entity, Store, value_of}
-use Rattle.ent_storage.specs.Image.{width}
-use Rattle.ent_storage.specs.Indexed.{IsIndexed, map_of, handles_by_place}
-use Rattle.ent_storage.specs.Living.{LivingEntity}
 use Rattle.ent_storage.proofs.ImageEntities.{not_held}
 use Rattle.ent_storage.proofs.ImageHeld.{some_held}
 use Rattle.ent_storage.proofs.Indexed.{some_entity, placed_from_get}

@@ -1,15 +1,8 @@
 -- The columns in use, after each change.
-use Rattle.std.proofs.Common.{rules, ◌≡◌, ◌≢◌, ℕ, ◌+◌, ◌-◌, ◌<◌, ◌≤◌, ◌⊎◌, inl, inr, List, [], length, get_or, set, Contains, None, sym, ap, ◌∙◌, arith}
-use Rattle.std.proofs.lemmas.Grind.{common_steps}
-use Rattle.std.proofs.lemmas.Bool.{cases_lt, cases_eq, cases_order}
-use Rattle.std.proofs.lemmas.List.{get_or_default}
-use Rattle.std.proofs.lemmas.List.Edits.{length-insert, get_or-insert_below, get_or-insert_at, get_or-insert_above}
-use Rattle.std.specs.List.{AllPairs, insert}
+use Rattle.ent_storage.proofs.Common.{rules, ◌≡◌, ◌≢◌, ℕ, ◌+◌, ◌-◌, ◌<◌, ◌≤◌, ◌⊎◌, inl, inr, List, [], length, get_or, set, Contains, None, sym, ap, ◌∙◌, arith, common_steps, cases_lt, cases_eq, cases_order, get_or_default, length-insert, get_or-insert_below, get_or-insert_at, get_or-insert_above, AllPairs, insert, Column, no_column, HasRoomAt, IsMovedDown, column_at, AreInUse}
 use Rattle.std.specs.Cmp.{nat_cmp_total as total}
 use Rattle.std.specs.FinMap as map
 use Rattle.std.specs.FinMap.{nat_cmp-IsAntisymmetric as same}
-use Rattle.ent_storage.specs.SparseSet.{Column, no_column, HasRoomAt, IsMovedDown}
-use Rattle.ent_storage.specs.Living.{column_at, AreInUse}
 use Rattle.ent_storage.proofs.Keys.{same_or_apart}
 use Rattle.ent_storage.proofs.ColumnsAtPlaces.{column_set, column_kept, moved_none}
 

@@ -1,15 +1,6 @@
 -- The living entities and their index: what the map has at a handle, and after each change.
-use Rattle.std.proofs.lemmas.Grind.{common_steps}
-use Rattle.std.proofs.Common.{rules, ◌≡◌, ◌≢◌, ℕ, zero, suc, ◌+◌, ◌<◌, cond, ◌⊎◌, inl, inr, List, [], ◌∷◌, ◌++◌, map, length, get_or, set, Option, Some, None, is_some, refl, sym, ap, ◌∙◌, arith}
-use Rattle.std.proofs.lemmas.List.{get_or_append_left, get_or_push, get_or-set_same, get_or-set_other, length-set, length_push, map_push}
-use Rattle.std.proofs.lemmas.Bool.{false≢true, cases_lt, cases_eq}
+use Rattle.ent_storage.proofs.Common.{common_steps, rules, ◌≡◌, ◌≢◌, ℕ, zero, suc, ◌+◌, ◌<◌, cond, ◌⊎◌, inl, inr, List, [], ◌∷◌, ◌++◌, map, length, get_or, set, Option, Some, None, is_some, refl, sym, ap, ◌∙◌, arith, get_or_append_left, get_or_push, get_or-set_same, get_or-set_other, length-set, length_push, map_push, false≢true, cases_lt, cases_eq, FinMap, find, Handle, handle_cmp, total, same, LivingEntity, Components, Entity, with_components, entity_of, map_of, IsIndexed}
 use Rattle.std.specs.FinMap as finite
-use Rattle.std.specs.FinMap.{FinMap, find}
-use Rattle.ent_handle.specs.Handle.{Handle, handle_cmp, handle_cmp_total as total, handle_cmp-IsAntisymmetric as same}
-use Rattle.ent_storage.specs.Living.{LivingEntity}
-use Rattle.ent_storage.specs.Components.{Components}
-use Rattle.ent_storage.specs.EntityMap.{Entity, with_components}
-use Rattle.ent_storage.specs.Indexed.{entity_of, map_of, IsIndexed}
 use Rattle.ent_storage.proofs.Keys.{tied, apart, same_or_apart, get-insert_same, get-insert_other, insert_tells}
 
 pub some_not_none : {A : Type 0} (x : A) (o : Option A) → o ≡ Some x → o ≢ None

@@ -1,12 +1,6 @@
 -- The items of the columns in use are all items at a place.
-use Rattle.std.proofs.Common.{rules, ◌≡◌, ◌≢◌, ℕ, zero, suc, ◌+◌, ◌<◌, ◌≤◌, ◌⊎◌, inl, inr, List, [], ◌∷◌, length, Contains, None, is_some, refl, arith}
-use Rattle.std.proofs.lemmas.Grind.{common_steps}
-use Rattle.std.proofs.lemmas.Bool.{cases_eq}
-use Rattle.std.specs.List.{All, AllPairs, count_by}
+use Rattle.ent_storage.proofs.Common.{rules, ◌≡◌, ◌≢◌, ℕ, zero, suc, ◌+◌, ◌<◌, ◌≤◌, ◌⊎◌, inl, inr, List, [], ◌∷◌, length, Contains, None, is_some, refl, arith, common_steps, cases_eq, All, AllPairs, count_by, Column, no_column, column_at, value_at, items_from, items_of, AreInUse, Contains-tail}
 use Rattle.std.specs.FinMap as map
-use Rattle.ent_storage.specs.SparseSet.{Column, no_column}
-use Rattle.ent_storage.specs.Living.{column_at, value_at, items_from, items_of, AreInUse}
-use Rattle.std.proofs.lemmas.Map.Made.{Contains-tail}
 
 -- ---- one number after the other
 

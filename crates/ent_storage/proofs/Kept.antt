@@ -1,14 +1,8 @@
 -- How a walk over the slots keeps some of their values.
-use Rattle.std.proofs.lemmas.Grind.{common_steps}
-use Rattle.std.proofs.Common.{rules, ◌≡◌, ℕ, ◌+◌, ◌<◌, ◌≤◌, Bool, true, false, MutBor, List, [], ◌∷◌, ◌++◌, length, get_or, set, take, drop, Some, arith, length-set}
-use Rattle.std.proofs.lemmas.List.{append-nil, append_assoc, take_all, take_more_set, drop_all, drop_more, drop-set-lt, length-take-le}
-use Rattle.ent_handle.specs.Handle.{Handle}
-use Rattle.ent_storage.specs.Retained.{CalledAt, Retains, RetainsSlot}
-use Rattle.ent_storage.specs.Slots.{entries_from, count_at, handle_in, any_value, generation_of, AreCounted}
+use Rattle.ent_storage.proofs.Common.{common_steps, rules, ◌≡◌, ℕ, ◌+◌, ◌<◌, ◌≤◌, Bool, true, false, MutBor, List, [], ◌∷◌, ◌++◌, length, get_or, set, take, drop, Some, arith, append-nil, append_assoc, take_all, take_more_set, drop_all, drop_more, drop-set-lt, length-take-le, Handle, CalledAt, Retains, RetainsSlot, entries_from, count_at, handle_in, any_value, generation_of, AreCounted, Slot, Vacant, Occupied}
+use Rattle.std.proofs.Common.{length-set}
 use Rattle.ent_storage.proofs.Entries.{length-set_slot}
 use Rattle.ent_storage.proofs.Found.{read}
-use Rattle.ent_storage.specs.declared.handle_map.slot.Slot.{Slot}
-use Rattle.ent_storage.specs.declared.handle_map.slot.Slot.TheVariants.{Vacant, Occupied}
 
 module _ {X : Type 0} where
   -- ---- entries of two parts

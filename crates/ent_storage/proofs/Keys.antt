@@ -1,11 +1,7 @@
 -- Keys of a map that are the same or apart, and what a map has at them after a change.
-use Rattle.std.proofs.Common.{◌≡◌, ◌≢◌, Bool, true, false, T, ◌⊎◌, inl, inr, Some, None, Ordering, refl, sym, subst, ◌∙◌, rules, arith}
-use Rattle.std.specs.Ordering.{eq_by_cmp}
-use Rattle.std.specs.Cmp.{IsTotalOrder}
+use Rattle.ent_storage.proofs.Common.{◌≡◌, ◌≢◌, Bool, true, false, T, ◌⊎◌, inl, inr, Some, None, Ordering, refl, sym, subst, ◌∙◌, rules, arith, eq_by_cmp, IsTotalOrder, false_from_ne_true, FinMap, IsAntisymmetric}
 use Rattle.ent_storage.proofs.Rising.{equal}
-use Rattle.std.proofs.lemmas.Bool.{false_from_ne_true}
 use Rattle.std.specs.FinMap as map
-use Rattle.std.specs.FinMap.{FinMap, IsAntisymmetric}
 
 module _ {K : Type 0} {R : K → K → Ordering} (o : IsTotalOrder R) (same : IsAntisymmetric R) where
   pub tied : (a b : K) → a ≡ b → eq_by_cmp R a b ≡ true

@@ -41,3 +41,4 @@ pub mod ImageRead
 pub mod ImageValues
 pub mod Sparse
 mod Written
+pub mod Common

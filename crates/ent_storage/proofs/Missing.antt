@@ -1,9 +1,6 @@
 -- How many items set a component that is not there.
-use Rattle.std.proofs.lemmas.Grind.{common_steps}
-use Rattle.std.proofs.Common.{◌≡◌, ℕ, None, ℤ, ◌<◌, List, length, get_or, arith, Result, Ok, Err, OnErr}
+use Rattle.ent_storage.proofs.Common.{common_steps, ◌≡◌, ℕ, None, ℤ, ◌<◌, List, length, get_or, arith, Result, Ok, Err, OnErr, ComponentId, Components, missing}
 use Rattle.std.specs.FinMap as map
-use Rattle.ent_handle.specs.declared.component.ComponentId.{ComponentId}
-use Rattle.ent_storage.specs.Components.{Components, missing}
 
 -- a component is missing that one of the items sets
 pub missing_at : (m : Components) (items : List (ComponentId × ℤ)) (i : ℕ) (d : ComponentId × ℤ) → i < length items

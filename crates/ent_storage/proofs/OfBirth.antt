@@ -1,23 +1,6 @@
 -- The least handle of a birth, among pairs and in the map.
-use Rattle.std.proofs.lemmas.Grind.{common_steps}
-use Rattle.std.proofs.Common.{rules, ◌≡◌, ◌≢◌, ◌⊎◌, inl, inr, List, [], ◌∷◌, ◌++◌, map, length, Option, Some, None, IfSome, IfNone, IsSomeAnd, Contains, true, ℕ, false, ◌<◌, refl, sym, ap, subst, ◌∙◌, arith}
-use Rattle.std.specs.declared.cmp.Ordering.{Ordering}
-use Rattle.std.specs.declared.cmp.Ordering.TheVariants.{Less, Equal, Greater}
-use Rattle.std.specs.Ordering.{eq_by_cmp}
-use Rattle.std.specs.Option.{option_map}
-use Rattle.std.proofs.lemmas.Bool.{false≢true}
-use Rattle.std.proofs.lemmas.Option.{same_Some, none-some}
-use Rattle.std.proofs.lemmas.List.{get_or-map, length-map}
-use Rattle.std.proofs.lemmas.List.Elements.{Contains-push, Contains-push_cases}
+use Rattle.ent_storage.proofs.Common.{common_steps, rules, ◌≡◌, ◌≢◌, ◌⊎◌, inl, inr, List, [], ◌∷◌, ◌++◌, map, length, Option, Some, None, IfSome, IfNone, IsSomeAnd, Contains, true, ℕ, false, ◌<◌, refl, sym, ap, subst, ◌∙◌, arith, Less, Equal, Greater, eq_by_cmp, option_map, false≢true, same_Some, none-some, get_or-map, length-map, Contains-push, Contains-push_cases, FinMap, Birth, birth_cmp, Handle, handle_cmp, total, same, LivingEntity, Entity, birth_of, map_of, IsIndexed, IsLeastOf, Ordering}
 use Rattle.std.specs.FinMap as finite
-use Rattle.std.specs.FinMap.{FinMap}
-use Rattle.ent_handle.specs.declared.birth.Birth.{Birth}
-use Rattle.ent_handle.specs.Birth.{birth_cmp}
-use Rattle.ent_handle.specs.Handle.{Handle, handle_cmp, handle_cmp_total as total, handle_cmp-IsAntisymmetric as same}
-use Rattle.ent_storage.specs.Living.{LivingEntity}
-use Rattle.ent_storage.specs.EntityMap.{Entity, birth_of}
-use Rattle.ent_storage.specs.Indexed.{map_of, IsIndexed}
-use Rattle.ent_storage.specs.BirthOrder.{IsLeastOf}
 use Rattle.ent_storage.proofs.ByBirth.{born_of}
 use Rattle.ent_storage.proofs.Indexed.{some_entity, get_placed, placed_from_get}
 use Rattle.ent_storage.proofs.Keys.{apart, same_or_apart}

@@ -1,16 +1,6 @@
 -- Two lists that rise and have the same members are the same: so are the handles of what passes a
 -- test, in the order of births.
-use Rattle.std.proofs.Common.{rules, ◌≡◌, zero, suc, Bool, true, List, [], ◌∷◌, Contains, refl, sym, arith}
-use Rattle.std.specs.declared.cmp.Ordering.{Ordering}
-use Rattle.std.specs.declared.cmp.Ordering.TheVariants.{Less}
-use Rattle.std.specs.Cmp.{IsTotalOrder, then_total, on_total}
-use Rattle.std.specs.Cmp.Lexicographic.{options_total}
-use Rattle.std.specs.List.{AllPairs}
-use Rattle.ent_handle.specs.declared.component.ComponentId.{ComponentId}
-use Rattle.ent_handle.specs.Birth.{birth_cmp_total}
-use Rattle.ent_handle.specs.Handle.{Handle, handle_cmp_total}
-use Rattle.ent_storage.specs.EntityMap.{Entity, EntityMap, birth_of}
-use Rattle.ent_storage.specs.BirthOrder.{birth_order, ListsByBirth, ListsAll, ListsWith}
+use Rattle.ent_storage.proofs.Common.{rules, ◌≡◌, zero, suc, Bool, true, List, [], ◌∷◌, Contains, refl, sym, arith, Less, IsTotalOrder, then_total, on_total, options_total, AllPairs, ComponentId, birth_cmp_total, Handle, handle_cmp_total, Entity, EntityMap, birth_of, birth_order, ListsByBirth, ListsAll, ListsWith, Ordering}
 
 module _ {X : Type 0} (R : X → X → Type 0) (asym : (a b : X) → R a b → ¬ (R b a)) where
   -- two lists that rise and have one another's first member begin alike

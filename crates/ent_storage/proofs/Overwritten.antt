@@ -1,11 +1,5 @@
 -- Pairs whose keys strictly rise, after one of them was overwritten or after a test dropped some.
-use Rattle.std.proofs.Common.{rules, ◌≡◌, ◌≢◌, ℕ, zero, suc, ◌<◌, Bool, true, false, cond, T, List, [], ◌∷◌, length, get_or, set, filter, ◌+◌, Option, Some, None, Ordering, refl, sym, ap, subst, ◌∙◌, arith}
-use Rattle.std.specs.declared.cmp.Ordering.TheVariants.{Less, Equal, Greater}
-use Rattle.std.specs.Ordering.{is_lt, is_eq, eq_by_cmp}
-use Rattle.std.specs.Cmp.{IsTotalOrder}
-use Rattle.std.specs.List.{AllWithin}
-use Rattle.std.specs.FinMap.{IsAntisymmetric, find, is_sorted}
-use Rattle.std.specs.FinMap.Entries.{below_all}
+use Rattle.ent_storage.proofs.Common.{rules, ◌≡◌, ◌≢◌, ℕ, zero, suc, ◌<◌, Bool, true, false, cond, T, List, [], ◌∷◌, length, get_or, set, filter, ◌+◌, Option, Some, None, Ordering, refl, sym, ap, subst, ◌∙◌, arith, Less, Equal, Greater, is_lt, is_eq, eq_by_cmp, IsTotalOrder, AllWithin, IsAntisymmetric, find, is_sorted, below_all}
 use Rattle.ent_storage.proofs.Keys.{tied, apart}
 use Rattle.ent_storage.proofs.Positions.{first, second, less, turn}
 use Rattle.ent_storage.proofs.Rising.{both, equal}

@@ -1,16 +1,7 @@
 -- The handles at the places of the residents.
-use Rattle.std.proofs.Common.{rules, ◌≡◌, ℕ, zero, suc, ◌+◌, ◌-◌, ◌<◌, List, [], ◌∷◌, length, get_or, set, Some, None, Option, is_some, slice_get, refl, ap, arith}
-use Rattle.std.proofs.lemmas.List.{length-map, get_or_default, get_or-map}
+use Rattle.ent_storage.proofs.Common.{rules, ◌≡◌, ℕ, zero, suc, ◌+◌, ◌-◌, ◌<◌, List, [], ◌∷◌, length, get_or, set, Some, None, Option, is_some, slice_get, refl, ap, arith, length-map, get_or_default, get_or-map, FinMap, Components, Handle, handle_cmp, LivingEntity, IsMovedInto, Store, IsIndexed, entity_of, map_of, handles_by_place, AreWithout, slice_get-get_or}
 use Rattle.std.specs.FinMap as finite
-use Rattle.std.specs.FinMap.{FinMap}
-use Rattle.ent_storage.specs.Components.{Components}
-use Rattle.ent_handle.specs.Handle.{Handle, handle_cmp}
-use Rattle.ent_storage.specs.Living.{LivingEntity, IsMovedInto}
-use Rattle.ent_storage.specs.EntityMap.{Store}
-use Rattle.ent_storage.specs.Indexed.{IsIndexed, entity_of, map_of, handles_by_place}
-use Rattle.ent_storage.specs.Places.{AreWithout}
 use Rattle.ent_storage.proofs.Indexed.{some_entity, some_not_none, get_placed, get_unplaced}
-use Rattle.std.proofs.lemmas.Option.{slice_get-get_or}
 
 pub at_place : (living : List LivingEntity) (i : ℕ) (h : Handle) → slice_get (handles_by_place living) i ≡ Some h
     → (i < length living) × ((d : LivingEntity) → (get_or living i d).handle ≡ h)

@@ -1,13 +1,5 @@
 -- Pairs whose keys strictly rise, and what a binary search finds among them.
-use Rattle.std.proofs.Common.{rules, ◌≡◌, ℕ, zero, suc, ◌<◌, Bool, true, false, ◌&&◌, T, List, [], ◌∷◌, length, get_or, Result, IfOk, IfErr, Ordering, ap, ◌∙◌, arith}
-use Rattle.std.specs.declared.cmp.Ordering.TheVariants.{Less}
-use Rattle.std.specs.Ordering.{is_lt, ordering_reverse}
-use Rattle.std.specs.Cmp.{IsTotalOrder}
-use Rattle.std.specs.List.Sorted.{IsSearchInRange, IsBinarySearchResult}
-use Rattle.std.proofs.lemmas.List.Sorted.{searchable_from_sorted}
-use Rattle.std.specs.FinMap.{is_sorted}
-use Rattle.std.specs.FinMap.Entries.{below_all}
-use Rattle.ent_storage.specs.Position.{IsAt, IsGapFor}
+use Rattle.ent_storage.proofs.Common.{rules, ◌≡◌, ℕ, zero, suc, ◌<◌, Bool, true, false, ◌&&◌, T, List, [], ◌∷◌, length, get_or, Result, IfOk, IfErr, Ordering, ap, ◌∙◌, arith, Less, is_lt, ordering_reverse, IsTotalOrder, IsSearchInRange, IsBinarySearchResult, searchable_from_sorted, is_sorted, below_all, IsAt, IsGapFor}
 
 -- what tests tell
 pub first : (a b : Bool) → T (a && b) → T a

@@ -1,12 +1,5 @@
 -- Components that are put one after the other.
-use Rattle.std.proofs.Common.{rules, ◌≡◌, ◌∙◌, refl, ap, arith, ◌+◌, ◌<◌, ◌≤◌, ℕ, ℤ, List, [], ◌∷◌, length, reverse, T, cond, is_some, Some, None}
-use mathlib.Core.List.{reverse_aux}
-use Rattle.std.specs.FinMap.{put, find, is_sorted}
-use Rattle.std.specs.FinMap.Entries.{find-put, length-put, is_sorted-put}
-use Rattle.std.specs.Ordering.{eq_by_cmp}
-use Rattle.ent_handle.specs.declared.component.ComponentId.{ComponentId}
-use Rattle.ent_handle.specs.Component.{component_cmp, component_cmp_total}
-use Rattle.ent_storage.specs.Bundle.{Bundle, with_put, bundle_of}
+use Rattle.ent_storage.proofs.Common.{rules, ◌≡◌, ◌∙◌, refl, ap, arith, ◌+◌, ◌<◌, ◌≤◌, ℕ, ℤ, List, [], ◌∷◌, length, reverse, T, cond, is_some, Some, None, reverse_aux, put, find, is_sorted, find-put, length-put, is_sorted-put, eq_by_cmp, ComponentId, component_cmp, component_cmp_total, Bundle, with_put, bundle_of}
 
 -- A later item counts before an earlier one, and before what was held.
 find_with : (id : ComponentId) (held earlier items : List (ComponentId × ℤ))

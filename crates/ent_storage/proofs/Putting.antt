@@ -1,13 +1,6 @@
 -- A pair that is put among others whose keys strictly rise: over the one that has its key, or in
 -- the gap for it.
-use Rattle.std.proofs.Common.{rules, ◌≡◌, ℕ, zero, suc, ◌<◌, ◌≤◌, cond, T, List, [], ◌∷◌, length, get_or, set, Some, None, Ordering, refl, ap, ◌∙◌, arith}
-use Rattle.std.specs.declared.cmp.Ordering.TheVariants.{Less, Equal, Greater}
-use Rattle.std.specs.Ordering.{is_eq}
-use Rattle.std.specs.Cmp.{IsTotalOrder}
-use Rattle.std.specs.List.{insert, AllWithin}
-use Rattle.std.specs.FinMap.{find, put, is_sorted}
-use Rattle.std.specs.FinMap.Entries.{by_order}
-use Rattle.ent_storage.specs.Position.{IsAt, IsGapFor}
+use Rattle.ent_storage.proofs.Common.{rules, ◌≡◌, ℕ, zero, suc, ◌<◌, ◌≤◌, cond, T, List, [], ◌∷◌, length, get_or, set, Some, None, Ordering, refl, ap, ◌∙◌, arith, Less, Equal, Greater, is_eq, IsTotalOrder, insert, AllWithin, find, put, is_sorted, by_order, IsAt, IsGapFor}
 use Rattle.ent_storage.proofs.Positions.{first, second, turn, below_at}
 
 module _ {K X : Type 0} {R : K → K → Ordering} (o : IsTotalOrder R) where

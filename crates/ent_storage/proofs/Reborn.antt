@@ -1,15 +1,6 @@
 -- The birth of the entity at a place is changed.
-use Rattle.std.proofs.Common.{rules, ◌≡◌, ℕ, zero, suc, ◌<◌, List, [], ◌∷◌, length, get_or, set, Some, refl, ap, ◌∙◌, arith}
-use Rattle.std.proofs.lemmas.List.{get_or_default}
+use Rattle.ent_storage.proofs.Common.{rules, ◌≡◌, ℕ, zero, suc, ◌<◌, List, [], ◌∷◌, length, get_or, set, Some, refl, ap, ◌∙◌, arith, get_or_default, FinMap, Birth, Handle, handle_cmp, Resident, with_birth, Column, LivingEntity, entities_from, with_birth_at, map_of, handles_by_place, counted, IsKeptIndex}
 use Rattle.std.specs.FinMap as finite
-use Rattle.std.specs.FinMap.{FinMap}
-use Rattle.ent_handle.specs.declared.birth.Birth.{Birth}
-use Rattle.ent_handle.specs.Handle.{Handle, handle_cmp}
-use Rattle.ent_storage.specs.declared.living.Resident.{Resident}
-use Rattle.ent_storage.specs.EntityMap.{with_birth}
-use Rattle.ent_storage.specs.SparseSet.{Column}
-use Rattle.ent_storage.specs.Living.{LivingEntity, entities_from, with_birth_at}
-use Rattle.ent_storage.specs.Indexed.{map_of, handles_by_place, counted, IsKeptIndex}
 use Rattle.ent_storage.proofs.Indexed.{some_entity, entities_set, read_handle, get_read}
 use Rattle.ent_storage.proofs.Counted.{kept_set}
 use Rattle.ent_storage.proofs.Placed.{handles_set}

@@ -1,6 +1,5 @@
 -- Facts that hold whatever a result is.
-use Rattle.std.proofs.Common.{rules, Result}
-use Rattle.std.specs.Result.{OnErr}
+use Rattle.ent_storage.proofs.Common.{rules, Result, OnErr}
 
 pub OnErr-always : {X E : Type 0} (r : Result X E) {P : Type 0} → P → OnErr r P
 OnErr-always it p = search rules

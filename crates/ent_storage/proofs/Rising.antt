@@ -1,15 +1,6 @@
 -- Lists of pairs whose keys strictly rise, as maps: what an edit at a position leaves.
-use Rattle.std.proofs.lemmas.Grind.{common_steps}
-use Rattle.std.proofs.Common.{rules, ◌≡◌, ℕ, zero, suc, ◌+◌, ◌-◌, ◌<◌, ◌≤◌, inl, inr, Bool, true, false, cond, T, ◌&&◌, List, [], ◌∷◌, length, get_or, set, Some, None, Ordering, refl, sym, ap, subst, ◌∙◌, arith}
-use Rattle.std.specs.declared.cmp.Ordering.TheVariants.{Less, Equal, Greater}
-use Rattle.std.specs.Ordering.{is_eq}
-use Rattle.std.specs.Cmp.{IsTotalOrder}
-use Rattle.std.specs.List.{insert, HoldsAt}
-use Rattle.std.proofs.lemmas.Bool.{cases_lt}
+use Rattle.ent_storage.proofs.Common.{common_steps, rules, ◌≡◌, ℕ, zero, suc, ◌+◌, ◌-◌, ◌<◌, ◌≤◌, inl, inr, Bool, true, false, cond, T, ◌&&◌, List, [], ◌∷◌, length, get_or, set, Some, None, Ordering, refl, sym, ap, subst, ◌∙◌, arith, Less, Equal, Greater, is_eq, IsTotalOrder, insert, HoldsAt, cases_lt, IsAntisymmetric, find, put, is_sorted, is_sorted-put, IsAt, IsGapFor}
 use Rattle.std.specs.FinMap as map
-use Rattle.std.specs.FinMap.{IsAntisymmetric, find, put, is_sorted}
-use Rattle.std.specs.FinMap.Entries.{is_sorted-put}
-use Rattle.ent_storage.specs.Position.{IsAt, IsGapFor}
 use Rattle.ent_storage.proofs.Positions.{second, turn, rising_at}
 use Rattle.ent_storage.proofs.Putting.{above_head, find_in_gap, inserted, written}
 

@@ -1,21 +1,7 @@
 -- The entries of a sparse map and the positions of slots: what they stand for, after each change.
-use Rattle.std.proofs.Common.{rules, ◌≡◌, ◌≢◌, ℕ, zero, suc, ◌+◌, ◌<◌, ◌≤◌, ◌^◌, true, false, cond, ◌⊎◌, inl, inr, List, [], ◌∷◌, ◌++◌, length, map, set, get_or, Option, Some, None, slice_get, refl, sym, ap, subst, ◌∙◌, arith, eqb, eqb-true, Contains, is_some}
-use Rattle.std.proofs.lemmas.Bool.{cases_lt, cases_eq, false_from_ne_true, false≢true}
-use Rattle.std.proofs.lemmas.Bool.Decides.{nat_tests}
-use Rattle.std.proofs.lemmas.List.{get_or-map, length-map, length-set}
-use Rattle.std.proofs.lemmas.Map.Keys.{IsDistinct-from_apart}
-use Rattle.std.proofs.lemmas.Map.Views.{Contains-from_any}
-use Rattle.std.proofs.lemmas.Map.Steps.{length-le_from_distinct_below}
-use Rattle.std.proofs.lemmas.Option.{same_Some, some_pair_parts, none-some, slice_get_within, slice_get-get_or, get_or_from_slice_get}
-use Rattle.std.specs.Ordering.{eq_by_cmp}
+use Rattle.ent_storage.proofs.Common.{rules, ◌≡◌, ◌≢◌, ℕ, zero, suc, ◌+◌, ◌<◌, ◌≤◌, ◌^◌, true, false, cond, ◌⊎◌, inl, inr, List, [], ◌∷◌, ◌++◌, length, map, set, get_or, Option, Some, None, slice_get, refl, sym, ap, subst, ◌∙◌, arith, eqb, eqb-true, Contains, is_some, cases_lt, cases_eq, false_from_ne_true, false≢true, nat_tests, get_or-map, length-map, length-set, IsDistinct-from_apart, Contains-from_any, length-le_from_distinct_below, same_Some, some_pair_parts, none-some, slice_get_within, slice_get-get_or, get_or_from_slice_get, eq_by_cmp, Handle, handle_cmp, handle_eq, total, same, HandleValues, HasLater, without_slot, error_of, AllZip, Later, Memory, Uninserted, values_of, IsPositioned, AreEntries, IsEntryClone, IsClonedOption, AreCloned, Result, Ok, Err, OnErr, IfOk, IfErr}
 use Rattle.std.specs.FinMap as finite
-use Rattle.ent_handle.specs.Handle.{Handle, handle_cmp, handle_eq, handle_cmp_total as total, handle_cmp-IsAntisymmetric as same}
-use Rattle.ent_storage.specs.HandleMap.{HandleValues, HasLater, without_slot, error_of}
-use Rattle.std.specs.List.{AllZip}
-use Rattle.std.specs.Prelude.{Result, Ok, Err, OnErr, IfOk, IfErr}
-use Rattle.ent_storage.specs.declared.handle_map.error.InsertError.TheVariants.{Later, Memory}
-use Rattle.ent_storage.specs.declared.handle_map.error.Uninserted.{Uninserted}
-use Rattle.ent_storage.specs.SparseMap.{values_of, IsPositioned, IsFree, AreEntries, IsEntryClone, IsClonedOption, AreCloned}
+use Rattle.ent_storage.specs.SparseMap.{IsFree}
 use Rattle.ent_storage.proofs.ElementsAt.{at_set_same, at_set_other, at_push_before, at_push_end, same_option, find_at, find_gives, at_pushed, IsFilled, left_was, was_left}
 use Rattle.ent_storage.proofs.Entries.{IsAlone, is_put, is_written, is_taken}
 use Rattle.ent_storage.proofs.Keys.{same_or_apart, tied, apart}

@@ -1,13 +1,7 @@
 -- An entity is taken out of the living, and the last one moves into its place: the index and what
 -- the two stand for.
-use Rattle.std.proofs.Common.{◌≡◌, ◌≢◌, ℕ, ◌+◌, ◌-◌, ◌<◌, ◌≤◌, true, ◌⊎◌, inl, inr, List, length, get_or, Option, Some, None, is_some, refl, sym, ap, ◌∙◌, arith, rules}
-use Rattle.std.proofs.lemmas.List.{get_or_default}
-use Rattle.std.proofs.lemmas.Bool.{cases_lt}
+use Rattle.ent_storage.proofs.Common.{◌≡◌, ◌≢◌, ℕ, ◌+◌, ◌-◌, ◌<◌, ◌≤◌, true, ◌⊎◌, inl, inr, List, length, get_or, Option, Some, None, is_some, refl, sym, ap, ◌∙◌, arith, rules, get_or_default, cases_lt, FinMap, Handle, handle_cmp, total, same, LivingEntity, IsMovedInto, map_of, IsIndexed}
 use Rattle.std.specs.FinMap as finite
-use Rattle.std.specs.FinMap.{FinMap}
-use Rattle.ent_handle.specs.Handle.{Handle, handle_cmp, handle_cmp_total as total, handle_cmp-IsAntisymmetric as same}
-use Rattle.ent_storage.specs.Living.{LivingEntity, IsMovedInto}
-use Rattle.ent_storage.specs.Indexed.{map_of, IsIndexed}
 use Rattle.ent_storage.proofs.Keys.{same_or_apart, insert_tells, remove_tells}
 use Rattle.ent_storage.proofs.Indexed.{some_not_none, same_number, some_entity, same_place, get_placed, get_unplaced}
 

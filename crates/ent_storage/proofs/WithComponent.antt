@@ -1,20 +1,7 @@
 -- The entities that have a component, by the pairs of its dense vector.
-use Rattle.std.proofs.Common.{rules, ◌≡◌, ◌≢◌, ℕ, ℤ, ◌<◌, Bool, true, List, length, get_or, map, Option, IsSome, [], ◌∷◌, Some, None, slice_get, is_some, pos, Contains, option_and_then, inl, inr, refl, sym, ap, subst, ◌∙◌, arith}
-use Rattle.std.specs.Option.{option_map}
-use Rattle.std.specs.List.{All, AllPairs, IsDistinct}
-use Rattle.std.proofs.lemmas.Bool.{cases_lt, false≢true}
-use Rattle.std.proofs.lemmas.List.{length-map, get_or_default}
-use Rattle.std.proofs.lemmas.Option.{none-some, same_Some, slice_get-map, slice_get-get_or, slice_get_past, get_or_from_slice_get}
-use Rattle.std.proofs.lemmas.Map.Keys.{IsDistinct-from_apart}
+use Rattle.ent_storage.proofs.Common.{rules, ◌≡◌, ◌≢◌, ℕ, ℤ, ◌<◌, Bool, true, List, length, get_or, map, Option, IsSome, [], ◌∷◌, Some, None, slice_get, is_some, pos, Contains, inl, inr, refl, sym, ap, subst, ◌∙◌, arith, option_map, All, AllPairs, IsDistinct, cases_lt, false≢true, length-map, get_or_default, none-some, same_Some, slice_get-map, slice_get-get_or, slice_get_past, get_or_from_slice_get, IsDistinct-from_apart, FinMap, Birth, ComponentId, Handle, handle_cmp, handle_cmp_total, handle_cmp-IsAntisymmetric, Entity, EntityMap, value_of, ListsWith, IsInOrder, LivingEntity, IsValueAt, born_at, entity_of, map_of, handles_by_place, IsIndexed}
+use Rattle.std.proofs.Common.{option_and_then}
 use Rattle.std.specs.FinMap as finite
-use Rattle.std.specs.FinMap.{FinMap}
-use Rattle.ent_handle.specs.declared.birth.Birth.{Birth}
-use Rattle.ent_handle.specs.declared.component.ComponentId.{ComponentId}
-use Rattle.ent_handle.specs.Handle.{Handle, handle_cmp, handle_cmp_total, handle_cmp-IsAntisymmetric}
-use Rattle.ent_storage.specs.EntityMap.{Entity, EntityMap, value_of}
-use Rattle.ent_storage.specs.BirthOrder.{ListsWith, IsInOrder}
-use Rattle.ent_storage.specs.Living.{LivingEntity, IsValueAt, born_at}
-use Rattle.ent_storage.specs.Indexed.{entity_of, map_of, handles_by_place, IsIndexed}
 use Rattle.ent_storage.proofs.Keys.{apart}
 use Rattle.ent_storage.proofs.Indexed.{some_entity, distinct, get_placed}
 use Rattle.ent_storage.proofs.Placed.{from_place}

@@ -1,15 +1,9 @@
 -- A map after a write to the value of a handle.
-use Rattle.std.proofs.Common.{rules, ◌≡◌, Bool, true, false, cond, Some, IsSome, refl, sym, ap, ◌∙◌}
-use mathlib.Core.Bool.{Bool-set}
-use Rattle.std.specs.Ordering.{eq_by_cmp}
+use Rattle.ent_storage.proofs.Common.{rules, ◌≡◌, Bool, true, false, cond, Some, IsSome, refl, sym, ap, ◌∙◌, Bool-set, eq_by_cmp, Handle, handle_cmp, handle_cmp_total, handle_cmp-IsAntisymmetric, HandleMap, HandleValues, with_written, same_handle, some_written, IsFilled, SparseMap, with_written_in, OccupiedEntry}
 use Rattle.std.specs.FinMap as map
-use Rattle.ent_handle.specs.Handle.{Handle, handle_cmp, handle_cmp_total, handle_cmp-IsAntisymmetric}
-use Rattle.ent_storage.specs.HandleMap.{HandleMap, HandleValues, with_written, same_handle, some_written}
-use Rattle.ent_storage.specs.Entry.{with_value, IsFilled}
+use Rattle.ent_storage.specs.Entry.{with_value}
 use Rattle.ent_storage.specs.SparseEntry as in_sparse
 use Rattle.ent_storage.specs.SparseMap as some_written_in
-use Rattle.ent_storage.specs.SparseMap.{SparseMap, with_written_in}
-use Rattle.ent_storage.specs.declared.handle_map.entry.OccupiedEntry.{OccupiedEntry}
 use Rattle.ent_storage.specs.declared.sparse_map.entry.OccupiedEntry as sparse
 
 last : {X : Type 0} (b : Bool) (x y z : X) → cond b x (cond b y z) ≡ cond b x z

@@ -1,15 +1,7 @@
 -- An image and the four bytes after it.
-use Rattle.std.proofs.Common.{◌≡◌, ◌≢◌, refl, sym, ap, subst, ◌∙◌, ℕ, ◌+◌, ◌-◌, ◌^◌, ◌<◌, ◌≤◌, List, [], ◌++◌, length, take, arith, Result, Ok, Err, IfOk, IfErr, IsErrAnd, ◌⊎◌, inr}
-use Rattle.std.proofs.lemmas.List.{length-append, append-nil, length-take-le, take_at}
-use Rattle.ent_storage.specs.Image.{word}
-use Rattle.ent_storage.proofs.ImageBytes.{length-word, same_words, same_parts}
-use Rattle.ent_world.specs.World.{World as WorldValue}
-use Rattle.ent_world.specs.Image.{magic, image as world_image, least, HasImage}
-use Rattle.ent_world.specs.declared.image_fault.WorldImageFault.{WorldImageFault}
-use Rattle.ent_world.specs.declared.image_fault.WorldImageFault.TheVariants.{Memory}
-use Rattle.ent_world.proofs.ImageRead.{refused_is, read_is, bounded as world_bounded}
+use Rattle.ent_total.proofs.Common.{◌≡◌, ◌≢◌, refl, sym, ap, subst, ◌∙◌, ℕ, ◌+◌, ◌-◌, ◌^◌, ◌<◌, ◌≤◌, List, [], ◌++◌, length, take, arith, Result, Ok, Err, IfErr, IsErrAnd, ◌⊎◌, inr, length-append, append-nil, length-take-le, take_at, word, length-word, same_words, same_parts, WorldValue, magic, world_image, least, HasImage, WorldImageFault, Memory, refused_is, read_is, world_bounded, image, before_count}
+use Rattle.std.proofs.Common.{IfOk}
 use Rattle.ent_total.specs.declared.world.World.{World}
-use Rattle.ent_total.specs.Image.{image, before_count}
 
 -- bytes that end with a number alike are alike
 pub same_ends : (xs ys : List ℕ) (m n : ℕ) → m < 2 ^ 32 → n < 2 ^ 32 → xs ++ word m ≡ ys ++ word n → (xs ≡ ys) × (m ≡ n)

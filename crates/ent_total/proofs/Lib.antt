@@ -5,3 +5,4 @@ pub mod Walking
 mod Held
 mod Refusals
 pub mod ImageEnd
+pub mod Common

@@ -1,21 +1,7 @@
 -- What a reserver was given is recorded.
-use Rattle.std.proofs.Common.{rules, arith, ◌≡◌, ℕ, List, [], ◌∷◌, ◌++◌, append-nil, refl, ap, Vec, Global, Result, Ok, Err}
-use Rattle.std.specs.Prelude.{IfOk, OnErr, IsErrOf}
-use Rattle.std.proofs.lemmas.Grind.{common_steps}
-use Rattle.ent_handle.specs.Handle.{Handle}
-use Rattle.ent_alloc.specs.History.{handles_in}
-use Rattle.ent_alloc.specs.Sequential.{listed_alone}
-use Rattle.ent_alloc.specs.declared.refused.Refused.{Refused}
-use Rattle.ent_alloc.specs.declared.refused.Refused.TheVariants.{Space, Quota}
-use Rattle.ent_shared.specs.Order.{handles_given}
-use Rattle.ent_shared.specs.Phase.{Shared, Reserver}
-use Rattle.ent_shared.specs.Record.{reservation_at}
-use Rattle.ent_shared.specs.Replies.{Reserves}
-use Rattle.ent_shared.proofs.Laws.{handles_of-append}
-use Rattle.ent_shared.proofs.Records.{own-made}
-use Rattle.ent_alloc.specs.declared.reserve_error.ReserveError.{ReserveError}
+use Rattle.ent_total.proofs.Common.{rules, arith, ◌≡◌, ℕ, List, [], ◌∷◌, ◌++◌, refl, ap, Vec, Global, Result, Ok, Err, IfOk, OnErr, IsErrOf, common_steps, Handle, handles_in, listed_alone, Refused, Space, Quota, handles_given, Shared, Reserver, reservation_at, Reserves, handles_of-append, own-made, ReserveError, IsReturned, queued, as_list}
+use Rattle.std.proofs.Common.{append-nil}
 use Rattle.ent_alloc.specs.declared.reserve_error.ReserveError.TheVariants as fault
-use Rattle.ent_queue.specs.Reserving.{IsReturned, queued, as_list}
 
 module _ (s : Shared) (b a : Reserver) (n : ℕ) where
   -- what the reply lists

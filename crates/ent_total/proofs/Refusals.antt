@@ -1,5 +1,5 @@
 -- When a call is refused, and why.
-use Rattle.std.proofs.Common.{◌≡◌, ◌≢◌, ◌⊎◌, ◌↔◌, ◌∙◌, sym, inl, inr}
+use Rattle.ent_total.proofs.Common.{◌≡◌, ◌≢◌, ◌⊎◌, ◌↔◌, ◌∙◌, sym, inl, inr}
 
 module _ {X : Type 0} (first second : X) (differ : second ≢ first) {A B : Type 0} where
   -- the first reason holds just where A does not

@@ -1,15 +1,6 @@
 -- What a spawn returns is the reply of a reservation, as each of its cases.
-use Rattle.std.proofs.Common.{◌≡◌, refl, [], ◌∷◌, Result, Ok, Err}
-use Rattle.std.specs.Prelude.{IfOk, IfErr}
-use Rattle.ent_handle.specs.Handle.{Handle}
-use Rattle.ent_alloc.specs.Sequential.{listed_alone}
-use Rattle.ent_alloc.specs.declared.refused.Refused.{Refused}
-use Rattle.ent_alloc.specs.declared.refused.Refused.TheVariants.{Space, Quota}
-use Rattle.ent_shared.specs.Phase.{Shared, Reserver}
-use Rattle.ent_alloc.specs.declared.reserve_error.ReserveError.{ReserveError}
+use Rattle.ent_total.proofs.Common.{◌≡◌, refl, [], ◌∷◌, Result, Ok, Err, IfOk, Handle, listed_alone, Refused, Space, Quota, Shared, Reserver, ReserveError, IsReturned, queued, IsRefused, IfErr}
 use Rattle.ent_alloc.specs.declared.reserve_error.ReserveError.TheVariants as fault
-use Rattle.ent_queue.specs.Reserving.{IsReturned, queued}
-use Rattle.ent_total.specs.Issuing.{IsRefused}
 
 module _ (s : Shared) (b a : Reserver) where
   abbrev RepliesOne : Result Handle ReserveError → Type 0

@@ -1,10 +1,5 @@
 -- An allocator that was shared, and from which nobody reserved, is as it was.
-use Rattle.std.proofs.Common.{rules, ◌≡◌, List, [], ◌∷◌, refl, All}
-use Rattle.std.proofs.lemmas.List.Elements.{All-head, All-tail}
-use Rattle.ent_alloc.specs.Sequential.{Allocator}
-use Rattle.ent_alloc.specs.History.{after_history}
-use Rattle.ent_shared.specs.Phase.{Reserver, records_of}
-use Rattle.ent_shared.specs.Order.{own_of_all, history_of}
+use Rattle.ent_total.proofs.Common.{rules, ◌≡◌, List, [], ◌∷◌, refl, All, All-head, All-tail, Allocator, after_history, Reserver, records_of, own_of_all, history_of}
 
 abbrev IsUnused : Reserver → Type 0
 IsUnused r = r.own.entries ≡ []

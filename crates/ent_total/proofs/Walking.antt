@@ -1,7 +1,5 @@
 -- A list is walked, and what each item has is put behind a list.
-use Rattle.std.proofs.Common.{rules, ◌≡◌, ◌∙◌, ◌+◌, ℕ, List, [], ◌∷◌, ◌++◌, ap, sym, subst, map, append_assoc, All, length, arith}
-use Rattle.std.proofs.lemmas.List.Elements.{All-head, All-tail}
-use Rattle.std.proofs.lemmas.List.{map-append}
+use Rattle.ent_total.proofs.Common.{rules, ◌≡◌, ◌∙◌, ◌+◌, ℕ, List, [], ◌∷◌, ◌++◌, ap, sym, subst, map, append_assoc, All, length, arith, All-head, All-tail, map-append}
 
 -- two numbers that are equal stand for one thing
 pub stand_for_one : {A : Type 0} (stands_for : ℕ → A) (n m : ℕ) (s t : A) → stands_for n ≡ s → stands_for m ≡ t → m ≡ n

@@ -1,19 +1,6 @@
 -- What queues list gets its births: the first queue that lists a handle counts.
-use Rattle.std.proofs.lemmas.Grind.{common_steps}
-use Rattle.std.proofs.Common.{[], rules, ◌≡◌, refl, sym, ap, ◌∙◌, ℕ, ◌+◌, ◌<◌, ◌≤◌, ◌^◌, Bool, true, false, cond, ◌≢◌, eqb, eq-eqb, List, ◌∷◌, ◌++◌, length, Option, Some, None, arith}
-use Rattle.std.proofs.lemmas.Option.{none-some, same_Some}
-use Rattle.std.specs.Ordering.{eq_by_cmp}
-use Rattle.std.specs.Option.{option_map}
-use Rattle.std.specs.List.{position_from}
+use Rattle.ent_world.proofs.Common.{common_steps, [], rules, ◌≡◌, refl, sym, ap, ◌∙◌, ℕ, ◌+◌, ◌<◌, ◌≤◌, ◌^◌, Bool, true, false, cond, ◌≢◌, eqb, eq-eqb, List, ◌∷◌, ◌++◌, length, Option, Some, None, arith, none-some, same_Some, eq_by_cmp, position_from, Birth, Handle, handle_cmp, handle_cmp_total, stands_in, same_handle, itself, Entity, EntityMap, birth_of, with_birth, Command, ordinal, no_system, handles_listed, ordinal_among, at_ordinal, listed_birth, first_birth, next_birth, birth_after, is_unnamed, named, named_handles, named_queues, option_map}
 use Rattle.std.specs.FinMap as map
-use Rattle.ent_handle.specs.declared.birth.Birth.{Birth}
-use Rattle.ent_handle.specs.Handle.{Handle, handle_cmp, handle_cmp_total}
-use Rattle.ent_alloc.specs.Sequential.{stands_in}
-use Rattle.ent_alloc.proofs.HandleSets.{same_handle, itself}
-use Rattle.ent_storage.specs.EntityMap.{Entity, EntityMap, birth_of, with_birth}
-use Rattle.ent_queue.specs.Command.{Command}
-use Rattle.ent_world.specs.Sync.{ordinal, no_system, handles_listed, ordinal_among, at_ordinal, listed_birth}
-use Rattle.ent_world.specs.Entering.{first_birth, next_birth, birth_after, is_unnamed, named, named_handles, named_queues}
 
 -- the handles of two lists, one after the other
 pub named-append : (born : List Handle) (birth : Birth) (xs ys : List Handle) (m : EntityMap)

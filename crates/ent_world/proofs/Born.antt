@@ -1,26 +1,7 @@
 -- What enters the map after a flush is each handle that is born, with its birth.
-use Rattle.std.proofs.lemmas.Bool.{or_left, or_right}
-use Rattle.std.proofs.lemmas.Grind.{common_steps}
-use Rattle.std.proofs.Common.{[], rules, ◌≡◌, refl, sym, ap, ◌∙◌, ℕ, ◌+◌, ◌≤◌, ◌^◌, Bool, true, false, cond, not, ◌&&◌, true≢false, List, ◌∷◌, ◌++◌, length, drop, eqb, Option, Some, None, is_some, is_none, unwrap_or, arith}
-use Rattle.std.specs.Ordering.{eq_by_cmp}
-use Rattle.std.specs.Option.{option_map_or}
-use Rattle.std.specs.List.{position_from}
+use Rattle.ent_world.proofs.Common.{or_left, or_right, common_steps, [], rules, ◌≡◌, refl, sym, ap, ◌∙◌, ℕ, ◌+◌, ◌≤◌, ◌^◌, Bool, true, false, cond, not, ◌&&◌, true≢false, List, ◌∷◌, ◌++◌, length, drop, eqb, Option, Some, None, is_some, is_none, unwrap_or, arith, eq_by_cmp, option_map_or, position_from, All-contains, Contains-permutation, any-filter_same, Birth, Handle, handle_cmp, handle_cmp_total, handle_cmp-IsAntisymmetric, Allocator, stands_in, born, after_flush, IsSound, same_handle, itself, Contains-from_stands_in, stands_in-from_Contains, live-after_flush, live-stays, born-IsPermutation, born-lives, born-apart, born-not_live, Entity, EntityMap, newborn, Command, AreLiving, no_system, listed_birth, unlisted, unlisted_birth, birth_in, with_born, first_birth, AreNew, is_unnamed, named_queues, numbered}
 use Rattle.std.specs.FinSet as set
 use Rattle.std.specs.FinMap as map
-use Rattle.std.proofs.lemmas.List.Elements.{All-contains}
-use Rattle.std.proofs.lemmas.List.Sorted.{Contains-permutation}
-use Rattle.std.proofs.lemmas.Map.Views.{any-filter_same}
-use Rattle.ent_handle.specs.declared.birth.Birth.{Birth}
-use Rattle.ent_handle.specs.Handle.{Handle, handle_cmp, handle_cmp_total, handle_cmp-IsAntisymmetric}
-use Rattle.ent_alloc.specs.Sequential.{Allocator, stands_in, born, after_flush}
-use Rattle.ent_alloc.specs.Sound.{IsSound}
-use Rattle.ent_alloc.proofs.HandleSets.{same_handle, itself, Contains-from_stands_in, stands_in-from_Contains}
-use Rattle.ent_alloc.proofs.Flushes.{live-after_flush, live-stays, born-IsPermutation, born-lives, born-apart, born-not_live}
-use Rattle.ent_storage.specs.EntityMap.{Entity, EntityMap, newborn}
-use Rattle.ent_queue.specs.Command.{Command}
-use Rattle.ent_world.specs.World.{AreLiving}
-use Rattle.ent_world.specs.Sync.{no_system, listed_birth, unlisted, unlisted_birth, birth_in, with_born}
-use Rattle.ent_world.specs.Entering.{first_birth, AreNew, is_unnamed, named_queues, numbered}
 use Rattle.ent_world.proofs.BirthsByQueues.{or_named, given, or_named-none, IsOfSystem, birth_by_index, listed_of_system, get-named_queues}
 use Rattle.ent_world.proofs.Numbered.{AreDistinct, distinct, filter_alike, some_index, no_index, or_numbered, or_numbered-none, waiting, get-numbered}
 

@@ -1,12 +1,5 @@
 -- Commands in order: what was applied so far, one more, and where it stopped.
-use Rattle.std.proofs.Common.{[], rules, ◌≡◌, refl, ℕ, ◌+◌, ◌<◌, List, ◌∷◌, ◌++◌, length, take, drop, arith}
-use Rattle.std.proofs.lemmas.Grind.{common_steps}
-use Rattle.std.proofs.lemmas.List.{take_more, drop_more, length-drop}
-use Rattle.ent_handle.specs.Handle.{Handle}
-use Rattle.ent_queue.specs.Command.{Command}
-use Rattle.ent_world.specs.World.{World}
-use Rattle.ent_world.specs.Effects.{Applied, on_entity, on_each, after_command, after_commands, after_queues}
-use Rattle.ent_world.specs.Sync.{first_part}
+use Rattle.ent_world.proofs.Common.{[], rules, ◌≡◌, refl, ℕ, ◌+◌, ◌<◌, List, ◌∷◌, ◌++◌, length, take, drop, arith, common_steps, take_more, drop_more, length-drop, Handle, Command, World, Applied, on_entity, on_each, after_command, after_commands, after_queues, first_part}
 
 -- the next element of a list, of which the first ones are done
 pub next_below : {X : Type 0} (xs rest : List X) (k : ℕ) (x : X) → drop k xs ≡ x ∷ rest → k < length xs

@@ -1,20 +1,7 @@
 -- Over the frames of a run no handle is given twice: each frame keeps the list of all given handles
 -- free of repetitions.
-use Rattle.std.proofs.Common.{[], rules, ◌≡◌, sym, ◌∙◌, subst, append-nil, append_assoc, ℕ, true, List, ◌∷◌, ◌++◌, Result, Ok, Err}
-use Rattle.std.proofs.lemmas.List.Elements.{All-nil}
-use Rattle.ent_handle.specs.Handle.{Handle}
-use Rattle.ent_alloc.specs.Limits.{Limits, AreLimits}
-use Rattle.ent_alloc.specs.declared.space.Space.{Space}
-use Rattle.ent_alloc.specs.Sequential.{Allocator, opening, after_take, reply_to}
-use Rattle.ent_alloc.specs.Sound.{IsSound, IsLive}
-use Rattle.ent_alloc.specs.Spent.{AreSpent}
-use Rattle.ent_alloc.specs.History.{Call, IsLegal, after_history, handles_in, given_in}
-use Rattle.ent_alloc.proofs.Soundness.{opening-sound, after_take-sound, after_flush-sound, after_free-sound}
-use Rattle.ent_alloc.proofs.GivenOnce.{take-given, refused-given, flush-given, free-given}
-use Rattle.ent_queue.specs.Command.{Command}
-use Rattle.ent_world.specs.World.{World, AreLiving, lives_in, first_world}
-use Rattle.ent_world.specs.Effects.{applied}
-use Rattle.ent_world.specs.Sync.{after_births, sync}
+use Rattle.ent_world.proofs.Common.{[], rules, ◌≡◌, sym, ◌∙◌, subst, append-nil, ℕ, true, List, ◌∷◌, ◌++◌, Result, Ok, Err, All-nil, Handle, Limits, AreLimits, Space, Allocator, opening, after_take, reply_to, IsSound, IsLive, AreSpent, Call, IsLegal, after_history, handles_in, given_in, opening-sound, after_take-sound, after_flush-sound, after_free-sound, take-given, refused-given, flush-given, free-given, Command, World, AreLiving, lives_in, first_world, applied, after_births, sync}
+use Rattle.std.proofs.Common.{append_assoc}
 use Rattle.ent_world.proofs.Living.{keys-empty, keys-remove, keys-components, living-history}
 use Rattle.ent_world.proofs.Born.{living-after}
 use Rattle.ent_world.proofs.Kept.{IsKept, after_queues-keeps}

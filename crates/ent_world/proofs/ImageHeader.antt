@@ -1,9 +1,5 @@
 -- What stands before the allocator's part of an image, byte by byte.
-use Rattle.std.proofs.Common.{rules, ◌≡◌, ◌≢◌, refl, sym, ap, ◌∙◌, ℕ, ◌^◌, ◌<◌, List, ◌++◌, length, arith}
-use Rattle.std.proofs.lemmas.List.{length-append, append_assoc}
-use Rattle.ent_storage.specs.Image.{word, long}
-use Rattle.ent_storage.proofs.ImageBytes.{length-word, length-long, same_words, same_longs, same_parts}
-use Rattle.ent_world.specs.Image.{magic, version, header_bytes, framed}
+use Rattle.ent_world.proofs.Common.{rules, ◌≡◌, ◌≢◌, refl, sym, ap, ◌∙◌, ℕ, ◌^◌, ◌<◌, List, ◌++◌, length, arith, length-append, append_assoc, word, long, length-word, length-long, same_words, same_longs, same_parts, magic, version, header_bytes, framed}
 
 -- the letters as a number
 abbrev pub letters : ℕ

@@ -1,15 +1,7 @@
 -- A list of handles that rises by slot, and has just those of a map, has the keys of the map.
-use Rattle.std.proofs.Common.{[], rules, ◌≡◌, ◌≢◌, refl, sym, ap, subst, ◌∙◌, ℕ, suc, ◌<◌, Bool, T, ◌&&◌, List, ◌∷◌, map, length, get_or, arith, Contains, Option, is_some, IsTrue, AllPairs, true≢false}
-use Rattle.std.specs.List.{list_any}
-use Rattle.std.specs.Ordering.{eq_by_cmp, is_lt}
+use Rattle.ent_world.proofs.Common.{[], rules, ◌≡◌, ◌≢◌, refl, sym, ap, subst, ◌∙◌, ℕ, suc, ◌<◌, Bool, T, ◌&&◌, List, ◌∷◌, map, length, get_or, arith, Contains, Option, is_some, IsTrue, AllPairs, true≢false, list_any, eq_by_cmp, is_lt, find, is_sorted, below_all, same_entries, is_some-find, Contains-from_any, Handle, handle_cmp, total, same, same_handle, Entity, EntityMap}
 use Rattle.std.specs.FinMap as maps
-use Rattle.std.specs.FinMap.{find, is_sorted}
-use Rattle.std.specs.FinMap.Entries.{below_all, same_entries, is_some-find}
 use Rattle.std.specs.FinSet as sets
-use Rattle.std.proofs.lemmas.Map.Views.{Contains-from_any}
-use Rattle.ent_handle.specs.Handle.{Handle, handle_cmp, handle_cmp_total as total, handle_cmp-IsAntisymmetric as same}
-use Rattle.ent_alloc.proofs.HandleSets.{same_handle}
-use Rattle.ent_storage.specs.EntityMap.{Entity, EntityMap}
 
 -- handles as the keys of a map of nothing
 abbrev marks : List Handle → List (Handle × Unit {0})

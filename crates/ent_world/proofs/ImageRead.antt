@@ -1,31 +1,9 @@
 -- What the bytes of an image tell, and the world that is read of them.
-use Rattle.std.proofs.lemmas.List.Elements.{All-contains}
-use Rattle.std.proofs.Common.{[], rules, ◌≡◌, ◌≢◌, refl, sym, ap, ◌∙◌, ℕ, suc, ◌+◌, ◌*◌, ◌^◌, ◌<◌, ◌≤◌, Bool, true, false, List, ◌∷◌, ◌++◌, length, get_or, arith, None, is_some, AllPairs, All, Result, Ok, Err, IfErr, IfOk, IsErrAnd, ◌⊎◌}
+use Rattle.ent_world.proofs.Common.{All-contains, [], rules, ◌≡◌, ◌≢◌, refl, sym, ap, ◌∙◌, ℕ, suc, ◌+◌, ◌*◌, ◌^◌, ◌<◌, ◌≤◌, Bool, true, false, List, ◌∷◌, ◌++◌, length, get_or, arith, None, is_some, AllPairs, All, Result, Ok, Err, IfErr, IfOk, IsErrAnd, ◌⊎◌, same_handle, Contains-from_stands_in, stands_in-from_Contains, common_steps, length-append, get_or_default, none-some, Handle, handle_cmp, total, same, Birth, stands_in, top, allocator_image, HasAllocatorImage, length-header_bytes, length-slots_bytes, few_wait, roster_slots, EntityMap, entities_bytes, AreStored, never_stored, entities_least, World, AreRows, with_rows, AreNew, allocator_of, living, header_bytes, framed, image, least, HasImage, AreFramed, WorldImageFault, Memory}
 use Rattle.ent_world.proofs.PlacedRows.{rows_stand, rows-empty, rows-born}
-use Rattle.ent_alloc.proofs.HandleSets.{same_handle, Contains-from_stands_in, stands_in-from_Contains}
 use Rattle.std.specs.FinMap as map
 use Rattle.std.specs.FinSet as set
-use Rattle.std.proofs.lemmas.Grind.{common_steps}
-use Rattle.std.proofs.lemmas.List.{length-append, get_or_default}
-use Rattle.std.proofs.lemmas.Option.{none-some}
-use Rattle.ent_handle.specs.Handle.{Handle, handle_cmp, handle_cmp_total as total, handle_cmp-IsAntisymmetric as same}
-use Rattle.ent_handle.specs.declared.birth.Birth.{Birth}
-use Rattle.ent_alloc.specs.Sequential.{stands_in, top}
 use Rattle.ent_alloc.specs.Entities.{Entities as Allocator}
-use Rattle.ent_alloc.specs.Image.{image as allocator_image, HasImage as HasAllocatorImage}
-use Rattle.ent_alloc.proofs.ImageHeader.{length-header_bytes}
-use Rattle.ent_alloc.proofs.ImageOf.{length-slots_bytes, few_wait}
-use Rattle.ent_alloc.proofs.ImageSound.{roster_slots}
-use Rattle.ent_storage.specs.EntityMap.{EntityMap}
-use Rattle.ent_storage.specs.Image.{entities_bytes, AreStored}
-use Rattle.ent_storage.proofs.ImageEntities.{never_stored, entities_least}
-use Rattle.ent_world.specs.World.{World}
-use Rattle.ent_world.specs.Rows.{AreRows, with_rows}
-use Rattle.ent_world.specs.Entering.{AreNew}
-use Rattle.ent_world.specs.Image.{allocator_of, living, header_bytes, framed, image, least, HasImage}
-use Rattle.ent_world.specs.FirstFault.{AreFramed}
-use Rattle.ent_world.specs.declared.image_fault.WorldImageFault.{WorldImageFault}
-use Rattle.ent_world.specs.declared.image_fault.WorldImageFault.TheVariants.{Memory}
 use Rattle.ent_world.proofs.ImageHeader.{same_framed, length-header}
 use Rattle.ent_world.proofs.ImageKeys.{living_keys}
 

@@ -1,19 +1,7 @@
 -- What is written of a world's entities: the order in which they lie doesn't matter.
-use Rattle.std.proofs.Common.{rules, ◌≡◌, refl, sym, ap, subst, ◌∙◌, ℕ, ℤ, zero, suc, ◌<◌, ◌≤◌, Bool, true, List, arith, Contains, Option, Some, is_some, IfSome, IsSomeAnd, AllPairs, All}
-use Rattle.std.specs.Prelude.{if◌then◌else◌}
-use Rattle.std.specs.List.{list_any}
-use Rattle.std.specs.Int.{w64}
-use Rattle.std.specs.Int.RustNames.{FitsSigned}
+use Rattle.ent_world.proofs.Common.{rules, ◌≡◌, refl, sym, ap, subst, ◌∙◌, ℕ, ℤ, zero, suc, ◌<◌, ◌≤◌, Bool, true, List, arith, Contains, Option, Some, is_some, IfSome, IsSomeAnd, AllPairs, All, if◌then◌else◌, list_any, w64, FitsSigned, Any-from_list_any, list_any-from_Any, Handle, handle_cmp, total, ComponentId, stands_in, Contains-from_stands_in, stands_in-from_Contains, EntityMap, birth_of, value_of, width, width_below, IsBirth, AreStored, component, Rows, AreRows}
 use Rattle.std.specs.FinMap as map
 use Rattle.std.specs.FinSet as set
-use Rattle.std.proofs.lemmas.List.Folds.{Any-from_list_any, list_any-from_Any}
-use Rattle.ent_handle.specs.Handle.{Handle, handle_cmp, handle_cmp_total as total}
-use Rattle.ent_handle.specs.declared.component.ComponentId.{ComponentId}
-use Rattle.ent_alloc.specs.Sequential.{stands_in}
-use Rattle.ent_alloc.proofs.HandleSets.{Contains-from_stands_in, stands_in-from_Contains}
-use Rattle.ent_storage.specs.EntityMap.{EntityMap, birth_of, value_of}
-use Rattle.ent_storage.specs.Image.{width, width_below, IsBirth, AreStored, component}
-use Rattle.ent_world.specs.Rows.{Rows, AreRows}
 use Rattle.ent_world.proofs.ImageKeys.{living_keys, in_map}
 use Rattle.ent_world.proofs.ImageRead.{same_answer, all_live}
 use Rattle.ent_world.proofs.PlacedRows.{rows_stand}

@@ -1,15 +1,5 @@
 -- The room that a world in blocks has for the slots that wait.
-use Rattle.std.proofs.Common.{rules, [], ◌≡◌, ◌⊎◌, inl, inr, ℕ, ◌+◌, ◌-◌, ◌^◌, ◌<◌, ◌≤◌, List, ◌∷◌, length, min, arith}
-use Rattle.std.specs.List.{sum_by}
-use Rattle.std.proofs.lemmas.Grind.{common_steps}
-use Rattle.std.proofs.lemmas.List.Sums.{sum_by-cons}
-use Rattle.ent_alloc.specs.Sequential.{Allocator, top}
-use Rattle.ent_blocks.specs.Blocks.{Blocks, dealt, blocks_from, lesser}
-use Rattle.ent_blocks.proofs.Dealing.{dealt_from}
-use Rattle.ent_storage.specs.EntityMap.{Store}
-use Rattle.ent_world.specs.InBlocks.{IsKeptInBlocks}
-use Rattle.ent_world.specs.Rows.{AreRows, Rows}
-use Rattle.ent_world.specs.World.{IsWorld}
+use Rattle.ent_world.proofs.Common.{rules, [], ◌≡◌, ◌⊎◌, inl, inr, ℕ, ◌+◌, ◌-◌, ◌^◌, ◌<◌, ◌≤◌, List, ◌∷◌, length, min, arith, sum_by, common_steps, sum_by-cons, Allocator, top, Blocks, dealt, blocks_from, lesser, dealt_from, Store, IsKeptInBlocks, AreRows, Rows, IsWorld}
 
 dealt_wanted : (before left : ℕ) (sizes : List ℕ) → dealt (blocks_from before left sizes) ≤ sum_by (λ n. n) sizes
 dealt_wanted before left [] = omega arith

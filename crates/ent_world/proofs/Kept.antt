@@ -1,11 +1,5 @@
 -- What each change of a living entity keeps, commands keep, and so do queues of them.
-use Rattle.std.proofs.Common.{[], rules, ◌≡◌, ℕ, ◌+◌, true, List, ◌∷◌}
-use Rattle.ent_handle.specs.Handle.{Handle}
-use Rattle.ent_storage.specs.Components.{Components, with_items}
-use Rattle.ent_storage.specs.EntityMap.{with_components}
-use Rattle.ent_queue.specs.Command.{Command, SpawnMany}
-use Rattle.ent_world.specs.World.{World, lives_in}
-use Rattle.ent_world.specs.Effects.{Applied, on_entity, on_each, after_insert, after_despawn, after_command, after_commands, after_queues}
+use Rattle.ent_world.proofs.Common.{[], rules, ◌≡◌, ℕ, ◌+◌, true, List, ◌∷◌, Handle, Components, with_items, with_components, Command, SpawnMany, World, lives_in, Applied, on_entity, on_each, after_insert, after_despawn, after_command, after_commands, after_queues}
 
 -- A fact about worlds that holds after each change of a living entity, if it held before.
 pub record IsKept (P : World → Type 0) : Type 0 where

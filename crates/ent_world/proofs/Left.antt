@@ -1,17 +1,6 @@
 -- What is left of a list after a stop, one element after the other: none before the stop, the rest
 -- of the element at the stop, and each later one whole.
-use Rattle.std.proofs.Common.{[], rules, ◌≡◌, ap, ℕ, ◌+◌, ◌<◌, ◌≤◌, List, ◌∷◌, ◌++◌, length, take, drop, arith}
-use Rattle.std.proofs.lemmas.Grind.{common_steps}
-use Rattle.std.specs.Prelude.{◌⊎◌}
-use Rattle.std.proofs.Math.ListN.{drop_of_length-le}
-use Rattle.std.proofs.lemmas.List.{length-drop, length-take, length-append}
-use Rattle.ent_handle.specs.Handle.{Handle}
-use Rattle.ent_alloc.proofs.ListLaws.{drop-append}
-use Rattle.ent_queue.specs.Command.{Command}
-use Rattle.ent_world.specs.World.{World}
-use Rattle.ent_world.specs.Effects.{Applied, on_entity, on_each, after_commands}
-use Rattle.ent_world.specs.Sync.{first_part, stops, cut_commands, cut_queue, cut}
-use Rattle.ent_world.specs.Rest.{last_part, left_commands, after_left_queues, after_left}
+use Rattle.ent_world.proofs.Common.{[], rules, ◌≡◌, ap, ℕ, ◌+◌, ◌<◌, ◌≤◌, List, ◌∷◌, ◌++◌, length, take, drop, arith, common_steps, drop_of_length-le, length-drop, length-take, length-append, Handle, drop-append, Command, World, Applied, on_entity, on_each, after_commands, first_part, stops, cut_commands, cut_queue, cut, last_part, left_commands, after_left_queues, after_left, ◌⊎◌}
 use Rattle.ent_world.proofs.Folds.{next_below, next_taken, on_each-append, after_commands-append, after_queues-append, first_alone}
 
 -- ---- lists

@@ -1,17 +1,7 @@
 -- The entities of a world's map are those whose handle is alive, also after each change of the two.
-use Rattle.std.proofs.lemmas.Grind.{common_steps}
-use Rattle.std.proofs.Common.{arith, rules, ◌≡◌, sym, ap, ◌∙◌, Bool, cond, not, ◌&&◌, Option, None, is_some, List}
+use Rattle.ent_world.proofs.Common.{common_steps, arith, rules, ◌≡◌, sym, ap, ◌∙◌, Bool, cond, not, ◌&&◌, Option, None, is_some, List, Handle, handle_cmp, handle_cmp_total, Allocator, Call, after_history, after_history-takes, live-after_takes, same_handle, Components, Entity, EntityMap, with_components, AreLiving}
 use Rattle.std.specs.FinSet as set
 use Rattle.std.specs.FinMap as map
-use Rattle.ent_handle.specs.Handle.{Handle, handle_cmp, handle_cmp_total}
-use Rattle.ent_alloc.specs.Sequential.{Allocator}
-use Rattle.ent_alloc.specs.History.{Call, after_history}
-use Rattle.ent_alloc.proofs.Histories.{after_history-takes}
-use Rattle.ent_alloc.proofs.PoolLaw.{live-after_takes}
-use Rattle.ent_alloc.proofs.HandleSets.{same_handle}
-use Rattle.ent_storage.specs.Components.{Components}
-use Rattle.ent_storage.specs.EntityMap.{Entity, EntityMap, with_components}
-use Rattle.ent_world.specs.World.{AreLiving}
 
 -- who lives in a set of handles and who has an entity in a map
 abbrev pub AreKeys : set.FinSet handle_cmp → EntityMap → Type 0

@@ -1,24 +1,8 @@
 -- The handle that is given next, and an entity that is made or taken back.
-use Rattle.std.proofs.Common.{[], rules, ◌≡◌, refl, sym, ℕ, ◌<◌, true, false, true≢false, List, ◌∷◌, ◌++◌, length, slice_get, arith, suc, ℤ, ◌⊎◌, length-append, Some, None, IfSome, Result, Ok, Err, OnOk, OnErr, is_err}
-use Rattle.std.proofs.lemmas.Grind.{common_steps}
+use Rattle.ent_world.proofs.Common.{[], rules, ◌≡◌, refl, sym, ℕ, ◌<◌, true, false, true≢false, List, ◌∷◌, ◌++◌, length, slice_get, arith, suc, ℤ, ◌⊎◌, Some, None, IfSome, Result, Ok, Err, OnOk, OnErr, is_err, common_steps, cases_lt, none-some, same_Some, slice_get_past, Birth, Handle, handle_cmp_total, handle_cmp-IsAntisymmetric, Space, Allocator, listed_alone, reply_to, reply_from, pool_at, cursor, IsSound, same_handle, itself, reply-cursor, reply-not_live, with_items, missing, Entity, EntityMap, newborn, with_components, components_of, AreWithout, at_push_before, Bundle, spawned}
+use Rattle.std.proofs.Common.{length-append}
 use Rattle.std.specs.FinSet as set
 use Rattle.std.specs.FinMap as map
-use Rattle.std.proofs.lemmas.Bool.{cases_lt}
-use Rattle.std.proofs.lemmas.Option.{none-some, same_Some, slice_get_past}
-use Rattle.ent_handle.specs.declared.birth.Birth.{Birth}
-use Rattle.ent_handle.specs.Handle.{Handle, handle_cmp_total, handle_cmp-IsAntisymmetric}
-use Rattle.ent_alloc.specs.declared.space.Space.{Space}
-use Rattle.ent_alloc.specs.Sequential.{Allocator, listed_alone, reply_to, reply_from, pool_at, cursor}
-use Rattle.ent_alloc.specs.Sound.{IsSound}
-use Rattle.ent_alloc.proofs.HandleSets.{same_handle, itself}
-use Rattle.ent_alloc.proofs.PoolLaw.{reply-cursor}
-use Rattle.ent_alloc.proofs.Replies.{reply-not_live}
-use Rattle.ent_storage.specs.Components.{with_items, missing}
-use Rattle.ent_storage.specs.EntityMap.{Entity, EntityMap, newborn, with_components, components_of}
-use Rattle.ent_storage.specs.Places.{AreWithout}
-use Rattle.ent_storage.proofs.ElementsAt.{at_push_before}
-use Rattle.ent_storage.specs.Bundle.{Bundle}
-use Rattle.ent_world.specs.Effects.{spawned}
 
 -- what a test of a result tells
 pub on_ok : {X E : Type 0} {P : Type 0} (r : Result X E) → is_err r ≡ false → OnOk r P → P

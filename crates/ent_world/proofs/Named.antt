@@ -1,37 +1,9 @@
 -- One induction over queues, and so one file of more than 400 lines: queues do to a world what the
 -- same queues by births do to births alone. If the births told what the world was, they tell what
 -- it is afterwards, and the faults are the same.
-use Rattle.std.proofs.Common.{[], arith, rules, ◌≡◌, refl, sym, ap, ◌∙◌, subst, ℕ, ◌+◌, Bool, true, false, cond, not, T, true≢false, List, ◌∷◌, ◌++◌, map, filter, All, Option, Some, None, is_some, option_map}
-use Rattle.std.proofs.lemmas.Grind.{common_steps}
-use Rattle.std.specs.List.{AllZip}
-use Rattle.std.specs.Option.{option_map_or}
-use Rattle.std.specs.Ordering.{eq_by_cmp}
-use Rattle.std.specs.declared.cmp.Ordering.{Ordering}
-use Rattle.std.specs.Cmp.{IsTotalOrder}
+use Rattle.ent_world.proofs.Common.{[], arith, rules, ◌≡◌, refl, sym, ap, ◌∙◌, subst, ℕ, ◌+◌, Bool, true, false, cond, not, T, true≢false, List, ◌∷◌, ◌++◌, map, filter, All, Option, Some, None, is_some, option_map, common_steps, AllZip, option_map_or, eq_by_cmp, Ordering, IsTotalOrder, find, put, is_sorted, IsAntisymmetric, find-put, find-where_key, is_sorted-put, is_sorted-where_key, same_entries, eq_by_cmp_equiv, tells_apart, none-some, same_Some, All-head, All-tail, all_zipped_more, Birth, ComponentId, birth_cmp, birth_cmp_total, birth_cmp-IsAntisymmetric, component_cmp, component_cmp_total, component_cmp-IsAntisymmetric, Handle, handle_cmp, handle_cmp_total, same_handle, itself, Components, with_items, Entity, EntityMap, birth_of, with_components, Bundle, with_put, Command, Spawn, SpawnMany, Insert, Remove, Despawn, Refused, World, lives_in, Applied, on_entity, on_each, with_fault, after_insert, after_remove, after_despawn, after_command, after_commands, after_queues, BirthMap, BirthCommand, BirthFault, AppliedAlone, held_by, inserted, removed, despawned, on_birth, on_each_birth, after_birth_command, after_birth_commands, after_birth_queues, after_births, sync, AreNamed, AreNames, IsThere, IsNamedBy, AreNamedBy, IsSameFault, AreNamedAfter}
 use Rattle.std.specs.FinMap as finite
-use Rattle.std.specs.FinMap.{find, put, is_sorted, IsAntisymmetric}
-use Rattle.std.specs.FinMap.Entries.{find-put, find-where_key, is_sorted-put, is_sorted-where_key, same_entries}
-use Rattle.std.proofs.lemmas.Cmp.{eq_by_cmp_equiv}
-use Rattle.std.proofs.lemmas.Map.Views.{tells_apart}
-use Rattle.std.proofs.lemmas.Option.{none-some, same_Some}
-use Rattle.std.proofs.lemmas.List.Elements.{All-head, All-tail}
-use Rattle.std.proofs.lemmas.Slice.Zip.{all_zipped_more}
-use Rattle.ent_handle.specs.declared.birth.Birth.{Birth}
-use Rattle.ent_handle.specs.declared.component.ComponentId.{ComponentId}
-use Rattle.ent_handle.specs.Birth.{birth_cmp, birth_cmp_total, birth_cmp-IsAntisymmetric}
-use Rattle.ent_handle.specs.Component.{component_cmp, component_cmp_total, component_cmp-IsAntisymmetric}
-use Rattle.ent_handle.specs.Handle.{Handle, handle_cmp, handle_cmp_total}
-use Rattle.ent_alloc.proofs.HandleSets.{same_handle, itself}
-use Rattle.ent_storage.specs.Components.{Components, with_items}
-use Rattle.ent_storage.specs.EntityMap.{Entity, EntityMap, birth_of, with_components}
-use Rattle.ent_storage.specs.Bundle.{Bundle, with_put}
-use Rattle.ent_queue.specs.Command.{Command, Spawn, SpawnMany, Insert, Remove, Despawn, Refused}
 use Rattle.ent_world.specs.declared.fault.FaultKind.TheVariants as kind
-use Rattle.ent_world.specs.World.{World, lives_in}
-use Rattle.ent_world.specs.Effects.{Applied, on_entity, on_each, with_fault, after_insert, after_remove, after_despawn, after_command, after_commands, after_queues}
-use Rattle.ent_world.specs.BirthsAlone.{BirthMap, BirthCommand, BirthFault, AppliedAlone, held_by, inserted, removed, despawned, on_birth, on_each_birth, after_birth_command, after_birth_commands, after_birth_queues}
-use Rattle.ent_world.specs.Sync.{after_births, sync}
-use Rattle.ent_world.specs.Named.{AreNamed, AreNames, IsThere, IsNamedBy, AreNamedBy, IsSameFault, AreNamedAfter}
 
 -- ---- lists of entries in order
 

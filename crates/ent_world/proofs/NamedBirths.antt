@@ -1,28 +1,7 @@
 -- What comes to life enters a world and births alone in the same way, and so a whole frame does to
 -- births alone what it does to the world.
-use Rattle.std.proofs.lemmas.Grind.{common_steps}
-use Rattle.std.proofs.Common.{[], rules, ◌≡◌, refl, sym, ap, ◌∙◌, Bool, true, false, cond, ◌||◌, T, true≢false, List, ◌∷◌, map, length, ℤ, ◌⊎◌, Some, None, option_map, arith}
-use Rattle.std.proofs.lemmas.Bool.{or_right}
-use Rattle.std.specs.List.{list_any}
-use Rattle.std.specs.Ordering.{eq_by_cmp}
+use Rattle.ent_world.proofs.Common.{common_steps, [], rules, ◌≡◌, refl, sym, ap, ◌∙◌, Bool, true, false, cond, ◌||◌, T, true≢false, List, ◌∷◌, map, length, ℤ, ◌⊎◌, Some, None, option_map, arith, or_right, list_any, eq_by_cmp, find, put, is_sorted, find-put, is_sorted-put, eq_by_cmp_equiv, tells_apart, none-some, same_Some, Birth, ComponentId, birth_cmp, birth_cmp_total, component_cmp, Handle, stands_in, same_handle, itself, Entity, EntityMap, birth_of, newborn, Bundle, with_born, BirthMap, entered_alone, AreNamed}
 use Rattle.std.specs.FinMap as finite
-use Rattle.std.specs.FinMap.{find, put, is_sorted}
-use Rattle.std.specs.FinMap.Entries.{find-put, is_sorted-put}
-use Rattle.std.proofs.lemmas.Cmp.{eq_by_cmp_equiv}
-use Rattle.std.proofs.lemmas.Map.Views.{tells_apart}
-use Rattle.std.proofs.lemmas.Option.{none-some, same_Some}
-use Rattle.ent_handle.specs.declared.birth.Birth.{Birth}
-use Rattle.ent_handle.specs.declared.component.ComponentId.{ComponentId}
-use Rattle.ent_handle.specs.Birth.{birth_cmp, birth_cmp_total}
-use Rattle.ent_handle.specs.Component.{component_cmp}
-use Rattle.ent_handle.specs.Handle.{Handle}
-use Rattle.ent_alloc.specs.Sequential.{stands_in}
-use Rattle.ent_alloc.proofs.HandleSets.{same_handle, itself}
-use Rattle.ent_storage.specs.EntityMap.{Entity, EntityMap, birth_of, newborn}
-use Rattle.ent_storage.specs.Bundle.{Bundle}
-use Rattle.ent_world.specs.Sync.{with_born}
-use Rattle.ent_world.specs.BirthsAlone.{BirthMap, entered_alone}
-use Rattle.ent_world.specs.Named.{AreNamed}
 use Rattle.ent_world.proofs.Born.{get-with_born}
 use Rattle.ent_world.proofs.Named.{entity_with}
 

@@ -1,30 +1,9 @@
 -- The steps of one law, and so one file of more than 400 lines: a whole frame does to births alone
 -- what it does to the world, if its queues list just what was reserved. Each handle has one birth,
 -- by where it stands in a queue.
-use Rattle.std.proofs.lemmas.List.Sorted.{list_any-IsPermutation}
-use Rattle.std.proofs.lemmas.Grind.{common_steps}
-use Rattle.std.proofs.Common.{[], rules, ◌≡◌, refl, sym, ap, ◌∙◌, subst, ℕ, ◌+◌, ◌^◌, ◌<◌, ◌≤◌, Bool, true, cond, List, ◌∷◌, map, length, All, flat_map, Some, None, is_some, arith}
-use Rattle.std.specs.List.{AllZip, list_any, position_from}
-use Rattle.std.specs.Ordering.{eq_by_cmp}
+use Rattle.ent_world.proofs.Common.{list_any-IsPermutation, common_steps, [], rules, ◌≡◌, refl, sym, ap, ◌∙◌, subst, ℕ, ◌+◌, ◌^◌, ◌<◌, ◌≤◌, Bool, true, cond, List, ◌∷◌, map, length, All, Some, None, is_some, arith, AllZip, list_any, position_from, eq_by_cmp, find, map-append, list_any-append, All-head, All-tail, none-some, Birth, birth_cmp, Handle, handle_cmp, handle_cmp_total, stands_in, born, same_handle, itself, born-IsPermutation, EntityMap, newborn, Command, World, IsWorld, listed_by, handles_listed, listed_birth, birth_in, after_births, sync, BirthMap, BirthCommand, births_of, births_in, entered_alone, frame_alone, AreNamed, AreNames, IsNamedBy, AreNamedBy, AreNamedAfter, AreBelow, AreListed, applied}
+use Rattle.std.proofs.Common.{flat_map}
 use Rattle.std.specs.FinMap as finite
-use Rattle.std.specs.FinMap.{find}
-use Rattle.std.proofs.lemmas.List.{map-append}
-use Rattle.std.proofs.lemmas.List.Folds.{list_any-append}
-use Rattle.std.proofs.lemmas.List.Elements.{All-head, All-tail}
-use Rattle.std.proofs.lemmas.Option.{none-some}
-use Rattle.ent_handle.specs.declared.birth.Birth.{Birth}
-use Rattle.ent_handle.specs.Birth.{birth_cmp}
-use Rattle.ent_handle.specs.Handle.{Handle, handle_cmp, handle_cmp_total}
-use Rattle.ent_alloc.specs.Sequential.{stands_in, born}
-use Rattle.ent_alloc.proofs.HandleSets.{same_handle, itself}
-use Rattle.ent_alloc.proofs.Flushes.{born-IsPermutation}
-use Rattle.ent_storage.specs.EntityMap.{EntityMap, newborn}
-use Rattle.ent_queue.specs.Command.{Command}
-use Rattle.ent_world.specs.World.{World, IsWorld}
-use Rattle.ent_world.specs.Sync.{listed_by, handles_listed, listed_birth, birth_in, after_births, sync}
-use Rattle.ent_world.specs.BirthsAlone.{BirthMap, BirthCommand, births_of, births_in, entered_alone, frame_alone}
-use Rattle.ent_world.specs.Named.{AreNamed, AreNames, IsNamedBy, AreNamedBy, AreNamedAfter, AreBelow, AreListed}
-use Rattle.ent_world.specs.Effects.{applied}
 use Rattle.ent_world.proofs.Kept.{IsKept, after_queues-keeps}
 use Rattle.ent_world.proofs.Named.{some_there, entity_there, entity_with, sync-named}
 use Rattle.ent_world.proofs.NamedBirths.{entered-named}

@@ -1,27 +1,6 @@
 -- The entities of a world in the order of births are those of the births that tell it, in order.
-use Rattle.std.proofs.lemmas.Grind.{common_steps}
-use Rattle.std.proofs.Common.{[], arith, rules, ◌≡◌, refl, sym, ap, ◌∙◌, Bool, true, cond, ◌&&◌, T, true≢false, List, ◌∷◌, map, filter, All, AllPairs, Option, Some, None, is_some, option_map, unwrap_or, IsSomeAnd, IsTrue}
-use Rattle.std.proofs.lemmas.Bool.{or_right}
-use Rattle.std.specs.Ordering.{eq_by_cmp, is_lt}
-use Rattle.std.specs.declared.cmp.Ordering.TheVariants.{Less}
+use Rattle.ent_world.proofs.Common.{common_steps, [], arith, rules, ◌≡◌, refl, sym, ap, ◌∙◌, Bool, true, cond, ◌&&◌, T, true≢false, List, ◌∷◌, map, filter, All, AllPairs, Option, Some, None, is_some, option_map, unwrap_or, IsSomeAnd, IsTrue, or_right, eq_by_cmp, is_lt, Less, find, is_sorted, below_all, same_entries, tied_itself, eq_by_cmp_equiv, All-head, All-tail, All-contains_itself, tells_apart, Birth, birth_cmp, birth_cmp_total, birth_cmp-IsAntisymmetric, Handle, handle_cmp_total, stands_in, itself, same_handle, Contains-from_stands_in, stands_in-from_Contains, AllPairs-head, AllPairs-tail, is_sorted-filter, find-filter, passed, birth_order, ListsByBirth, Entity, EntityMap, Bundle, BirthMap, AreNamed, AreNames, IsThere}
 use Rattle.std.specs.FinMap as finite
-use Rattle.std.specs.FinMap.{find, is_sorted}
-use Rattle.std.specs.FinMap.Entries.{below_all, same_entries}
-use Rattle.std.proofs.lemmas.Cmp.{tied_itself, eq_by_cmp_equiv}
-use Rattle.std.proofs.lemmas.List.Elements.{All-head, All-tail, All-contains_itself}
-use Rattle.std.proofs.lemmas.Map.Views.{tells_apart}
-use Rattle.ent_handle.specs.declared.birth.Birth.{Birth}
-use Rattle.ent_handle.specs.Birth.{birth_cmp, birth_cmp_total, birth_cmp-IsAntisymmetric}
-use Rattle.ent_handle.specs.Handle.{Handle, handle_cmp_total}
-use Rattle.ent_alloc.specs.Sequential.{stands_in}
-use Rattle.ent_alloc.proofs.HandleSets.{itself, same_handle, Contains-from_stands_in, stands_in-from_Contains}
-use Rattle.ent_alloc.proofs.ListLaws.{AllPairs-head, AllPairs-tail}
-use Rattle.ent_storage.proofs.Overwritten.{is_sorted-filter, find-filter, passed}
-use Rattle.ent_storage.specs.BirthOrder.{birth_order, ListsByBirth}
-use Rattle.ent_storage.specs.EntityMap.{Entity, EntityMap}
-use Rattle.ent_storage.specs.Bundle.{Bundle}
-use Rattle.ent_world.specs.BirthsAlone.{BirthMap}
-use Rattle.ent_world.specs.Named.{AreNamed, AreNames, IsThere}
 use Rattle.ent_world.proofs.Named.{entity_with, birth_by_name, names_apart}
 
 -- ---- handles in the order of births

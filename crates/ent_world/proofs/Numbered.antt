@@ -1,22 +1,6 @@
 -- The handles that no queue lists: each gets the birth of its ordinal among them.
-use Rattle.std.proofs.Common.{[], arith, rules, ◌≡◌, refl, sym, ap, ◌∙◌, ℕ, ◌+◌, Bool, true, false, cond, eqb, ◌||◌, true≢false, List, ◌∷◌, filter, All, AllPairs, Option, Some, None}
-use Rattle.std.proofs.lemmas.Grind.{common_steps}
-use Rattle.std.proofs.lemmas.Bool.{or_right}
-use Rattle.std.specs.Ordering.{eq_by_cmp}
-use Rattle.std.specs.Option.{option_map, option_map_or}
-use Rattle.std.specs.List.{position_from}
+use Rattle.ent_world.proofs.Common.{[], arith, rules, ◌≡◌, refl, sym, ap, ◌∙◌, ℕ, ◌+◌, Bool, true, false, cond, eqb, ◌||◌, true≢false, List, ◌∷◌, filter, All, AllPairs, Option, Some, None, common_steps, or_right, eq_by_cmp, option_map_or, position_from, All-contains, Birth, Handle, handle_cmp, stands_in, AreApart, same_handle, itself, Contains-from_stands_in, AllPairs-head, AllPairs-tail, not_apart, Entity, EntityMap, with_birth, no_system, is_unnamed, numbered, option_map}
 use Rattle.std.specs.FinMap as map
-use Rattle.std.proofs.lemmas.List.Elements.{All-contains}
-use Rattle.ent_handle.specs.declared.birth.Birth.{Birth}
-use Rattle.ent_handle.specs.Handle.{Handle, handle_cmp}
-use Rattle.ent_alloc.specs.Sequential.{stands_in}
-use Rattle.ent_alloc.specs.Sound.{AreApart}
-use Rattle.ent_alloc.proofs.HandleSets.{same_handle, itself, Contains-from_stands_in}
-use Rattle.ent_alloc.proofs.ListLaws.{AllPairs-head, AllPairs-tail}
-use Rattle.ent_alloc.proofs.Replies.{not_apart}
-use Rattle.ent_storage.specs.EntityMap.{Entity, EntityMap, with_birth}
-use Rattle.ent_world.specs.Sync.{no_system}
-use Rattle.ent_world.specs.Entering.{is_unnamed, numbered}
 use Rattle.ent_world.proofs.BirthsByQueues.{birth_at, get-with_birth, birth_by_index, reborn}
 
 -- each stands there once

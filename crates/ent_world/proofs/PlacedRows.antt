@@ -1,28 +1,9 @@
 -- The rows of entities stay their places, after each change of the two, and there are as many places
 -- as handles live.
-use Rattle.std.proofs.lemmas.Bool.{false_from_ne_true, cases_lt}
-use Rattle.std.proofs.lemmas.Grind.{common_steps}
-use Rattle.std.proofs.Common.{[], rules, ◌≡◌, ◌≢◌, refl, sym, ap, ◌∙◌, ℕ, suc, ◌+◌, ◌-◌, ◌<◌, ◌≤◌, ◌^◌, true, false, true≢false, ◌⊎◌, inl, inr, List, ◌∷◌, ◌++◌, length, slice_get, Option, Some, None, is_some, arith, append-nil, length-append}
-use Rattle.std.proofs.lemmas.List.{append_assoc}
-use Rattle.std.proofs.lemmas.Option.{none-some, same_Some, slice_get_within, slice_get-get_or}
+use Rattle.ent_world.proofs.Common.{false_from_ne_true, cases_lt, common_steps, [], rules, ◌≡◌, ◌≢◌, refl, sym, ap, ◌∙◌, ℕ, suc, ◌+◌, ◌-◌, ◌<◌, ◌≤◌, ◌^◌, true, false, true≢false, ◌⊎◌, inl, inr, List, ◌∷◌, ◌++◌, length, slice_get, Option, Some, None, is_some, arith, append-nil, append_assoc, none-some, same_Some, slice_get_within, slice_get-get_or, Birth, Handle, handle_cmp, total, same, Allocator, stands_in, born, after_flush, IsSound, retired-rest, after_flush-sound, Components, Entity, EntityMap, newborn, with_components, AreWithout, at_push_before, at_push_end, at_pushed, same_number, same_or_apart, get-insert_same, get-insert_other, get-remove_same, get-remove_other, AreLiving, with_born, AreNew, first_birth, Rows, ArePlaces, AreRows, with_rows, with_moved}
+use Rattle.std.proofs.Common.{length-append}
 use Rattle.std.specs.FinSet as set
 use Rattle.std.specs.FinMap as map
-use Rattle.ent_handle.specs.declared.birth.Birth.{Birth}
-use Rattle.ent_handle.specs.Handle.{Handle, handle_cmp, handle_cmp_total as total, handle_cmp-IsAntisymmetric as same}
-use Rattle.ent_alloc.specs.Sequential.{Allocator, stands_in, born, after_flush}
-use Rattle.ent_alloc.specs.Sound.{IsSound}
-use Rattle.ent_alloc.proofs.Retired.{retired-rest}
-use Rattle.ent_alloc.proofs.Soundness.{after_flush-sound}
-use Rattle.ent_storage.specs.Components.{Components}
-use Rattle.ent_storage.specs.EntityMap.{Entity, EntityMap, newborn, with_components}
-use Rattle.ent_storage.specs.Places.{AreWithout}
-use Rattle.ent_storage.proofs.ElementsAt.{at_push_before, at_push_end, at_pushed}
-use Rattle.ent_storage.proofs.Indexed.{same_number}
-use Rattle.ent_storage.proofs.Keys.{same_or_apart, get-insert_same, get-insert_other, get-remove_same, get-remove_other}
-use Rattle.ent_world.specs.World.{AreLiving}
-use Rattle.ent_world.specs.Sync.{with_born}
-use Rattle.ent_world.specs.Entering.{AreNew, first_birth}
-use Rattle.ent_world.specs.Rows.{Rows, ArePlaces, AreRows, with_rows, with_moved}
 use Rattle.ent_world.proofs.Living.{same_keys-components}
 use Rattle.ent_world.proofs.Born.{born-new, living-after}
 use Rattle.ent_world.proofs.Numbered.{AreDistinct}

@@ -1,16 +1,6 @@
 -- A sync that is cut anywhere, and goes on with what is left, is the whole sync; and faults are
 -- only added to those that there were.
-use Rattle.std.proofs.Common.{[], rules, ◌≡◌, refl, ap, ◌∙◌, ℕ, zero, suc, ◌+◌, List, ◌∷◌, ◌++◌, take, drop, arith, ◌≤◌, append-nil}
-use Rattle.std.proofs.lemmas.Grind.{common_steps}
-use Rattle.std.proofs.lemmas.List.{take-take}
-use Rattle.ent_handle.specs.Handle.{Handle}
-use Rattle.ent_queue.specs.Command.{Command}
-use Rattle.ent_world.specs.World.{World}
-use Rattle.ent_world.specs.declared.fault.Fault.{Fault}
-use Rattle.ent_world.specs.declared.fault.FaultKind.{FaultKind}
-use Rattle.ent_world.specs.Effects.{Applied, applied, on_entity, on_each, with_fault, after_command, after_commands, after_queues}
-use Rattle.ent_world.specs.Sync.{first_part, cut_commands, cut}
-use Rattle.ent_world.specs.Rest.{left_commands, after_left_queues, after_left, IsLaterIn, IsLater}
+use Rattle.ent_world.proofs.Common.{[], rules, ◌≡◌, refl, ap, ◌∙◌, ℕ, zero, suc, ◌+◌, List, ◌∷◌, ◌++◌, take, drop, arith, ◌≤◌, append-nil, common_steps, take-take, Handle, Command, World, Fault, FaultKind, Applied, applied, on_entity, on_each, with_fault, after_command, after_commands, after_queues, first_part, cut_commands, cut, left_commands, after_left_queues, after_left, IsLaterIn, IsLater}
 use Rattle.ent_world.proofs.Folds.{first_alone}
 
 -- ---- cut and gone on

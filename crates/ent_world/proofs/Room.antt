@@ -1,15 +1,6 @@
 -- Entering one by one, with room for all, and who stands from a place on.
-use Rattle.std.proofs.lemmas.Grind.{common_steps}
-use Rattle.std.proofs.Common.{[], rules, ◌≡◌, ◌≢◌, refl, sym, ap, ◌+◌, ◌<◌, ◌≤◌, true, false, true≢false, ℕ, zero, suc, ◌-◌, List, ◌∷◌, drop, slice_get, arith, Some, ◌||◌}
-use Rattle.std.proofs.lemmas.Option.{none-some, same_Some}
-use Rattle.std.proofs.lemmas.Bool.{or_parts}
-use Rattle.std.specs.Ordering.{eq_by_cmp}
+use Rattle.ent_world.proofs.Common.{common_steps, [], rules, ◌≡◌, ◌≢◌, refl, sym, ap, ◌+◌, ◌<◌, ◌≤◌, true, false, true≢false, ℕ, zero, suc, ◌-◌, List, ◌∷◌, drop, slice_get, arith, Some, ◌||◌, none-some, same_Some, or_parts, eq_by_cmp, Handle, handle_cmp, handle_cmp_total, stands_in, same_handle, itself, Entity, EntityMap, AreNew}
 use Rattle.std.specs.FinMap as map
-use Rattle.ent_handle.specs.Handle.{Handle, handle_cmp, handle_cmp_total}
-use Rattle.ent_alloc.specs.Sequential.{stands_in}
-use Rattle.ent_alloc.proofs.HandleSets.{same_handle, itself}
-use Rattle.ent_storage.specs.EntityMap.{Entity, EntityMap}
-use Rattle.ent_world.specs.Entering.{AreNew}
 
 -- the others are new still
 pub new_later : (h : Handle) (e : Entity) (hs : List Handle) (m : EntityMap) → stands_in hs h ≡ false → AreNew hs m

@@ -1,17 +1,7 @@
 -- How many slots wait after each step of an allocator, against the room that a storage has.
-use Rattle.std.proofs.Common.{[], rules, ◌≡◌, sym, ap, ◌∙◌, ℕ, zero, suc, ◌+◌, ◌-◌, ◌≤◌, ◌<◌, true, false, List, ◌∷◌, ◌++◌, length, drop, filter, slice_get, arith, Some, All, length-append}
-use Rattle.std.proofs.lemmas.Grind.{common_steps}
-use Rattle.std.proofs.lemmas.List.Elements.{filter_passes, All-head}
+use Rattle.ent_world.proofs.Common.{[], rules, ◌≡◌, sym, ap, ◌∙◌, ℕ, zero, suc, ◌+◌, ◌-◌, ◌≤◌, ◌<◌, true, false, List, ◌∷◌, ◌++◌, length, drop, filter, slice_get, arith, Some, All, common_steps, filter_passes, All-head, Handle, Allocator, available, top, is_old, fresh, after_flush, after_alloc, after_free, IsSound, Call, after_history, after_history-takes, top-after_takes, retired-rest, after_flush-sound, after_alloc-sound, length-available, made-after_flush}
+use Rattle.std.proofs.Common.{length-append}
 use Rattle.std.specs.FinSet as set
-use Rattle.ent_handle.specs.Handle.{Handle}
-use Rattle.ent_alloc.specs.Sequential.{Allocator, available, top, is_old, fresh, after_flush, after_alloc, after_free}
-use Rattle.ent_alloc.specs.Sound.{IsSound}
-use Rattle.ent_alloc.specs.History.{Call, after_history}
-use Rattle.ent_alloc.proofs.Histories.{after_history-takes}
-use Rattle.ent_alloc.proofs.PoolLaw.{top-after_takes}
-use Rattle.ent_alloc.proofs.Retired.{retired-rest}
-use Rattle.ent_alloc.proofs.Soundness.{after_flush-sound, after_alloc-sound}
-use Rattle.ent_alloc.proofs.Taken.{length-available, made-after_flush}
 
 -- where no slot was made, none waits
 pub none_made : (s : Allocator) (spare : ℕ) → IsSound s → s.made ≡ 0 → top s ≤ spare

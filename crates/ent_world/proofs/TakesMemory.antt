@@ -1,15 +1,5 @@
 -- Where a command may take memory.
-use Rattle.std.proofs.lemmas.Grind.{common_steps}
-use Rattle.std.proofs.Common.{[], rules, ◌≡◌, ℕ, ◌<◌, true, List, ◌∷◌, length, drop, slice_get, Some, arith, zero, suc}
-use Rattle.std.specs.Prelude.{max}
-use Rattle.std.proofs.lemmas.Bool.Decides.{nat_tests}
-use Rattle.std.proofs.lemmas.List.{drop_more}
-use Rattle.std.proofs.lemmas.Option.{slice_get-get_or}
-use Rattle.ent_handle.specs.Handle.{Handle}
-use Rattle.ent_storage.specs.Bundle.{Bundle}
-use Rattle.ent_queue.specs.Command.{Command}
-use Rattle.ent_world.specs.World.{World}
-use Rattle.ent_world.specs.Memory.{insert_takes_memory, one_takes_memory, command_takes_memory, TakesMemoryIn}
+use Rattle.ent_world.proofs.Common.{common_steps, [], rules, ◌≡◌, ℕ, ◌<◌, true, List, ◌∷◌, length, drop, slice_get, Some, arith, zero, suc, max, nat_tests, drop_more, slice_get-get_or, Handle, Bundle, Command, World, insert_takes_memory, one_takes_memory, command_takes_memory, TakesMemoryIn}
 use Rattle.ent_world.proofs.Folds.{next_below}
 
 -- what is left of a list begins with the element at that index

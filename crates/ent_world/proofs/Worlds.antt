@@ -1,17 +1,5 @@
 -- What is true of every world stays true: each step leaves a world.
-use Rattle.std.proofs.Common.{[], rules, ◌≡◌, sym, ap, ◌∙◌, ℕ, true, List, ◌∷◌, slice_get, Some}
-use Rattle.ent_handle.specs.declared.birth.Birth.{Birth}
-use Rattle.ent_handle.specs.Handle.{Handle}
-use Rattle.ent_alloc.specs.Sequential.{Allocator}
-use Rattle.ent_alloc.specs.History.{Call, after_history}
-use Rattle.ent_alloc.proofs.Soundness.{after_flush-sound, after_free-sound, after_alloc-sound}
-use Rattle.ent_storage.specs.Components.{Components}
-use Rattle.ent_storage.specs.EntityMap.{EntityMap, with_components}
-use Rattle.ent_storage.specs.Bundle.{Bundle}
-use Rattle.ent_queue.specs.Command.{Command}
-use Rattle.ent_world.specs.World.{World, IsWorld, lives_in}
-use Rattle.ent_world.specs.Effects.{Applied, after_spawn, after_despawn, after_queues}
-use Rattle.ent_world.specs.Sync.{after_births}
+use Rattle.ent_world.proofs.Common.{[], rules, ◌≡◌, sym, ap, ◌∙◌, ℕ, true, List, ◌∷◌, slice_get, Some, Birth, Handle, Allocator, Call, after_history, after_flush-sound, after_free-sound, after_alloc-sound, Components, EntityMap, with_components, Bundle, Command, World, IsWorld, lives_in, Applied, after_spawn, after_despawn, after_queues, after_births}
 use Rattle.ent_world.proofs.Living.{keys-insert, keys-remove, keys-components, living-history}
 use Rattle.ent_world.proofs.Born.{living-after}
 use Rattle.ent_world.proofs.Kept.{after_queues-keeps}

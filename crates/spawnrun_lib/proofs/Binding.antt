@@ -1,9 +1,5 @@
 -- The lists of names as a function of the number.
-use Rattle.std.proofs.Common.{rules, ◌≡◌, ℕ, zero, suc, ◌<◌, List, [], ◌∷◌, ◌++◌, length, set, arith}
-use Rattle.std.proofs.Math.Dec.{eqb-suc-zero, eqb-zero-suc, eqb-suc-suc}
-use Rattle.ent_handle.specs.Handle.{Handle}
-use Rattle.spawnrun_lib.specs.Issuing.{Bindings, bound}
-use Rattle.spawnrun_lib.specs.Parts.{names_of}
+use Rattle.spawnrun_lib.proofs.Common.{rules, ◌≡◌, ℕ, zero, suc, ◌<◌, List, [], ◌∷◌, ◌++◌, length, set, arith, eqb-suc-zero, eqb-zero-suc, eqb-suc-suc, Handle, Bindings, bound, names_of}
 
 pub same_names : (f g : Bindings) → ((n : ℕ) → f n ≡ g n) → f ≡ g
 same_names f g e = λ i n. e n i

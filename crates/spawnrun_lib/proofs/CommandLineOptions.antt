@@ -1,25 +1,6 @@
 -- What the words of a subcommand give: the values of its options.
-use Rattle.std.proofs.Common.{rules, ◌≡◌, ℕ, Bool, true, false, List, [], ◌∷◌, cond, refl, ◌<◌, lit<, inl, inr, codes, Option, Some, None, is_some, IfSome}
-use Rattle.std.specs.Prelude.{Result, option_map}
-use Rattle.std.specs.Str.Parse.{ExplainsUnsignedError, HasUnsignedDigitsIfOk, ParsesUnsigned}
-use Rattle.std.specs.declared.num.ParseIntError.{ParseIntError}
-use Rattle.clap.specs.Matches.{ReadsOne, one_text}
-use Rattle.clap.proofs.WalkLemmas.{one_text-rows, first_value-rows}
-use Rattle.cli.specs.Options.{option_number, HasNumber, generations_option, number_option, slots_option}
-use Rattle.cli.proofs.Numbers.{number_read}
-use Rattle.std.specs.Option.{option_map_or}
-use Rattle.std.specs.List.{AllByRecursion, slice_index_or}
-use Rattle.clap.specs.Words.{Row, Rule, Shape, Text, built, fault_of, subcommand_of, rows_of, first_of, first_value}
-use Rattle.clap.specs.declared.parser.matches.Found.{Found}
-use Rattle.clap.specs.Simple.{new_shape, entered, filled, help_rule, label_of, names_of, rows_at}
-use Rattle.clap.specs.Walk.{finished, walk, answers_to, nothing_held, stop_after}
-use Rattle.clap.specs.Faults.{check_fault, entered_fault, level_fault}
-use Rattle.clap.proofs.ValueTestLemmas.{accepts-Accepts}
-use Rattle.spawnrun_lib.specs.declared.show.Show.{Show}
-use Rattle.spawnrun_lib.specs.declared.show.Show.TheVariants.{Births, Handles}
-use Rattle.std.specs.Borrow.{Bor}
-use Rattle.std.specs.Str.{bytes_eq}
-use Rattle.spawnrun_lib.specs.CommandLine.{HasShow, MayHaveBlocks, blocks_option, most_handles, optional_number, program, references_to, show_option, show_text, shown, workers_option}
+use Rattle.spawnrun_lib.proofs.Common.{rules, ◌≡◌, ℕ, Bool, true, false, List, [], ◌∷◌, cond, refl, ◌<◌, lit<, inl, inr, codes, Option, Some, None, is_some, IfSome, option_map, ExplainsUnsignedError, HasUnsignedDigitsIfOk, ParsesUnsigned, ParseIntError, ReadsOne, one_text, one_text-rows, first_value-rows, option_number, HasNumber, generations_option, number_option, slots_option, number_read, option_map_or, AllByRecursion, slice_index_or, Row, Rule, Shape, Text, built, fault_of, subcommand_of, rows_of, first_of, first_value, Found, new_shape, entered, filled, help_rule, label_of, rows_at, finished, walk, answers_to, nothing_held, stop_after, check_fault, entered_fault, level_fault, accepts-Accepts, Show, Births, Handles, bytes_eq, HasShow, MayHaveBlocks, blocks_option, most_handles, optional_number, program, references_to, show_option, show_text, shown, workers_option, Result, Bor}
+use Rattle.clap.specs.Simple.{names_of}
 use Rattle.spawnrun_lib.proofs.ParsedOptions.{none_of, Fits, HasValue, MayHaveValue, option-has_value, optional-has_value}
 
 -- the options as building leaves them

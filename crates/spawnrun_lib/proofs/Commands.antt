@@ -1,9 +1,5 @@
 -- A command of clap's with one more option or subcommand, as the program's words have it.
-use Rattle.std.proofs.Common.{◌≡◌, ◌∙◌, false}
-use Rattle.clap.specs.Words.{App, Rule, app_of, rule_of, with_rule, with_subcommand}
-use Rattle.clap.specs.Built.{AddsArg, AddsSubcommand}
-use Rattle.clap.specs.declared.builder.Command.TheViews.{out-Command as fields_of}
-use Rattle.clap.specs.declared.builder.Arg.{Arg}
+use Rattle.spawnrun_lib.proofs.Common.{◌≡◌, ◌∙◌, false, App, Rule, app_of, rule_of, with_rule, with_subcommand, AddsArg, AddsSubcommand, fields_of, Arg}
 use Rattle.clap.specs.declared.builder.Command.{Command}
 
 pub with_option : {old new : Command} {option : Arg} {app : App} {rule : Rule} → AddsArg old option new

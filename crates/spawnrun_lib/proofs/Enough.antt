@@ -2,37 +2,8 @@
 -- frame begins with at least as many handles to give as are still requested: a call takes what it
 -- requests, and a sync point takes nothing away.
 use Rattle.spawnrun_lib.proofs.OneCourse.{below_each}
-use Rattle.std.proofs.Common.{rules, ◌≡◌, refl, subst, arith, ℕ, ◌+◌, ◌-◌, ◌≤◌, le-leb, List, [], ◌∷◌, length, length-drop, Some, Result}
-use Rattle.std.specs.Prelude.{◌==◌, slice_get, IsOk}
-use Rattle.std.specs.List.{All, sum_by, flat_map, range_with_len}
-use Rattle.std.proofs.lemmas.List.{length-append}
-use Rattle.std.proofs.lemmas.List.Elements.{All-nil, All-cons, All-head, All-map, All-filter}
-use Rattle.std.proofs.lemmas.List.Sorted.{All-permutation}
-use Rattle.std.proofs.lemmas.List.Sums.{sum_by-cons}
-use Rattle.std.proofs.lemmas.Option.{get_or_from_slice_get, slice_get_within}
-use Rattle.ent_handle.specs.Handle.{Handle}
-use Rattle.ent_alloc.specs.declared.space.Space.{Space}
-use Rattle.ent_alloc.specs.Limits.{AreLimits, quota}
-use Rattle.ent_alloc.specs.Sequential.{Allocator, after_take, reply_to}
-use Rattle.ent_alloc.specs.History.{Call, IsLegal, after_history}
-use Rattle.ent_alloc.proofs.FreshHandles.{length-fresh}
-use Rattle.ent_alloc.proofs.ListLaws.{All-left, All-right}
-use Rattle.ent_alloc.proofs.Taken.{after_take-served}
+use Rattle.spawnrun_lib.proofs.Common.{rules, ◌≡◌, refl, subst, arith, ℕ, ◌+◌, ◌-◌, ◌≤◌, le-leb, List, [], ◌∷◌, length, length-drop, Some, Result, ◌==◌, slice_get, IsOk, sum_by, flat_map, range_with_len, length-append, All-nil, All-cons, All-head, All-map, All-filter, All-permutation, sum_by-cons, get_or_from_slice_get, slice_get_within, Handle, Space, AreLimits, quota, Allocator, after_take, reply_to, Call, IsLegal, after_history, length-fresh, All-left, All-right, after_take-served, Command, Refused, stands_for, cost, FitsQuota, FitQuota, applied, sync, after_births, World, first_world, after_queues-keeps, IsFrame, queue_at, commands_of, reserved_by, view_of, all_from_each, all_flat, flat_all, Script, Operation, IsGranted, AreGranted, MayIssue, Execution, AreExecutions, synced, requested_by_operation, HasEnoughSlots, All}
 use Rattle.ent_alloc.specs.declared.refused.Refused.TheVariants as refusal
-use Rattle.ent_queue.specs.Command.{Command, Refused}
-use Rattle.ent_queue.specs.Reserving.{stands_for, cost, FitsQuota, FitQuota}
-use Rattle.ent_world.specs.Effects.{applied}
-use Rattle.ent_world.specs.Sync.{sync, after_births}
-use Rattle.ent_world.specs.World.{World, first_world}
-use Rattle.ent_world.proofs.Kept.{after_queues-keeps}
-use Rattle.ent_runner.specs.Frame.{IsFrame, queue_at, commands_of, reserved_by, view_of}
-use Rattle.ent_runner.proofs.Lists.{all_from_each, all_flat, flat_all}
-use Rattle.ent_script.specs.Script.{Script}
-use Rattle.ent_script.specs.declared.operation.Operation.{Operation}
-use Rattle.spawnrun_lib.specs.IssuedAlone.{IsGranted, AreGranted}
-use Rattle.spawnrun_lib.specs.Issuing.{MayIssue}
-use Rattle.spawnrun_lib.specs.Report.{Execution, AreExecutions, synced}
-use Rattle.spawnrun_lib.specs.SameReport.{requested_by_operation, HasEnoughSlots}
 use Rattle.spawnrun_lib.proofs.NoRefusal.{WereGranted}
 use Rattle.spawnrun_lib.proofs.Requested.{requested, requested_in, wanted_by, wanted_in, cost-wanted, queues-wanted, worker-wanted, history-wanted}
 

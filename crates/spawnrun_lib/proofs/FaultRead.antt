@@ -1,9 +1,5 @@
 -- The fault of a text that is no script.
-use Rattle.std.proofs.Common.{rules, ◌≡◌, ◌≢◌}
-use Rattle.std.specs.Prelude.{Result, Err}
-use Rattle.ent_script.specs.Reading.{ReadsAs}
-use Rattle.ent_script.specs.Script.{Script}
-use Rattle.ent_script.specs.declared.ReadFault.{ReadFault}
+use Rattle.spawnrun_lib.proofs.Common.{rules, ◌≡◌, ◌≢◌, Err, ReadsAs, Script, ReadFault, Result}
 use Rattle.ent_script.specs.declared.ReadFault.TheVariants as fault
 
 -- a fault that isn't lack of memory is the text's

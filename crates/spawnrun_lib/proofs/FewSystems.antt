@@ -1,9 +1,5 @@
 -- No frame of a script has more systems than a frame may have.
-use Rattle.std.proofs.Common.{rules, ℕ, ◌+◌, ◌≤◌, List, [], ◌∷◌, length}
-use Rattle.std.proofs.lemmas.List.Elements.{All-nil, All-cons}
-use Rattle.ent_script.specs.Ranges.{AllFrom, IsFrameOf}
-use Rattle.ent_script.specs.declared.operation.Operation.{Operation}
-use Rattle.spawnrun_lib.specs.Course.{AreFew}
+use Rattle.spawnrun_lib.proofs.Common.{rules, ℕ, ◌+◌, ◌≤◌, List, [], ◌∷◌, length, All-nil, All-cons, AllFrom, IsFrameOf, Operation, AreFew}
 
 pub few_systems : (components n : ℕ) (frames : List (List (List Operation))) → AllFrom (IsFrameOf components) n frames
     → AreFew frames

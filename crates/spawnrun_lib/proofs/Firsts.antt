@@ -1,14 +1,6 @@
 -- The first of a list that passes a test, and keys as they lie in memory.
-use Rattle.std.proofs.Common.{String, Global, string_bytes, rules, arith, ◌≡◌, refl, ℕ, Bool, true, false, cond, List, [], ◌∷◌, map, Some, Bor, bytes_eq, Option, ℤ, is_some, is_none, true≢false, ◌+◌, ◌<◌, drop, take, length, get_or}
-use Rattle.ent_script.specs.Json.{whole}
-use Rattle.ent_script.proofs.Values.{pair_view}
-use Rattle.spawnrun_lib.specs.Place.{twice, unwhole_in, bad_name, is_among, is_listed, is_text, key_but}
-use Rattle.std.proofs.lemmas.Grind.{common_steps}
-use Rattle.std.specs.List.{list_any}
-use Rattle.serde_json.specs.View.{view}
-use Rattle.serde_json.specs.declared.value.Value.{Value}
-use Rattle.std.proofs.lemmas.List.{drop_more, take_more, map-append}
-use Rattle.ent_script.specs.Names.{as_name}
+use Rattle.spawnrun_lib.proofs.Common.{String, Global, string_bytes, rules, arith, ◌≡◌, refl, ℕ, Bool, true, false, cond, List, [], ◌∷◌, map, Some, Bor, Option, ℤ, is_some, is_none, true≢false, ◌+◌, ◌<◌, drop, take, length, get_or, whole, pair_view, twice, unwhole_in, bad_name, is_among, is_listed, is_text, key_but, common_steps, list_any, view, Value, drop_more, take_more, map-append, as_name}
+use Rattle.std.proofs.Common.{bytes_eq}
 
 -- what is not there, and what is
 none_if : (o : Option ℤ) → is_some o ≡ false → is_none o ≡ true

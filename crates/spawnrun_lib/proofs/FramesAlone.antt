@@ -1,43 +1,10 @@
 -- A frame of scripted systems does to births alone what it does to the world, on every number of
 -- workers, if no request was refused and the systems name no handles.
-use Rattle.ent_world.proofs.Named.{entity_there}
-use Rattle.std.proofs.Common.{rules, ◌≡◌, refl, sym, ap, ◌∙◌, subst, ℕ, suc, ◌+◌, ◌^◌, ◌<◌, ◌≤◌, List, [], ◌∷◌, map, length, All, slice_get, flat_map, Some, is_some, option_map, unwrap_or, arith}
+use Rattle.spawnrun_lib.proofs.Common.{entity_there, rules, ◌≡◌, refl, sym, ap, ◌∙◌, subst, ℕ, suc, ◌+◌, ◌^◌, ◌<◌, ◌≤◌, List, [], ◌∷◌, map, length, All, Some, is_some, unwrap_or, arith, min-eq_left, length-append, length-map, All-nil, All-cons, All-head, All-tail, All-weaker, All-contains_itself, IsPermutation-sym, IsPermutation-trans, length_permutation, none-some, Birth, ComponentId, component_cmp, Handle, born, Call, after_history, given_in-taken, ListsWith, Entity, EntityMap, birth_of, Command, BirthMap, applied, AreNamed, AreNames, AreNamedBy, AreBelow, AreListed, IsThere, sync, after_births, handles_listed, World, IsWorld, IsFlushed, flushed-kept, after_queues-keeps, frame-named, queues_births, sync-below, listed-named, after_births-world, after_history-world, IsFrame, queue_at, reserved_by, view_of, listed-few, listed-enters, listed-new, unlisted-stays, Lists, listed-IsPermutation, listed-born, map_map_is, Operation, IsOfBirth, MayIssue, births_meant, queues_alone, NamesNoHandle, IsGranted, AreGranted, IsFrameAlone, queues_by_births}
+use Rattle.std.proofs.Common.{slice_get, flat_map, option_map}
 use Rattle.std.specs.FinMap as finite
 use Rattle.std.specs.FinMap.{find}
-use Rattle.std.proofs.Math.Nat.{min-eq_left}
-use Rattle.std.proofs.lemmas.List.{length-append, length-map}
-use Rattle.std.proofs.lemmas.List.Elements.{All-nil, All-cons, All-head, All-tail, All-weaker, All-contains_itself}
-use Rattle.std.proofs.lemmas.List.Sorted.{IsPermutation-sym, IsPermutation-trans, length_permutation}
-use Rattle.std.proofs.lemmas.Option.{none-some}
-use Rattle.ent_handle.specs.declared.birth.Birth.{Birth}
-use Rattle.ent_handle.specs.declared.component.ComponentId.{ComponentId}
-use Rattle.ent_handle.specs.Component.{component_cmp}
-use Rattle.ent_handle.specs.Handle.{Handle}
-use Rattle.ent_alloc.specs.Sequential.{born}
-use Rattle.ent_alloc.specs.History.{Call, after_history}
-use Rattle.ent_alloc.proofs.Histories.{given_in-taken}
-use Rattle.ent_storage.specs.BirthOrder.{ListsWith}
-use Rattle.ent_storage.specs.EntityMap.{Entity, EntityMap, birth_of}
-use Rattle.ent_queue.specs.Command.{Command}
-use Rattle.ent_world.specs.BirthsAlone.{BirthMap}
-use Rattle.ent_world.specs.Effects.{applied}
-use Rattle.ent_world.specs.Named.{AreNamed, AreNames, AreNamedBy, AreBelow, AreListed, IsThere}
-use Rattle.ent_world.specs.Sync.{sync, after_births, handles_listed}
-use Rattle.ent_world.specs.World.{World, IsWorld}
-use Rattle.ent_world.proofs.GivenOnce.{IsFlushed, flushed-kept}
-use Rattle.ent_world.proofs.Kept.{after_queues-keeps}
-use Rattle.ent_world.proofs.NamedFrames.{frame-named, queues_births, sync-below}
-use Rattle.ent_world.proofs.NamedLists.{listed-named}
-use Rattle.ent_world.proofs.Worlds.{after_births-world, after_history-world}
-use Rattle.ent_runner.specs.Frame.{IsFrame, queue_at, reserved_by, view_of}
-use Rattle.ent_runner.proofs.ListedBirths.{listed-few, listed-enters, listed-new, unlisted-stays}
-use Rattle.ent_runner.proofs.ListedOnce.{Lists, listed-IsPermutation, listed-born}
-use Rattle.ent_runner.proofs.Lists.{map_map_is}
-use Rattle.ent_script.specs.declared.operation.Operation.{Operation}
 use Rattle.ent_script.specs.declared.target.Target.TheVariants as target
-use Rattle.spawnrun_lib.specs.Issuing.{IsOfBirth, MayIssue}
-use Rattle.spawnrun_lib.specs.IssuedAlone.{births_meant, queues_alone, NamesNoHandle, IsGranted, AreGranted}
-use Rattle.spawnrun_lib.specs.FrameAlone.{IsFrameAlone, queues_by_births}
 use Rattle.spawnrun_lib.proofs.QueuesAlone.{AreInOrder, queue-alone}
 
 -- no queue lists more handles than all queues together

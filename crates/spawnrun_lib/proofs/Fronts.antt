@@ -1,15 +1,7 @@
 -- Fronts of texts: of a text that is appended to, of one in printable ASCII, and of one of which
 -- only the first parts are looked at.
-use Rattle.std.proofs.lemmas.Grind.{common_steps, flat_map-append, take_at_read}
-use Rattle.std.proofs.Common.{rules, ◌≡◌, ℕ, suc, ◌+◌, ◌≤◌, ◌<◌, true, List, [], ◌∷◌, ◌++◌, length, take, sym, ap, subst, ◌∙◌, arith, codes, append_assoc, length-append, inl, inr, flat_map}
-use Rattle.std.specs.Prelude.{nat_le, slice_index}
-use Rattle.std.specs.Fmt.Cut.{cut_to, floor_char_boundary}
-use Rattle.std.specs.Fmt.{is_char_start}
-use Rattle.std.proofs.lemmas.Bool.{cond-true, cond-false, cases_lt}
-use Rattle.std.proofs.lemmas.Bool.Decides.{nat_tests}
-use Rattle.std.proofs.lemmas.List.{take-append-le, append-nil, length-take-le, take_all}
-use Rattle.std.proofs.lemmas.List.Elements.{All-append, All-take, All-cons, All-nil}
-use Rattle.spawnrun_lib.specs.Shown.{ArePrintable, IsPrintable, front}
+use Rattle.spawnrun_lib.proofs.Common.{common_steps, flat_map-append, take_at_read, rules, ◌≡◌, ℕ, suc, ◌+◌, ◌≤◌, ◌<◌, true, List, [], ◌∷◌, ◌++◌, length, take, sym, ap, subst, ◌∙◌, arith, codes, append_assoc, inl, inr, nat_le, slice_index, cut_to, floor_char_boundary, is_char_start, cond-true, cond-false, cases_lt, nat_tests, take-append-le, length-take-le, take_all, All-append, All-take, All-cons, All-nil, ArePrintable, IsPrintable, front, append-nil}
+use Rattle.std.proofs.Common.{length-append, flat_map}
 
 pub front-short : (text : List ℕ) → length text ≤ 60 → front text ≡ text
 unfolding front

@@ -1,8 +1,5 @@
 -- What is made of the bytes that were read is made of what the source tells.
-use Rattle.std.proofs.Common.{rules, ◌≡◌, ◌≤◌, ◌<◌, List, [], ℕ, Option, length, IfSome}
-use Rattle.spawnrun_lib.specs.Wants.{size_wants}
-use Rattle.spawnrun_lib.specs.declared.work.Product.{Product}
-use Rattle.spawnrun_lib.specs.Work.{Accepts, IsProductOf, Refusal, Refuses, fails, input_limit, is_too_long, size_line}
+use Rattle.spawnrun_lib.proofs.Common.{rules, ◌≡◌, ◌≤◌, ◌<◌, List, [], ℕ, Option, length, IfSome, size_wants, Product, Accepts, IsProductOf, Refusal, Refuses, fails, input_limit, is_too_long, size_line}
 
 module _ (Gives : List ℕ → List ℕ → Type 0) (Fails : List ℕ → Refusal → Type 0) where
   within : (input : List ℕ) (made : Product) → length input ≤ input_limit → IsProductOf Gives Fails input made

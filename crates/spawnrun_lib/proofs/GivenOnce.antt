@@ -1,17 +1,6 @@
 -- No handle is given twice over all frames of a run.
-use Rattle.std.proofs.Common.{rules, ◌≢◌, ℕ, List, [], ◌∷◌, ◌++◌, append_assoc, append-nil, AllPairs}
-use Rattle.ent_handle.specs.Handle.{Handle}
-use Rattle.ent_alloc.specs.Spent.{AreSpent}
-use Rattle.ent_alloc.specs.History.{given_in, AreGivenOnce}
-use Rattle.ent_alloc.specs.Limits.{AreLimits}
-use Rattle.ent_alloc.specs.Sound.{IsSound}
-use Rattle.ent_world.specs.World.{World, first_world, AreLiving}
-use Rattle.ent_world.proofs.GivenOnce.{frame-given, frame-sound, frame-living, opening-given, first_world-sound, first_world-living}
-use Rattle.ent_script.specs.Script.{Script}
-use Rattle.ent_script.specs.declared.operation.Operation.{Operation}
-use Rattle.spawnrun_lib.specs.Report.{Execution, AreExecutions, synced, IsReportOf}
-use Rattle.spawnrun_lib.specs.Given.{handles_in_run}
-use Rattle.spawnrun_lib.specs.declared.show.Show.{Show}
+use Rattle.spawnrun_lib.proofs.Common.{rules, ◌≢◌, ℕ, List, [], ◌∷◌, ◌++◌, append_assoc, append-nil, Handle, AreSpent, given_in, AreGivenOnce, AreLimits, IsSound, World, first_world, AreLiving, frame-given, frame-sound, frame-living, opening-given, first_world-sound, first_world-living, Script, Operation, Execution, AreExecutions, synced, IsReportOf, handles_in_run, Show}
+use Rattle.std.proofs.Common.{AllPairs}
 
 more_given : (workers : ℕ) (w : World) (frames : List (List (List Operation))) (executions : List Execution)
     (given : List Handle) → IsSound w.allocator → AreLiving w.allocator w.entities

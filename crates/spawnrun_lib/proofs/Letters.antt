@@ -1,11 +1,7 @@
 -- A text letter after letter.
-use Rattle.spawnrun_lib.specs.Shown.{front}
+use Rattle.spawnrun_lib.proofs.Common.{front, sym, ◌∙◌, ◌≤◌, rules, ◌≡◌, ℕ, ◌++◌, [], List, length, ap, IsUtf8, nil_from_length, chars-nil, chars_past_char, encode_utf8, chars}
 use Rattle.spawnrun_lib.proofs.Fronts.{front-nothing, go_on}
-use Rattle.std.proofs.Common.{sym, ◌∙◌, ◌≤◌, rules, ◌≡◌, ℕ, ◌++◌, [], List, length, ap, IsUtf8, flat_map}
-use Rattle.std.proofs.lemmas.List.{nil_from_length}
-use Rattle.std.proofs.lemmas.Str.{chars-nil, chars_past_char}
-use Rattle.std.specs.Char.{encode_utf8}
-use Rattle.std.specs.Str.{chars}
+use Rattle.std.proofs.Common.{flat_map}
 
 no_letters : (part : ℕ → List ℕ) (text : List ℕ) → length text ≡ 0 → flat_map part (chars text) ≡ []
 no_letters part text none = search (rules, nil_from_length, chars-nil)

@@ -39,3 +39,4 @@ pub mod TaskOfWords
 pub mod GivenInput
 pub mod FaultRead
 pub mod EventsApplied
+pub mod Common

@@ -1,10 +1,5 @@
 -- The line of a number in a text, line after line.
-use Rattle.std.proofs.Common.{rules, ◌≡◌, ℕ, ◌-◌, ◌<◌, List, [], ◌∷◌, ◌++◌}
-use Rattle.std.specs.Prelude.{slice_index_or}
-use Rattle.std.proofs.lemmas.Bool.{cases_lt}
-use Rattle.std.proofs.lemmas.List.{nil_from_length}
-use Rattle.ent_replay.specs.ScheduleText.{lines_of}
-use Rattle.ent_replay.proofs.ScheduleWords.{IsWithout, lines_whole, lines_first}
+use Rattle.spawnrun_lib.proofs.Common.{rules, ◌≡◌, ℕ, ◌-◌, ◌<◌, List, [], ◌∷◌, ◌++◌, cases_lt, nil_from_length, lines_of, IsWithout, lines_whole, lines_first, slice_index_or}
 
 -- the line with this number, from 0
 abbrev pub nth : ℕ → List ℕ → List ℕ

@@ -1,15 +1,7 @@
 -- The faults that clap finds in words stay the same if the names that an option takes move in
 -- memory.
 use Rattle.spawnrun_lib.proofs.MovedNames.{any_name-moved, moved_rule, moved_shape, both_arms, either, values_fault-moved, missing-moved, default-moved, found-moved, settled-moved, reacted-moved, word_met-moved, walked-moved, walk-moved, finished-moved, found_gives-moved}
-use Rattle.std.proofs.Common.{rules, ◌≡◌, ◌&&◌, ℕ, Bool, not, List, [], ◌∷◌, zero, suc, refl, map, Option, Some, None}
-use Rattle.std.specs.Prelude.{option_map}
-use Rattle.clap.specs.Words.{Row, Rule, Shape, Text}
-use Rattle.clap.specs.Kinds.{Kinds}
-use Rattle.clap.specs.Takes.{is_given}
-use Rattle.clap.specs.Walk.{Held, Names, Step, Walk, walk, walk_from}
-use Rattle.clap.specs.Faults.{action_fault, check_fault, count_fault, default_fault, defaults_fault, flag_word_fault, flags_fault, level_fault, long_fault, option_fault, other_fault, positional_fault, react_fault, settle_fault, short_fault, step_fault, turn_fault, use_fault, walk_fault}
-use Rattle.clap.specs.declared.builder.ArgAction.{ArgAction}
-use Rattle.clap.proofs.WalkLemmas.{list_any-map}
+use Rattle.spawnrun_lib.proofs.Common.{rules, ◌≡◌, ◌&&◌, ℕ, Bool, not, List, [], ◌∷◌, zero, suc, refl, map, Option, Some, None, option_map, Row, Rule, Shape, Text, Kinds, is_given, Held, Names, Step, Walk, walk, walk_from, action_fault, check_fault, count_fault, default_fault, defaults_fault, flag_word_fault, flags_fault, level_fault, long_fault, option_fault, other_fault, positional_fault, react_fault, settle_fault, short_fault, step_fault, turn_fault, use_fault, walk_fault, ArgAction, list_any-map}
 
 count_fault-moved : (a : Rule) (values : List Text) (rows : List Row)
     → count_fault (moved_rule a) values rows ≡ count_fault a values rows

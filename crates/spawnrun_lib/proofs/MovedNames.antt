@@ -1,19 +1,7 @@
 -- Clap reads the names that an option takes, and not where they stand in memory: the rows that it
 -- makes of words stay the same if they move.
-use Rattle.std.proofs.Common.{rules, ◌≡◌, ℕ, Bool, List, [], ◌∷◌, cond, zero, suc, refl, sym, map, Option}
-use Rattle.std.specs.Prelude.{fold, find, option_map}
-use Rattle.std.specs.Borrow.{Bor}
-use Rattle.std.specs.List.{list_any}
-use Rattle.clap.specs.Words.{Row, Rule, Shape, Text}
-use Rattle.clap.specs.Kinds.{Kinds, or_else}
-use Rattle.clap.specs.Values.{same_text}
-use Rattle.clap.specs.Walk.{Held, Names, Outcome, Waiting, Walk, after_flag, bundle_met, finished, flag_met, long_met, long_or_other, option_word, plain_word, reacted, rows_after, settled, settled_rows, short_met, short_or_plain, texts, to_positional, used, values_or_missing, walked, walked_from, with_default, word_met}
-use Rattle.clap.specs.Faults.{values_fault}
-use Rattle.clap.specs.declared.builder.value_parser.ValueParser.{ValueParser}
+use Rattle.spawnrun_lib.proofs.Common.{rules, ◌≡◌, ℕ, Bool, List, [], ◌∷◌, cond, zero, suc, refl, sym, map, Option, fold, find, option_map, list_any, Row, Rule, Shape, Text, Kinds, or_else, same_text, Held, Names, Outcome, Waiting, Walk, after_flag, bundle_met, finished, flag_met, long_met, long_or_other, option_word, plain_word, reacted, rows_after, settled, settled_rows, short_met, short_or_plain, texts, to_positional, used, values_or_missing, walked, walked_from, with_default, word_met, values_fault, ValueParser, find-map, references_to, option_map_or, Bor}
 use Rattle.clap.specs.declared.builder.value_parser.ValueParser.TheVariants as vp
-use Rattle.clap.proofs.WalkLemmas.{find-map}
-use Rattle.spawnrun_lib.specs.CommandLine.{references_to}
-use Rattle.std.specs.Option.{option_map_or}
 
 abbrev pub moved : ValueParser → ValueParser
 moved (vp.Names names) = vp.Names (references_to (texts names.now))

@@ -1,12 +1,5 @@
 -- The words that clap takes stay the same if the names that an option takes move in memory.
-use Rattle.std.proofs.lemmas.Grind.{common_steps}
-use Rattle.std.proofs.Common.{rules, arith, ◌≡◌, ◌&&◌, ◌||◌, ℕ, Bool, not, List, [], ◌∷◌, zero, suc, refl, map, Option, Some, None}
-use Rattle.std.specs.Prelude.{option_map}
-use Rattle.std.specs.List.{list_all}
-use Rattle.clap.specs.Words.{Row, Rule, Shape, Text}
-use Rattle.clap.specs.Takes.{action_passes, count_passes, default_passes, flag_word_passes, flags_pass, is_given, is_valid, level_passes, long_passes, option_passes, other_passes, positional_passes, react_passes, settle_passes, short_passes, step_passes, turn_passes, use_passes, values_pass, walk_passes}
-use Rattle.clap.specs.Walk.{Held, Names, Step, Walk, walk, walk_from}
-use Rattle.clap.specs.declared.builder.ArgAction.{ArgAction}
+use Rattle.spawnrun_lib.proofs.Common.{common_steps, rules, arith, ◌≡◌, ◌&&◌, ◌||◌, ℕ, Bool, not, List, [], ◌∷◌, zero, suc, refl, map, Option, Some, None, option_map, list_all, Row, Rule, Shape, Text, action_passes, count_passes, default_passes, flag_word_passes, flags_pass, is_given, is_valid, level_passes, long_passes, option_passes, other_passes, positional_passes, react_passes, settle_passes, short_passes, step_passes, turn_passes, use_passes, values_pass, walk_passes, Held, Names, Step, Walk, walk, walk_from, ArgAction}
 use Rattle.clap.specs.declared.builder.ArgAction.TheVariants as action
 use Rattle.spawnrun_lib.proofs.MovedNames.{moved_rule, moved_shape, both_arms, any_name-moved, missing-moved, found-moved, settled-moved, reacted-moved, word_met-moved, walked-moved, walk-moved, finished-moved, found_gives-moved}
 

@@ -1,18 +1,5 @@
 -- A run whose first frames are done goes on by one frame, and ends in a report.
-use Rattle.std.proofs.Common.{rules, ◌≡◌, refl, subst, ℕ, ◌+◌, ◌≤◌, List, [], ◌∷◌, ◌++◌, length, arith, append_assoc, append-nil}
-use Rattle.std.proofs.lemmas.List.{length-append}
-use Rattle.std.proofs.lemmas.List.Elements.{All-head, All-tail}
-use Rattle.ent_handle.specs.Handle.{Handle}
-use Rattle.ent_queue.specs.Command.{Command}
-use Rattle.ent_world.specs.World.{World}
-use Rattle.ent_world.specs.declared.fault.Fault.{Fault}
-use Rattle.ent_runner.specs.Frame.{IsFrame, Ends}
-use Rattle.ent_script.specs.declared.operation.Operation.{Operation}
-use Rattle.spawnrun_lib.specs.Issuing.{MayIssue}
-use Rattle.spawnrun_lib.specs.declared.show.Show.{Show}
-use Rattle.spawnrun_lib.specs.FrameText.{frame_text}
-use Rattle.spawnrun_lib.specs.Report.{Execution, AreExecutions, synced, born_in, last_world, frames_text}
-use Rattle.spawnrun_lib.specs.Course.{AreFew, HaveGone}
+use Rattle.spawnrun_lib.proofs.Common.{rules, ◌≡◌, refl, subst, ℕ, ◌+◌, ◌≤◌, List, [], ◌∷◌, ◌++◌, length, arith, append_assoc, append-nil, length-append, All-head, All-tail, Handle, Command, World, Fault, IsFrame, Ends, Operation, MayIssue, Show, frame_text, Execution, AreExecutions, synced, born_in, last_world, frames_text, AreFew, HaveGone}
 
 -- ---- one frame more
 

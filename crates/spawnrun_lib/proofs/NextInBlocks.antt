@@ -1,17 +1,5 @@
 -- A run in blocks whose first frames are done goes on by one frame, and ends in the text of the script.
-use Rattle.std.proofs.Common.{◌≡◌, refl, ℕ, ◌+◌, List, [], ◌∷◌, ◌++◌, length, append_assoc, append-nil, subst, sym}
-use Rattle.std.proofs.lemmas.List.{length-append}
-use Rattle.ent_handle.specs.Handle.{Handle}
-use Rattle.ent_queue.specs.Command.{Command}
-use Rattle.ent_world.specs.World.{World, first_world}
-use Rattle.ent_world.specs.declared.fault.Fault.{Fault}
-use Rattle.ent_script.specs.Script.{Script}
-use Rattle.ent_script.specs.declared.operation.Operation.{Operation}
-use Rattle.spawnrun_lib.specs.CourseInBlocks.{EndsInBlocks, HaveGoneInBlocks}
-use Rattle.spawnrun_lib.specs.FrameText.{frame_text}
-use Rattle.spawnrun_lib.specs.ReportInBlocks.{IsTextFrom, IsTextInBlocks, sizes_of}
-use Rattle.spawnrun_lib.specs.WorldText.{IsWorldText}
-use Rattle.spawnrun_lib.specs.declared.show.Show.{Show}
+use Rattle.spawnrun_lib.proofs.Common.{◌≡◌, refl, ℕ, ◌+◌, List, [], ◌∷◌, ◌++◌, length, append_assoc, append-nil, subst, sym, length-append, Handle, Command, World, first_world, Fault, Script, Operation, EndsInBlocks, HaveGoneInBlocks, frame_text, IsTextFrom, IsTextInBlocks, sizes_of, IsWorldText, Show}
 
 module _ (names : List (List ℕ)) (size : ℕ) (show : Show) (first : World) where
   pub has_begun_in_blocks : HaveGoneInBlocks names size show first first [] []

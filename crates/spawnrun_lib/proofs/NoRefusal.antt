@@ -1,28 +1,8 @@
 -- A report by births that tells of no refusal: no request of the run was refused. A request that
 -- was refused is a fault of its frame, faults are only appended, and each has its line in the text.
-use Rattle.std.proofs.lemmas.Grind.{common_steps}
-use Rattle.std.proofs.Common.{rules, arith, ◌≡◌, refl, ◌∙◌, inl, inr, ℕ, ◌+◌, List, [], ◌∷◌, ◌++◌, length, All, append_assoc, append-nil}
-use Rattle.std.specs.Prelude.{codes}
-use Rattle.std.specs.Fmt.{decimal}
-use Rattle.std.specs.List.{flat_map}
-use Rattle.std.proofs.lemmas.List.Elements.{All-nil, All-cons, All-head}
-use Rattle.ent_handle.specs.Handle.{Handle}
-use Rattle.ent_alloc.proofs.ListLaws.{All-left, All-right}
+use Rattle.spawnrun_lib.proofs.Common.{common_steps, rules, arith, ◌≡◌, refl, ◌∙◌, inl, inr, ℕ, ◌+◌, List, [], ◌∷◌, ◌++◌, length, All, append_assoc, append-nil, decimal, flat_map, All-nil, All-cons, All-head, Handle, All-left, All-right, Command, Refused, Fault, FaultKind, World, first_world, Applied, applied, on_entity, on_each, with_fault, after_command, after_commands, after_queues, after_births, sync, reserved_by, Script, IsGranted, AreGranted, Births, kind_text, fault_line, frame_line, Execution, synced, born_in, frames_text, IsReportOf, IsRefusedRequest, IsLines, TellsNoRefusal, codes}
 use Rattle.ent_alloc.specs.declared.refused.Refused.TheVariants as refusal
-use Rattle.ent_queue.specs.Command.{Command, Refused}
-use Rattle.ent_world.specs.declared.fault.Fault.{Fault}
-use Rattle.ent_world.specs.declared.fault.FaultKind.{FaultKind}
 use Rattle.ent_world.specs.declared.fault.FaultKind.TheVariants as kind
-use Rattle.ent_world.specs.World.{World, first_world}
-use Rattle.ent_world.specs.Effects.{Applied, applied, on_entity, on_each, with_fault, after_command, after_commands, after_queues}
-use Rattle.ent_world.specs.Sync.{after_births, sync}
-use Rattle.ent_runner.specs.Frame.{reserved_by}
-use Rattle.ent_script.specs.Script.{Script}
-use Rattle.spawnrun_lib.specs.IssuedAlone.{IsGranted, AreGranted}
-use Rattle.spawnrun_lib.specs.declared.show.Show.TheVariants.{Births}
-use Rattle.spawnrun_lib.specs.FrameText.{kind_text, fault_line, frame_line}
-use Rattle.spawnrun_lib.specs.Report.{Execution, synced, born_in, frames_text, IsReportOf}
-use Rattle.spawnrun_lib.specs.SameReport.{IsRefusedRequest, IsLines, TellsNoRefusal}
 
 -- ---- faults without a refusal: so were those before, and each command was granted
 

@@ -1,36 +1,10 @@
 -- A frame of scripted systems on one worker has one course: its queues and its history follow from
 -- the systems and the world.
-use Rattle.std.proofs.Common.{rules, ◌≡◌, refl, sym, ◌∙◌, arith, append-nil, ℕ, ◌<◌, ℤ, List, [], ◌∷◌, ◌++◌, length, Some, Ok, Err, Result}
-use Rattle.std.proofs.lemmas.Grind.{common_steps}
-use Rattle.std.specs.Prelude.{if◌then◌else◌, nat_lt, slice_get}
-use Rattle.std.specs.List.{All, AllPairs, flat_map, range_with_len}
-use Rattle.std.specs.List.Sorted.{IsPermutation}
-use Rattle.std.proofs.lemmas.Bool.{cond-true, cond-false, lt-ltb, le-ltb}
-use Rattle.std.proofs.lemmas.List.{ext_get_or}
-use Rattle.std.proofs.lemmas.List.Elements.{All-nil, All-cons, All-head, All-tail}
-use Rattle.std.proofs.lemmas.List.FromFn.{length-range_with_len, get_or-range_with_len}
-use Rattle.std.proofs.lemmas.List.Sorted.{All-permutation, IsPermutation-sym}
-use Rattle.ent_handle.specs.declared.component.ComponentId.{ComponentId}
-use Rattle.ent_handle.specs.declared.birth.Birth.{Birth}
-use Rattle.ent_handle.specs.Handle.{Handle}
-use Rattle.ent_alloc.specs.declared.space.Space.{Space as OutOfSpace}
-use Rattle.ent_alloc.specs.Limits.{quota}
-use Rattle.ent_alloc.specs.Sequential.{Allocator, reply_to}
-use Rattle.ent_alloc.specs.History.{Call}
-use Rattle.ent_alloc.proofs.PoolLaw.{reply-none}
-use Rattle.ent_alloc.specs.declared.refused.Refused.TheVariants.{Space, Quota}
-use Rattle.ent_storage.proofs.OneList.{one_list_with}
-use Rattle.ent_queue.specs.Command.{Command, Spawn, SpawnMany, Refused}
-use Rattle.ent_world.specs.World.{World}
-use Rattle.ent_world.specs.OpenWorld.{View}
-use Rattle.ent_runner.specs.Frame.{IsFrame, view_of, queue_at, commands_of}
-use Rattle.ent_runner.proofs.Lists.{at_within, all_below}
-use Rattle.ent_runner.proofs.Alone.{calls_back}
-use Rattle.ent_script.specs.declared.operation.Operation.{Operation}
+use Rattle.spawnrun_lib.proofs.Common.{rules, ◌≡◌, refl, sym, ◌∙◌, arith, append-nil, ℕ, ◌<◌, ℤ, List, [], ◌∷◌, ◌++◌, length, Some, Ok, Result, common_steps, if◌then◌else◌, nat_lt, slice_get, AllPairs, flat_map, range_with_len, IsPermutation, cond-true, cond-false, lt-ltb, le-ltb, ext_get_or, All-nil, All-cons, All-head, All-tail, length-range_with_len, get_or-range_with_len, All-permutation, IsPermutation-sym, ComponentId, Birth, Handle, OutOfSpace, quota, Allocator, reply_to, Call, reply-none, Quota, one_list_with, Command, Spawn, SpawnMany, Refused, World, View, IsFrame, view_of, queue_at, commands_of, at_within, all_below, calls_back, Operation, Target, Bindings, unbound, names_after, IsOfBirth, IsTargeted, OnEach, IsSpawn, IsSpawnMany, Issues, IssuesAll, MayIssue, All}
+use Rattle.std.proofs.Common.{Err}
+use Rattle.ent_alloc.specs.declared.refused.Refused.TheVariants.{Space}
 use Rattle.ent_script.specs.declared.operation.Operation.TheVariants as operation
-use Rattle.ent_script.specs.declared.target.Target.{Target}
 use Rattle.ent_script.specs.declared.target.Target.TheVariants as target
-use Rattle.spawnrun_lib.specs.Issuing.{Bindings, unbound, names_after, IsOfBirth, IsTargeted, OnEach, IsSpawn, IsSpawnMany, Issues, IssuesAll, MayIssue}
 use Rattle.spawnrun_lib.proofs.RisingLists.{one_rising}
 use Rattle.spawnrun_lib.proofs.Served.{calls_of, IsServed, state_after, left_after, served_first, served_rest}
 

@@ -1,12 +1,7 @@
 -- With one worker a script has one report.
-use Rattle.std.proofs.Common.{rules, ◌≡◌, refl, sym, ◌∙◌, ℕ, List, [], ◌∷◌, ◌++◌}
-use Rattle.ent_world.specs.World.{World, first_world}
-use Rattle.ent_script.specs.Script.{Script}
-use Rattle.ent_script.specs.declared.operation.Operation.{Operation}
+use Rattle.spawnrun_lib.proofs.Common.{rules, ◌≡◌, refl, sym, ◌∙◌, ℕ, List, [], ◌∷◌, ◌++◌, World, first_world, Script, Operation, Show, Execution, AreExecutions, synced, last_world, frames_text, IsReport}
 use Rattle.spawnrun_lib.proofs.OneCourse.{one_course}
-use Rattle.spawnrun_lib.specs.declared.show.Show.{Show}
 use Rattle.spawnrun_lib.proofs.OneText.{one_text}
-use Rattle.spawnrun_lib.specs.Report.{Execution, AreExecutions, synced, last_world, frames_text, IsReport}
 
 same_executions : (w : World) (frames : List (List (List Operation))) (es fs : List Execution)
     → AreExecutions 1 w frames es → AreExecutions 1 w frames fs → es ≡ fs

@@ -1,26 +1,7 @@
 -- In blocks a script has one text: its queues, its handles and its world follow from the script and the
 -- size of the blocks.
-use Rattle.std.proofs.Common.{◌≡◌, refl, sym, ap, ◌∙◌, arith, ℕ, suc, ◌+◌, ◌-◌, ◌<◌, ◌≤◌, ℤ, List, [], ◌∷◌, ◌++◌, length, take}
-use Rattle.std.proofs.lemmas.Grind.{common_steps}
-use Rattle.std.specs.Prelude.{filter}
-use Rattle.std.proofs.lemmas.List.{ext_get_or, length-append}
-use Rattle.ent_handle.specs.declared.component.ComponentId.{ComponentId}
-use Rattle.ent_handle.specs.Handle.{Handle}
-use Rattle.ent_alloc.specs.Sequential.{Allocator, is_old, is_fresh, listed}
-use Rattle.ent_blocks.specs.Blocks.{Block, rest_of, after_use, blocks_from, lesser}
-use Rattle.ent_queue.specs.Command.{Command, Spawn, SpawnMany}
-use Rattle.ent_queue.specs.Drawing.{AreDrawnBy, left_of, used_by}
-use Rattle.ent_world.specs.OpenWorld.{View}
-use Rattle.ent_world.specs.Sync.{sync}
-use Rattle.ent_world.specs.World.{World, first_world}
-use Rattle.ent_runner.specs.Frame.{view_of, queue_at}
-use Rattle.ent_runner.proofs.Lists.{at_within}
-use Rattle.ent_script.specs.Script.{Script}
-use Rattle.ent_script.specs.declared.operation.Operation.{Operation}
+use Rattle.spawnrun_lib.proofs.Common.{◌≡◌, refl, sym, ap, ◌∙◌, arith, ℕ, suc, ◌+◌, ◌-◌, ◌<◌, ◌≤◌, ℤ, List, [], ◌∷◌, ◌++◌, length, take, common_steps, filter, ext_get_or, length-append, ComponentId, Handle, Allocator, is_old, is_fresh, listed, Block, rest_of, after_use, blocks_from, lesser, Command, Spawn, SpawnMany, AreDrawnBy, left_of, used_by, View, sync, World, first_world, view_of, queue_at, at_within, Script, Operation, Bindings, unbound, names_after, IsSpawn, IsSpawnMany, Issues, IssuesAll, AreQueues, IsTextFrom, IsTextInBlocks, sizes_of, blocks_of_frame, reserved_in, Show}
 use Rattle.ent_script.specs.declared.operation.Operation.TheVariants as operation
-use Rattle.spawnrun_lib.specs.Issuing.{Bindings, unbound, names_after, IsSpawn, IsSpawnMany, Issues, IssuesAll}
-use Rattle.spawnrun_lib.specs.ReportInBlocks.{AreQueues, IsTextFrom, IsTextInBlocks, sizes_of, blocks_of_frame, reserved_in}
-use Rattle.spawnrun_lib.specs.declared.show.Show.{Show}
 use Rattle.spawnrun_lib.proofs.OneCourse.{same_on_each}
 use Rattle.spawnrun_lib.proofs.OneText.{one_text}
 

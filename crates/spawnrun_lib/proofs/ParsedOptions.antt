@@ -1,24 +1,7 @@
 -- One induction over clap's walk, and so one file of more than 400 lines: where clap's parse of a
 -- command of options doesn't fail, each option has one value, which it accepts.
-use Rattle.std.proofs.lemmas.Grind.{common_steps}
-use Rattle.std.proofs.Common.{rules, ◌≡◌, ◌∙◌, ◌⊎◌, ◌==◌, ◌&&◌, ℕ, Bool, true, false, List, [], ◌∷◌, ◌++◌, length, cond, zero, suc, refl, inl, inr, arith, append-nil, Option, Some, None, IfSome, is_some}
-use Rattle.std.specs.Prelude.{fold, find}
-use Rattle.std.specs.List.{AllByRecursion}
-use Rattle.std.specs.Option.{option_map_or}
-use Rattle.std.specs.Str.{bytes_eq}
-use Rattle.std.proofs.lemmas.Slice.Eq.{bytes_eq-Decides}
-use Rattle.clap.specs.Words.{Row, Rule, Shape, Text, first_of, one_of, read_as}
-use Rattle.clap.specs.Kinds.{Kinds, or_else, range_kinds}
-use Rattle.clap.specs.Values.{is_request}
-use Rattle.clap.specs.Takes.{value_passes}
-use Rattle.clap.specs.Lexer.{long_of}
-use Rattle.clap.specs.Walk.{nothing_held, long_or_other, Held, Outcome, Step, Waiting, Walk, action_of, after_flag, after_step, arg_by_id, at_row, bundle_met, default_rows, flag_met, has_row, long_met, more_values, option_met, plain_word, reacted, reading_by, rows_after, settled, short_met, subcommand_met, subcommand_or_other, used, used_as, used_by_id, values_or_missing, walk_from, walked, with_default, with_values, without, word_met}
-use Rattle.clap.specs.Faults.{set_fault, flag_word_fault, flags_fault, level_fault, long_fault, option_fault, react_fault, settle_fault, short_fault, turn_fault, use_fault, walk_fault}
-use Rattle.clap.specs.declared.builder.ArgAction.TheVariants.{Set}
-use Rattle.clap.specs.declared.error.ErrorKind.{ErrorKind}
-use Rattle.clap.specs.declared.error.ErrorKind.TheVariants.{ArgumentConflict, TooManyValues}
-use Rattle.clap.specs.declared.parser.matches.ValueSource.{ValueSource}
-use Rattle.clap.specs.declared.parser.matches.ValueSource.TheVariants.{DefaultValue}
+use Rattle.spawnrun_lib.proofs.Common.{common_steps, rules, ◌≡◌, ◌∙◌, ◌⊎◌, ◌&&◌, ℕ, Bool, true, false, List, [], ◌∷◌, ◌++◌, length, cond, zero, suc, refl, inl, inr, arith, append-nil, Option, Some, None, IfSome, is_some, fold, find, AllByRecursion, option_map_or, bytes_eq, bytes_eq-Decides, Row, Rule, Shape, Text, first_of, one_of, read_as, Kinds, or_else, range_kinds, is_request, value_passes, long_of, nothing_held, long_or_other, Held, Outcome, Step, Waiting, Walk, action_of, after_flag, after_step, arg_by_id, at_row, bundle_met, default_rows, flag_met, has_row, long_met, more_values, option_met, plain_word, reacted, reading_by, rows_after, settled, short_met, subcommand_met, subcommand_or_other, used, used_as, used_by_id, values_or_missing, walk_from, walked, with_default, with_values, without, word_met, set_fault, flag_word_fault, flags_fault, level_fault, long_fault, option_fault, react_fault, settle_fault, short_fault, turn_fault, use_fault, walk_fault, Set, ErrorKind, ArgumentConflict, TooManyValues, ValueSource, DefaultValue}
+use Rattle.std.proofs.Common.{◌==◌}
 
 -- ---- kinds of errors
 

@@ -1,9 +1,5 @@
 -- Pieces of a text that is shown, from nothing on.
-use Rattle.std.proofs.Common.{rules, ◌≡◌, ℕ, ◌^◌, ◌<◌, true, ◌++◌, [], List, ap, ◌∙◌}
-use Rattle.std.specs.Fmt.{decimal}
-use Rattle.std.specs.List.{list_all}
-use Rattle.std.specs.Prelude.{Option, IfSome}
-use Rattle.spawnrun_lib.specs.Shown.{ArePrintable, front, is_printable, plain}
+use Rattle.spawnrun_lib.proofs.Common.{rules, ◌≡◌, ℕ, ◌^◌, ◌<◌, true, ◌++◌, [], List, ap, ◌∙◌, decimal, list_all, ArePrintable, front, is_printable, plain, Option, IfSome}
 use Rattle.spawnrun_lib.proofs.Fronts.{go_on}
 use Rattle.spawnrun_lib.proofs.Printable.{both, decimal-printable, passes, plain_same}
 

@@ -1,15 +1,6 @@
 -- Texts in printable ASCII: those that a test passes, and decimals.
-use Rattle.std.proofs.lemmas.Grind.{common_steps}
-use Rattle.std.proofs.Common.{rules, ◌≡◌, ℕ, ◌+◌, ◌^◌, ◌<◌, true, List, [], ◌∷◌, ◌++◌, arith, refl, flat_map}
-use Rattle.std.specs.Fmt.{decimal}
-use Rattle.std.specs.List.{list_all}
-use Rattle.std.proofs.lemmas.Bool.{and_parts, cond-true}
-use Rattle.std.proofs.lemmas.Bool.Decides.{nat_tests}
-use Rattle.std.proofs.lemmas.List.Elements.{All-nil, All-cons, All-append, All-head, All-tail, All-weaker}
-use Rattle.std.proofs.lemmas.Str.{chars-IsAscii}
-use Rattle.std.proofs.lemmas.Str.Ascii.{IsAscii-from_all}
-use Rattle.std.proofs.lemmas.Fmt.{decimal_by_steps}
-use Rattle.spawnrun_lib.specs.Shown.{ArePrintable, IsPrintable, is_printable, char_text, plain}
+use Rattle.spawnrun_lib.proofs.Common.{common_steps, rules, ◌≡◌, ℕ, ◌+◌, ◌^◌, ◌<◌, true, List, [], ◌∷◌, ◌++◌, arith, refl, decimal, list_all, and_parts, cond-true, nat_tests, All-nil, All-cons, All-append, All-head, All-tail, All-weaker, chars-IsAscii, IsAscii-from_all, decimal_by_steps, ArePrintable, IsPrintable, is_printable, char_text, plain}
+use Rattle.std.proofs.Common.{flat_map}
 
 printable_from_test : (code : ℕ) → is_printable code ≡ true → IsPrintable code
 printable_from_test code h = (grind (arith, nat_tests), grind (arith, nat_tests))

@@ -1,27 +1,9 @@
 -- What a system issues by births is its queue with births in the place of handles, if no request of
 -- it was refused and it names no handle.
-use Rattle.std.proofs.lemmas.Grind.{common_steps}
-use Rattle.std.proofs.Common.{rules, ◌≡◌, refl, sym, ap, subst, ℕ, ◌+◌, arith, ℤ, List, [], ◌∷◌, ◌++◌, map, length, All, Some}
-use Rattle.spawnrun_lib.specs.Issuing.{bound, OnEach, Bindings, names_after, IsTargeted, IsSpawn, IsSpawnMany, IsOfBirth, IssuesAll}
-use Rattle.std.specs.List.{AllZip, range_with_len}
-use Rattle.std.proofs.lemmas.List.Elements.{All-nil, All-cons, All-head, All-tail}
-use Rattle.ent_handle.specs.declared.birth.Birth.{Birth}
-use Rattle.ent_handle.specs.declared.component.ComponentId.{ComponentId}
-use Rattle.ent_handle.specs.Handle.{Handle}
-use Rattle.ent_alloc.proofs.ListLaws.{All-left, All-right}
-use Rattle.ent_storage.specs.BirthOrder.{ListsWith}
-use Rattle.ent_storage.specs.EntityMap.{EntityMap}
-use Rattle.ent_queue.specs.Command.{Command, Spawn, SpawnMany, Insert, Remove, Despawn}
-use Rattle.ent_world.specs.BirthsAlone.{BirthMap, BirthCommand}
+use Rattle.spawnrun_lib.proofs.Common.{common_steps, rules, ◌≡◌, refl, sym, ap, subst, ℕ, ◌+◌, arith, ℤ, List, [], ◌∷◌, ◌++◌, map, length, All, Some, bound, OnEach, Bindings, names_after, IsTargeted, IsSpawn, IsSpawnMany, IsOfBirth, IssuesAll, AllZip, range_with_len, All-nil, All-cons, All-head, All-tail, Birth, ComponentId, Handle, All-left, All-right, ListsWith, EntityMap, Command, Spawn, SpawnMany, Insert, Remove, Despawn, BirthMap, BirthCommand, IsThere, IsNamedBy, View, listed_by, handles_listed, Operation, Target, BirthBindings, births_from, with_binding, births_meant, issued_alone, IsNoHandle, NeedsNoHandle, IsGranted}
 use Rattle.ent_world.specs.BirthsAlone as alone
-use Rattle.ent_world.specs.Named.{IsThere, IsNamedBy}
-use Rattle.ent_world.specs.OpenWorld.{View}
-use Rattle.ent_world.specs.Sync.{listed_by, handles_listed}
-use Rattle.ent_script.specs.declared.operation.Operation.{Operation}
 use Rattle.ent_script.specs.declared.operation.Operation.TheVariants as operation
-use Rattle.ent_script.specs.declared.target.Target.{Target}
 use Rattle.ent_script.specs.declared.target.Target.TheVariants as target
-use Rattle.spawnrun_lib.specs.IssuedAlone.{BirthBindings, births_from, with_binding, births_meant, issued_alone, IsNoHandle, NeedsNoHandle, IsGranted}
 
 -- ---- what is issued, if nothing is refused
 

@@ -1,26 +1,6 @@
 -- What the calls of a frame request is no more than what the operations of its systems request. So
 -- it counts neither the workers nor the order of the calls.
-use Rattle.std.proofs.lemmas.List.Sums.{sum_by-cons, sum_by-append, sum_by-le-sum_by}
-use Rattle.std.proofs.lemmas.Option.{get_or_from_slice_get}
-use Rattle.std.proofs.Common.{rules, ◌≡◌, ℕ, zero, suc, ◌+◌, ◌<◌, ◌≤◌, List, [], ◌∷◌, length, map, refl, sym, ap, arith, Some, Bool, true, false, cond, inl, inr, eq-eqb, Result}
-use Rattle.std.proofs.lemmas.Grind.{common_steps}
-use Rattle.std.specs.Prelude.{◌==◌, filter, slice_get}
-use Rattle.std.specs.List.{All, sum_by, flat_map, range_with_len}
-use Rattle.std.proofs.lemmas.Bool.{cases_eq}
-use Rattle.std.proofs.lemmas.List.Elements.{All-head, All-tail}
-use Rattle.std.proofs.lemmas.List.Sorted.{sum_by-IsPermutation}
-use Rattle.ent_handle.specs.Handle.{Handle}
-use Rattle.ent_alloc.specs.declared.space.Space.{Space}
-use Rattle.ent_alloc.specs.History.{Call}
-use Rattle.ent_queue.specs.Command.{Command, Refused}
-use Rattle.ent_queue.specs.Reserving.{stands_for, cost}
-use Rattle.ent_world.specs.OpenWorld.{View}
-use Rattle.ent_world.specs.World.{World}
-use Rattle.ent_runner.specs.Frame.{IsFrame, queue_at, commands_of}
-use Rattle.ent_runner.proofs.Lists.{sum_map}
-use Rattle.ent_script.specs.declared.operation.Operation.{Operation}
-use Rattle.spawnrun_lib.specs.Issuing.{Bindings, names_after, Issues, IssuesAll, MayIssue}
-use Rattle.spawnrun_lib.specs.SameReport.{requested_by_operation}
+use Rattle.spawnrun_lib.proofs.Common.{sum_by-cons, sum_by-append, sum_by-le-sum_by, get_or_from_slice_get, rules, ◌≡◌, ℕ, zero, suc, ◌+◌, ◌<◌, ◌≤◌, List, [], ◌∷◌, length, map, refl, sym, ap, arith, Some, Bool, true, false, cond, inl, inr, eq-eqb, Result, common_steps, ◌==◌, filter, slice_get, sum_by, flat_map, range_with_len, cases_eq, All-head, All-tail, sum_by-IsPermutation, Handle, Space, Call, Command, Refused, stands_for, cost, View, World, IsFrame, queue_at, commands_of, sum_map, Operation, Bindings, names_after, Issues, IssuesAll, MayIssue, requested_by_operation, All}
 
 -- ---- sums
 

@@ -1,9 +1,5 @@
 -- Numbers in rising order have one list.
-use Rattle.std.proofs.Common.{rules, ◌≡◌, ℕ, ◌<◌, List, arith}
-use Rattle.std.specs.List.{AllPairs}
-use Rattle.std.specs.List.Sorted.{IsPermutation}
-use Rattle.std.proofs.lemmas.List.Sorted.{Contains-permutation, IsPermutation-sym}
-use Rattle.ent_storage.proofs.OneList.{same_list}
+use Rattle.spawnrun_lib.proofs.Common.{rules, ◌≡◌, ℕ, ◌<◌, List, arith, AllPairs, IsPermutation, Contains-permutation, IsPermutation-sym, same_list}
 
 pub one_rising : (ms ns all : List ℕ) → AllPairs (λ m n. m < n) ms → AllPairs (λ m n. m < n) ns → IsPermutation ms all
     → IsPermutation ns all → ms ≡ ns

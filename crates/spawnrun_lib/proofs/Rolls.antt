@@ -1,22 +1,5 @@
 -- A birth that is looked up in the list of all entities.
-use Rattle.std.proofs.Common.{rules, ◌≡◌, ◌≢◌, ◌⊎◌, inl, inr, ℕ, ◌<◌, ◌≤◌, true, false, List, length, get_or, Option, Some, sym, ap, ◌∙◌, arith, Contains}
-use Rattle.std.specs.declared.cmp.Ordering.{Ordering}
-use Rattle.std.specs.declared.cmp.Ordering.TheVariants.{Less, Equal, Greater}
-use Rattle.std.specs.Ordering.{eq_by_cmp, is_lt, ordering_then}
-use Rattle.std.specs.Option.{option_cmp, option_eq}
-use Rattle.std.specs.Cmp.{IsTotalOrder, tied_itself}
-use Rattle.std.specs.Cmp.Lexicographic.{options_total}
-use Rattle.std.specs.List.Sorted.{IsPartitionedBy}
-use Rattle.std.proofs.lemmas.Bool.{cases_lt, false≢true}
-use Rattle.std.proofs.lemmas.List.{get_or_default}
-use Rattle.ent_handle.specs.declared.birth.Birth.{Birth}
-use Rattle.ent_handle.specs.Birth.{birth_cmp, birth_cmp_total, birth_cmp-IsAntisymmetric}
-use Rattle.ent_handle.specs.Handle.{Handle, handle_cmp, handle_cmp_total}
-use Rattle.ent_storage.specs.BirthOrder.{birth_order, ListsAll}
-use Rattle.ent_storage.specs.EntityMap.{EntityMap, birth_of}
-use Rattle.ent_storage.proofs.OfBirth.{same_birth}
-use Rattle.ent_world.specs.OpenWorld.{View}
-use Rattle.spawnrun_lib.specs.Rolls.{is_before, IsFirstFrom}
+use Rattle.spawnrun_lib.proofs.Common.{rules, ◌≡◌, ◌≢◌, ◌⊎◌, inl, inr, ℕ, ◌<◌, ◌≤◌, true, false, List, length, get_or, Option, Some, sym, ap, ◌∙◌, arith, Contains, Ordering, Less, Equal, Greater, eq_by_cmp, is_lt, ordering_then, option_cmp, option_eq, IsTotalOrder, tied_itself, options_total, IsPartitionedBy, cases_lt, false≢true, get_or_default, Birth, birth_cmp, birth_cmp_total, birth_cmp-IsAntisymmetric, Handle, handle_cmp, handle_cmp_total, birth_order, ListsAll, EntityMap, birth_of, same_birth, View, is_before, IsFirstFrom}
 
 abbrev key_cmp : Option Birth → Option Birth → Ordering
 key_cmp = option_cmp birth_cmp

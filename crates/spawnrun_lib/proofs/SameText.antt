@@ -1,25 +1,8 @@
 -- A report by births is the text of births alone, if no request of the run was refused and the
 -- script names no handle: each frame is told by births alone, and so is the next one.
-use Rattle.std.proofs.Common.{rules, ◌≡◌, sym, ◌∙◌, ℕ, ◌+◌, ◌^◌, ◌<◌, List, [], ◌∷◌, length, All, Some, arith}
+use Rattle.spawnrun_lib.proofs.Common.{rules, ◌≡◌, sym, ◌∙◌, ℕ, ◌+◌, ◌^◌, ◌<◌, List, [], ◌∷◌, length, All, Some, arith, All-head, All-tail, none-some, Handle, handle_cmp, Entity, BirthMap, frame_alone, AreNamed, AreBelow, World, IsWorld, first_world-sound, first_world-living, IsScript, Script, Operation, IsFrameAlone, queues_by_births, NamesNoHandle, AreGranted, Births, Execution, AreExecutions, synced, IsReportOf, IsReport, IsWithoutHandles, HasEnoughSlots, TellsNoRefusal, text_alone}
 use Rattle.std.specs.FinMap as finite
-use Rattle.std.proofs.lemmas.List.Elements.{All-head, All-tail}
-use Rattle.std.proofs.lemmas.Option.{none-some}
-use Rattle.ent_handle.specs.Handle.{Handle, handle_cmp}
-use Rattle.ent_storage.specs.EntityMap.{Entity}
-use Rattle.ent_world.specs.BirthsAlone.{BirthMap, frame_alone}
-use Rattle.ent_world.specs.Named.{AreNamed, AreBelow}
-use Rattle.ent_world.specs.World.{World, IsWorld}
-use Rattle.ent_world.proofs.GivenOnce.{first_world-sound, first_world-living}
-use Rattle.ent_script.specs.Ranges.{IsScript}
-use Rattle.ent_script.specs.Script.{Script}
-use Rattle.ent_script.specs.declared.operation.Operation.{Operation}
-use Rattle.spawnrun_lib.specs.FrameAlone.{IsFrameAlone, queues_by_births}
-use Rattle.spawnrun_lib.specs.IssuedAlone.{NamesNoHandle, AreGranted}
 use Rattle.spawnrun_lib.proofs.FramesAlone.{frame-alone}
-use Rattle.spawnrun_lib.specs.declared.show.Show.TheVariants.{Births}
-use Rattle.spawnrun_lib.specs.Report.{Execution, AreExecutions, synced, IsReportOf, IsReport}
-use Rattle.spawnrun_lib.specs.SameReport.{IsWithoutHandles, HasEnoughSlots, TellsNoRefusal}
-use Rattle.spawnrun_lib.specs.ScriptAlone.{text_alone}
 use Rattle.spawnrun_lib.proofs.Enough.{granted_if_enough}
 use Rattle.spawnrun_lib.proofs.NoRefusal.{WereGranted, granted_if_untold}
 use Rattle.spawnrun_lib.proofs.TextsAlone.{AreToldAlone, text_alike}

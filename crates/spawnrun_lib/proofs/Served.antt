@@ -1,13 +1,5 @@
 -- Commands whose reservations an allocator has replied to, and the quota has allowed.
-use Rattle.std.proofs.Common.{rules, ℕ, ◌-◌, List, [], ◌∷◌, ◌++◌, map}
-use Rattle.std.proofs.lemmas.Grind.{flat_map-append}
-use Rattle.std.specs.List.{flat_map}
-use Rattle.std.proofs.lemmas.List.{map-append}
-use Rattle.ent_alloc.specs.Sequential.{Allocator, after_take}
-use Rattle.ent_alloc.specs.History.{Call, IsLegal, after_history}
-use Rattle.ent_queue.specs.Command.{Command}
-use Rattle.ent_queue.specs.Reserving.{stands_for, cost, FitQuota}
-use Rattle.ent_runner.specs.Frame.{first_call}
+use Rattle.spawnrun_lib.proofs.Common.{rules, ℕ, ◌-◌, List, [], ◌∷◌, ◌++◌, map, flat_map-append, flat_map, map-append, Allocator, after_take, Call, IsLegal, after_history, Command, stands_for, cost, FitQuota, first_call}
 
 -- the calls of the first worker that has issued these commands
 abbrev pub calls_of : List Command → List Call

@@ -1,13 +1,5 @@
 -- A system whose first operations have run.
-use Rattle.std.proofs.Common.{rules, ◌≡◌, refl, ◌∙◌, ℕ, ◌+◌, ◌<◌, List, [], ◌∷◌, ◌++◌, length, get_or, drop, inr, append_assoc, append-nil, arith}
-use Rattle.std.proofs.lemmas.List.{drop_more}
-use Rattle.ent_handle.specs.Handle.{Handle}
-use Rattle.ent_queue.specs.Command.{Command}
-use Rattle.ent_world.specs.OpenWorld.{View}
-use Rattle.ent_script.specs.declared.operation.Operation.{Operation}
-use Rattle.spawnrun_lib.specs.Issuing.{Bindings, unbound, IssuesAll, MayIssue, StopsAmong}
-use Rattle.spawnrun_lib.specs.Parts.{names_of, HasIssued}
-use Rattle.std.proofs.lemmas.Grind.{common_steps}
+use Rattle.spawnrun_lib.proofs.Common.{rules, ◌≡◌, refl, ◌∙◌, ℕ, ◌+◌, ◌<◌, List, [], ◌∷◌, ◌++◌, length, get_or, drop, inr, append_assoc, append-nil, arith, drop_more, Handle, Command, View, Operation, Bindings, unbound, IssuesAll, MayIssue, StopsAmong, names_of, HasIssued, common_steps}
 
 -- The first i operations have issued what was added; whatever the others may issue, all may issue
 -- both.

@@ -1,15 +1,6 @@
 -- Commands for the handles of a target.
-use Rattle.std.proofs.Common.{rules, ◌≡◌, List, ◌++◌, map, Result, OnOk}
-use Rattle.std.specs.Prelude.{OnErr}
-use Rattle.ent_handle.specs.Handle.{Handle}
-use Rattle.ent_handle.specs.declared.memory.Memory.{Memory}
-use Rattle.ent_queue.specs.Command.{Command}
-use Rattle.ent_world.specs.OpenWorld.{View}
-use Rattle.ent_script.specs.declared.operation.Operation.{Operation}
-use Rattle.ent_script.specs.declared.target.Target.{Target}
+use Rattle.spawnrun_lib.proofs.Common.{rules, ◌≡◌, List, ◌++◌, map, Result, OnOk, OnErr, Handle, Memory, Command, View, Operation, Target, Bindings, IsTargeted, StopsOnEach, Stops, names_of, HasIssuedOn, HasStoppedAmong, HasStoppedOn, HasStopped}
 use Rattle.ent_script.specs.declared.target.Target.TheVariants as target
-use Rattle.spawnrun_lib.specs.Issuing.{Bindings, IsTargeted, StopsOnEach, Stops}
-use Rattle.spawnrun_lib.specs.Parts.{names_of, HasIssuedOn, HasStoppedAmong, HasStoppedOn, HasStopped}
 
 pub issued_on : (view : View) (names : Bindings) (on : Target) (command : Handle → Command)
     (before after : List Command) (hs : List Handle) (result : Result (Unit {0}) Memory) → IsTargeted view names on hs

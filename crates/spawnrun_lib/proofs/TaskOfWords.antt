@@ -1,19 +1,6 @@
 -- From the program's words to its task: the subcommand that clap finds, and the faults.
-use Rattle.std.proofs.Common.{rules, ◌≡◌, ◌∙◌, true, false, List, [], IfSome, refl, sym, ap, subst, codes, Option, Some, None}
-use Rattle.std.specs.Prelude.{option_map}
-use Rattle.std.specs.List.{slice_index_or}
-use Rattle.clap.specs.Words.{HasMatchesOf, is_simple, Row, Shape, Text, built, fault_of, is_simple_and_free, subcommand_of, rows_of, subcommand_rows_of, App, found_of, takes}
-use Rattle.clap.specs.Matches.{subcommand_name_of}
-use Rattle.clap.specs.declared.parser.ArgMatches.{ArgMatches}
-use Rattle.clap.specs.Simple.{new_shape, entered, names_of}
-use Rattle.clap.specs.Walk.{nothing_held, stop_after, texts}
-use Rattle.clap.specs.Faults.{entered_fault}
-use Rattle.clap.proofs.OnLiterals.{clap_on_literals}
-use Rattle.std.specs.Borrow.{Bor}
-use Rattle.clap.specs.Takes.{built_takes, entered_passes}
-use Rattle.cli.specs.Options.{HasNumber}
-use Rattle.spawnrun_lib.specs.CommandLine.{AsksFor, HasRun, HasShow, MayHaveBlocks, program, program_of, references_to, shown}
-use Rattle.spawnrun_lib.specs.declared.task.Task.{Task}
+use Rattle.spawnrun_lib.proofs.Common.{rules, ◌≡◌, ◌∙◌, true, false, List, [], IfSome, refl, sym, ap, subst, codes, Option, Some, None, option_map, slice_index_or, HasMatchesOf, is_simple, Row, Shape, Text, built, fault_of, is_simple_and_free, subcommand_of, rows_of, subcommand_rows_of, App, found_of, takes, subcommand_name_of, ArgMatches, new_shape, entered, nothing_held, stop_after, texts, entered_fault, clap_on_literals, built_takes, entered_passes, HasNumber, AsksFor, HasRun, HasShow, MayHaveBlocks, program, program_of, references_to, shown, Task, Bor}
+use Rattle.clap.specs.Simple.{names_of}
 use Rattle.spawnrun_lib.proofs.MovedFaults.{level_fault-moved}
 use Rattle.spawnrun_lib.proofs.MovedNames.{rows_after-moved}
 use Rattle.spawnrun_lib.proofs.MovedTakes.{level_passes-moved}

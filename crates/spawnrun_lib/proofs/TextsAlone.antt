@@ -1,43 +1,8 @@
 -- Where births alone tell each frame of a run, its text by births is that of births alone.
-use Rattle.std.proofs.Common.{arith, rules, ◌≡◌, refl, sym, ap, ◌∙◌, ℕ, ◌+◌, Bool, true, false, T, List, [], ◌∷◌, ◌++◌, length, map, All, Contains, Option, is_some, option_map, unwrap_or, IsSomeAnd, IsTrue, append_assoc, append-nil}
-use Rattle.std.proofs.lemmas.Grind.{common_steps}
-use Rattle.std.specs.Cmp.{then_total, on_total}
-use Rattle.std.specs.Cmp.Lexicographic.{options_total}
-use Rattle.std.specs.declared.cmp.Ordering.{Ordering}
+use Rattle.spawnrun_lib.proofs.Common.{arith, rules, ◌≡◌, refl, sym, ap, ◌∙◌, ℕ, ◌+◌, Bool, true, false, T, List, [], ◌∷◌, ◌++◌, length, map, All, Contains, Option, is_some, unwrap_or, IsSomeAnd, IsTrue, append_assoc, append-nil, common_steps, then_total, on_total, options_total, Ordering, is_sorted, below_all, AllByRecursion, AllZip, flat_map, IsDistinct, eq_by_cmp, eq_by_cmp_equiv, length-map, All-head, All-tail, All-weaker, All-contains_itself, IsDistinct-from_apart, length-from_same_keys, AllZip-long, Birth, birth_cmp_total, Handle, handle_cmp, handle_cmp_total, stands_in, same_handle, Contains-from_stands_in, stands_in-from_Contains, ListsAll, Entity, EntityMap, birth_of, filter-all, Bundle, first, second, Fault, World, BirthMap, BirthFault, frame_alone, AreNamed, AreNames, IsThere, IsSameFault, entity_there, listed-named, Operation, IsFrameAlone, queues_by_births, Births, fault_line, frame_text, IsWorldText, line_in, alive_line, Execution, synced, born_in, last_world, frames_text, birth_fault_line, birth_line, frame_text_alone, text_from}
+use Rattle.std.proofs.Common.{option_map}
 use Rattle.std.specs.FinMap as finite
-use Rattle.std.specs.FinMap.{is_sorted}
-use Rattle.std.specs.FinMap.Entries.{below_all}
-use Rattle.std.specs.List.{AllByRecursion, AllZip, flat_map, IsDistinct}
-use Rattle.std.specs.Ordering.{eq_by_cmp}
-use Rattle.std.proofs.lemmas.Cmp.{tied_itself, eq_by_cmp_equiv}
-use Rattle.std.proofs.lemmas.List.{length-map}
-use Rattle.std.proofs.lemmas.List.Elements.{All-head, All-tail, All-weaker, All-contains_itself}
-use Rattle.std.proofs.lemmas.Map.Keys.{IsDistinct-from_apart}
-use Rattle.std.proofs.lemmas.Map.Made.{length-from_same_keys}
-use Rattle.std.proofs.lemmas.Slice.Zip.{AllZip-long}
-use Rattle.ent_handle.specs.declared.birth.Birth.{Birth}
-use Rattle.ent_handle.specs.Birth.{birth_cmp_total}
-use Rattle.ent_handle.specs.Handle.{Handle, handle_cmp, handle_cmp_total}
-use Rattle.ent_alloc.specs.Sequential.{stands_in}
-use Rattle.ent_alloc.proofs.HandleSets.{same_handle, Contains-from_stands_in, stands_in-from_Contains}
-use Rattle.ent_storage.specs.BirthOrder.{ListsAll}
-use Rattle.ent_storage.specs.EntityMap.{Entity, EntityMap, birth_of}
-use Rattle.ent_storage.proofs.ByBirth.{filter-all}
-use Rattle.ent_storage.specs.Bundle.{Bundle}
-use Rattle.ent_storage.proofs.Positions.{first, second}
-use Rattle.ent_world.specs.declared.fault.Fault.{Fault}
-use Rattle.ent_world.specs.World.{World}
-use Rattle.ent_world.specs.BirthsAlone.{BirthMap, BirthFault, frame_alone}
-use Rattle.ent_world.specs.Named.{AreNamed, AreNames, IsThere, IsSameFault}
-use Rattle.ent_world.proofs.Named.{entity_there}
-use Rattle.ent_world.proofs.NamedLists.{listed-named}
-use Rattle.ent_script.specs.declared.operation.Operation.{Operation}
-use Rattle.spawnrun_lib.specs.FrameAlone.{IsFrameAlone, queues_by_births}
-use Rattle.spawnrun_lib.specs.declared.show.Show.TheVariants.{Births}
-use Rattle.spawnrun_lib.specs.FrameText.{fault_line, frame_text}
-use Rattle.spawnrun_lib.specs.WorldText.{IsWorldText, line_in, alive_line}
-use Rattle.spawnrun_lib.specs.Report.{Execution, synced, born_in, last_world, frames_text}
-use Rattle.spawnrun_lib.specs.ScriptAlone.{birth_fault_line, birth_line, frame_text_alone, text_from}
+use Rattle.std.proofs.lemmas.Cmp.{tied_itself}
 
 -- ---- the text of a frame
 

@@ -1,16 +1,8 @@
 -- The premises of one report by births, at small scripts and texts.
-use Rattle.std.proofs.Common.{◌≡◌, refl, inr, List, [], ◌∷◌, ◌++◌, All, Some, None}
-use Rattle.std.proofs.lemmas.List.Elements.{All-head, All-tail}
-use Rattle.std.specs.Prelude.{codes}
-use Rattle.std.specs.Fmt.{digits}
-use Rattle.ent_handle.specs.Handle.{Handle}
-use Rattle.ent_script.specs.Script.{Script}
-use Rattle.ent_script.specs.declared.operation.Operation.{Operation}
+use Rattle.spawnrun_lib.proofs.Common.{◌≡◌, refl, inr, List, [], ◌∷◌, ◌++◌, All, Some, None, All-head, All-tail, digits, Handle, Script, Operation, NamesNoHandle, NeedsNoHandle, IsWithoutHandles, TellsNoRefusal, requested_in_all, codes}
 use Rattle.ent_script.specs.declared.operation.Operation.TheVariants as operation
 use Rattle.ent_script.specs.declared.target.Target.TheVariants as target
-use Rattle.spawnrun_lib.specs.IssuedAlone.{NamesNoHandle, NeedsNoHandle}
 use Rattle.ent_world.specs.declared.fault.FaultKind.TheVariants as kind
-use Rattle.spawnrun_lib.specs.SameReport.{IsWithoutHandles, TellsNoRefusal, requested_in_all}
 
 -- a script whose component is hp, and whose frames have one system each
 abbrev of_systems : List Operation → List Operation → Script

@@ -1,13 +1,6 @@
 -- Worked examples of what a system may issue.
-use Rattle.std.proofs.Common.{rules, ◌≢◌, refl, [], ◌∷◌, Some, pos, List, ℤ, inl, inr}
-use Rattle.spawnrun_lib.specs.Issuing.{IssuesAll, unbound, bound, IsOfBirth, MayIssue, MayStop}
-use Rattle.ent_queue.specs.Command.{Spawn, SpawnMany, Remove, Despawn, Refused}
-use Rattle.ent_handle.specs.declared.birth.Birth.{Birth}
-use Rattle.ent_handle.specs.Handle.{Handle}
-use Rattle.ent_handle.specs.declared.component.ComponentId.{ComponentId}
-use Rattle.ent_storage.specs.EntityMap.{birth_of}
+use Rattle.spawnrun_lib.proofs.Common.{rules, ◌≢◌, refl, [], ◌∷◌, Some, pos, List, ℤ, inl, inr, IssuesAll, unbound, bound, IsOfBirth, MayIssue, MayStop, Spawn, SpawnMany, Remove, Despawn, Refused, Birth, Handle, ComponentId, birth_of, View}
 use Rattle.ent_alloc.specs.declared.refused.Refused.{Refused as Refusal}
-use Rattle.ent_world.specs.OpenWorld.{View}
 use Rattle.ent_script.specs.declared.operation.Operation.TheVariants as operation
 use Rattle.ent_script.specs.declared.target.Target.TheVariants as target
 

@@ -1,29 +1,5 @@
 -- What a parse says of where a trace begins, and the fault of limits beside an image.
-use Rattle.std.proofs.Common.{rules, ◌≡◌, ◌∙◌, ◌∷◌, [], List, Bool, true, false, Option, Some, None, refl, sym, ap, subst, codes}
-use Rattle.std.proofs.lemmas.Bool.{false≢true}
-use Rattle.std.specs.Borrow.{Bor}
-use Rattle.std.specs.Prelude.{Result, Ok, Err, IfErr, IfSome, IsErrAnd, OnErr, OnOk, ◌&&◌, not, option_and_then, option_map, find, if◌then◌else◌}
-use Rattle.std.specs.Str.{bytes_eq}
-use Rattle.clap.specs.Faults.{is_simple_and_free}
-use Rattle.clap.specs.Facts.{Entry}
-use Rattle.clap.specs.Kinds.{HasKind, Kinds, or_else}
-use Rattle.clap.specs.Matches.{first_value, matched_of}
-use Rattle.clap.specs.Simple.{App, HasMatchesOf, matches_of}
-use Rattle.clap.specs.Walk.{Row, Text, first_of, row_of, rows_of}
-use Rattle.clap.specs.Words.{fault_of, takes}
-use Rattle.clap.specs.declared.error.Error.{Error}
-use Rattle.clap.specs.declared.error.kind.ErrorKind.TheVariants.{ArgumentConflict}
-use Rattle.clap.specs.declared.parser.ArgMatches.{ArgMatches}
-use Rattle.clap.specs.declared.parser.matches.Found.{Found}
-use Rattle.clap.specs.declared.parser.matches.MatchedArg.{MatchedArg}
-use Rattle.clap.proofs.WalkLemmas.{find_row, first_value-rows}
-use Rattle.cli.specs.Fault.{IsFaultAmong, IsFaultOf}
-use Rattle.cli.specs.Options.{given}
-use Rattle.cli.specs.declared.line_fault.LineFault.{LineFault}
-use Rattle.cli.specs.declared.line_fault.LineFault.TheVariants.{Line, Memory}
-use Rattle.cli.proofs.Faults.{found_fault}
-use Rattle.tracecheck.specs.CommandLine.{IsFaultIn, both_fault, fault_in, has_both, image_in, is_taken, program}
-use Rattle.tracecheck.specs.declared.command_line.Beginning.{Beginning}
+use Rattle.tracecheck.proofs.Common.{rules, ◌≡◌, ◌∙◌, ◌∷◌, [], List, Bool, true, false, Option, Some, None, refl, sym, ap, subst, codes, false≢true, Bor, IfErr, IfSome, IsErrAnd, OnErr, OnOk, ◌&&◌, not, option_and_then, option_map, find, if◌then◌else◌, bytes_eq, is_simple_and_free, Entry, HasKind, Kinds, or_else, first_value, matched_of, App, HasMatchesOf, matches_of, Row, Text, first_of, row_of, rows_of, fault_of, takes, Error, ArgumentConflict, ArgMatches, Found, MatchedArg, find_row, first_value-rows, IsFaultAmong, IsFaultOf, given, LineFault, Line, Memory, found_fault, IsFaultIn, both_fault, fault_in, has_both, image_in, is_taken, program, Beginning, Result, Ok, Err}
 use Rattle.tracecheck.proofs.LimitsOfWords.{is_free, program-simple}
 
 -- ---- what the getters of the matches read, by the rows

@@ -1,11 +1,5 @@
 -- What is said of a trace that begins with an image.
-use Rattle.std.proofs.Common.{List, ℕ, Option, Some, None, inl}
-use Rattle.std.specs.Prelude.{IfSome}
-use Rattle.devices.specs.Device.{Writes}
-use Rattle.ent_alloc.specs.Entities.{Entities}
-use Rattle.tracecheck.specs.Beginning.{IsImageOf}
-use Rattle.tracecheck.specs.Status.{HasSaidFrom, IsSaidOf}
-use Rattle.tracecheck.specs.declared.status.Status.{Status}
+use Rattle.tracecheck.proofs.Common.{List, ℕ, Option, Some, None, inl, IfSome, Writes, Entities, IsImageOf, HasSaidFrom, IsSaidOf, Status}
 
 pub said_from : (image input old new : Option (List ℕ)) (e : Entities) (ended : Status)
     → IfSome image (λ bytes. IsImageOf bytes e) → Writes (IsSaidOf e.allocator ended) input old new

@@ -1,14 +1,6 @@
 -- What was taken of a device that tells its bytes, and what may be said of them.
-use Rattle.std.proofs.Common.{rules, List, ℕ, ◌++◌, Option, IfSome}
-use Rattle.std.proofs.lemmas.List.{append-nil}
-use Rattle.std.specs.Io.KnownBytes.{Consumes, IsAtEnd}
-use Rattle.devices.proofs.TakenInSteps.{Consumes-append}
-use Rattle.ent_alloc.specs.Sequential.{Allocator}
-use Rattle.ent_replay.specs.Text.{lines_of}
-use Rattle.tracecheck.specs.Checking.{HasRead}
-use Rattle.tracecheck.specs.Verdict.{MayEnd}
-use Rattle.tracecheck.specs.declared.checking.Checking.{Checking}
-use Rattle.tracecheck.specs.declared.checking.End.{End}
+use Rattle.tracecheck.proofs.Common.{rules, List, ℕ, ◌++◌, Option, append-nil, Consumes, IsAtEnd, Consumes-append, Allocator, lines_of, HasRead, MayEnd, Checking, End}
+use Rattle.std.proofs.Common.{IfSome}
 
 -- the whole input was read
 pub ended_at_end : (begin : Allocator) (old new : Option (List ℕ)) (text pending : List ℕ) (c : Checking) (end : End)

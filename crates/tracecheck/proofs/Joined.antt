@@ -1,11 +1,5 @@
 -- The calls of lines that follow others, and what follows after them.
-use Rattle.std.proofs.Common.{rules, ◌≡◌, ℕ, ◌+◌, List, [], ◌∷◌, ◌++◌, length, Option, Some, None, Result, Ok, Err, ap, ◌∙◌, arith}
-use Rattle.std.proofs.lemmas.Grind.{common_steps}
-use Rattle.ent_replay.specs.Checker.{AllFollow, Checked, Follows}
-use Rattle.ent_replay.specs.Text.{line_of, words_of}
-use Rattle.ent_replay.specs.declared.trace.call.Call.{Call}
-use Rattle.ent_replay.specs.declared.trace.read_fault.Cause.{Cause}
-use Rattle.tracecheck.specs.Calls.{Refused, calls_from, goes_on}
+use Rattle.tracecheck.proofs.Common.{rules, ◌≡◌, ℕ, ◌+◌, List, [], ◌∷◌, ◌++◌, length, Option, Some, None, Result, Ok, Err, ap, ◌∙◌, arith, common_steps, AllFollow, Checked, Follows, line_of, words_of, Call, Cause, Refused, calls_from, goes_on}
 
 -- these calls, and then what is read after them
 abbrev pub with_front : List Call → Result (List Call) Refused → Result (List Call) Refused

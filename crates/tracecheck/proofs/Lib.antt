@@ -7,3 +7,4 @@ pub mod LimitsOfWords
 pub mod Strangers
 pub mod Beginnings
 pub mod FromImage
+pub mod Common

@@ -1,8 +1,6 @@
 -- The program's command is one that clap's facts speak of.
-use Rattle.std.proofs.Common.{◌≡◌, ◌∙◌, true, refl, ap}
-use Rattle.clap.specs.Words.{App, is_simple, is_simple_and_free}
-use Rattle.clap.proofs.OnLiterals.{clap_on_literals}
-use Rattle.tracecheck.specs.CommandLine.{program}
+use Rattle.tracecheck.proofs.Common.{◌≡◌, ◌∙◌, true, refl, ap, is_simple, clap_on_literals, program}
+use Rattle.clap.specs.Words.{App, is_simple_and_free}
 
 pub program-simple : is_simple program ≡ true
 unfolding clap_on_literals

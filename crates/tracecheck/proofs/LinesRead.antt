@@ -1,14 +1,5 @@
 -- Lines that end with a line feed, and the last, which may have no end.
-use Rattle.std.proofs.Common.{rules, ◌≡◌, ◌≢◌, ℕ, ◌<◌, eqb, false, List, [], ◌∷◌, ◌++◌, length, All, refl, sym, ap, ◌∙◌, append_assoc, arith}
-use Rattle.std.proofs.lemmas.Grind.{common_steps}
-use Rattle.std.proofs.lemmas.Bool.{cond-false, ne_eqb}
-use Rattle.std.proofs.lemmas.List.{append-nil, nil_from_length}
-use Rattle.std.proofs.lemmas.List.Elements.{All-append}
-use Rattle.ent_replay.proofs.ScheduleWords.{parts_whole, parts_first, parts_nonempty}
-use Rattle.ent_alloc.specs.Sequential.{Allocator}
-use Rattle.ent_replay.specs.Text.{ended, lines_of, without_return}
-use Rattle.tracecheck.specs.Checking.{HasRead, HasTaken}
-use Rattle.tracecheck.specs.declared.checking.Checking.{Checking}
+use Rattle.tracecheck.proofs.Common.{rules, ◌≡◌, ◌≢◌, ℕ, ◌<◌, eqb, false, List, [], ◌∷◌, ◌++◌, length, All, refl, sym, ap, ◌∙◌, append_assoc, arith, common_steps, cond-false, ne_eqb, append-nil, nil_from_length, All-append, parts_whole, parts_first, parts_nonempty, Allocator, ended, lines_of, without_return, HasRead, HasTaken, Checking}
 
 abbrev pub IsUnended : List ℕ → Type 0
 IsUnended bytes = All (λ byte. byte ≢ 10) bytes

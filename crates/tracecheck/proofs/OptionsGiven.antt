@@ -1,34 +1,7 @@
 -- What clap's facts of a parse say of an option with a default: it has a number in its range.
-use Rattle.std.proofs.lemmas.Grind.{common_steps}
-use Rattle.std.proofs.Common.{rules, ◌≡◌, ◌∙◌, ◌⊎◌, ◌<◌, ◌≤◌, ℕ, Bool, true, false, List, [], ◌∷◌, cond, length, zero, suc, refl, sym, ap, subst, inl, inr, codes, arith, map, Option, Some, None, is_some}
-use Rattle.std.proofs.lemmas.Bool.{false≢true}
-use Rattle.std.proofs.lemmas.Slice.Eq.{bytes_eq-Decides}
-use Rattle.std.specs.Borrow.{Bor}
-use Rattle.std.specs.List.{All, find, list_all, slice_index_or}
-use Rattle.std.specs.Prelude.{option_map, pos}
-use Rattle.std.specs.Str.{bytes_eq}
-use Rattle.clap.specs.Built.{IsAuto, IsParsedFrom, SameRules}
-use Rattle.clap.specs.Facts.{Entry, EntryPasses, HasId, HasReading, IsFilledEntry, IsKnownGroup, MayBeEmpty, PassesArg, ValuesPass, WantsDefault, args_of, groups_of, least_values, unwrap_or_range}
-use Rattle.clap.specs.Matches.{found_of, matched_of}
-use Rattle.clap.specs.Simple.{App, IsSimple, IsSimpleArg, app_of, is_ready, is_ready_leaf}
-use Rattle.clap.specs.Values.{IsSignedIn}
-use Rattle.clap.specs.Walk.{Rule, Text, rows_of, rule_of, texts}
-use Rattle.clap.specs.Texts.{items_of}
-use Rattle.clap.specs.declared.builder.ArgAction.TheVariants.{Set}
-use Rattle.clap.specs.declared.builder.arg.Arg.{Arg}
-use Rattle.clap.specs.declared.builder.command.Command.{Command}
-use Rattle.clap.specs.declared.builder.value_parser.Reading.{Reading}
-use Rattle.clap.specs.declared.builder.value_parser.Reading.TheVariants.{WithoutMinus}
-use Rattle.clap.specs.declared.builder.value_parser.ValueParser.TheVariants.{Signed}
-use Rattle.clap.specs.declared.parser.ArgMatches.{ArgMatches}
-use Rattle.clap.specs.declared.parser.matches.Found.{Found}
-use Rattle.clap.specs.declared.parser.matches.MatchedArg.{MatchedArg}
-use Rattle.clap.proofs.CallerLemmas.{default_present, entry_by_id, same_rules_by_id}
-use Rattle.clap.proofs.OnLiterals.{clap_on_literals}
-use Rattle.clap.proofs.SimpleLemmas.{ready_simple, simple_groups}
-use Rattle.clap.proofs.WalkLemmas.{one_text-rows}
-use Rattle.cli.specs.Options.{HasNumber, given, number_option}
-use Rattle.tracecheck.specs.CommandLine.{program}
+use Rattle.tracecheck.proofs.Common.{common_steps, rules, ◌≡◌, ◌∙◌, ◌⊎◌, ◌<◌, ◌≤◌, ℕ, Bool, true, false, List, [], ◌∷◌, cond, length, zero, suc, refl, sym, ap, subst, inl, inr, codes, arith, map, Option, Some, None, is_some, false≢true, bytes_eq-Decides, Bor, list_all, slice_index_or, option_map, pos, bytes_eq, IsAuto, IsParsedFrom, SameRules, Entry, EntryPasses, HasId, HasReading, IsFilledEntry, IsKnownGroup, MayBeEmpty, PassesArg, ValuesPass, WantsDefault, args_of, groups_of, least_values, unwrap_or_range, matched_of, App, IsSimple, IsSimpleArg, app_of, is_ready, is_ready_leaf, IsSignedIn, Rule, Text, rows_of, rule_of, texts, items_of, Set, Arg, Command, Reading, WithoutMinus, Signed, ArgMatches, Found, MatchedArg, default_present, entry_by_id, same_rules_by_id, clap_on_literals, ready_simple, simple_groups, one_text-rows, HasNumber, given, number_option, program, All}
+use Rattle.std.specs.List.{find}
+use Rattle.clap.specs.Matches.{found_of}
 
 -- ---- the arguments of the program's command
 

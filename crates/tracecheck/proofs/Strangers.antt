@@ -1,22 +1,7 @@
 -- What is said of a trace whose first line can't be. The edits in must-fail/ say something else of it.
-use Rattle.std.proofs.Common.{rules, ◌≡◌, ℕ, ◌+◌, ◌^◌, ◌<◌, List, [], ◌∷◌, ◌++◌, length, take, None, Some, Ok, Err, refl, sym, ap, subst, arith}
-use Rattle.std.specs.Prelude.{Bool, true, false, if◌then◌else◌}
-use Rattle.std.proofs.lemmas.Grind.{common_steps}
-use Rattle.ent_handle.specs.Handle.{Handle}
-use Rattle.ent_alloc.specs.declared.space.Space.{Space}
-use Rattle.ent_alloc.specs.Limits.{Limits}
-use Rattle.ent_alloc.specs.Sequential.{Allocator, cursor, opening}
-use Rattle.ent_replay.specs.declared.trace.difference.Difference.{Difference}
-use Rattle.ent_replay.specs.declared.trace.call.Call.{Call}
+use Rattle.tracecheck.proofs.Common.{rules, ◌≡◌, ℕ, ◌+◌, ◌^◌, ◌<◌, List, [], ◌∷◌, ◌++◌, length, take, None, Some, Ok, Err, refl, sym, ap, subst, arith, if◌then◌else◌, common_steps, Handle, Space, Limits, Allocator, cursor, opening, Difference, Call, Reservation, AreAnswered, Fits, FitsReserved, IsOrderOf, MayPass, after_line, line_of, words_of, calls_from, requested_from, HasTaken, IsVerdict, asks_too_many, differs, Checking, Bool, true, false}
 use Rattle.ent_replay.specs.declared.trace.call.Call.TheVariants as line
-use Rattle.ent_replay.specs.declared.trace.reservation.Reservation.{Reservation}
 use Rattle.ent_replay.specs.declared.trace.reply.ReserveReply.TheVariants as reserve
-use Rattle.ent_replay.specs.Trace.{AreAnswered, Fits, FitsReserved, IsOrderOf, MayPass, after_line}
-use Rattle.ent_replay.specs.Text.{line_of, words_of}
-use Rattle.tracecheck.specs.Calls.{calls_from, requested_from}
-use Rattle.tracecheck.specs.Checking.{HasTaken}
-use Rattle.tracecheck.specs.Verdict.{IsVerdict, asks_too_many, differs}
-use Rattle.tracecheck.specs.declared.checking.Checking.{Checking}
 use Rattle.tracecheck.specs.declared.verdict.Verdict.TheVariants as verdict
 use Rattle.tracecheck.specs.declared.verdict.Refusal.TheVariants as refusal
 

@@ -1,22 +1,6 @@
 -- One more line is taken, or shows what is to be said of the trace.
-use Rattle.std.proofs.lemmas.Bool.{cases_lt}
-use Rattle.std.proofs.Common.{rules, ◌≡◌, ℕ, ◌+◌, ◌^◌, ◌<◌, ◌≤◌, List, [], ◌∷◌, ◌++◌, length, Option, Some, None, Result, Ok, Err, refl, sym, ap, subst, ◌∙◌, arith, length-append}
-use Rattle.std.proofs.lemmas.Grind.{common_steps}
-use Rattle.std.proofs.lemmas.List.{append-nil}
-use Rattle.std.proofs.lemmas.List.Sums.{sum_by_push}
-use Rattle.ent_alloc.specs.Sequential.{Allocator}
-use Rattle.ent_replay.specs.Checker.{AgreesWith, Checked, Follows, IsTooMany, NoneFollows, Reaches, AllFollow, Shows}
-use Rattle.tracecheck.specs.Beginning.{begun}
-use Rattle.ent_replay.proofs.Requested.{ReachesAll-next, requested_by, requested-reserve, requested-flush, requested-alloc, requested-free, requested-state, requested-len}
-use Rattle.tracecheck.specs.Verdict.{IsVerdict, StandsAt, agrees, asks_too_many, differs, differs_in_all, is_none}
-use Rattle.ent_replay.specs.Text.{line_of, words_of}
-use Rattle.ent_replay.specs.declared.trace.difference.Difference.{Difference}
-use Rattle.ent_replay.specs.declared.trace.call.Call.{Call}
+use Rattle.tracecheck.proofs.Common.{cases_lt, rules, ◌≡◌, ℕ, ◌+◌, ◌^◌, ◌<◌, ◌≤◌, List, [], ◌∷◌, ◌++◌, length, Option, Some, None, Result, Ok, Err, refl, sym, ap, subst, ◌∙◌, arith, length-append, common_steps, append-nil, sum_by_push, Allocator, AgreesWith, Checked, Follows, IsTooMany, NoneFollows, Reaches, AllFollow, Shows, begun, ReachesAll-next, requested_by, requested-reserve, requested-flush, requested-alloc, requested-free, requested-state, requested-len, IsVerdict, StandsAt, agrees, asks_too_many, differs, differs_in_all, is_none, line_of, words_of, Difference, Call, Cause, Refused, calls_from, goes_on, given_in, requested_after, requested_from, HasTaken, Checking}
 use Rattle.ent_replay.specs.declared.trace.call.Call.TheVariants as line
-use Rattle.ent_replay.specs.declared.trace.read_fault.Cause.{Cause}
-use Rattle.tracecheck.specs.Calls.{Refused, calls_from, goes_on, given_in, requested_after, requested_from}
-use Rattle.tracecheck.specs.Checking.{HasTaken}
-use Rattle.tracecheck.specs.declared.checking.Checking.{Checking}
 use Rattle.tracecheck.specs.declared.verdict.Verdict.TheVariants as verdict
 use Rattle.tracecheck.specs.declared.verdict.Refusal.TheVariants as refusal
 use Rattle.tracecheck.proofs.Joined.{AllFollow-call, calls_from-append, with_front}

@@ -1,4 +1,4 @@
-use Rattle.std.proofs.Common.{rules}
+use Rattle.ent_alloc.proofs.Common.{rules}
 use Rattle.ent_alloc.proofs.Portioned.{count_more, count_size, no_portion, portion_is}
 use Rattle.ent_alloc.proofs.front.count_of.Goals as goal
 

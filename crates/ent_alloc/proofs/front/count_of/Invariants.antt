@@ -1,5 +1,4 @@
-use Rattle.std.proofs.Common.{◌≡◌, ◌+◌, drop}
-use Rattle.ent_alloc.specs.Portions.{count_of}
+use Rattle.ent_alloc.proofs.Common.{◌≡◌, ◌+◌, drop, count_of}
 use Rattle.ent_alloc.proofs.front.count_of.Given as goal
 
 -- what is still to come does the rest

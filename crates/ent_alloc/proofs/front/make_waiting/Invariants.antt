@@ -1,7 +1,4 @@
-use Rattle.std.proofs.Common.{◌≡◌, ◌+◌, ◌++◌, vec_len}
-use Rattle.std.specs.Prelude.{vec_capacity}
-use Rattle.std.specs.List.{range_with_len}
-use Rattle.ent_alloc.specs.Front.{new_waiting}
+use Rattle.ent_alloc.proofs.Common.{◌≡◌, ◌+◌, ◌++◌, vec_len, vec_capacity, range_with_len, new_waiting}
 use Rattle.ent_alloc.proofs.front.make_waiting.Given as goal
 
 abbrev pub invariant-loop-more : goal.invariant-loop-more

@@ -1,6 +1,4 @@
-use Rattle.std.proofs.Common.{◌≡◌, ◌+◌, drop}
-use Rattle.std.specs.Prelude.{◌==◌, if◌then◌else◌}
-use Rattle.ent_alloc.specs.Portions.{reach_of, size_of}
+use Rattle.ent_alloc.proofs.Common.{◌≡◌, ◌+◌, drop, if◌then◌else◌, reach_of, size_of, ◌==◌}
 use Rattle.ent_alloc.proofs.front.reach_of.Given as goal
 
 -- what is still to come does the rest

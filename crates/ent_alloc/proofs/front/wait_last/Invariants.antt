@@ -1,5 +1,4 @@
-use Rattle.std.proofs.Common.{◌≡◌, ◌-◌, length, drop}
-use Rattle.ent_alloc.specs.Front.{placed, moved}
+use Rattle.ent_alloc.proofs.Common.{◌≡◌, ◌-◌, length, drop, placed, moved}
 use Rattle.ent_alloc.proofs.front.wait_last.Given as goal
 
 -- what is still to come does the rest

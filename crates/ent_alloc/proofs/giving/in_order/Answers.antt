@@ -1,5 +1,4 @@
-use Rattle.std.proofs.Common.{rules, ◌-◌}
-use Rattle.std.proofs.lemmas.List.{length-reverse, reverse-reverse, append-nil, drop_all, length-drop}
+use Rattle.ent_alloc.proofs.Common.{rules, ◌-◌, length-reverse, reverse-reverse, append-nil, drop_all, length-drop}
 use Rattle.ent_alloc.proofs.Reversed.{drop-reverse, take-reverse}
 use Rattle.ent_alloc.proofs.giving.in_order.Goals as goal
 

@@ -1,4 +1,4 @@
-use Rattle.std.proofs.Common.{rules}
+use Rattle.ent_alloc.proofs.Common.{rules}
 use Rattle.ent_alloc.proofs.ImageHeader.{header_then, too_short, other_magic, other_version, letters}
 use Rattle.ent_alloc.proofs.ImageFront.{magic_fault, too_short_for_magic, other_letters, length_fault, version_fault, front_passes}
 use Rattle.ent_alloc.proofs.image.read_header.Goals as goal

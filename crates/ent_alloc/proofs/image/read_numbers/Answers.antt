@@ -1,4 +1,4 @@
-use Rattle.std.proofs.Common.{rules}
+use Rattle.ent_alloc.proofs.Common.{rules}
 use Rattle.ent_alloc.proofs.ImageHeader.{numbers_then}
 use Rattle.ent_alloc.proofs.image.read_numbers.Goals as goal
 

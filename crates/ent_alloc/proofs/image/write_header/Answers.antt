@@ -1,5 +1,4 @@
-use Rattle.std.proofs.Common.{rules}
-use Rattle.ent_alloc.specs.Image.{numbers_bytes}
+use Rattle.ent_alloc.proofs.Common.{rules, numbers_bytes}
 use Rattle.ent_alloc.proofs.ImageHeader.{header_is, letters, appended_8}
 use Rattle.ent_alloc.proofs.image.write_header.Goals as goal
 

@@ -1,6 +1,4 @@
-use Rattle.std.proofs.Common.{rules, sym}
-use Rattle.std.proofs.lemmas.Nat.{le_bytes_8}
-use Rattle.ent_alloc.specs.Image.{long}
+use Rattle.ent_alloc.proofs.Common.{rules, sym, le_bytes_8, long}
 use Rattle.ent_alloc.proofs.image_slots.long_in.Goals as goal
 
 pub returns : goal.returns

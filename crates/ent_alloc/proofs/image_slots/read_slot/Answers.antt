@@ -1,4 +1,4 @@
-use Rattle.std.proofs.Common.{rules}
+use Rattle.ent_alloc.proofs.Common.{rules}
 use Rattle.ent_alloc.proofs.ImageSlotRead.{living_bytes}
 use Rattle.ent_alloc.proofs.image_slots.read_slot.Goals as goal
 

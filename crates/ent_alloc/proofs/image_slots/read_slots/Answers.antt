@@ -1,10 +1,4 @@
-use Rattle.std.proofs.Common.{rules, ◌≡◌, ◌≢◌, ◌+◌, ◌*◌, ◌<◌, ◌++◌, ℕ, List, [], ◌∷◌, length, arith, sym, ap, ◌∙◌, subst, slice_index, drop, get_or}
-use Rattle.std.specs.List.{flat_map}
-use Rattle.std.proofs.lemmas.List.{append_assoc, flat_map_more}
-use Rattle.ent_alloc.specs.Limits.{Limits}
-use Rattle.ent_alloc.specs.declared.slot_record.SlotRecord.{SlotRecord}
-use Rattle.ent_alloc.specs.Image.{slot_bytes}
-use Rattle.ent_alloc.specs.ImageRecords.{record_bytes, IsGeneration, IsWritten, AreRead, vacant, CanWait, with_waiting}
+use Rattle.ent_alloc.proofs.Common.{rules, ◌≡◌, ◌≢◌, ◌+◌, ◌*◌, ◌<◌, ◌++◌, ℕ, List, [], ◌∷◌, length, arith, sym, ap, ◌∙◌, subst, slice_index, drop, get_or, flat_map, append_assoc, flat_map_more, Limits, SlotRecord, slot_bytes, record_bytes, IsGeneration, IsWritten, AreRead, vacant, CanWait, with_waiting}
 use Rattle.ent_alloc.proofs.ImageChunks.{pieces, before_end, length-piece, cut, none_cut}
 use Rattle.ent_alloc.proofs.ImageFaults.{no_row_next, no_place_next, no_fault, position_free}
 use Rattle.ent_alloc.proofs.ImageRead.{read_more, length-with_waiting, written_back}

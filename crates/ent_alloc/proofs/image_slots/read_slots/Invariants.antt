@@ -1,6 +1,5 @@
-use Rattle.std.proofs.Common.{◌≡◌, ◌*◌, ◌≤◌, ◌++◌, length, drop, vec_len, vec_capacity}
-use Rattle.std.specs.List.{flat_map}
-use Rattle.ent_alloc.specs.ImageRecords.{record_bytes, AreRead}
+use Rattle.ent_alloc.proofs.Common.{◌≡◌, ◌*◌, ◌≤◌, ◌++◌, length, drop, vec_len, flat_map, record_bytes, AreRead}
+use Rattle.std.proofs.Common.{vec_capacity}
 use Rattle.ent_alloc.proofs.image_slots.read_slots.Given as goal
 
 -- the slots before the index are read, and the bytes of the others are left

@@ -1,5 +1,4 @@
-use Rattle.std.proofs.Common.{rules, ◌≡◌, ◌++◌, length}
-use Rattle.ent_alloc.specs.Image.{word}
+use Rattle.ent_alloc.proofs.Common.{rules, ◌≡◌, ◌++◌, length, word}
 use Rattle.ent_alloc.proofs.ImageSlotRead.{spelled, none_spelled, no_row}
 use Rattle.ent_alloc.proofs.image_slots.read_words.Goals.{After-record_of}
 use Rattle.ent_alloc.proofs.image_slots.read_words.Goals as goal

@@ -1,8 +1,5 @@
-use Rattle.std.proofs.Common.{◌≡◌, ℕ, ◌^◌, ◌<◌, ◌+◌, ◌-◌, ◌*◌, ◌≤◌, ◌++◌, length, take, vec_len, vec_capacity}
-use Rattle.std.specs.List.{flat_map}
-use Rattle.ent_alloc.specs.Slots.{record_at}
-use Rattle.ent_alloc.specs.Image.{number_of}
-use Rattle.ent_alloc.specs.ImageRecords.{record_bytes}
+use Rattle.ent_alloc.proofs.Common.{◌≡◌, ℕ, ◌^◌, ◌<◌, ◌+◌, ◌-◌, ◌*◌, ◌≤◌, ◌++◌, length, take, vec_len, flat_map, record_at, number_of, record_bytes}
+use Rattle.std.proofs.Common.{vec_capacity}
 use Rattle.ent_alloc.proofs.image_slots.write_slots.Given as goal
 
 -- those before the index are written, and there is room for the rest

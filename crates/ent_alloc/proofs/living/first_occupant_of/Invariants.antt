@@ -1,5 +1,4 @@
-use Rattle.std.proofs.Common.{◌≡◌, ◌+◌, drop}
-use Rattle.ent_alloc.specs.Slots.{occupants}
+use Rattle.ent_alloc.proofs.Common.{◌≡◌, ◌+◌, drop, occupants}
 use Rattle.ent_alloc.proofs.living.first_occupant_of.Given as goal
 
 -- the records that were passed have no living occupant

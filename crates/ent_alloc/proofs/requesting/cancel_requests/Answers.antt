@@ -1,4 +1,4 @@
-use Rattle.std.proofs.Common.{rules}
+use Rattle.ent_alloc.proofs.Common.{rules}
 use Rattle.ent_alloc.proofs.Meaning.{allocator_is}
 use Rattle.ent_alloc.proofs.MeaningOfRequests.{cancelled_view, cancelled_reserved}
 use Rattle.ent_alloc.proofs.requesting.cancel_requests.Goals as goal

@@ -1,5 +1,4 @@
-use Rattle.std.proofs.Common.{◌≡◌, ◌+◌, ◌-◌, arith, rules}
-use Rattle.std.proofs.lemmas.List.{append_assoc, append-nil}
+use Rattle.ent_alloc.proofs.Common.{◌≡◌, ◌+◌, ◌-◌, arith, rules, append_assoc, append-nil}
 use Rattle.ent_alloc.proofs.FreshHandles.{fresh-none}
 use Rattle.ent_alloc.proofs.Listing.{fresh-push, replicate-push}
 use Rattle.ent_alloc.proofs.slot_record.make_all.Goals as goal

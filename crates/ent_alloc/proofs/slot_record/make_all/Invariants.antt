@@ -1,7 +1,4 @@
-use Rattle.std.proofs.Common.{◌≡◌, ◌+◌, ◌-◌, ◌++◌, replicate, vec_len}
-use Rattle.std.specs.Prelude.{vec_capacity}
-use Rattle.ent_alloc.specs.Sequential.{fresh}
-use Rattle.ent_alloc.specs.Slots.{new_record}
+use Rattle.ent_alloc.proofs.Common.{◌≡◌, ◌+◌, ◌-◌, ◌++◌, replicate, vec_len, vec_capacity, fresh, new_record}
 use Rattle.ent_alloc.proofs.slot_record.make_all.Given as goal
 
 abbrev pub invariant-loop-index : goal.invariant-loop-index

@@ -1,5 +1,4 @@
-use Rattle.std.proofs.Common.{◌≡◌, ℕ, length, take, drop, map}
-use Rattle.ent_alloc.specs.Slots.{reused, handle_at, record_at}
+use Rattle.ent_alloc.proofs.Common.{◌≡◌, ℕ, length, take, drop, map, reused, handle_at, record_at}
 use Rattle.ent_alloc.proofs.slot_record.reuse_each.Given as goal
 
 abbrev pub invariant-loop-position : goal.invariant-loop-position

@@ -1,5 +1,4 @@
-use Rattle.std.proofs.Common.{rules, length, sym}
-use Rattle.ent_block_runner.specs.Running.{AreReady}
+use Rattle.ent_block_runner.proofs.Common.{rules, length, sym, AreReady}
 use Rattle.ent_block_runner.proofs.FilledQueues.{issued_done, of_done, lost_off}
 use Rattle.ent_block_runner.proofs.filling.fill_in_blocks.Given as given
 use Rattle.ent_block_runner.proofs.filling.fill_in_blocks.Goals.{After-work}

@@ -1,6 +1,4 @@
-use Rattle.std.proofs.Common.{◌≡◌, sym, ap, ◌∙◌, All, length, map}
-use Rattle.std.proofs.lemmas.List.{length-map}
-use Rattle.ent_blocks.specs.Blocks.{Reserver, blocks_of, unused}
+use Rattle.ent_block_runner.proofs.Common.{◌≡◌, sym, ap, ◌∙◌, All, length, map, length-map, Reserver, blocks_of, unused}
 use Rattle.ent_block_runner.proofs.Whole.{whole, unused_used}
 use Rattle.ent_block_runner.proofs.frame.run_frame_in_blocks.Goals as goal
 

@@ -1,6 +1,4 @@
-use Rattle.std.proofs.Common.{arith, refl, ◌≡◌, All}
-use Rattle.std.proofs.lemmas.List.{take_all}
-use Rattle.ent_blocks.specs.Blocks.{Reserver}
+use Rattle.ent_block_runner.proofs.Common.{arith, refl, ◌≡◌, All, take_all, Reserver}
 use Rattle.ent_block_runner.proofs.room.are_of.Goals as goal
 
 pub returns : goal.returns

@@ -1,5 +1,4 @@
-use Rattle.std.proofs.Common.{◌≡◌, ◌≤◌, ◌+◌, ◌++◌, length, map, vec_len}
-use Rattle.std.specs.Prelude.{vec_capacity}
+use Rattle.ent_block_runner.proofs.Common.{◌≡◌, ◌≤◌, ◌+◌, ◌++◌, length, map, vec_len, vec_capacity}
 use Rattle.ent_block_runner.proofs.splitting.split.Given as goal
 
 -- what was put so far, and room for the rest

@@ -1,4 +1,4 @@
-use Rattle.std.proofs.Common.{rules, append_assoc}
+use Rattle.ent_blocks.proofs.Common.{rules, append_assoc}
 use Rattle.ent_blocks.proofs.Accounts.{accounted_same, accounted_other, accounted_none}
 use Rattle.ent_blocks.proofs.accounting.account.Goals as goal
 

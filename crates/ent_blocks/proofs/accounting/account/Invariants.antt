@@ -1,6 +1,4 @@
-use Rattle.std.proofs.Common.{◌≡◌, ◌≤◌, ◌++◌, drop, length, vec_len}
-use Rattle.std.specs.Prelude.{vec_capacity}
-use Rattle.ent_blocks.specs.Blocks.{accounted, blocks_of}
+use Rattle.ent_blocks.proofs.Common.{◌≡◌, ◌≤◌, ◌++◌, drop, length, vec_len, vec_capacity, accounted, blocks_of}
 use Rattle.ent_blocks.proofs.accounting.account.Given as goal
 
 -- what is still to come does the rest

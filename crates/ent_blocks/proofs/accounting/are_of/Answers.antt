@@ -1,7 +1,4 @@
-use Rattle.std.proofs.Common.{rules, ◌≡◌}
-use Rattle.std.proofs.lemmas.List.{take_all}
-use Rattle.std.proofs.lemmas.List.Elements.{All-more}
-use Rattle.ent_blocks.specs.Blocks.{Reserver}
+use Rattle.ent_blocks.proofs.Common.{rules, ◌≡◌, take_all, All-more, Reserver}
 use Rattle.ent_blocks.proofs.accounting.are_of.Goals as goal
 
 pub loop-reserver-preserved : goal.loop-reserver-preserved

@@ -1,5 +1,4 @@
-use Rattle.std.proofs.Common.{take, ◌≡◌, All}
-use Rattle.ent_blocks.specs.Blocks.{Reserver}
+use Rattle.ent_blocks.proofs.Common.{take, ◌≡◌, All, Reserver}
 use Rattle.ent_blocks.proofs.accounting.are_of.Given as goal
 
 abbrev pub invariant-loop-reserver : goal.invariant-loop-reserver

@@ -1,4 +1,4 @@
-use Rattle.std.proofs.Common.{rules}
+use Rattle.ent_blocks.proofs.Common.{rules}
 use Rattle.ent_blocks.proofs.Accounts.{among_same, among_other, among_none, one_left}
 use Rattle.ent_blocks.proofs.accounting.missing.Goals as goal
 

@@ -1,5 +1,4 @@
-use Rattle.std.proofs.Common.{◌≡◌, ◌≤◌, drop, length}
-use Rattle.ent_blocks.specs.Blocks.{are_among, blocks_of}
+use Rattle.ent_blocks.proofs.Common.{◌≡◌, ◌≤◌, drop, length, are_among, blocks_of}
 use Rattle.ent_blocks.proofs.accounting.missing.Given as goal
 
 -- what is still to come decides

@@ -1,7 +1,4 @@
-use Rattle.std.proofs.lemmas.Grind.{common_steps}
-use Rattle.std.proofs.Common.{arith, append_assoc}
-use Rattle.std.proofs.lemmas.List.{drop_more}
-use Rattle.std.proofs.lemmas.List.Elements.{All-push}
+use Rattle.ent_blocks.proofs.Common.{common_steps, arith, append_assoc, drop_more, All-push}
 use Rattle.ent_blocks.proofs.closing.portions_of.Goals as goal
 
 pub loop-block-preserved : goal.loop-block-preserved

@@ -1,7 +1,4 @@
-use Rattle.std.proofs.Common.{◌≡◌, ◌≤◌, ◌++◌, drop, length, vec_len}
-use Rattle.std.specs.Prelude.{vec_capacity}
-use Rattle.ent_alloc.specs.Portions.{AreUsed}
-use Rattle.ent_blocks.specs.Blocks.{portions_of}
+use Rattle.ent_blocks.proofs.Common.{◌≡◌, ◌≤◌, ◌++◌, drop, length, vec_len, vec_capacity, AreUsed, portions_of}
 use Rattle.ent_blocks.proofs.closing.portions_of.Given as goal
 
 -- what is still to come does the rest

@@ -1,4 +1,4 @@
-use Rattle.std.proofs.Common.{rules}
+use Rattle.ent_blocks.proofs.Common.{rules}
 use Rattle.ent_blocks.proofs.Dealing.{closed_is, portions_within}
 use Rattle.ent_blocks.proofs.closing.take_used.Goals as goal
 

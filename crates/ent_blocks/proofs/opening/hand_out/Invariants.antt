@@ -1,6 +1,4 @@
-use Rattle.std.proofs.Common.{◌≡◌, ◌≤◌, take, length, vec_len, All}
-use Rattle.std.specs.Prelude.{vec_capacity}
-use Rattle.ent_blocks.specs.Blocks.{Reserver, blocks_of}
+use Rattle.ent_blocks.proofs.Common.{◌≡◌, ◌≤◌, take, length, vec_len, All, vec_capacity, Reserver, blocks_of}
 use Rattle.ent_blocks.proofs.opening.hand_out.Given as goal
 
 abbrev pub invariant-loop-part : goal.invariant-loop-part

@@ -1,5 +1,4 @@
-use Rattle.std.proofs.Common.{rules, sym, subst, List, ◌<◌, ◌^◌, arith, ap, length}
-use Rattle.ent_blocks.specs.Blocks.{Block, dealt, AreDealt}
+use Rattle.ent_blocks.proofs.Common.{rules, sym, subst, List, ◌<◌, ◌^◌, arith, ap, length, Block, dealt, AreDealt}
 use Rattle.ent_blocks.proofs.Openings.{are_dealt, length-from}
 use Rattle.ent_blocks.proofs.opening.open_in_blocks.Goals as goal
 

@@ -1,5 +1,4 @@
-use Rattle.std.proofs.Common.{rules, append_assoc}
-use Rattle.std.proofs.lemmas.List.{get_or_default}
+use Rattle.ent_blocks.proofs.Common.{rules, append_assoc, get_or_default}
 use Rattle.ent_blocks.proofs.Dealing.{blocks_more, dealt-push}
 use Rattle.ent_blocks.proofs.opening.parts_of.Goals as goal
 

@@ -1,6 +1,4 @@
-use Rattle.std.proofs.Common.{◌≡◌, ◌+◌, ◌≤◌, ◌++◌, length, drop, vec_len}
-use Rattle.std.specs.Prelude.{vec_capacity}
-use Rattle.ent_blocks.specs.Blocks.{blocks_from, dealt}
+use Rattle.ent_blocks.proofs.Common.{◌≡◌, ◌+◌, ◌≤◌, ◌++◌, length, drop, vec_len, vec_capacity, blocks_from, dealt}
 use Rattle.ent_blocks.proofs.opening.parts_of.Given as goal
 
 -- what is still to come does the rest

@@ -1,5 +1,4 @@
-use Rattle.std.proofs.Common.{◌≡◌, ◌≤◌, ◌+◌, ◌++◌, length, vec_len}
-use Rattle.std.specs.Prelude.{vec_capacity}
+use Rattle.ent_blocks.proofs.Common.{◌≡◌, ◌≤◌, ◌+◌, ◌++◌, length, vec_len, vec_capacity}
 use Rattle.ent_blocks.proofs.taking.append.Given as goal
 
 abbrev pub invariant-loop-handle : goal.invariant-loop-handle

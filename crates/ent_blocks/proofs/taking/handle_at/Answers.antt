@@ -1,5 +1,4 @@
-use Rattle.std.proofs.Common.{arith}
-use Rattle.std.proofs.lemmas.Int.{ints}
+use Rattle.ent_blocks.proofs.Common.{arith, ints}
 use Rattle.ent_blocks.proofs.Positions.{one_there}
 use Rattle.ent_blocks.proofs.taking.handle_at.Goals as goal
 

@@ -1,9 +1,4 @@
-use Rattle.std.proofs.Common.{rules, ◌≡◌, sym, ap, ◌∙◌, ◌+◌, ◌-ℤ◌, pos, Ok, arith, take}
-use Rattle.std.proofs.lemmas.Int.{ints}
-use Rattle.std.proofs.lemmas.List.{length-take-le}
-use Rattle.ent_alloc.specs.Sequential.{reply_from, listed, cursor}
-use Rattle.ent_alloc.specs.declared.span.Span.{Span}
-use Rattle.ent_blocks.specs.Blocks.{rest_of}
+use Rattle.ent_blocks.proofs.Common.{rules, ◌≡◌, sym, ap, ◌∙◌, ◌+◌, ◌-ℤ◌, pos, Ok, arith, take, ints, length-take-le, reply_from, listed, cursor, Span, rest_of}
 use Rattle.ent_blocks.proofs.Positions.{served_many, served, pool_there, length-rest, length-listed}
 use Rattle.ent_blocks.proofs.taking.take_many.Goals as goal
 

@@ -1,4 +1,4 @@
-use Rattle.std.proofs.Common.{rules}
+use Rattle.ent_blocks.proofs.Common.{rules}
 use Rattle.ent_blocks.proofs.Positions.{served_one}
 use Rattle.ent_blocks.proofs.taking.take_one.Goals as goal
 

@@ -1,10 +1,4 @@
-use Rattle.std.proofs.Common.{rules, ◌≡◌, ◌∙◌, ◌++◌, ap, length, take, drop, subst, refl}
-use Rattle.std.proofs.lemmas.List.{length-map}
-use Rattle.ent_alloc.specs.Sound.{IsSound}
-use Rattle.ent_shared.specs.Phase.{Reserver, records_of}
-use Rattle.ent_shared.specs.Record.{opened_records}
-use Rattle.ent_runner.proofs.Conducting.{written_back, none_weaker}
-use Rattle.ent_runner.proofs.Lending.{done_seen, broken_off_seen}
+use Rattle.ent_log_runner.proofs.Common.{rules, ◌≡◌, ◌∙◌, ◌++◌, ap, length, take, drop, subst, refl, length-map, IsSound, Reserver, records_of, opened_records, written_back, none_weaker, done_seen, broken_off_seen}
 use Rattle.ent_log_runner.proofs.Logged.{Logs, logged, broken_off}
 use Rattle.ent_log_runner.proofs.Nothing.{logged_nothing}
 use Rattle.ent_log_runner.proofs.Reserved.{reserved_all}

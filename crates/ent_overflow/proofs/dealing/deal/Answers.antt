@@ -1,5 +1,4 @@
-use Rattle.std.proofs.Common.{rules}
-use Rattle.ent_alloc.specs.Limits.{quota}
+use Rattle.ent_overflow.proofs.Common.{rules, quota}
 use Rattle.ent_overflow.proofs.Dealers.{whole_quota, is_dealer}
 use Rattle.ent_overflow.proofs.dealing.deal.Goals as goal
 

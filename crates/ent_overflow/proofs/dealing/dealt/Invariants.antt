@@ -1,5 +1,4 @@
-use Rattle.std.proofs.Common.{◌≡◌, ◌+◌, drop}
-use Rattle.ent_blocks.specs.Blocks.{dealt}
+use Rattle.ent_overflow.proofs.Common.{◌≡◌, ◌+◌, drop, dealt}
 use Rattle.ent_overflow.proofs.dealing.dealt.Given as goal
 
 abbrev pub invariant-loop-part : goal.invariant-loop-part

@@ -1,10 +1,4 @@
-use Rattle.std.proofs.Common.{rules, ◌≡◌, ◌∙◌, [], ◌∷◌, ◌++◌, ap, arith, length}
-use Rattle.std.proofs.lemmas.List.{length-append}
-use Rattle.std.proofs.lemmas.List.Elements.{All-push, All-same}
-use Rattle.ent_shared.specs.Moves.{after_meeting}
-use Rattle.ent_shared.specs.Phase.{Reserver}
-use Rattle.ent_blocks.specs.Blocks.{unused}
-use Rattle.ent_overflow.specs.Overflow.{Phase, Caller, IsOf}
+use Rattle.ent_overflow.proofs.Common.{rules, ◌≡◌, ◌∙◌, [], ◌∷◌, ◌++◌, ap, arith, length, length-append, All-push, All-same, after_meeting, Reserver, unused, Phase, Caller, IsOf}
 use Rattle.ent_overflow.proofs.Dealers.{IsUnused, of_block, unused_of_block, none_past, last_fresh, others_fresh, blocks_more}
 use Rattle.ent_overflow.proofs.opening.hand_out.Goals as goal
 

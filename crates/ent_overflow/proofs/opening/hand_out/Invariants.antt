@@ -1,6 +1,4 @@
-use Rattle.std.proofs.Common.{◌≡◌, ◌+◌, ◌≤◌, length, take, vec_len, All}
-use Rattle.std.specs.Prelude.{vec_capacity}
-use Rattle.ent_overflow.specs.Overflow.{IsOf, IsFresh, blocks_of}
+use Rattle.ent_overflow.proofs.Common.{◌≡◌, ◌+◌, ◌≤◌, length, take, vec_len, All, vec_capacity, IsOf, IsFresh, blocks_of}
 use Rattle.ent_overflow.proofs.Dealers.{IsUnused}
 use Rattle.ent_overflow.proofs.opening.hand_out.Given as goal
 

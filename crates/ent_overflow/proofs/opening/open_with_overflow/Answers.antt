@@ -1,7 +1,4 @@
-use Rattle.std.proofs.Common.{rules, ◌∙◌, ◌<◌, ◌^◌, sym, ap, subst, List}
-use Rattle.std.proofs.lemmas.List.{length-append}
-use Rattle.ent_blocks.specs.Blocks.{Block, dealt}
-use Rattle.ent_blocks.proofs.Openings.{length-from}
+use Rattle.ent_overflow.proofs.Common.{rules, ◌∙◌, ◌<◌, ◌^◌, sym, ap, subst, List, length-append, Block, dealt, length-from}
 use Rattle.ent_overflow.proofs.Dealers.{opened, all_fresh, others_fresh}
 use Rattle.ent_overflow.proofs.opening.open_with_overflow.Goals as goal
 

@@ -1,6 +1,4 @@
-use Rattle.std.proofs.Common.{◌≡◌, ◌+◌, ◌≤◌, ◌++◌, length, vec_len}
-use Rattle.std.specs.Prelude.{vec_capacity}
-use Rattle.ent_overflow.specs.Overflow.{blocks_of, past_of}
+use Rattle.ent_overflow.proofs.Common.{◌≡◌, ◌+◌, ◌≤◌, ◌++◌, length, vec_len, vec_capacity, blocks_of, past_of}
 use Rattle.ent_overflow.proofs.overflow.take_apart.Given as goal
 
 -- those that came so far

@@ -1,6 +1,4 @@
-use Rattle.std.proofs.Common.{rules, arith, drop, sym, ◌∙◌, ◌<◌, slice_index}
-use Rattle.std.proofs.lemmas.Grind.{common_steps}
-use Rattle.ent_queue.specs.Unpacking.{after_first}
+use Rattle.ent_queue.proofs.Common.{rules, arith, drop, sym, ◌∙◌, ◌<◌, slice_index, common_steps, after_first}
 use Rattle.ent_queue.proofs.Fronts.{HandleAndBundle, HandlesAndBundle, HandleAndComponent, OneHandle, Reason, begins_kinds}
 use Rattle.ent_queue.proofs.entries.read_entry.Goals.{In-0, In-1, In-2, In-3, In-4, In_default}
 use Rattle.ent_queue.proofs.entries.read_entry.Goals as goal

@@ -1,6 +1,4 @@
-use Rattle.std.proofs.Common.{rules}
-use Rattle.std.proofs.Math.Facts.{Fits-of_lt}
-use Rattle.ent_storage.proofs.Few.{few_items}
+use Rattle.ent_queue.proofs.Common.{rules, Fits-of_lt, few_items}
 use Rattle.ent_queue.proofs.writing.write_bundle.Goals as goal
 
 pub overflow_cast-items : goal.overflow_cast-items

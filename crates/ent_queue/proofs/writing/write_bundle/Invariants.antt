@@ -1,6 +1,4 @@
-use Rattle.std.proofs.Common.{◌≡◌, ◌+◌, ◌*◌, ◌≤◌, ◌++◌, take, vec_len, vec_capacity}
-use Rattle.std.specs.List.{flat_map}
-use Rattle.ent_queue.specs.Packing.{item_bytes}
+use Rattle.ent_queue.proofs.Common.{◌≡◌, ◌+◌, ◌*◌, ◌≤◌, ◌++◌, take, vec_len, vec_capacity, flat_map, item_bytes}
 use Rattle.ent_queue.proofs.writing.write_bundle.Given as goal
 
 abbrev pub invariant-loop-item : goal.invariant-loop-item

@@ -1,7 +1,4 @@
-use Rattle.std.proofs.Common.{◌≡◌, ◌+◌, ◌*◌, ◌≤◌, ◌++◌, length, vec_len, vec_capacity}
-use Rattle.std.specs.List.{All, flat_map}
-use Rattle.ent_handle.specs.Handle.{IsHandle}
-use Rattle.ent_queue.specs.Packing.{handle_bytes}
+use Rattle.ent_queue.proofs.Common.{◌≡◌, ◌+◌, ◌*◌, ◌≤◌, ◌++◌, length, vec_len, vec_capacity, All, flat_map, IsHandle, handle_bytes}
 use Rattle.ent_queue.proofs.writing.write_many.Given as goal
 
 abbrev pub invariant-loop-handle : goal.invariant-loop-handle

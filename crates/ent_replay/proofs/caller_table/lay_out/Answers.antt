@@ -1,4 +1,4 @@
-use Rattle.std.proofs.Common.{rules}
+use Rattle.ent_replay.proofs.Common.{rules}
 use Rattle.ent_replay.proofs.Tables.{by_place-resized}
 use Rattle.ent_replay.proofs.caller_table.lay_out.Goals as goal
 

@@ -1,4 +1,4 @@
-use Rattle.std.proofs.Common.{rules}
+use Rattle.ent_replay.proofs.Common.{rules}
 use Rattle.ent_replay.proofs.Tables.{by_place-set, values_below}
 use Rattle.ent_replay.proofs.caller_table.put.Goals as goal
 

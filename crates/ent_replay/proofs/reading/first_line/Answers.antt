@@ -1,4 +1,4 @@
-use Rattle.std.proofs.Common.{rules}
+use Rattle.ent_replay.proofs.Common.{rules}
 use Rattle.ent_replay.proofs.ScheduleWords.{lines_whole, lines_first}
 use Rattle.ent_replay.proofs.reading.first_line.Goals as goal
 

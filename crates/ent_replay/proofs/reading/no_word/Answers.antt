@@ -1,4 +1,4 @@
-use Rattle.std.proofs.Common.{sym}
+use Rattle.ent_replay.proofs.Common.{sym}
 use Rattle.ent_replay.proofs.ScheduleWords.{none_after}
 use Rattle.ent_replay.proofs.reading.no_word.Goals as goal
 

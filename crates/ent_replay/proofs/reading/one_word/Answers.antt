@@ -1,4 +1,4 @@
-use Rattle.std.proofs.Common.{rules}
+use Rattle.ent_replay.proofs.Common.{rules}
 use Rattle.ent_replay.proofs.ScheduleWords.{one_after}
 use Rattle.ent_replay.proofs.reading.one_word.Goals as goal
 

@@ -1,6 +1,4 @@
-use Rattle.std.proofs.Common.{rules, sym, vec_len}
-use Rattle.std.proofs.lemmas.Bool.{eqb-true}
-use Rattle.ent_replay.specs.ScheduleText.{schedule_of}
+use Rattle.ent_replay.proofs.Common.{rules, sym, vec_len, eqb-true, schedule_of}
 use Rattle.ent_replay.proofs.ScheduleLoop.{stops, ends}
 use Rattle.ent_replay.proofs.ScheduleLaws.{schedule_found, schedule_again, schedule_refused}
 use Rattle.ent_replay.proofs.reading.read_schedule.Goals as goal

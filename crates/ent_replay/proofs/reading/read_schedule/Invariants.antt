@@ -1,5 +1,4 @@
-use Rattle.std.proofs.Common.{◌≡◌, length, vec_len}
-use Rattle.ent_replay.specs.ScheduleText.{schedule_of}
+use Rattle.ent_replay.proofs.Common.{◌≡◌, length, vec_len, schedule_of}
 use Rattle.ent_replay.proofs.ScheduleLoop.{with_front, read_from}
 use Rattle.ent_replay.proofs.reading.read_schedule.Given as goal
 

@@ -1,9 +1,6 @@
-use Rattle.std.proofs.lemmas.Grind.{common_steps}
-use Rattle.std.proofs.Common.{rules, length, [], ◌∷◌, ap, ◌∙◌, arith, length-append, ◌+◌, ◌≤◌}
-use Rattle.std.proofs.lemmas.Result.{err_from_is_err_and}
+use Rattle.ent_replay.proofs.Common.{common_steps, rules, length, [], ◌∷◌, ap, ◌∙◌, arith, ◌+◌, ◌≤◌, err_from_is_err_and, handle_text, spaced}
+use Rattle.std.proofs.Common.{length-append}
 use Rattle.ent_replay.proofs.SpacedHandles.{spaced_fits}
-use Rattle.ent_handle.specs.Text.{handle_text}
-use Rattle.ent_replay.specs.OutcomeText.{spaced}
 use Rattle.ent_replay.proofs.writing.append_spaced.Goals.{After-append}
 use Rattle.ent_replay.proofs.writing.append_spaced.Goals as goal
 

@@ -1,6 +1,4 @@
-use Rattle.std.proofs.Common.{◌≡◌, ◌≤◌, ◌++◌, take, drop, vec_len}
-use Rattle.std.specs.Prelude.{vec_capacity}
-use Rattle.ent_replay.specs.OutcomeText.{spaced}
+use Rattle.ent_replay.proofs.Common.{◌≡◌, ◌≤◌, ◌++◌, take, drop, vec_len, spaced, vec_capacity}
 use Rattle.ent_replay.proofs.writing.append_spaced.Given as goal
 
 abbrev pub invariant-loop-handle : goal.invariant-loop-handle

@@ -1,4 +1,4 @@
-use Rattle.std.proofs.Common.{rules}
+use Rattle.ent_replay.proofs.Common.{rules}
 use Rattle.ent_replay.proofs.SpacedHandles.{length-handles_text}
 use Rattle.ent_replay.proofs.writing.list_len.Goals as goal
 

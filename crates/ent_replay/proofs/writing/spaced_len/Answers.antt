@@ -1,6 +1,4 @@
-use Rattle.std.proofs.Common.{rules, arith}
-use Rattle.std.proofs.lemmas.Grind.{common_steps}
-use Rattle.std.proofs.lemmas.List.{drop_all}
+use Rattle.ent_replay.proofs.Common.{rules, arith, common_steps, drop_all}
 use Rattle.ent_replay.proofs.writing.spaced_len.Goals as goal
 
 pub loop-handle-preserved : goal.loop-handle-preserved

@@ -1,5 +1,4 @@
-use Rattle.std.proofs.Common.{◌≡◌, ◌+◌, ◌-◌, ◌^◌, ◌≤◌, length, drop, min}
-use Rattle.ent_replay.specs.OutcomeText.{spaced}
+use Rattle.ent_replay.proofs.Common.{◌≡◌, ◌+◌, ◌-◌, ◌^◌, ◌≤◌, length, drop, min, spaced}
 use Rattle.ent_replay.proofs.writing.spaced_len.Given as goal
 
 -- what is counted and what is left are all, up to the greatest number

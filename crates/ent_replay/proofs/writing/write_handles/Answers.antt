@@ -1,5 +1,4 @@
-use Rattle.std.proofs.Common.{arith}
-use Rattle.std.proofs.lemmas.Grind.{common_steps}
+use Rattle.ent_replay.proofs.Common.{arith, common_steps}
 use Rattle.ent_replay.proofs.SpacedHandles.{handles_text-cons}
 use Rattle.ent_replay.proofs.writing.write_handles.Goals as goal
 

@@ -1,4 +1,4 @@
-use Rattle.std.proofs.Common.{arith}
+use Rattle.ent_runner.proofs.Common.{arith}
 use Rattle.ent_runner.proofs.ByNumber.{collected_on}
 use Rattle.ent_runner.proofs.collecting.collect.Goals as goal
 

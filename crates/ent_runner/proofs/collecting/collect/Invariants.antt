@@ -1,5 +1,4 @@
-use Rattle.std.proofs.Common.{◌≡◌, ◌≤◌, ◌+◌, ◌++◌, length, map, Some}
-use Rattle.std.specs.Prelude.{vec_capacity, vec_len}
+use Rattle.ent_runner.proofs.Common.{◌≡◌, ◌≤◌, ◌+◌, ◌++◌, length, map, Some, vec_capacity, vec_len}
 use Rattle.ent_runner.proofs.collecting.collect.Given as goal
 
 -- what was moved, and what is still to be moved

@@ -1,6 +1,4 @@
-use Rattle.std.proofs.Common.{◌≡◌, length, ◌<◌}
-use Rattle.std.specs.List.{All}
-use Rattle.ent_runner.specs.Collecting.{outputs_put}
+use Rattle.ent_runner.proofs.Common.{◌≡◌, length, ◌<◌, All, outputs_put}
 use Rattle.ent_runner.proofs.collecting.put_all.Given as goal
 
 -- what is left to be put gives the same as all of it did at the start

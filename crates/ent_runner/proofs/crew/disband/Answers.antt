@@ -1,4 +1,4 @@
-use Rattle.std.proofs.Common.{ap, length, arith}
+use Rattle.ent_runner.proofs.Common.{ap, length, arith}
 use Rattle.ent_runner.proofs.Disbanding.{disbanded_on, inside_first, moved_on}
 use Rattle.ent_runner.proofs.crew.disband.Goals as goal
 

@@ -1,6 +1,4 @@
-use Rattle.std.proofs.Common.{◌≡◌, ◌≤◌, ◌+◌, ◌++◌, ◌<◌, length, map, vec_len}
-use Rattle.std.specs.Prelude.{All, vec_capacity, flat_map}
-use Rattle.ent_runner.specs.Collecting.{outputs_put}
+use Rattle.ent_runner.proofs.Common.{◌≡◌, ◌≤◌, ◌+◌, ◌++◌, ◌<◌, length, map, vec_len, vec_capacity, outputs_put, All, flat_map}
 use Rattle.ent_runner.proofs.crew.disband.Given as goal
 
 -- what was taken apart so far

@@ -1,6 +1,4 @@
-use Rattle.std.proofs.Common.{◌≡◌, ◌≤◌, ◌+◌, ◌++◌, map, reverse, vec_len}
-use Rattle.std.specs.Prelude.{All, vec_capacity}
-use Rattle.ent_runner.specs.Worker.{IsRoomForOne}
+use Rattle.ent_runner.proofs.Common.{◌≡◌, ◌≤◌, ◌+◌, ◌++◌, map, reverse, vec_len, vec_capacity, IsRoomForOne, All}
 use Rattle.ent_runner.proofs.crew.recruit.Given as goal
 
 -- so far each worker has a claimer, from the last one on

@@ -1,5 +1,4 @@
-use Rattle.std.proofs.lemmas.Grind.{common_steps}
-use Rattle.std.proofs.Common.{arith, sym}
+use Rattle.ent_runner.proofs.Common.{common_steps, arith, sym}
 use Rattle.ent_runner.proofs.crew.some_stopped.Goals as goal
 
 pub loop-worker-preserved : goal.loop-worker-preserved

@@ -1,4 +1,4 @@
-use Rattle.std.proofs.Common.{◌≡◌, ℕ, ◌<◌, false, get_or}
+use Rattle.ent_runner.proofs.Common.{◌≡◌, ℕ, ◌<◌, false, get_or}
 use Rattle.ent_runner.proofs.crew.some_stopped.Given as goal
 
 -- none so far has stopped

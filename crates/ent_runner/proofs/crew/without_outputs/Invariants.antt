@@ -1,5 +1,4 @@
-use Rattle.std.proofs.Common.{◌≡◌, ◌≤◌, vec_len, None}
-use Rattle.std.specs.Prelude.{replicate, vec_capacity}
+use Rattle.ent_runner.proofs.Common.{◌≡◌, ◌≤◌, vec_len, None, replicate, vec_capacity}
 use Rattle.ent_runner.proofs.crew.without_outputs.Given as goal
 
 abbrev pub invariant-loop : goal.invariant-loop

@@ -1,8 +1,4 @@
-use Rattle.std.proofs.Common.{rules, ◌≡◌, ◌∙◌, ◌++◌, ap, length, take, drop}
-use Rattle.std.proofs.lemmas.List.{length-map}
-use Rattle.ent_shared.specs.Phase.{Reserver, records_of}
-use Rattle.ent_shared.specs.Record.{opened_records}
-use Rattle.ent_world.specs.OpenWorld.{world_at_start}
+use Rattle.ent_runner.proofs.Common.{rules, ◌≡◌, ◌∙◌, ◌++◌, ap, length, take, drop, length-map, Reserver, records_of, opened_records, world_at_start}
 use Rattle.ent_runner.proofs.Alone.{ends_in_order, ends}
 use Rattle.ent_runner.proofs.Conducting.{written_back, none_weaker, some_weaker}
 use Rattle.ent_runner.proofs.Framed.{Issues}

@@ -1,4 +1,4 @@
-use Rattle.std.proofs.Common.{rules}
+use Rattle.ent_runner.proofs.Common.{rules}
 use Rattle.ent_runner.proofs.NoSystems.{applies_none}
 use Rattle.ent_runner.proofs.frame.without_systems.Goals as goal
 

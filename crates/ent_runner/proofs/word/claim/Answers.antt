@@ -1,6 +1,4 @@
-use Rattle.std.proofs.Common.{rules, ◌≡◌, [], ◌∷◌, refl}
-use Rattle.ent_runner.specs.Record.{claims_of}
-use Rattle.ent_runner.specs.Rule.{AfterClaim}
+use Rattle.ent_runner.proofs.Common.{rules, ◌≡◌, [], ◌∷◌, refl, claims_of, AfterClaim}
 use Rattle.ent_runner.proofs.Steps.{claims_at}
 use Rattle.ent_runner.proofs.word.claim.Goals as goal
 

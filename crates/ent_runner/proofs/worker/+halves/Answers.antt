@@ -1,4 +1,4 @@
-use Rattle.std.proofs.Common.{sym}
+use Rattle.ent_runner.proofs.Common.{sym}
 use Rattle.ent_runner.proofs.Halves.{both_worked}
 use Rattle.ent_runner.proofs.worker.+halves.Goals as goal
 

@@ -1,4 +1,4 @@
-use Rattle.std.proofs.Common.{◌+◌, ◌-◌, ◌*◌, length}
+use Rattle.ent_runner.proofs.Common.{◌+◌, ◌-◌, ◌*◌, length}
 use Rattle.ent_runner.proofs.worker.+halves.Given as goal
 
 -- a part of the workers is shorter than all of them

@@ -1,4 +1,4 @@
-use Rattle.std.proofs.Common.{rules}
+use Rattle.ent_script.proofs.Common.{rules}
 use Rattle.ent_script.proofs.Births.{birth_of_whole, birth_of_halves, birth_of_split}
 use Rattle.ent_script.proofs.birth.parts.Goals as goal
 

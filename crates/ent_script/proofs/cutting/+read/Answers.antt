@@ -1,16 +1,7 @@
-use Rattle.std.proofs.lemmas.Grind.{common_steps}
-use Rattle.json.proofs.Grammar.{members_end, value_is, value-begin_object, read_key-shorter}
-use Rattle.std.proofs.Common.{◌≡◌, ◌-◌, ◌∷◌, length, Some, refl, ap, ◌∙◌, arith, rules, suc}
-use Rattle.json.specs.Token.{Token}
-use Rattle.json.specs.Json.{read_key, value}
-use Rattle.json.specs.Reads.{token_of}
-use Rattle.serde_json.specs.Data.{null, boolean, number, string, object, no_members, put}
-use Rattle.serde_json.specs.View.{number_view, members_view}
-use Rattle.serde_json.specs.declared.value.Value.{the_lemmas}
+use Rattle.ent_script.proofs.Common.{common_steps, members_end, value_is, value-begin_object, read_key-shorter, ◌≡◌, ◌-◌, ◌∷◌, length, Some, refl, ap, ◌∙◌, arith, rules, suc, Token, read_key, value, token_of, null, boolean, number, string, object, no_members, put, number_view, members_view, the_lemmas, cut, cut_members}
 use Rattle.ent_script.proofs.Turns.{converted-object, member_read, member_refused, key_refused}
 use Rattle.ent_script.proofs.Cuts.{view-Array, view-Object, members_view-insert_entry, cut_members-put, opened_array, opened_object}
 use Rattle.ent_script.proofs.Openings.{passed_nested}
-use Rattle.ent_script.specs.Cut.{cut, cut_members}
 use Rattle.ent_script.proofs.cutting.+read.Goals as goal
 
 pub read_cut-returns-in_err-token-clause-json : goal.read_cut-returns-in_err-token-clause-json

@@ -1,9 +1,4 @@
-use Rattle.std.proofs.Common.{◌≡◌, ℕ, ◌+◌, ◌*◌, ◌≤◌, length}
-use Rattle.json.specs.Json.{members, value}
-use Rattle.serde_json.specs.Data.{Members, no_members}
-use Rattle.serde_json.specs.Read.{of_members, converted}
-use Rattle.serde_json.specs.View.{members_view}
-use Rattle.ent_script.specs.Cut.{cut_members}
+use Rattle.ent_script.proofs.Common.{◌≡◌, ℕ, ◌+◌, ◌*◌, ◌≤◌, length, members, value, Members, no_members, of_members, converted, members_view, cut_members}
 use Rattle.ent_script.proofs.cutting.+read.Given as goal
 
 abbrev pub decreases-read_cut : goal.decreases-read_cut

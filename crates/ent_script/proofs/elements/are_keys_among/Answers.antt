@@ -1,4 +1,4 @@
-use Rattle.std.proofs.Common.{◌∙◌}
+use Rattle.ent_script.proofs.Common.{◌∙◌}
 use Rattle.ent_script.proofs.Values.{keys_lent}
 use Rattle.ent_script.proofs.elements.are_keys_among.Goals as goal
 

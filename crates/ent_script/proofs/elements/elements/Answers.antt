@@ -1,5 +1,4 @@
-use Rattle.serde_json.specs.Find.{as_array}
-use Rattle.serde_json.specs.View.{view}
+use Rattle.ent_script.proofs.Common.{as_array, view}
 use Rattle.ent_script.proofs.Values.{elements_seen}
 use Rattle.ent_script.proofs.elements.elements.Goals as goal
 

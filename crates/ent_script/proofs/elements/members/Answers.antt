@@ -1,5 +1,4 @@
-use Rattle.serde_json.specs.Find.{as_object}
-use Rattle.serde_json.specs.View.{view}
+use Rattle.ent_script.proofs.Common.{as_object, view}
 use Rattle.ent_script.proofs.Values.{members_seen}
 use Rattle.ent_script.proofs.elements.members.Goals as goal
 

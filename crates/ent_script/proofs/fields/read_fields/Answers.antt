@@ -1,11 +1,6 @@
-use Rattle.std.proofs.Common.{◌≡◌, ◌-◌, Some, None, arith}
-use Rattle.std.proofs.lemmas.Grind.{common_steps}
-use Rattle.json.proofs.Grammar.{read_key-shorter}
-use Rattle.json.specs.Json.{read_key, value}
-use Rattle.serde_json.specs.Data.{no_members, put}
+use Rattle.ent_script.proofs.Common.{◌≡◌, ◌-◌, Some, None, arith, common_steps, read_key-shorter, read_key, value, no_members, put, data_of}
 use Rattle.ent_script.proofs.Finding.{next_member, last_member, no_key}
 use Rattle.ent_script.proofs.Operations.{cut_read}
-use Rattle.ent_script.specs.Part.{data_of}
 use Rattle.ent_script.proofs.fields.read_fields.Goals as goal
 
 pub members-init : goal.members-init

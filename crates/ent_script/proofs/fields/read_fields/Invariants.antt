@@ -1,9 +1,4 @@
-use Rattle.std.proofs.Common.{◌≡◌, ◌≤◌, ℕ, List, length, Some}
-use Rattle.json.specs.Token.{Token}
-use Rattle.json.specs.Json.{members, value}
-use Rattle.serde_json.specs.Data.{Members, no_members}
-use Rattle.serde_json.specs.Read.{of_members, converted}
-use Rattle.ent_script.specs.Fields.{AreFields}
+use Rattle.ent_script.proofs.Common.{◌≡◌, ◌≤◌, ℕ, List, length, Some, Token, members, value, Members, no_members, of_members, converted, AreFields}
 use Rattle.ent_script.proofs.fields.read_fields.Given as goal
 
 abbrev pub invariant-members : goal.invariant-members

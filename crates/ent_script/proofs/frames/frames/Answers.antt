@@ -1,4 +1,4 @@
-use Rattle.std.proofs.Common.{arith}
+use Rattle.ent_script.proofs.Common.{arith}
 use Rattle.ent_script.proofs.Openings.{array_begun, no_array_begun}
 use Rattle.ent_script.proofs.frames.frames.Goals as goal
 

@@ -1,9 +1,4 @@
-use Rattle.std.proofs.Common.{◌≡◌, ℕ, ◌≤◌, List, length, Some}
-use Rattle.json.specs.Token.{Token}
-use Rattle.json.specs.Json.{items, value}
-use Rattle.serde_json.specs.Data.{Items}
-use Rattle.serde_json.specs.Read.{of_items, converted}
-use Rattle.ent_script.specs.Reading.{frame_of}
+use Rattle.ent_script.proofs.Common.{◌≡◌, ℕ, ◌≤◌, List, length, Some, Token, items, value, Items, of_items, converted, frame_of}
 use Rattle.ent_script.proofs.Listing.{At}
 use Rattle.ent_script.proofs.frames.frames_inside.Given as goal
 

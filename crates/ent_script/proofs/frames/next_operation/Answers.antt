@@ -1,6 +1,4 @@
-use Rattle.std.proofs.Common.{arith, rules}
-use Rattle.std.proofs.lemmas.Grind.{common_steps}
-use Rattle.ent_script.specs.Reading.{births_before}
+use Rattle.ent_script.proofs.Common.{arith, rules, common_steps, births_before}
 use Rattle.ent_script.proofs.Keyed.{no_operation}
 use Rattle.ent_script.proofs.Openings.{object_begun, no_object_begun}
 use Rattle.ent_script.proofs.frames.next_operation.Goals as goal

@@ -1,5 +1,4 @@
-use Rattle.std.proofs.Common.{rules}
-use Rattle.ent_script.specs.Reading.{operation_of}
+use Rattle.ent_script.proofs.Common.{rules, operation_of}
 use Rattle.ent_script.proofs.Keyed.{of_fields-means}
 use Rattle.ent_script.proofs.frames.operation.Goals as goal
 

@@ -1,8 +1,4 @@
-use Rattle.std.proofs.Common.{rules, ◌≡◌, ◌+◌, ◌-◌, length, None, ap, ◌∙◌, arith}
-use Rattle.std.proofs.lemmas.Grind.{common_steps}
-use Rattle.json.specs.Json.{after_end_array, value}
-use Rattle.ent_script.specs.Json.{list_of}
-use Rattle.ent_script.specs.Reading.{system_of, operation_at}
+use Rattle.ent_script.proofs.Common.{rules, ◌≡◌, ◌+◌, ◌-◌, length, None, ap, ◌∙◌, arith, common_steps, after_end_array, value, list_of, system_of, operation_at}
 use Rattle.ent_script.specs.declared.read_fault.ReadFault.TheVariants as fault
 use Rattle.ent_script.proofs.Listing.{at_end, at_most_many, at_fault, fault_streams}
 use Rattle.ent_script.proofs.Operations.{reached_next, listed_among}

@@ -1,5 +1,4 @@
-use Rattle.std.proofs.Common.{arith}
-use Rattle.ent_script.specs.Reading.{system_of}
+use Rattle.ent_script.proofs.Common.{arith, system_of}
 use Rattle.ent_script.proofs.Openings.{array_begun, no_array_begun}
 use Rattle.ent_script.proofs.frames.system.Goals as goal
 

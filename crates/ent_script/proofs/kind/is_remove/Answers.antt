@@ -1,5 +1,4 @@
-use Rattle.std.proofs.Common.{◌∷◌, [], ◌∙◌, codes, sym}
-use Rattle.ent_script.specs.Reading.{is_remove}
+use Rattle.ent_script.proofs.Common.{◌∷◌, [], ◌∙◌, codes, sym, is_remove}
 use Rattle.ent_script.proofs.Keyed.{two_there, two_first, two_second}
 use Rattle.ent_script.proofs.kind.is_remove.Goals as goal
 

@@ -1,5 +1,4 @@
-use Rattle.std.proofs.Common.{◌∷◌, [], ◌∙◌, codes, sym}
-use Rattle.ent_script.specs.Reading.{is_spawn}
+use Rattle.ent_script.proofs.Common.{◌∷◌, [], ◌∙◌, codes, sym, is_spawn}
 use Rattle.ent_script.proofs.Keyed.{one_there, one_absent}
 use Rattle.ent_script.proofs.kind.is_spawn.Goals as goal
 

@@ -1,9 +1,4 @@
-use Rattle.json.proofs.Grammar.{value_is}
-use Rattle.std.proofs.Common.{refl, ap, arith, rules}
-use Rattle.json.specs.Token.{Token}
-use Rattle.json.specs.Reads.{token_of}
-use Rattle.serde_json.specs.Data.{null, boolean, number, string}
-use Rattle.serde_json.specs.View.{number_view}
+use Rattle.ent_script.proofs.Common.{value_is, refl, ap, arith, rules, Token, token_of, null, boolean, number, string, number_view}
 use Rattle.ent_script.proofs.Cuts.{opened_array, opened_object}
 use Rattle.ent_script.proofs.Openings.{passed_nested}
 use Rattle.ent_script.proofs.leaf.read_leaf.Goals as goal

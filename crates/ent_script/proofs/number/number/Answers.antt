@@ -1,7 +1,4 @@
-use Rattle.std.proofs.lemmas.Grind.{common_steps}
-use Rattle.std.proofs.Common.{rules, ◌≡◌, drop, ap, ◌∙◌, arith, take_all, length-drop}
-use Rattle.fast_float.specs.Text.{scan}
-use Rattle.serde_json.specs.Read.{number_of}
+use Rattle.ent_script.proofs.Common.{common_steps, rules, ◌≡◌, drop, ap, ◌∙◌, arith, take_all, length-drop, scan, number_of}
 use Rattle.ent_script.proofs.number.number.Goals as goal
 
 pub returns-then-has_minus : goal.returns-then-has_minus

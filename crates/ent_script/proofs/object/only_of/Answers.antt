@@ -1,4 +1,4 @@
-use Rattle.std.proofs.Common.{sym, ◌∙◌}
+use Rattle.ent_script.proofs.Common.{sym, ◌∙◌}
 use Rattle.ent_script.proofs.Values.{only_member, not_only}
 use Rattle.ent_script.proofs.object.only_of.Goals as goal
 

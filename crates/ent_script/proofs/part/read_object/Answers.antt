@@ -1,7 +1,4 @@
-use Rattle.json.proofs.Grammar.{members_end, read_key-shorter}
-use Rattle.std.proofs.Common.{◌≡◌, ◌-◌, length, Some, refl, ◌∙◌, arith, rules}
-use Rattle.json.specs.Json.{read_key, value}
-use Rattle.serde_json.specs.Data.{no_members, put}
+use Rattle.ent_script.proofs.Common.{members_end, read_key-shorter, ◌≡◌, ◌-◌, length, Some, refl, ◌∙◌, arith, rules, read_key, value, no_members, put}
 use Rattle.ent_script.proofs.Turns.{member_read, member_refused, key_refused}
 use Rattle.ent_script.proofs.Cuts.{cut_members-put}
 use Rattle.ent_script.proofs.part.read_object.Goals as goal

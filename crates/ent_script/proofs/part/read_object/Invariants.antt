@@ -1,9 +1,4 @@
-use Rattle.std.proofs.Common.{◌≡◌, ℕ, ◌≤◌, length}
-use Rattle.json.specs.Json.{members, value}
-use Rattle.serde_json.specs.Data.{Members, no_members}
-use Rattle.serde_json.specs.Read.{of_members, converted}
-use Rattle.ent_script.specs.Part.{members_of}
-use Rattle.ent_script.specs.Cut.{cut_members}
+use Rattle.ent_script.proofs.Common.{◌≡◌, ℕ, ◌≤◌, length, members, value, Members, no_members, of_members, converted, members_of, cut_members}
 use Rattle.ent_script.proofs.part.read_object.Given as goal
 
 abbrev pub invariant-members : goal.invariant-members

@@ -1,11 +1,4 @@
-use Rattle.std.proofs.lemmas.Grind.{common_steps}
-use Rattle.json.proofs.Grammar.{value_is, value-begin_object}
-use Rattle.std.proofs.Common.{◌≡◌, ◌∷◌, refl, ap, arith, rules}
-use Rattle.json.specs.Token.{Token}
-use Rattle.json.specs.Json.{value}
-use Rattle.json.specs.Reads.{token_of}
-use Rattle.serde_json.specs.Data.{null, boolean, number, string, object}
-use Rattle.serde_json.specs.View.{number_view}
+use Rattle.ent_script.proofs.Common.{common_steps, value_is, value-begin_object, ◌≡◌, ◌∷◌, refl, ap, arith, rules, Token, value, token_of, null, boolean, number, string, object, number_view}
 use Rattle.ent_script.proofs.Turns.{converted-object}
 use Rattle.ent_script.proofs.Cuts.{opened_array}
 use Rattle.ent_script.proofs.Openings.{passed_nested}

@@ -1,4 +1,4 @@
-use Rattle.std.proofs.Common.{rules}
+use Rattle.ent_script.proofs.Common.{rules}
 use Rattle.ent_script.proofs.Values.{pairs_of-leaves_of}
 use Rattle.ent_script.proofs.parts.items.Goals as goal
 

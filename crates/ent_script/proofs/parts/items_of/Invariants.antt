@@ -1,5 +1,4 @@
-use Rattle.std.proofs.Common.{◌≡◌, map}
-use Rattle.ent_script.specs.Reading.{items_of, bundle_by}
+use Rattle.ent_script.proofs.Common.{◌≡◌, map, items_of, bundle_by}
 use Rattle.ent_script.proofs.Bundles.{onto}
 use Rattle.ent_script.proofs.Values.{leaf_view}
 use Rattle.ent_script.proofs.parts.items_of.Given as goal

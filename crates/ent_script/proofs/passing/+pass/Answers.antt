@@ -1,9 +1,4 @@
-use Rattle.std.proofs.lemmas.Grind.{common_steps}
-use Rattle.json.proofs.Grammar.{members_end, left-parse_map, value_is, value-begin_array, value-begin_object, read_key-shorter}
-use Rattle.std.proofs.Common.{rules, ◌≡◌, ◌-◌, ◌<◌, ◌∷◌, length, Some, None, refl, ◌∙◌, arith}
-use Rattle.json.specs.Json.{after_end_array, read_key, value}
-use Rattle.json.specs.Reads.{token_of}
-use Rattle.serde_json.specs.Data.{no_members}
+use Rattle.ent_script.proofs.Common.{common_steps, members_end, left-parse_map, value_is, value-begin_array, value-begin_object, read_key-shorter, rules, ◌≡◌, ◌-◌, ◌<◌, ◌∷◌, length, Some, None, refl, ◌∙◌, arith, after_end_array, read_key, value, token_of, no_members}
 use Rattle.ent_script.proofs.Turns.{converted-array, converted-object, items_over, key_refused}
 use Rattle.ent_script.proofs.Stepping.{item_passed, item_stuck, member_passed, member_stuck}
 use Rattle.ent_script.proofs.passing.+pass.Goals as goal

@@ -1,8 +1,4 @@
-use Rattle.std.proofs.Common.{◌≡◌, ℕ, ◌+◌, ◌*◌, ◌≤◌, length}
-use Rattle.json.specs.Json.{items, members, value}
-use Rattle.serde_json.specs.Data.{Members}
-use Rattle.serde_json.specs.Read.{of_items, of_members, converted}
-use Rattle.ent_script.specs.Passing.{left, after_items, after_members}
+use Rattle.ent_script.proofs.Common.{◌≡◌, ℕ, ◌+◌, ◌*◌, ◌≤◌, length, items, members, value, Members, of_items, of_members, converted, left, after_items, after_members}
 use Rattle.ent_script.proofs.passing.+pass.Given as goal
 
 abbrev pub decreases-pass_value : goal.decreases-pass_value

@@ -1,8 +1,5 @@
-use Rattle.std.proofs.Common.{Ok, ◌≡◌, ◌∙◌, ◌∷◌, ◌++◌, [], length-append, Some, None, Err, map, rules, arith}
-use Rattle.serde_json.specs.View.{view}
+use Rattle.ent_script.proofs.Common.{Ok, ◌≡◌, ◌∙◌, ◌∷◌, ◌++◌, [], length-append, Some, None, Err, map, rules, arith, view, as_name, numbered, component_at, new_name}
 use Rattle.ent_script.specs.declared.cause.ScriptCause.TheVariants as script_cause
-use Rattle.ent_script.specs.Names.{as_name}
-use Rattle.ent_script.specs.Reading.{numbered, component_at, new_name}
 use Rattle.ent_script.proofs.NamesLaws.{new_name_is, with_new}
 use Rattle.ent_script.proofs.Numbering.{goes_on, stops, names_on}
 use Rattle.ent_script.proofs.reading.different_names.Goals as goal

@@ -1,7 +1,4 @@
-use Rattle.std.proofs.Common.{◌≡◌, ◌≤◌, length, map}
-use Rattle.serde_json.specs.View.{view}
-use Rattle.ent_script.specs.Names.{as_name, names_in}
-use Rattle.ent_script.specs.Reading.{numbered, component_at}
+use Rattle.ent_script.proofs.Common.{◌≡◌, ◌≤◌, length, map, view, as_name, names_in, numbered, component_at}
 use Rattle.ent_script.proofs.Numbering.{onto, from, until}
 use Rattle.ent_script.proofs.reading.different_names.Given as goal
 

@@ -1,4 +1,4 @@
-use Rattle.std.proofs.Common.{rules, [], length, arith}
+use Rattle.ent_script.proofs.Common.{rules, [], length, arith}
 use Rattle.ent_script.proofs.Openings.{text_object, text_no_object}
 use Rattle.ent_script.proofs.reading.frames_in.Goals as goal
 

@@ -1,11 +1,4 @@
-use Rattle.std.proofs.Common.{◌≡◌, ℕ, List, length, Some, codes}
-use Rattle.json.specs.Token.{Token}
-use Rattle.json.specs.Json.{members, value}
-use Rattle.serde_json.specs.Data.{Members, no_members}
-use Rattle.serde_json.specs.Find.{get_member}
-use Rattle.serde_json.specs.Read.{of_members, converted}
-use Rattle.ent_script.specs.Reading.{ReadsList}
-use Rattle.ent_script.specs.Streaming.{frames_of}
+use Rattle.ent_script.proofs.Common.{◌≡◌, ℕ, List, length, Some, codes, Token, members, value, Members, no_members, get_member, of_members, converted, ReadsList, frames_of}
 use Rattle.ent_script.proofs.reading.frames_inside.Given as goal
 
 abbrev pub invariant-members : goal.invariant-members

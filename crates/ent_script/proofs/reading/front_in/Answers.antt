@@ -1,12 +1,4 @@
-use Rattle.std.proofs.lemmas.Grind.{common_steps}
-use Rattle.std.proofs.Common.{◌≡◌, ◌∙◌, ℕ, List, Some, sym, ap, rules, arith}
-use Rattle.json.specs.Reads.{token_of}
-use Rattle.serde_json.specs.Data.{Data}
-use Rattle.serde_json.specs.Read.{read}
-use Rattle.serde_json.specs.View.{view}
-use Rattle.serde_json.specs.declared.value.Value.{Value}
-use Rattle.ent_script.specs.Reading.{heading_of, in_script}
-use Rattle.ent_script.specs.declared.heading.Heading.{Heading}
+use Rattle.ent_script.proofs.Common.{common_steps, ◌≡◌, ◌∙◌, ℕ, List, Some, sym, ap, rules, arith, token_of, Data, read, view, Value, heading_of, in_script, Heading}
 use Rattle.ent_script.proofs.Headings.{headed, whole}
 use Rattle.ent_script.proofs.reading.front_in.Goals as goal
 

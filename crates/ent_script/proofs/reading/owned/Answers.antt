@@ -1,4 +1,4 @@
-use Rattle.std.proofs.Common.{rules}
+use Rattle.ent_script.proofs.Common.{rules}
 use Rattle.ent_script.proofs.Texts.{one_more}
 use Rattle.ent_script.proofs.reading.owned.Goals as goal
 

@@ -1,4 +1,4 @@
-use Rattle.std.proofs.Common.{◌≡◌, map, take, string_bytes}
+use Rattle.ent_script.proofs.Common.{◌≡◌, map, take, string_bytes}
 use Rattle.ent_script.proofs.reading.owned.Given as goal
 
 abbrev pub invariant-loop-name : goal.invariant-loop-name

@@ -1,6 +1,5 @@
 use Rattle.ent_script.proofs.Whole.{heading_refused}
-use Rattle.std.proofs.Common.{arith, rules}
-use Rattle.std.proofs.lemmas.Grind.{common_steps}
+use Rattle.ent_script.proofs.Common.{arith, rules, common_steps}
 use Rattle.ent_script.proofs.Faults.{passes_on, returned}
 use Rattle.ent_script.proofs.Headings.{headed, found, json_is}
 use Rattle.ent_script.proofs.Ranges.{returned_in}

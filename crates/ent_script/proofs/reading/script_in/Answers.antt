@@ -1,10 +1,4 @@
-use Rattle.std.proofs.Common.{◌≡◌, Option, codes, map, rules}
-use Rattle.serde_json.specs.Data.{Data}
-use Rattle.serde_json.specs.Find.{get}
-use Rattle.serde_json.specs.View.{view}
-use Rattle.ent_script.specs.Reading.{numbered, component_at, component_names, in_script}
-use Rattle.ent_script.specs.Front.{IsFront}
-use Rattle.ent_script.specs.declared.read_fault.ReadFault.{ReadFault}
+use Rattle.ent_script.proofs.Common.{◌≡◌, Option, codes, map, rules, Data, get, view, numbered, component_at, component_names, in_script, IsFront, ReadFault}
 use Rattle.ent_script.proofs.Faults.{passes_on, passes_from_list, returned}
 use Rattle.ent_script.proofs.Whole.{no_names, names_meant, names_refused, script_is}
 use Rattle.ent_script.proofs.reading.script_in.Goals.{After-deref}

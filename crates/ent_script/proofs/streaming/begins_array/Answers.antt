@@ -1,7 +1,4 @@
-use Rattle.std.proofs.lemmas.Grind.{common_steps}
-use Rattle.json.proofs.Grammar.{left-parse_map, value_is, value-begin_array}
-use Rattle.std.proofs.Common.{rules, ◌≡◌, [], arith}
-use Rattle.json.specs.Json.{value}
+use Rattle.ent_script.proofs.Common.{common_steps, left-parse_map, value_is, value-begin_array, rules, ◌≡◌, [], arith, value}
 use Rattle.ent_script.proofs.Turns.{converted-array}
 use Rattle.ent_script.proofs.Cuts.{opened_array}
 use Rattle.ent_script.proofs.Finding.{no_token, no_array, passed}

@@ -1,4 +1,4 @@
-use Rattle.std.proofs.Common.{rules, ◌≡◌, [], arith}
+use Rattle.ent_script.proofs.Common.{rules, ◌≡◌, [], arith}
 use Rattle.ent_script.proofs.Cuts.{opened_object}
 use Rattle.ent_script.proofs.Finding.{no_token, no_object_at, passed}
 use Rattle.ent_script.proofs.streaming.begins_object.Goals as goal

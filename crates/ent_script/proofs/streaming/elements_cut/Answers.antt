@@ -1,21 +1,6 @@
-use Rattle.std.proofs.lemmas.Grind.{common_steps}
-use Rattle.std.proofs.Common.{◌≡◌, ℕ, ◌+◌, List, ◌++◌, length, map, None, arith, rules, append_assoc, true, false, le-leb, Bool, ap, option_map, [], ◌∙◌, Option, Vec, Global}
-use Rattle.std.proofs.lemmas.Bool.{lt-leb}
-use Rattle.std.proofs.lemmas.List.{map-append, append-nil}
-use Rattle.std.specs.Prelude.{Ok, Err, nat_le}
-use Rattle.json.specs.Token.{Token}
-use Rattle.json.specs.Json.{after_end_array, items, value}
-use Rattle.serde_json.specs.Data.{Data, Items}
-use Rattle.serde_json.specs.Read.{of_items, converted}
-use Rattle.serde_json.specs.View.{view}
-use Rattle.serde_json.specs.declared.value.Value.{Value}
-use Rattle.ent_script.specs.Cut.{cut}
-use Rattle.ent_script.specs.Json.{list_of}
-use Rattle.ent_script.specs.Passing.{left}
-use Rattle.ent_script.specs.Streaming.{PassesAtMost}
+use Rattle.ent_script.proofs.Common.{common_steps, ◌≡◌, ℕ, ◌+◌, List, ◌++◌, length, map, None, arith, rules, append_assoc, true, false, le-leb, Bool, ap, option_map, [], ◌∙◌, Option, Vec, Global, lt-leb, map-append, append-nil, nat_le, Token, after_end_array, items, value, Data, Items, of_items, converted, view, Value, cut, list_of, left, PassesAtMost, Json, Ok, Err}
 use Rattle.ent_script.proofs.Finding.{next_item, last_item, impossible}
 use Rattle.ent_script.proofs.Stepping.{goes_on, goes_stuck, goes_over, passes_refused}
-use Rattle.ent_script.specs.declared.read_fault.ReadFault.TheVariants.{Json}
 use Rattle.ent_script.proofs.streaming.elements_cut.Goals as goal
 
 lengths : (levels : ℕ) (all later : List Data) (front : List Value) → map (cut levels) all ≡ map view front ++ map (cut

@@ -1,6 +1,4 @@
-use Rattle.std.proofs.Common.{refl, arith, subst, Bool, true, false}
-use Rattle.std.specs.Prelude.{Ok}
-use Rattle.ent_script.specs.Streaming.{PassesAtMost}
+use Rattle.ent_script.proofs.Common.{refl, arith, subst, Bool, true, false, PassesAtMost, Ok}
 use Rattle.ent_script.proofs.streaming.fault_of_array.Goals as goal
 
 pub returns-in-Ok-true-clause-value : goal.returns-in-Ok-true-clause-value

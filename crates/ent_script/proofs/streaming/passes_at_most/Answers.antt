@@ -1,10 +1,4 @@
-use Rattle.std.proofs.Common.{rules, ◌≡◌, ℕ, ◌+◌, ◌<◌, List, length, Bool, true, false, refl, [], None, arith}
-use Rattle.json.specs.Json.{after_end_array, value}
-use Rattle.std.specs.Prelude.{Ok}
-use Rattle.json.specs.Token.{Token}
-use Rattle.serde_json.specs.Data.{Items}
-use Rattle.ent_script.specs.Json.{list_of}
-use Rattle.ent_script.specs.Streaming.{PassesAtMost}
+use Rattle.ent_script.proofs.Common.{rules, ◌≡◌, ℕ, ◌+◌, ◌<◌, List, length, Bool, true, false, refl, [], None, arith, after_end_array, value, Token, Items, list_of, PassesAtMost, Ok}
 use Rattle.ent_script.proofs.Finding.{next_item, last_item, not_passed}
 use Rattle.ent_script.proofs.PassedOver.{item_over}
 use Rattle.ent_script.proofs.Stepping.{goes_on, goes_stuck, goes_over}

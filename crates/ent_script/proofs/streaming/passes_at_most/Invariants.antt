@@ -1,10 +1,4 @@
-use Rattle.std.proofs.Common.{◌≡◌, ℕ, ◌+◌, ◌<◌, ◌≤◌, List, length, true, false, Some}
-use Rattle.json.specs.Token.{Token}
-use Rattle.json.specs.Json.{items, value}
-use Rattle.serde_json.specs.Data.{Items}
-use Rattle.serde_json.specs.Read.{of_items, converted}
-use Rattle.ent_script.specs.Json.{list_of}
-use Rattle.ent_script.specs.Passing.{left}
+use Rattle.ent_script.proofs.Common.{◌≡◌, ℕ, ◌+◌, ◌<◌, ◌≤◌, List, length, true, false, Some, Token, items, value, Items, of_items, converted, list_of, left}
 use Rattle.ent_script.proofs.Stepping.{Goes}
 use Rattle.ent_script.proofs.streaming.passes_at_most.Given as goal
 

@@ -1,4 +1,4 @@
-use Rattle.std.proofs.Common.{arith, length}
+use Rattle.ent_script.proofs.Common.{arith, length}
 use Rattle.ent_script.proofs.Stepping.{begun, not_begun}
 use Rattle.ent_script.proofs.Openings.{array_begun, no_array_begun}
 use Rattle.ent_script.proofs.streaming.read_elements.Goals as goal

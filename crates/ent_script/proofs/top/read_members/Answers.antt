@@ -1,12 +1,4 @@
-use Rattle.std.proofs.lemmas.Grind.{common_steps}
-use Rattle.json.proofs.Grammar.{members_end, left_none, read_key-shorter}
-use Rattle.std.proofs.Common.{◌≡◌, ◌-◌, length, Some, None, refl, sym, ap, ◌∙◌, arith, rules, codes, Option, Vec, Global}
-use Rattle.json.specs.Json.{read_key, value}
-use Rattle.serde_json.specs.Data.{object, no_members, put}
-use Rattle.serde_json.specs.Read.{of_json, of_members, converted}
-use Rattle.serde_json.specs.View.{members_view}
-use Rattle.serde_json.specs.declared.value.Value.{Value, the_lemmas}
-use Rattle.ent_script.specs.declared.read_fault.ReadFault.TheVariants.{Json}
+use Rattle.ent_script.proofs.Common.{common_steps, members_end, left_none, read_key-shorter, ◌≡◌, ◌-◌, length, Some, None, refl, sym, ap, ◌∙◌, arith, rules, codes, Option, Vec, Global, read_key, value, object, no_members, put, of_json, of_members, converted, members_view, Value, the_lemmas, Json}
 use Rattle.ent_script.proofs.Stepping.{passes_json}
 use Rattle.ent_script.proofs.Turns.{member_read, member_refused, key_refused}
 use Rattle.ent_script.proofs.Cuts.{members_view-insert_entry, view-Object}

@@ -1,13 +1,4 @@
-use Rattle.std.proofs.Common.{◌≡◌, ℕ, ◌≤◌, length, map, option_map, option_and_then, codes}
-use Rattle.std.specs.Prelude.{IfSome}
-use Rattle.json.specs.Json.{members, value}
-use Rattle.serde_json.specs.Data.{Members, no_members}
-use Rattle.serde_json.specs.Find.{get_member}
-use Rattle.serde_json.specs.Read.{of_members, converted}
-use Rattle.serde_json.specs.View.{view, members_view}
-use Rattle.ent_script.specs.Cut.{cut}
-use Rattle.ent_script.specs.Json.{at_most}
-use Rattle.ent_script.specs.Top.{heads}
+use Rattle.ent_script.proofs.Common.{◌≡◌, ℕ, ◌≤◌, length, map, option_map, option_and_then, codes, members, value, Members, no_members, get_member, of_members, converted, view, members_view, cut, at_most, heads, IfSome}
 use Rattle.ent_script.proofs.top.read_members.Given as goal
 
 abbrev pub invariant-members : goal.invariant-members

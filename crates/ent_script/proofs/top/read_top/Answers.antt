@@ -1,13 +1,4 @@
-use Rattle.std.proofs.lemmas.Grind.{common_steps}
-use Rattle.json.proofs.Grammar.{value_is, value-begin_object}
-use Rattle.std.proofs.Common.{◌≡◌, ◌∷◌, refl, ap, ◌∙◌, arith, rules, codes, None}
-use Rattle.json.specs.Token.{Token}
-use Rattle.json.specs.Json.{value}
-use Rattle.json.specs.Reads.{token_of}
-use Rattle.serde_json.specs.Data.{object}
-use Rattle.serde_json.specs.Find.{as_object}
-use Rattle.serde_json.specs.declared.value.Value.{the_lemmas}
-use Rattle.ent_script.specs.Reading.{heading_of}
+use Rattle.ent_script.proofs.Common.{common_steps, value_is, value-begin_object, ◌≡◌, ◌∷◌, refl, ap, ◌∙◌, arith, rules, codes, None, Token, value, token_of, object, as_object, the_lemmas, heading_of}
 use Rattle.ent_script.proofs.Finding.{no_object_at}
 use Rattle.ent_script.proofs.Openings.{passed_nested}
 use Rattle.ent_script.proofs.Stepping.{if_ok}

@@ -1,6 +1,4 @@
-use Rattle.std.proofs.Common.{ap, map, rules, arith, ◌∙◌}
-use Rattle.ent_shared.specs.Phase.{Reserver, own_of}
-use Rattle.std.proofs.lemmas.Int.{ints}
+use Rattle.ent_shared.proofs.Common.{ap, map, rules, arith, ◌∙◌, Reserver, own_of, ints}
 use Rattle.ent_shared.proofs.Steps.{goes_by_records}
 use Rattle.ent_shared.proofs.Sharing.{AreShared, none_shared, next_seated, shared_more, own_again, none_used, all_of}
 use Rattle.ent_shared.proofs.phase.share.Goals as goal

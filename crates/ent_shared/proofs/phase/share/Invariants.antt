@@ -1,5 +1,4 @@
-use Rattle.std.proofs.Common.{◌≡◌, ◌≤◌, vec_len}
-use Rattle.std.specs.Vec.{vec_capacity}
+use Rattle.ent_shared.proofs.Common.{◌≡◌, ◌≤◌, vec_len, vec_capacity}
 use Rattle.ent_shared.proofs.Sharing.{AreShared}
 use Rattle.ent_shared.proofs.phase.share.Given as goal
 

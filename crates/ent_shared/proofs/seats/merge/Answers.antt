@@ -1,4 +1,4 @@
-use Rattle.std.proofs.Common.{rules}
+use Rattle.ent_shared.proofs.Common.{rules}
 use Rattle.ent_shared.proofs.Moving.{merges}
 use Rattle.ent_shared.proofs.seats.merge.Goals as goal
 

@@ -1,4 +1,4 @@
-use Rattle.std.proofs.Common.{rules}
+use Rattle.ent_shared.proofs.Common.{rules}
 use Rattle.ent_shared.proofs.Moving.{enters}
 use Rattle.ent_shared.proofs.seats.new_seat.Goals as goal
 

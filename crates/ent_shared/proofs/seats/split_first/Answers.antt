@@ -1,4 +1,4 @@
-use Rattle.std.proofs.Common.{rules}
+use Rattle.ent_shared.proofs.Common.{rules}
 use Rattle.ent_shared.proofs.Moving.{splits_first}
 use Rattle.ent_shared.proofs.seats.split_first.Goals as goal
 

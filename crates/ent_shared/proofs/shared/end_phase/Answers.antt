@@ -1,7 +1,4 @@
-use Rattle.std.proofs.Common.{rules, ◌≡◌, w64, to_z, of_z, [], ◌∷◌, arith, ap, ◌∙◌}
-use Rattle.std.proofs.lemmas.Grind.{common_steps}
-use Rattle.std.proofs.lemmas.Int.{ints}
-use Rattle.ent_shared.specs.Phase.{Reserver}
+use Rattle.ent_shared.proofs.Common.{rules, ◌≡◌, w64, to_z, of_z, [], ◌∷◌, arith, ap, ◌∙◌, common_steps, ints, Reserver}
 use Rattle.ent_shared.proofs.Steps.{goes_by_records}
 use Rattle.ent_shared.proofs.Merging.{item_is, items_on, records_on, floor_on}
 use Rattle.ent_shared.proofs.shared.end_phase.Goals as goal

@@ -1,6 +1,4 @@
-use Rattle.std.proofs.Common.{◌≡◌, [], ◌++◌, map}
-use Rattle.ent_shared.specs.Phase.{Reserver}
-use Rattle.ent_shared.specs.Rule.{least_floor}
+use Rattle.ent_shared.proofs.Common.{◌≡◌, [], ◌++◌, map, Reserver, least_floor}
 use Rattle.ent_shared.proofs.shared.end_phase.Given as goal
 
 abbrev pub invariant-loop-reserver : goal.invariant-loop-reserver

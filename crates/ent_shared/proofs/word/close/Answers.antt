@@ -1,5 +1,4 @@
-use Rattle.std.proofs.Common.{rules, ap, subst, ◌^◌, ◌+◌, ◌≤◌, ◌<◌}
-use Rattle.ent_shared.specs.Rule.{cursor_of, offset}
+use Rattle.ent_shared.proofs.Common.{rules, ap, subst, ◌^◌, ◌+◌, ◌≤◌, ◌<◌, cursor_of, offset}
 use Rattle.ent_shared.proofs.Words.{word_least, word_greatest, word_fits, cursor_fits, cursor_is}
 use Rattle.ent_shared.proofs.Ends.{ends}
 use Rattle.ent_shared.proofs.word.close.Goals as goal

@@ -1,5 +1,4 @@
-use Rattle.std.proofs.Common.{rules, ◌≡◌, [], ◌∷◌}
-use Rattle.ent_shared.specs.Phase.{own_of}
+use Rattle.ent_shared.proofs.Common.{rules, ◌≡◌, [], ◌∷◌, own_of}
 use Rattle.ent_shared.proofs.Steps.{meets_at, splits_others}
 use Rattle.ent_shared.proofs.word.meet.Goals as goal
 

@@ -1,5 +1,4 @@
-use Rattle.std.proofs.Common.{rules}
-use Rattle.std.proofs.lemmas.Int.{ints}
+use Rattle.ent_shared.proofs.Common.{rules, ints}
 use Rattle.ent_shared.proofs.Words.{word_is}
 use Rattle.ent_shared.proofs.Ends.{begins}
 use Rattle.ent_shared.proofs.word.open.Goals as goal

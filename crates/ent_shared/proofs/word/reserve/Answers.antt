@@ -1,6 +1,4 @@
-use Rattle.std.proofs.Common.{rules, ◌≡◌, [], ◌∷◌, subst}
-use Rattle.ent_shared.specs.Phase.{own_of}
-use Rattle.ent_shared.specs.Rule.{AfterReserve}
+use Rattle.ent_shared.proofs.Common.{rules, ◌≡◌, [], ◌∷◌, subst, own_of, AfterReserve}
 use Rattle.ent_shared.proofs.Words.{word_fits, cursor_fits, cursor_is, least_cursor}
 use Rattle.ent_shared.proofs.Steps.{reserves_at}
 use Rattle.ent_shared.proofs.word.reserve.Goals as goal

@@ -1,5 +1,4 @@
-use Rattle.std.proofs.Common.{arith}
-use Rattle.std.proofs.lemmas.Grind.{common_steps}
+use Rattle.ent_storage.proofs.Common.{arith, common_steps}
 use Rattle.ent_storage.proofs.columns.grow.Goals as goal
 
 pub loop-preserved : goal.loop-preserved

@@ -1,5 +1,4 @@
-use Rattle.std.proofs.Common.{◌≡◌, ◌≤◌, ℕ, length}
-use Rattle.ent_storage.specs.Living.{column_at}
+use Rattle.ent_storage.proofs.Common.{◌≡◌, ◌≤◌, ℕ, length, column_at}
 use Rattle.ent_storage.proofs.columns.grow.Given as goal
 
 abbrev pub invariant-loop : goal.invariant-loop

@@ -1,5 +1,4 @@
-use Rattle.std.specs.Prelude.{Err}
-use Rattle.std.proofs.lemmas.List.Sorted.{searched}
+use Rattle.ent_storage.proofs.Common.{searched, Err}
 use Rattle.ent_storage.proofs.InUse.{in_use_inserted, rising_from_start}
 use Rattle.ent_storage.proofs.columns.mark.Goals as goal
 

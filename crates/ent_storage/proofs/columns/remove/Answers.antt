@@ -1,5 +1,4 @@
-use Rattle.std.proofs.Common.{rules, arith}
-use Rattle.std.proofs.lemmas.List.{get_or_default}
+use Rattle.ent_storage.proofs.Common.{rules, arith, get_or_default}
 use Rattle.ent_storage.proofs.ColumnsAtPlaces.{components_remove, remove_others, column_set, column_kept, taken_none}
 use Rattle.ent_storage.proofs.InUse.{removed_rest}
 use Rattle.ent_storage.proofs.columns.remove.Goals as goal

@@ -1,4 +1,4 @@
-use Rattle.std.proofs.Common.{rules}
+use Rattle.ent_storage.proofs.Common.{rules}
 use Rattle.ent_storage.proofs.InUse.{in_use_set}
 use Rattle.ent_storage.proofs.columns.reserve.Goals as goal
 

@@ -1,10 +1,6 @@
-use Rattle.std.proofs.lemmas.Grind.{common_steps}
-use Rattle.std.proofs.Common.{ℤ, get_or, ap, sym, ◌∙◌, arith, pos}
+use Rattle.ent_storage.proofs.Common.{common_steps, ℤ, get_or, ap, sym, ◌∙◌, arith, pos, ComponentId, Values, components_at}
 use Rattle.ent_storage.proofs.Missing.{missing_at, on_err}
 use Rattle.std.specs.FinMap as map
-use Rattle.ent_handle.specs.declared.component.ComponentId.{ComponentId}
-use Rattle.ent_storage.specs.SparseSet.{Values}
-use Rattle.ent_storage.specs.Living.{components_at}
 use Rattle.ent_storage.proofs.ColumnsAtPlaces.{get_components}
 use Rattle.ent_storage.proofs.columns.reserve_all.Goals as goal
 

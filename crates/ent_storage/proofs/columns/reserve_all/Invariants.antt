@@ -1,7 +1,4 @@
-use Rattle.std.proofs.Common.{◌≡◌, ◌≤◌, ◌<◌, ℕ, ℤ, length, get_or}
-use Rattle.ent_handle.specs.declared.component.ComponentId.{ComponentId}
-use Rattle.ent_storage.specs.SparseSet.{HasRoomAt}
-use Rattle.ent_storage.specs.Living.{column_at, AreInUse}
+use Rattle.ent_storage.proofs.Common.{◌≡◌, ◌≤◌, ◌<◌, ℕ, ℤ, length, get_or, ComponentId, HasRoomAt, column_at, AreInUse}
 use Rattle.ent_storage.proofs.columns.reserve_all.Given as goal
 
 -- the values stay, and there is room for the items that were passed

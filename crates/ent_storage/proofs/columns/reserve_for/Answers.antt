@@ -1,9 +1,5 @@
-use Rattle.std.proofs.Common.{◌≡◌, ℕ, ap, subst, ◌∙◌, arith, inl, inr}
-use Rattle.std.proofs.lemmas.Bool.{cases_lt}
-use Rattle.std.proofs.lemmas.List.{get_or_default}
+use Rattle.ent_storage.proofs.Common.{◌≡◌, ℕ, ap, subst, ◌∙◌, arith, inl, inr, cases_lt, get_or_default, Column, HasRoomFor, no_column, column_at}
 use Rattle.std.specs.FinMap as map
-use Rattle.ent_storage.specs.SparseSet.{Column, HasRoomFor, no_column}
-use Rattle.ent_storage.specs.Living.{column_at}
 use Rattle.ent_storage.proofs.Missing.{on_err}
 use Rattle.ent_storage.proofs.columns.reserve_for.Goals.{After-index-source-number}
 use Rattle.ent_storage.proofs.columns.reserve_for.Goals as goal

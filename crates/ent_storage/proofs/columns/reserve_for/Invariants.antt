@@ -1,6 +1,4 @@
-use Rattle.std.proofs.Common.{◌≡◌, ◌<◌, ◌≤◌, ℕ, length}
-use Rattle.ent_storage.specs.SparseSet.{HasRoomFor}
-use Rattle.ent_storage.specs.Living.{column_at, AreInUse}
+use Rattle.ent_storage.proofs.Common.{◌≡◌, ◌<◌, ◌≤◌, ℕ, length, HasRoomFor, column_at, AreInUse}
 use Rattle.ent_storage.proofs.columns.reserve_for.Given as goal
 
 -- the values stay, and there is room for the columns that were passed

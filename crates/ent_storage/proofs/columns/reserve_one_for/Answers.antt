@@ -1,7 +1,4 @@
-use Rattle.std.proofs.Common.{rules, ◌≡◌, ◌<◌, ◌∙◌, sym, subst, length}
-use Rattle.std.proofs.lemmas.List.{get_or_default}
-use Rattle.ent_storage.specs.SparseSet.{Column, HasRoomFor, no_column}
-use Rattle.ent_storage.specs.Living.{column_at}
+use Rattle.ent_storage.proofs.Common.{rules, ◌≡◌, ◌<◌, ◌∙◌, sym, subst, length, get_or_default, Column, HasRoomFor, no_column, column_at}
 use Rattle.ent_storage.proofs.Copied.{room_kept}
 use Rattle.ent_storage.proofs.Missing.{on_err}
 use Rattle.ent_storage.proofs.columns.reserve_one_for.Goals as goal

@@ -1,6 +1,4 @@
-use Rattle.std.proofs.Common.{rules}
-use Rattle.std.proofs.lemmas.List.{get_or_default}
-use Rattle.std.proofs.lemmas.Int.{to_z-of_z}
+use Rattle.ent_storage.proofs.Common.{rules, get_or_default, to_z-of_z}
 use Rattle.ent_storage.proofs.ColumnsAtPlaces.{room_inside, column_set}
 use Rattle.ent_storage.proofs.columns.set.Goals as goal
 

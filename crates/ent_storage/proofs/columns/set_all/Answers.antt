@@ -1,6 +1,4 @@
-use Rattle.std.proofs.lemmas.Grind.{common_steps}
-use Rattle.std.proofs.Common.{arith}
-use Rattle.std.proofs.lemmas.List.{at_drop_more}
+use Rattle.ent_storage.proofs.Common.{common_steps, arith, at_drop_more}
 use Rattle.ent_storage.proofs.ColumnsAtPlaces.{components_insert, insert_others, insert_room}
 use Rattle.ent_storage.proofs.InUse.{rest_kept}
 use Rattle.ent_storage.proofs.columns.set_all.Goals as goal

@@ -1,8 +1,4 @@
-use Rattle.std.proofs.Common.{◌≡◌, ◌≢◌, ◌<◌, ℕ, length, drop, get_or, ℤ}
-use Rattle.ent_handle.specs.declared.component.ComponentId.{ComponentId}
-use Rattle.ent_storage.specs.Components.{with_items}
-use Rattle.ent_storage.specs.SparseSet.{HasRoomAt, no_column}
-use Rattle.ent_storage.specs.Living.{column_at, value_at, components_at}
+use Rattle.ent_storage.proofs.Common.{◌≡◌, ◌≢◌, ◌<◌, ℕ, length, drop, get_or, ℤ, ComponentId, with_items, HasRoomAt, no_column, column_at, value_at, components_at}
 use Rattle.ent_storage.proofs.columns.set_all.Given as goal
 
 -- what is set, what is left to set, and room for that

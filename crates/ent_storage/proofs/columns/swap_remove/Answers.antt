@@ -1,5 +1,4 @@
-use Rattle.std.proofs.lemmas.Grind.{common_steps}
-use Rattle.std.proofs.Common.{rules, arith}
+use Rattle.ent_storage.proofs.Common.{common_steps, rules, arith}
 use Rattle.ent_storage.proofs.InUse.{passed_all, passed_more}
 use Rattle.ent_storage.proofs.columns.swap_remove.Goals as goal
 

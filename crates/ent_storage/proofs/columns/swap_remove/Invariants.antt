@@ -1,4 +1,4 @@
-use Rattle.std.proofs.Common.{◌≡◌, ℕ, length}
+use Rattle.ent_storage.proofs.Common.{◌≡◌, ℕ, length}
 use Rattle.ent_storage.proofs.InUse.{IsPassed}
 use Rattle.ent_storage.proofs.columns.swap_remove.Given as goal
 

@@ -1,6 +1,4 @@
-use Rattle.std.proofs.Common.{◌≡◌, ◌<◌, ◌≤◌, ℕ, length}
-use Rattle.ent_storage.specs.SparseSet.{no_column}
-use Rattle.ent_storage.specs.Living.{column_at}
+use Rattle.ent_storage.proofs.Common.{◌≡◌, ◌<◌, ◌≤◌, ℕ, length, no_column, column_at}
 use Rattle.ent_storage.proofs.columns.take_over.Given as goal
 
 -- the columns that were passed have the values of the source, and the others are as they were

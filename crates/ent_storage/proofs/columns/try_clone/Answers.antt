@@ -1,6 +1,4 @@
-use Rattle.std.proofs.Common.{arith}
-use Rattle.std.proofs.lemmas.List.Elements.{all_zip_more}
-use Rattle.ent_storage.specs.Copies.{IsCopy}
+use Rattle.ent_storage.proofs.Common.{arith, all_zip_more, IsCopy}
 use Rattle.ent_storage.proofs.columns.try_clone.Goals as goal
 
 pub loop-column-preserved : goal.loop-column-preserved

@@ -1,6 +1,4 @@
-use Rattle.std.proofs.Common.{take}
-use Rattle.std.specs.List.{AllZip}
-use Rattle.ent_storage.specs.Copies.{IsCopy}
+use Rattle.ent_storage.proofs.Common.{take, AllZip, IsCopy}
 use Rattle.ent_storage.proofs.columns.try_clone.Given as goal
 
 -- the columns that were passed have copies

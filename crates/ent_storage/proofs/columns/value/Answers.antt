@@ -1,4 +1,4 @@
-use Rattle.std.proofs.Common.{rules}
+use Rattle.ent_storage.proofs.Common.{rules}
 use Rattle.ent_storage.proofs.ColumnsAtPlaces.{taken_none}
 use Rattle.ent_storage.proofs.columns.value.Goals as goal
 

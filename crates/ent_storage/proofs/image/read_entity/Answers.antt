@@ -1,12 +1,5 @@
-use Rattle.std.proofs.Common.{◌≡◌, ◌≢◌, ◌++◌, refl, ap, sym, ◌∙◌, List, [], ◌∷◌, length, Some, Option, slice_get, subst, is_some, IsSomeAnd}
-use Rattle.std.specs.Option.{option_map}
-use Rattle.std.specs.Prelude.{option_and_then}
+use Rattle.ent_storage.proofs.Common.{◌≡◌, ◌≢◌, ◌++◌, refl, ap, sym, ◌∙◌, List, [], ◌∷◌, length, Some, Option, slice_get, subst, is_some, IsSomeAnd, option_map, option_and_then, Birth, component_cmp, Handle, handle_cmp_total, handle_cmp-IsAntisymmetric, Entity, EntityMap, newborn, birth_of, IsBirth}
 use Rattle.std.specs.FinMap as map
-use Rattle.ent_handle.specs.declared.birth.Birth.{Birth}
-use Rattle.ent_handle.specs.Component.{component_cmp}
-use Rattle.ent_handle.specs.Handle.{Handle, handle_cmp_total, handle_cmp-IsAntisymmetric}
-use Rattle.ent_storage.specs.EntityMap.{Entity, EntityMap, newborn, birth_of}
-use Rattle.ent_storage.specs.Image.{IsBirth}
 use Rattle.ent_storage.proofs.Keys.{get-insert_same, get-insert_other}
 use Rattle.ent_storage.proofs.ImageEntities.{entity_short, entity_read, entity_refused}
 use Rattle.ent_storage.proofs.image.read_entity.Goals.{In-Ok}

@@ -1,7 +1,4 @@
-use Rattle.std.proofs.Common.{rules, ◌≡◌, ◌≢◌, ◌<◌, ◌++◌, ℕ, ℤ, List, Option, None, Some, ◌∷◌, length, ap, ◌∙◌, arith, get_or}
-use Rattle.std.specs.Int.{w64, cast_unsigned}
-use Rattle.std.proofs.lemmas.List.{length-append}
-use Rattle.ent_storage.specs.Image.{value_bytes, long}
+use Rattle.ent_storage.proofs.Common.{rules, ◌≡◌, ◌≢◌, ◌<◌, ◌++◌, ℕ, ℤ, List, Option, None, Some, ◌∷◌, length, ap, ◌∙◌, arith, get_or, w64, cast_unsigned, length-append, value_bytes, long}
 use Rattle.ent_storage.proofs.ImageBytes.{length-long}
 use Rattle.ent_storage.proofs.image.read_value.Goals as goal
 

@@ -1,7 +1,4 @@
-use Rattle.std.proofs.Common.{◌<◌, ap, sym, ◌∙◌, subst, arith, ℤ, Option, IfSome}
-use Rattle.std.specs.Int.{w64}
-use Rattle.std.specs.Int.RustNames.{FitsSigned}
-use Rattle.ent_storage.specs.EntityMap.{Store, value_of}
+use Rattle.ent_storage.proofs.Common.{◌<◌, ap, sym, ◌∙◌, subst, arith, ℤ, Option, IfSome, w64, FitsSigned, Store, value_of}
 use Rattle.ent_storage.proofs.ImageValues.{none_next, read_more, free_more, fits_more}
 use Rattle.ent_storage.proofs.image.read_values.Goals as goal
 

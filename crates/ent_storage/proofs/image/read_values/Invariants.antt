@@ -1,11 +1,5 @@
-use Rattle.std.proofs.Common.{◌≡◌, ◌≢◌, ◌≤◌, ◌<◌, ◌++◌, ℤ, None, Some}
-use Rattle.std.specs.Int.{w64}
-use Rattle.std.specs.Int.RustNames.{FitsSigned}
+use Rattle.ent_storage.proofs.Common.{◌≡◌, ◌≢◌, ◌≤◌, ◌<◌, ◌++◌, ℤ, None, Some, w64, FitsSigned, ComponentId, Handle, birth_of, value_of, values_bytes}
 use Rattle.std.specs.FinMap as map
-use Rattle.ent_handle.specs.declared.component.ComponentId.{ComponentId}
-use Rattle.ent_handle.specs.Handle.{Handle}
-use Rattle.ent_storage.specs.EntityMap.{birth_of, value_of}
-use Rattle.ent_storage.specs.Image.{values_bytes}
 use Rattle.ent_storage.proofs.image.read_values.Given as goal
 
 -- the entity has the values so far

@@ -1,6 +1,4 @@
-use Rattle.std.proofs.Common.{rules, sym}
-use Rattle.std.proofs.lemmas.Nat.{le_bytes_4}
-use Rattle.ent_storage.specs.Image.{word}
+use Rattle.ent_storage.proofs.Common.{rules, sym, le_bytes_4, word}
 use Rattle.ent_storage.proofs.image.word_in.Goals as goal
 
 pub returns : goal.returns

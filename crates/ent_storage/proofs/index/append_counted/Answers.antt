@@ -1,7 +1,4 @@
-use Rattle.std.proofs.Common.{rules, ◌≡◌, ◌+◌, ◌<◌, true, cond, filter, take, length, get_or, ap, ◌∙◌, arith, Bool}
-use Rattle.std.proofs.lemmas.List.{take_all}
-use Rattle.std.proofs.lemmas.List.Filters.{length-filter_more}
-use Rattle.ent_handle.specs.Handle.{handle_cmp_total as total, handle_cmp-IsAntisymmetric as same}
+use Rattle.ent_storage.proofs.Common.{rules, ◌≡◌, ◌+◌, ◌<◌, true, cond, filter, take, length, get_or, ap, ◌∙◌, arith, Bool, take_all, length-filter_more, total, same}
 use Rattle.ent_storage.proofs.Copied.{first_fit}
 use Rattle.ent_storage.proofs.Counted.{counts, from_sorted_left, left_fits}
 use Rattle.ent_storage.proofs.Overwritten.{is_sorted-filter}

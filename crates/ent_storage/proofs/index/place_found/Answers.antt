@@ -1,5 +1,4 @@
-use Rattle.std.proofs.Common.{sym, rules}
-use Rattle.ent_handle.specs.Handle.{handle_cmp_total as total, handle_cmp-IsAntisymmetric as same}
+use Rattle.ent_storage.proofs.Common.{sym, rules, total, same}
 use Rattle.ent_storage.proofs.Counted.{counted_has, counted_not, counted_none}
 use Rattle.ent_storage.proofs.Rising.{get_at, get_in_gap}
 use Rattle.ent_storage.proofs.index.place_found.Goals as goal

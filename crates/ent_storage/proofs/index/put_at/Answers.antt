@@ -1,6 +1,5 @@
-use Rattle.std.proofs.Common.{ap, refl, ◌∙◌}
+use Rattle.ent_storage.proofs.Common.{ap, refl, ◌∙◌, total, same}
 use Rattle.std.specs.FinMap as map
-use Rattle.ent_handle.specs.Handle.{handle_cmp_total as total, handle_cmp-IsAntisymmetric as same}
 use Rattle.ent_storage.proofs.Keys.{get-insert_same, get-insert_other}
 use Rattle.ent_storage.proofs.Counted.{counted_gives}
 use Rattle.ent_storage.proofs.Rising.{rising_set, map_set}

@@ -1,10 +1,6 @@
-use Rattle.std.proofs.Common.{rules, ◌≡◌, length, arith}
-use Rattle.std.specs.List.{insert}
-use Rattle.ent_handle.specs.Handle.{handle_cmp, handle_cmp_total as total, handle_cmp-IsAntisymmetric as same}
-use Rattle.ent_storage.specs.Position.{IsGapFor}
+use Rattle.ent_storage.proofs.Common.{rules, ◌≡◌, length, arith, insert, handle_cmp, total, same, IsGapFor, insert_end}
 use Rattle.ent_storage.proofs.Counted.{put_between, counted_none}
 use Rattle.ent_storage.proofs.Rising.{get_in_gap}
-use Rattle.std.proofs.lemmas.List.Edits.{insert_end}
 use Rattle.ent_storage.proofs.index.put_behind.Goals as goal
 
 module _ (c : goal.After-push_reserved) where

@@ -1,4 +1,4 @@
-use Rattle.std.proofs.Common.{rules}
+use Rattle.ent_storage.proofs.Common.{rules}
 use Rattle.ent_storage.proofs.Counted.{swept_has}
 use Rattle.ent_storage.proofs.index.put_found.Goals as goal
 

@@ -1,8 +1,5 @@
-use Rattle.std.proofs.Common.{rules, ◌≡◌}
-use Rattle.std.specs.List.{insert}
-use Rattle.ent_storage.specs.Indexed.{IsFree}
+use Rattle.ent_storage.proofs.Common.{rules, ◌≡◌, insert, IsFree, insert_end}
 use Rattle.ent_storage.proofs.Counted.{put_over, put_between}
-use Rattle.std.proofs.lemmas.List.Edits.{insert_end}
 use Rattle.ent_storage.proofs.index.put_in_gap.Goals as goal
 
 -- over a pair beside the gap: those before it are smaller, and those after it are greater

@@ -1,7 +1,4 @@
-use Rattle.std.proofs.Common.{◌+◌, set, arith}
-use Rattle.ent_handle.specs.Handle.{handle_cmp, handle_cmp_total as total, handle_cmp-IsAntisymmetric as same}
-use Rattle.ent_storage.specs.Position.{IsGapFor}
-use Rattle.ent_storage.specs.Indexed.{IsFree}
+use Rattle.ent_storage.proofs.Common.{◌+◌, set, arith, handle_cmp, total, same, IsGapFor, IsFree}
 use Rattle.ent_storage.proofs.Counted.{IsPut, put_over, counted_none}
 use Rattle.ent_storage.proofs.Rising.{get_in_gap}
 use Rattle.ent_storage.proofs.index.put_over_last.Goals as goal

@@ -1,6 +1,4 @@
-use Rattle.std.proofs.Common.{◌≡◌, filter, length, ap, arith, rules}
-use Rattle.std.proofs.lemmas.Fn.{filter_same}
-use Rattle.ent_handle.specs.Handle.{handle_cmp_total as total, handle_cmp-IsAntisymmetric as same}
+use Rattle.ent_storage.proofs.Common.{◌≡◌, filter, length, ap, arith, rules, filter_same, total, same}
 use Rattle.ent_storage.proofs.Counted.{counts, from_sorted_left, left_fits}
 use Rattle.ent_storage.proofs.Overwritten.{is_sorted-filter}
 use Rattle.ent_storage.proofs.index.sweep.Goals as goal

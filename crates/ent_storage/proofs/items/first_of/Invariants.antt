@@ -1,5 +1,4 @@
-use Rattle.std.proofs.Common.{◌≡◌, drop}
-use Rattle.ent_storage.specs.Living.{items_of}
+use Rattle.ent_storage.proofs.Common.{◌≡◌, drop, items_of}
 use Rattle.ent_storage.proofs.items.first_of.Given as goal
 
 -- the columns that were passed have no value at the place

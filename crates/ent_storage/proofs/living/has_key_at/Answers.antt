@@ -1,7 +1,4 @@
-use Rattle.std.proofs.Common.{◌≡◌, Some, ap, sym, ◌∙◌, rules}
-use Rattle.std.proofs.lemmas.Option.{slice_get-get_or}
-use Rattle.std.specs.Ordering.{eq_by_cmp}
-use Rattle.ent_handle.specs.Handle.{handle_cmp}
+use Rattle.ent_storage.proofs.Common.{◌≡◌, Some, ap, sym, ◌∙◌, rules, slice_get-get_or, eq_by_cmp, handle_cmp}
 use Rattle.ent_storage.proofs.EntitiesOfResidents.{test_at, test_past}
 use Rattle.ent_storage.proofs.living.has_key_at.Goals as goal
 

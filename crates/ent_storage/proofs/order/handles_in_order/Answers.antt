@@ -1,7 +1,4 @@
-use Rattle.std.proofs.Common.{ap, ◌∙◌, map}
-use Rattle.std.proofs.lemmas.List.Sorted.{IsPermutation-trans}
-use Rattle.std.proofs.lemmas.Result.{IfOk-weaker}
-use Rattle.ent_storage.specs.BirthOrder.{IsInOrder}
+use Rattle.ent_storage.proofs.Common.{ap, ◌∙◌, map, IsPermutation-trans, IfOk-weaker, IsInOrder}
 use Rattle.ent_storage.proofs.order.handles_in_order.Goals as goal
 
 -- a sort by birth and then by handle, and then the handles alone

@@ -1,11 +1,4 @@
-use Rattle.std.proofs.lemmas.Grind.{common_steps}
-use Rattle.std.proofs.Common.{◌≡◌, [], ◌∷◌, ◌++◌, map, take, sym, ◌∙◌, arith, rules}
-use Rattle.std.specs.Ordering.{eq_by_cmp}
-use Rattle.std.proofs.lemmas.List.{map_more}
-use Rattle.ent_handle.specs.declared.birth.Birth.{Birth}
-use Rattle.ent_handle.specs.Birth.{birth_cmp}
-use Rattle.ent_handle.specs.Handle.{Handle}
-use Rattle.ent_storage.specs.declared.living.Resident.{Resident}
+use Rattle.ent_storage.proofs.Common.{common_steps, ◌≡◌, [], ◌∷◌, ◌++◌, map, take, sym, ◌∙◌, arith, rules, eq_by_cmp, map_more, Birth, birth_cmp, Handle, Resident}
 use Rattle.ent_storage.proofs.OfBirth.{same_birth, other_birth, least_other, least_this}
 use Rattle.ent_storage.proofs.order.least_of_birth.Goals.{then-eq, else-eq}
 use Rattle.ent_storage.proofs.order.least_of_birth.Goals as goal

@@ -1,8 +1,4 @@
-use Rattle.std.proofs.Common.{map, take}
-use Rattle.ent_handle.specs.declared.birth.Birth.{Birth}
-use Rattle.ent_handle.specs.Handle.{Handle}
-use Rattle.ent_storage.specs.declared.living.Resident.{Resident}
-use Rattle.ent_storage.specs.BirthOrder.{IsLeastOf}
+use Rattle.ent_storage.proofs.Common.{map, take, Birth, Handle, Resident, IsLeastOf}
 use Rattle.ent_storage.proofs.order.least_of_birth.Given as goal
 
 -- the least of those that were passed

@@ -1,5 +1,4 @@
-use Rattle.std.proofs.Common.{rules}
-use Rattle.std.proofs.lemmas.List.Sorted.{answers_always}
+use Rattle.ent_storage.proofs.Common.{rules, answers_always}
 use Rattle.ent_storage.proofs.Positions.{searched}
 use Rattle.ent_storage.proofs.pairs.search.Goals as goal
 

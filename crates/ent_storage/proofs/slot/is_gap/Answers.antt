@@ -1,5 +1,4 @@
-use Rattle.std.proofs.Common.{◌≤◌, length, arith}
-use Rattle.ent_handle.specs.Handle.{handle_cmp_total as total}
+use Rattle.ent_storage.proofs.Common.{◌≤◌, length, arith, total}
 use Rattle.ent_storage.proofs.Rising.{gap_from_neighbours}
 use Rattle.ent_storage.proofs.slot.is_gap.Goals as goal
 

@@ -1,6 +1,4 @@
-use Rattle.std.proofs.Common.{rules}
-use Rattle.std.proofs.lemmas.List.Sorted.{answers_always}
-use Rattle.ent_handle.specs.Handle.{handle_cmp_total as total}
+use Rattle.ent_storage.proofs.Common.{rules, answers_always, total}
 use Rattle.ent_storage.proofs.Positions.{searched}
 use Rattle.ent_storage.proofs.slot.search.Goals as goal
 

@@ -1,5 +1,4 @@
-use Rattle.std.proofs.Common.{rules, ◌≡◌, ◌<◌, ◌^◌, ◌++◌, ◌∷◌, [], ◌∙◌, ap, length, arith}
-use Rattle.ent_storage.specs.SparseMap.{values_of}
+use Rattle.ent_storage.proofs.Common.{rules, ◌≡◌, ◌<◌, ◌^◌, ◌++◌, ◌∷◌, [], ◌∙◌, ap, length, arith, values_of}
 use Rattle.ent_storage.proofs.Sparse.{few_entries, more_slots, pushed_positioned, pushed_values}
 use Rattle.ent_storage.proofs.sparse_map.add.Goals as goal
 

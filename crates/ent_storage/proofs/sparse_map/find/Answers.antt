@@ -1,6 +1,4 @@
-use Rattle.std.proofs.Common.{rules, ◌≡◌, Some, ap, sym, ◌∙◌, slice_get}
-use Rattle.std.proofs.lemmas.Option.{slice_get_within, get_or_from_slice_get, slice_get-get_or, same_Some}
-use Rattle.ent_handle.specs.Handle.{Handle}
+use Rattle.ent_storage.proofs.Common.{rules, ◌≡◌, Some, ap, sym, ◌∙◌, slice_get, slice_get_within, get_or_from_slice_get, slice_get-get_or, same_Some, Handle}
 use Rattle.ent_storage.proofs.Dense.{not_past}
 use Rattle.ent_storage.proofs.Sparse.{missing, had, is_handle, not_handle}
 use Rattle.ent_storage.proofs.sparse_map.find.Goals as goal

@@ -1,6 +1,4 @@
-use Rattle.std.proofs.Common.{rules, ◌≡◌, ◌≤◌, ◌∙◌, Some, refl, sym, ap, get_or, slice_get, arith, List, ℕ}
-use Rattle.std.proofs.lemmas.Option.{slice_get_read, none-some, same_Some}
-use Rattle.ent_handle.specs.Handle.{Handle}
+use Rattle.ent_storage.proofs.Common.{rules, ◌≡◌, ◌≤◌, ◌∙◌, Some, refl, sym, ap, get_or, slice_get, arith, List, ℕ, slice_get_read, none-some, same_Some, Handle}
 use Rattle.ent_storage.specs.SparseMap.{IsFree}
 use Rattle.ent_storage.proofs.Sparse.{none_free, free_no_later, before_none, not_later, has_later, has_no_later, had, had_other, is_handle, not_handle, over_positioned, over_values}
 use Rattle.ent_storage.proofs.sparse_map.put.Given.{Over}

@@ -1,5 +1,4 @@
-use Rattle.std.proofs.Common.{rules, ◌≡◌, ◌≤◌, Some, refl, slice_get, length, arith}
-use Rattle.std.proofs.lemmas.Option.{slice_get-get_or, slice_get_read, slice_get_within, same_Some}
+use Rattle.ent_storage.proofs.Common.{rules, ◌≡◌, ◌≤◌, Some, refl, slice_get, length, arith, slice_get-get_or, slice_get_read, slice_get_within, same_Some}
 use Rattle.ent_storage.proofs.ElementsAt.{IsFilled, filled}
 use Rattle.ent_storage.proofs.Sparse.{IsStanding, standing, in_slots, in_positions, taken_values, refilled_positioned, popped_positioned}
 use Rattle.ent_storage.proofs.sparse_map.take.Given.{Over}

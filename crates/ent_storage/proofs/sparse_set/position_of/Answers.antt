@@ -1,5 +1,4 @@
-use Rattle.std.proofs.Common.{rules}
-use Rattle.std.proofs.lemmas.Option.{slice_get_within, get_or_from_slice_get}
+use Rattle.ent_storage.proofs.Common.{rules, slice_get_within, get_or_from_slice_get}
 use Rattle.ent_storage.proofs.Dense.{missing, not_past}
 use Rattle.ent_storage.proofs.sparse_set.position_of.Goals as goal
 

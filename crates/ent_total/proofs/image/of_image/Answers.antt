@@ -1,10 +1,4 @@
-use Rattle.std.proofs.Common.{rules, ◌∙◌, ap, sym, subst, arith, length, Ok, inl, List, ℕ}
-use Rattle.std.proofs.lemmas.List.{length-append}
-use Rattle.ent_storage.specs.Image.{word}
-use Rattle.ent_storage.proofs.ImageBytes.{length-word}
-use Rattle.ent_world.specs.Image.{image as world_image}
-use Rattle.ent_world.specs.FirstFault.{HasFault, MayTakeMemory}
-use Rattle.ent_world.proofs.ImageRead.{read_is, refused_is}
+use Rattle.ent_total.proofs.Common.{rules, ◌∙◌, ap, sym, subst, arith, length, Ok, inl, List, ℕ, length-append, word, length-word, world_image, HasFault, MayTakeMemory, read_is, refused_is}
 use Rattle.ent_total.proofs.ImageEnd.{of, same_ends, handed, handed_on, before_is, none_before}
 use Rattle.ent_total.proofs.image.of_image.Goals as goal
 

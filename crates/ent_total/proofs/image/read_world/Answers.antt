@@ -1,4 +1,4 @@
-use Rattle.ent_alloc.specs.Spent.{AreSpent}
+use Rattle.ent_total.proofs.Common.{AreSpent}
 use Rattle.ent_total.proofs.ImageEnd.{refused_from_exact, kept_by_image, bounded}
 use Rattle.ent_total.proofs.image.read_world.Goals as goal
 

@@ -1,6 +1,4 @@
-use Rattle.std.proofs.Common.{◌≡◌, ◌∙◌, ◌++◌, [], sym, arith}
-use Rattle.std.proofs.lemmas.List.{take-append-drop, append-nil, nil_from_length}
-use Rattle.ent_storage.specs.Image.{word}
+use Rattle.ent_total.proofs.Common.{◌≡◌, ◌∙◌, ◌++◌, [], sym, arith, take-append-drop, append-nil, nil_from_length, word}
 use Rattle.ent_total.proofs.image.split_count.Goals as goal
 
 pub returns : goal.returns

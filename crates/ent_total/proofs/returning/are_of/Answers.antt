@@ -1,7 +1,5 @@
-use Rattle.std.proofs.Common.{rules, arith, refl, ◌≡◌}
-use Rattle.std.proofs.lemmas.List.{take_all}
-use Rattle.std.proofs.lemmas.List.Elements.{All-more}
-use Rattle.ent_total.specs.Sharing.{Reserver, AreOf}
+use Rattle.ent_total.proofs.Common.{rules, arith, refl, ◌≡◌, take_all, All-more, AreOf}
+use Rattle.ent_total.specs.Sharing.{Reserver}
 use Rattle.ent_total.proofs.returning.are_of.Goals as goal
 
 pub loop-reserver-preserved : goal.loop-reserver-preserved

@@ -1,5 +1,4 @@
-use Rattle.std.proofs.Common.{take}
-use Rattle.ent_total.specs.Sharing.{AreOf}
+use Rattle.ent_total.proofs.Common.{take, AreOf}
 use Rattle.ent_total.proofs.returning.are_of.Given as goal
 
 abbrev pub invariant-loop-reserver : goal.invariant-loop-reserver

@@ -1,6 +1,4 @@
-use Rattle.std.proofs.Common.{◌≡◌, ◌∙◌, [], ◌∷◌, ◌++◌, ap, subst, arith}
-use Rattle.std.proofs.lemmas.List.Elements.{All-push, All-same}
-use Rattle.ent_shared.specs.Phase.{Shared, IsOf}
+use Rattle.ent_total.proofs.Common.{◌≡◌, ◌∙◌, [], ◌∷◌, ◌++◌, ap, subst, arith, All-push, All-same, Shared, IsOf}
 use Rattle.ent_total.specs.Sharing.{Reserver}
 use Rattle.ent_total.proofs.Walking.{stand_for_one, walked_on, first_has, left_have, one_less, moved_on}
 use Rattle.ent_total.proofs.returning.bring_back.Goals as goal

@@ -1,7 +1,4 @@
-use Rattle.std.proofs.Common.{◌≡◌, ◌≤◌, ◌+◌, ◌++◌, length, vec_len}
-use Rattle.std.specs.Prelude.{All, vec_capacity}
-use Rattle.ent_shared.specs.Phase.{IsOf}
-use Rattle.ent_total.specs.Sharing.{AreOf, reservers_of}
+use Rattle.ent_total.proofs.Common.{◌≡◌, ◌≤◌, ◌+◌, ◌++◌, length, vec_len, vec_capacity, IsOf, AreOf, reservers_of, All}
 use Rattle.ent_total.proofs.returning.bring_back.Given as goal
 
 -- those that came so far

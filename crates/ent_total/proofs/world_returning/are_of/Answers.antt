@@ -1,7 +1,4 @@
-use Rattle.std.proofs.Common.{rules, arith, refl, ◌≡◌}
-use Rattle.std.proofs.lemmas.List.{take_all}
-use Rattle.std.proofs.lemmas.List.Elements.{All-more}
-use Rattle.ent_total.specs.Issuing.{Commands, AreCommandsOf}
+use Rattle.ent_total.proofs.Common.{rules, arith, refl, ◌≡◌, take_all, All-more, Commands, AreCommandsOf}
 use Rattle.ent_total.proofs.world_returning.are_of.Goals as goal
 
 pub loop-one-preserved : goal.loop-one-preserved

@@ -1,5 +1,4 @@
-use Rattle.std.proofs.Common.{take}
-use Rattle.ent_total.specs.Issuing.{AreCommandsOf}
+use Rattle.ent_total.proofs.Common.{take, AreCommandsOf}
 use Rattle.ent_total.proofs.world_returning.are_of.Given as goal
 
 abbrev pub invariant-loop-one : goal.invariant-loop-one

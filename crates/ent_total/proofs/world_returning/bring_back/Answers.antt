@@ -1,8 +1,4 @@
-use Rattle.std.proofs.Common.{◌≡◌, ◌∙◌, [], ◌∷◌, ◌++◌, ap, subst, arith}
-use Rattle.std.proofs.lemmas.List.Elements.{All-push, All-same}
-use Rattle.ent_shared.specs.Phase.{IsOf}
-use Rattle.ent_world.specs.OpenWorld.{OpenWorld}
-use Rattle.ent_total.specs.Issuing.{Commands}
+use Rattle.ent_total.proofs.Common.{◌≡◌, ◌∙◌, [], ◌∷◌, ◌++◌, ap, subst, arith, All-push, All-same, IsOf, OpenWorld, Commands}
 use Rattle.ent_total.proofs.Walking.{stand_for_one, walked_on, first_has, left_have, one_less, moved_on}
 use Rattle.ent_total.proofs.world_returning.bring_back.Goals as goal
 

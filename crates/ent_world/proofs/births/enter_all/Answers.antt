@@ -1,8 +1,4 @@
-use Rattle.std.proofs.Common.{true≢false, arith}
-use Rattle.std.proofs.lemmas.Grind.{common_steps}
-use Rattle.std.proofs.lemmas.List.{append_assoc}
-use Rattle.std.proofs.lemmas.Option.{slice_get_read}
-use Rattle.ent_alloc.proofs.Listing.{drop_at}
+use Rattle.ent_world.proofs.Common.{true≢false, arith, common_steps, append_assoc, slice_get_read, drop_at}
 use Rattle.ent_world.proofs.Room.{new_later}
 use Rattle.ent_world.proofs.births.enter_all.Goals as goal
 

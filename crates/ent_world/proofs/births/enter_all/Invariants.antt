@@ -1,6 +1,4 @@
-use Rattle.std.proofs.Common.{◌≡◌, ◌+◌, ◌≤◌, ◌++◌, drop, length}
-use Rattle.ent_world.specs.Sync.{no_system, with_born}
-use Rattle.ent_world.specs.Entering.{AreNew, first_birth}
+use Rattle.ent_world.proofs.Common.{◌≡◌, ◌+◌, ◌≤◌, ◌++◌, drop, length, no_system, with_born, AreNew, first_birth}
 use Rattle.ent_world.proofs.births.enter_all.Given as goal
 
 -- what is left to enter gives the whole

@@ -1,4 +1,4 @@
-use Rattle.std.proofs.Common.{rules, sym, ◌∙◌, drop}
+use Rattle.ent_world.proofs.Common.{rules, sym, ◌∙◌, drop}
 use Rattle.ent_world.proofs.BirthsByQueues.{named_now, named_before, keeps_name}
 use Rattle.ent_world.proofs.Room.{stands_from, stands_before, stands_nowhere}
 use Rattle.ent_world.proofs.births.name.Goals.{else-before-place-via-then-before-place+else-birth_at, else-before-place-via-else-before-place}

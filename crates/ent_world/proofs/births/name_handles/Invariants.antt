@@ -1,5 +1,4 @@
-use Rattle.std.proofs.Common.{◌≡◌, drop}
-use Rattle.ent_world.specs.Entering.{birth_after, named_handles}
+use Rattle.ent_world.proofs.Common.{◌≡◌, drop, birth_after, named_handles}
 use Rattle.ent_world.proofs.births.name_handles.Given as goal
 
 -- what is left to name gives the whole

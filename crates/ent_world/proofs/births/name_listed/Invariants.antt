@@ -1,5 +1,4 @@
-use Rattle.std.proofs.Common.{◌≡◌, drop}
-use Rattle.ent_world.specs.Entering.{named_queues}
+use Rattle.ent_world.proofs.Common.{◌≡◌, drop, named_queues}
 use Rattle.ent_world.proofs.births.name_listed.Given as goal
 
 -- what is left to name gives the whole

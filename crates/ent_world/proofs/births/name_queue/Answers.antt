@@ -1,5 +1,4 @@
-use Rattle.std.proofs.Common.{rules}
-use Rattle.std.proofs.lemmas.List.Concat.{flat_map-cons}
+use Rattle.ent_world.proofs.Common.{rules, flat_map-cons}
 use Rattle.ent_world.proofs.BirthsByQueues.{named-append}
 use Rattle.ent_world.proofs.births.name_queue.Goals as goal
 

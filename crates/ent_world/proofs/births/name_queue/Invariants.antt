@@ -1,6 +1,4 @@
-use Rattle.std.proofs.Common.{◌≡◌, drop}
-use Rattle.ent_world.specs.Sync.{handles_listed}
-use Rattle.ent_world.specs.Entering.{named_handles}
+use Rattle.ent_world.proofs.Common.{◌≡◌, drop, handles_listed, named_handles}
 use Rattle.ent_world.proofs.births.name_queue.Given as goal
 
 -- what is left to name gives the whole

@@ -1,6 +1,4 @@
-use Rattle.std.proofs.Common.{◌≡◌, drop}
-use Rattle.ent_world.specs.Sync.{no_system}
-use Rattle.ent_world.specs.Entering.{first_birth, numbered}
+use Rattle.ent_world.proofs.Common.{◌≡◌, drop, no_system, first_birth, numbered}
 use Rattle.ent_world.proofs.births.number_others.Given as goal
 
 -- what is left to number gives the whole

@@ -1,7 +1,5 @@
-use Rattle.std.proofs.Common.{rules, ◌≡◌, ◌≢◌, ap, ◌∙◌, ℕ, Result, Ok, Err, OnErr}
+use Rattle.ent_world.proofs.Common.{rules, ◌≡◌, ◌≢◌, ap, ◌∙◌, ℕ, Result, Ok, Err, OnErr, handle_cmp, Entity, EntityMap}
 use Rattle.std.specs.FinMap as map
-use Rattle.ent_handle.specs.Handle.{handle_cmp}
-use Rattle.ent_storage.specs.EntityMap.{Entity, EntityMap}
 use Rattle.ent_world.proofs.cloning.copied.Goals as goal
 
 -- what is so anyhow is so after a refusal

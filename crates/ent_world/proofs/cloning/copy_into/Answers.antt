@@ -1,8 +1,5 @@
-use Rattle.std.proofs.Common.{rules, ◌≡◌, ◌≢◌, sym, ap, ◌∙◌, ℕ, Result, Ok, Err, OnErr}
-use Rattle.std.proofs.lemmas.Option.{none-some}
+use Rattle.ent_world.proofs.Common.{rules, ◌≡◌, ◌≢◌, sym, ap, ◌∙◌, ℕ, Result, Ok, Err, OnErr, none-some, handle_cmp, Entity, EntityMap, AreBare}
 use Rattle.std.specs.FinMap as map
-use Rattle.ent_handle.specs.Handle.{handle_cmp}
-use Rattle.ent_storage.specs.EntityMap.{Entity, EntityMap, AreBare}
 use Rattle.ent_world.proofs.cloning.copy_into.Goals as goal
 
 -- what is so anyhow is so after a refusal

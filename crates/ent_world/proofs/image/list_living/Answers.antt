@@ -1,9 +1,5 @@
-use Rattle.std.proofs.Common.{rules, ◌≡◌, ◌++◌, ◌∷◌, [], ◌∙◌, ap, sym, subst, arith, All, length, None}
+use Rattle.ent_world.proofs.Common.{rules, ◌≡◌, ◌++◌, ◌∷◌, [], ◌∙◌, ap, sym, subst, arith, All, length, None, common_steps, append_assoc, All-cons, All-append, Handle, handle_cmp}
 use Rattle.std.specs.FinMap as map
-use Rattle.std.proofs.lemmas.Grind.{common_steps}
-use Rattle.std.proofs.lemmas.List.{append_assoc}
-use Rattle.std.proofs.lemmas.List.Elements.{All-cons, All-append}
-use Rattle.ent_handle.specs.Handle.{Handle, handle_cmp}
 use Rattle.ent_world.proofs.image.list_living.Goals as goal
 
 pub returns-then-is_some-clause-rows : goal.returns-then-is_some-clause-rows

@@ -1,4 +1,4 @@
-use Rattle.std.proofs.Common.{◌≡◌, ◌+◌, ◌≤◌, ◌++◌, All, length, None, vec_len, vec_capacity}
+use Rattle.ent_world.proofs.Common.{◌≡◌, ◌+◌, ◌≤◌, ◌++◌, All, length, None, vec_len, vec_capacity}
 use Rattle.std.specs.FinMap as map
 use Rattle.ent_world.proofs.image.list_living.Given as goal
 

@@ -1,6 +1,4 @@
-use Rattle.std.proofs.Common.{rules, ◌++◌, arith, inl, inr}
-use Rattle.std.proofs.lemmas.List.{take-append-drop}
-use Rattle.ent_storage.specs.Image.{word}
+use Rattle.ent_world.proofs.Common.{rules, ◌++◌, arith, inl, inr, take-append-drop, word}
 use Rattle.ent_world.proofs.ImageHeader.{header_is, too_short, other_magic, other_version, part_missing, begins, short_letters, other_letters}
 use Rattle.ent_world.proofs.image.read_header.Goals as goal
 

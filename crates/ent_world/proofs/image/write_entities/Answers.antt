@@ -1,14 +1,5 @@
-use Rattle.std.proofs.Common.{◌≡◌, ◌+◌, ◌*◌, ◌≤◌, ◌<◌, ◌++◌, ◌∷◌, ◌∙◌, ap, sym, subst, arith, All, length, ℕ, suc, IfSome, IsSomeAnd, is_some, true, List, vec_len, vec_capacity}
-use Rattle.std.specs.List.{flat_map}
-use Rattle.std.specs.Int.{w64}
-use Rattle.std.specs.Int.RustNames.{FitsSigned}
+use Rattle.ent_world.proofs.Common.{◌≡◌, ◌+◌, ◌*◌, ◌≤◌, ◌<◌, ◌++◌, ◌∷◌, ◌∙◌, ap, sym, subst, arith, All, length, ℕ, suc, IfSome, IsSomeAnd, is_some, true, List, vec_len, vec_capacity, flat_map, w64, FitsSigned, append_assoc, All-tail, All-cons, Handle, ComponentId, birth_of, value_of, entity_bytes, IsBirth}
 use Rattle.std.specs.FinMap as map
-use Rattle.std.proofs.lemmas.List.{append_assoc}
-use Rattle.std.proofs.lemmas.List.Elements.{All-tail, All-cons}
-use Rattle.ent_handle.specs.Handle.{Handle}
-use Rattle.ent_handle.specs.declared.component.ComponentId.{ComponentId}
-use Rattle.ent_storage.specs.EntityMap.{birth_of, value_of}
-use Rattle.ent_storage.specs.Image.{entity_bytes, IsBirth}
 use Rattle.ent_world.proofs.image.write_entities.Goals as goal
 
 room_left : (n size extra old new cap more : ℕ) → old + extra + suc n * size ≤ cap → new ≤ old + size → cap ≤ more

@@ -1,11 +1,5 @@
-use Rattle.std.proofs.Common.{◌≡◌, ◌+◌, ◌*◌, ◌≤◌, ◌<◌, ◌++◌, IfSome, IsSomeAnd, All, length, true, is_some, vec_len, vec_capacity}
-use Rattle.std.specs.List.{flat_map}
-use Rattle.std.specs.Int.{w64}
-use Rattle.std.specs.Int.RustNames.{FitsSigned}
+use Rattle.ent_world.proofs.Common.{◌≡◌, ◌+◌, ◌*◌, ◌≤◌, ◌<◌, ◌++◌, IfSome, IsSomeAnd, All, length, true, is_some, vec_len, vec_capacity, flat_map, w64, FitsSigned, ComponentId, birth_of, value_of, entity_bytes, IsBirth}
 use Rattle.std.specs.FinMap as map
-use Rattle.ent_handle.specs.declared.component.ComponentId.{ComponentId}
-use Rattle.ent_storage.specs.EntityMap.{birth_of, value_of}
-use Rattle.ent_storage.specs.Image.{entity_bytes, IsBirth}
 use Rattle.ent_world.proofs.image.write_entities.Given as goal
 
 -- what is left to write gives the whole

@@ -1,4 +1,4 @@
-use Rattle.std.proofs.Common.{rules}
+use Rattle.ent_world.proofs.Common.{rules}
 use Rattle.ent_world.proofs.ImageHeader.{letters, header_alone, appended_4}
 use Rattle.ent_world.proofs.image.write_header.Goals as goal
 

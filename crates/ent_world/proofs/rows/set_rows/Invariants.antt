@@ -1,5 +1,4 @@
-use Rattle.std.proofs.Common.{◌≡◌, ◌+◌, drop}
-use Rattle.ent_world.specs.Rows.{with_rows}
+use Rattle.ent_world.proofs.Common.{◌≡◌, ◌+◌, drop, with_rows}
 use Rattle.ent_world.proofs.rows.set_rows.Given as goal
 
 -- what is left to keep gives the whole

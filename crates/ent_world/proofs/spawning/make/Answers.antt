@@ -1,7 +1,4 @@
-use Rattle.std.proofs.Common.{true≢false, rules, sym, ap, ◌∙◌, inr, arith}
-use Rattle.std.proofs.lemmas.Grind.{common_steps}
-use Rattle.ent_storage.specs.EntityMap.{with_components}
-use Rattle.ent_storage.specs.Components.{with_items}
+use Rattle.ent_world.proofs.Common.{true≢false, rules, sym, ap, ◌∙◌, inr, arith, common_steps, with_components, with_items}
 use Rattle.ent_world.proofs.Making.{on_ok, on_err, made_whole, some_items, taken_back, end_taken_back}
 use Rattle.ent_world.proofs.spawning.make.Goals as goal
 

@@ -1,5 +1,4 @@
-use Rattle.std.proofs.Common.{take, ◌≡◌, ◌⊎◌, ◌≤◌, ◌^◌, ◌-◌}
-use Rattle.std.specs.List.{sum_by}
+use Rattle.ent_world.proofs.Common.{take, ◌≡◌, ◌⊎◌, ◌≤◌, ◌^◌, ◌-◌, sum_by}
 use Rattle.ent_world.proofs.world_in_blocks.wanted.Given as goal
 
 -- the sizes so far are within the sum, unless it is at its limit, and it is no more than they are

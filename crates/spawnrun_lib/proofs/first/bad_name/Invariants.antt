@@ -1,6 +1,4 @@
-use Rattle.std.proofs.Common.{◌≡◌, [], drop, map, take}
-use Rattle.serde_json.specs.View.{view}
-use Rattle.spawnrun_lib.specs.Place.{bad_name}
+use Rattle.spawnrun_lib.proofs.Common.{◌≡◌, [], drop, map, take, view, bad_name}
 use Rattle.spawnrun_lib.proofs.first.bad_name.Given as goal
 
 -- the first of all is the first of those that are left

@@ -1,4 +1,4 @@
-use Rattle.std.proofs.Common.{rules}
+use Rattle.spawnrun_lib.proofs.Common.{rules}
 use Rattle.spawnrun_lib.proofs.first.elements_of.Goals as goal
 
 pub returns-in-Some : goal.returns-in-Some

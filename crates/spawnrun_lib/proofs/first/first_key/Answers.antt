@@ -1,5 +1,4 @@
-use Rattle.std.proofs.Common.{true, false, sym, ap, ◌∙◌, ℕ, List, map, Bor, Some}
-use Rattle.spawnrun_lib.specs.Place.{is_among}
+use Rattle.spawnrun_lib.proofs.Common.{true, false, sym, ap, ◌∙◌, ℕ, List, map, Bor, Some, is_among}
 use Rattle.spawnrun_lib.proofs.Firsts.{among_lent, next_key}
 use Rattle.spawnrun_lib.proofs.first.first_key.Goals as goal
 

@@ -1,6 +1,4 @@
-use Rattle.std.proofs.Common.{◌≡◌, map}
-use Rattle.ent_script.proofs.Values.{pair_view}
-use Rattle.spawnrun_lib.specs.Place.{is_among, key_but}
+use Rattle.spawnrun_lib.proofs.Common.{◌≡◌, map, pair_view, is_among, key_but}
 use Rattle.spawnrun_lib.proofs.first.first_key.Given as goal
 
 -- the first of all is the first of those that are left

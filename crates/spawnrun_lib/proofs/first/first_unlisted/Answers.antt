@@ -1,6 +1,4 @@
-use Rattle.std.proofs.Common.{true, false, sym, ap, ◌∙◌, map, Some}
-use Rattle.serde_json.specs.View.{view}
-use Rattle.spawnrun_lib.specs.Place.{is_listed}
+use Rattle.spawnrun_lib.proofs.Common.{true, false, sym, ap, ◌∙◌, map, Some, view, is_listed}
 use Rattle.spawnrun_lib.proofs.Firsts.{listed_lent, next_key}
 use Rattle.spawnrun_lib.proofs.first.first_unlisted.Goals as goal
 

@@ -1,7 +1,4 @@
-use Rattle.std.proofs.Common.{◌≡◌, map}
-use Rattle.serde_json.specs.View.{view}
-use Rattle.ent_script.proofs.Values.{pair_view}
-use Rattle.spawnrun_lib.specs.Place.{is_listed, key_but}
+use Rattle.spawnrun_lib.proofs.Common.{◌≡◌, map, view, pair_view, is_listed, key_but}
 use Rattle.spawnrun_lib.proofs.first.first_unlisted.Given as goal
 
 -- the first of all is the first of those that are left

@@ -1,5 +1,4 @@
-use Rattle.std.proofs.Common.{rules}
-use Rattle.ent_script.specs.Json.{whole}
+use Rattle.spawnrun_lib.proofs.Common.{rules, whole}
 use Rattle.spawnrun_lib.proofs.Firsts.{next_whole}
 use Rattle.spawnrun_lib.proofs.first.first_unwhole.Goals as goal
 

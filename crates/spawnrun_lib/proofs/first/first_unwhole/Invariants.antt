@@ -1,6 +1,4 @@
-use Rattle.std.proofs.Common.{◌≡◌, map}
-use Rattle.ent_script.proofs.Values.{pair_view}
-use Rattle.spawnrun_lib.specs.Place.{unwhole_in}
+use Rattle.spawnrun_lib.proofs.Common.{◌≡◌, map, pair_view, unwhole_in}
 use Rattle.spawnrun_lib.proofs.first.first_unwhole.Given as goal
 
 -- the first of all is the first of those that are left

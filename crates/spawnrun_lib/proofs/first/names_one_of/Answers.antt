@@ -1,7 +1,5 @@
-use Rattle.std.proofs.Common.{◌≡◌, false, sym, ap, ◌∙◌, ℕ, List, map, Bor, Some, option_map, unwrap_or}
-use Rattle.serde_json.specs.Find.{as_str}
-use Rattle.serde_json.specs.View.{view}
-use Rattle.spawnrun_lib.specs.Place.{is_listed}
+use Rattle.spawnrun_lib.proofs.Common.{◌≡◌, false, sym, ap, ◌∙◌, ℕ, List, map, Bor, Some, unwrap_or, as_str, view, is_listed}
+use Rattle.std.proofs.Common.{option_map}
 use Rattle.spawnrun_lib.proofs.Firsts.{listed_lent}
 use Rattle.spawnrun_lib.proofs.first.names_one_of.Goals as goal
 

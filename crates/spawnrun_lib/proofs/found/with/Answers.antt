@@ -1,5 +1,4 @@
-use Rattle.std.proofs.Common.{rules, ◌≡◌, Bool, true, false, List, ℕ, length, cond, refl}
-use Rattle.std.specs.Fmt.Cut.{cut_to}
+use Rattle.spawnrun_lib.proofs.Common.{rules, ◌≡◌, Bool, true, false, List, ℕ, length, cond, refl, cut_to}
 use Rattle.spawnrun_lib.proofs.found.with.Goals as goal
 
 whole_by : (b : Bool) (text cut : List ℕ) → b ≡ true → cond b text cut ≡ text

@@ -1,4 +1,4 @@
-use Rattle.spawnrun_lib.specs.CourseInBlocks.{dealt_blocks}
+use Rattle.spawnrun_lib.proofs.Common.{dealt_blocks}
 use Rattle.spawnrun_lib.proofs.frame_in_blocks.run.Given as goal
 
 -- the blocks of this frame

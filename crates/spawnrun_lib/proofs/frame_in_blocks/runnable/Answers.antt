@@ -1,5 +1,4 @@
-use Rattle.std.proofs.Common.{arith}
-use Rattle.std.proofs.lemmas.Grind.{common_steps}
+use Rattle.spawnrun_lib.proofs.Common.{arith, common_steps}
 use Rattle.spawnrun_lib.proofs.frame_in_blocks.runnable.Goals as goal
 
 pub loop-system-preserved : goal.loop-system-preserved

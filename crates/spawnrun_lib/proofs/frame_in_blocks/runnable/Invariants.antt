@@ -1,5 +1,4 @@
-use Rattle.std.proofs.Common.{◌≡◌, ◌≤◌, ◌+◌, length, take, drop, vec_len}
-use Rattle.std.specs.Prelude.{vec_capacity}
+use Rattle.spawnrun_lib.proofs.Common.{◌≡◌, ◌≤◌, ◌+◌, length, take, drop, vec_len, vec_capacity}
 use Rattle.spawnrun_lib.proofs.frame_in_blocks.runnable.Given as goal
 
 abbrev pub invariant-loop-system : goal.invariant-loop-system

@@ -1,7 +1,4 @@
-use Rattle.std.proofs.lemmas.Grind.{common_steps}
-use Rattle.std.proofs.Common.{rules, arith}
-use Rattle.std.proofs.lemmas.Result.{err_from_is_err_and}
-use Rattle.spawnrun_lib.specs.FrameText.{fault_line}
+use Rattle.spawnrun_lib.proofs.Common.{common_steps, rules, arith, err_from_is_err_and, fault_line}
 use Rattle.spawnrun_lib.proofs.Parts.{part_fits}
 use Rattle.spawnrun_lib.proofs.frame_text.append_faults.Goals as goal
 

@@ -1,7 +1,4 @@
-use Rattle.std.proofs.Common.{◌≡◌, ◌≤◌, ◌++◌, take, drop, vec_len}
-use Rattle.std.specs.Prelude.{vec_capacity}
-use Rattle.std.specs.List.{flat_map}
-use Rattle.spawnrun_lib.specs.FrameText.{fault_line}
+use Rattle.spawnrun_lib.proofs.Common.{◌≡◌, ◌≤◌, ◌++◌, take, drop, vec_len, vec_capacity, flat_map, fault_line}
 use Rattle.spawnrun_lib.proofs.frame_text.append_faults.Given as goal
 
 abbrev pub invariant-loop-fault : goal.invariant-loop-fault

@@ -1,5 +1,4 @@
-use Rattle.std.proofs.Common.{arith}
-use Rattle.std.proofs.lemmas.Grind.{common_steps}
+use Rattle.spawnrun_lib.proofs.Common.{arith, common_steps}
 use Rattle.spawnrun_lib.proofs.frame_text.append_frame_line.Goals as goal
 
 pub returns-in_err-append_labelled-clause-full : goal.returns-in_err-append_labelled-clause-full

@@ -1,4 +1,4 @@
-use Rattle.std.proofs.Common.{rules}
+use Rattle.spawnrun_lib.proofs.Common.{rules}
 use Rattle.spawnrun_lib.proofs.Targeted.{stopped_in}
 use Rattle.spawnrun_lib.proofs.issuing.issue.Goals as goal
 

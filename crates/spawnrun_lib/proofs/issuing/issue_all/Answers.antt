@@ -1,6 +1,4 @@
-use Rattle.std.proofs.Common.{arith, rules}
-use Rattle.std.proofs.lemmas.Grind.{common_steps}
-use Rattle.std.proofs.lemmas.List.{drop_all}
+use Rattle.spawnrun_lib.proofs.Common.{arith, rules, common_steps, drop_all}
 use Rattle.spawnrun_lib.proofs.SystemRunning.{has_begun, has_gone_on, has_ended}
 use Rattle.spawnrun_lib.proofs.issuing.issue_all.Goals as goal
 

@@ -1,5 +1,4 @@
-use Rattle.spawnrun_lib.specs.Parts.{names_of}
-use Rattle.spawnrun_lib.specs.Rolls.{IsRollOf}
+use Rattle.spawnrun_lib.proofs.Common.{names_of, IsRollOf}
 use Rattle.spawnrun_lib.proofs.SystemRunning.{HasRun}
 use Rattle.spawnrun_lib.proofs.issuing.issue_all.Given as goal
 

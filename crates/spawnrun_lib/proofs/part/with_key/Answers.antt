@@ -1,8 +1,5 @@
 use Rattle.spawnrun_lib.proofs.Letters.{next_letter, all_letters}
-use Rattle.std.proofs.lemmas.Str.{IsUtf8-past_char}
-use Rattle.std.specs.Fmt.InlineText.{inline_text}
-use Rattle.std.specs.Str.Iter.{chars_rest}
-use Rattle.spawnrun_lib.specs.Place.{key_char}
+use Rattle.spawnrun_lib.proofs.Common.{IsUtf8-past_char, inline_text, chars_rest, key_char}
 use Rattle.spawnrun_lib.proofs.part.with_key.Goals as goal
 
 pub loop-letter-preserved : goal.loop-letter-preserved

@@ -1,10 +1,4 @@
-use Rattle.std.proofs.Common.{◌≡◌, ◌≤◌, ◌++◌, IsUtf8, length}
-use Rattle.std.specs.Fmt.InlineText.{inline_text}
-use Rattle.std.specs.List.{flat_map}
-use Rattle.std.specs.Str.{chars}
-use Rattle.std.specs.Str.Iter.{chars_rest}
-use Rattle.spawnrun_lib.specs.Place.{key_char}
-use Rattle.spawnrun_lib.specs.Shown.{ArePrintable, front}
+use Rattle.spawnrun_lib.proofs.Common.{◌≡◌, ◌≤◌, ◌++◌, IsUtf8, length, inline_text, flat_map, chars, chars_rest, key_char, ArePrintable, front}
 use Rattle.spawnrun_lib.proofs.part.with_key.Given as goal
 
 abbrev pub invariant-loop-letter : goal.invariant-loop-letter

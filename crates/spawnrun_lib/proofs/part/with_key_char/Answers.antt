@@ -1,6 +1,4 @@
-use Rattle.std.proofs.Common.{rules, ◌≡◌, ◌∷◌, ◌++◌, [], ℕ, List}
-use Rattle.spawnrun_lib.specs.Place.{key_char}
-use Rattle.spawnrun_lib.specs.Shown.{front, plain}
+use Rattle.spawnrun_lib.proofs.Common.{rules, ◌≡◌, ◌∷◌, ◌++◌, [], ℕ, List, key_char, front, plain}
 use Rattle.spawnrun_lib.proofs.Printable.{passes, plain_same}
 use Rattle.spawnrun_lib.proofs.part.with_key_char.Goals as goal
 

@@ -1,8 +1,4 @@
-use Rattle.std.proofs.Common.{◌∷◌, [], ◌∙◌}
-use Rattle.std.specs.Fmt.InlineText.{inline_text}
-use Rattle.std.specs.List.{flat_map}
-use Rattle.std.specs.Str.{chars}
-use Rattle.spawnrun_lib.specs.Place.{key_char}
+use Rattle.spawnrun_lib.proofs.Common.{◌∷◌, [], ◌∙◌, inline_text, flat_map, chars, key_char}
 use Rattle.spawnrun_lib.proofs.Fronts.{go_on}
 use Rattle.spawnrun_lib.proofs.part.with_quoted.Goals as goal
 

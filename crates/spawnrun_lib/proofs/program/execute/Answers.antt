@@ -1,8 +1,4 @@
-use Rattle.std.proofs.Common.{rules, ◌≡◌, ◌∙◌, ◌+◌, ℕ, List, Option, IfSome, ap, length, min, subst, sym}
-use Rattle.clap.specs.Words.{kind_of}
-use Rattle.devices.specs.Device.{Takes}
-use Rattle.spawnrun_lib.specs.Status.{exit_number}
-use Rattle.spawnrun_lib.specs.Work.{input_limit}
+use Rattle.spawnrun_lib.proofs.Common.{rules, ◌≡◌, ◌∙◌, ◌+◌, ℕ, List, Option, IfSome, ap, length, min, subst, sym, kind_of, Takes, exit_number, input_limit}
 use Rattle.spawnrun_lib.proofs.program.execute.Goals.{in-Replay, in-Run, in-RunInBlocks}
 use Rattle.spawnrun_lib.proofs.program.execute.Goals as goal
 

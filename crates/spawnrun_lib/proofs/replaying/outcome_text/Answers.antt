@@ -1,7 +1,4 @@
-use Rattle.std.proofs.lemmas.Grind.{common_steps, flat_map-append}
-use Rattle.std.proofs.Common.{rules, arith}
-use Rattle.std.proofs.lemmas.List.{append-nil, take_more}
-use Rattle.ent_replay.proofs.Schedules.{outcomes_of-append}
+use Rattle.spawnrun_lib.proofs.Common.{common_steps, flat_map-append, rules, arith, take_more, outcomes_of-append, append-nil}
 use Rattle.spawnrun_lib.proofs.EventsApplied.{after-more}
 use Rattle.spawnrun_lib.proofs.replaying.outcome_text.Goals as goal
 

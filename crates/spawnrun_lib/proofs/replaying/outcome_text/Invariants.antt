@@ -1,6 +1,4 @@
-use Rattle.std.proofs.Common.{◌≡◌, take}
-use Rattle.ent_replay.specs.Schedule.{after_events, outcomes_of, starting}
-use Rattle.spawnrun_lib.specs.Replay.{outcome_lines}
+use Rattle.spawnrun_lib.proofs.Common.{◌≡◌, take, after_events, outcomes_of, starting, outcome_lines}
 use Rattle.spawnrun_lib.proofs.replaying.outcome_text.Given as goal
 
 abbrev pub invariant-loop-done : goal.invariant-loop-done

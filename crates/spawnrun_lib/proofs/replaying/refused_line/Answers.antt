@@ -1,4 +1,4 @@
-use Rattle.std.proofs.Common.{append_assoc}
+use Rattle.spawnrun_lib.proofs.Common.{append_assoc}
 use Rattle.spawnrun_lib.proofs.replaying.refused_line.Goals as goal
 
 pub returns : goal.returns

@@ -1,6 +1,4 @@
-use Rattle.std.proofs.Common.{rules}
-use Rattle.std.proofs.lemmas.List.Sorted.{IsPartitionPoint-from_clause}
-use Rattle.spawnrun_lib.specs.Rolls.{is_before}
+use Rattle.spawnrun_lib.proofs.Common.{rules, IsPartitionPoint-from_clause, is_before}
 use Rattle.spawnrun_lib.proofs.Rolls.{parted}
 use Rattle.spawnrun_lib.proofs.roll.first_from.Goals as goal
 

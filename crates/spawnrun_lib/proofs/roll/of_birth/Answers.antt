@@ -1,8 +1,4 @@
-use Rattle.std.proofs.Common.{◌≡◌, ◌≢◌, ◌∙◌, sym, Some, rules}
-use Rattle.std.specs.Option.{option_eq}
-use Rattle.std.specs.Ordering.{eq_by_cmp}
-use Rattle.ent_handle.specs.Birth.{birth_cmp}
-use Rattle.ent_storage.specs.EntityMap.{birth_of}
+use Rattle.spawnrun_lib.proofs.Common.{◌≡◌, ◌≢◌, ◌∙◌, sym, Some, rules, option_eq, eq_by_cmp, birth_cmp, birth_of}
 use Rattle.spawnrun_lib.proofs.Rolls.{least_here, none_here, same_if_equal, other_if_not}
 use Rattle.spawnrun_lib.proofs.roll.of_birth.Goals as goal
 

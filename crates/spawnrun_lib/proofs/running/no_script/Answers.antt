@@ -1,4 +1,4 @@
-use Rattle.std.proofs.Common.{rules}
+use Rattle.spawnrun_lib.proofs.Common.{rules}
 use Rattle.spawnrun_lib.proofs.FaultRead.{fault_read}
 use Rattle.spawnrun_lib.proofs.running.no_script.Goals as goal
 

@@ -1,5 +1,4 @@
-use Rattle.std.proofs.Common.{rules, arith}
-use Rattle.std.proofs.lemmas.Grind.{common_steps}
+use Rattle.spawnrun_lib.proofs.Common.{rules, arith, common_steps}
 use Rattle.spawnrun_lib.proofs.Lines.{nth, nth_first, nth_later, nth_only, nth_past}
 use Rattle.spawnrun_lib.proofs.schedule.line_of.Goals as goal
 

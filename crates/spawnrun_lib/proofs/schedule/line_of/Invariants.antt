@@ -1,7 +1,4 @@
-use Rattle.std.proofs.Common.{◌≡◌, []}
-use Rattle.std.specs.Prelude.{slice_index_or}
-use Rattle.ent_replay.specs.ScheduleText.{lines_of}
-use Rattle.spawnrun_lib.specs.Found.{line_at}
+use Rattle.spawnrun_lib.proofs.Common.{◌≡◌, [], lines_of, line_at, slice_index_or}
 use Rattle.spawnrun_lib.proofs.schedule.line_of.Given as goal
 
 abbrev pub invariant-loop-before : goal.invariant-loop-before

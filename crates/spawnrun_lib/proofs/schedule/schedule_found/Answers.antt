@@ -1,7 +1,4 @@
-use Rattle.std.proofs.Common.{rules, ◌≡◌, ℕ, ◌++◌, List, sym, subst, codes}
-use Rattle.std.specs.Fmt.{decimal}
-use Rattle.std.specs.Fmt.InlineText.{inline_text}
-use Rattle.spawnrun_lib.specs.Shown.{ArePrintable}
+use Rattle.spawnrun_lib.proofs.Common.{rules, ◌≡◌, ℕ, ◌++◌, List, sym, subst, codes, decimal, inline_text, ArePrintable}
 use Rattle.spawnrun_lib.proofs.Printable.{passes, decimal-printable, three}
 use Rattle.spawnrun_lib.proofs.schedule.schedule_found.Goals as goal
 

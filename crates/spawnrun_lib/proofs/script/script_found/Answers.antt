@@ -1,6 +1,4 @@
-use Rattle.std.proofs.Common.{rules, ◌≡◌, ◌++◌, List, [], ℕ, codes}
-use Rattle.std.proofs.lemmas.List.Elements.{All-nil}
-use Rattle.spawnrun_lib.specs.Shown.{ArePrintable}
+use Rattle.spawnrun_lib.proofs.Common.{rules, ◌≡◌, ◌++◌, List, [], ℕ, codes, All-nil, ArePrintable}
 use Rattle.spawnrun_lib.proofs.Pieces.{added}
 use Rattle.spawnrun_lib.proofs.Printable.{both}
 use Rattle.spawnrun_lib.proofs.script.script_found.Goals as goal

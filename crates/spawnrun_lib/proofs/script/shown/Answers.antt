@@ -1,13 +1,4 @@
-use Rattle.std.proofs.Common.{rules, ◌≡◌, List, ℕ, subst, sym}
-use Rattle.std.specs.Prelude.{Option, MatchOption}
-use Rattle.std.specs.Fmt.InlineText.{inline_text}
-use Rattle.std.proofs.lemmas.Bool.{iff_false}
-use Rattle.serde_json.specs.Data.{Data}
-use Rattle.serde_json.specs.View.{view}
-use Rattle.ent_script.specs.declared.ReadFault.{ReadFault}
-use Rattle.spawnrun_lib.specs.Place.{Place, IsPlaceOf, Shows, place_of}
-use Rattle.spawnrun_lib.specs.Shown.{front, plain}
-use Rattle.ent_script.proofs.Texts.{json_none}
+use Rattle.spawnrun_lib.proofs.Common.{rules, ◌≡◌, List, ℕ, subst, sym, MatchOption, inline_text, iff_false, Data, view, ReadFault, Place, IsPlaceOf, Shows, place_of, front, plain, json_none, Option}
 use Rattle.spawnrun_lib.proofs.Json.{json_some}
 use Rattle.spawnrun_lib.proofs.Pieces.{if_some}
 use Rattle.spawnrun_lib.proofs.script.shown.Goals as goal

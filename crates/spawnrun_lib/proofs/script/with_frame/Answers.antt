@@ -1,4 +1,4 @@
-use Rattle.std.proofs.Common.{rules}
+use Rattle.spawnrun_lib.proofs.Common.{rules}
 use Rattle.spawnrun_lib.proofs.Pieces.{counted}
 use Rattle.spawnrun_lib.proofs.script.with_frame.Goals as goal
 

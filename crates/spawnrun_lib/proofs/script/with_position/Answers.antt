@@ -1,5 +1,4 @@
-use Rattle.std.proofs.Common.{rules, arith, ◌≡◌, ◌++◌, List, ℕ, append_assoc, refl}
-use Rattle.std.proofs.lemmas.Grind.{common_steps}
+use Rattle.spawnrun_lib.proofs.Common.{rules, arith, ◌≡◌, ◌++◌, List, ℕ, append_assoc, refl, common_steps}
 use Rattle.spawnrun_lib.proofs.Pieces.{added}
 use Rattle.spawnrun_lib.proofs.script.with_position.Goals as goal
 

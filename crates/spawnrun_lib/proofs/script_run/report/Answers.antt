@@ -1,4 +1,4 @@
-use Rattle.std.proofs.Common.{rules}
+use Rattle.spawnrun_lib.proofs.Common.{rules}
 use Rattle.spawnrun_lib.proofs.FewSystems.{few_systems}
 use Rattle.spawnrun_lib.proofs.script_run.report.Goals as goal
 

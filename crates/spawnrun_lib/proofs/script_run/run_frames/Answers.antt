@@ -1,5 +1,4 @@
-use Rattle.std.proofs.lemmas.Grind.{common_steps}
-use Rattle.std.proofs.Common.{rules, arith}
+use Rattle.spawnrun_lib.proofs.Common.{common_steps, rules, arith}
 use Rattle.spawnrun_lib.proofs.NextFrame.{goes_on, has_gone_on, next_is_few, one_more, others_are_few}
 use Rattle.spawnrun_lib.proofs.script_run.run_frames.Goals as goal
 

@@ -1,5 +1,4 @@
-use Rattle.std.proofs.Common.{◌≡◌, ◌++◌, length}
-use Rattle.spawnrun_lib.specs.Course.{AreFew, HaveGone}
+use Rattle.spawnrun_lib.proofs.Common.{◌≡◌, ◌++◌, length, AreFew, HaveGone}
 use Rattle.spawnrun_lib.proofs.script_run.run_frames.Given as goal
 
 abbrev pub invariant-loop-current : goal.invariant-loop-current

@@ -1,5 +1,4 @@
-use Rattle.std.proofs.Common.{rules}
-use Rattle.std.proofs.lemmas.Result.{IfOk-weaker}
+use Rattle.spawnrun_lib.proofs.Common.{rules, IfOk-weaker}
 use Rattle.spawnrun_lib.proofs.OneReport.{one_report}
 use Rattle.spawnrun_lib.proofs.GivenOnce.{given_once}
 use Rattle.spawnrun_lib.proofs.SameText.{enough_text, same_text}

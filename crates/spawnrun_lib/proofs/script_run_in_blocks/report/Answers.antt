@@ -1,5 +1,4 @@
-use Rattle.std.proofs.Common.{rules, map}
-use Rattle.std.specs.Prelude.{string_bytes}
+use Rattle.spawnrun_lib.proofs.Common.{rules, map, string_bytes}
 use Rattle.spawnrun_lib.proofs.NextInBlocks.{text_in_blocks}
 use Rattle.spawnrun_lib.proofs.script_run_in_blocks.report.Goals as goal
 

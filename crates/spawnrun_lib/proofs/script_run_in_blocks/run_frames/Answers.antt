@@ -1,5 +1,4 @@
-use Rattle.std.proofs.lemmas.Grind.{common_steps}
-use Rattle.std.proofs.Common.{rules, arith, ◌≡◌}
+use Rattle.spawnrun_lib.proofs.Common.{common_steps, rules, arith, ◌≡◌}
 use Rattle.spawnrun_lib.proofs.NextFrame.{goes_on, one_more}
 use Rattle.spawnrun_lib.proofs.NextInBlocks.{has_begun_in_blocks, has_gone_on_in_blocks}
 use Rattle.spawnrun_lib.proofs.script_run_in_blocks.run_frames.Goals as goal

@@ -1,5 +1,4 @@
-use Rattle.std.proofs.Common.{◌≡◌, ◌++◌, length, ℕ, List}
-use Rattle.spawnrun_lib.specs.CourseInBlocks.{HaveGoneInBlocks}
+use Rattle.spawnrun_lib.proofs.Common.{◌≡◌, ◌++◌, length, ℕ, List, HaveGoneInBlocks}
 use Rattle.spawnrun_lib.proofs.script_run_in_blocks.run_frames.Given as goal
 
 abbrev pub invariant-loop-current : goal.invariant-loop-current

@@ -1,5 +1,4 @@
-use Rattle.std.proofs.Common.{rules}
-use Rattle.std.proofs.lemmas.Result.{IfOk-weaker}
+use Rattle.spawnrun_lib.proofs.Common.{rules, IfOk-weaker}
 use Rattle.spawnrun_lib.proofs.OneTextInBlocks.{one_text_in_blocks}
 use Rattle.spawnrun_lib.proofs.script_run_in_blocks.run_script_in_blocks.Goals as goal
 

@@ -1,9 +1,4 @@
-use Rattle.std.proofs.Common.{rules, ◌≡◌, ◌<◌, ℕ, ◌∙◌, List, length, take, drop, min, ap, sym, arith, inl, inr}
-use Rattle.std.proofs.lemmas.Bool.{cases_lt}
-use Rattle.std.proofs.lemmas.List.{take_all, take-append-drop, length-take}
-use Rattle.std.proofs.lemmas.List.Elements.{All-nil}
-use Rattle.std.specs.List.{flat_map}
-use Rattle.spawnrun_lib.specs.Shown.{byte_text, front}
+use Rattle.spawnrun_lib.proofs.Common.{rules, ◌≡◌, ◌<◌, ℕ, ◌∙◌, List, length, take, drop, min, ap, sym, arith, inl, inr, cases_lt, take_all, take-append-drop, length-take, All-nil, flat_map, byte_text, front}
 use Rattle.spawnrun_lib.proofs.Fronts.{front-next, front-short, front-of_parts}
 use Rattle.spawnrun_lib.proofs.shown.line_shown.Goals as goal
 

@@ -1,7 +1,4 @@
-use Rattle.std.proofs.Common.{◌≡◌, take}
-use Rattle.std.specs.Fmt.InlineText.{inline_text}
-use Rattle.std.specs.List.{flat_map}
-use Rattle.spawnrun_lib.specs.Shown.{ArePrintable, byte_text, front}
+use Rattle.spawnrun_lib.proofs.Common.{◌≡◌, take, inline_text, flat_map, ArePrintable, byte_text, front}
 use Rattle.spawnrun_lib.proofs.shown.line_shown.Given as goal
 
 abbrev pub invariant-loop-byte : goal.invariant-loop-byte

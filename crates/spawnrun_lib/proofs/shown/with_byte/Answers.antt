@@ -1,8 +1,4 @@
-use Rattle.std.proofs.Common.{rules, ◌≡◌, ◌∷◌, ◌++◌, [], ℕ, ◌/◌, ◌%◌, ◌∙◌, List, ap, sym, arith, false}
-use Rattle.std.proofs.lemmas.Bool.{cond-false}
-use Rattle.std.proofs.lemmas.Bool.Decides.{nat_tests}
-use Rattle.std.specs.Fmt.InlineText.{inline_text}
-use Rattle.spawnrun_lib.specs.Shown.{byte_text, front, hex, is_printable}
+use Rattle.spawnrun_lib.proofs.Common.{rules, ◌≡◌, ◌∷◌, ◌++◌, [], ℕ, ◌/◌, ◌%◌, ◌∙◌, List, ap, sym, arith, false, cond-false, nat_tests, inline_text, byte_text, front, hex, is_printable}
 use Rattle.spawnrun_lib.proofs.Fronts.{go_on}
 use Rattle.spawnrun_lib.proofs.shown.with_byte.Goals as goal
 

@@ -1,4 +1,4 @@
-use Rattle.std.proofs.Common.{rules}
+use Rattle.spawnrun_lib.proofs.Common.{rules}
 use Rattle.spawnrun_lib.proofs.Fronts.{front-after, front-nothing}
 use Rattle.spawnrun_lib.proofs.shown.with_char.Goals as goal
 

@@ -1,7 +1,4 @@
-use Rattle.std.proofs.Common.{◌≡◌, ◌≤◌, ◌++◌, length, take}
-use Rattle.std.specs.Fmt.InlineText.{inline_text}
-use Rattle.std.specs.List.{flat_map}
-use Rattle.spawnrun_lib.specs.Shown.{ArePrintable, unit_text, front}
+use Rattle.spawnrun_lib.proofs.Common.{◌≡◌, ◌≤◌, ◌++◌, length, take, inline_text, flat_map, ArePrintable, unit_text, front}
 use Rattle.spawnrun_lib.proofs.shown.with_char.Given as goal
 
 abbrev pub invariant-loop-unit : goal.invariant-loop-unit

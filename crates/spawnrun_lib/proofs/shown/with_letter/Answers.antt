@@ -1,9 +1,4 @@
-use Rattle.std.proofs.Common.{rules, ◌≡◌, ◌∷◌, ◌++◌, [], arith}
-use Rattle.std.proofs.lemmas.Grind.{common_steps}
-use Rattle.std.proofs.lemmas.Str.{encode_ascii}
-use Rattle.std.proofs.lemmas.List.Elements.{All-push}
-use Rattle.std.specs.Fmt.InlineText.{inline_text}
-use Rattle.spawnrun_lib.specs.Shown.{ArePrintable, front}
+use Rattle.spawnrun_lib.proofs.Common.{rules, ◌≡◌, ◌∷◌, ◌++◌, [], arith, common_steps, encode_ascii, All-push, inline_text, ArePrintable, front}
 use Rattle.spawnrun_lib.proofs.Fronts.{cut_is_front, front-printable, length-front}
 use Rattle.spawnrun_lib.proofs.shown.with_letter.Goals as goal
 

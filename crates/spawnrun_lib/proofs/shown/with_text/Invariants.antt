@@ -1,7 +1,4 @@
-use Rattle.std.proofs.Common.{◌≡◌, ◌≤◌, ◌++◌, IsUtf8, length}
-use Rattle.std.specs.Fmt.InlineText.{inline_text}
-use Rattle.std.specs.Str.Iter.{chars_rest}
-use Rattle.spawnrun_lib.specs.Shown.{ArePrintable, plain, front}
+use Rattle.spawnrun_lib.proofs.Common.{◌≡◌, ◌≤◌, ◌++◌, IsUtf8, length, inline_text, chars_rest, ArePrintable, plain, front}
 use Rattle.spawnrun_lib.proofs.shown.with_text.Given as goal
 
 abbrev pub invariant-loop-letter : goal.invariant-loop-letter

@@ -1,6 +1,4 @@
-use Rattle.std.proofs.Common.{◌∷◌, [], ◌/◌, ◌%◌, ◌∙◌}
-use Rattle.std.specs.Fmt.InlineText.{inline_text}
-use Rattle.spawnrun_lib.specs.Shown.{hex}
+use Rattle.spawnrun_lib.proofs.Common.{◌∷◌, [], ◌/◌, ◌%◌, ◌∙◌, inline_text, hex}
 use Rattle.spawnrun_lib.proofs.Fronts.{go_on}
 use Rattle.spawnrun_lib.proofs.shown.with_unit.Goals as goal
 

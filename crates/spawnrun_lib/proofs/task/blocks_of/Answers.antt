@@ -1,5 +1,5 @@
 use Rattle.spawnrun_lib.proofs.CommandLineOptions.{blocks_read}
-use Rattle.clap.specs.Words.{found_of}
+use Rattle.spawnrun_lib.proofs.Common.{found_of}
 use Rattle.spawnrun_lib.proofs.task.blocks_of.Goals as goal
 
 pub returns-clause-number : goal.returns-clause-number

@@ -1,7 +1,4 @@
-use Rattle.std.proofs.Common.{rules, ◌≡◌, ℕ, List, codes, true, refl, map, subst, Some}
-use Rattle.clap.specs.Words.{HasKind, fault_of, rows_of, found_of, takes, subcommand_of}
-use Rattle.spawnrun_lib.specs.CommandLine.{program}
-use Rattle.cli.proofs.Faults.{found_fault, only_memory}
+use Rattle.spawnrun_lib.proofs.Common.{rules, ◌≡◌, ℕ, List, codes, true, refl, map, subst, Some, HasKind, fault_of, rows_of, found_of, takes, subcommand_of, program, found_fault, only_memory}
 use Rattle.spawnrun_lib.proofs.TaskOfWords.{IsProgram-names, MeetsTask-parse, none_other, replay_asked, run_asked, run_task, subcommand_met-named, MeetsTask}
 use Rattle.spawnrun_lib.proofs.task.command_line.Given as given
 use Rattle.spawnrun_lib.proofs.task.command_line.Goals.{After-unwrap}

@@ -1,6 +1,4 @@
-use Rattle.std.proofs.Common.{arith}
-use Rattle.std.proofs.lemmas.Grind.{common_steps}
-use Rattle.std.proofs.lemmas.Result.{IfOk-weaker}
+use Rattle.spawnrun_lib.proofs.Common.{arith, common_steps, IfOk-weaker}
 use Rattle.spawnrun_lib.proofs.Commands.{with_command}
 use Rattle.spawnrun_lib.proofs.task.program.Goals as goal
 

@@ -1,5 +1,4 @@
-use Rattle.std.proofs.Common.{rules}
-use Rattle.std.proofs.lemmas.Result.{IfOk-weaker}
+use Rattle.spawnrun_lib.proofs.Common.{rules, IfOk-weaker}
 use Rattle.spawnrun_lib.proofs.Commands.{with_option}
 use Rattle.spawnrun_lib.proofs.task.replay_command.Goals as goal
 

@@ -1,6 +1,4 @@
-use Rattle.std.proofs.Common.{arith}
-use Rattle.std.proofs.lemmas.Grind.{common_steps}
-use Rattle.std.proofs.lemmas.Result.{IfOk-weaker}
+use Rattle.spawnrun_lib.proofs.Common.{arith, common_steps, IfOk-weaker}
 use Rattle.spawnrun_lib.proofs.Commands.{with_option}
 use Rattle.spawnrun_lib.proofs.task.run_command.Goals as goal
 

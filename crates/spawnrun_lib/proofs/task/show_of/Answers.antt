@@ -1,4 +1,4 @@
-use Rattle.std.proofs.Common.{rules}
+use Rattle.spawnrun_lib.proofs.Common.{rules}
 use Rattle.spawnrun_lib.proofs.CommandLineOptions.{show_read, shows_by}
 use Rattle.spawnrun_lib.proofs.task.show_of.Goals as goal
 

@@ -1,6 +1,4 @@
-use Rattle.std.proofs.Common.{◌≡◌, ◌∙◌, codes, arith, lit<, Some, is_some, sym, ap}
-use Rattle.clap.specs.Words.{found_of}
-use Rattle.cli.proofs.Numbers.{number_read}
+use Rattle.spawnrun_lib.proofs.Common.{◌≡◌, ◌∙◌, codes, arith, lit<, Some, is_some, sym, ap, found_of, number_read}
 use Rattle.spawnrun_lib.proofs.task.workers_of.Goals as goal
 
 pub unwrap-requires : goal.unwrap-requires

@@ -1,6 +1,4 @@
-use Rattle.std.proofs.Common.{ap, arith}
-use Rattle.std.specs.Prelude.{Err}
-use Rattle.devices.specs.declared.input.InputFault.{InputFault}
+use Rattle.spawnrun_lib.proofs.Common.{ap, arith, Err, InputFault}
 use Rattle.spawnrun_lib.proofs.GivenInput.{made_of_read, refused_too_long}
 use Rattle.spawnrun_lib.proofs.work.product_of.Goals as goal
 

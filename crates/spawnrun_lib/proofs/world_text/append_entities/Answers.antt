@@ -1,7 +1,4 @@
-use Rattle.std.proofs.lemmas.Grind.{common_steps}
-use Rattle.std.proofs.Common.{arith, map, string_bytes}
-use Rattle.std.proofs.lemmas.Result.{err_from_is_err_and}
-use Rattle.spawnrun_lib.specs.WorldText.{line_in}
+use Rattle.spawnrun_lib.proofs.Common.{common_steps, arith, map, string_bytes, err_from_is_err_and, line_in}
 use Rattle.spawnrun_lib.proofs.Parts.{part_fits}
 use Rattle.spawnrun_lib.proofs.world_text.append_entities.Goals as goal
 

@@ -1,7 +1,4 @@
-use Rattle.std.proofs.Common.{◌≡◌, ◌≤◌, ◌++◌, map, string_bytes, take, drop, vec_len}
-use Rattle.std.specs.Prelude.{vec_capacity}
-use Rattle.std.specs.List.{flat_map}
-use Rattle.spawnrun_lib.specs.WorldText.{line_in}
+use Rattle.spawnrun_lib.proofs.Common.{◌≡◌, ◌≤◌, ◌++◌, map, string_bytes, take, drop, vec_len, vec_capacity, flat_map, line_in}
 use Rattle.spawnrun_lib.proofs.world_text.append_entities.Given as goal
 
 abbrev pub invariant-loop-handle : goal.invariant-loop-handle

@@ -1,6 +1,4 @@
-use Rattle.std.proofs.Common.{arith, map, string_bytes}
-use Rattle.std.proofs.lemmas.Result.{err_from_is_err_and}
-use Rattle.spawnrun_lib.specs.WorldText.{item_text}
+use Rattle.spawnrun_lib.proofs.Common.{arith, map, string_bytes, err_from_is_err_and, item_text}
 use Rattle.spawnrun_lib.proofs.Parts.{first_fits}
 use Rattle.spawnrun_lib.proofs.world_text.append_items.Goals as goal
 

@@ -1,7 +1,4 @@
-use Rattle.std.proofs.Common.{◌≡◌, ◌≤◌, ◌++◌, map, string_bytes, take, vec_len}
-use Rattle.std.specs.Prelude.{vec_capacity}
-use Rattle.std.specs.List.{flat_map}
-use Rattle.spawnrun_lib.specs.WorldText.{item_text}
+use Rattle.spawnrun_lib.proofs.Common.{◌≡◌, ◌≤◌, ◌++◌, map, string_bytes, take, vec_len, vec_capacity, flat_map, item_text}
 use Rattle.spawnrun_lib.proofs.world_text.append_items.Given as goal
 
 abbrev pub invariant-loop-item : goal.invariant-loop-item

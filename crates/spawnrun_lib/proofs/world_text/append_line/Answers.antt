@@ -1,5 +1,4 @@
-use Rattle.std.proofs.Common.{rules}
-use Rattle.std.proofs.lemmas.Result.{on_ok_weaker}
+use Rattle.spawnrun_lib.proofs.Common.{rules, on_ok_weaker}
 use Rattle.spawnrun_lib.proofs.Parts.{four_parts}
 use Rattle.spawnrun_lib.proofs.world_text.append_line.Goals as goal
 

@@ -1,12 +1,6 @@
-use Rattle.std.proofs.Common.{rules, ◌≡◌, ◌+◌, ◌++◌, ℕ, List, length, refl, length-append}
-use Rattle.std.specs.List.{flat_map}
-use Rattle.std.proofs.lemmas.Result.{err_from_is_err_and, on_err_weaker}
+use Rattle.spawnrun_lib.proofs.Common.{rules, ◌≡◌, ◌+◌, ◌++◌, ℕ, List, length, refl, flat_map, err_from_is_err_and, on_err_weaker, Handle, EntityMap, ListsAll, Show, line_in, alive_line, IsWorldText}
+use Rattle.std.proofs.Common.{length-append}
 use Rattle.std.specs.FinMap as finite
-use Rattle.ent_handle.specs.Handle.{Handle}
-use Rattle.ent_storage.specs.EntityMap.{EntityMap}
-use Rattle.ent_storage.specs.BirthOrder.{ListsAll}
-use Rattle.spawnrun_lib.specs.declared.show.Show.{Show}
-use Rattle.spawnrun_lib.specs.WorldText.{line_in, alive_line, IsWorldText}
 use Rattle.spawnrun_lib.proofs.OneText.{one_text}
 use Rattle.spawnrun_lib.proofs.world_text.append_world.Goals as goal
 

@@ -1,5 +1,4 @@
-use Rattle.std.proofs.Common.{refl, ◌∙◌}
-use Rattle.std.proofs.lemmas.Result.{on_ok_weaker}
+use Rattle.spawnrun_lib.proofs.Common.{refl, ◌∙◌, on_ok_weaker}
 use Rattle.spawnrun_lib.proofs.OneText.{one_text}
 use Rattle.spawnrun_lib.proofs.world_text.write_world.Goals as goal
 

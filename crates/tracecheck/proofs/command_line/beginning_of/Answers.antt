@@ -1,8 +1,4 @@
-use Rattle.std.proofs.Common.{◌∙◌, List, ℕ, Option, None, Some, is_some, codes, sym, ap}
-use Rattle.std.specs.Prelude.{◌&&◌}
-use Rattle.clap.specs.Words.{found_of}
-use Rattle.cli.specs.Options.{given}
-use Rattle.tracecheck.specs.CommandLine.{has_limits}
+use Rattle.tracecheck.proofs.Common.{◌∙◌, List, ℕ, Option, None, Some, is_some, codes, sym, ap, ◌&&◌, found_of, given, has_limits}
 use Rattle.tracecheck.proofs.Beginnings.{text-rows}
 use Rattle.tracecheck.proofs.command_line.beginning_of.Goals as goal
 

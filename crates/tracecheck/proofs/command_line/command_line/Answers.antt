@@ -1,8 +1,5 @@
-use Rattle.std.proofs.Common.{rules, arith, ◌≡◌, ◌∙◌, List, ℕ, true, ap, map}
-use Rattle.std.proofs.lemmas.Grind.{common_steps}
-use Rattle.clap.specs.Words.{App, takes}
-use Rattle.cli.proofs.Faults.{only_memory}
-use Rattle.tracecheck.specs.CommandLine.{is_taken}
+use Rattle.tracecheck.proofs.Common.{rules, arith, ◌≡◌, ◌∙◌, List, ℕ, true, ap, map, common_steps, takes, only_memory, is_taken}
+use Rattle.clap.specs.Words.{App}
 use Rattle.tracecheck.proofs.Beginnings.{both_not_taken, clap_fault, faultless, faultless_of_one, faulty_of_both, is_taken-takes, rows_asked}
 use Rattle.tracecheck.proofs.OptionsGiven.{generations-given, slots-given}
 use Rattle.tracecheck.proofs.command_line.command_line.Goals as goal

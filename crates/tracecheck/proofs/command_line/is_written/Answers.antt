@@ -1,4 +1,4 @@
-use Rattle.std.proofs.Common.{rules}
+use Rattle.tracecheck.proofs.Common.{rules}
 use Rattle.tracecheck.proofs.Beginnings.{source-rows}
 use Rattle.tracecheck.proofs.command_line.is_written.Goals as goal
 

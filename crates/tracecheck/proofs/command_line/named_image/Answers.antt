@@ -1,5 +1,4 @@
-use Rattle.std.proofs.Common.{map}
-use Rattle.clap.specs.Words.{found_of}
+use Rattle.tracecheck.proofs.Common.{map, found_of}
 use Rattle.tracecheck.proofs.Beginnings.{name_asked, rows_asked}
 use Rattle.tracecheck.proofs.command_line.named_image.Goals as goal
 

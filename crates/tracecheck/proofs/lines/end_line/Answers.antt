@@ -1,7 +1,4 @@
-use Rattle.std.proofs.Common.{rules, ◌≡◌, ◌++◌, List, ℕ, subst, sym}
-use Rattle.std.proofs.lemmas.Result.{err_from_is_err_and}
-use Rattle.tracecheck.specs.Verdict.{MayEnd}
-use Rattle.ent_replay.specs.Text.{without_return}
+use Rattle.tracecheck.proofs.Common.{rules, ◌≡◌, ◌++◌, List, ℕ, subst, sym, err_from_is_err_and, MayEnd, without_return}
 use Rattle.tracecheck.proofs.LinesRead.{cut_line, HasRead-line}
 use Rattle.tracecheck.proofs.lines.end_line.Goals.{After-without_return}
 use Rattle.tracecheck.proofs.lines.end_line.Goals as goal

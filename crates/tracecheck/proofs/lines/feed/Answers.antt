@@ -1,9 +1,4 @@
-use Rattle.std.proofs.lemmas.Grind.{common_steps}
-use Rattle.std.proofs.Common.{arith, rules, ◌++◌, ◌∷◌, [], List, ℕ, subst, sym, append_assoc}
-use Rattle.std.proofs.lemmas.Result.{err_from_is_err_and}
-use Rattle.ent_replay.specs.Text.{lines_of}
-use Rattle.tracecheck.specs.Checking.{HasRead}
-use Rattle.tracecheck.specs.Verdict.{MayEnd}
+use Rattle.tracecheck.proofs.Common.{common_steps, arith, rules, ◌++◌, ◌∷◌, [], List, ℕ, subst, sym, append_assoc, err_from_is_err_and, lines_of, HasRead, MayEnd}
 use Rattle.tracecheck.proofs.LinesRead.{piece_front, piece_rest}
 use Rattle.tracecheck.proofs.lines.feed.Goals as goal
 

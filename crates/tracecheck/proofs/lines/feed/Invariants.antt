@@ -1,6 +1,4 @@
-use Rattle.std.proofs.Common.{◌≡◌, ◌++◌, List, ℕ, length}
-use Rattle.ent_alloc.specs.Sequential.{Allocator}
-use Rattle.tracecheck.specs.Checking.{HasRead}
+use Rattle.tracecheck.proofs.Common.{◌≡◌, ◌++◌, List, ℕ, length, Allocator, HasRead}
 use Rattle.tracecheck.proofs.lines.feed.Given as goal
 
 -- the front of the piece was read, and this is the rest

@@ -1,7 +1,4 @@
-use Rattle.std.proofs.Common.{rules, ◌++◌, List, ℕ, subst, sym, ap, ◌∙◌}
-use Rattle.std.proofs.lemmas.Bool.{eqb-true}
-use Rattle.std.proofs.lemmas.List.{append-nil}
-use Rattle.tracecheck.specs.Verdict.{MayEnd}
+use Rattle.tracecheck.proofs.Common.{rules, ◌++◌, List, ℕ, subst, sym, ap, ◌∙◌, eqb-true, append-nil, MayEnd}
 use Rattle.tracecheck.proofs.LinesRead.{lines_now, lines_none, lines_last}
 use Rattle.tracecheck.proofs.lines.finish.Goals as goal
 

@@ -1,5 +1,4 @@
-use Rattle.std.proofs.Common.{rules, ◌≡◌, ◌++◌, ◌∷◌, [], List, ℕ}
-use Rattle.ent_replay.specs.Text.{without_return}
+use Rattle.tracecheck.proofs.Common.{rules, ◌≡◌, ◌++◌, ◌∷◌, [], List, ℕ, without_return}
 use Rattle.tracecheck.proofs.LinesRead.{without_return-return, without_return-other}
 use Rattle.tracecheck.proofs.lines.without_return.Goals as goal
 

@@ -1,4 +1,4 @@
-use Rattle.std.proofs.Common.{rules}
+use Rattle.tracecheck.proofs.Common.{rules}
 use Rattle.tracecheck.proofs.program.execute.Goals as goal
 
 -- clap's error is of a kind that its rules find

@@ -1,8 +1,4 @@
-use Rattle.std.proofs.Common.{◌++◌, ◌∙◌, List, ℕ, take, ap, sym, subst, arith}
-use Rattle.std.proofs.lemmas.List.{append-nil}
-use Rattle.std.specs.Io.KnownBytes.{Consumes}
-use Rattle.devices.proofs.TakenInSteps.{Consumes-append}
-use Rattle.tracecheck.specs.Checking.{HasRead}
+use Rattle.tracecheck.proofs.Common.{◌++◌, ◌∙◌, List, ℕ, take, ap, sym, subst, arith, append-nil, Consumes, Consumes-append, HasRead}
 use Rattle.tracecheck.proofs.InputRead.{ended_at_end, ended_early}
 use Rattle.tracecheck.proofs.running.check.Goals as goal
 

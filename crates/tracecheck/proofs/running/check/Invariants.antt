@@ -1,6 +1,4 @@
-use Rattle.std.proofs.Common.{◌≡◌, List, ℕ, false}
-use Rattle.std.specs.Io.KnownBytes.{Consumes}
-use Rattle.tracecheck.specs.Checking.{HasRead}
+use Rattle.tracecheck.proofs.Common.{◌≡◌, List, ℕ, false, Consumes, HasRead}
 use Rattle.tracecheck.proofs.running.check.Given as goal
 
 -- a text was taken of the input, and it was read

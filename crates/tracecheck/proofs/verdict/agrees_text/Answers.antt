@@ -1,4 +1,4 @@
-use Rattle.std.proofs.Common.{rules, append_assoc}
+use Rattle.tracecheck.proofs.Common.{rules, append_assoc}
 use Rattle.tracecheck.proofs.verdict.agrees_text.Goals as goal
 
 pub returns : goal.returns

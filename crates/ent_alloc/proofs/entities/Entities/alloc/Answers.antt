@@ -1,10 +1,5 @@
-use Rattle.std.proofs.Common.{rules, ◌≡◌, ℕ, ◌-◌, ◌<◌, [], length, Result, Ok, Err, ap, ◌∙◌}
-use Rattle.std.specs.Result.{IsErrAnd, IsErrOf}
-use Rattle.std.proofs.lemmas.List.{nil_from_length}
-use Rattle.ent_handle.specs.Handle.{Handle}
-use Rattle.ent_alloc.specs.declared.fault.AllocFault.{AllocFault}
+use Rattle.ent_alloc.proofs.Common.{rules, ◌≡◌, ℕ, ◌-◌, ◌<◌, [], length, Result, Ok, Err, ap, ◌∙◌, IsErrAnd, IsErrOf, nil_from_length, Handle, AllocFault, Roster}
 use Rattle.ent_alloc.specs.declared.fault.AllocFault.TheVariants.{Memory, Space}
-use Rattle.ent_alloc.specs.Roster.{Roster}
 use Rattle.ent_alloc.proofs.Meaning.{allocator_is, IsAtRest, at_rest, top_view}
 use Rattle.ent_alloc.proofs.MeaningOfAlloc.{IsGiven, made_roster, length_pool, reused_given, made_given}
 use Rattle.ent_alloc.proofs.Asked.{first_within}

@@ -1,8 +1,4 @@
-use Rattle.std.proofs.Common.{rules, ◌≡◌, sym, ◌∙◌, subst, ℕ, ◌+◌, ◌-◌, ◌≤◌, length, drop, ◌++◌}
-use Rattle.std.proofs.lemmas.List.{length-append}
-use Rattle.ent_alloc.specs.Sequential.{fresh, after_take, after_flush}
-use Rattle.ent_alloc.specs.Sound.{IsSound}
-use Rattle.ent_alloc.specs.Entities.{Entities, HasRowsOfLiving}
+use Rattle.ent_alloc.proofs.Common.{rules, ◌≡◌, sym, ◌∙◌, subst, ℕ, ◌+◌, ◌-◌, ◌≤◌, length, drop, ◌++◌, length-append, fresh, after_take, after_flush, IsSound, Entities, HasRowsOfLiving}
 use Rattle.ent_alloc.proofs.FreshHandles.{length-fresh}
 use Rattle.ent_alloc.proofs.Meaning.{allocator_is, IsAtRest, at_rest, StandFor}
 use Rattle.ent_alloc.proofs.MeaningOfAlloc.{length_pool}

@@ -1,6 +1,4 @@
-use Rattle.std.proofs.Common.{rules, ◌≡◌, ◌≢◌, sym, ◌∙◌}
-use Rattle.ent_alloc.specs.Front.{slots_of}
-use Rattle.ent_alloc.specs.Portions.{count_of, reach_of, front_of}
+use Rattle.ent_alloc.proofs.Common.{rules, ◌≡◌, ◌≢◌, sym, ◌∙◌, slots_of, count_of, reach_of, front_of}
 use Rattle.ent_alloc.proofs.Portioned.{count_within}
 use Rattle.ent_alloc.proofs.Meaning.{allocator_is}
 use Rattle.ent_alloc.proofs.PortionPools.{front_slots, order_few, order_slots, order_is}

@@ -1,5 +1,4 @@
-use Rattle.std.proofs.Common.{rules, arith}
-use Rattle.std.proofs.lemmas.Grind.{common_steps}
+use Rattle.ent_alloc.proofs.Common.{rules, arith, common_steps}
 use Rattle.ent_alloc.proofs.Meaning.{allocator_is, available_is, length-idle}
 use Rattle.ent_alloc.proofs.entities.Entities.available.Goals as goal
 

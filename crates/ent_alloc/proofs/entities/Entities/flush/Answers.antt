@@ -1,8 +1,4 @@
-use Rattle.std.proofs.Common.{rules, ◌≡◌, Result, Ok, Err, OnErr, ◌-◌, ℕ, length, ap, subst, ◌∙◌}
-use Rattle.std.proofs.lemmas.List.{length-take-le}
-use Rattle.ent_alloc.specs.Sequential.{after_flush}
-use Rattle.ent_alloc.specs.Sound.{IsSound}
-use Rattle.ent_alloc.specs.Entities.{Entities, HasRowsOfLiving}
+use Rattle.ent_alloc.proofs.Common.{rules, ◌≡◌, Result, Ok, Err, OnErr, ◌-◌, ℕ, length, ap, subst, ◌∙◌, length-take-le, after_flush, IsSound, Entities, HasRowsOfLiving}
 use Rattle.ent_alloc.proofs.Soundness.{after_flush-sound}
 use Rattle.ent_alloc.proofs.Meaning.{allocator_is, length-idle, closed, StandFor}
 use Rattle.ent_alloc.proofs.MeaningOfFlush.{flushed_roster, made_at_flush_is, flush_is, born_is_listed}

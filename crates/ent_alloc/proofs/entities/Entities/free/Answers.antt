@@ -1,14 +1,9 @@
-use Rattle.std.proofs.Common.{arith, rules, ◌≡◌, ◌≢◌, true, inl, inr}
-use Rattle.std.proofs.lemmas.Grind.{common_steps}
-use Rattle.std.proofs.lemmas.Bool.{cases_eq}
+use Rattle.ent_alloc.proofs.Common.{arith, rules, ◌≡◌, ◌≢◌, true, inl, inr, common_steps, cases_eq, after_free, allocator_of, entities_of, HasRowsOfLiving, Roster, freed_roster, retired_roster}
 use Rattle.std.specs.FinSet as sets
 use Rattle.std.specs.FinMap as maps
-use Rattle.ent_alloc.specs.Sequential.{after_free}
-use Rattle.ent_alloc.specs.Entities.{allocator_of, entities_of, HasRowsOfLiving}
 use Rattle.ent_alloc.proofs.Soundness.{after_free-sound}
 use Rattle.ent_alloc.proofs.Meaning.{allocator_is, IsAtRest, at_rest, closed, StandFor}
 use Rattle.ent_alloc.proofs.RowsOfLiving.{AreOf, rows-removed}
-use Rattle.ent_alloc.specs.Roster.{Roster, freed_roster, retired_roster}
 use Rattle.ent_alloc.proofs.entities.Entities.free.Goals.{Else-needs_flush, In_ok-next}
 use Rattle.ent_alloc.proofs.entities.Entities.free.Goals as goal
 

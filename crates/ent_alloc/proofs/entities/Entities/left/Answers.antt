@@ -1,4 +1,4 @@
-use Rattle.std.proofs.Common.{rules}
+use Rattle.ent_alloc.proofs.Common.{rules}
 use Rattle.ent_alloc.proofs.Meaning.{allocator_is, length_left, length_available}
 use Rattle.ent_alloc.proofs.entities.Entities.left.Goals as goal
 

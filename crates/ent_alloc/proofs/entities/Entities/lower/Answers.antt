@@ -1,11 +1,4 @@
-use Rattle.std.proofs.Common.{rules, ◌≡◌, ◌+◌, subst, sym, arith, length, inl, inr, ℕ, ◌-◌}
-use Rattle.std.proofs.lemmas.Grind.{common_steps}
-use Rattle.std.proofs.lemmas.Int.{ints}
-use Rattle.std.proofs.lemmas.Bool.{cases_lt}
-use Rattle.ent_alloc.specs.declared.requests.Requests.{Requests}
-use Rattle.ent_alloc.specs.Roster.{Roster}
-use Rattle.ent_alloc.specs.Sequential.{Allocator}
-use Rattle.ent_alloc.specs.Entities.{AreReserved}
+use Rattle.ent_alloc.proofs.Common.{rules, ◌≡◌, ◌+◌, subst, sym, arith, length, inl, inr, ℕ, ◌-◌, common_steps, ints, cases_lt, Requests, Roster, Allocator, AreReserved}
 use Rattle.ent_alloc.proofs.Spans.{IsSpanOf-after_take}
 use Rattle.ent_alloc.proofs.Meaning.{allocator_is, length_available}
 use Rattle.ent_alloc.proofs.MeaningOfRequests.{served_view, served_reserved, refused_view, refused_reserved}

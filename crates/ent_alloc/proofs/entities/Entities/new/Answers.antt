@@ -1,4 +1,4 @@
-use Rattle.std.proofs.Common.{rules}
+use Rattle.ent_alloc.proofs.Common.{rules}
 use Rattle.ent_alloc.proofs.Soundness.{opening-sound}
 use Rattle.ent_alloc.proofs.Meaning.{AreReserved-flushed, opening_is}
 use Rattle.ent_alloc.proofs.RowsOfLiving.{no_rows}

@@ -1,15 +1,6 @@
-use Rattle.std.proofs.Common.{rules, ◌≡◌, ◌+◌, ◌-◌, ◌*◌, length, sym, ap, ◌∙◌, subst, arith, inl, inr, refl}
-use Rattle.std.proofs.lemmas.Grind.{common_steps}
-use Rattle.std.proofs.lemmas.List.{length-append}
-use Rattle.std.proofs.lemmas.Bool.{false≢true}
-use Rattle.ent_alloc.specs.Limits.{Limits}
-use Rattle.ent_alloc.specs.Entities.{Entities}
-use Rattle.ent_alloc.specs.Image.{header, image, HasImage, slots_bytes, roster}
-use Rattle.ent_alloc.specs.ImageRecords.{AreServed}
-use Rattle.ent_alloc.specs.declared.image.Header.{Header}
+use Rattle.ent_alloc.proofs.Common.{rules, ◌≡◌, ◌+◌, ◌-◌, ◌*◌, length, sym, ap, ◌∙◌, subst, arith, inl, inr, refl, common_steps, length-append, false≢true, Limits, Entities, header, image, HasImage, slots_bytes, roster, AreServed, Header, first_fault, first_failing, slots_tests}
 use Rattle.ent_alloc.proofs.ImageSound.{roster_slots}
 use Rattle.ent_alloc.proofs.ImageOf.{told, served, few_wait, length-slots_bytes, reserved_are, has_image, image_is, numbers, top_as, handed_on}
-use Rattle.ent_alloc.specs.FirstFault.{first_fault, first_failing, slots_tests}
 use Rattle.ent_alloc.proofs.ImageHeader.{length-header_bytes}
 use Rattle.ent_alloc.proofs.ImageFront.{front_fault, to_numbers, later_tests, limits_fault, header_passes, no_header_fault, counts_fault, requests_fault, whole_length_fault, to_slots}
 use Rattle.ent_alloc.proofs.entities.Entities.of_image.Goals.{In_ok-header, In-Some-requests_of, In_ok-slots}

@@ -1,9 +1,5 @@
-use Rattle.std.proofs.Common.{rules, ◌≡◌, ℕ, ◌+◌, ◌-◌, ◌<◌, false, length, drop, leb, get_or, ◌∙◌, arith, le-leb}
-use Rattle.std.proofs.lemmas.Bool.{lt-leb}
-use Rattle.ent_handle.specs.Handle.{Handle}
-use Rattle.ent_alloc.specs.Roster.{Roster}
-use Rattle.ent_alloc.specs.Sequential.{Allocator, available, fresh, stands_in}
-use Rattle.ent_alloc.specs.Entities.{allocator_of, AreReserved}
+use Rattle.ent_alloc.proofs.Common.{rules, ◌≡◌, ℕ, ◌+◌, ◌-◌, ◌<◌, false, length, drop, leb, get_or, ◌∙◌, arith, lt-leb, Handle, Roster, Allocator, available, fresh, stands_in, allocator_of, AreReserved}
+use Rattle.std.proofs.Common.{le-leb}
 use Rattle.ent_alloc.proofs.Looked.{fresh_no}
 use Rattle.ent_alloc.proofs.Meaning.{allocator_is}
 use Rattle.ent_alloc.proofs.Places.{available_view, stands_idle, waits_here, waiting_place, fresh_place}

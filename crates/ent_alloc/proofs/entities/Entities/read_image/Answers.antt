@@ -1,4 +1,4 @@
-use Rattle.std.proofs.Common.{rules}
+use Rattle.ent_alloc.proofs.Common.{rules}
 use Rattle.ent_alloc.proofs.ImageOf.{exact, kept_by_image, bounded}
 use Rattle.ent_alloc.proofs.entities.Entities.read_image.Goals as goal
 

@@ -1,11 +1,8 @@
-use Rattle.std.proofs.Common.{rules, ◌≡◌, ◌+◌, pos, ◌-ℤ◌, nat_abs, ap, ◌∙◌, Ok, arith, to_z, of_z, w64, ℕ}
-use Rattle.std.proofs.lemmas.Int.{ints}
-use Rattle.ent_alloc.specs.Sequential.{pool_at, reply_from}
+use Rattle.ent_alloc.proofs.Common.{rules, ◌≡◌, ◌+◌, pos, ◌-ℤ◌, nat_abs, ap, ◌∙◌, Ok, arith, to_z, of_z, w64, ℕ, ints, pool_at, reply_from, reserved_handles}
 use Rattle.ent_alloc.proofs.FreshHandles.{fresh-none}
 use Rattle.ent_alloc.proofs.Meaning.{allocator_is}
 use Rattle.ent_alloc.proofs.MeaningOfReplies.{reply_none}
 use Rattle.ent_alloc.proofs.OneReply.{IsBelowTop, below_top, replied, several, short_of, left_is, served, served_in_range, IsServed}
-use Rattle.ent_alloc.specs.Reserved.{reserved_handles}
 use Rattle.ent_alloc.proofs.entities.Entities.reply.Goals.{After-self, After-slots}
 use Rattle.ent_alloc.proofs.entities.Entities.reply.Goals as goal
 

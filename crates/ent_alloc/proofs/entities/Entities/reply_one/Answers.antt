@@ -1,6 +1,4 @@
-use Rattle.std.proofs.Common.{rules, ◌≡◌, ◌+◌, pos, ◌-ℤ◌, nat_abs, ap, ◌∙◌, ◌∷◌, [], Ok, arith, to_z, of_z, w64}
-use Rattle.std.proofs.lemmas.Int.{ints}
-use Rattle.ent_handle.specs.Handle.{Handle}
+use Rattle.ent_alloc.proofs.Common.{rules, ◌≡◌, ◌+◌, pos, ◌-ℤ◌, nat_abs, ap, ◌∙◌, ◌∷◌, [], Ok, arith, to_z, of_z, w64, ints, Handle}
 use Rattle.ent_alloc.proofs.Meaning.{allocator_is}
 use Rattle.ent_alloc.proofs.OneReply.{IsBelowTop, below_top, one_pending, one_fresh, one_refused}
 use Rattle.ent_alloc.proofs.entities.Entities.reply_one.Goals.{After-self, After-slots}

@@ -1,6 +1,4 @@
-use Rattle.std.proofs.Common.{rules, ◌≡◌, ◌∙◌, sym}
-use Rattle.ent_alloc.specs.Sequential.{reply_to}
-use Rattle.ent_alloc.specs.Sound.{IsSound}
+use Rattle.ent_alloc.proofs.Common.{rules, ◌≡◌, ◌∙◌, sym, reply_to, IsSound}
 use Rattle.ent_alloc.proofs.Meaning.{allocator_is}
 use Rattle.ent_alloc.proofs.Asked.{told, of_served, of_refused, space_of_three}
 use Rattle.ent_alloc.proofs.entities.Entities.request_into.Goals.{After-reply}

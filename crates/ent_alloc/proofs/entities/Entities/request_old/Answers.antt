@@ -1,8 +1,4 @@
-use Rattle.std.proofs.Common.{rules, ◌≡◌, ◌+◌, ◌-◌, ◌<◌, ◌^◌, pos, ◌≤ℤ◌, subst, sym, ap, refl, arith, length, Ok}
-use Rattle.std.proofs.lemmas.Int.{ints}
-use Rattle.ent_alloc.specs.Sequential.{Allocator, after_take, cursor, top}
-use Rattle.ent_alloc.specs.Sound.{IsSound}
-use Rattle.ent_alloc.specs.Entities.{allocator_of, AreReserved}
+use Rattle.ent_alloc.proofs.Common.{rules, ◌≡◌, ◌+◌, ◌-◌, ◌<◌, ◌^◌, pos, ◌≤ℤ◌, subst, sym, ap, refl, arith, length, Ok, ints, Allocator, after_take, cursor, top, IsSound, allocator_of, AreReserved}
 use Rattle.ent_alloc.proofs.Asked.{told_one}
 use Rattle.ent_alloc.proofs.Meaning.{allocator_is, top_view}
 use Rattle.ent_alloc.proofs.MeaningOfRequests.{served_view, served_reserved}

@@ -1,5 +1,4 @@
-use Rattle.std.proofs.Common.{rules}
-use Rattle.std.proofs.lemmas.List.{length-take-le}
+use Rattle.ent_alloc.proofs.Common.{rules, length-take-le}
 use Rattle.ent_alloc.proofs.Meaning.{allocator_is, length-idle}
 use Rattle.ent_alloc.proofs.entities.Entities.reserved.Goals as goal
 

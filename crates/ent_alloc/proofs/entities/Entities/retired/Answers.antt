@@ -1,7 +1,5 @@
-use Rattle.std.proofs.Common.{rules, ◌≡◌, ◌+◌, subst}
+use Rattle.ent_alloc.proofs.Common.{rules, ◌≡◌, ◌+◌, subst, top, retired, IsSound}
 use Rattle.std.specs.FinSet as set
-use Rattle.ent_alloc.specs.Sequential.{top, retired}
-use Rattle.ent_alloc.specs.Sound.{IsSound}
 use Rattle.ent_alloc.proofs.Meaning.{allocator_is, top_view}
 use Rattle.ent_alloc.proofs.Retired.{retired-rest}
 use Rattle.ent_alloc.proofs.entities.Entities.retired.Goals.{After-waiting}

@@ -1,5 +1,4 @@
-use Rattle.std.proofs.Common.{rules, ◌≡◌, ◌-◌, length, take}
-use Rattle.ent_alloc.specs.Front.{with_front, AreSlotsOf}
+use Rattle.ent_alloc.proofs.Common.{rules, ◌≡◌, ◌-◌, length, take, with_front, AreSlotsOf}
 use Rattle.ent_alloc.proofs.Meaning.{allocator_is, StandFor}
 use Rattle.ent_alloc.proofs.FrontPools.{few_of, room_of, enough_of, waits_of, stands_of, grown}
 use Rattle.ent_alloc.proofs.entities.Entities.set_front.Goals.{After-wait_last-arg-1, After-wait_last}

@@ -1,10 +1,6 @@
-use Rattle.std.proofs.Common.{arith, rules, ◌≡◌, ℕ, true}
-use Rattle.std.proofs.lemmas.Grind.{common_steps}
+use Rattle.ent_alloc.proofs.Common.{arith, rules, ◌≡◌, ℕ, true, common_steps, Handle, Roster, AreReserved}
 use Rattle.std.specs.FinSet as sets
 use Rattle.std.specs.FinMap as maps
-use Rattle.ent_handle.specs.Handle.{Handle}
-use Rattle.ent_alloc.specs.Roster.{Roster}
-use Rattle.ent_alloc.specs.Entities.{AreReserved}
 use Rattle.ent_alloc.proofs.RowsOfLiving.{rows-inserted}
 use Rattle.ent_alloc.proofs.entities.Entities.set_row.Goals.{After-set_row}
 use Rattle.ent_alloc.proofs.entities.Entities.set_row.Goals as goal

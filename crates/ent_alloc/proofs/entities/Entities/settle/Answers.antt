@@ -1,8 +1,4 @@
-use Rattle.std.proofs.Common.{rules, ◌≡◌, ℕ, ℤ, length, ap, subst, ◌∙◌, arith}
-use Rattle.std.proofs.lemmas.Grind.{common_steps}
-use Rattle.std.proofs.lemmas.Int.{ints}
-use Rattle.ent_alloc.specs.Sequential.{top, asked_at, Allocator}
-use Rattle.ent_alloc.specs.Sound.{IsSound}
+use Rattle.ent_alloc.proofs.Common.{rules, ◌≡◌, ℕ, ℤ, length, ap, subst, ◌∙◌, arith, common_steps, ints, top, asked_at, Allocator, IsSound}
 use Rattle.ent_alloc.proofs.Settled.{length-all, settled-requests}
 use Rattle.ent_alloc.proofs.Meaning.{allocator_is, asked_at-is, top_view}
 use Rattle.ent_alloc.proofs.MeaningOfRequests.{settled_view, settled_reserved}

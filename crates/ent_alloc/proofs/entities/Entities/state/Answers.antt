@@ -1,11 +1,5 @@
-use Rattle.std.proofs.Common.{rules, ◌≡◌, ℕ, ◌-◌, ◌||◌, Bool, false, cond, length, drop}
-use Rattle.std.proofs.Math.Bool.{or-false}
+use Rattle.ent_alloc.proofs.Common.{rules, ◌≡◌, ℕ, ◌-◌, ◌||◌, Bool, false, cond, length, drop, or-false, Handle, Reserved, Gone, Allocator, fresh, stands_in, state_of, Roster, allocator_of, AreReserved}
 use Rattle.std.specs.FinSet as sets
-use Rattle.ent_handle.specs.Handle.{Handle}
-use Rattle.ent_alloc.specs.declared.state.State.TheVariants.{Reserved, Gone}
-use Rattle.ent_alloc.specs.Sequential.{Allocator, fresh, stands_in, state_of}
-use Rattle.ent_alloc.specs.Roster.{Roster}
-use Rattle.ent_alloc.specs.Entities.{allocator_of, AreReserved}
 use Rattle.ent_alloc.proofs.Looked.{fresh_no}
 use Rattle.ent_alloc.proofs.Meaning.{allocator_is}
 use Rattle.ent_alloc.proofs.MeaningOfFlush.{stands_in_taken}

@@ -1,5 +1,4 @@
-use Rattle.std.proofs.Common.{rules}
-use Rattle.std.proofs.lemmas.List.{append_assoc}
+use Rattle.ent_alloc.proofs.Common.{rules, append_assoc}
 use Rattle.ent_alloc.proofs.ImageSound.{roster_is}
 use Rattle.ent_alloc.proofs.entities.Entities.write_image_without_rows.Goals as goal
 

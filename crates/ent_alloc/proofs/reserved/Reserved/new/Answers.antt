@@ -1,5 +1,4 @@
-use Rattle.std.proofs.Common.{rules}
-use Rattle.std.proofs.lemmas.List.{drop-map, take-map}
+use Rattle.ent_alloc.proofs.Common.{rules, drop-map, take-map}
 use Rattle.ent_alloc.proofs.reserved.Reserved.new.Goals as goal
 
 pub returns : goal.returns

@@ -1,4 +1,4 @@
-use Rattle.std.proofs.Common.{rules}
+use Rattle.ent_alloc.proofs.Common.{rules}
 use Rattle.ent_alloc.proofs.Listing.{length-handles_of}
 use Rattle.ent_alloc.proofs.reserved.ReservedExactSizeIterator.len.Goals as goal
 

@@ -1,4 +1,4 @@
-use Rattle.std.proofs.Common.{rules}
+use Rattle.ent_alloc.proofs.Common.{rules}
 use Rattle.ent_alloc.proofs.Listing.{handles_of-fresh, handles_of-none, rest_to_list}
 use Rattle.ent_alloc.proofs.reserved.ReservedIterator.next.Goals as goal
 

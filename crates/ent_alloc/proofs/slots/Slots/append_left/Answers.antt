@@ -1,12 +1,5 @@
-use Rattle.std.proofs.Common.{rules, sym, ap, ◌∙◌, ◌+◌, ◌-◌, ◌≤◌, ◌++◌, length, get_or, take, drop, arith, append_assoc}
-use Rattle.std.proofs.Math.ListN.{drop_of_length-le}
-use Rattle.std.proofs.lemmas.List.{length-map, append-nil}
-use Rattle.std.proofs.lemmas.List.Elements.{All-drop}
-use Rattle.ent_handle.specs.Handle.{Handle}
-use Rattle.ent_alloc.specs.declared.portion.Portion.{Portion}
-use Rattle.ent_alloc.specs.Entities.{idle}
-use Rattle.ent_alloc.specs.Front.{slots_of}
-use Rattle.ent_alloc.specs.Portions.{left_of}
+use Rattle.ent_alloc.proofs.Common.{rules, sym, ap, ◌∙◌, ◌+◌, ◌-◌, ◌≤◌, ◌++◌, length, get_or, take, drop, arith, drop_of_length-le, length-map, append-nil, All-drop, Handle, Portion, idle, slots_of, left_of}
+use Rattle.std.proofs.Common.{append_assoc}
 use Rattle.ent_alloc.proofs.Portioned.{size_more, count_more, left_more, used_at, count_size, no_portion, portion_is}
 use Rattle.ent_alloc.proofs.slots.Slots.append_left.Goals as goal
 

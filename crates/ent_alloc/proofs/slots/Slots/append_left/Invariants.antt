@@ -1,8 +1,4 @@
-use Rattle.std.proofs.Common.{◌≡◌, ◌+◌, ◌≤◌, ◌++◌, take, drop, vec_len}
-use Rattle.std.specs.Prelude.{vec_capacity}
-use Rattle.ent_alloc.specs.Entities.{idle}
-use Rattle.ent_alloc.specs.Front.{slots_of}
-use Rattle.ent_alloc.specs.Portions.{left_of, size_of, count_of}
+use Rattle.ent_alloc.proofs.Common.{◌≡◌, ◌+◌, ◌≤◌, ◌++◌, take, drop, vec_len, vec_capacity, idle, slots_of, left_of, size_of, count_of}
 use Rattle.ent_alloc.proofs.slots.Slots.append_left.Given as goal
 
 -- what is still to come does the rest

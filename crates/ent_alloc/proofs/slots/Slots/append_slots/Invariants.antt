@@ -1,7 +1,4 @@
-use Rattle.std.proofs.Common.{◌≡◌, ◌≤◌, ◌+◌, ◌++◌, take, drop, vec_len}
-use Rattle.std.specs.Prelude.{vec_capacity}
-use Rattle.ent_alloc.specs.Entities.{idle}
-use Rattle.ent_alloc.specs.Front.{slots_of}
+use Rattle.ent_alloc.proofs.Common.{◌≡◌, ◌≤◌, ◌+◌, ◌++◌, take, drop, vec_len, vec_capacity, idle, slots_of}
 use Rattle.ent_alloc.proofs.slots.Slots.append_slots.Given as goal
 
 abbrev pub invariant-loop-more : goal.invariant-loop-more

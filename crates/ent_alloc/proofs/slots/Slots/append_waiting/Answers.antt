@@ -1,6 +1,4 @@
-use Rattle.std.proofs.Common.{rules, ◌≡◌, ◌≤◌, ap, ◌∙◌, ◌-◌, length, take, drop, reverse, arith}
-use Rattle.ent_alloc.specs.Entities.{idle}
-use Rattle.ent_alloc.specs.Front.{slots_of}
+use Rattle.ent_alloc.proofs.Common.{rules, ◌≡◌, ◌≤◌, ap, ◌∙◌, ◌-◌, length, take, drop, reverse, arith, idle, slots_of}
 use Rattle.ent_alloc.proofs.FrontPools.{waiting_part, waiting_long}
 use Rattle.ent_alloc.proofs.slots.Slots.append_waiting.Goals as goal
 

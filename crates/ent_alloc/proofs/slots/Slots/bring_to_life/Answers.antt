@@ -1,11 +1,5 @@
-use Rattle.std.proofs.Common.{rules, ◌≡◌, ℕ, ◌+◌, ◌-◌, ◌≤◌, List, ◌++◌, length, map, take, drop, replicate, ap, ◌∙◌, arith}
-use Rattle.std.proofs.lemmas.Grind.{common_steps}
+use Rattle.ent_alloc.proofs.Common.{rules, ◌≡◌, ℕ, ◌+◌, ◌-◌, ◌≤◌, List, ◌++◌, length, map, take, drop, replicate, ap, ◌∙◌, arith, common_steps, append_assoc, with_items_is, take_rest, drop-map, SlotRecord, fresh, Roster, roster_of, handle_at, new_record, reused, AreLinked}
 use Rattle.std.specs.FinSet as sets
-use Rattle.std.proofs.lemmas.List.{append_assoc, with_items_is, take_rest, drop-map}
-use Rattle.ent_alloc.specs.declared.slot_record.SlotRecord.{SlotRecord}
-use Rattle.ent_alloc.specs.Sequential.{fresh}
-use Rattle.ent_alloc.specs.Roster.{Roster}
-use Rattle.ent_alloc.specs.Slots.{roster_of, handle_at, new_record, reused, AreLinked}
 use Rattle.ent_alloc.proofs.Linked.{make_keeps_links, roster_of-make, reuse_keeps_links, roster_of-reuse}
 use Rattle.ent_alloc.proofs.slots.Slots.bring_to_life.Goals.{After-reuse_all}
 use Rattle.ent_alloc.proofs.slots.Slots.bring_to_life.Goals as goal

@@ -1,5 +1,4 @@
-use Rattle.std.proofs.Common.{rules, ◌≡◌}
-use Rattle.ent_alloc.specs.Slots.{lives, occupancy_of}
+use Rattle.ent_alloc.proofs.Common.{rules, ◌≡◌, lives, occupancy_of}
 use Rattle.ent_alloc.proofs.Occupants.{contains_occupants}
 use Rattle.ent_alloc.proofs.Looked.{is_occupant-occupancy}
 use Rattle.ent_alloc.proofs.slots.Slots.is_alive.Goals.{After-is_living}

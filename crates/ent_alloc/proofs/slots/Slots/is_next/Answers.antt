@@ -1,5 +1,4 @@
-use Rattle.std.proofs.Common.{rules}
-use Rattle.std.proofs.lemmas.Bool.{cases_lt, lt-ltb, le-ltb, ne_eqb}
+use Rattle.ent_alloc.proofs.Common.{rules, cases_lt, lt-ltb, le-ltb, ne_eqb}
 use Rattle.ent_alloc.proofs.Looked.{fresh_yes, fresh_no}
 use Rattle.ent_alloc.proofs.slots.Slots.is_next.Goals as goal
 

@@ -1,5 +1,4 @@
-use Rattle.std.proofs.Common.{rules, ◌≡◌, ◌≢◌, ◌≤◌, true, length, arith, ◌∙◌, sym}
-use Rattle.std.proofs.lemmas.Bool.{false≢true}
+use Rattle.ent_alloc.proofs.Common.{rules, ◌≡◌, ◌≢◌, ◌≤◌, true, length, arith, ◌∙◌, sym, false≢true}
 use Rattle.std.specs.FinSet as sets
 use Rattle.ent_alloc.proofs.Occupants.{is_occupant, contains_occupants}
 use Rattle.ent_alloc.proofs.LivingOccupant.{occupant_generation}

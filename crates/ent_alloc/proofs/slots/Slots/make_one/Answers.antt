@@ -1,5 +1,4 @@
-use Rattle.std.proofs.Common.{rules, ◌≡◌, length, ap, arith}
-use Rattle.ent_alloc.specs.Roster.{Roster}
+use Rattle.ent_alloc.proofs.Common.{rules, ◌≡◌, length, ap, arith, Roster}
 use Rattle.ent_alloc.proofs.FreshHandles.{fresh-next, fresh-none}
 use Rattle.ent_alloc.proofs.Linked.{make_keeps_links, roster_of-make}
 use Rattle.ent_alloc.proofs.slots.Slots.make_one.Goals as goal

@@ -1,5 +1,4 @@
-use Rattle.std.proofs.Common.{rules, ◌≡◌, length, ap, arith}
-use Rattle.ent_alloc.specs.Roster.{Roster}
+use Rattle.ent_alloc.proofs.Common.{rules, ◌≡◌, length, ap, arith, Roster}
 use Rattle.ent_alloc.proofs.Waits.{waiting_keeps_links, roster_of-waiting}
 use Rattle.ent_alloc.proofs.slots.Slots.make_waiting.Goals as goal
 

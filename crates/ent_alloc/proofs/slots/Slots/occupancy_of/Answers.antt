@@ -1,6 +1,4 @@
-use Rattle.std.proofs.Common.{arith, rules, ◌≡◌}
-use Rattle.std.proofs.lemmas.Grind.{common_steps}
-use Rattle.ent_alloc.specs.Slots.{occupancy_of}
+use Rattle.ent_alloc.proofs.Common.{arith, rules, ◌≡◌, common_steps, occupancy_of}
 use Rattle.ent_alloc.proofs.Occupants.{contains_occupants}
 use Rattle.ent_alloc.proofs.Looked.{is_occupant-occupancy, row_at-occupancy, waits_at-occupancy, stands_in-pending}
 use Rattle.ent_alloc.proofs.KeptRows.{get_rows}

@@ -1,4 +1,4 @@
-use Rattle.std.proofs.Common.{rules}
+use Rattle.ent_alloc.proofs.Common.{rules}
 use Rattle.ent_alloc.proofs.Occupants.{len_occupants}
 use Rattle.ent_alloc.proofs.InOrder.{rising_occupants}
 use Rattle.ent_alloc.proofs.slots.Slots.occupants.Goals as goal

@@ -1,4 +1,4 @@
-use Rattle.std.proofs.Common.{rules}
+use Rattle.ent_alloc.proofs.Common.{rules}
 use Rattle.ent_alloc.proofs.Portioned.{count_within, reach_within}
 use Rattle.ent_alloc.proofs.slots.Slots.order_of.Goals as goal
 

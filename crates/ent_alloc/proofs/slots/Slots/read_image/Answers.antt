@@ -1,4 +1,4 @@
-use Rattle.std.proofs.Common.{rules}
+use Rattle.ent_alloc.proofs.Common.{rules}
 use Rattle.ent_alloc.proofs.ImageLinked.{AreTied, are_slots, slots_bytes_are}
 use Rattle.ent_alloc.proofs.ImageRead.{read_all}
 use Rattle.ent_alloc.proofs.ImageSound.{linked}

@@ -1,6 +1,4 @@
-use Rattle.std.proofs.Common.{rules, ◌≡◌, ◌∙◌, ap}
-use Rattle.std.proofs.lemmas.List.{get_or_read}
-use Rattle.ent_alloc.specs.Slots.{record_at, reuse}
+use Rattle.ent_alloc.proofs.Common.{rules, ◌≡◌, ◌∙◌, ap, get_or_read, record_at, reuse}
 use Rattle.ent_alloc.proofs.Linked.{last_made, last_handle, reuse_last_keeps_links, roster_of-reuse_last}
 use Rattle.ent_alloc.proofs.slots.Slots.reuse_last.Goals.{After-index_mut}
 use Rattle.ent_alloc.proofs.slots.Slots.reuse_last.Goals as goal

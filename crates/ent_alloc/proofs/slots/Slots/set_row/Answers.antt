@@ -1,4 +1,4 @@
-use Rattle.std.proofs.Common.{rules, ◌≡◌, true, arith}
+use Rattle.ent_alloc.proofs.Common.{rules, ◌≡◌, true, arith}
 use Rattle.ent_alloc.proofs.Occupants.{is_occupant}
 use Rattle.ent_alloc.proofs.Looked.{set_row_keeps_links, roster_of-set_row}
 use Rattle.ent_alloc.proofs.LivingOccupant.{occupant_made, occupant_generation, lives_in}

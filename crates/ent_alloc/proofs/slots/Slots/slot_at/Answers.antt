@@ -1,4 +1,4 @@
-use Rattle.std.proofs.Common.{rules, ◌-◌}
+use Rattle.ent_alloc.proofs.Common.{rules, ◌-◌}
 use Rattle.ent_alloc.proofs.Meaning.{length-idle}
 use Rattle.ent_alloc.proofs.FrontPools.{slot_waits, slot_is_fresh}
 use Rattle.ent_alloc.proofs.slots.Slots.slot_at.Goals as goal

@@ -1,7 +1,4 @@
-use Rattle.std.proofs.Common.{rules, sym, subst, ◌≡◌, ℕ, List, ◌<◌, length, All}
-use Rattle.std.proofs.lemmas.List.{with_items_is}
-use Rattle.ent_alloc.specs.declared.slot_record.SlotRecord.{SlotRecord}
-use Rattle.ent_alloc.specs.Front.{placed, moved}
+use Rattle.ent_alloc.proofs.Common.{rules, sym, subst, ◌≡◌, ℕ, List, ◌<◌, length, All, with_items_is, SlotRecord, placed, moved}
 use Rattle.ent_alloc.proofs.Fronts.{slots_in, links_in, roster_in, length-moved, length-placed}
 use Rattle.ent_alloc.proofs.slots.Slots.wait_last.Goals.{After-wait_last}
 use Rattle.ent_alloc.proofs.slots.Slots.wait_last.Goals as goal

@@ -1,5 +1,4 @@
-use Rattle.std.proofs.Common.{rules, subst}
-use Rattle.ent_alloc.specs.Image.{AreSlots}
+use Rattle.ent_alloc.proofs.Common.{rules, subst, AreSlots}
 use Rattle.ent_alloc.proofs.ImageLinked.{AreTied, tied, are_slots, slots_bytes_are}
 use Rattle.ent_alloc.proofs.slots.Slots.write_image.Goals.{After-write_slots}
 use Rattle.ent_alloc.proofs.slots.Slots.write_image.Goals as goal

@@ -1,7 +1,5 @@
-use Rattle.std.proofs.Common.{rules, subst}
+use Rattle.ent_alloc.proofs.Common.{rules, subst, Roster, AreSlots}
 use Rattle.std.specs.FinMap as maps
-use Rattle.ent_alloc.specs.Roster.{Roster}
-use Rattle.ent_alloc.specs.Image.{AreSlots}
 use Rattle.ent_alloc.proofs.ImageRowless.{rowless_slots, rowless_bytes_are}
 use Rattle.ent_alloc.proofs.slots.Slots.write_image_without_rows.Goals as goal
 

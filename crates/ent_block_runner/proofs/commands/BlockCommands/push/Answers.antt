@@ -1,5 +1,4 @@
-use Rattle.std.proofs.Common.{refl, subst}
-use Rattle.ent_block_runner.specs.Filling.{Filling, Extends}
+use Rattle.ent_block_runner.proofs.Common.{refl, subst, Filling, Extends}
 use Rattle.ent_block_runner.proofs.Drawn.{extends_push}
 use Rattle.ent_block_runner.proofs.commands.BlockCommands.push.Goals as goal
 

@@ -1,6 +1,4 @@
-use Rattle.std.proofs.Common.{◌≡◌, subst}
-use Rattle.std.specs.Prelude.{OnErr}
-use Rattle.ent_block_runner.specs.Filling.{Filling, Extends}
+use Rattle.ent_block_runner.proofs.Common.{◌≡◌, subst, OnErr, Filling, Extends}
 use Rattle.ent_block_runner.proofs.Drawn.{extends_spawn, refused_still, same_err}
 use Rattle.ent_block_runner.proofs.commands.BlockCommands.spawn.Goals as goal
 

@@ -1,5 +1,4 @@
-use Rattle.std.proofs.Common.{rules}
-use Rattle.std.proofs.lemmas.List.{length-map}
+use Rattle.ent_blocks.proofs.Common.{rules, length-map}
 use Rattle.ent_blocks.proofs.Accounts.{all_accounted}
 use Rattle.ent_blocks.proofs.blocks.Blocks.close.Goals as goal
 

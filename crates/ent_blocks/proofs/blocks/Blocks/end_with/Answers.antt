@@ -1,7 +1,4 @@
-use Rattle.std.proofs.Common.{rules, ◌≡◌, ◌≢◌, sym, ap, ◌∙◌, subst, arith, List, AllPairs}
-use Rattle.ent_alloc.specs.Sequential.{Allocator}
-use Rattle.ent_alloc.specs.Portions.{AreUsed}
-use Rattle.ent_blocks.specs.Blocks.{Block, Phase, dealt, portions_of, after_blocks, accounted, blocks_of}
+use Rattle.ent_blocks.proofs.Common.{rules, ◌≡◌, ◌≢◌, sym, ap, ◌∙◌, subst, arith, List, AllPairs, Allocator, AreUsed, Block, Phase, dealt, portions_of, after_blocks, accounted, blocks_of}
 use Rattle.ent_blocks.proofs.Accounts.{unused_accounted}
 use Rattle.ent_blocks.proofs.Dealing.{dealt-unused}
 use Rattle.ent_blocks.proofs.Phases.{closing}

@@ -1,4 +1,4 @@
-use Rattle.std.proofs.Common.{arith}
+use Rattle.ent_blocks.proofs.Common.{arith}
 use Rattle.ent_blocks.proofs.Phases.{lies_in}
 use Rattle.ent_blocks.proofs.blocks.Blocks.reserve.Goals as goal
 

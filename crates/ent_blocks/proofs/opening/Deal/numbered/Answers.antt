@@ -1,4 +1,4 @@
-use Rattle.std.proofs.Common.{rules}
+use Rattle.ent_blocks.proofs.Common.{rules}
 use Rattle.ent_blocks.proofs.Openings.{none_used}
 use Rattle.ent_blocks.proofs.opening.Deal.numbered.Goals as goal
 

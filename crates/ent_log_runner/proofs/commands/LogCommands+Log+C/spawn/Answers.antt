@@ -1,4 +1,4 @@
-use Rattle.std.proofs.Common.{refl}
+use Rattle.ent_log_runner.proofs.Common.{refl}
 use Rattle.ent_log_runner.proofs.Gaining.{extends_spawn, same_lent}
 use Rattle.ent_log_runner.proofs.commands.LogCommands+Log+C.spawn.Goals as goal
 

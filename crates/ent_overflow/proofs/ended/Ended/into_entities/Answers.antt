@@ -1,5 +1,4 @@
-use Rattle.std.proofs.Common.{rules}
-use Rattle.ent_blocks.proofs.Given.{used-distinct, used-not_live, used-live}
+use Rattle.ent_overflow.proofs.Common.{rules, used-distinct, used-not_live, used-live}
 use Rattle.ent_overflow.proofs.ended.Ended.into_entities.Goals as goal
 
 pub returns-clause-distinct : goal.returns-clause-distinct

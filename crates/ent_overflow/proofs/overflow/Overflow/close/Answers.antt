@@ -1,11 +1,4 @@
-use Rattle.std.proofs.Common.{rules, ◌≡◌, ◌∙◌, ℕ, ◌-◌, ◌∷◌, ◌++◌, sym, ap, subst, arith, List, All, length, map}
-use Rattle.std.proofs.lemmas.List.Elements.{All-cons}
-use Rattle.ent_alloc.specs.Sequential.{Allocator, before_requests}
-use Rattle.ent_alloc.specs.Sound.{IsSound}
-use Rattle.ent_alloc.specs.History.{given_in}
-use Rattle.ent_blocks.specs.Blocks.{Block, dealt, unused}
-use Rattle.ent_shared.specs.Phase.{Reserver, IsOf as IsReserverOf, records_of}
-use Rattle.ent_overflow.specs.Overflow.{Phase, IsOf, blocks_of, past_of, past_history, past_block}
+use Rattle.ent_overflow.proofs.Common.{rules, ◌≡◌, ◌∙◌, ℕ, ◌-◌, ◌∷◌, ◌++◌, sym, ap, subst, arith, List, All, length, map, All-cons, Allocator, before_requests, IsSound, given_in, Block, dealt, unused, Reserver, IsReserverOf, records_of, Phase, IsOf, blocks_of, past_of, past_history, past_block}
 use Rattle.ent_overflow.proofs.Closings.{Closed, Ending, own_past, ending}
 use Rattle.ent_overflow.proofs.Endings.{ends_laid, ends_dealt}
 use Rattle.ent_overflow.proofs.overflow.Overflow.close.Goals.{After-close-entities}

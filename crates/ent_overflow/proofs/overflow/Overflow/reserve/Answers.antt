@@ -1,5 +1,4 @@
-use Rattle.std.proofs.Common.{rules}
-use Rattle.ent_overflow.specs.Overflow.{Caller}
+use Rattle.ent_overflow.proofs.Common.{rules, Caller}
 use Rattle.ent_overflow.proofs.Going.{here, lies_within, lies_few, used_on, gone_past}
 use Rattle.ent_overflow.proofs.overflow.Overflow.reserve.Goals as goal
 

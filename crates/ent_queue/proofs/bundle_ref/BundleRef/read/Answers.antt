@@ -1,6 +1,4 @@
-use Rattle.std.proofs.Common.{rules, ap, map, ◌≡◌, drop}
-use Rattle.std.specs.Simd.{first_chunks}
-use Rattle.ent_queue.specs.Unpacking.{unpacked_item, number_2}
+use Rattle.ent_queue.proofs.Common.{rules, ap, map, ◌≡◌, drop, first_chunks, unpacked_item, number_2}
 use Rattle.ent_queue.proofs.Chunks.{chunks_of_front}
 use Rattle.ent_queue.proofs.bundle_ref.BundleRef.read.Goals as goal
 

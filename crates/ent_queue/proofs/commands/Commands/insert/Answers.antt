@@ -1,8 +1,6 @@
-use Rattle.std.proofs.Common.{refl}
+use Rattle.ent_queue.proofs.Common.{refl, Insert, queue_of, reserver_of}
 use Rattle.ent_queue.proofs.Issuing.{extends_added, added_none}
 use Rattle.ent_queue.proofs.commands.Commands.insert.Goals as goal
-use Rattle.ent_queue.specs.Command.{Insert}
-use Rattle.ent_queue.specs.Commands.{queue_of, reserver_of}
 
 pub returns-clause-extends : goal.returns-clause-extends
 returns-clause-extends g c = extends_added c.args.self.now _ refl refl c.requires

@@ -1,8 +1,6 @@
-use Rattle.std.proofs.Common.{refl}
+use Rattle.ent_queue.proofs.Common.{refl, Remove, queue_of, reserver_of}
 use Rattle.ent_queue.proofs.Issuing.{extends_added, added_none}
 use Rattle.ent_queue.proofs.commands.Commands.remove.Goals as goal
-use Rattle.ent_queue.specs.Command.{Remove}
-use Rattle.ent_queue.specs.Commands.{queue_of, reserver_of}
 
 pub returns-clause-extends : goal.returns-clause-extends
 returns-clause-extends c = extends_added c.args.self.now _ refl refl c.requires

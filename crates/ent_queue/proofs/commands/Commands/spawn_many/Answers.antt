@@ -1,7 +1,6 @@
-use Rattle.std.proofs.Common.{refl}
+use Rattle.ent_queue.proofs.Common.{refl, queue_of, reserver_of, shared_of}
 use Rattle.ent_queue.proofs.Issuing.{extends_added, added_many}
 use Rattle.ent_queue.proofs.commands.Commands.spawn_many.Goals as goal
-use Rattle.ent_queue.specs.Commands.{queue_of, reserver_of, shared_of}
 
 pub returns-clause-extends : goal.returns-clause-extends
 returns-clause-extends g c = extends_added c.args.self.now _ refl refl c.spawn_many.ensures.stays

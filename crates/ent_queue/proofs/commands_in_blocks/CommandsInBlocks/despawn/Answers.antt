@@ -1,4 +1,4 @@
-use Rattle.std.proofs.Common.{rules}
+use Rattle.ent_queue.proofs.Common.{rules}
 use Rattle.ent_queue.proofs.DrawnBlocks.{extends_in_blocks, still_added}
 use Rattle.ent_queue.proofs.commands_in_blocks.CommandsInBlocks.despawn.Goals as goal
 

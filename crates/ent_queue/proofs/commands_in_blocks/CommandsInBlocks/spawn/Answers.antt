@@ -1,6 +1,5 @@
-use Rattle.std.proofs.Common.{refl, subst}
+use Rattle.ent_queue.proofs.Common.{refl, subst, Issuing, ExtendsInBlocks}
 use Rattle.ent_queue.proofs.DrawnBlocks.{extends_in_blocks, spawn_added}
-use Rattle.ent_queue.specs.InBlocks.{Issuing, ExtendsInBlocks}
 use Rattle.ent_queue.proofs.commands_in_blocks.CommandsInBlocks.spawn.Goals as goal
 
 pub returns-clause-extends : goal.returns-clause-extends

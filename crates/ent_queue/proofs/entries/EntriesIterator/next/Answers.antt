@@ -1,6 +1,4 @@
-use Rattle.std.proofs.Common.{rules, ◌≡◌, suc, ◌-◌, ◌∷◌, arith}
-use Rattle.ent_queue.specs.Entry.{command_of}
-use Rattle.ent_queue.specs.Unpacking.{unpacked_commands}
+use Rattle.ent_queue.proofs.Common.{rules, ◌≡◌, suc, ◌-◌, ◌∷◌, arith, command_of, unpacked_commands}
 use Rattle.ent_queue.proofs.Queues.{no_commands, first_of_commands, some_command_begins, others_are_packed}
 use Rattle.ent_queue.proofs.entries.EntriesIterator.next.Goals as goal
 

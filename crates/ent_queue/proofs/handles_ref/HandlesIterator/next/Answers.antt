@@ -1,8 +1,4 @@
-use Rattle.std.proofs.Common.{rules, map, subst}
-use Rattle.std.specs.List.{All}
-use Rattle.std.proofs.lemmas.List.Elements.{All-head, All-tail}
-use Rattle.ent_handle.specs.Handle.{IsHandle}
-use Rattle.ent_queue.specs.Unpacking.{unpacked_handle}
+use Rattle.ent_queue.proofs.Common.{rules, map, subst, All, All-head, All-tail, IsHandle, unpacked_handle}
 use Rattle.ent_queue.proofs.handles_ref.HandlesIterator.next.Goals as goal
 
 pub handle_of-requires : goal.handle_of-requires

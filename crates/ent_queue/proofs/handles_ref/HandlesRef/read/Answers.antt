@@ -1,6 +1,4 @@
-use Rattle.std.proofs.Common.{rules, ap, map, ◌≡◌}
-use Rattle.std.specs.Simd.{first_chunks}
-use Rattle.ent_queue.specs.Unpacking.{unpacked_handle}
+use Rattle.ent_queue.proofs.Common.{rules, ap, map, ◌≡◌, first_chunks, unpacked_handle}
 use Rattle.ent_queue.proofs.Chunks.{chunks_of_front}
 use Rattle.ent_queue.proofs.handles_ref.HandlesRef.read.Goals as goal
 

@@ -1,9 +1,7 @@
-use Rattle.std.proofs.Common.{rules, ◌++◌, ◌∷◌, [], ap, ◌∙◌}
-use Rattle.ent_queue.specs.Command.{Insert}
+use Rattle.ent_queue.proofs.Common.{rules, ◌++◌, ◌∷◌, [], ap, ◌∙◌, Insert, command_bytes}
 use Rattle.ent_queue.proofs.Pushes.{Pushed, pushed, count_fits}
 use Rattle.ent_queue.proofs.queue.CommandQueue.insert.Goals.{After-write_with_bundle}
 use Rattle.ent_queue.proofs.queue.CommandQueue.insert.Goals as goal
-use Rattle.ent_queue.specs.Packing.{command_bytes}
 
 pub overflow_add-self : goal.overflow_add-self
 overflow_add-self c = search (rules, count_fits)

@@ -1,4 +1,4 @@
-use Rattle.std.proofs.Common.{rules}
+use Rattle.ent_queue.proofs.Common.{rules}
 use Rattle.ent_queue.proofs.Queues.{no_commands_iff}
 use Rattle.ent_queue.proofs.queue.CommandQueue.is_empty.Goals as goal
 

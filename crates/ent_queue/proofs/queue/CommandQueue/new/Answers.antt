@@ -1,4 +1,4 @@
-use Rattle.std.proofs.Common.{rules, refl}
+use Rattle.ent_queue.proofs.Common.{rules, refl}
 use Rattle.ent_queue.proofs.Queues.{no_commands}
 use Rattle.ent_queue.proofs.Pushes.{nothing_packed}
 use Rattle.ent_queue.proofs.queue.CommandQueue.new.Goals as goal

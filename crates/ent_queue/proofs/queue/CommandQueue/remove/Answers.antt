@@ -1,9 +1,7 @@
-use Rattle.std.proofs.Common.{rules, ◌++◌, ◌∷◌, [], ap, ◌∙◌}
-use Rattle.ent_queue.specs.Command.{Remove}
+use Rattle.ent_queue.proofs.Common.{rules, ◌++◌, ◌∷◌, [], ap, ◌∙◌, Remove, command_bytes}
 use Rattle.ent_queue.proofs.Pushes.{Pushed, pushed, count_fits}
 use Rattle.ent_queue.proofs.queue.CommandQueue.remove.Goals.{After-write_remove}
 use Rattle.ent_queue.proofs.queue.CommandQueue.remove.Goals as goal
-use Rattle.ent_queue.specs.Packing.{command_bytes}
 
 pub overflow_add-self : goal.overflow_add-self
 overflow_add-self c = search (rules, count_fits)

@@ -1,12 +1,9 @@
-use Rattle.std.proofs.Common.{rules, ◌++◌, ◌∷◌, [], ap, sym, ◌∙◌}
-use Rattle.ent_queue.specs.Command.{Spawn, Refused}
+use Rattle.ent_queue.proofs.Common.{rules, ◌++◌, ◌∷◌, [], ap, sym, ◌∙◌, Spawn, Refused, command_bytes, refused_by}
 use Rattle.ent_queue.proofs.Pushes.{Pushed, pushed, count_fits}
 use Rattle.ent_queue.proofs.Gaining.{is_refusal, refused_by_fault}
 use Rattle.ent_queue.proofs.queue.CommandQueue.spawn.Goals.{After-write_with_bundle, After-write_refused}
 use Rattle.ent_queue.proofs.queue.CommandQueue.spawn.Given as given
 use Rattle.ent_queue.proofs.queue.CommandQueue.spawn.Goals as goal
-use Rattle.ent_queue.specs.Packing.{command_bytes}
-use Rattle.ent_queue.specs.Reserving.{refused_by}
 
 pub overflow_add-self : goal.overflow_add-self
 overflow_add-self g c = search (rules, count_fits)

@@ -1,13 +1,10 @@
-use Rattle.std.proofs.Common.{rules, ◌++◌, ◌∷◌, [], ap, sym, subst, ◌∙◌, length, ◌<◌, ◌^◌}
-use Rattle.ent_queue.specs.Command.{SpawnMany, Refused}
+use Rattle.ent_queue.proofs.Common.{rules, ◌++◌, ◌∷◌, [], ap, sym, subst, ◌∙◌, length, ◌<◌, ◌^◌, SpawnMany, Refused, command_bytes, bundle_bytes, refused_by}
 use Rattle.ent_queue.proofs.Pushes.{Pushed, pushed, count_fits, many_written}
 use Rattle.ent_queue.proofs.Issuing.{queued_ok}
 use Rattle.ent_queue.proofs.Gaining.{is_refusal, refused_by_fault}
 use Rattle.ent_queue.proofs.queue.CommandQueue.spawn_many.Goals.{After-write_bundle, After-write_refused}
 use Rattle.ent_queue.proofs.queue.CommandQueue.spawn_many.Given as given
 use Rattle.ent_queue.proofs.queue.CommandQueue.spawn_many.Goals as goal
-use Rattle.ent_queue.specs.Packing.{command_bytes, bundle_bytes}
-use Rattle.ent_queue.specs.Reserving.{refused_by}
 
 pub overflow_add-self : goal.overflow_add-self
 overflow_add-self g c = search (rules, count_fits)

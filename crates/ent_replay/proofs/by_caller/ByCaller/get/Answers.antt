@@ -1,4 +1,4 @@
-use Rattle.std.proofs.Common.{rules}
+use Rattle.ent_replay.proofs.Common.{rules}
 use Rattle.ent_replay.proofs.Maps.{get-of_tree}
 use Rattle.ent_replay.proofs.by_caller.ByCaller.get.Goals as goal
 

@@ -1,4 +1,4 @@
-use Rattle.std.proofs.Common.{rules}
+use Rattle.ent_replay.proofs.Common.{rules}
 use Rattle.ent_replay.proofs.Maps.{of_tree-insert}
 use Rattle.ent_replay.proofs.by_caller.ByCaller.insert.Goals as goal
 

@@ -1,5 +1,4 @@
-use Rattle.std.proofs.Common.{rules}
-use Rattle.std.proofs.lemmas.List.{nil_from_length}
+use Rattle.ent_replay.proofs.Common.{rules, nil_from_length}
 use Rattle.ent_replay.proofs.Maps.{from_entries-empty}
 use Rattle.ent_replay.proofs.by_caller.ByCaller.is_empty.Goals as goal
 

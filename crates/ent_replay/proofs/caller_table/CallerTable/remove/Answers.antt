@@ -1,4 +1,4 @@
-use Rattle.std.proofs.Common.{rules}
+use Rattle.ent_replay.proofs.Common.{rules}
 use Rattle.ent_replay.proofs.Tables.{by_place-past}
 use Rattle.ent_replay.proofs.caller_table.CallerTable.remove.Goals as goal
 

@@ -1,4 +1,4 @@
-use Rattle.std.proofs.Common.{rules}
+use Rattle.ent_replay.proofs.Common.{rules}
 use Rattle.ent_replay.proofs.Tables.{in_table}
 use Rattle.ent_replay.proofs.caller_table.CallerTable.replace.Goals as goal
 

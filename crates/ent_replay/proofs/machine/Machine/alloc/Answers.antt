@@ -1,6 +1,5 @@
-use Rattle.std.proofs.Common.{rules, refl}
+use Rattle.ent_replay.proofs.Common.{rules, refl, allocator_is}
 use Rattle.ent_alloc.specs.declared.fault.AllocFault.TheVariants as why
-use Rattle.ent_alloc.proofs.Meaning.{allocator_is}
 use Rattle.ent_replay.proofs.Maps.{no_test}
 use Rattle.ent_replay.proofs.MachineAnswers.{flushed, ok_not_err, faulty, allocator_did, allocator_refused, consistent_as, not_other}
 use Rattle.ent_replay.proofs.ExclusiveEvents.{busy-alloc, alloc-needs_flush, alloc-space, alloc-given, alloc-takes_memory, alloc-consistent}

@@ -1,12 +1,5 @@
-use Rattle.std.proofs.Common.{rules, ◌≡◌, refl, sym, ap, subst, ◌∙◌, Ok, Err, arith}
-use Rattle.std.proofs.lemmas.Grind.{common_steps}
+use Rattle.ent_replay.proofs.Common.{rules, ◌≡◌, refl, sym, ap, subst, ◌∙◌, Ok, Err, arith, common_steps, ints, reply_from, pool_at, on_answer, reported, machine_state, AreConsistent, Inside, Outcome}
 use Rattle.std.specs.FinMap as finite
-use Rattle.std.proofs.lemmas.Int.{ints}
-use Rattle.ent_alloc.specs.Sequential.{reply_from, pool_at}
-use Rattle.ent_replay.specs.Schedule.{on_answer, reported}
-use Rattle.ent_replay.specs.Machine.{machine_state, AreConsistent}
-use Rattle.ent_replay.specs.declared.machine.Machine.TheInside.{Inside}
-use Rattle.ent_replay.specs.declared.outcome.Outcome.{Outcome}
 use Rattle.ent_replay.specs.declared.fault.ReplayFault.TheVariants as fault
 use Rattle.ent_replay.proofs.MachineAnswers.{done, faulty, refused}
 use Rattle.ent_replay.proofs.CallEvents.{answer-not_open, answer-not_stepped, answer-answered, answer-consistent}

@@ -1,12 +1,6 @@
-use Rattle.std.specs.FinMap.{get-insert, get-remove}
-use Rattle.std.proofs.lemmas.Bool.Decides.{nat_tests}
+use Rattle.ent_replay.proofs.Common.{get-insert, get-remove, nat_tests, rules, ◌≡◌, ◌+◌, ◌-◌, refl, sym, ap, subst, ◌∙◌, Ok, Err, None, arith, on_begin, event_takes_memory, left_of, unwrap_or, quota, machine_state, AreConsistent}
 use Rattle.ent_replay.proofs.Maps.{maps_alike}
-use Rattle.std.proofs.Common.{rules, ◌≡◌, ◌+◌, ◌-◌, refl, sym, ap, subst, ◌∙◌, Ok, Err, None, arith}
 use Rattle.std.specs.FinMap as finite
-use Rattle.ent_replay.specs.Schedule.{on_begin, event_takes_memory, left_of}
-use Rattle.std.specs.Option.{unwrap_or}
-use Rattle.ent_alloc.specs.Limits.{quota}
-use Rattle.ent_replay.specs.Machine.{machine_state, AreConsistent}
 use Rattle.ent_replay.specs.declared.outcome.Outcome.TheVariants as outcome
 use Rattle.ent_replay.specs.declared.fault.ReplayFault.TheVariants as fault
 use Rattle.ent_replay.proofs.MachineAnswers.{done, faulty, refused, some_of, none_of, on_ok, on_err}

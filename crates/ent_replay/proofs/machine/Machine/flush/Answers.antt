@@ -1,7 +1,4 @@
-use Rattle.std.proofs.lemmas.Grind.{common_steps}
-use Rattle.std.proofs.Common.{rules, ◌<◌, Bool, List, length, arith}
-use Rattle.std.specs.List.{filter}
-use Rattle.ent_alloc.proofs.Meaning.{allocator_is}
+use Rattle.ent_replay.proofs.Common.{common_steps, rules, ◌<◌, Bool, List, length, arith, allocator_is, filter}
 use Rattle.ent_replay.proofs.Maps.{no_test}
 use Rattle.ent_replay.proofs.MachineAnswers.{done, faulty, refused, on_ok, on_err}
 use Rattle.ent_replay.proofs.ExclusiveEvents.{busy-flush, flush-flushed, flush-takes_memory, flush-consistent}

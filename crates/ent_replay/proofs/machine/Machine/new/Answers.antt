@@ -1,9 +1,7 @@
 use Rattle.ent_replay.proofs.Giving.{all_held-none}
-use Rattle.std.proofs.lemmas.List.Elements.{All-nil}
+use Rattle.ent_replay.proofs.Common.{All-nil, get-empty, rules}
 use Rattle.ent_replay.proofs.Totals.{sum_below-none}
-use Rattle.std.specs.FinMap.{get-empty}
 use Rattle.ent_replay.proofs.Maps.{map_values-empty}
-use Rattle.std.proofs.Common.{rules}
 use Rattle.ent_replay.proofs.machine.Machine.new.Goals as goal
 
 pub invariant_of-result : goal.invariant_of-result

@@ -1,14 +1,6 @@
-use Rattle.std.proofs.Common.{rules, ℕ, ◌≤◌, List, Result, ◌≡◌, ◌≢◌, ◌+◌, ◌++◌, ◌∷◌, [], sym, ap, refl, subst, ◌∙◌, Err, length, take, arith}
-use Rattle.std.proofs.lemmas.List.{take_more, take_all}
-use Rattle.std.proofs.lemmas.Option.{slice_get_read}
-use Rattle.ent_replay.specs.declared.outcome.Outcome.{Outcome}
-use Rattle.ent_replay.specs.declared.fault.ReplayFault.{ReplayFault}
-use Rattle.ent_replay.specs.Histories.{given_by_all, new_phase, StandInHistory}
-use Rattle.ent_alloc.specs.History.{AreGivenOnce}
+use Rattle.ent_replay.proofs.Common.{rules, ℕ, ◌≤◌, List, Result, ◌≡◌, ◌≢◌, ◌+◌, ◌++◌, ◌∷◌, [], sym, ap, refl, subst, ◌∙◌, Err, length, take, arith, take_more, take_all, slice_get_read, Outcome, ReplayFault, given_by_all, new_phase, StandInHistory, AreGivenOnce, Event, MachineState, outcome_of, after_event, outcomes_of, after_events}
 use Rattle.ent_replay.proofs.Linear.{linear}
 use Rattle.ent_replay.proofs.Giving.{given_once}
-use Rattle.ent_replay.specs.declared.event.Event.{Event}
-use Rattle.ent_replay.specs.Schedule.{MachineState, outcome_of, after_event, outcomes_of, after_events}
 use Rattle.ent_replay.specs.declared.fault.ReplayFault.TheVariants as fault
 use Rattle.ent_replay.proofs.Maps.{no_test}
 use Rattle.ent_replay.proofs.Schedules.{after_events-append, outcomes_of-append}

@@ -1,5 +1,4 @@
-use Rattle.std.proofs.Common.{◌≡◌, ◌≤◌, length, take, vec_len, vec_capacity}
-use Rattle.ent_replay.specs.Schedule.{outcomes_of, after_events}
+use Rattle.ent_replay.proofs.Common.{◌≡◌, ◌≤◌, length, take, vec_len, vec_capacity, outcomes_of, after_events}
 use Rattle.ent_replay.proofs.machine.Machine.run.Given as goal
 
 abbrev pub invariant-loop-done : goal.invariant-loop-done

@@ -1,7 +1,5 @@
-use Rattle.std.proofs.Common.{rules, ◌≡◌, pos, ◌-ℤ◌, sym, ◌∙◌, Some, arith}
+use Rattle.ent_replay.proofs.Common.{rules, ◌≡◌, pos, ◌-ℤ◌, sym, ◌∙◌, Some, arith, ints, cursor}
 use Rattle.std.specs.FinMap as finite
-use Rattle.std.proofs.lemmas.Int.{ints}
-use Rattle.ent_alloc.specs.Sequential.{cursor}
 use Rattle.ent_replay.proofs.MachineAnswers.{done, faulty, some_of, none_of}
 use Rattle.ent_replay.proofs.CallEvents.{awaited-bound, step-not_open, step-stepped, step-taken, step-consistent}
 use Rattle.ent_replay.proofs.machine.Machine.take.Goals.{After-replace}

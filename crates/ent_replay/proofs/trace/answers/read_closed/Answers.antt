@@ -1,5 +1,4 @@
-use Rattle.std.proofs.Common.{sym, ◌∙◌, rules}
-use Rattle.std.proofs.lemmas.Bool.{eqb-true}
+use Rattle.ent_replay.proofs.Common.{sym, ◌∙◌, rules, eqb-true}
 use Rattle.ent_replay.proofs.InBrackets.{never_closed, closed_early, closed}
 use Rattle.ent_replay.proofs.trace.answers.read_closed.Goals as goal
 

@@ -1,5 +1,4 @@
-use Rattle.std.proofs.Common.{◌≡◌, length}
-use Rattle.ent_replay.specs.Text.{and_then, handles_told, words_in}
+use Rattle.ent_replay.proofs.Common.{◌≡◌, length, and_then, handles_told, words_in}
 use Rattle.ent_replay.proofs.trace.answers.read_handles.Given as goal
 
 -- the handles so far, and those that are read of the rest

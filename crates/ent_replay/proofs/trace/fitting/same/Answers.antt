@@ -1,10 +1,4 @@
-use Rattle.std.proofs.Common.{arith, ◌≡◌}
-use Rattle.std.proofs.lemmas.Grind.{common_steps}
-use Rattle.std.specs.Prelude.{nat_eq}
-use Rattle.std.specs.Bool.{Decides}
-use Rattle.std.specs.Ordering.{eq_of_both, on}
-use Rattle.std.proofs.lemmas.Slice.Eq.{slice_eq-Decides}
-use Rattle.ent_handle.specs.Handle.{Handle}
+use Rattle.ent_replay.proofs.Common.{arith, ◌≡◌, common_steps, nat_eq, Decides, eq_of_both, on, slice_eq-Decides, Handle}
 use Rattle.ent_replay.proofs.trace.fitting.same.Goals as goal
 
 -- the test of two handles

@@ -1,5 +1,4 @@
-use Rattle.std.proofs.Common.{rules}
-use Rattle.std.proofs.lemmas.Int.{ints}
+use Rattle.ent_replay.proofs.Common.{rules, ints}
 use Rattle.ent_replay.proofs.Fronts.{Listed, Listed-next}
 use Rattle.ent_replay.proofs.trace.front.front_at.Goals as goal
 

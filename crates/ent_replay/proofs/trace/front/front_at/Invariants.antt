@@ -1,4 +1,4 @@
-use Rattle.std.proofs.Common.{◌-◌, length}
+use Rattle.ent_replay.proofs.Common.{◌-◌, length}
 use Rattle.ent_replay.proofs.Fronts.{Listed}
 use Rattle.ent_replay.proofs.trace.front.front_at.Given as goal
 

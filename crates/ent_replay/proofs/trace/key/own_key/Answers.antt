@@ -1,7 +1,5 @@
-use Rattle.std.proofs.Common.{ap, sym, subst, ◌∙◌}
-use Rattle.ent_alloc.specs.Sequential.{available}
+use Rattle.ent_replay.proofs.Common.{ap, sym, subst, ◌∙◌, available, KeyOf}
 use Rattle.ent_replay.specs.declared.trace.reply.ReserveReply.TheVariants as reserve
-use Rattle.ent_replay.specs.Checker.{KeyOf}
 use Rattle.ent_replay.proofs.trace.key.own_key.Goals as goal
 
 pub returns-in-Handles-clause-key : goal.returns-in-Handles-clause-key

@@ -1,4 +1,4 @@
-use Rattle.std.proofs.Common.{◌≡◌, ◌+◌, ◌≤◌, ◌++◌, length, vec_len, vec_capacity}
+use Rattle.ent_replay.proofs.Common.{◌≡◌, ◌+◌, ◌≤◌, ◌++◌, length, vec_len, vec_capacity}
 use Rattle.ent_replay.proofs.trace.lineup.listed.Given as goal
 
 -- what is listed and what is left are the reply, and there is room for the rest

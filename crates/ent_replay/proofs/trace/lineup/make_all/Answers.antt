@@ -1,4 +1,4 @@
-use Rattle.std.proofs.Common.{rules}
+use Rattle.ent_replay.proofs.Common.{rules}
 use Rattle.ent_replay.proofs.Runs.{Made-few, Made-next, Made-last}
 use Rattle.ent_replay.proofs.trace.lineup.make_all.Goals as goal
 

@@ -1,9 +1,4 @@
-use Rattle.std.proofs.Common.{◌≡◌, ℕ, ℤ, pos, ◌-ℤ◌, List, Ok, Result, sym, ap, ◌∙◌, rules}
-use Rattle.std.proofs.lemmas.Int.{ints}
-use Rattle.ent_handle.specs.Handle.{Handle}
-use Rattle.ent_alloc.specs.declared.space.Space.{Space}
-use Rattle.ent_alloc.specs.declared.span.Span.{Span}
-use Rattle.ent_alloc.specs.Sequential.{Allocator, pool_at, reply_from}
+use Rattle.ent_replay.proofs.Common.{◌≡◌, ℕ, ℤ, pos, ◌-ℤ◌, List, Ok, Result, sym, ap, ◌∙◌, rules, ints, Handle, Space, Span, Allocator, pool_at, reply_from}
 use Rattle.ent_replay.proofs.trace.lineup.reply_at.Goals as goal
 
 -- the positions that the request passes tell its reply

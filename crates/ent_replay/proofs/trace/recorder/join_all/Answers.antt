@@ -1,7 +1,4 @@
-use Rattle.std.proofs.Common.{rules, arith, ◌≤◌, length}
-use Rattle.std.proofs.lemmas.List.Edits.{map_over_more}
-use Rattle.ent_replay.specs.Logs.{emptied}
-use Rattle.ent_replay.specs.Recording.{lines_in_all}
+use Rattle.ent_replay.proofs.Common.{rules, arith, ◌≤◌, length, map_over_more, emptied, lines_in_all}
 use Rattle.ent_replay.proofs.Taken.{Leads-end, Leads-joined, emptied-end}
 use Rattle.ent_replay.proofs.trace.recorder.join_all.Goals as goal
 

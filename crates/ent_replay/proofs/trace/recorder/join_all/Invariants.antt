@@ -1,6 +1,4 @@
-use Rattle.std.proofs.Common.{◌≡◌, ◌++◌, map, take, drop}
-use Rattle.ent_replay.specs.Logs.{emptied}
-use Rattle.ent_replay.specs.Recording.{lines_in_all}
+use Rattle.ent_replay.proofs.Common.{◌≡◌, ◌++◌, map, take, drop, emptied, lines_in_all}
 use Rattle.ent_replay.proofs.Taken.{Leads}
 use Rattle.ent_replay.proofs.trace.recorder.join_all.Given as goal
 

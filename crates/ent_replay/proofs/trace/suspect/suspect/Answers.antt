@@ -1,4 +1,4 @@
-use Rattle.std.proofs.Common.{rules, sym, subst, ◌+◌, ◌∙◌}
+use Rattle.ent_replay.proofs.Common.{rules, sym, subst, ◌+◌, ◌∙◌}
 use Rattle.ent_replay.proofs.Suspects.{AreSeen, AreSeen-next, IsFirstAt-unseen, IsFirstAt-head}
 use Rattle.ent_replay.proofs.Lineups.{none_of_some}
 use Rattle.ent_replay.proofs.trace.suspect.suspect.Goals as goal

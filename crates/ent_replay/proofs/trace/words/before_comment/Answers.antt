@@ -1,4 +1,4 @@
-use Rattle.std.proofs.Common.{rules, sym}
+use Rattle.ent_replay.proofs.Common.{rules, sym}
 use Rattle.ent_replay.proofs.WordParts.{comment_cut, no_comment}
 use Rattle.ent_replay.proofs.trace.words.before_comment.Goals as goal
 

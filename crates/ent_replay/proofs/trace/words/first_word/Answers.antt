@@ -1,7 +1,5 @@
-use Rattle.std.proofs.lemmas.List.{nil_from_length}
+use Rattle.ent_replay.proofs.Common.{nil_from_length, rules, eqb-true}
 use Rattle.ent_replay.proofs.WordParts.{words_in-blanks, first_word_found}
-use Rattle.std.proofs.Common.{rules}
-use Rattle.std.proofs.lemmas.Bool.{eqb-true}
 use Rattle.ent_replay.proofs.trace.words.first_word.Goals as goal
 
 pub returns-then-is_empty-clause-none : goal.returns-then-is_empty-clause-none

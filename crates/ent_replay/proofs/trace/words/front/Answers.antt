@@ -1,5 +1,4 @@
-use Rattle.std.proofs.Common.{arith}
-use Rattle.std.proofs.lemmas.Grind.{common_steps}
+use Rattle.ent_replay.proofs.Common.{arith, common_steps}
 use Rattle.ent_replay.proofs.trace.words.front.Goals as goal
 
 pub returns-in-Some-clause-whole : goal.returns-in-Some-clause-whole

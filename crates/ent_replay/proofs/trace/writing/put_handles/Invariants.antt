@@ -1,5 +1,4 @@
-use Rattle.std.proofs.Common.{◌≡◌, ◌++◌, drop, map}
-use Rattle.ent_handle.specs.Text.{handle_text}
+use Rattle.ent_replay.proofs.Common.{◌≡◌, ◌++◌, drop, map, handle_text}
 use Rattle.ent_replay.specs.Text.{spaced}
 use Rattle.ent_replay.proofs.trace.writing.put_handles.Given as goal
 

@@ -1,6 +1,4 @@
-use Rattle.std.proofs.Common.{◌<◌, sym, ◌∙◌, rules}
-use Rattle.ent_runner.specs.Rule.{AreClaimsClosed}
-use Rattle.ent_shared.proofs.HandedIn.{items_all}
+use Rattle.ent_runner.proofs.Common.{◌<◌, sym, ◌∙◌, rules, AreClaimsClosed, items_all}
 use Rattle.ent_runner.proofs.Steps.{goes_by_records}
 use Rattle.ent_runner.proofs.Closing.{records_of, first, apart, claimed, once}
 use Rattle.ent_runner.proofs.claims.Claims.close.Goals as goal

@@ -1,5 +1,4 @@
-use Rattle.std.proofs.Common.{◌≡◌, [], ◌++◌, map}
-use Rattle.ent_runner.specs.Claims.{Claimer}
+use Rattle.ent_runner.proofs.Common.{◌≡◌, [], ◌++◌, map, Claimer}
 use Rattle.ent_runner.proofs.claims.Claims.close.Given as goal
 
 abbrev pub invariant-loop-claimer : goal.invariant-loop-claimer

@@ -1,5 +1,4 @@
-use Rattle.std.proofs.Common.{◌<◌, ap, subst}
-use Rattle.ent_runner.specs.Claims.{Claims}
+use Rattle.ent_runner.proofs.Common.{◌<◌, ap, subst, Claims}
 use Rattle.ent_runner.proofs.Claiming.{claimed_on}
 use Rattle.ent_runner.proofs.claims.Claims.next.Goals as goal
 

@@ -1,4 +1,4 @@
-use Rattle.std.proofs.Common.{arith}
+use Rattle.ent_runner.proofs.Common.{arith}
 use Rattle.ent_runner.proofs.Steps.{goes_by_records}
 use Rattle.ent_runner.proofs.Opening.{next_seated, opened_more}
 use Rattle.ent_runner.proofs.claims.Claims.open.Goals as goal

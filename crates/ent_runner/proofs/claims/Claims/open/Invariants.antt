@@ -1,5 +1,4 @@
-use Rattle.std.proofs.Common.{◌≡◌, ◌≤◌, vec_len}
-use Rattle.std.specs.Vec.{vec_capacity}
+use Rattle.ent_runner.proofs.Common.{◌≡◌, ◌≤◌, vec_len, vec_capacity}
 use Rattle.ent_runner.proofs.Opening.{AreOpened}
 use Rattle.ent_runner.proofs.claims.Claims.open.Given as goal
 

@@ -1,4 +1,4 @@
-use Rattle.std.proofs.Common.{rules}
+use Rattle.ent_runner.proofs.Common.{rules}
 use Rattle.ent_runner.proofs.Conducting.{room_of}
 use Rattle.ent_runner.proofs.crew.Crew.new.Goals as goal
 

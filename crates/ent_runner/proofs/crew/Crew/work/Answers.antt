@@ -1,7 +1,5 @@
-use Rattle.std.proofs.Common.{◌≡◌, ◌∙◌, ap, length, arith, take, drop, ◌++◌, inl, All}
-use Rattle.std.proofs.lemmas.List.{length-replicate}
-use Rattle.ent_runner.specs.Crew.{Crew}
-use Rattle.ent_runner.specs.Worker.{HaveDoneFirst, HasClaimed, all_done}
+use Rattle.ent_runner.proofs.Common.{◌≡◌, ◌∙◌, ap, length, arith, take, drop, ◌++◌, inl, length-replicate, Crew, HaveDoneFirst, HasClaimed, all_done}
+use Rattle.std.proofs.Common.{All}
 use Rattle.ent_runner.proofs.Conducting.{written_back, outputs_back, all_claimed, numbers_below, claimers_own, first_closed, stay, are_broken_off, done_of, lost_of, some_jobs, any_stopped, none_stopped, claimers_are}
 use Rattle.ent_runner.proofs.crew.Crew.work.Given as given
 use Rattle.ent_runner.proofs.crew.Crew.work.Goals.{After-run_all, After-close}

@@ -1,4 +1,4 @@
-use Rattle.std.proofs.Common.{rules}
+use Rattle.ent_runner.proofs.Common.{rules}
 use Rattle.ent_runner.proofs.Issuing.{issued_ok, issued_err}
 use Rattle.ent_runner.proofs.stage.StageJobsCommandQueueReserver.run.Goals as goal
 

@@ -1,4 +1,4 @@
-use Rattle.std.proofs.Common.{◌∙◌, arith, rules}
+use Rattle.ent_runner.proofs.Common.{◌∙◌, arith, rules}
 use Rattle.ent_runner.proofs.Working.{numbers_more, ended_more, stopped_at, of_ok, of_err, on_ok, on_err, claims_more}
 use Rattle.ent_runner.proofs.worker.Worker.work.Goals as goal
 

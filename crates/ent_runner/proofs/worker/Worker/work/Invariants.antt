@@ -1,7 +1,4 @@
-use Rattle.std.proofs.Common.{◌≡◌, ◌-◌, ◌<◌, length}
-use Rattle.std.specs.Prelude.{vec_len, vec_capacity}
-use Rattle.ent_runner.specs.Claims.{IsClaimerOf}
-use Rattle.ent_runner.specs.Worker.{numbers_of, HaveEnded}
+use Rattle.ent_runner.proofs.Common.{◌≡◌, ◌-◌, ◌<◌, length, vec_capacity, IsClaimerOf, numbers_of, HaveEnded, vec_len}
 use Rattle.ent_runner.proofs.worker.Worker.work.Given as goal
 
 -- so far it has done what it claimed

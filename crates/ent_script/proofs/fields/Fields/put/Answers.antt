@@ -1,4 +1,4 @@
-use Rattle.std.proofs.Common.{codes, sym, refl}
+use Rattle.ent_script.proofs.Common.{codes, sym, refl}
 use Rattle.ent_script.proofs.Keyed.{under_here, under_before, apart}
 use Rattle.ent_script.proofs.fields.Fields.put.Goals as goal
 

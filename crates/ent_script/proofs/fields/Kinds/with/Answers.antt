@@ -1,4 +1,4 @@
-use Rattle.std.proofs.Common.{[], ◌∷◌, bytes_eq, codes, rules}
+use Rattle.ent_script.proofs.Common.{[], ◌∷◌, bytes_eq, codes, rules}
 use Rattle.ent_script.proofs.Keyed.{with_key, one_key, two_keys, three_keys}
 use Rattle.ent_script.proofs.fields.Kinds.«with».Goals as goal
 

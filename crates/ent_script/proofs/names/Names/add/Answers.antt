@@ -1,4 +1,4 @@
-use Rattle.std.proofs.Common.{rules}
+use Rattle.ent_script.proofs.Common.{rules}
 use Rattle.ent_script.proofs.NamesLaws.{numbers_added, none_of}
 use Rattle.ent_script.proofs.names.Names.add.Goals as goal
 

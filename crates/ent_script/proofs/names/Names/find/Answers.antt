@@ -1,4 +1,4 @@
-use Rattle.std.proofs.Common.{rules}
+use Rattle.ent_script.proofs.Common.{rules}
 use Rattle.ent_script.proofs.NamesLaws.{number_within}
 use Rattle.ent_script.proofs.names.Names.find.Goals as goal
 

@@ -1,5 +1,4 @@
-use Rattle.std.proofs.Common.{rules, ap, ◌∙◌, pos, to_z, of_z, w64}
-use Rattle.ent_shared.specs.Phase.{Shared, records_of}
+use Rattle.ent_shared.proofs.Common.{rules, ap, ◌∙◌, pos, to_z, of_z, w64, Shared, records_of}
 use Rattle.ent_shared.proofs.Closing.{ended, Ended}
 use Rattle.ent_shared.proofs.Merging.{length-records_of}
 use Rattle.ent_shared.proofs.shared.Shared.close.Goals as goal

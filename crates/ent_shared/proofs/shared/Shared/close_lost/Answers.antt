@@ -1,12 +1,5 @@
-use Rattle.std.proofs.Common.{take, rules, arith, ◌≡◌, ◌≤ℤ◌, ap, ◌∙◌, to_z, of_z, w64, All, Contains, List}
-use Rattle.std.proofs.lemmas.Grind.{common_steps}
-use Rattle.ent_handle.specs.Handle.{Handle}
-use Rattle.ent_alloc.specs.Sequential.{cursor}
-use Rattle.ent_shared.specs.declared.record.Record.{Record}
-use Rattle.ent_shared.specs.Record.{own_reservations}
-use Rattle.ent_shared.specs.Order.{handles_of, handles_given}
-use Rattle.ent_alloc.proofs.Flushes.{live-after_flush, live-stays, taken-lives}
-use Rattle.ent_shared.specs.Phase.{Shared, records_of}
+use Rattle.ent_shared.proofs.Common.{take, rules, arith, ◌≡◌, ◌≤ℤ◌, ap, ◌∙◌, to_z, of_z, w64, List, common_steps, Handle, cursor, Record, own_reservations, handles_of, handles_given, live-after_flush, live-stays, taken-lives, Shared, records_of}
+use Rattle.std.proofs.Common.{All, Contains}
 use Rattle.ent_shared.proofs.Losing.{lost, Lost}
 use Rattle.ent_shared.proofs.Merging.{length-records_of, sum_by-records_of, all_owners}
 use Rattle.ent_shared.proofs.shared.Shared.close_lost.Goals as goal

@@ -1,5 +1,5 @@
 use Rattle.ent_shared.proofs.Records.{own-met, quota-met, below_meeting}
-use Rattle.std.proofs.Common.{rules}
+use Rattle.ent_shared.proofs.Common.{rules}
 use Rattle.ent_shared.proofs.Seating.{of_met}
 use Rattle.ent_shared.proofs.shared.Shared.meet.Goals as goal
 

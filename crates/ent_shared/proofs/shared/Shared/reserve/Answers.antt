@@ -1,9 +1,4 @@
-use Rattle.std.proofs.Common.{rules, ◌≡◌, refl, ◌-ℤ◌, pos, ap, ◌∙◌, arith, to_z, of_z, w64, ◌++◌, append-nil, ℕ}
-use Rattle.std.proofs.lemmas.Int.{ints}
-use Rattle.ent_alloc.specs.History.{handles_in}
-use Rattle.ent_alloc.specs.Sequential.{pool_at, reply_from, listed_alone}
-use Rattle.ent_shared.specs.Phase.{Reserver, own_of}
-use Rattle.ent_shared.specs.Order.{handles_given}
+use Rattle.ent_shared.proofs.Common.{rules, ◌≡◌, refl, ◌-ℤ◌, pos, ap, ◌∙◌, arith, to_z, of_z, w64, ◌++◌, append-nil, ℕ, ints, handles_in, pool_at, reply_from, listed_alone, Reserver, own_of, handles_given}
 use Rattle.ent_shared.proofs.Seating.{seated_reservation, of_stepped, given_now}
 use Rattle.ent_shared.proofs.Returned.{served_floor, refused_floor}
 use Rattle.ent_shared.proofs.shared.Shared.reserve.Goals as goal

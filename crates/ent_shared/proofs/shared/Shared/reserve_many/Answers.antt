@@ -1,11 +1,6 @@
-use Rattle.std.proofs.Common.{rules, ◌-ℤ◌, pos, arith, to_z, of_z, w64, ◌++◌, append-nil, ◌≡◌, ap, ◌∙◌}
-use Rattle.ent_alloc.specs.History.{handles_in}
-use Rattle.ent_shared.specs.Order.{handles_given}
-use Rattle.std.proofs.lemmas.Int.{ints}
-use Rattle.ent_shared.specs.Phase.{Reserver, own_of}
+use Rattle.ent_shared.proofs.Common.{rules, ◌-ℤ◌, pos, arith, to_z, of_z, w64, ◌++◌, append-nil, ◌≡◌, ap, ◌∙◌, handles_in, handles_given, ints, Reserver, own_of, cursor}
 use Rattle.ent_shared.proofs.Seating.{seated_reservation, of_stepped, given_now}
 use Rattle.ent_shared.proofs.Returned.{served_floor, refused_floor, span_at, nothing_at, length-served, enough_at_first}
-use Rattle.ent_alloc.specs.Sequential.{cursor}
 use Rattle.ent_shared.proofs.shared.Shared.reserve_many.Goals as goal
 use Rattle.ent_shared.proofs.shared.Shared.reserve_many.Goals.{After-reply-2}
 

@@ -1,8 +1,5 @@
-use Rattle.std.proofs.Common.{◌≡◌, ◌+◌, ◌∙◌, ap, arith, rules, drop, get_or, pos, w64, FitsSigned}
-use Rattle.std.proofs.lemmas.Int.{to_z-of_z}
-use Rattle.std.proofs.lemmas.List.{drop_all, drop_more}
-use Rattle.std.specs.FinMap.{put}
-use Rattle.ent_handle.specs.Component.{component_cmp}
+use Rattle.ent_storage.proofs.Common.{◌≡◌, ◌+◌, ◌∙◌, ap, arith, rules, drop, get_or, pos, to_z-of_z, drop_all, drop_more, put, component_cmp}
+use Rattle.std.proofs.Common.{w64, FitsSigned}
 use Rattle.ent_storage.proofs.Puts.{last_value, more_than, still_rising}
 use Rattle.ent_storage.proofs.Results.{OnErr-always}
 use Rattle.ent_storage.proofs.bundle.Bundle.of.Goals as goal

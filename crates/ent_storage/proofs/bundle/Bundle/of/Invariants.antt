@@ -1,7 +1,4 @@
-use Rattle.std.proofs.Common.{◌≡◌, T, drop}
-use Rattle.std.specs.FinMap.{is_sorted}
-use Rattle.ent_handle.specs.Component.{component_cmp}
-use Rattle.ent_storage.specs.Bundle.{with_put, bundle_of}
+use Rattle.ent_storage.proofs.Common.{◌≡◌, T, drop, is_sorted, component_cmp, with_put, bundle_of}
 use Rattle.ent_storage.proofs.bundle.Bundle.of.Given as goal
 
 abbrev pub invariant-loop-id : goal.invariant-loop-id

@@ -1,14 +1,6 @@
-use Rattle.std.proofs.Common.{◌≡◌, ◌+◌, ◌≤◌, ap, sym, subst, ◌∙◌, arith, length, get_or, set, pos, inl, inr, refl, rules}
-use Rattle.std.specs.List.{refill}
-use Rattle.std.specs.Int.{w64, cast_signed, cast_unsigned}
-use Rattle.std.proofs.Math.ListN.{length-set}
-use Rattle.std.proofs.lemmas.Int.{to_z-of_z}
-use Rattle.std.specs.FinMap.{put}
-use Rattle.ent_handle.specs.Component.{component_cmp, component_cmp_total as total}
-use Rattle.ent_storage.specs.Bundle.{Bundle, IsBundle}
-use Rattle.ent_storage.specs.Position.{IsAt, IsGapFor}
+use Rattle.ent_storage.proofs.Common.{◌≡◌, ◌+◌, ◌≤◌, ap, sym, subst, ◌∙◌, arith, length, get_or, set, pos, inl, inr, refl, rules, refill, w64, cast_signed, cast_unsigned, to_z-of_z, put, component_cmp, Bundle, IsBundle, IsAt, IsGapFor, cases_lt, false≢true, length-set}
+use Rattle.ent_handle.specs.Component.{component_cmp_total as total}
 use Rattle.ent_storage.proofs.Putting.{find_in_gap, written, inserted}
-use Rattle.std.proofs.lemmas.Bool.{cases_lt, false≢true}
 use Rattle.ent_storage.proofs.Bundles.{bundle_put, refill_whole}
 use Rattle.ent_storage.proofs.bundle.Bundle.put.Goals as goal
 use Rattle.ent_storage.proofs.bundle.Bundle.put.Given.{Over}

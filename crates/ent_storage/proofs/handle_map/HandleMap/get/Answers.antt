@@ -1,4 +1,4 @@
-use Rattle.std.proofs.Common.{rules}
+use Rattle.ent_storage.proofs.Common.{rules}
 use Rattle.ent_storage.proofs.Entries.{get_map}
 use Rattle.ent_storage.proofs.handle_map.HandleMap.get.Goals as goal
 

@@ -1,7 +1,4 @@
-use Rattle.std.proofs.Common.{rules, ◌≡◌, get_or, refl, sym, ap, ◌∙◌, arith}
-use Rattle.std.proofs.lemmas.Grind.{common_steps}
-use Rattle.ent_storage.specs.HandleMap.{HandleMap}
-use Rattle.ent_storage.specs.Slots.{value_under, generation_of, slot_at}
+use Rattle.ent_storage.proofs.Common.{rules, ◌≡◌, get_or, refl, sym, ap, ◌∙◌, arith, common_steps, HandleMap, value_under, generation_of, slot_at}
 use Rattle.ent_storage.proofs.Found.{later, no_later, few_values, put-map, put-before, put-counted}
 use Rattle.ent_storage.proofs.handle_map.HandleMap.insert.Goals as goal
 

@@ -1,4 +1,4 @@
-use Rattle.std.proofs.Common.{rules, ◌≡◌}
+use Rattle.ent_storage.proofs.Common.{rules, ◌≡◌}
 use Rattle.std.specs.FinMap as finite
 use Rattle.ent_storage.proofs.Entries.{entries_map, len_map}
 use Rattle.ent_storage.proofs.handle_map.HandleMap.into_entries.Goals as goal

@@ -1,6 +1,4 @@
-use Rattle.std.proofs.Common.{rules, sym, ap, ◌∙◌, arith}
-use Rattle.std.proofs.lemmas.Grind.{common_steps}
-use Rattle.ent_storage.specs.HandleMap.{HandleMap}
+use Rattle.ent_storage.proofs.Common.{rules, sym, ap, ◌∙◌, arith, common_steps, HandleMap}
 use Rattle.ent_storage.proofs.Entries.{map-take}
 use Rattle.ent_storage.proofs.Found.{remove_absent, found, made, had, counted-take, read_of}
 use Rattle.ent_storage.proofs.handle_map.HandleMap.remove.Goals as goal

@@ -1,4 +1,4 @@
-use Rattle.std.proofs.Common.{rules}
+use Rattle.ent_storage.proofs.Common.{rules}
 use Rattle.ent_storage.proofs.Entries.{entries_map}
 use Rattle.ent_storage.proofs.handle_map.HandleMap.retain.Goals as goal
 

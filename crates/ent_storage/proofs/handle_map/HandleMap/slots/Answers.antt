@@ -1,5 +1,4 @@
-use Rattle.std.proofs.Common.{rules, ap}
-use Rattle.ent_storage.specs.HandleMap.{HandleMap}
+use Rattle.ent_storage.proofs.Common.{rules, ap, HandleMap}
 use Rattle.ent_storage.proofs.Found.{found, made}
 use Rattle.ent_storage.proofs.handle_map.HandleMap.slots.Goals as goal
 

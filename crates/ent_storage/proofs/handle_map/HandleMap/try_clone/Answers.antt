@@ -1,5 +1,4 @@
-use Rattle.std.proofs.Common.{rules}
-use Rattle.ent_storage.specs.Slots.{AreSlotClones}
+use Rattle.ent_storage.proofs.Common.{rules, AreSlotClones}
 use Rattle.ent_storage.proofs.Clones.{cloned_keys, cloned_values, cloned_counted}
 use Rattle.ent_storage.proofs.handle_map.HandleMap.try_clone.Given.{Over}
 use Rattle.ent_storage.proofs.handle_map.HandleMap.try_clone.Goals as goal

@@ -1,4 +1,4 @@
-use Rattle.std.proofs.Common.{rules, ◌≡◌, []}
+use Rattle.ent_storage.proofs.Common.{rules, ◌≡◌, []}
 use Rattle.ent_storage.proofs.Entries.{map_emptied}
 use Rattle.ent_storage.proofs.Clones.{cloned_keys, cloned_values, cloned_counted, length_from}
 use Rattle.ent_storage.proofs.handle_map.HandleMap.try_clone_from.Goals as goal

@@ -1,6 +1,4 @@
-use Rattle.std.proofs.Common.{rules, ap, arith}
-use Rattle.std.proofs.lemmas.Grind.{common_steps}
-use Rattle.ent_storage.specs.HandleMap.{HandleMap}
+use Rattle.ent_storage.proofs.Common.{rules, ap, arith, common_steps, HandleMap}
 use Rattle.ent_storage.proofs.Entries.{map-write}
 use Rattle.ent_storage.proofs.Found.{found, made, got, counted-write, read_of}
 use Rattle.ent_storage.proofs.handle_map.HandleMap.value_mut.Goals as goal

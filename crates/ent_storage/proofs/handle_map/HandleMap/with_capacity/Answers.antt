@@ -1,5 +1,4 @@
-use Rattle.std.proofs.Common.{ap, ◌∙◌}
-use Rattle.ent_storage.specs.Slots.{map_of_slots}
+use Rattle.ent_storage.proofs.Common.{ap, ◌∙◌, map_of_slots}
 use Rattle.ent_storage.proofs.Entries.{map_none}
 use Rattle.ent_storage.proofs.handle_map.HandleMap.with_capacity.Goals as goal
 

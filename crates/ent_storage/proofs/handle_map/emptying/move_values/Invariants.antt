@@ -1,7 +1,4 @@
-use Rattle.std.proofs.Common.{◌≡◌, ◌+◌, ◌<◌, ◌≤◌, ◌^◌, ◌++◌, length, vec_len}
-use Rattle.std.specs.Prelude.{vec_capacity}
-use Rattle.std.specs.Vec.Iter.{into_iter_items, into_iter_len}
-use Rattle.ent_storage.specs.Slots.{entries_from}
+use Rattle.ent_storage.proofs.Common.{◌≡◌, ◌+◌, ◌<◌, ◌≤◌, ◌^◌, ◌++◌, length, vec_len, vec_capacity, into_iter_items, into_iter_len, entries_from}
 use Rattle.ent_storage.proofs.handle_map.emptying.move_values.Given as goal
 
 abbrev pub invariant-loop-slot : goal.invariant-loop-slot

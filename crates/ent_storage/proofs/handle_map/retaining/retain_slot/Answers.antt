@@ -1,4 +1,4 @@
-use Rattle.std.proofs.Common.{sym, ◌∙◌}
+use Rattle.ent_storage.proofs.Common.{sym, ◌∙◌}
 use Rattle.ent_storage.proofs.Kept.{kept_slot, gone_slot}
 use Rattle.ent_storage.proofs.handle_map.retaining.retain_slot.Goals as goal
 

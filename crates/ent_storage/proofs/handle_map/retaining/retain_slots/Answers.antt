@@ -1,4 +1,4 @@
-use Rattle.std.proofs.Common.{rules, arith}
+use Rattle.ent_storage.proofs.Common.{rules, arith}
 use Rattle.ent_storage.proofs.Kept.{counts_one, counted-slot, retained-more, retained-done}
 use Rattle.ent_storage.proofs.handle_map.retaining.retain_slots.Goals as goal
 

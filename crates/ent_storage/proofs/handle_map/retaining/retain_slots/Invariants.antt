@@ -1,6 +1,4 @@
-use Rattle.std.proofs.Common.{◌≡◌}
-use Rattle.std.specs.Prelude.{vec_capacity, vec_len}
-use Rattle.ent_storage.specs.Slots.{AreCounted}
+use Rattle.ent_storage.proofs.Common.{◌≡◌, vec_capacity, AreCounted, vec_len}
 use Rattle.ent_storage.proofs.Kept.{RetainedBelow}
 use Rattle.ent_storage.proofs.handle_map.retaining.retain_slots.Given as goal
 

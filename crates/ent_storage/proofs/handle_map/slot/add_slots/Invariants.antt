@@ -1,6 +1,4 @@
-use Rattle.std.proofs.Common.{◌≡◌, ◌++◌, ◌-◌, ◌+◌, ◌≤◌, replicate, vec_len}
-use Rattle.std.specs.Prelude.{vec_capacity}
-use Rattle.ent_storage.specs.declared.handle_map.slot.Slot.TheVariants.{Vacant}
+use Rattle.ent_storage.proofs.Common.{◌≡◌, ◌++◌, ◌-◌, ◌+◌, ◌≤◌, replicate, vec_len, vec_capacity, Vacant}
 use Rattle.ent_storage.proofs.handle_map.slot.add_slots.Given as goal
 
 abbrev pub invariant-loop : goal.invariant-loop

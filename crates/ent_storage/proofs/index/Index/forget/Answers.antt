@@ -1,8 +1,5 @@
-use Rattle.std.proofs.Common.{ap, sym, ◌∙◌}
+use Rattle.ent_storage.proofs.Common.{ap, sym, ◌∙◌, handle_cmp, total, same, IsAt, Places}
 use Rattle.std.specs.FinMap as map
-use Rattle.ent_handle.specs.Handle.{handle_cmp, handle_cmp_total as total, handle_cmp-IsAntisymmetric as same}
-use Rattle.ent_storage.specs.Position.{IsAt}
-use Rattle.ent_storage.specs.Places.{Places}
 use Rattle.ent_storage.proofs.Keys.{get-insert_other}
 use Rattle.ent_storage.proofs.Rising.{rising_set, map_set}
 use Rattle.ent_storage.proofs.index.Index.forget.Goals as goal

@@ -1,4 +1,4 @@
-use Rattle.std.proofs.Common.{rules}
+use Rattle.ent_storage.proofs.Common.{rules}
 use Rattle.ent_storage.proofs.Rising.{from_sorted-nil}
 use Rattle.ent_storage.proofs.SamePlaces.{same_places}
 use Rattle.ent_storage.proofs.index.Index.new.Goals as goal

@@ -1,7 +1,4 @@
-use Rattle.std.proofs.Common.{sym, rules}
-use Rattle.std.proofs.lemmas.Bool.{false≢true}
-use Rattle.ent_handle.specs.Handle.{handle_cmp, handle_cmp_total as total, handle_cmp-IsAntisymmetric as same}
-use Rattle.ent_storage.specs.Position.{IsAt}
+use Rattle.ent_storage.proofs.Common.{sym, rules, false≢true, handle_cmp, total, same, IsAt}
 use Rattle.ent_storage.proofs.Rising.{get_in_gap, rising_set, map_set}
 use Rattle.ent_storage.proofs.SamePlaces.{same_places}
 use Rattle.ent_storage.proofs.index.Index.set_place.Goals as goal

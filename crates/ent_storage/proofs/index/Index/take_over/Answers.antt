@@ -1,4 +1,4 @@
-use Rattle.std.proofs.Common.{rules}
+use Rattle.ent_storage.proofs.Common.{rules}
 use Rattle.ent_storage.proofs.Counted.{counted_gives}
 use Rattle.ent_storage.proofs.index.Index.take_over.Goals as goal
 

@@ -1,4 +1,4 @@
-use Rattle.std.proofs.Common.{rules, ◌∙◌}
+use Rattle.ent_storage.proofs.Common.{rules, ◌∙◌}
 use Rattle.ent_storage.proofs.ColumnsAtPlaces.{entries_components}
 use Rattle.ent_storage.proofs.ItemsInUse.{count_items, items_in_use}
 use Rattle.ent_storage.proofs.items.Items.new.Goals as goal

@@ -1,7 +1,5 @@
-use Rattle.std.proofs.Common.{sym, ap, ◌∙◌, arith}
+use Rattle.ent_storage.proofs.Common.{sym, ap, ◌∙◌, arith, LivingEntity, Resident}
 use Rattle.std.specs.FinMap as finite
-use Rattle.ent_storage.specs.Living.{LivingEntity}
-use Rattle.ent_storage.specs.declared.living.Resident.{Resident}
 use Rattle.ent_storage.proofs.ColumnsAtPlaces.{get_components, value_inside}
 use Rattle.ent_storage.proofs.EntitiesOfResidents.{read_from}
 use Rattle.ent_storage.proofs.living.Living.beyond.Goals as goal

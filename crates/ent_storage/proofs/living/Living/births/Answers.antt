@@ -1,8 +1,4 @@
-use Rattle.std.proofs.Common.{rules, map, ap, ◌∙◌}
-use Rattle.std.proofs.lemmas.Result.{on_err_weaker}
-use Rattle.ent_handle.specs.declared.birth.Birth.{Birth}
-use Rattle.ent_handle.specs.Handle.{Handle}
-use Rattle.ent_storage.specs.Living.{Living}
+use Rattle.ent_storage.proofs.Common.{rules, map, ap, ◌∙◌, on_err_weaker, Birth, Handle, Living}
 use Rattle.ent_storage.proofs.EntitiesOfResidents.{births_from, length_from}
 use Rattle.ent_storage.proofs.living.Living.births.Goals as goal
 

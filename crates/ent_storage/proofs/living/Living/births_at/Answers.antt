@@ -1,13 +1,5 @@
-use Rattle.std.proofs.lemmas.Grind.{common_steps}
-use Rattle.std.proofs.Common.{ℕ, ℤ, get_or, Some, ap, sym, ◌∙◌, arith, pos, Option}
-use Rattle.ent_handle.specs.declared.birth.Birth.{Birth}
-use Rattle.ent_handle.specs.Handle.{Handle}
-use Rattle.ent_storage.specs.declared.living.Resident.{Resident}
-use Rattle.ent_storage.specs.Living.{Living, born_at}
+use Rattle.ent_storage.proofs.Common.{common_steps, ℕ, ℤ, get_or, Some, ap, sym, ◌∙◌, arith, pos, Option, Birth, Handle, Resident, Living, born_at, option_map, slice_get-get_or, map_more, map_push}
 use Rattle.ent_storage.proofs.EntitiesOfResidents.{inside_from, born_get}
-use Rattle.std.specs.Option.{option_map}
-use Rattle.std.proofs.lemmas.Option.{slice_get-get_or}
-use Rattle.std.proofs.lemmas.List.{map_more, map_push}
 use Rattle.ent_storage.proofs.living.Living.births_at.Goals as goal
 
 pub index-resident-requires : goal.index-resident-requires

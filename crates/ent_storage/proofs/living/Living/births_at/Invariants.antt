@@ -1,7 +1,4 @@
-use Rattle.std.proofs.Common.{◌≡◌, ℕ, ℤ, map, take, Some, Option}
-use Rattle.ent_handle.specs.declared.birth.Birth.{Birth}
-use Rattle.ent_handle.specs.Handle.{Handle}
-use Rattle.ent_storage.specs.Living.{born_at}
+use Rattle.ent_storage.proofs.Common.{◌≡◌, ℕ, ℤ, map, take, Some, Option, Birth, Handle, born_at}
 use Rattle.ent_storage.proofs.living.Living.births_at.Given as goal
 
 -- the births of the pairs that were passed

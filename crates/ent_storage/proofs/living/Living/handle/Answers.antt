@@ -1,6 +1,4 @@
-use Rattle.std.proofs.Common.{ap, sym, ◌∙◌, arith}
-use Rattle.ent_storage.specs.declared.living.Resident.{Resident}
-use Rattle.ent_storage.specs.Living.{LivingEntity}
+use Rattle.ent_storage.proofs.Common.{ap, sym, ◌∙◌, arith, Resident, LivingEntity}
 use Rattle.ent_storage.proofs.EntitiesOfResidents.{read_from, inside_from}
 use Rattle.ent_storage.proofs.living.Living.handle.Goals as goal
 

@@ -1,9 +1,5 @@
-use Rattle.std.proofs.Common.{rules, ◌<◌, length, get_or, ap, ◌∙◌, inr, arith}
+use Rattle.ent_storage.proofs.Common.{rules, ◌<◌, length, get_or, ap, ◌∙◌, inr, arith, Components, with_items, missing, Values, Resident, Living, LivingEntity, change_at}
 use Rattle.std.specs.FinMap as finite
-use Rattle.ent_storage.specs.Components.{Components, with_items, missing}
-use Rattle.ent_storage.specs.SparseSet.{Values}
-use Rattle.ent_storage.specs.declared.living.Resident.{Resident}
-use Rattle.ent_storage.specs.Living.{Living, LivingEntity, change_at}
 use Rattle.ent_storage.proofs.ColumnsAtPlaces.{same_components}
 use Rattle.ent_storage.proofs.EntitiesOfResidents.{read_from, inside_from, same_from, changed_from, changed_within, written_back}
 use Rattle.ent_storage.proofs.InUse.{in_use_changed}

@@ -1,4 +1,4 @@
-use Rattle.std.proofs.Common.{rules}
+use Rattle.ent_storage.proofs.Common.{rules}
 use Rattle.ent_storage.proofs.EntitiesOfResidents.{length_from}
 use Rattle.ent_storage.proofs.living.Living.is_empty.Goals as goal
 

@@ -1,4 +1,4 @@
-use Rattle.std.proofs.Common.{rules}
+use Rattle.ent_storage.proofs.Common.{rules}
 use Rattle.ent_storage.proofs.EntitiesOfResidents.{none_within}
 use Rattle.ent_storage.proofs.InUse.{in_use_none}
 use Rattle.ent_storage.proofs.living.Living.new.Goals as goal

@@ -1,4 +1,4 @@
-use Rattle.std.proofs.Common.{rules}
+use Rattle.ent_storage.proofs.Common.{rules}
 use Rattle.ent_storage.proofs.EntitiesOfResidents.{births_from}
 use Rattle.ent_storage.proofs.living.Living.of_birth.Goals as goal
 

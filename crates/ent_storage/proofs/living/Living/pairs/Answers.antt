@@ -1,11 +1,7 @@
-use Rattle.std.proofs.Common.{rules, ◌≡◌, ℕ, List, length, slice_get, ap, sym, ◌∙◌, option_and_then}
-use Rattle.std.proofs.lemmas.Option.{slice_get-get_or, none-some}
+use Rattle.ent_storage.proofs.Common.{rules, ◌≡◌, ℕ, List, length, slice_get, ap, sym, ◌∙◌, slice_get-get_or, none-some, ComponentId, Column, no_column, Resident, Living, LivingEntity, value_at, entities_from, AreColumnsOf}
+use Rattle.std.proofs.Common.{option_and_then}
 use Rattle.ent_storage.proofs.ColumnsAtPlaces.{taken_none}
 use Rattle.std.specs.FinMap as finite
-use Rattle.ent_handle.specs.declared.component.ComponentId.{ComponentId}
-use Rattle.ent_storage.specs.SparseSet.{Column, no_column}
-use Rattle.ent_storage.specs.declared.living.Resident.{Resident}
-use Rattle.ent_storage.specs.Living.{Living, LivingEntity, value_at, entities_from, AreColumnsOf}
 use Rattle.ent_storage.proofs.EntitiesOfResidents.{value_from}
 use Rattle.ent_storage.proofs.living.Living.pairs.Goals as goal
 

@@ -1,5 +1,4 @@
-use Rattle.std.proofs.Common.{rules, arith}
-use Rattle.std.proofs.lemmas.Grind.{common_steps}
+use Rattle.ent_storage.proofs.Common.{rules, arith, common_steps}
 use Rattle.ent_storage.proofs.EntitiesOfResidents.{length_from, pushed_from}
 use Rattle.ent_storage.proofs.living.Living.push.Goals as goal
 

@@ -1,5 +1,4 @@
-use Rattle.std.proofs.Common.{rules, length, inr, arith}
-use Rattle.ent_storage.specs.declared.living.Resident.{Resident}
+use Rattle.ent_storage.proofs.Common.{rules, length, inr, arith, Resident}
 use Rattle.ent_storage.proofs.ColumnsAtPlaces.{get_components}
 use Rattle.ent_storage.proofs.EntitiesOfResidents.{read_from, inside_from, changed_from, changed_within, written_back}
 use Rattle.ent_storage.proofs.InUse.{in_use_changed}

@@ -1,5 +1,4 @@
-use Rattle.std.proofs.Common.{rules}
-use Rattle.std.proofs.lemmas.Result.{on_ok_weaker, on_err_weaker}
+use Rattle.ent_storage.proofs.Common.{rules, on_ok_weaker, on_err_weaker}
 use Rattle.ent_storage.proofs.EntitiesOfResidents.{length_from}
 use Rattle.ent_storage.proofs.living.Living.reserve.Goals as goal
 

@@ -1,5 +1,4 @@
-use Rattle.std.proofs.Common.{ap, ◌∙◌, arith}
-use Rattle.ent_storage.specs.Living.{Living, with_birth_at}
+use Rattle.ent_storage.proofs.Common.{ap, ◌∙◌, arith, Living, with_birth_at}
 use Rattle.ent_storage.proofs.EntitiesOfResidents.{inside_from}
 use Rattle.ent_storage.proofs.Reborn.{reborn_from}
 use Rattle.ent_storage.proofs.living.Living.set_birth.Goals as goal

@@ -1,5 +1,4 @@
-use Rattle.std.proofs.Common.{◌≡◌, ◌<◌, length, ap, arith, vec_len}
-use Rattle.ent_storage.specs.Living.{Living, IsMovedInto, AreColumnsOf, entities_from}
+use Rattle.ent_storage.proofs.Common.{◌≡◌, ◌<◌, length, ap, arith, vec_len, Living, IsMovedInto, AreColumnsOf, entities_from}
 use Rattle.ent_storage.proofs.EntitiesOfResidents.{inside_from, moved, written_back}
 use Rattle.ent_storage.proofs.living.Living.swap_remove.Goals.{After-self, After-swap_remove-2}
 use Rattle.ent_storage.proofs.living.Living.swap_remove.Goals as goal

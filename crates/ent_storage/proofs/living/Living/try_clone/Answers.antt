@@ -1,6 +1,4 @@
-use Rattle.std.proofs.Common.{rules, ◌≡◌, length}
-use Rattle.std.specs.List.{AllZip}
-use Rattle.ent_storage.specs.Copies.{IsCopy}
+use Rattle.ent_storage.proofs.Common.{rules, ◌≡◌, length, AllZip, IsCopy}
 use Rattle.ent_storage.proofs.Copies.{entities_copied, columns_copied, in_use_copied}
 use Rattle.ent_storage.proofs.living.Living.try_clone.Goals as goal
 

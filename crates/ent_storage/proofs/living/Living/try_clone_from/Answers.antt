@@ -1,8 +1,5 @@
-use Rattle.std.proofs.Common.{◌≡◌, ◌<◌, ◌⊎◌, List, length, ap, sym, subst, ◌∙◌, inr, arith}
-use Rattle.std.specs.List.{All}
+use Rattle.ent_storage.proofs.Common.{◌≡◌, ◌<◌, ◌⊎◌, List, length, ap, sym, subst, ◌∙◌, inr, arith, All, Resident, Living, LivingEntity, entities_from}
 use Rattle.std.specs.FinMap as finite
-use Rattle.ent_storage.specs.declared.living.Resident.{Resident}
-use Rattle.ent_storage.specs.Living.{Living, LivingEntity, entities_from}
 use Rattle.ent_storage.proofs.Copied.{bare_columns, entities_same}
 use Rattle.ent_storage.proofs.EntitiesOfResidents.{length_from, written_back}
 use Rattle.ent_storage.proofs.Missing.{on_err}

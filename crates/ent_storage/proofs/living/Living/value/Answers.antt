@@ -1,5 +1,4 @@
-use Rattle.std.proofs.Common.{rules}
-use Rattle.ent_storage.specs.declared.living.Resident.{Resident}
+use Rattle.ent_storage.proofs.Common.{rules, Resident}
 use Rattle.ent_storage.proofs.ColumnsAtPlaces.{get_components}
 use Rattle.ent_storage.proofs.EntitiesOfResidents.{read_from}
 use Rattle.ent_storage.proofs.living.Living.value.Goals as goal

@@ -1,5 +1,4 @@
-use Rattle.std.proofs.Common.{subst}
-use Rattle.ent_storage.specs.SparseMap.{SparseMap, IsFullFor}
+use Rattle.ent_storage.proofs.Common.{subst, SparseMap, IsFullFor}
 use Rattle.ent_storage.proofs.Sparse.{full_for}
 use Rattle.ent_storage.proofs.sparse_map.SparseMap.insert.Goals as goal
 

@@ -1,5 +1,4 @@
-use Rattle.std.proofs.Common.{rules, ap}
-use Rattle.ent_storage.specs.SparseMap.{SparseMap}
+use Rattle.ent_storage.proofs.Common.{rules, ap, SparseMap}
 use Rattle.ent_storage.proofs.Sparse.{are_entries}
 use Rattle.ent_storage.proofs.sparse_map.SparseMap.into_entries.Goals as goal
 

@@ -1,4 +1,4 @@
-use Rattle.std.proofs.Common.{rules}
+use Rattle.ent_storage.proofs.Common.{rules}
 use Rattle.ent_storage.proofs.Found.{remove_absent}
 use Rattle.ent_storage.proofs.sparse_map.SparseMap.remove.Goals as goal
 

@@ -1,6 +1,4 @@
-use Rattle.std.proofs.Common.{rules, ap}
-use Rattle.std.specs.List.{AllZip}
-use Rattle.ent_storage.specs.SparseMap.{SparseMap, IsEntryClone}
+use Rattle.ent_storage.proofs.Common.{rules, ap, AllZip, SparseMap, IsEntryClone}
 use Rattle.ent_storage.proofs.Sparse.{some_slot, cloned_positioned, cloned}
 use Rattle.ent_storage.proofs.sparse_map.SparseMap.try_clone.Given.{Over}
 use Rattle.ent_storage.proofs.sparse_map.SparseMap.try_clone.Goals as goal

@@ -1,6 +1,5 @@
-use Rattle.std.proofs.Common.{rules, ◌≡◌, ◌<◌, ◌∙◌, sym, ap, length, arith}
+use Rattle.ent_storage.proofs.Common.{rules, ◌≡◌, ◌<◌, ◌∙◌, sym, ap, length, arith, SparseMap}
 use Rattle.std.specs.FinMap as finite
-use Rattle.ent_storage.specs.SparseMap.{SparseMap}
 use Rattle.ent_storage.proofs.Sparse.{some_slot, cloned_positioned, cloned, counted, on_err_never}
 use Rattle.ent_storage.proofs.sparse_map.SparseMap.try_clone_from.Goals as goal
 

@@ -1,7 +1,5 @@
-use Rattle.std.proofs.Common.{rules, ◌≡◌, ap, refl, set}
-use Rattle.std.proofs.lemmas.Option.{slice_get_read, slice_get_within, same_Some}
+use Rattle.ent_storage.proofs.Common.{rules, ◌≡◌, ap, refl, set, slice_get_read, slice_get_within, same_Some, SparseMap, values_of}
 use Rattle.std.specs.FinMap as finite
-use Rattle.ent_storage.specs.SparseMap.{SparseMap, values_of}
 use Rattle.ent_storage.proofs.Sparse.{IsStanding, standing, in_slots, over_positioned, written_values}
 use Rattle.ent_storage.proofs.sparse_map.SparseMap.value_mut.Given.{Over}
 use Rattle.ent_storage.proofs.sparse_map.SparseMap.value_mut.Goals.{After-index-2}

@@ -1,5 +1,4 @@
-use Rattle.std.proofs.Common.{rules}
-use Rattle.std.proofs.lemmas.Int.{to_z-of_z}
+use Rattle.ent_storage.proofs.Common.{rules, to_z-of_z}
 use Rattle.ent_storage.proofs.Dense.{has, pair_here}
 use Rattle.ent_storage.proofs.sparse_set.SparseSet.get.Goals as goal
 

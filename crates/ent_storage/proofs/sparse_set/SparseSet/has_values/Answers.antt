@@ -1,5 +1,4 @@
-use Rattle.std.proofs.Common.{rules, ◌∙◌, ap}
-use Rattle.ent_storage.specs.SparseSet.{Column}
+use Rattle.ent_storage.proofs.Common.{rules, ◌∙◌, ap, Column}
 use Rattle.ent_storage.proofs.Copied.{some_values}
 use Rattle.ent_storage.proofs.sparse_set.SparseSet.has_values.Goals as goal
 

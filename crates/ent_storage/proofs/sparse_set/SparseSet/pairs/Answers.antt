@@ -1,8 +1,6 @@
-use Rattle.std.proofs.Common.{rules, ap, sym, ◌∙◌}
+use Rattle.ent_storage.proofs.Common.{rules, ap, sym, ◌∙◌, Column, slice_get-get_or, get_or_from_slice_get, slice_get_within}
 use Rattle.std.specs.FinMap as map
-use Rattle.ent_storage.specs.SparseSet.{Column}
 use Rattle.ent_storage.proofs.Dense.{has, at, once}
-use Rattle.std.proofs.lemmas.Option.{slice_get-get_or, get_or_from_slice_get, slice_get_within}
 use Rattle.ent_storage.proofs.sparse_set.SparseSet.pairs.Goals as goal
 
 pub returns-clause-has : goal.returns-clause-has

@@ -1,6 +1,5 @@
-use Rattle.std.proofs.Common.{ℕ, ℤ, ap, ◌∙◌, arith}
+use Rattle.ent_storage.proofs.Common.{ℕ, ℤ, ap, ◌∙◌, arith, Column}
 use Rattle.std.specs.FinMap as map
-use Rattle.ent_storage.specs.SparseSet.{Column}
 use Rattle.ent_storage.proofs.Dense.{pair_here, renamed_dense, renamed_values, place_inside}
 use Rattle.ent_storage.proofs.sparse_set.SparseSet.relocate.Goals as goal
 

@@ -1,9 +1,5 @@
-use Rattle.std.proofs.Common.{◌≡◌, ◌≤◌, ◌∙◌, ap, ℕ, List, length, get_or, slice_get, Some, arith, rules}
-use Rattle.std.specs.Ordering.{nat_cmp}
-use Rattle.std.proofs.lemmas.Int.{to_z-of_z}
-use Rattle.std.proofs.lemmas.Option.{slice_get-get_or}
+use Rattle.ent_storage.proofs.Common.{◌≡◌, ◌≤◌, ◌∙◌, ap, ℕ, List, length, get_or, slice_get, Some, arith, rules, nat_cmp, to_z-of_z, slice_get-get_or, Column, IsDense}
 use Rattle.std.specs.FinMap as map
-use Rattle.ent_storage.specs.SparseSet.{Column, IsDense}
 use Rattle.ent_storage.proofs.ElementsAt.{IsFilled, filled}
 use Rattle.ent_storage.proofs.Dense.{has, pair_here, removed_values, popped_dense, refilled_dense, in_sparse, removed_none}
 use Rattle.ent_storage.proofs.sparse_set.SparseSet.remove.Goals.{After-swap_remove-value, After-index, Else-position-len}

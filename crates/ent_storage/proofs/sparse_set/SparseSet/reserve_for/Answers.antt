@@ -1,6 +1,5 @@
-use Rattle.std.proofs.Common.{rules, ◌≢◌, ◌∙◌, ap}
+use Rattle.ent_storage.proofs.Common.{rules, ◌≢◌, ◌∙◌, ap, Column}
 use Rattle.std.specs.FinMap as map
-use Rattle.ent_storage.specs.SparseSet.{Column}
 use Rattle.ent_storage.proofs.Copied.{some_values}
 use Rattle.ent_storage.proofs.Missing.{on_err}
 use Rattle.ent_storage.proofs.sparse_set.SparseSet.reserve_for.Goals.{Else-is_empty}

@@ -1,6 +1,5 @@
-use Rattle.std.proofs.Common.{◌≡◌, ◌<◌, length, None, refl, w64, rules}
-use Rattle.std.proofs.lemmas.Int.{to_z-of_z}
-use Rattle.std.specs.Ordering.{nat_cmp}
+use Rattle.ent_storage.proofs.Common.{◌≡◌, ◌<◌, length, None, refl, rules, to_z-of_z, nat_cmp}
+use Rattle.std.proofs.Common.{w64}
 use Rattle.std.specs.FinMap as map
 use Rattle.ent_storage.proofs.Dense.{pair_here, over_values, pushed_dense, pushed_values}
 use Rattle.ent_storage.proofs.sparse_set.SparseSet.set.Goals as goal

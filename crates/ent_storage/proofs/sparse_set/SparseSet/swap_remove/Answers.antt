@@ -1,4 +1,4 @@
-use Rattle.std.proofs.Common.{rules, arith}
+use Rattle.ent_storage.proofs.Common.{rules, arith}
 use Rattle.ent_storage.proofs.Keys.{get-remove_same}
 use Rattle.ent_storage.proofs.Dense.{moved_down, removed_last}
 use Rattle.ent_storage.proofs.sparse_set.SparseSet.swap_remove.Goals as goal

@@ -1,6 +1,5 @@
-use Rattle.std.proofs.Common.{rules, ◌≢◌, ◌∙◌, ap, length, arith}
+use Rattle.ent_storage.proofs.Common.{rules, ◌≢◌, ◌∙◌, ap, length, arith, Column, Fits}
 use Rattle.std.specs.FinMap as map
-use Rattle.ent_storage.specs.SparseSet.{Column, Fits}
 use Rattle.ent_storage.proofs.Copied.{some_values, fits}
 use Rattle.ent_storage.proofs.sparse_set.SparseSet.take_over.Goals.{Then-not-is_empty}
 use Rattle.ent_storage.proofs.sparse_set.SparseSet.take_over.Goals as goal

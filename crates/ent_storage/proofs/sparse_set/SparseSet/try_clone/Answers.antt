@@ -1,4 +1,4 @@
-use Rattle.std.proofs.Common.{rules, ◌≡◌, length}
+use Rattle.ent_storage.proofs.Common.{rules, ◌≡◌, length}
 use Rattle.ent_storage.proofs.Copies.{no_places}
 use Rattle.ent_storage.proofs.sparse_set.SparseSet.try_clone.Goals as goal
 

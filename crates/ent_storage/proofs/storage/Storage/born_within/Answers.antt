@@ -1,8 +1,5 @@
-use Rattle.std.proofs.Common.{rules, ◌≡◌, ◌<◌, length, min, Some, None, Option, is_none, is_some, true, false, refl, sym, ap, ◌∙◌, arith}
-use Rattle.std.proofs.lemmas.Bool.{false≢true}
+use Rattle.ent_storage.proofs.Common.{rules, ◌≡◌, ◌<◌, length, min, Some, None, Option, is_none, is_some, true, false, refl, sym, ap, ◌∙◌, arith, false≢true, LivingEntity, Store}
 use Rattle.std.specs.FinMap as map
-use Rattle.ent_storage.specs.Living.{LivingEntity}
-use Rattle.ent_storage.specs.EntityMap.{Store}
 use Rattle.ent_storage.proofs.Indexed.{entities_push}
 use Rattle.ent_storage.proofs.Counted.{kept_push}
 use Rattle.ent_storage.proofs.Placed.{placed_known}

@@ -1,13 +1,8 @@
-use Rattle.std.proofs.Common.{rules, ◌≡◌, ◌≢◌, ◌<◌, ℕ, List, length, true, map as mapped, ap, sym, ◌∙◌}
-use Rattle.std.proofs.lemmas.List.{length-map}
+use Rattle.ent_storage.proofs.Common.{rules, ◌≡◌, ◌≢◌, ◌<◌, ℕ, List, length, true, mapped, ap, sym, ◌∙◌, length-map, handle_cmp, LivingEntity, Entity, EntityMap, Store, counted, map_of, IsIndexed}
 use Rattle.std.specs.FinMap as map
-use Rattle.ent_handle.specs.Handle.{handle_cmp}
 use Rattle.ent_storage.proofs.Missing.{on_err}
 use Rattle.ent_storage.proofs.Indexed.{len_living}
-use Rattle.ent_storage.specs.Living.{LivingEntity}
-use Rattle.ent_storage.specs.EntityMap.{Entity, EntityMap, Store}
 use Rattle.ent_storage.proofs.ByBirth.{filter-all, lists}
-use Rattle.ent_storage.specs.Indexed.{counted, map_of, IsIndexed}
 use Rattle.ent_storage.proofs.storage.Storage.by_birth.Goals as goal
 
 -- every entity passes

@@ -1,6 +1,4 @@
-use Rattle.std.proofs.Common.{ap, sym, ◌∙◌}
-use Rattle.ent_storage.specs.EntityMap.{Store, value_at_place}
-use Rattle.ent_storage.specs.Indexed.{counted}
+use Rattle.ent_storage.proofs.Common.{ap, sym, ◌∙◌, Store, value_at_place, counted}
 use Rattle.ent_storage.proofs.WithComponent.{same_value}
 use Rattle.ent_storage.proofs.storage.Storage.dense.Goals as goal
 

@@ -1,8 +1,6 @@
-use Rattle.std.proofs.Common.{refl, ap, ◌∙◌}
+use Rattle.ent_storage.proofs.Common.{refl, ap, ◌∙◌, total, same, slice_get_within}
 use Rattle.std.specs.FinMap as map
-use Rattle.ent_handle.specs.Handle.{handle_cmp_total as total, handle_cmp-IsAntisymmetric as same}
 use Rattle.ent_storage.proofs.Keys.{get-remove_same}
-use Rattle.std.proofs.lemmas.Option.{slice_get_within}
 use Rattle.ent_storage.proofs.storage.Storage.despawn.Goals as goal
 
 -- who was taken out is not there

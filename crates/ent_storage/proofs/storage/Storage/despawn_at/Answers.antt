@@ -1,12 +1,5 @@
-use Rattle.std.proofs.Common.{rules, ◌≡◌, ℕ, ◌<◌, ◌≤◌, List, length, get_or, min, Some, slice_get, ap, ◌∙◌, arith}
-use Rattle.std.proofs.lemmas.Grind.{common_steps}
+use Rattle.ent_storage.proofs.Common.{rules, ◌≡◌, ℕ, ◌<◌, ◌≤◌, List, length, get_or, min, Some, slice_get, ap, ◌∙◌, arith, common_steps, length-map, slice_get_past, Handle, Store, LivingEntity, counted, handles_by_place}
 use Rattle.std.specs.FinMap as map
-use Rattle.std.proofs.lemmas.List.{length-map}
-use Rattle.std.proofs.lemmas.Option.{slice_get_past}
-use Rattle.ent_handle.specs.Handle.{Handle}
-use Rattle.ent_storage.specs.EntityMap.{Store}
-use Rattle.ent_storage.specs.Living.{LivingEntity}
-use Rattle.ent_storage.specs.Indexed.{counted, handles_by_place}
 use Rattle.ent_storage.proofs.Indexed.{some_entity}
 use Rattle.ent_storage.proofs.Counted.{kept_moved, kept_popped, moved_counts}
 use Rattle.ent_storage.proofs.Placed.{placed_from_place, from_place, handles_without, at_place}

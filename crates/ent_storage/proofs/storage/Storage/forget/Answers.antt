@@ -1,6 +1,4 @@
-use Rattle.std.proofs.Common.{rules}
-use Rattle.std.proofs.lemmas.Bool.{false≢true}
-use Rattle.ent_storage.specs.Indexed.{counted}
+use Rattle.ent_storage.proofs.Common.{rules, false≢true, counted}
 use Rattle.ent_storage.proofs.Counted.{counted_gives, indexed_counted}
 use Rattle.ent_storage.proofs.Placed.{placed_known}
 use Rattle.ent_storage.proofs.storage.Storage.forget.Goals as goal

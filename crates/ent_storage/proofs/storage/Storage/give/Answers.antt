@@ -1,9 +1,5 @@
-use Rattle.std.proofs.Common.{rules, ◌≡◌, ap, sym, subst, refl, ℤ, [], ◌∷◌, ◌∙◌, Result, Ok, Err, OnOk, OnErr}
+use Rattle.ent_storage.proofs.Common.{rules, ◌≡◌, ap, sym, subst, refl, ℤ, [], ◌∷◌, ◌∙◌, Result, Ok, Err, OnOk, OnErr, ComponentId, with_items, EntityMap, Store, birth_of, value_of, with_components, to_z-of_z}
 use Rattle.std.specs.FinMap as map
-use Rattle.std.proofs.Math.Facts.{to_z-of_z}
-use Rattle.ent_handle.specs.declared.component.ComponentId.{ComponentId}
-use Rattle.ent_storage.specs.Components.{with_items}
-use Rattle.ent_storage.specs.EntityMap.{EntityMap, Store, birth_of, value_of, with_components}
 use Rattle.ent_storage.proofs.ImageGiven.{given, given_value, given_others, given_birth, given_rest}
 use Rattle.ent_storage.proofs.storage.Storage.give.Goals.{After-give_one}
 use Rattle.ent_storage.proofs.storage.Storage.give.Goals as goal

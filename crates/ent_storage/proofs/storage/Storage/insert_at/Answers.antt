@@ -1,7 +1,4 @@
-use Rattle.std.proofs.Common.{rules, ◌<◌, IfSome, min, ap}
-use Rattle.std.specs.Option.{option_map}
-use Rattle.ent_storage.specs.Components.{with_items, missing}
-use Rattle.ent_storage.specs.EntityMap.{Entity, components_of}
+use Rattle.ent_storage.proofs.Common.{rules, ◌<◌, IfSome, min, ap, option_map, with_items, missing, Entity, components_of}
 use Rattle.ent_storage.proofs.Indexed.{some_entity}
 use Rattle.ent_storage.proofs.Missing.{on_err}
 use Rattle.ent_storage.proofs.Placed.{IsEntityAt, entity_at, placed_at}

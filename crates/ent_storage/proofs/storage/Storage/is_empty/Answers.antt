@@ -1,10 +1,7 @@
-use Rattle.std.proofs.lemmas.Grind.{common_steps}
-use Rattle.std.proofs.Common.{ap, ◌∙◌, eq-eqb, arith}
+use Rattle.ent_storage.proofs.Common.{common_steps, ap, ◌∙◌, arith, handle_cmp, Entity, Store, counted}
+use Rattle.std.proofs.Common.{eq-eqb}
 use Rattle.std.specs.FinMap as map
-use Rattle.ent_handle.specs.Handle.{handle_cmp}
-use Rattle.ent_storage.specs.EntityMap.{Entity, Store}
 use Rattle.ent_storage.proofs.Indexed.{len_living}
-use Rattle.ent_storage.specs.Indexed.{counted}
 use Rattle.ent_storage.proofs.storage.Storage.is_empty.Goals as goal
 
 -- an empty list stands for the empty map, and no other list does

@@ -1,5 +1,4 @@
-use Rattle.std.proofs.Common.{arith}
-use Rattle.std.proofs.lemmas.Grind.{common_steps}
+use Rattle.ent_storage.proofs.Common.{arith, common_steps}
 use Rattle.ent_storage.proofs.ImageHeld.{held}
 use Rattle.ent_storage.proofs.storage.Storage.is_held.Goals as goal
 

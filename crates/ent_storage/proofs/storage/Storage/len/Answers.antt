@@ -1,5 +1,4 @@
-use Rattle.std.proofs.Common.{rules}
-use Rattle.std.proofs.lemmas.List.{length-map}
+use Rattle.ent_storage.proofs.Common.{rules, length-map}
 use Rattle.ent_storage.proofs.Indexed.{len_living}
 use Rattle.ent_storage.proofs.storage.Storage.len.Goals as goal
 

@@ -1,6 +1,4 @@
-use Rattle.std.proofs.Common.{◌≡◌, Some, ap, sym, ◌∙◌}
-use Rattle.std.proofs.lemmas.Option.{IfSome_then}
-use Rattle.ent_storage.specs.EntityMap.{Store, birth_of}
+use Rattle.ent_storage.proofs.Common.{◌≡◌, Some, ap, sym, ◌∙◌, IfSome_then, Store, birth_of}
 use Rattle.ent_storage.proofs.OfBirth.{to_map, from_map, least_if, none_if}
 use Rattle.ent_storage.proofs.storage.Storage.of_birth.Goals as goal
 

@@ -1,4 +1,4 @@
-use Rattle.std.proofs.Common.{rules}
+use Rattle.ent_storage.proofs.Common.{rules}
 use Rattle.ent_storage.proofs.Placed.{placed_from_place, place_from_placed, placed_known}
 use Rattle.ent_storage.proofs.storage.Storage.place.Goals as goal
 

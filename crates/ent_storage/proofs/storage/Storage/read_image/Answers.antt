@@ -1,11 +1,5 @@
-use Rattle.std.proofs.Common.{rules, ◌≡◌, sym, ap, ◌∙◌, arith, length, subst, is_some, false, inl, inr, refl}
+use Rattle.ent_storage.proofs.Common.{rules, ◌≡◌, sym, ap, ◌∙◌, arith, length, subst, is_some, false, inl, inr, refl, false≢true, get_or_default, nil_from_length, length-take-le, common_steps, handle_cmp, EntityMap, IsNoEntity, HasFault}
 use Rattle.std.specs.FinMap as map
-use Rattle.std.proofs.lemmas.Bool.{false≢true}
-use Rattle.std.proofs.lemmas.List.{get_or_default, nil_from_length, length-take-le}
-use Rattle.std.proofs.lemmas.Grind.{common_steps}
-use Rattle.ent_handle.specs.Handle.{handle_cmp}
-use Rattle.ent_storage.specs.EntityMap.{EntityMap}
-use Rattle.ent_storage.specs.FirstFault.{IsNoEntity, HasFault}
 use Rattle.ent_storage.specs.declared.image_fault.StorageImageFault.TheVariants.{Entity}
 use Rattle.ent_storage.proofs.ImageRead.{too_few, too_wide, damaged, read_more, places_more, first_read, all_read, all_first, are_stored, is_read, nothing_left, width_told, width_placed}
 use Rattle.ent_storage.proofs.storage.Storage.read_image.Goals as goal

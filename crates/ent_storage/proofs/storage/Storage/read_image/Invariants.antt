@@ -1,4 +1,4 @@
-use Rattle.std.proofs.Common.{◌≡◌, ◌≤◌, ◌+◌, take}
+use Rattle.ent_storage.proofs.Common.{◌≡◌, ◌≤◌, ◌+◌, take}
 use Rattle.ent_storage.proofs.ImageRead.{AreRead}
 use Rattle.ent_storage.proofs.storage.Storage.read_image.Given as goal
 

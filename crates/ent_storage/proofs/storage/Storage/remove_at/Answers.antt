@@ -1,6 +1,6 @@
-use Rattle.std.proofs.Common.{rules, Option, min, option_and_then, ap, sym, ◌∙◌}
+use Rattle.ent_storage.proofs.Common.{rules, Option, min, ap, sym, ◌∙◌, Entity}
+use Rattle.std.proofs.Common.{option_and_then}
 use Rattle.std.specs.FinMap as map
-use Rattle.ent_storage.specs.EntityMap.{Entity}
 use Rattle.ent_storage.proofs.Indexed.{some_entity}
 use Rattle.ent_storage.proofs.Placed.{IsEntityAt, entity_at, placed_at}
 use Rattle.ent_storage.proofs.Changed.{IsChanged, changed}

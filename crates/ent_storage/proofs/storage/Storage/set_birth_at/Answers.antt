@@ -1,7 +1,5 @@
-use Rattle.std.proofs.Common.{rules, ◌≡◌, min, Some, ap, ◌∙◌}
+use Rattle.ent_storage.proofs.Common.{rules, ◌≡◌, min, Some, ap, ◌∙◌, Store, with_birth, counted}
 use Rattle.std.specs.FinMap as map
-use Rattle.ent_storage.specs.EntityMap.{Store, with_birth}
-use Rattle.ent_storage.specs.Indexed.{counted}
 use Rattle.ent_storage.proofs.Placed.{placed_from_place, at_place}
 use Rattle.ent_storage.proofs.Reborn.{reborn_entities, reborn_handles, reborn_kept, length_reborn}
 use Rattle.ent_storage.proofs.storage.Storage.set_birth_at.Goals.{After-self}

@@ -1,4 +1,4 @@
-use Rattle.std.proofs.Common.{rules}
+use Rattle.ent_storage.proofs.Common.{rules}
 use Rattle.ent_storage.proofs.storage.Storage.spare.Goals as goal
 
 -- there is room for the entities that are there

@@ -1,5 +1,4 @@
-use Rattle.std.proofs.lemmas.Grind.{common_steps}
-use Rattle.std.proofs.Common.{arith}
+use Rattle.ent_storage.proofs.Common.{common_steps, arith}
 use Rattle.ent_storage.proofs.storage.Storage.try_clone.Goals as goal
 
 -- without entities there are no places

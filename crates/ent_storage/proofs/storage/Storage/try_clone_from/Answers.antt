@@ -1,8 +1,4 @@
-use Rattle.std.proofs.Common.{◌≤◌, ◌<◌, ◌+◌, ◌⊎◌, length, min, ap, sym, subst, arith, inl, inr}
-use Rattle.std.proofs.lemmas.List.{length-map}
-use Rattle.ent_storage.specs.EntityMap.{Store, AreBare}
-use Rattle.ent_storage.specs.Indexed.{counted}
-use Rattle.ent_storage.specs.Living.{LivingEntity}
+use Rattle.ent_storage.proofs.Common.{◌≤◌, ◌<◌, ◌+◌, ◌⊎◌, length, min, ap, sym, subst, arith, inl, inr, length-map, Store, AreBare, counted, LivingEntity}
 use Rattle.ent_storage.proofs.Copied.{bare_list}
 use Rattle.ent_storage.proofs.Counted.{kept_copied}
 use Rattle.ent_storage.proofs.Missing.{on_err}

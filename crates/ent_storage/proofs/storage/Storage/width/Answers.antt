@@ -1,6 +1,4 @@
-use Rattle.std.proofs.Common.{◌≡◌, ap, ◌∙◌, arith}
-use Rattle.ent_storage.specs.Image.{width, width_below}
-use Rattle.ent_storage.specs.Indexed.{counted}
+use Rattle.ent_storage.proofs.Common.{◌≡◌, ap, ◌∙◌, arith, width, width_below, counted}
 use Rattle.ent_storage.proofs.ImageWidth.{within}
 use Rattle.ent_storage.proofs.storage.Storage.width.Goals as goal
 

@@ -1,5 +1,4 @@
-use Rattle.std.proofs.Common.{◌≡◌, ◌≤◌}
-use Rattle.ent_storage.specs.Image.{width_below}
+use Rattle.ent_storage.proofs.Common.{◌≡◌, ◌≤◌, width_below}
 use Rattle.ent_storage.proofs.storage.Storage.width.Given as goal
 
 -- the numbers so far were looked at

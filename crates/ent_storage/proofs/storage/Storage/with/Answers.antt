@@ -1,8 +1,5 @@
-use Rattle.std.proofs.Common.{IsSome, ap}
-use Rattle.ent_handle.specs.Handle.{Handle}
+use Rattle.ent_storage.proofs.Common.{IsSome, ap, Handle, Store, value_of, counted}
 use Rattle.ent_storage.proofs.Missing.{on_err}
-use Rattle.ent_storage.specs.EntityMap.{Store, value_of}
-use Rattle.ent_storage.specs.Indexed.{counted}
 use Rattle.ent_storage.proofs.WithComponent.{pair_inside, lists_with, as_many, some_with}
 use Rattle.ent_storage.proofs.storage.Storage.with.Goals as goal
 

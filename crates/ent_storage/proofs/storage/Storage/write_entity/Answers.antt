@@ -1,7 +1,4 @@
-use Rattle.std.proofs.Common.{◌++◌, ap, sym, ◌∙◌}
-use Rattle.std.proofs.lemmas.List.{append_assoc}
-use Rattle.ent_storage.specs.EntityMap.{value_of}
-use Rattle.ent_storage.specs.Image.{birth_bytes, values_bytes}
+use Rattle.ent_storage.proofs.Common.{◌++◌, ap, sym, ◌∙◌, append_assoc, value_of, birth_bytes, values_bytes}
 use Rattle.ent_storage.proofs.ImageEntities.{entity_alone}
 use Rattle.ent_storage.proofs.storage.Storage.write_entity.Goals as goal
 

@@ -1,9 +1,4 @@
-use Rattle.std.proofs.Common.{◌++◌, ap, sym, ◌∙◌, subst, arith, Option, IfSome, ℤ}
-use Rattle.std.specs.Int.{w64}
-use Rattle.std.specs.Int.RustNames.{FitsSigned}
-use Rattle.std.proofs.lemmas.List.{append_assoc}
-use Rattle.ent_storage.specs.EntityMap.{value_of}
-use Rattle.ent_storage.specs.Image.{value_bytes, values_bytes, component}
+use Rattle.ent_storage.proofs.Common.{◌++◌, ap, sym, ◌∙◌, subst, arith, Option, IfSome, ℤ, w64, FitsSigned, append_assoc, value_of, value_bytes, values_bytes, component}
 use Rattle.ent_storage.proofs.ImageValues.{values_more, below_more}
 use Rattle.ent_storage.proofs.storage.Storage.write_values.Goals as goal
 

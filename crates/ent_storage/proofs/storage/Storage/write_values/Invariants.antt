@@ -1,9 +1,5 @@
-use Rattle.std.proofs.Common.{◌≡◌, ◌≤◌, ◌<◌, ◌+◌, ◌-◌, ◌*◌, ◌++◌, IfSome, vec_len, vec_capacity}
-use Rattle.std.specs.Int.{w64}
-use Rattle.std.specs.Int.RustNames.{FitsSigned}
-use Rattle.ent_handle.specs.declared.component.ComponentId.{ComponentId}
-use Rattle.ent_storage.specs.EntityMap.{value_of}
-use Rattle.ent_storage.specs.Image.{values_bytes}
+use Rattle.ent_storage.proofs.Common.{◌≡◌, ◌≤◌, ◌<◌, ◌+◌, ◌-◌, ◌*◌, ◌++◌, IfSome, vec_len, w64, FitsSigned, ComponentId, value_of, values_bytes}
+use Rattle.std.proofs.Common.{vec_capacity}
 use Rattle.ent_storage.proofs.storage.Storage.write_values.Given as goal
 
 abbrev pub invariant-loop-number : goal.invariant-loop-number

@@ -1,4 +1,4 @@
-use Rattle.std.proofs.Common.{rules}
+use Rattle.ent_total.proofs.Common.{rules}
 use Rattle.ent_total.proofs.Recorded.{recorded_one, unrecorded_one}
 use Rattle.ent_total.proofs.Replied.{given_one, refused_one}
 use Rattle.ent_total.proofs.commands.Commands.spawn.Goals as goal

@@ -1,4 +1,4 @@
-use Rattle.std.proofs.Common.{rules}
+use Rattle.ent_total.proofs.Common.{rules}
 use Rattle.ent_total.proofs.Recorded.{recorded_many, unrecorded_many}
 use Rattle.ent_total.proofs.commands.Commands.spawn_many.Goals as goal
 

@@ -1,6 +1,4 @@
-use Rattle.std.proofs.Common.{◌≡◌, ◌≤◌, ◌+◌, ◌++◌, [], length, reverse, vec_len}
-use Rattle.std.specs.Prelude.{vec_capacity}
-use Rattle.ent_total.specs.Issuing.{AreNew, issuing}
+use Rattle.ent_total.proofs.Common.{◌≡◌, ◌≤◌, ◌+◌, ◌++◌, [], length, reverse, vec_len, vec_capacity, AreNew, issuing}
 use Rattle.ent_total.proofs.open_world.OpenWorld.give_out.Given as goal
 
 -- each time one less is returned

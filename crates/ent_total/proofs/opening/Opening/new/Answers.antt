@@ -1,4 +1,4 @@
-use Rattle.std.proofs.Common.{rules}
+use Rattle.ent_total.proofs.Common.{rules}
 use Rattle.ent_total.proofs.Unused.{nothing-reserved}
 use Rattle.ent_total.proofs.opening.Opening.new.Goals as goal
 

@@ -1,7 +1,4 @@
-use Rattle.std.proofs.Common.{rules, ◌≡◌, All, List, Contains, subst}
-use Rattle.ent_shared.specs.Phase.{Reserver}
-use Rattle.ent_shared.specs.Order.{handles_given}
-use Rattle.ent_total.specs.Sharing.{all_returned}
+use Rattle.ent_total.proofs.Common.{rules, ◌≡◌, All, List, Contains, subst, Reserver, handles_given, all_returned}
 use Rattle.ent_total.proofs.shared.Shared.close_lost.Goals as goal
 
 pub returns-in-Ok-clause-given : goal.returns-in-Ok-clause-given

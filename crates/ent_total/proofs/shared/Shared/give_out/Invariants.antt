@@ -1,6 +1,5 @@
-use Rattle.std.proofs.Common.{◌≡◌, ◌≤◌, ◌+◌, ◌++◌, length, reverse, vec_len}
-use Rattle.std.specs.Prelude.{All, vec_capacity}
-use Rattle.ent_total.specs.Sharing.{Reserver, AreOf, reservers_of}
+use Rattle.ent_total.proofs.Common.{◌≡◌, ◌≤◌, ◌+◌, ◌++◌, length, reverse, vec_len, vec_capacity, AreOf, reservers_of, All}
+use Rattle.ent_total.specs.Sharing.{Reserver}
 use Rattle.ent_total.proofs.shared.Shared.give_out.Given as goal
 
 -- each time one less is returned

@@ -1,4 +1,4 @@
-use Rattle.std.proofs.Common.{◌≡◌, ◌+◌, ◌≤◌, ◌++◌, length, vec_len, vec_capacity}
+use Rattle.ent_world.proofs.Common.{◌≡◌, ◌+◌, ◌≤◌, ◌++◌, length, vec_len, vec_capacity}
 use Rattle.ent_world.proofs.applying.Applying.read_list.Given as goal
 
 -- what is read and what is left are the bundle, there is room for the rest, and no fault was listed

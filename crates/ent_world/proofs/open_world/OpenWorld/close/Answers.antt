@@ -1,6 +1,4 @@
-use Rattle.ent_shared.specs.Phase.{records_of}
-use Rattle.ent_shared.specs.Order.{history_of}
-use Rattle.ent_world.specs.World.{World, IsWorld}
+use Rattle.ent_world.proofs.Common.{records_of, history_of, World, IsWorld}
 use Rattle.ent_world.proofs.SpareRoom.{top-after_history}
 use Rattle.ent_world.proofs.Worlds.{after_history-world}
 use Rattle.ent_world.proofs.open_world.OpenWorld.close.Goals.{After-close}

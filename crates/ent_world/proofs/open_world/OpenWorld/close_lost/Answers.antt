@@ -1,5 +1,4 @@
-use Rattle.std.proofs.Common.{arith}
-use Rattle.std.proofs.lemmas.Grind.{common_steps}
+use Rattle.ent_world.proofs.Common.{arith, common_steps}
 use Rattle.ent_world.proofs.open_world.OpenWorld.close_lost.Goals as goal
 
 pub invariant_of-result : goal.invariant_of-result

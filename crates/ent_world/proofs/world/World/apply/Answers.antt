@@ -1,7 +1,4 @@
-use Rattle.std.proofs.Common.{ap}
-use Rattle.ent_world.specs.World.{World}
-use Rattle.ent_world.specs.Effects.{applied}
-use Rattle.ent_world.specs.Sync.{cut}
+use Rattle.ent_world.proofs.Common.{ap, World, applied, cut}
 use Rattle.ent_world.proofs.Worlds.{commands-world}
 use Rattle.ent_world.proofs.world.World.apply.Goals as goal
 

@@ -1,5 +1,4 @@
-use Rattle.std.proofs.Common.{arith}
-use Rattle.std.proofs.lemmas.Grind.{common_steps}
+use Rattle.ent_world.proofs.Common.{arith, common_steps}
 use Rattle.ent_world.proofs.world.World.apply_all.Goals as goal
 
 pub returns-clause-err : goal.returns-clause-err

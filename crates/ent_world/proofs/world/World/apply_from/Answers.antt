@@ -1,10 +1,4 @@
-use Rattle.std.proofs.Common.{rules, ◌≡◌, ap, ℕ, List, []}
-use Rattle.ent_world.specs.declared.fault.Fault.{Fault}
-use Rattle.ent_world.specs.Effects.{Applied, applied}
-use Rattle.ent_world.specs.Sync.{after_births, sync}
-use Rattle.ent_world.specs.Rest.{after_left, HasStoppedSo}
-use Rattle.ent_queue.specs.Command.{Command}
-use Rattle.ent_world.specs.World.{World}
+use Rattle.ent_world.proofs.Common.{rules, ◌≡◌, ap, ℕ, List, [], Fault, Applied, applied, after_births, sync, after_left, HasStoppedSo, Command, World}
 use Rattle.ent_world.proofs.Rest.{with_faults_before, gone_on, gone_on_until}
 use Rattle.ent_world.proofs.world.World.apply_from.Goals as goal
 

@@ -1,5 +1,4 @@
-use Rattle.std.proofs.Common.{rules, sym, ◌∙◌}
-use Rattle.std.proofs.lemmas.Result.{err_from_is_err_and}
+use Rattle.ent_world.proofs.Common.{rules, sym, ◌∙◌, err_from_is_err_and}
 use Rattle.ent_world.proofs.Folds.{next_left, some_left}
 use Rattle.ent_world.proofs.Left.{commands_left-skip, commands_left-step, commands_cut-step}
 use Rattle.ent_world.proofs.TakesMemory.{takes_memory_in}

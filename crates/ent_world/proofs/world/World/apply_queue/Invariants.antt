@@ -1,6 +1,4 @@
-use Rattle.std.proofs.Common.{◌≡◌, take, drop}
-use Rattle.ent_world.specs.Effects.{applied, after_commands}
-use Rattle.ent_world.specs.Rest.{left_commands}
+use Rattle.ent_world.proofs.Common.{◌≡◌, take, drop, applied, after_commands, left_commands}
 use Rattle.ent_world.proofs.world.World.apply_queue.Given as goal
 
 -- the first ones are applied

@@ -1,11 +1,4 @@
-use Rattle.std.proofs.lemmas.Option.{slice_get-get_or}
-use Rattle.std.proofs.Common.{rules, ◌≡◌, sym, ap, ◌+◌, ◌∙◌, List, ◌∷◌, drop, arith}
-use Rattle.std.proofs.lemmas.Result.{err_from_is_err_and}
-use Rattle.std.proofs.lemmas.List.{drop_more}
-use Rattle.ent_queue.specs.Command.{Command}
-use Rattle.ent_world.specs.declared.stop.Stop.{Stop}
-use Rattle.ent_world.specs.Effects.{applied, after_commands}
-use Rattle.ent_world.specs.Rest.{left_commands}
+use Rattle.ent_world.proofs.Common.{slice_get-get_or, rules, ◌≡◌, sym, ap, ◌+◌, ◌∙◌, List, ◌∷◌, drop, arith, err_from_is_err_and, drop_more, Command, Stop, applied, after_commands, left_commands}
 use Rattle.ent_world.proofs.Left.{queues_left-step, queues_cut-step}
 use Rattle.ent_world.proofs.world.World.apply_queues.Goals as goal
 

@@ -1,6 +1,4 @@
-use Rattle.std.proofs.Common.{◌≡◌, take}
-use Rattle.ent_world.specs.Effects.{applied}
-use Rattle.ent_world.specs.Rest.{after_left}
+use Rattle.ent_world.proofs.Common.{◌≡◌, take, applied, after_left}
 use Rattle.ent_world.proofs.world.World.apply_queues.Given as goal
 
 -- the first ones are applied

@@ -1,12 +1,4 @@
-use Rattle.std.proofs.lemmas.Grind.{common_steps}
-use Rattle.std.proofs.Common.{rules, ◌≡◌, sym, ap, ◌∙◌, ℕ, ◌≤◌, ◌++◌, length, drop, arith}
-use Rattle.std.proofs.lemmas.List.Sorted.{length_permutation}
-use Rattle.ent_alloc.specs.Sequential.{born, top, after_flush}
-use Rattle.ent_alloc.proofs.Flushes.{born-IsPermutation, born-lives}
-use Rattle.ent_world.specs.World.{IsWorld}
-use Rattle.ent_world.specs.Sync.{birth_in, with_born, after_births, next_phase}
-use Rattle.ent_world.specs.Entering.{first_birth}
-use Rattle.ent_world.specs.Rows.{with_rows}
+use Rattle.ent_world.proofs.Common.{common_steps, rules, ◌≡◌, sym, ap, ◌∙◌, ℕ, ◌≤◌, ◌++◌, length, drop, arith, length_permutation, born, top, after_flush, born-IsPermutation, born-lives, IsWorld, birth_in, with_born, after_births, next_phase, first_birth, with_rows}
 use Rattle.ent_world.proofs.Born.{born-new, stand_after, all_given}
 use Rattle.ent_world.proofs.PlacedRows.{rows-born, rows-count, born-fit}
 use Rattle.ent_world.proofs.SpareRoom.{room-after_flush}

@@ -1,11 +1,5 @@
-use Rattle.std.proofs.lemmas.Grind.{common_steps}
-use Rattle.std.proofs.Common.{rules, ◌≡◌, ◌<◌, ◌≤◌, refl, sym, subst, ◌∙◌, arith, Option, Some}
+use Rattle.ent_world.proofs.Common.{common_steps, rules, ◌≡◌, ◌<◌, ◌≤◌, refl, sym, subst, ◌∙◌, arith, Option, Some, Handle, handle_cmp_total, handle_cmp-IsAntisymmetric, top, get-insert_same, World, IsWorld, AreRows, with_moved}
 use Rattle.std.specs.FinMap as map
-use Rattle.ent_handle.specs.Handle.{Handle, handle_cmp_total, handle_cmp-IsAntisymmetric}
-use Rattle.ent_alloc.specs.Sequential.{top}
-use Rattle.ent_storage.proofs.Keys.{get-insert_same}
-use Rattle.ent_world.specs.World.{World, IsWorld}
-use Rattle.ent_world.specs.Rows.{AreRows, with_moved}
 use Rattle.ent_world.proofs.PlacedRows.{rows-remove, has_row-lives}
 use Rattle.ent_world.proofs.SpareRoom.{room-after_free}
 use Rattle.ent_world.proofs.Worlds.{after_despawn-world}

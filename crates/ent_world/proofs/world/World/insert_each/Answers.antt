@@ -1,5 +1,4 @@
-use Rattle.std.proofs.lemmas.Grind.{common_steps}
-use Rattle.std.proofs.Common.{arith, rules}
+use Rattle.ent_world.proofs.Common.{common_steps, arith, rules}
 use Rattle.ent_world.proofs.Making.{on_ok, on_err}
 use Rattle.ent_world.proofs.Folds.{next_left, some_left}
 use Rattle.ent_world.proofs.Left.{each_left-next}

@@ -1,6 +1,4 @@
-use Rattle.std.proofs.Common.{◌≡◌, take, drop}
-use Rattle.ent_world.specs.Effects.{applied, on_each, after_insert}
-use Rattle.ent_world.specs.Read.{IsRead}
+use Rattle.ent_world.proofs.Common.{◌≡◌, take, drop, applied, on_each, after_insert, IsRead}
 use Rattle.ent_world.proofs.world.World.insert_each.Given as goal
 
 -- the first ones have their components, which are still read

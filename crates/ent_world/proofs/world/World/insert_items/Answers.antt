@@ -1,5 +1,4 @@
-use Rattle.std.proofs.Common.{inl, inr}
-use Rattle.ent_storage.specs.Components.{with_items}
+use Rattle.ent_world.proofs.Common.{inl, inr, with_items}
 use Rattle.ent_world.proofs.Making.{on_either}
 use Rattle.ent_world.proofs.PlacedRows.{rows-components}
 use Rattle.ent_world.proofs.Worlds.{components-world}

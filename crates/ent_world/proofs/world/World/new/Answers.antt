@@ -1,5 +1,4 @@
-use Rattle.std.proofs.Common.{rules}
-use Rattle.ent_world.specs.World.{IsWorld}
+use Rattle.ent_world.proofs.Common.{rules, IsWorld}
 use Rattle.ent_world.proofs.Living.{keys-empty}
 use Rattle.ent_world.proofs.PlacedRows.{rows-empty}
 use Rattle.ent_world.proofs.SpareRoom.{none_made}

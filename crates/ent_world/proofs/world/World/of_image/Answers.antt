@@ -1,14 +1,6 @@
-use Rattle.std.proofs.Common.{rules, ◌≡◌, ◌+◌, ◌<◌, ◌∙◌, ap, sym, subst, arith, inl, Ok, List, AllPairs, ℕ, length}
+use Rattle.ent_world.proofs.Common.{rules, ◌≡◌, ◌+◌, ◌<◌, ◌∙◌, ap, sym, subst, arith, inl, Ok, List, AllPairs, ℕ, length, Handle, top, Entities, allocator_image, entities_bytes, AreStored, World, allocator_of, framed, image, HasImage, AreFramed, HaveAllocator, MayTakeMemory}
 use Rattle.std.specs.FinMap as map
 use Rattle.std.specs.FinSet as set
-use Rattle.ent_handle.specs.Handle.{Handle}
-use Rattle.ent_alloc.specs.Sequential.{top}
-use Rattle.ent_alloc.specs.Entities.{Entities}
-use Rattle.ent_alloc.specs.Image.{image as allocator_image}
-use Rattle.ent_storage.specs.Image.{entities_bytes, AreStored}
-use Rattle.ent_world.specs.World.{World}
-use Rattle.ent_world.specs.Image.{allocator_of, framed, image, HasImage}
-use Rattle.ent_world.specs.FirstFault.{AreFramed, HaveAllocator, MayTakeMemory}
 use Rattle.ent_world.proofs.ImageRead.{allocator_has, AreParts, told, memory_from_not, read_is, refused_is, handed, listed, no_rows, stored_living, rows_read, all_live, living_is, handed_on, slots_made, framed_by}
 use Rattle.ent_world.proofs.world.World.of_image.Goals.{In_ok-phase, In_ok-entities, In_ok-handles, In_ok-storage}
 use Rattle.ent_world.proofs.ImageKeys.{rising_apart}

@@ -1,4 +1,4 @@
-use Rattle.std.proofs.Common.{rules}
+use Rattle.ent_world.proofs.Common.{rules}
 use Rattle.ent_world.proofs.ImageRead.{refused_from_exact, kept_by_image, bounded}
 use Rattle.ent_world.proofs.world.World.read_image.Goals as goal
 

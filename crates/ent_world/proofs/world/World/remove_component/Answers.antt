@@ -1,4 +1,4 @@
-use Rattle.std.proofs.Common.{rules}
+use Rattle.ent_world.proofs.Common.{rules}
 use Rattle.ent_world.proofs.PlacedRows.{rows-components}
 use Rattle.ent_world.proofs.Worlds.{components-world}
 use Rattle.ent_world.proofs.world.World.remove_component.Goals as goal

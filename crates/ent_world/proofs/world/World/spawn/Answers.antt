@@ -1,13 +1,5 @@
-use Rattle.std.proofs.Common.{arith, rules, ◌≡◌, ◌≤◌, sym, ap, subst, ◌∙◌, ℕ, List, is_some, Some, length}
-use Rattle.std.proofs.lemmas.Grind.{common_steps}
+use Rattle.ent_world.proofs.Common.{arith, rules, ◌≡◌, ◌≤◌, sym, ap, subst, ◌∙◌, ℕ, List, is_some, Some, length, common_steps, Handle, top, AreWithout, at_pushed, World, IsWorld, spawned, AreRows}
 use Rattle.std.specs.FinMap as map
-use Rattle.ent_handle.specs.Handle.{Handle}
-use Rattle.ent_alloc.specs.Sequential.{top}
-use Rattle.ent_storage.specs.Places.{AreWithout}
-use Rattle.ent_storage.proofs.ElementsAt.{at_pushed}
-use Rattle.ent_world.specs.World.{World, IsWorld}
-use Rattle.ent_world.specs.Effects.{spawned}
-use Rattle.ent_world.specs.Rows.{AreRows}
 use Rattle.ent_world.proofs.Born.{no_entity}
 use Rattle.ent_world.proofs.Making.{get_inserted, taken_back, end_taken_back}
 use Rattle.ent_world.proofs.PlacedRows.{rows-count, rows-insert}

@@ -1,4 +1,4 @@
-use Rattle.std.proofs.Common.{rules}
+use Rattle.ent_world.proofs.Common.{rules}
 use Rattle.ent_world.proofs.SpareRoom.{room_copied}
 use Rattle.ent_world.proofs.world.World.try_clone.Goals as goal
 

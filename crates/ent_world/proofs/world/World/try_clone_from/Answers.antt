@@ -1,7 +1,5 @@
-use Rattle.std.proofs.Common.{rules, ◌≢◌, refl, ◌<◌, ◌⊎◌, inl, inr, arith}
+use Rattle.ent_world.proofs.Common.{rules, ◌≢◌, refl, ◌<◌, ◌⊎◌, inl, inr, arith, Allocator, top, IsSound}
 use Rattle.std.specs.FinMap as map
-use Rattle.ent_alloc.specs.Sequential.{Allocator, top}
-use Rattle.ent_alloc.specs.Sound.{IsSound}
 use Rattle.ent_world.proofs.SpareRoom.{room_copied, some_made}
 use Rattle.ent_world.proofs.world.World.try_clone_from.Goals as goal
 

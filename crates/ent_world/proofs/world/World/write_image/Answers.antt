@@ -1,9 +1,4 @@
-use Rattle.std.proofs.Common.{rules, ◌≡◌, ◌+◌, ◌*◌, ◌≤◌, ◌++◌, ◌∙◌, ap, sym, subst, arith, length, ℕ, zero, suc}
-use Rattle.std.specs.List.{flat_map}
-use Rattle.ent_alloc.specs.Entities.{without_rows}
-use Rattle.ent_alloc.specs.Image.{image as allocator_image}
-use Rattle.ent_storage.specs.Image.{word, width, entity_bytes}
-use Rattle.ent_world.specs.Image.{header_bytes, image, HasImage}
+use Rattle.ent_world.proofs.Common.{rules, ◌≡◌, ◌+◌, ◌*◌, ◌≤◌, ◌++◌, ◌∙◌, ap, sym, subst, arith, length, ℕ, zero, suc, flat_map, without_rows, allocator_image, word, width, entity_bytes, header_bytes, image, HasImage}
 use Rattle.ent_world.proofs.ImageHeader.{appended_4}
 use Rattle.ent_world.proofs.ImageRead.{allocator_len}
 use Rattle.ent_world.proofs.ImageWrite.{width_listed, have_rows, keys_listed, are_stored}

@@ -1,5 +1,4 @@
-use Rattle.std.proofs.Common.{rules, ◌≡◌, ◌<◌, ◌≤◌, length, arith, ◌^◌, min}
-use Rattle.std.proofs.lemmas.Grind.{common_steps}
+use Rattle.ent_world.proofs.Common.{rules, ◌≡◌, ◌<◌, ◌≤◌, length, arith, ◌^◌, min, common_steps}
 use Rattle.ent_world.proofs.InBlocks.{kept, some_wanted}
 use Rattle.ent_world.proofs.world_in_blocks.PlacedWorld.open_in_blocks.Goals.{else-not-needs_flush-via-then-not-needs_flush+else-is_err, else-not-needs_flush-via-else-not-needs_flush}
 use Rattle.ent_world.proofs.world_in_blocks.PlacedWorld.open_in_blocks.Goals as goal

@@ -1,4 +1,4 @@
-use Rattle.std.proofs.Common.{sym}
+use Rattle.ent_world.proofs.Common.{sym}
 use Rattle.ent_world.proofs.world_in_blocks.WorldInBlocks.close_lost.Goals as goal
 
 pub returns-in-Err-clause-other_phase : goal.returns-in-Err-clause-other_phase

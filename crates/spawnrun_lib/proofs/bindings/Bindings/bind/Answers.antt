@@ -1,5 +1,4 @@
-use Rattle.std.proofs.Common.{rules}
-use Rattle.std.proofs.lemmas.List.{map-set}
+use Rattle.spawnrun_lib.proofs.Common.{rules, map-set}
 use Rattle.spawnrun_lib.proofs.Binding.{names_set}
 use Rattle.spawnrun_lib.proofs.bindings.Bindings.bind.Goals as goal
 

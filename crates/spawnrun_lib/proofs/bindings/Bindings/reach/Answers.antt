@@ -1,4 +1,4 @@
-use Rattle.std.proofs.lemmas.List.{map-append}
+use Rattle.spawnrun_lib.proofs.Common.{map-append}
 use Rattle.spawnrun_lib.proofs.Binding.{names_added}
 use Rattle.spawnrun_lib.proofs.bindings.Bindings.reach.Goals as goal
 

@@ -1,5 +1,4 @@
-use Rattle.std.proofs.Common.{◌≡◌, ◌+◌, ◌-◌, map, length}
-use Rattle.spawnrun_lib.specs.Parts.{names_of}
+use Rattle.spawnrun_lib.proofs.Common.{◌≡◌, ◌+◌, ◌-◌, map, length, names_of}
 use Rattle.spawnrun_lib.proofs.bindings.Bindings.reach.Given as goal
 
 abbrev pub invariant-loop-self : goal.invariant-loop-self

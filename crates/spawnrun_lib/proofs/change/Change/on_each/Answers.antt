@@ -1,6 +1,4 @@
-use Rattle.std.proofs.Common.{rules, arith, ◌≡◌, ◌∙◌, ◌∷◌, ◌+◌, take, append_assoc, drop}
-use Rattle.std.proofs.lemmas.Grind.{common_steps}
-use Rattle.std.proofs.lemmas.List.{map-append, take_more, drop_more, take-append-drop}
+use Rattle.spawnrun_lib.proofs.Common.{rules, arith, ◌≡◌, ◌∙◌, ◌∷◌, ◌+◌, take, append_assoc, drop, common_steps, map-append, take_more, drop_more, take-append-drop}
 use Rattle.spawnrun_lib.proofs.Targeted.{on_error}
 use Rattle.spawnrun_lib.proofs.change.Change.on_each.Goals as goal
 

@@ -1,5 +1,4 @@
-use Rattle.std.proofs.Common.{◌≡◌, ◌++◌, map, take}
-use Rattle.spawnrun_lib.specs.Parts.{command_on}
+use Rattle.spawnrun_lib.proofs.Common.{◌≡◌, ◌++◌, map, take, command_on}
 use Rattle.spawnrun_lib.proofs.change.Change.on_each.Given as goal
 
 -- the commands for the handles so far

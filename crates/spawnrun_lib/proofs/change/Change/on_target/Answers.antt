@@ -1,6 +1,4 @@
-use Rattle.std.proofs.Common.{rules, ◌∷◌, []}
-use Rattle.spawnrun_lib.specs.Issuing.{IsTargeted}
-use Rattle.spawnrun_lib.specs.Parts.{names_of}
+use Rattle.spawnrun_lib.proofs.Common.{rules, ◌∷◌, [], IsTargeted, names_of}
 use Rattle.spawnrun_lib.proofs.Targeted.{issued_on, stopped_on}
 use Rattle.spawnrun_lib.proofs.change.Change.on_target.Given as given
 use Rattle.spawnrun_lib.proofs.change.Change.on_target.Goals.{After-drop-branch}

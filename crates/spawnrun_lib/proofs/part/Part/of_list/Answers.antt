@@ -1,11 +1,4 @@
-use Rattle.std.proofs.Common.{rules, ◌≡◌, List, ℕ, length, Some}
-use Rattle.std.specs.Prelude.{Option, option_map, unwrap_or}
-use Rattle.serde_json.specs.Data.{Items}
-use Rattle.serde_json.specs.View.{items_view}
-use Rattle.serde_json.specs.declared.value.Value.{Value}
-use Rattle.ent_script.specs.Json.{list_of}
-use Rattle.ent_script.proofs.Values.{length_of_views, list_of-items_view}
-use Rattle.spawnrun_lib.specs.Place.{Place, long}
+use Rattle.spawnrun_lib.proofs.Common.{rules, ◌≡◌, List, ℕ, length, Some, option_map, Items, items_view, Value, list_of, length_of_views, list_of-items_view, Place, long, Option, unwrap_or}
 use Rattle.spawnrun_lib.proofs.part.Part.of_list.Goals as goal
 
 long_of : (vs : List Value) (o : Option Items) (n : ℕ) (other : Place) → Some (items_view vs) ≡ o → n ≡ length vs

@@ -1,9 +1,4 @@
-use Rattle.std.proofs.Common.{rules, ◌++◌, refl, codes}
-use Rattle.std.specs.Fmt.{decimal}
-use Rattle.std.specs.Fmt.InlineText.{inline_text}
-use Rattle.serde_json.specs.View.{view}
-use Rattle.spawnrun_lib.specs.Place.{quoted}
-use Rattle.spawnrun_lib.specs.Shown.{plain}
+use Rattle.spawnrun_lib.proofs.Common.{rules, ◌++◌, refl, codes, decimal, inline_text, view, quoted, plain}
 use Rattle.spawnrun_lib.proofs.Pieces.{from_nothing, if_some, more_text, two_pieces}
 use Rattle.spawnrun_lib.proofs.Printable.{decimal-printable, passes}
 use Rattle.spawnrun_lib.proofs.part.Part.shown.Goals as goal

@@ -1,5 +1,4 @@
-use Rattle.std.proofs.Common.{arith}
-use Rattle.std.proofs.lemmas.Grind.{common_steps}
+use Rattle.spawnrun_lib.proofs.Common.{arith, common_steps}
 use Rattle.spawnrun_lib.proofs.progress.Teller.put_done.Goals as goal
 
 pub returns-clause-said : goal.returns-clause-said

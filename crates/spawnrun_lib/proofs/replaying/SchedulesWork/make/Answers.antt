@@ -1,4 +1,4 @@
-use Rattle.std.proofs.Common.{rules}
+use Rattle.spawnrun_lib.proofs.Common.{rules}
 use Rattle.spawnrun_lib.proofs.replaying.SchedulesWork.make.Goals as goal
 
 pub returns-in-Ok : goal.returns-in-Ok

@@ -1,5 +1,4 @@
-use Rattle.std.proofs.Common.{rules, ◌∙◌, ap, sym}
-use Rattle.ent_script.specs.Reading.{script_of_text}
+use Rattle.spawnrun_lib.proofs.Common.{rules, ◌∙◌, ap, sym, script_of_text}
 use Rattle.spawnrun_lib.proofs.running.ScriptsWork.make.Goals as goal
 
 pub returns-in_ok-report-in-Ok : goal.returns-in_ok-report-in-Ok

@@ -1,4 +1,4 @@
-use Rattle.std.proofs.Common.{rules}
+use Rattle.tracecheck.proofs.Common.{rules}
 use Rattle.tracecheck.proofs.Taking.{agrees_in_all, differs_at_end}
 use Rattle.tracecheck.proofs.checking.Checking.finish.Goals as goal
 

@@ -1,4 +1,4 @@
-use Rattle.std.proofs.Common.{rules, arith}
+use Rattle.tracecheck.proofs.Common.{rules, arith}
 use Rattle.tracecheck.proofs.Taking.{HasTaken-none, none_here}
 use Rattle.tracecheck.proofs.checking.Checking.take.Goals as goal
 

@@ -1,5 +1,5 @@
 use Rattle.tracecheck.proofs.Taking.{asks_here, differs_here, HasTaken-call}
-use Rattle.std.proofs.Common.{rules}
+use Rattle.tracecheck.proofs.Common.{rules}
 use Rattle.tracecheck.proofs.checking.Checking.take_call.Goals as goal
 
 pub returns-in-Ok-clause-taken : goal.returns-in-Ok-clause-taken

@@ -1,5 +1,4 @@
-use Rattle.std.proofs.Common.{rules}
-use Rattle.ent_replay.specs.Checker.{reserve_lines}
+use Rattle.ent_replay.proofs.Common.{rules, reserve_lines}
 use Rattle.ent_replay.proofs.Lineups.{no_items}
 use Rattle.ent_replay.proofs.Taken.{Leads-all, Leads-popped, Leads-reversed}
 use Rattle.ent_replay.proofs.trace.checker.Checker.take_all.Goals as goal

@@ -1,6 +1,4 @@
-use Rattle.std.specs.Prelude.{reverse}
-use Rattle.std.specs.Vec.{vec_len}
-use Rattle.ent_replay.specs.Checker.{reserve_lines}
+use Rattle.ent_replay.proofs.Common.{reverse, reserve_lines, vec_len}
 use Rattle.ent_replay.proofs.Taken.{Leads}
 use Rattle.ent_replay.proofs.trace.checker.Checker.take_all.Given as goal
 

@@ -1,10 +1,5 @@
-use Rattle.std.proofs.Common.{rules, ◌≡◌, ◌+◌, ◌^◌, ◌≤◌, [], ◌∷◌, ◌++◌, sym, ap, subst, ◌∙◌, arith}
-use Rattle.std.specs.Option.{unwrap_or}
+use Rattle.ent_replay.proofs.Common.{rules, ◌≡◌, ◌+◌, ◌^◌, ◌≤◌, [], ◌∷◌, ◌++◌, sym, ap, subst, ◌∙◌, arith, unwrap_or, Placed, IsChecking, IsKeyed, available, cases_lt}
 use Rattle.std.specs.FinMap as finite
-use Rattle.ent_replay.specs.declared.trace.placed.Placed.{Placed}
-use Rattle.ent_replay.specs.Checker.{IsChecking, IsKeyed}
-use Rattle.ent_alloc.specs.Sequential.{available}
-use Rattle.std.proofs.lemmas.Bool.{cases_lt}
 use Rattle.ent_replay.proofs.Keys.{IsChecking-push}
 use Rattle.ent_replay.proofs.trace.comparer.Comparer.add.Goals as goal
 

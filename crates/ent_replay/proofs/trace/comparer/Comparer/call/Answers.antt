@@ -1,6 +1,4 @@
-use Rattle.std.proofs.Common.{ap, ◌∙◌, rules}
-use Rattle.std.proofs.lemmas.Int.{ints}
-use Rattle.ent_replay.specs.Checker.{Checked}
+use Rattle.ent_replay.proofs.Common.{ap, ◌∙◌, rules, ints, Checked}
 use Rattle.ent_replay.proofs.Fronts.{front_here}
 use Rattle.ent_replay.proofs.Keys.{IsChecking-called}
 use Rattle.ent_replay.proofs.trace.comparer.Comparer.call.Goals as goal

@@ -1,7 +1,4 @@
-use Rattle.std.proofs.Common.{◌≡◌, ℕ, [], ◌∷◌, sym, subst}
-use Rattle.std.proofs.lemmas.Result.{err_from_is_err_and}
-use Rattle.ent_replay.specs.Trace.{Fits, after_line}
-use Rattle.ent_replay.specs.Checker.{Checked, Follows, Reaches, Differs, Shows, OnDiffers, HasNoOrder, NoneFollows}
+use Rattle.ent_replay.proofs.Common.{◌≡◌, ℕ, [], ◌∷◌, sym, subst, err_from_is_err_and, Fits, after_line, Checked, Follows, Reaches, Differs, Shows, OnDiffers, HasNoOrder, NoneFollows}
 use Rattle.ent_replay.proofs.Orders.{called-Follows, called-Shows, called-None, settled-None, Shows-more, alone_Reaches}
 use Rattle.ent_replay.proofs.Stops.{on_differs, on_both, on_err}
 use Rattle.ent_replay.proofs.trace.comparer.Comparer.end_run.Goals as goal

@@ -1,5 +1,5 @@
-use Rattle.std.proofs.Common.{append-nil, arith, rules}
-use Rattle.std.proofs.lemmas.Grind.{common_steps}
+use Rattle.ent_replay.proofs.Common.{arith, rules, common_steps}
+use Rattle.std.proofs.Common.{append-nil}
 use Rattle.ent_replay.proofs.Stops.{on_differs, on_err}
 use Rattle.ent_replay.proofs.trace.comparer.Comparer.finish.Goals as goal
 

@@ -1,4 +1,4 @@
-use Rattle.std.proofs.Common.{rules}
+use Rattle.ent_replay.proofs.Common.{rules}
 use Rattle.ent_replay.proofs.Keys.{empty_keeps}
 use Rattle.ent_replay.proofs.trace.comparer.Comparer.from_entities.Goals as goal
 

@@ -1,9 +1,4 @@
-use Rattle.std.proofs.lemmas.List.Sorted.{IsPermutation-map, sum_by-IsPermutation, IsNonDecreasingBy-from_sort_by_key, answers_always}
-use Rattle.std.proofs.Common.{◌≡◌, ◌≢◌, ◌++◌, ℕ, arith, [], List, sym, ap, subst, ◌∙◌, rules}
-use Rattle.ent_replay.specs.declared.trace.placed.Placed.{Placed}
-use Rattle.ent_replay.specs.Trace.{AreAnswered, after_lines}
-use Rattle.ent_replay.specs.Checker.{HasNoOrder, IsSettled, Shows, requested_in, reservations_of}
-use Rattle.ent_replay.specs.Lineup.{KeepsCallers, all_of, lines_of}
+use Rattle.ent_replay.proofs.Common.{IsPermutation-map, sum_by-IsPermutation, IsNonDecreasingBy-from_sort_by_key, answers_always, ◌≡◌, ◌≢◌, ◌++◌, ℕ, arith, [], List, sym, ap, subst, ◌∙◌, rules, Placed, AreAnswered, after_lines, HasNoOrder, IsSettled, Shows, requested_in, reservations_of, KeepsCallers, all_of, lines_of}
 use Rattle.ent_replay.proofs.Sorted.{IsRising, TieAlike, key, rising}
 use Rattle.ent_replay.proofs.Requested.{asked-settled}
 use Rattle.ent_replay.proofs.Keys.{empty_keeps}

@@ -1,5 +1,5 @@
 use Rattle.ent_replay.proofs.Orders.{run_more}
-use Rattle.std.proofs.Common.{rules}
+use Rattle.ent_replay.proofs.Common.{rules}
 use Rattle.ent_replay.proofs.trace.comparer.Comparer.take.Goals as goal
 
 pub returns-in-Reserve-clause-follows : goal.returns-in-Reserve-clause-follows

@@ -1,7 +1,5 @@
-use Rattle.std.proofs.Common.{rules, ap, refl, ◌∙◌}
-use Rattle.std.proofs.lemmas.Int.{ints}
+use Rattle.ent_replay.proofs.Common.{rules, ap, refl, ◌∙◌, ints, reserve_reply}
 use Rattle.ent_replay.specs.declared.trace.call.Call.TheVariants as line
-use Rattle.ent_replay.specs.Trace.{reserve_reply}
 use Rattle.ent_replay.proofs.Lineups.{lined-least, lined-passed, names_one}
 use Rattle.ent_replay.proofs.trace.lineup.Lineup.difference.Goals as goal
 

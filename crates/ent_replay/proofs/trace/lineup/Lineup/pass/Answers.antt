@@ -1,5 +1,4 @@
-use Rattle.std.proofs.Common.{rules, ◌≡◌, ◌∷◌, [], sym, ◌∙◌, inl, inr, to_z, of_z, w64, pos, ◌-ℤ◌}
-use Rattle.std.proofs.lemmas.Int.{ints}
+use Rattle.ent_replay.proofs.Common.{rules, ◌≡◌, ◌∷◌, [], sym, ◌∙◌, inl, inr, to_z, of_z, w64, pos, ◌-ℤ◌, ints}
 use Rattle.ent_replay.proofs.Lineups.{Passing-least, Passing-passed, Passing-lower, started, placed_next, left_next, over_lined, over_keeps, over_stuck, some_of, none_of_some, no_items}
 use Rattle.ent_replay.proofs.trace.lineup.Lineup.pass.Goals.{In_ok-push, else-free-via-then-free+in_ok-fits_at+else-branch, else-free-via-else-free, After-drop-blocked-inside-2}
 use Rattle.ent_replay.proofs.trace.lineup.Lineup.pass.Goals as goal

@@ -1,4 +1,4 @@
-use Rattle.std.proofs.Common.{rules}
+use Rattle.ent_replay.proofs.Common.{rules}
 use Rattle.ent_replay.proofs.Lineups.{Settling-start, Settling-next}
 use Rattle.ent_replay.proofs.trace.lineup.Lineup.settle.Goals as goal
 

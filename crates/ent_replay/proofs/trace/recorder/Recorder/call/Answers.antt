@@ -1,6 +1,4 @@
-use Rattle.std.proofs.Common.{List, subst}
-use Rattle.ent_replay.specs.Logs.{Log}
-use Rattle.ent_replay.specs.Recording.{TakesAll, lines_in_all}
+use Rattle.ent_replay.proofs.Common.{List, subst, Log, TakesAll, lines_in_all}
 use Rattle.ent_replay.proofs.Taken.{TakesAll-push}
 use Rattle.ent_replay.proofs.trace.recorder.Recorder.call.Goals as goal
 

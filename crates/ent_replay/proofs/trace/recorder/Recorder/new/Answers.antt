@@ -1,4 +1,4 @@
-use Rattle.std.proofs.Common.{rules}
+use Rattle.ent_replay.proofs.Common.{rules}
 use Rattle.ent_replay.proofs.Taken.{new_logs-next}
 use Rattle.ent_replay.proofs.trace.recorder.Recorder.new.Goals as goal
 

@@ -1,5 +1,4 @@
-use Rattle.std.proofs.Common.{◌≡◌}
-use Rattle.ent_replay.specs.Logs.{new_logs}
+use Rattle.ent_replay.proofs.Common.{◌≡◌, new_logs}
 use Rattle.ent_replay.proofs.trace.recorder.Recorder.new.Given as goal
 
 abbrev pub invariant-loop-caller : goal.invariant-loop-caller

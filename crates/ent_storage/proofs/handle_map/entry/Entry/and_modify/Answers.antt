@@ -1,6 +1,4 @@
-use Rattle.std.proofs.Common.{refl, sym, ap, subst, ◌∙◌}
-use Rattle.std.specs.Map.Calls.{MayWrite}
-use Rattle.ent_storage.specs.Entry.{entry_value, Gives}
+use Rattle.ent_storage.proofs.Common.{refl, sym, ap, subst, ◌∙◌, MayWrite, entry_value, Gives}
 use Rattle.ent_storage.proofs.Written.{written_twice}
 use Rattle.ent_storage.proofs.handle_map.entry.Entry.and_modify.Goals as goal
 

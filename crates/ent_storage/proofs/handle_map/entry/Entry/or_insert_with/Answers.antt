@@ -1,8 +1,4 @@
-use Rattle.std.proofs.Common.{refl, sym, ap, subst, ◌∙◌}
-use Rattle.std.proofs.lemmas.Option.{none-some}
-use Rattle.std.specs.Option.{UnwrapsOrElse}
-use Rattle.ent_storage.specs.HandleMap.{with_written}
-use Rattle.ent_storage.specs.Entry.{entry_value, Gives}
+use Rattle.ent_storage.proofs.Common.{refl, sym, ap, subst, ◌∙◌, none-some, UnwrapsOrElse, with_written, entry_value, Gives}
 use Rattle.ent_storage.proofs.handle_map.entry.Entry.or_insert_with.Goals as goal
 
 pub returns-in-Occupied : goal.returns-in-Occupied

@@ -1,5 +1,4 @@
-use Rattle.std.proofs.Common.{refl}
-use Rattle.ent_storage.specs.HandleMap.{some_written}
+use Rattle.ent_storage.proofs.Common.{refl, some_written}
 use Rattle.ent_storage.proofs.Written.{got_inserted, occupied_written}
 use Rattle.ent_storage.proofs.handle_map.entry.OccupiedEntry.get_mut.Goals as goal
 

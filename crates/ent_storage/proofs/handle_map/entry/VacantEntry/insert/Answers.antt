@@ -1,7 +1,5 @@
-use Rattle.std.proofs.Common.{refl, sym, ap, is_some, ◌∙◌}
-use Rattle.std.proofs.lemmas.Option.{same_Some}
+use Rattle.ent_storage.proofs.Common.{refl, sym, ap, is_some, ◌∙◌, same_Some, HandleValues, without_slot}
 use Rattle.std.specs.FinMap as finite
-use Rattle.ent_storage.specs.HandleMap.{HandleValues, without_slot}
 use Rattle.ent_storage.proofs.Written.{got_inserted, filled_over}
 use Rattle.ent_storage.proofs.handle_map.entry.VacantEntry.insert.Goals as goal
 

@@ -1,5 +1,4 @@
-use Rattle.std.proofs.Common.{rules}
-use Rattle.std.specs.Slice.Iter.{iter_rest}
+use Rattle.ent_storage.proofs.Common.{rules, iter_rest}
 use Rattle.ent_storage.proofs.Backwards.{last_occupied, last_vacant}
 use Rattle.ent_storage.proofs.handle_map.iter.IterDoubleEndedIterator.next_back.Goals as goal
 

@@ -1,6 +1,4 @@
-use Rattle.std.proofs.Common.{◌≡◌, length}
-use Rattle.std.specs.Slice.Iter.{iter_rest}
-use Rattle.ent_storage.specs.Slots.{entries_from, AreCounted}
+use Rattle.ent_storage.proofs.Common.{◌≡◌, length, iter_rest, entries_from, AreCounted}
 use Rattle.ent_storage.proofs.handle_map.iter.IterIterator.next.Given as goal
 
 -- only vacant slots were passed

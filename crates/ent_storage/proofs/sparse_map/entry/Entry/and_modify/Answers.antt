@@ -1,5 +1,4 @@
-use Rattle.std.proofs.Common.{refl, sym, ap, subst, ◌∙◌}
-use Rattle.std.specs.Map.Calls.{MayWrite}
+use Rattle.ent_storage.proofs.Common.{refl, sym, ap, subst, ◌∙◌, MayWrite}
 use Rattle.ent_storage.specs.SparseEntry.{entry_value, Gives}
 use Rattle.ent_storage.proofs.Written.{written_twice_in}
 use Rattle.ent_storage.proofs.sparse_map.entry.Entry.and_modify.Goals as goal

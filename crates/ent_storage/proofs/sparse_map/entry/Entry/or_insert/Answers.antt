@@ -1,6 +1,4 @@
-use Rattle.std.proofs.Common.{refl, sym, ap, subst, ◌∙◌, unwrap_or}
-use Rattle.std.proofs.lemmas.Option.{none-some}
-use Rattle.ent_storage.specs.SparseMap.{with_written_in}
+use Rattle.ent_storage.proofs.Common.{refl, sym, ap, subst, ◌∙◌, unwrap_or, none-some, with_written_in}
 use Rattle.ent_storage.specs.SparseEntry.{entry_value, Gives}
 use Rattle.ent_storage.proofs.sparse_map.entry.Entry.or_insert.Goals as goal
 

@@ -1,7 +1,4 @@
-use Rattle.std.proofs.Common.{refl, sym, ap, subst, ◌∙◌}
-use Rattle.std.proofs.lemmas.Option.{none-some}
-use Rattle.std.specs.Option.{UnwrapsOrElse}
-use Rattle.ent_storage.specs.SparseMap.{with_written_in}
+use Rattle.ent_storage.proofs.Common.{refl, sym, ap, subst, ◌∙◌, none-some, UnwrapsOrElse, with_written_in}
 use Rattle.ent_storage.specs.SparseEntry.{entry_value, Gives}
 use Rattle.ent_storage.proofs.sparse_map.entry.Entry.or_insert_with.Goals as goal
 

@@ -1,4 +1,4 @@
-use Rattle.std.proofs.Common.{refl}
+use Rattle.ent_storage.proofs.Common.{refl}
 use Rattle.ent_storage.specs.SparseMap.{some_written}
 use Rattle.ent_storage.proofs.Written.{got_inserted, occupied_written_in}
 use Rattle.ent_storage.proofs.sparse_map.entry.OccupiedEntry.get_mut.Goals as goal

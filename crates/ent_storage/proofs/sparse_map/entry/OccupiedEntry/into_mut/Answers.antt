@@ -1,4 +1,4 @@
-use Rattle.std.proofs.Common.{refl}
+use Rattle.ent_storage.proofs.Common.{refl}
 use Rattle.ent_storage.proofs.sparse_map.entry.OccupiedEntry.into_mut.Goals as goal
 
 pub value_mut-requires : goal.value_mut-requires

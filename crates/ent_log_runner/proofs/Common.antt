@@ -1,0 +1,45 @@
+-- The names that proofs of this crate cite, of std, of the crates below and of its own specs. Declares nothing.
+pub use Rattle.std.proofs.Common.{Bool, Err, List, None, Ok, Result, Some, [], ap, append-nil, append_assoc, arith, drop, false, get_or, inl, inr, length, map, refl, rules, subst, suc, sym, take, true, zero, ℕ, ⊎_elim, ◌++◌, ◌+◌, ◌-◌, ◌<◌, ◌∙◌, ◌∷◌, ◌≡◌, ◌⊎◌}
+pub use Rattle.std.proofs.lemmas.Bool.{cases_lt}
+pub use Rattle.std.proofs.lemmas.Fn.{FoldsTo-push}
+pub use Rattle.std.proofs.lemmas.Grind.{common_steps}
+pub use Rattle.std.proofs.lemmas.List.{get_or_push, length-append, length-map, length-replicate, map-append}
+pub use Rattle.std.proofs.lemmas.List.Elements.{All-append, All-cons, All-head, All-map, All-nil, All-tail, Contains-get_or}
+pub use Rattle.std.proofs.lemmas.List.FromFn.{get_or-range_with_len, length-range_with_len}
+pub use Rattle.std.proofs.lemmas.List.Quantifiers.{all_pairs_push}
+pub use Rattle.std.proofs.lemmas.List.Sorted.{All-permutation, IsPermutation-sym}
+pub use Rattle.std.proofs.lemmas.Option.{get_or_from_slice_get, slice_get-get_or, slice_get_within}
+pub use Rattle.std.specs.List.{All, AllPairs, flat_map, range_with_len}
+pub use Rattle.std.specs.List.Sorted.{IsPermutation}
+pub use Rattle.std.specs.Prelude.{IfOk, IsErrOf, IsTrue, OnErr, OnOk, filter, if◌then◌else◌, replicate, slice_get, ◌==◌}
+pub use Rattle.ent_alloc.proofs.HandleSets.{stands_in-from_Contains}
+pub use Rattle.ent_alloc.proofs.Histories.{after_history-takes, given_in-not_live, given_in-taken}
+pub use Rattle.ent_alloc.proofs.ListLaws.{All-left, All-right}
+pub use Rattle.ent_alloc.proofs.PoolLaw.{live-after_takes}
+pub use Rattle.ent_alloc.specs.History.{Call, IsLegal, after_history, given_in, handles_in, requests_of}
+pub use Rattle.ent_alloc.specs.Sequential.{Allocator, stands_in, state_of}
+pub use Rattle.ent_alloc.specs.Sound.{IsLive, IsSound}
+pub use Rattle.ent_alloc.specs.declared.refused.Refused.{Refused}
+pub use Rattle.ent_alloc.specs.declared.reserve_error.ReserveError.{ReserveError}
+pub use Rattle.ent_handle.specs.Handle.{Handle}
+pub use Rattle.ent_log.specs.Logs.{entries_of, first_unreserved, is_reserved, spawned_by, spawned_in}
+pub use Rattle.ent_log.specs.Spawning.{returned}
+pub use Rattle.ent_log.specs.declared.entry.Entry.{Entry}
+pub use Rattle.ent_log.specs.declared.entry.Entry.TheVariants.{Command, Spawn}
+pub use Rattle.ent_runner.proofs.Conducting.{none_weaker, written_back}
+pub use Rattle.ent_runner.proofs.Lending.{broken_off_seen, done_seen}
+pub use Rattle.ent_runner.proofs.Lists.{all_flat, all_from_each, at_within, each_of_all, filter_map_is}
+pub use Rattle.ent_runner.proofs.NoSystems.{all_rise, is_none, no_jobs, none_once}
+pub use Rattle.ent_runner.specs.Crew.{AreBrokenOff, AreDone, DidAll, DidUntil, DoesAt}
+pub use Rattle.ent_shared.proofs.Sorting.{all_sorted}
+pub use Rattle.ent_shared.specs.Order.{Respects, as_call, handles_given, handles_of, history_of, own_of_all, reservations_by, reservations_of}
+pub use Rattle.ent_shared.specs.Phase.{Reserver, Shared, records_of}
+pub use Rattle.ent_shared.specs.Record.{opened, own_reservations, reservation_at}
+unfoldable pub use Rattle.ent_shared.specs.Record.{opened_records}
+pub use Rattle.ent_shared.specs.declared.record.Record.{Record}
+pub use Rattle.ent_shared.specs.declared.record.RecordEntry.TheVariants.{Own}
+pub use Rattle.ent_shared.specs.declared.record.Reservation.{Reservation}
+pub use Rattle.ent_log_runner.specs.Lending.{RepliesOne, ReservesOne}
+pub use Rattle.ent_log_runner.specs.Logging.{Extends, Filled, HasGained, IsReady, LogGains}
+pub use Rattle.ent_log_runner.specs.Running.{HaveLogged, HaveRun, IsBrokenOff, SystemMayHaveLogged, SystemMayLog, entries_by, given_to, log_at}
+pub use Rattle.ent_log_runner.specs.declared.lent.Lent.{Lent}
