@@ -1,17 +1,17 @@
 -- The names that proofs of this crate cite, of std, of the crates below and of its own specs. Declares nothing.
-pub use Rattle.std.proofs.Common.{All, AllPairs, Bool, Contains, Err, IfNone, IfOk, IfSome, IsPermutation, IsTrue, List, None, Ok, OnErr, Option, Result, Some, [], add-zero, ap, arith, cond, drop, eqb, false, filter, get_or, inl, inr, le_of_eq, leb, length, ltb, map, map as maps, nat_abs, negsuc, not, of_z, pos, refl, replicate, reverse, rules, set, slice_get, slice_index, slice_index_or, subst, suc, sum, swap, sym, take, to_z, true, true≢false, vec_len, w64, zero, ℕ, ℤ, ◌&&◌, ◌*◌, ◌++◌, ◌+◌, ◌-ℤ◌, ◌-◌, ◌/◌, ◌<◌, ◌==◌, ◌^◌, ◌||◌, ◌↔◌, ◌∙◌, ◌∷◌, ◌≡◌, ◌≢◌, ◌≤ℤ◌, ◌≤◌, ◌⊎◌}
+pub use Rattle.std.proofs.Common.{All, AllPairs, Bool, Contains, Err, IfNone, IfOk, IfSome, IsPermutation, IsTrue, List, None, Ok, OnErr, Option, Result, Some, [], add-zero, ap, arith, cond, drop, eqb, false, filter, get_or, inl, inr, le_of_eq, leb, length, ltb, map, map as maps, nat_abs, negsuc, not, of_z, pos, refl, replicate, reverse, rules, set, slice_get, slice_index, slice_index_or, subst, suc, sum, swap, sym, take, to_z, true, true≢false, vec_len, w64, zero, zero-add, ℕ, ℤ, ◌&&◌, ◌*◌, ◌++◌, ◌+◌, ◌-ℤ◌, ◌-◌, ◌/◌, ◌<◌, ◌==◌, ◌^◌, ◌||◌, ◌↔◌, ◌∙◌, ◌∷◌, ◌≡◌, ◌≢◌, ◌≤ℤ◌, ◌≤◌, ◌⊎◌}
 pub use Rattle.std.proofs.Math.Bool.{and-false, or-false, or-true, or_assoc, or_comm}
 pub use Rattle.std.proofs.Math.ListN.{drop_of_length-le, get_or-map as get_or_mapped}
 pub use Rattle.std.proofs.Math.Nat.{min-eq_left, min-eq_right}
 pub use Rattle.std.proofs.Math.Seq.{drop-append-add, drop-append_seam, take-add, take-append-add, take-append_seam}
-pub use Rattle.std.proofs.lemmas.Bool.{and_from, and_parts, cases_eq, cases_lt, cond-false, cond-true, eq-eqb, eqb-true, false_from_ne_true, false≢true, le-leb, le-ltb, leb-true, lt-leb, lt-ltb, ltb-true, ne_eqb}
+pub use Rattle.std.proofs.lemmas.Bool.{and_from, and_parts, cases_Bool, cases_eq, cases_lt, cond-false, cond-true, eq-eqb, eqb-true, false_from_ne_true, false≢true, le-leb, le-ltb, leb-true, lt-leb, lt-ltb, ltb-true, ne_eqb}
 pub use Rattle.std.proofs.lemmas.Bool.Decides.{Decides-eqb, nat_tests}
 pub use Rattle.std.proofs.lemmas.Cmp.{eq_by_cmp_equiv}
 pub use Rattle.std.proofs.lemmas.Grind.{common_steps}
 pub use Rattle.std.proofs.lemmas.Int.{ints}
-pub use Rattle.std.proofs.lemmas.List.{append-nil, append_assoc, append_cancel_right, drop-append-le, drop-drop, drop-map, drop-take, drop_all, drop_at, drop_more, flat_map_more, get_or-append-add, get_or-append_right, get_or-drop, get_or-map, get_or-replicate, get_or-reverse, get_or-set_other, get_or-set_same, get_or-take, get_or_append_left, get_or_default, get_or_past, get_or_push, get_or_read, length-append, length-drop, length-map, length-replicate, length-reverse, length-set, length-take, length-take-le, length_push, map_push, nil_from_length, reverse-append, reverse-reverse, same_lists, take-append-drop, take-append-le, take-map, take-take, take_all, take_at, take_more, take_rest, with_items_is}
+pub use Rattle.std.proofs.lemmas.List.{append-nil, append_assoc, append_cancel_right, drop-append-le, drop-drop, drop-map, drop-set, drop-take, drop_all, drop_at, drop_more, flat_map_more, get_or-append-add, get_or-append_right, get_or-drop, get_or-map, get_or-replicate, get_or-reverse, get_or-set_other, get_or-set_same, get_or-take, get_or_append_left, get_or_default, get_or_past, get_or_push, get_or_read, length-append, length-drop, length-map, length-replicate, length-reverse, length-set, length-take, length-take-le, length_push, map-append, map_push, nil_from_length, reverse-append, reverse-reverse, same_lists, take-append-drop, take-append-le, take-map, take-set-le, take-take, take_all, take_at, take_more, take_rest, with_items_is}
 pub use Rattle.std.proofs.lemmas.List.Edits.{Swapped, length-swap, swapped_from_swap}
-pub use Rattle.std.proofs.lemmas.List.Elements.{All-append, All-cons, All-contains, All-contains_itself, All-drop, All-filter, All-head, All-nil, All-push, All-tail, All-take, All-weaker, Contains-append_left, Contains-append_right, Contains-get_or, filter-append, filter_passes}
+pub use Rattle.std.proofs.lemmas.List.Elements.{All-append, All-cons, All-contains, All-contains_itself, All-drop, All-filter, All-head, All-map, All-nil, All-push, All-tail, All-take, All-weaker, Contains-append_left, Contains-append_right, Contains-get_or, filter-append, filter_passes}
 pub use Rattle.std.proofs.lemmas.List.Folds.{Any-from_list_any, flat_map-map, list_any-append, list_any_at, list_any_none}
 pub use Rattle.std.proofs.lemmas.List.FromFn.{get_or-range_with_len, length-range_with_len}
 pub use Rattle.std.proofs.lemmas.List.Kept.{AllPairs-cons, AllPairs-filter}

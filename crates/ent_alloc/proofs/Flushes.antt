@@ -21,24 +21,25 @@ pub born-IsPermutation : (s : Allocator) → IsPermutation s.taken (born s)
 born-IsPermutation s =
     let old = filter (is_old s.made) s.taken in
     let new = filter (is_fresh s.made) s.taken in
-    IsPermutation-trans s.taken (old ++ new) (new ++ reverse old)
-    (IsPermutation-filter_both (is_old s.made) (is_fresh s.made) (fresh_is_not_old s.made) s.taken)
-    (IsPermutation-trans (old ++ new) (new ++ old) (new ++ reverse old) (IsPermutation-append_comm old new)
-    (search (rules, IsPermutation-append, IsPermutation-refl, IsPermutation-reverse)))
+    let parted = IsPermutation-filter_both (is_old s.made) (is_fresh s.made) (fresh_is_not_old s.made) s.taken in
+    let turned : IsPermutation (new ++ old) (new ++ reverse old) = search (rules, IsPermutation-append,
+        IsPermutation-refl, IsPermutation-reverse) in
+    search (rules, IsPermutation-trans s.taken (old ++ new), IsPermutation-trans (old ++ new) (new ++ old),
+        IsPermutation-append_comm old new)
 
 -- each that is born is alive then
 pub born-lives : (s : Allocator) → All (IsLive (after_flush s)) (born s)
-born-lives s = All-permutation (IsLive (after_flush s)) s.taken (born s) (born-IsPermutation s)
-    (λ k d lt. taken-lives s _ (All-contains_itself s.taken k d lt))
+born-lives s = search (rules, All-permutation (IsLive (after_flush s)) s.taken (born s), born-IsPermutation,
+    taken-lives, All-contains_itself)
 
 module _ (s : Allocator) (h : IsSound s) where
   -- no two are of one slot
   pub born-apart : AllPairs AreApart (born s)
-  born-apart = AllPairs-IsPermutation AreApart apart_both s.taken (born s) (born-IsPermutation s)
-      (AllPairs-left AreApart s.taken (s.aside ++ s.pool) h.apart)
+  born-apart = search (rules, AllPairs-IsPermutation AreApart apart_both s.taken (born s), born-IsPermutation,
+      AllPairs-left AreApart s.taken (s.aside ++ s.pool), h.apart)
 
   -- none was alive
   pub born-not_live : All (λ x. ¬ (IsLive s x)) (born s)
   born-not_live = All-permutation (λ x. ¬ (IsLive s x)) s.taken (born s) (born-IsPermutation s)
-      (λ k d lt alive. not_apart (get_or s.taken k d) (All-left (AreApart (get_or s.taken k d)) s.taken
-      (s.aside ++ s.pool) (h.live (get_or s.taken k d) alive).apart k d lt))
+      (λ k d lt alive. let x = get_or s.taken k d in
+      not_apart x (All-left (AreApart x) s.taken (s.aside ++ s.pool) (h.live x alive).apart k d lt))

@@ -1,7 +1,6 @@
 -- Laws of `fresh`, the first occupants of slots that were never made. Nothing here computes it at a
 -- number.
-use Rattle.ent_alloc.proofs.Common.{rules, ◌≡◌, refl, ap, ℕ, zero, suc, ◌+◌, ◌-◌, ◌<◌, ◌≤◌, true, false, List, [], ◌∷◌, ◌++◌, length, get_or, take, drop, filter, All, AllPairs, arith, lt-leb, All-weaker, filter-append, Handle, fresh, is_old, is_fresh, AreApart}
-use Rattle.std.proofs.Common.{lt-ltb, le-ltb, le-leb, append-nil}
+use Rattle.ent_alloc.proofs.Common.{nat_tests, common_steps, rules, ◌≡◌, refl, ap, ℕ, zero, suc, ◌+◌, ◌-◌, ◌<◌, ◌≤◌, List, [], ◌∷◌, ◌++◌, length, get_or, take, drop, filter, All, AllPairs, arith, lt-leb, All-weaker, filter-append, Handle, fresh, is_old, is_fresh, AreApart, lt-ltb, append-nil}
 use Rattle.ent_alloc.proofs.ListLaws.{filter_all, filter_none, take-append, drop-append}
 
 -- the first occupant of a slot
@@ -30,9 +29,7 @@ pub get_or-fresh : (index slots k : ℕ) (d : Handle) → k < slots → get_or (
 unfolding fresh
 get_or-fresh index zero k d lt = absurd (omega arith)
 get_or-fresh index (suc slots) zero d lt = ap first_of_slot (omega arith)
-get_or-fresh index (suc slots) (suc k) d lt =
-    let shift : index + 1 + k ≡ index + suc k = omega arith in
-    rw (← shift) (get_or-fresh (index + 1) slots k d (omega arith))
+get_or-fresh index (suc slots) (suc k) d lt = search (rules, arith, get_or-fresh (index + 1) slots k)
 
 -- what is left of them
 pub drop-fresh : (k index slots : ℕ) → drop k (fresh index slots) ≡ fresh (index + k) (slots - k)
@@ -53,28 +50,20 @@ pub All-fresh : (P : Handle → Type 0) (index slots : ℕ) → ((k : ℕ) → k
     → All P (fresh index slots)
 All-fresh P index slots each k d lt = search (rules, length-fresh, get_or-fresh, each)
 
--- their indexes rise
-pub AllPairs-fresh : (index slots : ℕ) → AllPairs (λ g h. g.index < h.index) (fresh index slots)
-AllPairs-fresh index slots i j d lt within = search (rules, length-fresh, get_or-fresh)
-
 -- no two of them are of one slot
 pub fresh_apart : (index slots : ℕ) → AllPairs AreApart (fresh index slots)
-fresh_apart index slots i j d lt within same = search (rules, AllPairs-fresh)
+fresh_apart index slots i j d lt within same = search (rules, length-fresh, get_or-fresh)
 
 -- none of them is old where they begin
 pub no_fresh_is_old : (made index slots : ℕ) → made ≤ index → filter (is_old made) (fresh index slots) ≡ []
-no_fresh_is_old made index slots le = filter_none (is_old made) (fresh index slots)
-    (All-fresh (λ h. is_old made h ≡ false) index slots (λ k lt. le-ltb _ _ (omega arith)))
-
--- each of them is fresh where they begin
-pub each_fresh_is_fresh : (made index slots : ℕ) → made ≤ index → All (λ h. is_fresh made h ≡ true) (fresh index slots)
-each_fresh_is_fresh made index slots le = All-fresh (λ h. is_fresh made h ≡ true) index slots
-    (λ k lt. le-leb _ _ (omega arith))
+no_fresh_is_old made index slots le = filter_none (is_old made) (fresh index slots) (λ k d lt. grind (arith, nat_tests,
+    common_steps, length-fresh, get_or-fresh))
 
 -- so a filter of the fresh keeps all
 pub all_fresh_are_fresh : (made index slots : ℕ) → made ≤ index → filter (is_fresh made) (fresh index slots) ≡ fresh
     index slots
-all_fresh_are_fresh made index slots le = search (rules, filter_all, each_fresh_is_fresh)
+all_fresh_are_fresh made index slots le = filter_all (is_fresh made) (fresh index slots) (λ k d lt. grind (arith,
+    nat_tests, common_steps, length-fresh, get_or-fresh))
 
 -- old handles are no fresh ones
 pub no_old_is_fresh : (made : ℕ) (old : List Handle) → All (λ h. h.index < made) old → filter (is_fresh made) old ≡ []

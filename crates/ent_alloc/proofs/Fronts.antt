@@ -1,8 +1,6 @@
 -- The slots that wait last in another order: the vectors stay linked, and the roster has the
 -- handles in that order.
-use Rattle.ent_alloc.proofs.Common.{rules, ◌≡◌, ◌≢◌, ◌⊎◌, inl, inr, ℕ, zero, suc, ◌+◌, ◌-◌, ◌<◌, ◌≤◌, refl, sym, ap, ◌∙◌, List, [], ◌∷◌, ◌++◌, length, get_or, set, take, drop, map, subst, reverse, All, AllPairs, IsPermutation, arith, false, None, common_steps, cases_lt, cases_eq, length-set, get_or-set_same, get_or-set_other, get_or-map, length-map, length-drop, get_or-drop, get_or-take, same_lists, length-take-le, length-append, length-reverse, get_or-reverse, get_or_append_left, get_or-append-add, All-tail, All-cons, All-permutation, Contains-permutation, Handle, Limits, Roster, AreApart, SlotRecord, Pending, is_alive, row_of, record_at, no_slot, handle_at, occupants, rows_from, roster_of, AreLinked, waiting_at, placed, moved, slots_of, AreSlotsOf}
-use Rattle.std.specs.FinSet as sets
-use Rattle.std.specs.FinMap as maps
+use Rattle.ent_alloc.proofs.Common.{rules, ◌≡◌, ◌≢◌, ◌⊎◌, inl, inr, ℕ, zero, suc, ◌+◌, ◌-◌, ◌<◌, ◌≤◌, refl, sym, ◌∙◌, List, [], ◌∷◌, ◌++◌, length, get_or, set, take, drop, map, subst, reverse, All, AllPairs, IsPermutation, arith, false, None, common_steps, cases_lt, cases_eq, length-set, get_or-set_same, get_or-set_other, get_or-map, length-map, length-drop, get_or-drop, length-take-le, get_or-reverse, All-tail, All-cons, All-permutation, Handle, Limits, Roster, AreApart, SlotRecord, Pending, is_alive, row_of, record_at, no_slot, handle_at, occupants, rows_from, roster_of, AreLinked, waiting_at, placed, moved, slots_of, AreSlotsOf, All-map, IsPermutation-sym, append-nil, append_assoc, drop-set, drop_all, get_or-append_right, map-append, reverse-append, take-append-drop, take-map, take-set-le}
 use Rattle.ent_alloc.proofs.ListLaws.{AllPairs-head, AllPairs-tail, AllPairs-IsPermutation}
 use Rattle.ent_alloc.proofs.KeptRows.{rows_from-set}
 
@@ -13,26 +11,13 @@ length-placed pending top [] = refl
 length-placed pending top (i ∷ is) = length-placed (set pending (top - 1) i) (top - 1) is
     ∙ length-set pending (top - 1) i
 
--- at any other position nothing changes
-pub placed-other : (pending : List ℕ) (top at : ℕ) (hs : List Handle) → ((k : ℕ) → k < length hs → top - 1 - k ≢ at)
-    → get_or (placed pending top (slots_of hs)) at 0 ≡ get_or pending at 0
-placed-other pending top at [] outside = refl
-placed-other pending top at (h ∷ hs) outside = placed-other (set pending (top - 1) h.index) (top - 1) at hs
-    (λ k lt e. outside (suc k) (omega arith) (omega arith)) ∙ get_or-set_other pending (top - 1) at h.index 0
-    (λ e. outside 0 (omega arith) (omega arith))
-
-pub placed-at : (pending : List ℕ) (top k : ℕ) (hs : List Handle) (d : Handle) → length hs ≤ top → top ≤ length pending
-    → k < length hs → get_or (placed pending top (slots_of hs)) (top - 1 - k) 0 ≡ (get_or hs k d).index
-placed-at pending top k [] d few within below = absurd (omega arith)
-placed-at pending top zero (h ∷ hs) d few within below =
-    let at : top - 1 - 0 ≡ top - 1 = omega arith in
-    ap (λ n. get_or (placed pending top (slots_of (h ∷ hs))) n 0) at ∙ placed-other (set pending (top - 1) h.index) (top
-    - 1) (top - 1) hs (λ k lt e. omega arith) ∙ get_or-set_same pending (top - 1) h.index 0 (omega arith)
-placed-at pending top (suc k) (h ∷ hs) d few within below =
-    let next = placed-at (set pending (top - 1) h.index) (top - 1) k hs d (omega arith)
-    (omega (arith, length-set pending (top - 1) h.index)) (omega arith) in
-    let at : top - 1 - suc k ≡ top - 1 - 1 - k = omega arith in
-    rw at next
+-- they come last first below the top
+placed_is : (pending : List ℕ) (top : ℕ) (is : List ℕ) → length is ≤ top → top ≤ length pending
+    → placed pending top is ≡ take (top - length is) pending ++ (reverse is ++ drop top pending)
+placed_is pending top [] few within = search (rules, take-append-drop)
+placed_is pending top (i ∷ is) few within =
+    placed_is (set pending (top - 1) i) (top - 1) is (omega arith) (omega (arith, length-set {A = ℕ}))
+    ∙ grind (arith, common_steps, take-set-le, drop-set, append_assoc, reverse-append)
 
 -- ---- the records
 
@@ -47,9 +32,8 @@ pub moved-other : (records : List SlotRecord) (top at : ℕ) (hs : List Handle) 
 moved-other records top at [] others = refl
 moved-other records top at (h ∷ hs) others =
     let w = waiting_at (record_at records h.index).generation (top - 1) in
-    let here : h.index ≢ at = others 0 h (omega arith) in
-    moved-other (set records h.index w) (top - 1) at hs (All-tail (λ h. h.index ≢ at) h hs others)
-    ∙ get_or-set_other records h.index at w no_slot (λ e. here (sym e))
+    search (rules, arith, moved-other (set records h.index w) (top - 1) at hs, All-tail (λ h. h.index ≢ at) h hs others,
+    get_or-set_other records h.index at w no_slot, others 0 h)
 
 pub generation-moved : (records : List SlotRecord) (top at : ℕ) (hs : List Handle)
     → All (λ h. h.index < length records) hs → (record_at (moved records top (slots_of hs)) at).generation
@@ -57,11 +41,8 @@ pub generation-moved : (records : List SlotRecord) (top at : ℕ) (hs : List Han
 generation-moved records top at [] made = refl
 generation-moved records top at (h ∷ hs) made =
     let w = waiting_at (record_at records h.index).generation (top - 1) in
-    let long = length-set records h.index w in
-    let step : (record_at (set records h.index w) at).generation
-    ≡ (record_at records at).generation = grind (arith, common_steps) in
-    generation-moved (set records h.index w) (top - 1) at hs (λ k d lt. let below = made (suc k) d (omega arith) in
-    omega (arith, long)) ∙ step
+    let small = All-tail (λ h. h.index < length records) h hs made in
+    rw (generation-moved (set records h.index w) (top - 1) at hs (rw length-set small)) (grind (arith, common_steps))
 
 pub moved-at : (records : List SlotRecord) (top k : ℕ) (hs : List Handle) (d : Handle)
     → All (λ h. h.index < length records) hs → AllPairs AreApart hs → k < length hs
@@ -70,16 +51,13 @@ moved-at records top k [] d made apart below = absurd (omega arith)
 moved-at records top zero (h ∷ hs) d made apart below =
     let w = waiting_at (record_at records h.index).generation (top - 1) in
     let others : All (λ g. g.index ≢ h.index) hs = λ i e lt same. AllPairs-head AreApart h hs apart i e lt (sym same) in
-    let at : top - 1 ≡ top - 1 - 0 = omega arith in
-    ap (λ (r : SlotRecord). r.occupancy) (moved-other (set records h.index w) (top - 1) h.index hs others
-    ∙ get_or-set_same records h.index w no_slot (made 0 h (omega arith))) ∙ ap (λ n. Pending n) at
+    search (rules, arith, moved-other (set records h.index w) (top - 1) h.index hs,
+    get_or-set_same records h.index w no_slot, made 0 h)
 moved-at records top (suc k) (h ∷ hs) d made apart below =
     let w = waiting_at (record_at records h.index).generation (top - 1) in
-    let long = length-set records h.index w in
-    let next = moved-at (set records h.index w) (top - 1) k hs d (λ i e lt. let below = made (suc i) e (omega arith) in
-    omega (arith, long)) (AllPairs-tail AreApart h hs apart) (omega arith) in
-    let at : top - 1 - 1 - k ≡ top - 1 - suc k = omega arith in
-    next ∙ ap (λ n. Pending n) at
+    let small = All-tail (λ h. h.index < length records) h hs made in
+    search (rules, arith, moved-at (set records h.index w) (top - 1) k hs d, length-set,
+        AllPairs-tail AreApart h hs apart)
 
 -- ---- who lives
 
@@ -93,12 +71,7 @@ occupants-set : (from : ℕ) (records : List SlotRecord) (index : ℕ) (r : Slot
     records
 occupants-set from [] index r new old = refl
 occupants-set from (x ∷ records) zero r new old = search (rules)
-occupants-set from (x ∷ records) (suc index) r new old = search
-    (rules, occupants-set (from + 1) records index r new old)
-
-vacant-set : (records : List SlotRecord) (index at : ℕ) (w : SlotRecord) → IsVacant w → IsVacant (record_at records at)
-    → IsVacant (record_at (set records index w) at)
-vacant-set records index at w new old = grind (arith, common_steps)
+occupants-set from (x ∷ records) (suc index) r new old = search (rules, occupants-set (from + 1) records index)
 
 -- what does not change where one vacant slot waits does not change where many do
 kept-moved : {T : Type 0} (f : List SlotRecord → T) → ((records : List SlotRecord) (index : ℕ) (w : SlotRecord)
@@ -109,8 +82,20 @@ kept-moved f keeps records top [] vacant = refl
 kept-moved f keeps records top (h ∷ hs) vacant =
     let w = waiting_at (record_at records h.index).generation (top - 1) in
     let empty : IsVacant w = record { dead = refl; bare = refl } in
-    kept-moved f keeps (set records h.index w) (top - 1) hs (λ k d lt. vacant-set records h.index (get_or hs k d).index
-    w empty (vacant (suc k) d (omega arith))) ∙ keeps records h.index w empty (vacant 0 h (omega arith))
+    kept-moved f keeps (set records h.index w) (top - 1) hs (λ k d lt. grind (arith, common_steps, vacant (suc k) d))
+    ∙ keeps records h.index w empty (vacant 0 h (omega arith))
+
+-- ---- lists of handles
+
+pub map-reverse : {X Y : Type 0} (f : X → Y) (xs : List X) → map f (reverse xs) ≡ reverse (map f xs)
+map-reverse f [] = refl
+map-reverse f (x ∷ xs) = grind (arith, common_steps, reverse-append, map-append, map-reverse f xs)
+
+map_back : (records : List SlotRecord) (hs : List Handle) → All (λ h. handle_at records h.index ≡ h) hs
+    → map (handle_at records) (slots_of hs) ≡ hs
+map_back records [] named = refl
+map_back records (h ∷ hs) named = search (rules, arith, named 0 h, map_back records hs,
+    All-tail (λ h. handle_at records h.index ≡ h) h hs named)
 
 -- ---- links
 
@@ -120,12 +105,10 @@ among : (index : ℕ) (hs : List Handle) → ((k : ℕ) × (k < length hs) × ((
 among index [] = inr (λ k d lt. absurd (omega arith))
 among index (h ∷ hs) = elim (cases_eq h.index index) [
   | inl same ↦ inl (0, omega arith, λ d. same)
-  | inr other ↦ elim
-      (among index hs) [
-        | inl found ↦ inl (suc found.0, omega (arith, found.1), found.2)
-        | inr none ↦ inr
-            (All-cons (λ h. h.index ≢ index) h hs other none)
-      ]
+  | inr other ↦ elim (among index hs) [
+      | inl found ↦ inl (suc found.0, omega (arith, found.1), found.2)
+      | inr none ↦ inr (All-cons (λ h. h.index ≢ index) h hs other none)
+    ]
 ]
 
 module _ (limits : Limits) (records : List SlotRecord) (pending : List ℕ) (live : ℕ)
@@ -149,21 +132,17 @@ module _ (limits : Limits) (records : List SlotRecord) (pending : List ℕ) (liv
     -- what is so of those that waited last is so of these
     each : (P : Handle → Type 0) → ((position : ℕ) → from ≤ position → position < length pending
         → P (handle_at records (get_or pending position 0))) → All P hs
-    each P waits = All-permutation P waited hs same (λ k d lt. subst P (sym (waited_at k d lt))
-        (waits (from + k) (omega arith) (let long = long_waited in omega arith)))
+    each P waits = All-permutation P waited hs same (λ k d lt. search (rules, arith, waited_at, long_waited, waits))
 
     pub made_slots : All (λ h. h.index < length records) hs
     made_slots = each (λ h. h.index < length records) (λ position late within. linked.made position within)
 
     all_vacant : All (λ h. IsVacant (record_at records h.index)) hs
-    all_vacant = each (λ h. IsVacant (record_at records h.index)) (λ position late within. let is = linked.forward
-        position within in record { dead = ap is_alive is; bare = ap row_of is })
-
-    waited_apart : AllPairs AreApart waited
-    waited_apart i j d lt within same_slot = search (rules, long_waited, waited_at, common_steps)
+    all_vacant = search (rules, each, linked.forward)
 
     apart : AllPairs AreApart hs
-    apart = AllPairs-IsPermutation AreApart (λ g h ne e. ne (sym e)) waited hs same waited_apart
+    apart = AllPairs-IsPermutation AreApart (λ g h ne e. ne (sym e)) waited hs same (λ i j d lt within same_slot. search
+        (rules, long_waited, waited_at, common_steps))
 
     abbrev after : List SlotRecord
     after = moved records (length pending) (slots_of hs)
@@ -171,160 +150,92 @@ module _ (limits : Limits) (records : List SlotRecord) (pending : List ℕ) (liv
     abbrev order : List ℕ
     order = placed pending (length pending) (slots_of hs)
 
-    early_other : (position : ℕ) → position < from → All (λ h. h.index ≢ get_or pending position 0) hs
-    early_other position early = each (λ h. h.index ≢ get_or pending position 0)
-        (λ later late within e. grind (arith, common_steps))
-
     order_long : length order ≡ length pending
     order_long = length-placed pending (length pending) (slots_of hs)
+
+    order_is : order ≡ take from pending ++ reverse (slots_of hs)
+    order_is = search (rules, arith, placed_is pending (length pending) (slots_of hs),
+        length-map hs (λ (h : Handle). h.index), drop_all (length pending) pending, append-nil)
 
     after_long : length after ≡ length records
     after_long = length-moved records (length pending) (slots_of hs)
 
     generation_after : (index : ℕ) → (record_at after index).generation ≡ (record_at records index).generation
-    generation_after index = generation-moved records (length pending) index hs made_slots
+    generation_after index = search (rules, generation-moved, made_slots)
 
     -- the early positions have the slots that they had, and the late ones those of the handles
     early_is : (position : ℕ) → position < from → get_or order position 0 ≡ get_or pending position 0
-    early_is position early = placed-other pending (length pending) position hs (λ k lt e. omega arith)
+    early_is position early = rw order_is (grind (arith, common_steps))
 
     late_is : (position : ℕ) (d : Handle) → from ≤ position → position < length pending
         → get_or order position 0 ≡ (get_or hs (length pending - 1 - position) d).index
     late_is position d late within =
+        let many = length-map hs (λ (h : Handle). h.index) in
         let k = length pending - 1 - position in
-        let at : length pending - 1 - k ≡ position = omega arith in
-        sym (ap (λ n. get_or order n 0) at) ∙ placed-at pending (length pending) k hs d few (omega arith) (omega arith)
+        search (rules, arith, order_is, get_or-append_right (take from pending) (reverse (slots_of hs)) from position 0,
+        length-take-le from pending, get_or-reverse (slots_of hs) (position - from) 0,
+            get_or-map (λ (h : Handle). h.index) hs k d 0)
 
     made_after : (position : ℕ) → position < length order → get_or order position 0 < length after
-    made_after position within = elim (cases_lt position from) [
-      | inl early ↦ let below = linked.made position
-          (omega (arith, order_long)) in omega (arith, early_is position early, after_long)
-      | inr late ↦ let d = handle_at
-          records 0 in let is = late_is position d late (omega (arith, order_long)) in let below = made_slots
-          (length pending - 1 - position) d (omega (arith, order_long)) in omega (arith, after_long)
-    ]
+    made_after position within = search (rules, arith, cases_lt position from, early_is position,
+        late_is position (handle_at records 0), order_long, after_long, linked.made position,
+        made_slots (length pending - 1 - position) (handle_at records 0))
 
     forward_after : (position : ℕ) → position < length order → (record_at after (get_or order position 0)).occupancy
         ≡ Pending position
-    forward_after position within = elim (cases_lt position from) [
-      | inl early ↦ ap (λ i. (record_at after i).occupancy) (early_is position early)
-          ∙ ap (λ (r : SlotRecord). r.occupancy) (moved-other records (length pending) (get_or pending position 0) hs
-          (early_other position early)) ∙ linked.forward position (omega (arith, order_long))
-      | inr late ↦ let long =
-          order_long in let k = length pending - 1 - position in let at : length pending - 1 - k
-          ≡ position = omega arith in let d = handle_at records 0 in ap (λ i. (record_at after i).occupancy)
-          (late_is position d late (omega arith)) ∙ moved-at records (length pending) k hs d made_slots apart
-          (omega arith) ∙ ap (λ n. Pending n) at
-    ]
-
-    record Is (index position : ℕ) : Type 0 where
-      listed : position < length order
-      back : get_or order position 0 ≡ index
+    forward_after position within =
+        let d = handle_at records 0 in
+        let k = length pending - 1 - position in
+        search (rules, arith, cases_lt position from, early_is position, late_is position d, order_long,
+        moved-other records (length pending) (get_or pending position 0) hs,
+            each (λ h. h.index ≢ get_or pending position 0), linked.forward position,
+            moved-at records (length pending) k hs d made_slots apart)
 
     back_after : (index position : ℕ) → index < length after → (record_at after index).occupancy ≡ Pending position
-        → Is index position
-    back_after index position made is = elim (among index hs) [
-      | inl found ↦ let long = order_long in let k =
-          found.0 in let lt : k < length hs = found.1 in let d = handle_at records 0 in let slot : (get_or hs k d).index
-          ≡ index = found.2 d in let there = moved-at records (length pending) k hs d made_slots apart lt in let at :
-          length pending - 1 - k ≡ position = grind (arith, common_steps) in record {
-            listed = omega arith;
-            back = sym (ap (λ n. get_or order n 0) at)
-                ∙ placed-at pending (length pending) k hs d few (omega arith) lt
-                ∙ slot;
-          }
-      | inr none ↦ let was : (record_at records index).occupancy
-          ≡ Pending position = sym (ap (λ (r : SlotRecord). r.occupancy) (moved-other records (length pending) index hs
-          none)) ∙ is in let listed = linked.listed index position (omega (arith, after_long)) was in let back =
-          linked.back index position (omega (arith, after_long)) was in elim (cases_lt position from) [
-            | inl early ↦ record { listed = omega (arith, order_long); back = early_is position early ∙ back }
-            | inr late
-                ↦ let h = handle_at records (get_or pending position 0) in let long = long_waited in let has =
-                Contains-permutation waited hs h same (
-                  position - from,
-                  omega arith,
-                  waited_at (position - from) h (omega arith) ∙ ap (λ n. handle_at records (get_or pending n 0)) (omega arith),
-                ) in absurd (none has.0 h has.1 (ap (λ (g : Handle). g.index) has.2 ∙ back))
-          ]
-    ]
+        → (position < length order) × (get_or order position 0 ≡ index)
+    back_after index position made is =
+        let d = handle_at records 0 in
+        let more = after_long in
+        let long = order_long in
+        elim (among index hs) [
+          | inl found ↦
+              let there = moved-at records (length pending) found.0 hs d made_slots apart found.1 in
+              let slot = found.2 d in
+              let at : position ≡ length pending - 1 - found.0 = grind (arith, common_steps) in
+              search (rules, arith, late_is position d)
+          | inr none ↦
+              let was = rw (moved-other records (length pending) index hs none) at is in
+              let listed = linked.listed index position (omega arith) was in
+              let back = linked.back index position (omega arith) was in
+              let still = All-permutation (λ h. h.index ≢ index) hs waited (IsPermutation-sym waited hs same) none
+                  (position - from) d in
+              search (rules, arith, cases_lt position from, early_is position, waited_at (position - from) d,
+                  long_waited)
+        ]
 
     same_living : occupants 0 after ≡ occupants 0 records
-    same_living = kept-moved (occupants 0) (λ rs i w new old. occupants-set 0 rs i w new.dead old.dead) records
-        (length pending) hs all_vacant
+    same_living = kept-moved (occupants 0) (search (rules, occupants-set)) records (length pending) hs all_vacant
 
     same_rows : rows_from 0 after ≡ rows_from 0 records
-    same_rows = kept-moved (rows_from 0) (λ rs i w new old. rows_from-set 0 rs i w new.bare old.bare) records
-        (length pending) hs all_vacant
+    same_rows = kept-moved (rows_from 0) (search (rules, rows_from-set)) records (length pending) hs all_vacant
 
     pub front_keeps_links : AreLinked limits after order live
     front_keeps_links =
-        let long = order_long in
-        let longer = after_long in
-        record {
-          limited = linked.limited;
-          few = omega (arith, linked.few);
-          counted = linked.counted ∙ ap length (sym same_living);
-          each_once = omega (arith, linked.each_once);
-          least = λ index lt. let was = linked.least index (omega arith) in omega (arith, generation_after index);
-          greatest = λ index lt. let was = linked.greatest index (omega arith) in omega (arith, generation_after index);
-          made = made_after;
-          forward = forward_after;
-          listed = λ index position lt is. (back_after index position lt is).listed;
-          back = λ index position lt is. (back_after index position lt is).back;
-        }
+        let listed = λ (index position : ℕ) (lt : index < length after) (is : (record_at after index).occupancy
+            ≡ Pending position). (back_after index position lt is).0 in
+        let back = λ (index position : ℕ) (lt : index < length after) (is : (record_at after index).occupancy
+            ≡ Pending position). (back_after index position lt is).1 in
+        search (rules, order_long, after_long, same_living, generation_after, made_after, forward_after)
 
-    abbrev kept : List Handle
-    kept = take from (map (handle_at records) pending)
-
-    short : length kept ≡ from
-    short = length-take-le from (map (handle_at records) pending)
-        (omega (arith, length-map pending (handle_at records)))
-
-    all_named : All (λ h. handle_at after h.index ≡ h) hs
-    all_named = each (λ h. handle_at after h.index ≡ h) (λ position late within i. record {
-      index = get_or pending position 0;
-      generation = generation_after (get_or pending position 0) i;
-    })
-
-    waits_after : (k : ℕ) (d : Handle) → k < length (map (handle_at after) order)
-        → get_or (map (handle_at after) order) k d ≡ get_or (kept ++ reverse hs) k d
-    waits_after k d lt =
-        let long = order_long in
-        let all = length-map order (handle_at after) in
-        let first = short in
-        get_or-map (handle_at after) order k 0 d (omega arith) ∙ elim (cases_lt k from) [
-          | inl early ↦ let longer =
-              length-map pending (handle_at records) in ap (handle_at after) (early_is k early)
-              ∙ (λ i. record { index = get_or pending k 0; generation = generation_after (get_or pending k 0) i })
-              ∙ sym (get_or-map (handle_at records) pending k 0 d (omega arith))
-              ∙ sym (get_or-take from (map (handle_at records) pending) k d early)
-              ∙ sym (get_or_append_left kept (reverse hs) d k (omega arith))
-          | inr late ↦ let j = length pending - 1
-              - k in let back : length hs - 1 - (k - from) ≡ j = omega arith in let there : length kept + (k - from)
-              ≡ k = omega arith in ap (handle_at after) (late_is k d late (omega arith)) ∙ all_named j d (omega arith)
-              ∙ sym (ap (λ n. get_or hs n d) back) ∙ sym (get_or-reverse hs (k - from) d (omega arith))
-              ∙ sym (get_or-append-add kept (reverse hs) (k - from) d) ∙ ap (λ n. get_or (kept ++ reverse hs) n d) there
-        ]
+    -- they are those that waited, and then these, the last first
+    waits_after : map (handle_at after) order ≡ take from (map (handle_at records) pending) ++ reverse hs
+    waits_after =
+        let named = map_back records hs (each (λ h. handle_at records h.index ≡ h) (λ position late within. refl)) in
+        search (rules, generation_after, order_is, map-append, take-map, map-reverse)
 
     pub roster_of-front : roster_of limits after order ≡ record (roster_of limits records pending)
         { pending = take from (roster_of limits records pending).pending ++ reverse hs }
-    roster_of-front =
-        let waits : map (handle_at after) order ≡ kept ++ reverse hs =
-        same_lists _ _ (omega (
-          arith,
-          order_long,
-          length-map order (handle_at after),
-          length-append kept (reverse hs),
-          length-reverse hs,
-          short,
-        )) waits_after in
-        λ i. record {
-          limits = limits;
-          live = sets.from_list (same_living i);
-          rows = maps.from_entries (same_rows i);
-          pending = waits i;
-          made = after_long i;
-        }
+    roster_of-front = search (rules, waits_after, same_living, same_rows, after_long)
 
 -- the same of a roster that the vectors stand for, and of the slots of the handles
 module _ (limits : Limits) (records : List SlotRecord) (pending : List ℕ) (live : ℕ) (is : List ℕ) (r : Roster)
@@ -345,24 +256,15 @@ module _ (limits : Limits) (records : List SlotRecord) (pending : List ℕ) (liv
   same_in : IsPermutation (drop (length pending - length hs) (map (handle_at records) pending)) hs
   same_in = search (rules, long_view, as_many)
 
-  made_front : All (λ h. h.index < length records) hs
-  made_front = made_slots limits records pending live hs linked few_in same_in
-
   pub slots_in : All (λ i. i < length records) is
   slots_in = subst (All (λ i. i < length records)) (sym order.slots)
-      (λ k d lt. let h = handle_at records 0 in let long = length-map hs (λ (h : Handle). h.index) in let at =
-      get_or-map (λ (h : Handle). h.index) hs k h d (omega arith) in let below = made_front k h (omega arith) in omega
-      (arith, at))
+      (All-map (λ i. i < length records) (λ (h : Handle). h.index) hs
+      (made_slots limits records pending live hs linked few_in same_in))
 
   pub links_in : AreLinked limits (moved records (length pending) is) (placed pending (length pending) is) live
-  links_in = subst (λ is. AreLinked limits (moved records (length pending) is) (placed pending (length pending) is)
-      live) (sym order.slots) (front_keeps_links limits records pending live hs linked few_in same_in)
+  links_in = search (rules, order.slots, front_keeps_links, few_in, same_in)
 
   pub roster_in : roster_of limits (moved records (length pending) is) (placed pending (length pending) is)
       ≡ record r { pending = take (length r.pending - length is) r.pending ++ reverse hs }
-  roster_in = (λ i. roster_of limits (moved records (length pending) (order.slots i))
-      (placed pending (length pending) (order.slots i))) ∙ roster_of-front limits records pending live hs linked few_in
-      same_in ∙ (λ i. record (view i) {
-        pending = take (sym long_view i - sym as_many i) (view i).pending
-            ++ reverse hs;
-      })
+  roster_in = search (rules, order.slots, roster_of-front limits records pending live hs linked few_in same_in,
+      long_view, as_many)

@@ -1,5 +1,5 @@
 -- Many handles that come to life at once: as if they were requested and flushed.
-use Rattle.ent_alloc.proofs.Common.{rules, ◌≡◌, ap, ◌∙◌, refl, ℕ, ◌+◌, ◌-◌, ◌≤◌, length, take, drop, reverse, ◌++◌, All, None, arith, List, slice_index_or, length-append, length-reverse, take_at, drop_at, All-take, Handle, Requests, Roster, Allocator, available, fresh, after_take, after_flush, IsSound, IsLive, Entities, allocator_of, HasRowsOfLiving}
+use Rattle.ent_alloc.proofs.Common.{rules, ◌≡◌, refl, ℕ, ◌+◌, ◌-◌, ◌≤◌, length, take, drop, reverse, ◌++◌, All, None, arith, List, length-append, length-reverse, take_at, drop_at, All-take, Handle, Requests, Roster, Allocator, fresh, after_take, after_flush, IsSound, IsLive, Entities, allocator_of, HasRowsOfLiving}
 use Rattle.std.specs.FinMap as maps
 use Rattle.ent_alloc.proofs.Soundness.{after_take-sound, after_flush-sound}
 use Rattle.ent_alloc.proofs.Replies.{not_apart, of_pool}
@@ -9,16 +9,11 @@ use Rattle.ent_alloc.proofs.MeaningOfRequests.{lower_served}
 use Rattle.ent_alloc.proofs.MeaningOfFlush.{flushed_roster, flush_is, taken_is}
 use Rattle.ent_alloc.proofs.MeaningOfAlloc.{pool_is}
 
--- what may be given is not alive
-not_live : (s : Allocator) → IsSound s → All (λ x. ¬ (IsLive s x)) (available s)
-not_live s sound k d lt alive = search (rules, not_apart)
-
 -- so it has no row
 pub front_no_row : (e : Entities) (n : ℕ) → IsSound e.allocator → HasRowsOfLiving e
     → All (λ h. maps.get e.rows h ≡ None) (take n e.allocator.pool)
-front_no_row e n sound kept k d lt = kept (slice_index_or (take n e.allocator.pool) k d)
-    (All-take (λ x. ¬ (IsLive e.allocator x)) n e.allocator.pool (of_pool (λ x. ¬ (IsLive e.allocator x)) e.allocator
-    (not_live e.allocator sound)) k d lt)
+front_no_row e n sound kept k d lt = kept _ (All-take (λ x. ¬ (IsLive e.allocator x)) n e.allocator.pool
+    (of_pool (λ x. ¬ (IsLive e.allocator x)) e.allocator (λ i x below alive. search (rules, not_apart))) k d lt)
 
 -- a list that has the fresh handles first, once its two parts are in the order of single calls
 pub ordered : (news olds items handles : List Handle) (many len : ℕ) → items ≡ news ++ olds → many ≡ length news
@@ -50,7 +45,6 @@ module _ (r : Roster) (requests : Requests) (s : Allocator) (rest : IsAtRest r r
   -- the slots that are left stand for the allocator
   pub many_given : (new : Roster) → new ≡ flushed_roster r waits news
       → StandFor new requests (after_flush (after_take s n))
-  many_given new is = closed new (flushed_roster r waits news) requests (after_flush (after_take s n)) is
-      rest.requests_is (flush_is r n n (omega arith) enough sound ∙ ap after_flush requested)
-      (after_flush-sound (after_take s n) (after_take-sound s n rest.sound))
-      (rows-joined _ (drop waits r.pending) r.rows (rows-joined r.live (fresh r.made news) r.rows rest.rows))
+  many_given new is = search (rules, arith,
+      closed new (flushed_roster r waits news) requests (after_flush (after_take s n)) is, rest.requests_is,
+      flush_is r n n, sound, requested, after_flush-sound, after_take-sound, rows-joined)

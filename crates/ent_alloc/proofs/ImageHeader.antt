@@ -1,7 +1,7 @@
 -- What stands before the slots of an image, byte by byte.
-use Rattle.ent_alloc.proofs.Common.{rules, ◌≡◌, ◌≢◌, refl, sym, ap, ◌∙◌, ℕ, ◌^◌, ◌<◌, List, ◌++◌, length, from_le_bytes, from_le_bytes-to_le_bytes_8, length-append, append_assoc, word, long, magic, version, numbers_bytes, header_bytes, AreNumbers, Header}
+use Rattle.ent_alloc.proofs.Common.{rules, ◌≡◌, ◌≢◌, refl, ℕ, ◌^◌, ◌<◌, List, ◌++◌, length, from_le_bytes, from_le_bytes-to_le_bytes_8, length-append, append_assoc, word, long, magic, version, numbers_bytes, header_bytes, AreNumbers, Header}
 use Rattle.std.specs.Int.{w64}
-use Rattle.ent_alloc.proofs.ImageWords.{length-word, same_words, same_parts}
+use Rattle.ent_alloc.proofs.ImageWords.{same_words, same_parts}
 
 pub length-long : (n : ℕ) → length (long n) ≡ 8
 unfolding long
@@ -11,14 +11,11 @@ pub from_long : (n : ℕ) → n < 2 ^ 64 → from_le_bytes w64 (long n) ≡ n
 unfolding long
 from_long n h = from_le_bytes-to_le_bytes_8 n h
 
-pub same_long : (m n : ℕ) → m < 2 ^ 64 → n < 2 ^ 64 → long m ≡ long n → m ≡ n
-same_long m n hm hn same = sym (from_long m hm) ∙ ap (from_le_bytes w64) same ∙ from_long n hn
-
 pub same_longs : (m n : ℕ) (xs ys : List ℕ) → m < 2 ^ 64 → n < 2 ^ 64 → long m ++ xs ≡ long n ++ ys
     → (m ≡ n) × (xs ≡ ys)
 same_longs m n xs ys hm hn same =
     let parts = same_parts 8 (long m) xs (long n) ys (length-long m) (length-long n) same in
-    (same_long m n hm hn parts.0, parts.1)
+    (rw (← from_long m hm, parts.0) (from_long n hn), parts.1)
 
 -- the letters as a number
 abbrev pub letters : ℕ
@@ -28,13 +25,9 @@ pub letters_are : long letters ≡ magic
 unfolding long
 letters_are = refl
 
-pub length-numbers_bytes : (h : Header) → length (numbers_bytes h) ≡ 28
-unfolding numbers_bytes
-length-numbers_bytes h = search (rules, length-append, length-word, length-long)
-
 pub length-header_bytes : (h : Header) → length (header_bytes h) ≡ 40
-unfolding header_bytes
-length-header_bytes h = search (rules, length-append, length-word, length-numbers_bytes)
+unfolding header_bytes numbers_bytes word long
+length-header_bytes h = refl
 
 -- the header, number by number
 pub header_is : (h : Header) → header_bytes h ≡ long letters ++ (word version ++ numbers_bytes h)

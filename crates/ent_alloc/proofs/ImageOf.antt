@@ -1,15 +1,14 @@
 -- The image of a sound allocator: its numbers fit, it tells the allocator, and that of what was read
 -- is what was read.
-use Rattle.ent_alloc.proofs.Common.{rules, ◌≡◌, ◌≢◌, refl, sym, ap, ◌∙◌, subst, ℕ, ◌+◌, ◌-◌, ◌*◌, ◌<◌, ◌≤◌, List, ◌++◌, length, take, drop, filter, arith, Ok, Err, Result, IfOk, ◌⊎◌, inl, inr, ImageFault, Magic, Version, Counts, Length, Slot, Position, Memory, common_steps, length-append, length-reverse, length-drop, length-take-le, Roster, Allocator, available, top, is_old, IsSound, Entities, allocator_of, entities_of, AreReserved, slot, slot_bytes, slots_bytes, AreSlots, HasImage, roster, header, header_bytes, image, kept_bytes, AreServed, AreNumbers, Header}
-use Rattle.std.proofs.Common.{IfErr, IsErrAnd}
+use Rattle.ent_alloc.proofs.Common.{common_steps, rules, ◌≡◌, ◌≢◌, refl, sym, ap, ◌∙◌, ℕ, ◌+◌, ◌-◌, ◌*◌, ◌<◌, ◌≤◌, List, ◌++◌, length, take, drop, filter, arith, Ok, Err, Result, IfOk, ◌⊎◌, inl, inr, ImageFault, Memory, length-append, length-reverse, length-drop, length-take-le, Roster, Allocator, available, top, is_old, Entities, allocator_of, entities_of, AreReserved, slot, slot_bytes, slots_bytes, AreSlots, HasImage, roster, header, header_bytes, image, kept_bytes, AreServed, AreNumbers, Header, IfErr, IsErrAnd}
 use Rattle.ent_alloc.specs.declared.image_fault.ImageFault.TheVariants.{Limits, Requests}
 use Rattle.ent_alloc.proofs.PoolLaw.{length-taken}
 use Rattle.ent_alloc.proofs.Meaning.{length-idle, top_is}
 use Rattle.ent_alloc.proofs.Settled.{settled-sound}
 use Rattle.ent_alloc.proofs.MeaningOfRequests.{settled_is}
 use Rattle.ent_alloc.proofs.ImageWords.{length-slot_bytes, length-pieces, piece, same_slot}
-use Rattle.ent_alloc.proofs.ImageSlots.{few, small, same_roster}
-use Rattle.ent_alloc.proofs.ImageSound.{roster_slots, idle_is, same_entities, slots_sound, roster_is}
+use Rattle.ent_alloc.proofs.ImageSlots.{few, slots_sound, small, same_roster}
+use Rattle.ent_alloc.proofs.ImageSound.{roster_slots, idle_is, same_entities, roster_is}
 use Rattle.ent_alloc.proofs.ImageHeader.{same_header, length-header_bytes}
 
 -- ---- slots
@@ -21,17 +20,14 @@ length-slots_bytes r = search (rules, length-pieces, length-slot_bytes)
 slot_in : (r : Roster) (index : ℕ) → index < r.made → take 12 (drop (12 * index) (slots_bytes r))
     ≡ slot_bytes (slot r index)
 unfolding slots_bytes
-slot_in r index lt =
-    let at : 0 + index ≡ index = omega arith in
-    piece (λ index. slot_bytes (slot r index)) 12 (λ index. length-slot_bytes (slot r index)) 0 r.made index lt
-    ∙ ap (λ k. slot_bytes (slot r k)) at
+slot_in r index lt = piece _ 12 (λ index. length-slot_bytes (slot r index)) 0 r.made index index lt (omega arith)
 
 -- slots with one image are the same
 same_slots : (r q : Roster) → AreSlots r → AreSlots q → r.limits ≡ q.limits → r.made ≡ q.made
     → length r.pending ≡ length q.pending → slots_bytes r ≡ slots_bytes q → r ≡ q
 same_slots r q is_r is_q limits made long same = same_roster r q is_r is_q limits made long
     (λ index lt. same_slot (slot r index) (slot q index) (small r is_r index) (small q is_q index)
-    (sym (slot_in r index lt) ∙ ap (λ bytes. take 12 (drop (12 * index) bytes)) same ∙ slot_in q index (omega arith)))
+    (rw (← slot_in r index lt, same) (slot_in q index (omega arith))))
 
 -- ---- an allocator with its image
 
@@ -43,15 +39,14 @@ module _ (e : Entities) (has : HasImage e) where
   top_as = length-reverse (filter (is_old s.made) (available s))
 
   pub few_wait : top s ≤ s.made
-  few_wait = let most = few (roster e) (roster_slots e has) in omega (arith, top_as)
-
-  long_available : length (available s) ≡ top s + (s.limits.slots - s.made)
-  long_available =
-      let idle_long = ap length (idle_is e has) in let counted = length-idle (roster e) in omega (arith, top_as)
+  few_wait = omega (arith, top_as, few (roster e) (roster_slots e has))
 
   -- how many were requested, and how many of them are reserved
   pub served : AreServed s.asked (length s.taken) (top s + (s.limits.slots - s.made))
-  served = grind (arith, common_steps, length-append, length-drop, long_available, length-taken)
+  served =
+      let long : length (available s) ≡ top s + (s.limits.slots - s.made) =
+      omega (arith, top_as, ap length (idle_is e has), length-idle (roster e)) in
+      grind (arith, common_steps, length-append, length-drop, length-taken)
 
   pub numbers_fit : AreNumbers (header e)
   numbers_fit = grind (arith, common_steps, served, few_wait)
@@ -82,18 +77,8 @@ numbers r asked given = record {
 module _ (r : Roster) (asked given : ℕ) (are : AreSlots r)
     (requests : AreServed asked given (length r.pending + (r.limits.slots - r.made))) where
   pub reserved_are : AreReserved r asked given
-  reserved_are =
-      let rest = slots_sound r are in
-      let long = length-idle r in
-      record {
-        sound = subst IsSound (sym (settled_is r asked given)) (settled-sound (allocator_of r 0 0) rest refl given asked
-            requests.least (λ enough. requests.all (omega arith)));
-        asked_in = requests.asked_in;
-        given_in = requests.within;
-        given_least = requests.least;
-        given_all = requests.all;
-        rows = are.rows_of_living;
-      }
+  reserved_are = search (rules, arith, settled-sound (allocator_of r 0 0) (slots_sound r are) refl given asked,
+      length-idle r, settled_is)
 
 module _ (r : Roster) (asked given : ℕ) (are : AreSlots r) (reserved : AreReserved r asked given)
   where
@@ -109,25 +94,15 @@ module _ (r : Roster) (asked given : ℕ) (are : AreSlots r) (reserved : AreRese
 pub handed_on : {T : Type 0} (result : Result T ImageFault) (fault : ImageFault) (P : ImageFault → Type 0)
     → IsErrAnd result (λ y. y ≡ fault) → P fault → IfErr result P
 handed_on (Ok x) fault P is holds = tt
-handed_on (Err y) fault P is holds = subst P (sym is) holds
-
-memory_or_not : (fault : ImageFault) → (fault ≡ Memory) ⊎ (fault ≢ Memory)
-memory_or_not Memory = inl refl
-memory_or_not Magic = inr (λ is. grind (arith, common_steps))
-memory_or_not (Version version) = inr (λ is. grind (arith, common_steps))
-memory_or_not Limits = inr (λ is. grind (arith, common_steps))
-memory_or_not Counts = inr (λ is. grind (arith, common_steps))
-memory_or_not (Length expected) = inr (λ is. grind (arith, common_steps))
-memory_or_not Requests = inr (λ is. grind (arith, common_steps))
-memory_or_not (Slot index) = inr (λ is. grind (arith, common_steps))
-memory_or_not (Position position) = inr (λ is. grind (arith, common_steps))
+handed_on (Err y) fault P is holds = rw is holds
 
 -- what is read of an image is its allocator
 pub exact : (bytes : List ℕ) (result : Result Entities ImageFault) → IfOk result (λ e. image e ≡ bytes)
     → IfOk result HasImage → IfErr result (λ fault. fault ≢ Memory → (e : Entities) → HasImage e → image e ≢ bytes)
     → (e : Entities) → HasImage e → image e ≡ bytes → (result ≡ Ok e) ⊎ (result ≡ Err Memory)
 exact bytes (Ok d) found has refused e is same = inl (ap Ok (same_image d e has is (found ∙ sym same)))
-exact bytes (Err fault) found has refused e is same = grind (arith, common_steps, memory_or_not)
+exact bytes (Err Memory) found has refused e is same = inr refl
+exact bytes (Err fault) found has refused e is same = absurd (refused (λ memory. cc) e is same)
 
 -- it has no more bytes than those of its slots
 pub bounded : (bytes : List ℕ) (result : Result Entities ImageFault) → IfOk result (λ e. image e ≡ bytes)

@@ -1,6 +1,6 @@
 -- Where a slot of an image is refused, no slots of an allocator have the bytes for their image.
-use Rattle.ent_alloc.proofs.Common.{◌≡◌, ◌≢◌, refl, sym, ap, ◌∙◌, ℕ, zero, suc, ◌+◌, ◌-◌, ◌^◌, ◌<◌, rules, ◌≤◌, inl, inr, List, [], ◌∷◌, ◌++◌, length, get_or, arith, flat_map, range_with_len, cases_eq, append_assoc, Limits, AreLimits, Roster, record_at, word, slot, slot_bytes, slots_bytes, AreSlots, number_of, kind_of, kept, record_bytes, IsGeneration, IsWritten, vacant, CanWait, AreRead, SlotRecord, Occupancy, Alive, AliveWithRow, Pending, Retired}
-use Rattle.ent_alloc.proofs.ImageWords.{IsSmall, same_slot, same_parts, same_words, length-slot_bytes, kind_below}
+use Rattle.ent_alloc.proofs.Common.{◌≡◌, ◌≢◌, refl, ◌∙◌, ℕ, zero, suc, ◌+◌, ◌-◌, ◌^◌, ◌<◌, rules, ◌≤◌, List, [], ◌∷◌, ◌++◌, length, get_or, arith, flat_map, range_with_len, cases_eq, append_assoc, Limits, AreLimits, Roster, record_at, word, slot, slot_bytes, slots_bytes, AreSlots, number_of, kind_of, kept, record_bytes, IsGeneration, IsWritten, vacant, CanWait, AreRead, SlotRecord, Occupancy, Pending, Retired, sym, false, Option, None, Some, IfSome, IfNone, long, is_slot, word_at, Alive, append-nil}
+use Rattle.ent_alloc.proofs.ImageWords.{IsSmall, same_slot, same_parts, same_words, length-slot_bytes, kind_below, first_word, second_word, third_word}
 use Rattle.ent_alloc.proofs.ImageSlots.{waiter, small, slot_waits, waits_from, written}
 
 -- ---- pieces and what follows them
@@ -24,12 +24,8 @@ module _ (f : ℕ → List ℕ) (g : SlotRecord → List ℕ) (n : ℕ) (long_f 
   split from zero (r ∷ records) rest le same = absurd (omega arith)
   split from (suc count) (r ∷ records) rest le same =
       let parts = same_parts n (f from) (flat_map f (range_with_len (from + 1) count)) (g r)
-      (flat_map g records ++ rest) (long_f from) (long_g r) (same ∙ append_assoc (g r) (flat_map g records) rest) in
-      let more = split (from + 1) count records rest (omega arith) parts.1 in
-      let first : from + 0 ≡ from = omega arith in
-      let at : from + 1 + length records ≡ from + suc (length records) = omega arith in
-      let left : count - length records ≡ suc count - suc (length records) = omega arith in
-      record { each = each_of from r records more.each (ap f first ∙ parts.0); left = search rules }
+      (flat_map g records ++ rest) (long_f from) (long_g r) (rw append_assoc at same) in
+      search (rules, arith, split (from + 1) count records rest (omega arith) parts.1, each_of)
 
 -- the words of a slot, and what follows it
 pub slot_in_words : (s : SlotRecord) (rest : List ℕ) → slot_bytes s ++ rest ≡ word s.generation
@@ -39,10 +35,8 @@ slot_in_words s rest = search (rules, append_assoc)
 
 written_below : (limits : Limits) → AreLimits limits → (g : ℕ) (t : Occupancy) → IsWritten limits g t
     → (g < 2 ^ 32) × (number_of t < 2 ^ 32)
-written_below limits within g Alive is = search rules
-written_below limits within g (AliveWithRow row) is = search rules
-written_below limits within g (Pending position) is = search rules
 written_below limits within g Retired is = (omega arith, omega arith)
+written_below limits within g _ is = search rules
 
 -- three words that no slot is written as
 pub not_written : (limits : Limits) (g k n : ℕ) (rest : List ℕ) → AreLimits limits → g < 2 ^ 32 → k < 2 ^ 32
@@ -73,10 +67,7 @@ module _ (r : Roster) (are : AreSlots r) where
   waits_as : (index position : ℕ) (s : SlotRecord) → slot r index ≡ kept s → s.occupancy ≡ Pending position
       → (position < length r.pending) × ((waiter r position).index ≡ index)
   waits_as index position s is waits =
-      let found = waits_from r are index position s.generation (is ∙ (λ i. kept (record {
-        generation = s.generation;
-        occupancy = waits i;
-      }))) in
+      let found = waits_from r are index position s.generation (is ∙ rw waits refl) in
       search rules
 
   module _ (records : List SlotRecord) (pending rest : List ℕ) (live : ℕ) (read : AreRead r.limits records pending live)
@@ -88,14 +79,9 @@ module _ (r : Roster) (are : AreSlots r) where
     pub position_taken : length records ≡ r.made → length pending ≡ length r.pending → (position : ℕ)
         → position < length pending → get_or pending position 0 ≢ vacant
     position_taken all long position lt vacant_there =
-        let h = waiter r position in
-        let below : position < length r.pending = omega arith in
-        let index_made : h.index < length records = omega arith in
-        let is = sym (so_far h.index index_made) ∙ slot_waits r are position below in
-        let waits : (record_at records h.index).occupancy ≡ Pending position = ap (λ (s : SlotRecord). s.occupancy)
-        is in
-        let back = read.back h.index position index_made waits in
-        omega (arith, are.limits.slots, are.made)
+        let index = (waiter r position).index in
+        search (rules, arith, so_far index, slot_waits r are position, read.back index position, are.limits.slots,
+            are.made, are.waiting_made)
 
     -- a slot that waits where another one does
     pub can_wait : length pending ≡ length r.pending → (s : SlotRecord) → slot r (length records) ≡ kept s
@@ -103,46 +89,60 @@ module _ (r : Roster) (are : AreSlots r) where
     can_wait long s is = by_occupancy s.occupancy refl
       where
         by_occupancy : (t : Occupancy) → s.occupancy ≡ t → CanWait pending t
-        by_occupancy Alive waits = tt
-        by_occupancy (AliveWithRow row) waits = tt
-        by_occupancy Retired waits = tt
         by_occupancy (Pending position) waits =
             let here = waits_as (length records) position s is waits in
-            let below : position < length pending = omega (arith, here.0) in (
-              below,
-              elim (cases_eq (get_or pending position 0) vacant) [
-                | inl free ↦ free
-                | inr taken ↦
-                    let j = get_or pending position 0 in
-                    let before : j < length records = read.made position below taken in
-                    let there = waits_as j position (record_at records j) (so_far j before)
-                    (read.forward position below taken) in
-                    absurd (omega arith)
-              ],
-            )
+            let j = get_or pending position 0 in
+            search (rules, arith, cases_eq j vacant, read.made position, read.forward position, so_far j,
+            waits_as j position (record_at records j))
+        by_occupancy _ waits = tt
 
   -- bytes that begin with no slot
   pub no_slot_next : (records : List SlotRecord) (bytes : List ℕ) → length records < r.made
       → ((s : SlotRecord) (rest : List ℕ) → IsWritten r.limits s.generation s.occupancy → bytes ≢ slot_bytes s ++ rest)
       → slots_bytes r ≡ flat_map record_bytes records ++ bytes → ⊥
-  no_slot_next records bytes lt none same =
-      let index = length records in
-      let left = (begins records bytes (omega arith) same).left in
-      let at : 0 + index ≡ index = omega arith in
-      let more : r.made - index ≡ suc (r.made - index - 1) = omega arith in
-      search (rules, written)
+  no_slot_next records bytes lt none same = search (rules, arith, begins records bytes (omega arith) same, written)
 
   -- the next slot, as it is written
   pub next_slot : (records : List SlotRecord) (rest : List ℕ) (s : SlotRecord) → length records < r.made
       → IsGeneration r.limits s.generation → number_of s.occupancy < 2 ^ 32
       → slots_bytes r ≡ flat_map record_bytes records ++ (record_bytes s ++ rest) → slot r (length records) ≡ kept s
-  next_slot records rest s lt generation number same =
-      let index = length records in
-      let left = (begins records (record_bytes s ++ rest) (omega arith) same).left in
-      let at : 0 + index ≡ index = omega arith in
-      let more : r.made - index ≡ suc (r.made - index - 1) = omega arith in
-      let joined = left ∙ (λ i. flat_map piece (range_with_len (at i) (more i))) in
-      let parts = same_parts 12 (record_bytes s) rest (piece index)
-      (flat_map piece (range_with_len (index + 1) (r.made - index - 1))) (length-slot_bytes (kept s))
-      (length-slot_bytes (slot r index)) joined in
-      search (rules, same_kept)
+  next_slot records rest s lt generation number same = search (rules, arith, same_kept (length records) s,
+      begins records (record_bytes s ++ rest) (omega arith) same,
+          same_parts 12 (record_bytes s) rest (piece (length records)), length-slot_bytes)
+
+-- ---- a slot that is read of its twelve bytes
+
+-- what is so if there is none
+pub if_none : {T : Type 0} (r : Option T) (P Q : Type 0) → IfNone r P → (P → Q) → IfNone r Q
+if_none None P Q is then = then is
+if_none _ P Q is then = tt
+
+no_more : (rest : List ℕ) → length rest ≡ 0 → rest ≡ []
+no_more [] none = refl
+no_more (x ∷ rest) none = absurd (omega arith)
+
+module _ (bytes : List ℕ) (g k n : ℕ) (rest : List ℕ) (words : bytes ≡ word g ++ (word k ++ (word n ++ rest)))
+    (all : length rest ≡ 0) where
+  pub spelled : (r : Option SlotRecord) → IfSome r (λ s. (kept s).generation ≡ g)
+      → IfSome r (λ s. kind_of s.occupancy ≡ k) → IfSome r (λ s. number_of s.occupancy ≡ n)
+      → IfSome r (λ s. bytes ≡ record_bytes s)
+  spelled None generation kind number = tt
+  spelled (Some s) generation kind number =
+      let bytes_are = slot_in_words (kept s) rest in
+      rw (words, ← generation, ← kind, ← number, ← bytes_are, no_more rest all, append-nil) refl
+
+  module _ (limits : Limits) (within : AreLimits limits) (hg : g < 2 ^ 32) (hk : k < 2 ^ 32) (hn : n < 2 ^ 32) where
+    pub none_spelled : (r : Option SlotRecord) → IfNone r ((s : SlotRecord) → IsWritten limits s.generation s.occupancy
+        → s.generation ≡ g → kind_of s.occupancy ≡ k → number_of s.occupancy ≢ n)
+        → IfNone r ((s : SlotRecord) → IsWritten limits s.generation s.occupancy → bytes ≢ slot_bytes s)
+    none_spelled r none = if_none r _ _ none (λ not s is same. not_written limits g k n rest within hg hk hn not s [] is
+        (sym words ∙ same ∙ sym (append-nil (slot_bytes s))))
+
+    pub no_row : (r : Option SlotRecord) → IfNone r (is_slot limits.generations g k n ≡ false)
+        → IfNone r (is_slot limits.generations (word_at bytes 0) (word_at bytes 4) (word_at bytes 8) ≡ false)
+    no_row r none = search (rules, if_none, first_word, second_word, third_word)
+
+pub living_bytes : (bytes : List ℕ) (g n : ℕ) (rest more : List ℕ) → bytes ≡ word g ++ rest → rest ≡ long n ++ more
+    → n ≡ 1 → length more ≡ 0 → bytes ≡ record_bytes (record { generation = g; occupancy = Alive })
+unfolding slot_bytes long word
+living_bytes bytes g n rest more first second one none = rw (first, second, one, no_more more none) refl

@@ -1,5 +1,5 @@
 -- The words of an image, and its slots, byte by byte.
-use Rattle.ent_alloc.proofs.Common.{rules, ◌≡◌, refl, sym, ap, ◌∙◌, ℕ, zero, suc, ◌+◌, ◌*◌, ◌^◌, ◌<◌, List, ◌++◌, length, take, drop, arith, w32, from_le_bytes, flat_map, range_with_len, from_le_bytes-to_le_bytes_4, length-append, take_at, drop_at, drop-drop, word, slot_bytes, kind_of, number_of, SlotRecord, Occupancy, Alive, AliveWithRow, Pending, Retired}
+use Rattle.ent_alloc.proofs.Common.{rules, ◌≡◌, refl, ap, ℕ, zero, suc, ◌+◌, ◌*◌, ◌^◌, ◌<◌, List, ◌++◌, length, take, drop, arith, w32, from_le_bytes, flat_map, range_with_len, from_le_bytes-to_le_bytes_4, length-append, take_at, drop_at, drop-drop, word, slot_bytes, kind_of, number_of, SlotRecord, Occupancy, Alive, AliveWithRow, Pending, Retired, ◌≤◌, common_steps, drop-append-le, take-append-le, length-drop, word_at, ◌≢◌, sym, ◌∙◌, ◌/◌, get_or, first_chunks, take-append-drop, length-take-le, div-mul-add, Limits, IsWritten}
 
 pub length-word : (n : ℕ) → length (word n) ≡ 4
 unfolding word
@@ -11,26 +11,23 @@ from_word n h = from_le_bytes-to_le_bytes_4 n h
 
 -- numbers that are spelled alike are one
 pub same_word : (m n : ℕ) → m < 2 ^ 32 → n < 2 ^ 32 → word m ≡ word n → m ≡ n
-same_word m n hm hn same = sym (from_word m hm) ∙ ap (from_le_bytes w32) same ∙ from_word n hn
+same_word m n hm hn same = rw (← from_word m hm, same) (from_word n hn)
 
 -- parts of as many bytes
 pub same_parts : (n : ℕ) (xs ys us vs : List ℕ) → length xs ≡ n → length us ≡ n → xs ++ ys ≡ us ++ vs
     → (xs ≡ us) × (ys ≡ vs)
-same_parts n xs ys us vs long_x long_u same = (
-  sym (take_at xs ys n long_x) ∙ ap (take n) same ∙ take_at us vs n long_u,
-  sym (drop_at xs ys n long_x) ∙ ap (drop n) same ∙ drop_at us vs n long_u,
-)
+same_parts n xs ys us vs long_x long_u same = search
+    (rules, take_at xs ys n, take_at us vs n, drop_at xs ys n, drop_at us vs n)
 
 -- so a word and what follows it
 pub same_words : (m n : ℕ) (xs ys : List ℕ) → m < 2 ^ 32 → n < 2 ^ 32 → word m ++ xs ≡ word n ++ ys
     → (m ≡ n) × (xs ≡ ys)
 same_words m n xs ys hm hn same =
-    let parts = same_parts 4 (word m) xs (word n) ys (length-word m) (length-word n) same in
-    (same_word m n hm hn parts.0, parts.1)
+    let parts = same_parts 4 (word m) xs (word n) ys (length-word m) (length-word n) same in search (rules, same_word)
 
 pub length-slot_bytes : (s : SlotRecord) → length (slot_bytes s) ≡ 12
-unfolding slot_bytes
-length-slot_bytes s = search (rules, length-append, length-word)
+unfolding slot_bytes word
+length-slot_bytes s = refl
 
 -- ---- slots that are written alike
 
@@ -41,27 +38,14 @@ pub record IsSmall (s : SlotRecord) : Type 0 where
 
 pub kind_below : (t : Occupancy) → kind_of t < 2 ^ 32
 kind_below Retired = omega arith
-kind_below Alive = omega arith
-kind_below (AliveWithRow row) = omega arith
-kind_below (Pending position) = omega arith
+kind_below _ = omega arith
 
 same_occupancy : (t u : Occupancy) → kind_of t ≡ kind_of u → number_of t ≡ number_of u → t ≡ u
 same_occupancy Retired Retired k n = refl
-same_occupancy Retired Alive k n = absurd (omega arith)
-same_occupancy Retired (AliveWithRow row) k n = absurd (omega arith)
-same_occupancy Retired (Pending position) k n = absurd (omega arith)
-same_occupancy Alive Retired k n = absurd (omega arith)
 same_occupancy Alive Alive k n = refl
-same_occupancy Alive (AliveWithRow row) k n = absurd (omega arith)
-same_occupancy Alive (Pending position) k n = absurd (omega arith)
-same_occupancy (AliveWithRow row) Retired k n = absurd (omega arith)
-same_occupancy (AliveWithRow row) Alive k n = absurd (omega arith)
 same_occupancy (AliveWithRow row) (AliveWithRow other) k n = ap AliveWithRow n
-same_occupancy (AliveWithRow row) (Pending position) k n = absurd (omega arith)
-same_occupancy (Pending position) Retired k n = absurd (omega arith)
-same_occupancy (Pending position) Alive k n = absurd (omega arith)
-same_occupancy (Pending position) (AliveWithRow row) k n = absurd (omega arith)
 same_occupancy (Pending position) (Pending other) k n = ap Pending n
+same_occupancy _ _ k n = absurd (omega arith)
 
 pub same_slot : (s t : SlotRecord) → IsSmall s → IsSmall t → slot_bytes s ≡ slot_bytes t → s ≡ t
 unfolding slot_bytes
@@ -72,16 +56,74 @@ same_slot s t hs ht same = search (rules, same_words, kind_below, same_word, sam
 module _ (f : ℕ → List ℕ) (n : ℕ) (long : (i : ℕ) → length (f i) ≡ n) where
   pub length-pieces : (from count : ℕ) → length (flat_map f (range_with_len from count)) ≡ n * count
   length-pieces from zero = omega arith
-  length-pieces from (suc count) = length-append (f from) _ ∙ omega (arith, long from, length-pieces (from + 1) count)
+  length-pieces from (suc count) = search (rules, arith, length-append, long from, length-pieces (from + 1) count)
 
   -- the piece at a place, and what comes after it
-  pub piece : (from count k : ℕ) → k < count → take n (drop (n * k) (flat_map f (range_with_len from count)))
-      ≡ f (from + k)
-  piece from zero k lt = absurd (omega arith)
-  piece from (suc count) zero lt = search (rules, take_at)
-  piece from (suc count) (suc k) lt =
-      let more : n * suc k ≡ n + n * k = omega arith in
-      let at : from + 1 + k ≡ from + suc k = omega arith in
-      let cut = drop_at (f from) (flat_map f (range_with_len (from + 1) count)) n (long from) in
-      rw more (ap (take n) (sym (drop-drop (n * k) n (f from ++ flat_map f (range_with_len (from + 1) count)))
-      ∙ ap (drop (n * k)) cut) ∙ piece (from + 1) count k (omega arith) ∙ ap f at)
+  pub piece : (from count k at : ℕ) → k < count → at ≡ from + k
+      → take n (drop (n * k) (flat_map f (range_with_len from count))) ≡ f at
+  piece from zero k at lt is = absurd (omega arith)
+  piece from (suc count) zero at lt is =
+      let here : at ≡ from = omega arith in search (rules, take_at)
+  piece from (suc count) (suc k) at lt is =
+      let rest = flat_map f (range_with_len (from + 1) count) in
+      search (rules, arith, drop-drop (n * k) n (f from ++ rest), drop_at (f from) rest n (long from),
+          piece (from + 1) count k at)
+
+-- ---- the number at a place of bytes that are spelled word by word
+
+pub word_past : (xs ys : List ℕ) (k place at : ℕ) → length xs ≡ k → at ≡ k + place
+    → word_at (xs ++ ys) at ≡ word_at ys place
+unfolding word_at
+word_past xs ys k place at all is = rw (is, ← drop-drop place k (xs ++ ys), drop_at xs ys k all) refl
+
+-- three words one after the other
+module _ (a b c : ℕ) (rest : List ℕ) where
+  pub first_word : a < 2 ^ 32 → word_at (word a ++ (word b ++ (word c ++ rest))) 0 ≡ a
+  unfolding word_at word
+  first_word fits = from_word a fits
+
+  pub second_word : b < 2 ^ 32 → word_at (word a ++ (word b ++ (word c ++ rest))) 4 ≡ b
+  unfolding word_at word
+  second_word fits = from_word b fits
+
+  pub third_word : c < 2 ^ 32 → word_at (word a ++ (word b ++ (word c ++ rest))) 8 ≡ c
+  unfolding word_at word
+  third_word fits = from_word c fits
+
+-- in what the bytes begin with
+pub word_before : (xs ys : List ℕ) (place : ℕ) → place + 4 ≤ length xs → word_at (xs ++ ys) place ≡ word_at xs place
+unfolding word_at
+word_before xs ys place within = grind (arith, common_steps, drop-append-le, length-drop, take-append-le)
+
+-- ---- bytes in pieces of twelve, one for each slot
+
+chunk_at : (k i : ℕ) (bytes d : List ℕ) → i < k → get_or (first_chunks 12 k bytes) i d ≡ take 12 (drop (12 * i) bytes)
+chunk_at zero i bytes d lt = absurd (omega arith)
+chunk_at (suc k) zero bytes d lt = refl
+chunk_at (suc k) (suc i) bytes d lt = search (rules, arith, chunk_at k i (drop 12 bytes) d, drop-drop (12 * i) 12 bytes)
+
+-- how many there are
+pub pieces : (bytes : List ℕ) (made : ℕ) → length bytes ≡ 12 * made → length bytes / 12 ≡ made
+pieces bytes made long = search (rules, div-mul-add)
+
+module _ (bytes : List ℕ) (made : ℕ) (chunks : List (List ℕ)) (index : ℕ) (d : List ℕ)
+    (front : chunks ≡ first_chunks 12 (length bytes / 12) bytes) (count : length chunks ≡ length bytes / 12)
+    (long : length bytes ≡ 12 * made) (lt : index < length chunks) where
+  piece_is : get_or chunks index d ≡ take 12 (drop (12 * index) bytes)
+  piece_is = search (rules, chunk_at)
+
+  pub before_end : index < made
+  before_end = search (rules, pieces)
+
+  pub length-piece : length (get_or chunks index d) ≡ 12
+  length-piece = search (rules, before_end, length-drop, piece_is, length-take-le)
+
+  pub cut : drop (12 * index) bytes ≡ get_or chunks index d ++ drop (12 * (index + 1)) bytes
+  cut = search (rules, arith, piece_is, drop-drop 12 (12 * index) bytes, take-append-drop 12 (drop (12 * index) bytes))
+
+  -- where the piece is no slot, the bytes begin with none
+  pub none_cut : (limits : Limits) → ((s : SlotRecord) → IsWritten limits s.generation s.occupancy
+      → get_or chunks index d ≢ slot_bytes s) → (s : SlotRecord) (rest : List ℕ)
+      → IsWritten limits s.generation s.occupancy → drop (12 * index) bytes ≢ slot_bytes s ++ rest
+  none_cut limits none s rest is same = none s is (same_parts 12 _ _ (slot_bytes s) rest length-piece
+      (length-slot_bytes s) (sym cut ∙ same)).0

@@ -42,11 +42,8 @@ pub mod ImageRead
 pub mod ImageSound
 pub mod ImageRefused
 pub mod ImageHeader
-pub mod ImageWordAt
-pub mod ImageSlotRead
 pub mod FirstFailing
 pub mod ImageFront
-pub mod ImageChunks
 pub mod ImageFaults
 pub mod ImageOf
 pub mod Fronts

@@ -1,5 +1,4 @@
-use Rattle.ent_alloc.proofs.Common.{◌≡◌, ◌+◌, ◌≤◌, ◌++◌, length, vec_len}
-use Rattle.std.proofs.Common.{vec_capacity}
+use Rattle.ent_alloc.proofs.Common.{◌≡◌, ◌+◌, ◌≤◌, ◌++◌, length, vec_len, vec_capacity}
 use Rattle.ent_alloc.proofs.asking.append.Given as goal
 
 -- what was appended and what is still to come are all, and there is room for the rest

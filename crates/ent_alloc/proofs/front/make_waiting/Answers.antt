@@ -1,5 +1,4 @@
-use Rattle.ent_alloc.proofs.Common.{rules, append-nil}
-use Rattle.std.proofs.Common.{append_assoc}
+use Rattle.ent_alloc.proofs.Common.{rules, append-nil, append_assoc}
 use Rattle.ent_alloc.proofs.Waits.{new_waiting-push, range-push}
 use Rattle.ent_alloc.proofs.front.make_waiting.Goals as goal
 

@@ -1,5 +1,5 @@
 use Rattle.ent_alloc.proofs.Common.{rules, ◌≡◌, ◌++◌, length, word}
-use Rattle.ent_alloc.proofs.ImageSlotRead.{spelled, none_spelled, no_row}
+use Rattle.ent_alloc.proofs.ImageRefused.{spelled, none_spelled, no_row}
 use Rattle.ent_alloc.proofs.image_slots.read_words.Goals.{After-record_of}
 use Rattle.ent_alloc.proofs.image_slots.read_words.Goals as goal
 
@@ -14,9 +14,8 @@ all c = search rules
 pub returns-clause-bytes : goal.returns-clause-bytes
 returns-clause-bytes c =
     let after = (goal.at.returns-clause-bytes c).After-record_of in
-    spelled c.args.bytes.now c.read_word-generation.result.0 c.read_word-kind.result.0 c.read_word-number.result.0
-    c.read_word-number.result.1.now (in_words after) (all after) c.record_of.result c.record_of.ensures.generation
-    c.record_of.ensures.kind c.record_of.ensures.number
+    let is = spelled _ _ _ _ _ (in_words after) (all after) c.record_of.result in
+    search (rules, is)
 
 pub returns-clause-none : goal.returns-clause-none
 returns-clause-none c = search (rules, none_spelled, in_words, all)

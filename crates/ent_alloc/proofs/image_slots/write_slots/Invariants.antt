@@ -1,5 +1,4 @@
-use Rattle.ent_alloc.proofs.Common.{◌≡◌, ℕ, ◌^◌, ◌<◌, ◌+◌, ◌-◌, ◌*◌, ◌≤◌, ◌++◌, length, take, vec_len, flat_map, record_at, number_of, record_bytes}
-use Rattle.std.proofs.Common.{vec_capacity}
+use Rattle.ent_alloc.proofs.Common.{◌≡◌, ℕ, ◌^◌, ◌<◌, ◌+◌, ◌-◌, ◌*◌, ◌≤◌, ◌++◌, length, take, vec_len, flat_map, record_at, number_of, record_bytes, vec_capacity}
 use Rattle.ent_alloc.proofs.image_slots.write_slots.Given as goal
 
 -- those before the index are written, and there is room for the rest
