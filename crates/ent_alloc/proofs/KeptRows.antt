@@ -1,5 +1,5 @@
 -- The rows that the records keep with their occupants.
-use Rattle.ent_alloc.proofs.Common.{rules, ◌≡◌, ℕ, ◌+◌, ◌-◌, Bool, cond, ◌&&◌, eqb, leb, List, [], ◌∷◌, ◌++◌, get_or, set, refl, suc, zero, replicate, Option, None, eq_by_cmp, le-leb, find, is_some, Handle, handle_cmp, handle_cmp_total, SlotRecord, record_at, no_slot, row_of, rows_from, with_row, new_record}
+use Rattle.ent_alloc.proofs.Common.{rules, arith, common_steps, ◌≡◌, ℕ, ◌+◌, ◌-◌, cond, eqb, leb, List, [], ◌∷◌, ◌++◌, get_or, set, refl, suc, zero, replicate, Option, None, le-leb, find, Handle, handle_cmp, handle_cmp_total, SlotRecord, record_at, no_slot, row_of, rows_from, new_record}
 use Rattle.std.specs.FinMap as maps
 use Rattle.ent_alloc.proofs.ListLaws.{eqb_sym, tests_of}
 use Rattle.ent_alloc.proofs.Occupants.{ties}
@@ -18,30 +18,14 @@ abbrev row_from : ℕ → List SlotRecord → Handle → Option ℕ
 row_from index records q = cond (leb index q.index) (row_in (get_or records (q.index - index) no_slot) q.generation)
     None
 
-abbrev nothing : Option ℕ
-nothing = None
-
-cond-none : (b c : Bool) → cond b (cond c nothing nothing) nothing ≡ nothing
-cond-none b c = search rules
-
-found : (h q : Handle) (row : Option ℕ) (entries : List (Handle × ℕ))
-    → find handle_cmp q (with_row h row entries) ≡ cond (eq_by_cmp handle_cmp q h)
-    (cond (is_some row) row (find handle_cmp q entries)) (find handle_cmp q entries)
-found h q row entries = search rules
-
-row_split : (g : Bool) (row : Option ℕ) → cond g (cond (is_some row) row None) None ≡ cond g row None
-row_split g row = search rules
-
-row_head : (index : ℕ) (r : SlotRecord) (records : List SlotRecord) (q : Handle)
-    → cond (eqb q.index index && eqb q.generation r.generation)
-    (cond (is_some (row_of r.occupancy)) (row_of r.occupancy) (row_from (index + 1) records q))
-    (row_from (index + 1) records q) ≡ row_from index (r ∷ records) q
-row_head index r records q = search (rules, tests_of, row_split, eqb_sym)
-
 find-rows_from : (index : ℕ) (records : List SlotRecord) (q : Handle)
     → find handle_cmp q (rows_from index records) ≡ row_from index records q
-find-rows_from index [] q = search (rules, cond-none)
-find-rows_from index (r ∷ records) q = search (rules, found, ties, find-rows_from (index + 1) records, row_head)
+find-rows_from index [] q = search rules
+find-rows_from index (r ∷ records) q =
+    let tie = ties q (record { index = index; generation = r.generation }) in
+    let rest = find-rows_from (index + 1) records q in
+    let same = eqb_sym q.generation r.generation in
+    grind (arith, common_steps, tests_of q.index index)
 
 -- the map of the rows returns with these
 pub get_rows : (records : List SlotRecord) (q : Handle)

@@ -7,11 +7,9 @@ use Rattle.ent_alloc.proofs.FreshHandles.{first_of_slot, All-fresh, fresh_apart,
 abbrev pub old_ones : Allocator → List Handle
 old_ones s = filter (is_old s.made) (available s)
 
--- their slots were made
 pub old_ones_below : (s : Allocator) → All (λ h. h.index < s.made) (old_ones s)
 old_ones_below s = search (rules, All-weaker, filter_passes)
 
--- two handles of which one is of a made slot and the other of none
 pub apart_by_made : (made : ℕ) (g h : Handle) → g.index < made → made ≤ h.index → AreApart g h
 apart_by_made made g h lt le same = omega arith
 
@@ -41,31 +39,20 @@ below_never_made : (made slots : ℕ) (h : Handle) → h.index < made → All (A
 below_never_made made slots h below = never_made made slots (AreApart h)
     (λ index from _. apart_by_made made h (first_of_slot index) below from)
 
--- such a state is sound
 pub laid_out-sound : (s : Allocator) (old : List Handle) → IsLaidOut s old → IsSound s
 laid_out-sound s old h =
     let news = fresh s.made (s.limits.slots - s.made) in
     let all : available s ≡ old ++ news = rw (h.taken, h.aside) h.pool in
     let olds : filter (is_old s.made) (available s) ≡ old = search (rules, old_of_joined) in
-    record {
-      limits = h.limits;
-      made = h.made;
-      order = all ∙ ap (◌++ news) (sym olds);
-      within = rw all (All-append (IsWithin s.limits) old news h.within
-          (never_made s.made s.limits.slots (IsWithin s.limits)
-          (λ index from below. record { index = below; least = omega arith; greatest = h.limits.some_generation })));
-      apart = rw all (AllPairs-append AreApart old news h.apart (fresh_apart s.made (s.limits.slots - s.made))
-          (λ i d lt. below_never_made s.made s.limits.slots (get_or old i d) (h.below i d lt)));
-      pool = rw (h.taken, h.aside, h.asked);
-      aside = λ _. h.aside;
-      live = λ x alive. record {
-        within = h.live_within x alive;
-        made = h.live_below x alive;
-        apart = rw all (All-append (AreApart x) old news (h.live_apart x alive)
-            (below_never_made s.made s.limits.slots x (h.live_below x alive)));
-      };
-      one_occupant = h.one_occupant;
-    }
+    let within : All (IsWithin s.limits) (available s) = rw all (All-append (IsWithin s.limits) old news h.within
+    (never_made s.made s.limits.slots (IsWithin s.limits)
+    (λ index from below. record { index = below; least = omega arith; greatest = h.limits.some_generation }))) in
+    let apart : AllPairs AreApart (available s) = rw all (AllPairs-append AreApart old news h.apart
+    (fresh_apart s.made (s.limits.slots - s.made))
+    (λ i d lt. below_never_made s.made s.limits.slots (get_or old i d) (h.below i d lt))) in
+    let rest : (x : Handle) → IsLive s x → All (AreApart x) (available s) = λ x alive. rw all (All-append (AreApart x) old
+    news (h.live_apart x alive) (below_never_made s.made s.limits.slots x (h.live_below x alive))) in
+    search (rules, all ∙ ap (◌++ news) (sym olds), within, apart, rest, h.live_within, h.live_below, h.one_occupant)
 
 -- nothing is taken or set aside where nothing was asked for
 pub flushed-laid_out : (s : Allocator) → IsSound s → s.asked ≡ 0 → IsLaidOut s (old_ones s)
@@ -73,18 +60,10 @@ flushed-laid_out s h flushed =
     let none : s.aside ≡ [] = h.aside (omega arith) in
     let all : s.pool ≡ available s = h.pool ∙ ap (λ n. drop n (available s)) flushed in
     let long : length (s.taken ++ (s.aside ++ s.pool)) ≡ length s.pool = ap length (sym all) in
-    record {
-      limits = h.limits;
-      made = h.made;
-      taken = nil_from_length s.taken (omega (arith, length-append {A = Handle}));
-      aside = none;
-      asked = flushed;
-      pool = all ∙ h.order;
-      within = search (rules, All-filter);
-      below = old_ones_below s;
-      apart = AllPairs-filter AreApart (is_old s.made) (available s) h.apart;
-      live_within = λ x alive. (h.live x alive).within;
-      live_below = λ x alive. (h.live x alive).made;
-      live_apart = λ x alive. All-filter (is_old s.made) (AreApart x) (available s) (h.live x alive).apart;
-      one_occupant = h.one_occupant;
-    }
+    let taken = nil_from_length s.taken (omega (arith, length-append {A = Handle})) in
+    let apart = AllPairs-filter AreApart (is_old s.made) (available s) h.apart in
+    let within = λ (x : Handle) (alive : IsLive s x). (h.live x alive).within in
+    let below = λ (x : Handle) (alive : IsLive s x). (h.live x alive).made in
+    let live_apart = λ (x : Handle) (alive : IsLive s x). All-filter (is_old s.made) (AreApart x) (available s)
+    (h.live x alive).apart in
+    search (rules, taken, all ∙ h.order, old_ones_below s, All-filter, apart, within, below, live_apart, h.one_occupant)

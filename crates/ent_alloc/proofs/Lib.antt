@@ -9,7 +9,6 @@ pub mod Replies
 pub mod Flushes
 pub mod RequestLaws
 pub mod Settled
-pub mod Spans
 pub mod GivenOnce
 pub mod Occupants
 pub mod KeptRows
@@ -19,13 +18,11 @@ pub mod LivingOccupant
 pub mod Released
 pub mod Retired
 pub mod Listing
-pub mod Places
 pub mod Reversed
 pub mod Meaning
 pub mod MeaningOfAlloc
 pub mod MeaningOfFlush
 pub mod MeaningOfRequests
-pub mod MeaningOfReplies
 pub mod OneReply
 pub mod Asked
 pub mod GivenMany

@@ -4,7 +4,7 @@ use Rattle.ent_alloc.proofs.Common.{rules, ◌≡◌, ℕ, ◌+◌, ◌-◌, ◌
 use Rattle.std.specs.FinSet as sets
 use Rattle.ent_alloc.proofs.FreshHandles.{length-fresh}
 use Rattle.ent_alloc.proofs.Occupants.{occupants-append, occupants-new, from_list-append}
-use Rattle.ent_alloc.proofs.Reused.{Wait, Alive≢Pending, length-reused, generation-reused, waiting-reused, waited-reused, length-occupants-reused, rows_from-reused, live-reused}
+use Rattle.ent_alloc.proofs.Reused.{Wait, AreReused, reused_are, live-reused}
 use Rattle.ent_alloc.proofs.ListLaws.{map_alike}
 use Rattle.ent_alloc.proofs.KeptRows.{rows_from-made}
 
@@ -18,35 +18,28 @@ module _ (limits : Limits) (records : List SlotRecord) (pending : List ℕ) (liv
   abbrev alive : List SlotRecord
   alive = reused records (drop from pending)
 
-  same_generation : (index : ℕ) → (record_at alive index).generation ≡ (record_at records index).generation
-  same_generation index = search (rules, generation-reused, Wait-drop)
+  became : AreReused records from (drop from pending) alive
+  became = reused_are records from (drop from pending) Wait-drop
 
   position_below : (index position : ℕ) → index < length records → (record_at alive index).occupancy ≡ Pending position
       → position < from
   position_below index position made is =
-      let still = waited-reused records from (drop from pending) index position Wait-drop is in
+      let still = became.waited index position is in
       let back = linked.back index position made still.before in
       let apart = still.apart (position - from) in
       search (rules, cases_lt, length-drop, get_or-drop, apart, back)
 
   pub reuse_keeps_links : AreLinked limits alive (take from pending) (live + (length pending - from))
   reuse_keeps_links =
-      let as_long : length alive ≡ length records = search (rules, length-reused) in
-      let more = length-occupants-reused records from (drop from pending) Wait-drop in
       let rest = length-drop from pending in
-      let waits = waiting-reused records from (drop from pending) in
-      let waited = waited-reused records from (drop from pending) in
-      search (rules, same_generation, position_below, get_or-take, waits, waited, Wait-drop)
+      search (rules, became, became.generation, position_below, get_or-take, became.waits, became.waited, Wait-drop)
 
-  pub roster_of-reuse : roster_of limits alive (take from pending) ≡ record (roster_of limits records pending) {
-    live =
-        sets.union (roster_of limits records pending).live (sets.from_list
-        (drop from (roster_of limits records pending).pending));
-    pending = take from
-        (roster_of limits records pending).pending;
-  }
-  roster_of-reuse = search
-      (rules, live-reused, Wait-drop, drop-map, rows_from-reused, same_generation, take-map, length-reused)
+  pub roster_of-reuse : let was = roster_of limits records pending in
+      roster_of limits alive (take from pending) ≡ record was {
+        live = sets.union was.live (sets.from_list (drop from was.pending));
+        pending = take from was.pending;
+      }
+  roster_of-reuse = search (rules, live-reused, Wait-drop, drop-map, became, became.generation, take-map)
 
 -- one slot, which waits last
 module _ (limits : Limits) (records : List SlotRecord) (pending rest : List ℕ) (live index : ℕ)
@@ -54,37 +47,33 @@ module _ (limits : Limits) (records : List SlotRecord) (pending rest : List ℕ)
   long : length pending ≡ length rest + 1
   long = ap length last ∙ length_push rest index
 
-  within : length rest ≤ length pending
-  within = let more = long in omega arith
-
   taken : take (length rest) pending ≡ rest
   taken = search (rules, take_at)
 
   dropped : drop (length rest) pending ≡ index ∷ []
   dropped = search (rules, drop_at)
 
-  one_less : length pending - length rest ≡ 1
-  one_less = let more = long in omega arith
-
   pub last_made : index < length records
   last_made = search (rules, long, get_or_push)
 
   pub reuse_last_keeps_links : AreLinked limits (set records index (reuse (record_at records index))) rest (live + 1)
-  reuse_last_keeps_links = rw (dropped, taken, one_less) at (reuse_keeps_links limits records pending live (length rest)
-      linked within)
+  reuse_last_keeps_links =
+      let more = long in
+      let one_less : length pending - length rest ≡ 1 = omega arith in
+      rw (dropped, taken, one_less) at
+      (reuse_keeps_links limits records pending live (length rest) linked (omega arith))
 
   pub roster_of-reuse_last : roster_of limits (set records index (reuse (record_at records index))) rest
-      ≡ record (roster_of limits records pending) {
-        live = sets.union (roster_of limits records pending).live
-            (sets.from_list (handle_at records index ∷ []));
-        pending = take (length (roster_of limits records pending).pending
-            - 1) (roster_of limits records pending).pending;
-      }
+      ≡ (let was = roster_of limits records pending in record was {
+        live = sets.union was.live (sets.from_list (handle_at records index ∷ []));
+        pending = take (length was.pending - 1) was.pending;
+      })
   roster_of-reuse_last =
-      let at : length (map (handle_at records) pending) - 1
-      ≡ length rest = omega (arith, long, length-map pending (handle_at records)) in
-      rw at (rw (drop-map (handle_at records) (length rest) pending, dropped, taken) at
-      (roster_of-reuse limits records pending live (length rest) linked within))
+      let f = handle_at records in
+      let more = long in
+      let at : length (map f pending) - 1 ≡ length rest = omega (arith, length-map pending f) in
+      rw at (rw (drop-map f (length rest) pending, dropped, taken) at
+      (roster_of-reuse limits records pending live (length rest) linked (omega arith)))
 
   pub last_handle : slice_get (map (handle_at records) pending) (length (map (handle_at records) pending) - 1)
       ≡ Some (handle_at records index)
@@ -119,14 +108,11 @@ module _ (limits : Limits) (records : List SlotRecord) (pending : List ℕ) (liv
         let long = grown_long in
         let more : length (occupants 0 grown) ≡ length (occupants 0 records)
         + count = simp (occupants-append, occupants-new, length-append, length-fresh) in
-        search (rules, cases_lt, new_is, Alive≢Pending, old_stays)
+        search (rules, cases_lt, new_is, old_stays)
 
-    pub roster_of-make : roster_of limits grown pending ≡ record (roster_of limits records pending) {
-      live = sets.union (roster_of limits records pending).live
-          (sets.from_list (fresh (roster_of limits records pending).made count));
-      made =
-          (roster_of limits records pending).made + count;
-    }
+    pub roster_of-make : let was = roster_of limits records pending in
+        roster_of limits grown pending
+        ≡ record was { live = sets.union was.live (sets.from_list (fresh was.made count)); made = was.made + count }
     roster_of-make =
         let long = grown_long in
         let rows = rows_from-made 0 count records in

@@ -2,7 +2,6 @@
 -- agree on a list.
 use Rattle.ent_alloc.proofs.Common.{rules, ◌≡◌, refl, ap, ℕ, zero, suc, ◌+◌, ◌-◌, ◌<◌, Bool, true, false, eqb, List, [], ◌∷◌, ◌++◌, length, get_or, take, drop, filter, All, AllPairs, Contains, arith, cond, ◌==◌, ◌≢◌, swap, IsPermutation, map, leb, ◌⊎◌, common_steps, get_or-take, get_or-drop, get_or_append_left, length-append, length-take, length-drop, get_or_default, get_or-append-add, cases_lt, nat_tests, Swapped, length-swap, swapped_from_swap, IsPermutation-keeps, All-nil, All-head, All-tail, All-cons, All-append, AllPairs-cons}
 
--- either order of a test of equality
 pub eqb_sym : (a b : ℕ) → eqb a b ≡ eqb b a
 eqb_sym a b = grind (arith, nat_tests)
 
@@ -27,7 +26,6 @@ pub record IsAfter (n index : ℕ) : Type 0 where
 pub tests_of : (n index : ℕ) → IsAt n index ⊎ (IsBefore n index ⊎ IsAfter n index)
 tests_of n index = grind (arith, common_steps)
 
--- a filter that each element passes keeps the list
 pub filter_all : {X : Type 0} (p : X → Bool) (xs : List X) → All (λ x. p x ≡ true) xs → filter p xs ≡ xs
 filter_all p [] h = refl
 filter_all p (x ∷ xs) h =
@@ -35,27 +33,22 @@ filter_all p (x ∷ xs) h =
     let rest = filter_all p xs (All-tail (λ x. p x ≡ true) x xs h) in
     rw here (ap (x ∷◌) rest)
 
--- a filter that none passes leaves nothing
 pub filter_none : {X : Type 0} (p : X → Bool) (xs : List X) → All (λ x. p x ≡ false) xs → filter p xs ≡ []
 filter_none p [] h = refl
 filter_none p (x ∷ xs) h =
     let here : p x ≡ false = h 0 x (omega arith) in rw here (filter_none p xs (All-tail (λ x. p x ≡ false) x xs h))
 
--- nothing is left of nothing
-pub drop-nil : {X : Type 0} (n : ℕ) → drop {A = X} n [] ≡ []
+drop-nil : {X : Type 0} (n : ℕ) → drop {A = X} n [] ≡ []
 drop-nil n = search (rules)
 
--- nothing has an empty front
-pub take-nil : {X : Type 0} (n : ℕ) → take {A = X} n [] ≡ []
+take-nil : {X : Type 0} (n : ℕ) → take {A = X} n [] ≡ []
 take-nil n = search (rules)
 
--- what is left of two joined lists
 pub drop-append : {X : Type 0} (n : ℕ) (xs ys : List X) → drop n (xs ++ ys) ≡ drop n xs ++ drop (n - length xs) ys
 drop-append n [] ys = search (rules, drop-nil)
 drop-append zero (x ∷ xs) ys = search rules
 drop-append (suc n) (x ∷ xs) ys = search (rules, drop-append n xs ys)
 
--- the front of two joined lists
 pub take-append : {X : Type 0} (n : ℕ) (xs ys : List X) → take n (xs ++ ys) ≡ take n xs ++ take (n - length xs) ys
 take-append n [] ys = search (rules, take-nil)
 take-append zero (x ∷ xs) ys = search rules
@@ -65,33 +58,26 @@ take-append (suc n) (x ∷ xs) ys = search (rules, take-append n xs ys)
 pub All-left : {X : Type 0} (P : X → Type 0) (xs ys : List X) → All P (xs ++ ys) → All P xs
 All-left P xs ys h i d lt = search (rules, get_or_append_left, length-append)
 
--- the other half
 pub All-right : {X : Type 0} (P : X → Type 0) (xs ys : List X) → All P (xs ++ ys) → All P ys
 All-right P xs ys h i d lt = search (rules, get_or-append-add, length-append)
 
 -- pairs of a list and of its parts
 module _ {X : Type 0} (R : X → X → Type 0) where
-  -- the front
   pub AllPairs-take : (n : ℕ) (xs : List X) → AllPairs R xs → AllPairs R (take n xs)
   AllPairs-take n xs h i j d lt in_part = search (rules, get_or-take, length-take)
 
-  -- the rest
   pub AllPairs-drop : (n : ℕ) (xs : List X) → AllPairs R xs → AllPairs R (drop n xs)
   AllPairs-drop n xs h i j d lt in_part = search (rules, get_or-drop, length-drop)
 
-  -- the first stands before each other
   pub AllPairs-head : (x : X) (xs : List X) → AllPairs R (x ∷ xs) → All (R x) xs
   AllPairs-head x xs h i d lt = h 0 (suc i) d (omega arith) (omega arith)
 
-  -- without the first
   pub AllPairs-tail : (x : X) (xs : List X) → AllPairs R (x ∷ xs) → AllPairs R xs
   AllPairs-tail x xs h i j d lt in_part = h (suc i) (suc j) d (omega arith) (omega arith)
 
-  -- the second of two joined lists
   pub AllPairs-right : (xs ys : List X) → AllPairs R (xs ++ ys) → AllPairs R ys
   AllPairs-right xs ys h i j d lt within = search (rules, get_or-append-add, length-append)
 
-  -- the first of them
   pub AllPairs-left : (xs ys : List X) → AllPairs R (xs ++ ys) → AllPairs R xs
   AllPairs-left xs ys h i j d lt in_part = search (rules, get_or_append_left, length-append)
 
@@ -101,7 +87,6 @@ module _ {X : Type 0} (R : X → X → Type 0) where
   AllPairs-across (x ∷ xs) ys h = All-cons (λ x. All (R x) ys) x xs
       (All-right (R x) xs ys (AllPairs-head x (xs ++ ys) h)) (AllPairs-across xs ys (AllPairs-tail x (xs ++ ys) h))
 
-  -- two lists joined
   pub AllPairs-append : (xs ys : List X) → AllPairs R xs → AllPairs R ys → All (λ x. All (R x) ys) xs
       → AllPairs R (xs ++ ys)
   AllPairs-append [] ys h k across = k
@@ -109,7 +94,6 @@ module _ {X : Type 0} (R : X → X → Type 0) where
       (All-append (R x) xs ys (AllPairs-head x xs h) (All-head (λ x. All (R x) ys) x xs across))
       (AllPairs-append xs ys (AllPairs-tail x xs h) k (All-tail (λ x. All (R x) ys) x xs across))
 
-  -- two elements at their positions
   AllPairs-at : (xs : List X) (x y : X) (i j : ℕ) → AllPairs R xs → i < j → j < length xs → get_or xs i x ≡ x
       → get_or xs j y ≡ y → R x y
   AllPairs-at xs x y i j h lt within at_i at_j = search (rules, h i j x lt within, get_or_default)
@@ -124,7 +108,6 @@ module _ {X : Type 0} (R : X → X → Type 0) where
 swapped_from : ℕ → ℕ → ℕ → ℕ
 swapped_from a b k = cond (k == a) b (cond (k == b) a k)
 
--- it is a position of the list
 swapped_from_lt : (n a b k : ℕ) → a < n → b < n → k < n → swapped_from a b k < n
 unfolding swapped_from
 swapped_from_lt n a b k la lb lk = grind (arith, nat_tests)
@@ -166,5 +149,4 @@ module _ {X : Type 0} (R : X → X → Type 0) (both : (x y : X) → R x y → R
 pub map_alike : {X : Type 0} (f g : ℕ → X) (xs : List ℕ) → ((k : ℕ) → k < length xs → f (get_or xs k 0) ≡ g
     (get_or xs k 0)) → map f xs ≡ map g xs
 map_alike f g [] alike = refl
-map_alike f g (x ∷ xs) alike = λ i. alike 0 (omega arith) i ∷ map_alike f g xs (λ k below. alike (suc k) (omega arith))
-    i
+map_alike f g (x ∷ xs) alike = search (rules, alike 0, map_alike f g xs (λ k below. alike (suc k) (omega arith)))

@@ -1,8 +1,7 @@
 -- What a reply that borrows the slots lists, one handle after the other.
-use Rattle.ent_alloc.proofs.Common.{rules, ◌≡◌, ℕ, ◌+◌, ◌-◌, ◌<◌, ◌≤◌, List, [], ◌∷◌, ◌++◌, length, drop, replicate, slice_get, Some, refl, arith, suc, zero, add-zero, common_steps, length-append, drop_more, length-map, All-tail, get_or_from_slice_get, Handle, IsHandle, handle_at, Roster, fresh, reserved_handles, handles_of, AreToList, SlotRecord}
+use Rattle.ent_alloc.proofs.Common.{rules, ◌≡◌, ℕ, ◌+◌, ◌-◌, ◌<◌, ◌≤◌, List, [], ◌∷◌, ◌++◌, length, drop, replicate, slice_get, Some, refl, arith, suc, zero, add-zero, common_steps, length-append, nil_from_length, drop_more, length-map, All-tail, get_or_from_slice_get, Handle, IsHandle, handle_at, Roster, fresh, reserved_handles, handles_of, AreToList, SlotRecord}
 use Rattle.ent_alloc.proofs.FreshHandles.{length-fresh, fresh-next, fresh-none}
 
--- a list from where it has an item
 pub drop_at : (hs : List Handle) (k : ℕ) (h : Handle) → k < length hs → slice_get hs k ≡ Some h
     → drop k hs ≡ h ∷ drop (k + 1) hs
 drop_at hs k h below at = search (rules, drop_more hs k h below, get_or_from_slice_get hs k h h)
@@ -13,17 +12,15 @@ pub reserved_handles-pending : (r : Roster) (position end index index_end : ℕ)
     ∷ reserved_handles r (position + 1) end index index_end
 reserved_handles-pending r position end index index_end h within below at = search (rules, drop_at)
 
--- else the first fresh one
-pub reserved_handles-fresh : (r : Roster) (position end index index_end : ℕ) → end ≤ position → index < index_end
-    → reserved_handles r position end index index_end ≡ record { index = index; generation = 1 }
-    ∷ reserved_handles r position end (index + 1) index_end
-reserved_handles-fresh r position end index index_end past below = grind
-    (arith, common_steps, fresh-next index (index_end - (index + 1)), r.pending)
+-- else the first fresh one, and else none
+module _ (r : Roster) (position end index index_end : ℕ) (past : end ≤ position) where
+  pub reserved_handles-fresh : index < index_end → reserved_handles r position end index index_end
+      ≡ record { index = index; generation = 1 } ∷ reserved_handles r position end (index + 1) index_end
+  reserved_handles-fresh below = grind
+      (arith, common_steps, fresh-next index (index_end - (index + 1)), r.pending)
 
--- else none
-pub reserved_handles-none : (r : Roster) (position end index index_end : ℕ) → end ≤ position → index_end ≤ index
-    → reserved_handles r position end index index_end ≡ []
-reserved_handles-none r position end index index_end past passed = search (rules, fresh-none)
+  pub reserved_handles-none : index_end ≤ index → reserved_handles r position end index index_end ≡ []
+  reserved_handles-none passed = search (rules, fresh-none)
 
 -- ---- the same of slices of records and slots
 
@@ -31,19 +28,16 @@ pub length-handles_of : (records : List SlotRecord) (waiting : List ℕ) (index 
     → AreToList records waiting index index_end left → length (handles_of records waiting index index_end) ≡ left
 length-handles_of records waiting index index_end left range = search (rules, length-append, length-map, length-fresh)
 
--- where no slot waits, the first fresh one comes first
-pub handles_of-fresh : (records : List SlotRecord) (waiting : List ℕ) (index index_end : ℕ) → length waiting ≡ 0
-    → index < index_end → handles_of records waiting index index_end ≡ record { index = index; generation = 1 }
-    ∷ handles_of records waiting (index + 1) index_end
-handles_of-fresh records [] index index_end none below = grind
-    (arith, common_steps, fresh-next index (index_end - (index + 1)))
-handles_of-fresh records (at ∷ waiting) index index_end none below = absurd (omega arith)
+-- where no slot waits, the first fresh one comes first, and else none
+module _ (records : List SlotRecord) (waiting : List ℕ) (index index_end : ℕ) (none : length waiting ≡ 0) where
+  pub handles_of-fresh : index < index_end → handles_of records waiting index index_end
+      ≡ record { index = index; generation = 1 } ∷ handles_of records waiting (index + 1) index_end
+  handles_of-fresh below =
+      let empty = nil_from_length waiting none in
+      grind (arith, common_steps, fresh-next index (index_end - (index + 1)))
 
--- else none
-pub handles_of-none : (records : List SlotRecord) (waiting : List ℕ) (index index_end : ℕ) → length waiting ≡ 0
-    → index_end ≤ index → handles_of records waiting index index_end ≡ []
-handles_of-none records [] index index_end none passed = search (rules, fresh-none)
-handles_of-none records (at ∷ waiting) index index_end none passed = absurd (omega arith)
+  pub handles_of-none : index_end ≤ index → handles_of records waiting index index_end ≡ []
+  handles_of-none passed = search (rules, nil_from_length, fresh-none)
 
 -- what is left after the first
 pub rest_to_list : (records : List SlotRecord) (waiting : List ℕ) (index index_end left : ℕ)
@@ -51,13 +45,10 @@ pub rest_to_list : (records : List SlotRecord) (waiting : List ℕ) (index index
     → AreToList records rest index index_end (left - 1)
 rest_to_list records waiting index index_end left range at rest is =
     let all : AreToList records (at ∷ rest) index index_end left = search rules in
-    record {
-      made = All-tail (λ x. x < length records) at rest all.made;
-      handles = All-tail (λ x. IsHandle (handle_at records x)) at rest all.handles;
-      indexes = all.indexes;
-      last = all.last;
-      count = let count = all.count in omega arith;
-    }
+    let made = All-tail (λ x. x < length records) at rest all.made in
+    let handles = All-tail (λ x. IsHandle (handle_at records x)) at rest all.handles in
+    let count = all.count in
+    search (rules, made, handles)
 
 -- ---- listing one after the other
 

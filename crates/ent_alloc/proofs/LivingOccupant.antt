@@ -8,7 +8,6 @@ pub lives_in : (limits : Limits) (records : List SlotRecord) (pending : List ℕ
     → roster_of limits records pending ≡ old → sets.contains old.live h ≡ true → is_occupant records h ≡ true
 lives_in limits records pending h view lives = search (rules, contains_occupants)
 
--- its slot was made, and its record is alive with this generation
 pub occupant_made : (records : List SlotRecord) (h : Handle) → is_occupant records h ≡ true → h.index < length records
 occupant_made records h is = grind (arith, common_steps)
 

@@ -55,14 +55,11 @@ module _ (limits : Limits) (records : List SlotRecord) (pending : List ℕ) (liv
   waiting h from is =
       let parts = and_parts (ltb h.index (length records)) _ is in
       let rest = and_parts (is_pending_from (record_at records h.index).occupancy from) _ parts.1 in
-      let made = ltb-true h.index (length records) parts.0 in
       let position = waiting_position (record_at records h.index).occupancy from rest.0 in
+      let made = ltb-true h.index (length records) parts.0 in
       let listed = linked.listed h.index position.0 made position.1 in
       let back = linked.back h.index position.0 made position.1 in
-      let there : from + (position.0 - from) ≡ position.0 = omega (arith, position.2) in
-      let at = at_position from (position.0 - from) h in
-      let same = eqb-true _ _ rest.1 in
-      search (rules, long)
+      search (rules, listed, back, eqb-true _ _ rest.1, at_position from (position.0 - from) h, long)
 
   -- who waits after a position is told by the record
   pub stands_in-pending : (h : Handle) (from : ℕ) → waits_at records h from
@@ -102,10 +99,6 @@ module _ (limits : Limits) (records : List SlotRecord) (pending : List ℕ) (liv
   generations : (at : ℕ) → (record_at relabelled at).generation ≡ (record_at records at).generation
   generations at = search (rules, cases_eq, itself, others)
 
-  waited : (at position : ℕ) → (record_at relabelled at).occupancy ≡ Pending position
-      → (record_at records at).occupancy ≡ Pending position
-  waited at position is = search (rules, cases_eq, itself, others)
-
   pub set_row_keeps_links : AreLinked limits relabelled pending live
   set_row_keeps_links = search
       (rules, length-set, length-occupants-set, slot_made, one, occupant_alive, generations, others)
@@ -120,8 +113,6 @@ module _ (limits : Limits) (records : List SlotRecord) (pending : List ℕ) (liv
       (λ q. let put = maps.get-insert handle_cmp_total (maps.from_entries (rows_from 0 records)) h row q in grind
       (arith, common_steps, ties q h, get_rows relabelled q, get_rows records q))
 
-  pub roster_of-set_row : roster_of limits relabelled pending ≡ record (roster_of limits records pending) {
-    rows =
-        maps.insert (roster_of limits records pending).rows h row;
-  }
+  pub roster_of-set_row : let was = roster_of limits records pending in
+      roster_of limits relabelled pending ≡ record was { rows = maps.insert was.rows h row }
   roster_of-set_row = search (rules, map_alike, generations, same_live, new_rows, length-set)

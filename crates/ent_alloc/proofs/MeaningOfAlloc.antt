@@ -2,32 +2,18 @@
 use Rattle.ent_alloc.proofs.Common.{rules, ◌≡◌, ◌+◌, ◌-◌, ◌<◌, List, [], ◌∷◌, ◌++◌, length, take, reverse, sym, ap, ◌∙◌, arith, suc, slice_get, Some, None, refl, lt-ltb, le-ltb, take_all, reverse-append, take_more, nil_from_length, All-head, get_or_from_slice_get, slice_get_within, or_comm, or-false, Handle, handle_cmp, handle_cmp_total, handle_cmp-IsAntisymmetric, Roster, Requests, Allocator, fresh, after_alloc, IsSound, idle, allocator_of, entities_of, HasRowsOfLiving}
 use Rattle.std.specs.FinSet as sets
 use Rattle.std.specs.FinMap as maps
-use Rattle.ent_alloc.proofs.FreshHandles.{fresh-next}
+use Rattle.ent_alloc.proofs.FreshHandles.{first_of_slot, fresh-next}
 use Rattle.ent_alloc.proofs.RowsOfLiving.{rows-joined}
 use Rattle.ent_alloc.proofs.HandleSets.{contains-union_list}
 use Rattle.ent_alloc.proofs.Soundness.{after_alloc-sound}
-use Rattle.ent_alloc.proofs.Meaning.{pending_below, length-idle, IsAtRest, StandFor}
+use Rattle.ent_alloc.proofs.Meaning.{to_give, pending_below, length-idle, IsAtRest, StandFor}
 
--- one handle that comes to life
 pub union_one : (live : sets.FinSet handle_cmp) (h : Handle) → sets.union live (sets.from_list (h ∷ [])) ≡ sets.insert
     live h
 union_one live h = sets.same_set handle_cmp_total handle_cmp-IsAntisymmetric _ _
     (λ q. search (rules, contains-union_list, or_comm, or-false, sets.contains-insert, handle_cmp_total))
 
 -- ---- alloc
-
--- the last that waits is the first to be given
-last_first : (pending : List Handle) (h : Handle) → 0 < length pending → slice_get pending (length pending - 1) ≡ Some h
-    → reverse pending ≡ h ∷ reverse (take (length pending - 1) pending)
-last_first pending h some last =
-    let all = take_all (length pending) pending (omega arith) in
-    let more = take_more pending (length pending - 1) h (omega arith) in
-    search (rules, all, more, get_or_from_slice_get, reverse-append)
-
-pub alloc_old_front : (r : Roster) (h : Handle) → 0 < length r.pending
-    → slice_get r.pending (length r.pending - 1) ≡ Some h
-    → idle r ≡ h ∷ (reverse (take (length r.pending - 1) r.pending) ++ fresh r.made (r.limits.slots - r.made))
-alloc_old_front r h some last = search (rules, last_first)
 
 -- the roster after the slot that waits last got its next occupant, and after one was made
 abbrev pub reused_roster : Roster → Handle → Roster
@@ -39,23 +25,38 @@ reused_roster r h = record r {
 abbrev pub made_roster : Roster → Handle → Roster
 made_roster r h = record r { live = sets.union r.live (sets.from_list (h ∷ [])); made = r.made + 1 }
 
-pub alloc_old_is : (r : Roster) (h : Handle) → IsSound (allocator_of r 0 0) → 0 < length r.pending
-    → slice_get r.pending (length r.pending - 1) ≡ Some h → allocator_of (reused_roster r h) 0 0 ≡ after_alloc
-    (allocator_of r 0 0) h
-alloc_old_is r h sound some last =
-    let below : h.index < r.made = search (rules, pending_below r 0 0, last_first, All-head) in
-    search (rules, lt-ltb, union_one, alloc_old_front)
+-- the last that waits is the first to be given
+module _ (r : Roster) (h : Handle) (some : 0 < length r.pending)
+    (last : slice_get r.pending (length r.pending - 1) ≡ Some h) where
+  pub last_is : r.pending ≡ take (length r.pending - 1) r.pending ++ h ∷ []
+  last_is =
+      let all = take_all (length r.pending) r.pending (omega arith) in
+      let more = take_more r.pending (length r.pending - 1) h (omega arith) in
+      search (rules, all, more, get_or_from_slice_get)
 
-pub alloc_fresh_front : (r : Roster) → length r.pending ≡ 0 → r.made < r.limits.slots
-    → idle r ≡ record { index = r.made; generation = 1 } ∷ fresh (r.made + 1) (r.limits.slots - (r.made + 1))
-alloc_fresh_front r none room =
-    let more : r.limits.slots - r.made ≡ suc (r.limits.slots - (r.made + 1)) = omega arith in
-    search (rules, nil_from_length, fresh-next)
+  last_first : reverse r.pending ≡ h ∷ reverse (take (length r.pending - 1) r.pending)
+  last_first = ap reverse last_is ∙ reverse-append (take (length r.pending - 1) r.pending) (h ∷ [])
 
-pub alloc_fresh_is : (r : Roster) (h : Handle) → length r.pending ≡ 0 → r.made < r.limits.slots
-    → h ≡ record { index = r.made; generation = 1 } → allocator_of (made_roster r h) 0 0
-    ≡ after_alloc (allocator_of r 0 0) h
-alloc_fresh_is r h none room first = search (rules, le-ltb, union_one, nil_from_length, alloc_fresh_front)
+  pub alloc_old_front : idle r ≡ h ∷ (reverse (take (length r.pending - 1) r.pending)
+      ++ fresh r.made (r.limits.slots - r.made))
+  alloc_old_front = search (rules, last_first)
+
+  pub alloc_old_is : IsSound (allocator_of r 0 0)
+      → allocator_of (reused_roster r h) 0 0 ≡ after_alloc (allocator_of r 0 0) h
+  alloc_old_is sound =
+      let below : h.index < r.made = search (rules, pending_below r 0 0, last_first, All-head) in
+      search (rules, lt-ltb, union_one, alloc_old_front)
+
+-- where none waits, it is the first occupant of a new slot
+module _ (r : Roster) (none : length r.pending ≡ 0) (room : r.made < r.limits.slots) where
+  pub alloc_fresh_front : idle r ≡ first_of_slot r.made ∷ fresh (r.made + 1) (r.limits.slots - (r.made + 1))
+  alloc_fresh_front =
+      let more : r.limits.slots - r.made ≡ suc (r.limits.slots - (r.made + 1)) = omega arith in
+      search (rules, nil_from_length, fresh-next)
+
+  pub alloc_fresh_is : (h : Handle) → h ≡ first_of_slot r.made
+      → allocator_of (made_roster r h) 0 0 ≡ after_alloc (allocator_of r 0 0) h
+  alloc_fresh_is h first = search (rules, le-ltb, union_one, nil_from_length, alloc_fresh_front)
 
 -- a handle was given, and the vectors now stand for what the allocator is then
 pub record IsGiven (requests : Requests) (s : Allocator) (h : Handle) (new : Roster) : Type 0 where
@@ -67,7 +68,7 @@ module _ (r : Roster) (requests : Requests) (s : Allocator) (rest : IsAtRest r r
   pub pool_is : idle r ≡ s.pool
   pool_is = ap (λ (t : Allocator). t.pool) rest.view
 
-  pub length_pool : length s.pool ≡ length r.pending + (r.limits.slots - r.made)
+  pub length_pool : length s.pool ≡ to_give r
   length_pool = sym (ap length pool_is) ∙ length-idle r
 
   -- the first handle of the pool is given, and the slots are left so

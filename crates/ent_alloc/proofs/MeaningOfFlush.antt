@@ -1,9 +1,9 @@
 -- A flush of the roster is the allocator's flush.
-use Rattle.ent_alloc.proofs.Common.{common_steps, rules, ◌≡◌, ℕ, ◌+◌, ◌-◌, ◌<◌, ◌≤◌, ◌||◌, List, ◌++◌, length, take, drop, reverse, filter, ap, ◌∙◌, arith, All, length-reverse, reverse-reverse, list_any-append, or_comm, or_assoc, Handle, handle_cmp, handle_cmp_total, handle_cmp-IsAntisymmetric, Roster, fresh, is_old, is_fresh, made_at_flush, after_flush, born, stands_in, IsSound, idle, allocator_of}
+use Rattle.ent_alloc.proofs.Common.{common_steps, rules, ◌≡◌, ℕ, ◌+◌, ◌-◌, ◌<◌, ◌≤◌, ◌||◌, List, ◌++◌, length, take, drop, reverse, filter, ap, ◌∙◌, arith, All, length-reverse, reverse-reverse, list_any-append, or_comm, or_assoc, Handle, handle_cmp, handle_cmp_total, handle_cmp-IsAntisymmetric, Roster, fresh, is_fresh, made_at_flush, after_flush, born, stands_in, IsSound, idle, allocator_of}
 use Rattle.std.specs.FinSet as sets
 use Rattle.ent_alloc.proofs.FreshHandles.{length-fresh, take_joined, drop_joined, old_of_joined, fresh_of_joined}
 use Rattle.ent_alloc.proofs.HandleSets.{contains-union_list}
-use Rattle.ent_alloc.proofs.Meaning.{drop_rest, pending_below}
+use Rattle.ent_alloc.proofs.Meaning.{to_give, drop_rest, pending_below}
 use Rattle.ent_alloc.proofs.Reversed.{drop-reverse, take-reverse, list_any-reverse}
 
 -- two lists that come to life one after the other, in either order
@@ -22,7 +22,7 @@ flushed_roster r kept news = record r {
 }
 
 module _ (r : Roster) (asked given : ℕ) (within : given ≤ asked)
-    (enough : given ≤ length r.pending + (r.limits.slots - r.made)) (sound : IsSound (allocator_of r asked given)) where
+    (enough : given ≤ to_give r) (sound : IsSound (allocator_of r asked given)) where
   abbrev pub kept : ℕ
   kept = length r.pending - given
 
@@ -38,9 +38,6 @@ module _ (r : Roster) (asked given : ℕ) (within : given ≤ asked)
   taken_below : All (λ h. h.index < r.made) (reverse (drop kept r.pending))
   taken_below = grind (arith, common_steps, take-reverse given r.pending, waits_below)
 
-  taken_old : filter (is_old r.made) (take given (idle r)) ≡ reverse (drop kept r.pending)
-  taken_old = search (rules, taken_is, old_of_joined, taken_below)
-
   taken_fresh : filter (is_fresh r.made) (take given (idle r)) ≡ fresh r.made news
   taken_fresh = search (rules, taken_is, fresh_of_joined, taken_below)
 
@@ -54,7 +51,7 @@ module _ (r : Roster) (asked given : ℕ) (within : given ≤ asked)
   stands_in_taken h = search (rules, list_any-reverse, list_any-append, taken_is)
 
   pub born_is_listed : born (allocator_of r asked given) ≡ fresh r.made news ++ drop kept r.pending
-  born_is_listed = search (rules, taken_fresh, taken_old, reverse-reverse)
+  born_is_listed = search (rules, taken_fresh, reverse-reverse, taken_is, old_of_joined, taken_below)
 
   pub flush_is : allocator_of (flushed_roster r kept news) 0 0 ≡ after_flush (allocator_of r asked given)
   flush_is = search

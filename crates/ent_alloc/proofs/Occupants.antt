@@ -1,5 +1,5 @@
 -- What the set of occupants holds, and how many they are.
-use Rattle.ent_alloc.proofs.Common.{rules, ◌≡◌, ℕ, ◌+◌, ◌-◌, ◌<◌, Bool, false, cond, ◌&&◌, ◌||◌, eqb, leb, List, [], ◌∷◌, ◌++◌, length, get_or, set, refl, ap, arith, suc, zero, replicate, common_steps, list_any, eq_by_cmp, le-leb, and-false, list_any-append, Handle, handle_cmp, handle_cmp_total, handle_cmp-IsAntisymmetric, SlotRecord, occupants, record_at, no_slot, is_alive, new_record, fresh}
+use Rattle.ent_alloc.proofs.Common.{rules, ◌≡◌, ℕ, ◌+◌, ◌-◌, ◌<◌, Bool, false, cond, ◌&&◌, eqb, leb, List, [], ◌∷◌, ◌++◌, length, get_or, set, refl, ap, arith, suc, zero, replicate, common_steps, list_any, eq_by_cmp, le-leb, and-false, list_any-append, Handle, handle_cmp, handle_cmp_total, handle_cmp-IsAntisymmetric, SlotRecord, occupants, record_at, no_slot, is_alive, new_record, fresh}
 use Rattle.std.specs.FinSet as sets
 use Rattle.ent_alloc.proofs.ListLaws.{tests_of}
 
@@ -13,7 +13,6 @@ has_occupant r generation = is_alive r.occupancy && eqb r.generation generation
 abbrev pub is_occupant : List SlotRecord → Handle → Bool
 is_occupant records h = has_occupant (record_at records h.index) h.generation
 
--- two handles tie where both numbers are equal
 pub ties : (a b : Handle) → eq_by_cmp handle_cmp a b ≡ (eqb a.index b.index && eqb a.generation b.generation)
 ties a b = grind (arith, common_steps)
 
@@ -21,15 +20,12 @@ ties a b = grind (arith, common_steps)
 abbrev at_from : ℕ → List SlotRecord → Handle → Bool
 at_from index records q = leb index q.index && has_occupant (get_or records (q.index - index) no_slot) q.generation
 
-at_head : (index : ℕ) (r : SlotRecord) (records : List SlotRecord) (q : Handle)
-    → ((is_alive r.occupancy && (eqb q.index index && eqb q.generation r.generation)) || at_from (index + 1) records q)
-    ≡ at_from index (r ∷ records) q
-at_head index r records q = grind (arith, common_steps, tests_of q.index index)
-
 list_any-occupants : (index : ℕ) (records : List SlotRecord) (q : Handle)
     → list_any (eq_by_cmp handle_cmp q) (occupants index records) ≡ at_from index records q
 list_any-occupants index [] q = search (rules, and-false)
-list_any-occupants index (r ∷ records) q = search (rules, ties, list_any-occupants (index + 1) records, at_head)
+list_any-occupants index (r ∷ records) q =
+    let tie = ties q (record { index = index; generation = r.generation }) in
+    grind (arith, common_steps, tie, list_any-occupants (index + 1) records q, tests_of q.index index)
 
 -- the set of the occupants holds just these
 pub contains_occupants : (records : List SlotRecord) (q : Handle) → sets.contains {R = handle_cmp} (sets.from_list
@@ -47,8 +43,7 @@ len_occupants index [] = sets.len-empty handle_cmp
 len_occupants index (r ∷ records) =
     let h : Handle = record { index = index; generation = r.generation } in
     let long = sets.len-insert handle_cmp_total (sets.from_list (occupants (index + 1) records)) h in
-    let none = absent_below index records r.generation in
-    grind (arith, common_steps, none, len_occupants (index + 1) records)
+    grind (arith, common_steps, absent_below index records r.generation, len_occupants (index + 1) records)
 
 -- ---- one record set
 
@@ -58,7 +53,6 @@ pub is_occupant-set : (records : List SlotRecord) (index : ℕ) (r : SlotRecord)
     (is_occupant records q)
 is_occupant-set records index r q = search rules
 
--- a test as a number
 abbrev pub one : Bool → ℕ
 one b = cond b 1 0
 
@@ -73,7 +67,6 @@ length-occupants-set from (x ∷ records) (suc index) r within = grind
 
 -- ---- records put at the end
 
--- the set of two lists is the union of theirs
 pub from_list-append : (xs ys : List Handle) → sets.from_list {R = handle_cmp} (xs ++ ys)
     ≡ sets.union (sets.from_list xs) (sets.from_list ys)
 from_list-append xs ys = sets.same_set handle_cmp_total handle_cmp-IsAntisymmetric _ _
@@ -87,5 +80,4 @@ occupants-append from (r ∷ records) more = grind (arith, common_steps, occupan
 pub occupants-new : (from count : ℕ) → occupants from (replicate count new_record) ≡ fresh from count
 unfolding fresh
 occupants-new from zero = refl
-occupants-new from (suc count) = ap (λ rest. record { index = from; generation = 1 } ∷ rest)
-    (occupants-new (from + 1) count)
+occupants-new from (suc count) = search (rules, occupants-new (from + 1) count)

@@ -1,24 +1,21 @@
 -- What requests take off the pool, whether they are served or not. It depends on their sum alone,
 -- so a reply depends on the cursor alone, and can be computed later.
-use Rattle.ent_alloc.proofs.Common.{rules, ◌≡◌, refl, sym, ap, ◌∙◌, ℕ, ◌+◌, ◌≤◌, ℤ, pos, negsuc, ◌-ℤ◌, List, [], ◌∷◌, ◌++◌, length, take, drop, sum, Ok, arith, common_steps, cases_lt, ints, take_all, drop_all, length-append, sum_by-cons, take-append_seam, drop-append_seam, Allocator, available, top, cursor, after_take, asked_at, pool_at, reply_from, reply_to, IsSound}
-use Rattle.std.proofs.Common.{le-leb, append-nil}
+use Rattle.ent_alloc.proofs.Common.{rules, ◌≡◌, refl, sym, ap, ℕ, ◌+◌, ◌≤◌, ℤ, pos, negsuc, ◌-ℤ◌, List, [], ◌∷◌, ◌++◌, length, take, drop, sum, Ok, arith, common_steps, cases_lt, ints, le-leb, append-nil, take_all, drop_all, length-append, sum_by-cons, take-append_seam, drop-append_seam, Allocator, available, top, cursor, after_take, asked_at, pool_at, reply_from, reply_to, IsSound}
 use Rattle.ent_alloc.proofs.Taken.{available-after_take, length-pool}
 use Rattle.ent_alloc.proofs.Soundness.{after_take-sound}
 
 -- the cursor tells how much was asked
-asked_at_is : (top asked : ℕ) (high : ℤ) → high ≡ pos top -ℤ pos asked → asked_at top high ≡ asked
-asked_at_is top asked (pos high) is = omega (arith, ints)
-asked_at_is top asked (negsuc below) is = omega (arith, ints)
-
--- at the cursor it is what was asked
 pub asked_at-cursor : (s : Allocator) → asked_at (top s) (cursor s) ≡ s.asked
-asked_at-cursor s = asked_at_is (top s) s.asked (cursor s) refl
+asked_at-cursor s = told (cursor s) refl
+  where
+    told : (high : ℤ) → high ≡ pos (top s) -ℤ pos s.asked → asked_at (top s) high ≡ s.asked
+    told (pos high) is = omega (arith, ints)
+    told (negsuc below) is = omega (arith, ints)
 
 -- and so what is left of the pool
 pub pool_at-cursor : (s : Allocator) → IsSound s → pool_at s (cursor s) ≡ s.pool
 pool_at-cursor s h = search (rules, asked_at-cursor)
 
--- and the reply to any request
 pub reply-cursor : (s : Allocator) (n : ℕ) → IsSound s → reply_from s.made (pool_at s (cursor s)) n ≡ reply_to s n
 reply-cursor s n h = ap (λ pool. reply_from s.made pool n) (pool_at-cursor s h)
 
@@ -28,27 +25,22 @@ after_take-either : {A : Type 0} (f : Allocator → A) (x : A) (s : Allocator) (
     → f (record s { aside = s.aside ++ s.pool; pool = []; asked = s.asked + n }) ≡ x → f (after_take s n) ≡ x
 after_take-either f x s n served refused = grind (arith, common_steps)
 
--- a request leaves the limits as they are
+-- a request leaves the limits, who is alive and the made slots as they are
 pub limits-after_take : (s : Allocator) (n : ℕ) → (after_take s n).limits ≡ s.limits
 limits-after_take s n = after_take-either (λ t. t.limits) s.limits s n refl refl
 
--- who is alive
 pub live-after_take : (s : Allocator) (n : ℕ) → (after_take s n).live ≡ s.live
 live-after_take s n = after_take-either (λ t. t.live) s.live s n refl refl
 
--- the made slots
 pub made-after_take : (s : Allocator) (n : ℕ) → (after_take s n).made ≡ s.made
 made-after_take s n = after_take-either (λ t. t.made) s.made s n refl refl
 
--- the request is added
 pub asked-after_take : (s : Allocator) (n : ℕ) → (after_take s n).asked ≡ s.asked + n
 asked-after_take s n = search (rules, after_take-either)
 
--- how many old handles there were
 pub top-after_take : (s : Allocator) (n : ℕ) → IsSound s → top (after_take s n) ≡ top s
 top-after_take s n h = search (rules, made-after_take, available-after_take)
 
--- the cursor falls by the request
 pub cursor-after_take : (s : Allocator) (n : ℕ) → IsSound s → cursor (after_take s n) ≡ cursor s -ℤ pos n
 cursor-after_take s n h = search (rules, top-after_take, asked-after_take)
 
@@ -57,17 +49,15 @@ abbrev pub after_takes : Allocator → List ℕ → Allocator
 after_takes s [] = s
 after_takes s (n ∷ requests) = after_takes (after_take s n) requests
 
--- they keep the allocator sound
 pub after_takes-sound : (s : Allocator) (requests : List ℕ) → IsSound s → IsSound (after_takes s requests)
 after_takes-sound s [] h = h
 after_takes-sound s (n ∷ requests) h = after_takes-sound (after_take s n) requests (after_take-sound s n h)
 
--- what there was to give stays
 pub available-after_takes : (s : Allocator) (requests : List ℕ) → IsSound s
     → available (after_takes s requests) ≡ available s
 available-after_takes s [] h = refl
-available-after_takes s (n ∷ requests) h = available-after_takes (after_take s n) requests (after_take-sound s n h)
-    ∙ available-after_take s n h
+available-after_takes s (n ∷ requests) h = search
+    (rules, available-after_takes (after_take s n) requests, after_take-sound, available-after_take)
 
 -- what each request leaves, all leave
 after_takes-leave : {A : Type 0} (f : Allocator → A) → ((s : Allocator) (n : ℕ) → f (after_take s n) ≡ f s)
@@ -75,50 +65,36 @@ after_takes-leave : {A : Type 0} (f : Allocator → A) → ((s : Allocator) (n :
 after_takes-leave f each s [] = refl
 after_takes-leave f each s (n ∷ requests) = search (rules, after_takes-leave f each (after_take s n) requests)
 
--- the limits stay
 pub limits-after_takes : (s : Allocator) (requests : List ℕ) → (after_takes s requests).limits ≡ s.limits
 limits-after_takes = after_takes-leave (λ t. t.limits) limits-after_take
 
--- who is alive stays
 pub live-after_takes : (s : Allocator) (requests : List ℕ) → (after_takes s requests).live ≡ s.live
 live-after_takes = after_takes-leave (λ t. t.live) live-after_take
 
--- the made slots stay
 pub made-after_takes : (s : Allocator) (requests : List ℕ) → (after_takes s requests).made ≡ s.made
 made-after_takes = after_takes-leave (λ t. t.made) made-after_take
 
--- all requests are added
 pub asked-after_takes : (s : Allocator) (requests : List ℕ) → (after_takes s requests).asked ≡ s.asked + sum requests
 asked-after_takes s [] = omega arith
-asked-after_takes s (n ∷ requests) = let rest = asked-after_takes (after_take s n) requests in
-    omega (arith, asked-after_take s n, sum_by-cons (λ x. x) n requests)
+asked-after_takes s (n ∷ requests) = search
+    (rules, asked-after_takes (after_take s n) requests, asked-after_take, sum_by-cons)
 
--- how many old handles there were stays
 pub top-after_takes : (s : Allocator) (requests : List ℕ) → IsSound s → top (after_takes s requests) ≡ top s
 top-after_takes s [] h = refl
-top-after_takes s (n ∷ requests) h = top-after_takes (after_take s n) requests (after_take-sound s n h)
-    ∙ top-after_take s n h
+top-after_takes s (n ∷ requests) h = search
+    (rules, top-after_takes (after_take s n) requests, after_take-sound, top-after_take)
 
--- the cursor falls by the sum of the requests
 pub cursor-after_takes : (s : Allocator) (requests : List ℕ) → IsSound s
     → cursor (after_takes s requests) ≡ cursor s -ℤ pos (sum requests)
 cursor-after_takes s requests h = search (rules, top-after_takes, asked-after_takes, ints)
 
--- what was left of the pool at a cursor can be told after any requests that follow
-pub pool_at-later : (s : Allocator) (requests : List ℕ) → IsSound s
-    → pool_at (after_takes s requests) (cursor s) ≡ s.pool
-pool_at-later s requests h = search (rules, top-after_takes, available-after_takes, pool_at-cursor)
-
--- and so the reply
 pub reply-later : (s : Allocator) (requests : List ℕ) (n : ℕ) → IsSound s
     → reply_from (after_takes s requests).made (pool_at (after_takes s requests) (cursor s)) n ≡ reply_to s n
-reply-later s requests n h = search (rules, made-after_takes, pool_at-later)
+reply-later s requests n h = search (rules, made-after_takes, top-after_takes, available-after_takes, pool_at-cursor)
 
--- a request for nothing changes nothing
 pub after_take-none : (s : Allocator) → after_take s 0 ≡ s
 after_take-none s = grind (arith, common_steps)
 
--- and lists nothing
 pub reply-none : (s : Allocator) → reply_to s 0 ≡ Ok []
 reply-none s = search (rules, le-leb)
 

@@ -1,7 +1,6 @@
 -- Portions of a pool: the allocator whose pool begins with what was used, and what a request for it
 -- leaves.
-use Rattle.ent_alloc.proofs.Common.{◌≡◌, ◌⊎◌, inl, inr, sym, ◌∙◌, subst, ℕ, ◌-◌, ◌≤◌, rules, List, [], length, take, arith, IsPermutation, common_steps, cases_eq, length-append, take_at, drop_at, length-map, length-take-le, take-append-drop, length_permutation, Handle, Roster, Allocator, after_take, idle, allocator_of, AreReserved, with_front, slots_of, AreSlotsOf, Portion, Requests, used_of, size_of, count_of, reach_of, AreUsed, front_of, after_portions, arranged, IsSound, ◌≢◌}
-use Rattle.std.proofs.Common.{append_assoc}
+use Rattle.ent_alloc.proofs.Common.{◌≡◌, inl, inr, sym, ◌∙◌, subst, ℕ, ◌-◌, ◌≤◌, rules, List, [], length, take, arith, IsPermutation, common_steps, cases_eq, length-append, append_assoc, take_at, drop_at, length-map, length-take-le, take-append-drop, length_permutation, Handle, Roster, Allocator, after_take, idle, allocator_of, AreReserved, with_front, slots_of, AreSlotsOf, Portion, Requests, used_of, size_of, count_of, reach_of, AreUsed, front_of, after_portions, arranged, IsSound, ◌≢◌}
 use Rattle.ent_alloc.proofs.Meaning.{rest_is}
 use Rattle.ent_alloc.proofs.FrontPools.{with_front-sound}
 use Rattle.ent_alloc.proofs.LaidOut.{flushed-laid_out}
@@ -43,10 +42,9 @@ module _ (s : Allocator) (ps : List Portion) (fits : AreUsed ps) (within : size_
     pub order_is : (s' : Allocator) → count ≢ reach → ((slots : AreSlotsOf (take (length is) s.pool) is)
         → s' ≡ with_front s slots.front) → s' ≡ arranged s ps
     unfolding order_slots
-    order_is s' short each = each order_slots ∙ sym (moved_is short)
-      where
-        moved_is : count ≢ reach → arranged s ps ≡ with_front s front
-        moved_is short = grind (arith, common_steps)
+    order_is s' short each =
+        let moved : arranged s ps ≡ with_front s front = grind (arith, common_steps) in
+        each order_slots ∙ sym moved
 
   -- ---- a request for what was used
 
@@ -55,11 +53,6 @@ module _ (s : Allocator) (ps : List Portion) (fits : AreUsed ps) (within : size_
 
   us_long : length (used_of s.pool ps) ≡ count
   us_long = length-used s.pool ps fits within
-
-  -- nothing is left before the last one that was used
-  front_taken : count ≡ reach → s.taken ≡ [] → s.asked ≡ 0 → after_take s count ≡ after_portions s ps
-  front_taken all none flushed = search
-      (rules, used_is_front, left_is_behind, common_steps, after_take-served, reaches, enough)
 
   -- the pool was arranged
   moved_taken : count ≢ reach → s.taken ≡ [] → s.asked ≡ 0 → after_take (with_front s front) count ≡ after_portions s ps
@@ -77,7 +70,8 @@ module _ (s : Allocator) (ps : List Portion) (fits : AreUsed ps) (within : size_
   )
 
   pub portions_taken : s.taken ≡ [] → s.asked ≡ 0 → after_take (arranged s ps) count ≡ after_portions s ps
-  portions_taken none flushed = grind (arith, common_steps, cases_eq, front_taken, moved_taken)
+  portions_taken none flushed = grind
+      (arith, common_steps, cases_eq, moved_taken, used_is_front, left_is_behind, after_take-served, reaches, enough)
 
   pub arranged_asked : (arranged s ps).asked ≡ s.asked
   arranged_asked = grind (arith, common_steps)
@@ -92,18 +86,14 @@ front_slots r requests s is ps reserved view flushed are = grind (arith, common_
 pub after_portions-sound : (s : Allocator) (ps : List Portion) → IsSound s → s.asked ≡ 0 → AreUsed ps
     → size_of ps ≤ length s.pool → IsSound (after_portions s ps)
 after_portions-sound s ps sound flushed fits within =
-    subst IsSound
-    (portions_taken s ps fits within (flushed-laid_out s sound flushed).taken flushed)
-    (after_take-sound (arranged s ps) (count_of ps) (by_count (cases_eq (count_of ps) (reach_of ps))))
-  where
-    by_count : (count_of ps ≡ reach_of ps) ⊎ (count_of ps ≢ reach_of ps) → IsSound (arranged s ps)
-    by_count (inl all) =
-        let is : arranged s ps ≡ s = grind (arith, common_steps) in subst IsSound (sym is) sound
-    by_count (inr short) =
-        let is : arranged s ps ≡ with_front s (front_of s.pool ps) = grind (arith, common_steps) in
-        let long = front_long s ps fits within in
-        subst IsSound (sym is)
-        (with_front-sound s (front_of s.pool ps) sound flushed
-        (omega (arith, long, reaches s ps fits within))
-        (subst (λ n. IsPermutation (take n s.pool) (front_of s.pool ps)) (sym long)
-        (same s ps fits within)))
+    let long = front_long s ps fits within in
+    let arranged_sound : IsSound (arranged s ps) = elim (cases_eq (count_of ps) (reach_of ps)) [
+      | inl all ↦
+          let is : arranged s ps ≡ s = grind (arith, common_steps) in rw is sound
+      | inr short ↦
+          let is : arranged s ps ≡ with_front s (front_of s.pool ps) = grind (arith, common_steps) in
+          rw is (with_front-sound s (front_of s.pool ps) sound flushed (omega (arith, reaches s ps fits within))
+          (rw long (same s ps fits within)))
+    ] in
+    subst IsSound (portions_taken s ps fits within (flushed-laid_out s sound flushed).taken flushed)
+    (after_take-sound (arranged s ps) (count_of ps) arranged_sound)

@@ -1,6 +1,7 @@
 -- Portions of a list: where what was used of them ends, and what is left.
-use Rattle.ent_alloc.proofs.Common.{rules, ◌≡◌, ◌⊎◌, inl, inr, refl, sym, ap, ◌∙◌, subst, ℕ, zero, suc, ◌+◌, ◌-◌, ◌<◌, ◌≤◌, List, [], ◌∷◌, ◌++◌, length, take, drop, get_or, map, arith, IsPermutation, common_steps, take-add, take-append-add, drop-append-add, take-append-drop, length-append, length-drop, drop-drop, length-take-le, append-nil, drop-append-le, drop_more, take_more, get_or-drop, take-append-le, drop-take, get_or_default, All-tail, get_or_from_slice_get, min, min-eq_left, min-eq_right, cases_lt, IsPermutation-refl, IsPermutation-append_left, IsPermutation-append_right, IsPermutation-append_comm, IsPermutation-trans, Portion, used_of, left_of, size_of, count_of, reach_of, AreUsed, front_of, slice_get, Some}
-use Rattle.std.proofs.Common.{append_assoc}
+use Rattle.ent_alloc.proofs.Common.{rules, ◌≡◌, ◌⊎◌, inl, inr, refl, sym, ap, ◌∙◌, subst, ℕ, ◌+◌, ◌-◌, ◌<◌, ◌≤◌, List, [], ◌∷◌, ◌++◌, length, take, drop, get_or, map, arith, IsPermutation, common_steps, take-add, take-append-add, drop-append-add, take-append-drop, length-append, length-drop, drop-drop, length-take-le, append-nil, drop-append-le, drop_more, take_more, get_or-drop, drop-take, get_or_default, All-tail, get_or_from_slice_get, append_assoc, take-map, drop-map, take-take, take_all, min, min-eq_left, min-eq_right, cases_lt, IsPermutation-refl, IsPermutation-append_left, IsPermutation-append_right, IsPermutation-append_comm, IsPermutation-trans, Portion, used_of, left_of, size_of, count_of, reach_of, AreUsed, front_of, slice_get, Some}
+pub use Rattle.std.proofs.lemmas.List.{map-append}
+use Rattle.ent_alloc.proofs.ListLaws.{take-append}
 
 pub first_used : (p : Portion) (ps : List Portion) → AreUsed (p ∷ ps) → p.used ≤ p.size
 first_used p ps fits = fits 0 p (omega arith)
@@ -17,8 +18,7 @@ pub reach-some : (p : Portion) (ps : List Portion) → 0 < reach_of ps → reach
 reach-some p ps some = grind (arith, common_steps)
 
 none_or_some : (n : ℕ) → (n ≡ 0) ⊎ (0 < n)
-none_or_some zero = inl refl
-none_or_some (suc n) = inr (omega arith)
+none_or_some n = grind arith
 
 pub count_within : (ps : List Portion) → AreUsed ps → count_of ps ≤ reach_of ps
 count_within [] fits = omega arith
@@ -31,10 +31,7 @@ reach_within (p ∷ ps) fits = grind (arith, common_steps, first_used p ps fits,
 -- ---- what was used, and what is left
 
 pub take_of_take : {X : Type 0} (n m : ℕ) (xs : List X) → n ≤ m → take n (take m xs) ≡ take n xs
-take_of_take zero m xs le = refl
-take_of_take (suc n) zero xs le = absurd (omega arith)
-take_of_take (suc n) (suc m) [] le = refl
-take_of_take (suc n) (suc m) (x ∷ xs) le = ap (x ∷◌) (take_of_take n m xs (omega arith))
+take_of_take n m xs le = take-take n m xs le
 
 module _ {A : Type 0} where
   pub used_none : (pool : List A) (ps : List Portion) → count_of ps ≡ 0 → used_of pool ps ≡ []
@@ -52,11 +49,7 @@ module _ {A : Type 0} where
   length-used pool (p ∷ ps) fits within =
       let here = first_used p ps fits in
       let others = length-used (drop p.size pool) ps (others_used p ps fits) (omega (arith, length-drop p.size pool)) in
-      omega (
-        arith,
-        length-append (take p.used pool) (used_of (drop p.size pool) ps),
-        length-take-le p.used pool (omega arith),
-      )
+      simp length-append (omega (arith, length-take-le p.used pool (omega arith)))
 
   -- a portion's rest, and what comes behind it
   module _ (p : Portion) (pool : List A) (fits : p.used ≤ p.size) (within : p.size ≤ length pool)
@@ -72,7 +65,7 @@ module _ {A : Type 0} where
           (omega (arith, length-take-le p.size pool within))) ∙ ap (drop p.used) (take-append-drop p.size pool)
 
       front_and_rest : take p.used pool ++ rest ≡ take p.size pool
-      front_and_rest = ap (◌++ rest) (sym (take_of_take p.used p.size pool fits))
+      front_and_rest = ap (◌++ rest) (sym (take-take p.used p.size pool fits))
           ∙ take-append-drop p.used (take p.size pool)
 
       rest_is : rest ≡ take (p.size - p.used) (drop p.used pool)
@@ -83,18 +76,12 @@ module _ {A : Type 0} where
       -- as many as there are of a rest, and then of others
       pub take_left : (more n : ℕ) (others : List A) → n ≡ min (p.size - p.used) more
           → take more (rest ++ others) ≡ take n (drop p.used pool) ++ take (more - n) others
-      take_left more n others least = elim (cases_lt more (p.size - p.used)) [
-        | inl less ↦ let n_is : n ≡ more = least ∙ min-eq_right (omega arith) in let none : more - n
-            ≡ 0 = omega arith in take-append-le more rest others (omega (arith, length-rest)) ∙ ap (take more) rest_is
-            ∙ take_of_take more (p.size - p.used) (drop p.used pool) (omega arith)
-            ∙ ap (λ n. take n (drop p.used pool)) (sym n_is) ∙ sym (append-nil (take n (drop p.used pool)))
-            ∙ ap (λ m. take n (drop p.used pool) ++ take m others) (sym none)
-        | inr all ↦ let n_is : n ≡ p.size
-            - p.used = least ∙ min-eq_left all in let sum : more ≡ length rest
-            + (more - n) = omega (arith, length-rest) in ap (λ m. take m (rest ++ others)) sum
-            ∙ take-append-add rest others (more - n) ∙ ap (◌++ take (more - n) others)
-            (rest_is ∙ ap (λ n. take n (drop p.used pool)) (sym n_is))
-      ]
+      take_left more n others least =
+          let long = length-rest in
+          let count : more - length rest ≡ more - n = omega arith in
+          let first : take more rest ≡ take n (drop p.used pool) = search
+          (rules, cases_lt more (p.size - p.used), rest_is, take-take, take_all, min-eq_left, min-eq_right) in
+          rw (take-append more rest others, first, count)
 
   -- behind the last one that was used nothing has moved
   pub behind_reach : (pool : List A) (ps : List Portion) → AreUsed ps → size_of ps ≤ length pool
@@ -106,17 +93,15 @@ module _ {A : Type 0} where
       let others = behind_reach (drop p.size pool) ps (others_used p ps fits)
       (omega (arith, length-drop p.size pool)) in
       elim (none_or_some (reach_of ps)) [
-        | inl none ↦ let reach = reach-none p ps none in let none_used : count_of ps
-            ≡ 0 = omega (arith, few) in let start : reach_of (p ∷ ps) - count_of (p ∷ ps)
-            ≡ 0 = omega arith in ap (λ n. drop n (left_of pool (p ∷ ps))) start
-            ∙ ap (rest p pool here (omega arith) ++◌) (left_none (drop p.size pool) ps none_used)
-            ∙ rest_and_behind p pool here (omega arith) ∙ ap (λ n. drop n pool) (sym reach)
-        | inr some ↦ let reach =
-            reach-some p ps some in let long = length-rest p pool here (omega arith) in let start : reach_of (p ∷ ps)
-            - count_of (p ∷ ps) ≡ length (rest p pool here (omega arith))
-            + (reach_of ps - count_of ps) = omega (arith, few, here) in ap (λ n. drop n (left_of pool (p ∷ ps))) start
-            ∙ drop-append-add (rest p pool here (omega arith)) (left_of (drop p.size pool) ps) (reach_of ps - count_of ps)
-            ∙ others ∙ drop-drop (reach_of ps) p.size pool ∙ ap (λ n. drop n pool) (sym reach)
+        | inl none ↦
+            let start : p.used - (p.used + count_of ps) ≡ 0 = omega arith in
+            rw (reach-none p ps none, start, left_none (drop p.size pool) ps (omega arith))
+            (rest_and_behind p pool here (omega arith))
+        | inr some ↦
+            let long = length-rest p pool here (omega arith) in
+            let start : p.size + reach_of ps - (p.used + count_of ps) ≡ length (rest p pool here (omega arith))
+            + (reach_of ps - count_of ps) = omega arith in
+            rw (reach-some p ps some, start, drop-append-add, others, drop-drop)
       ]
 
   -- the middle ones of four lists in the other order
@@ -136,30 +121,20 @@ module _ {A : Type 0} where
       let few = count_within ps (others_used p ps fits) in
       let others = front_same (drop p.size pool) ps (others_used p ps fits) (omega (arith, length-drop p.size pool)) in
       elim (none_or_some (reach_of ps)) [
-        | inl none ↦ let none_used : count_of ps
-            ≡ 0 = omega (arith, few) in let start : reach_of (p ∷ ps) - count_of (p ∷ ps)
-            ≡ 0 = omega (arith, reach-none p ps none) in let us : used_of (drop p.size pool) ps
-            ≡ [] = used_none (drop p.size pool) ps none_used in let all : front_of pool (p ∷ ps)
-            ≡ take (reach_of (p ∷ ps)) pool = (λ i. (take p.used pool ++ us i) ++ take (start i) (left_of pool (p ∷ ps)))
-            ∙ append-nil (take p.used pool ++ []) ∙ append-nil (take p.used pool)
-            ∙ ap (λ n. take n pool) (sym (reach-none p ps none)) in subst (IsPermutation (take (reach_of (p ∷ ps)) pool))
-            (sym all) (IsPermutation-refl (take (reach_of (p ∷ ps)) pool))
-        | inr some ↦ let r = rest p pool here
-            (omega arith) in let u = take p.used pool in let pool' = drop p.size pool in let us = used_of pool' ps in let rs =
-            take (reach_of ps - count_of ps) (left_of pool' ps) in let reach = reach-some p ps some in let start : reach_of
-            (p ∷ ps) - count_of (p ∷ ps) ≡ length r + (reach_of ps - count_of ps) = omega
-            (arith, few, here, length-rest p pool here (omega arith)) in let lefts : take
-            (reach_of (p ∷ ps) - count_of (p ∷ ps)) (left_of pool (p ∷ ps)) ≡ r
-            ++ rs = ap (λ n. take n (left_of pool (p ∷ ps))) start ∙ take-append-add r (left_of pool' ps) (reach_of ps
-            - count_of ps) in let front : take (reach_of (p ∷ ps)) pool ≡ (u ++ r)
-            ++ take (reach_of ps) pool' = ap (λ n. take n pool) reach ∙ take-add p.size (reach_of ps) pool
-            ∙ ap (◌++ take (reach_of ps) pool') (sym (front_and_rest p pool here (omega arith))) in let first : IsPermutation
-            ((u ++ r) ++ take (reach_of ps) pool') ((u ++ r) ++ (us ++ rs)) = IsPermutation-append_right (u ++ r)
-            (take (reach_of ps) pool') (us ++ rs) others in let whole : (u ++ us) ++ (r ++ rs)
-            ≡ front_of pool (p ∷ ps) = ap ((u ++ us) ++◌) (sym lefts) in subst
-            (λ xs. IsPermutation xs (front_of pool (p ∷ ps))) (sym front)
-            (subst (IsPermutation ((u ++ r) ++ take (reach_of ps) pool')) whole
-            (IsPermutation-trans _ _ _ first (swap_middle u r us rs)))
+        | inl none ↦
+            let start : p.used - (p.used + count_of ps) ≡ 0 = omega arith in
+            rw (reach-none p ps none, start, used_none (drop p.size pool) ps (omega arith), append-nil, append-nil)
+            (IsPermutation-refl (take p.used pool))
+        | inr some ↦
+            let r = rest p pool here (omega arith) in
+            let rs = take (reach_of ps - count_of ps) (left_of (drop p.size pool) ps) in
+            let long = length-rest p pool here (omega arith) in
+            let start : p.size + reach_of ps - (p.used + count_of ps) ≡ length r + (reach_of ps - count_of ps) =
+            omega arith in
+            let first = IsPermutation-append_right (take p.used pool ++ r) _ _ others in
+            let swapped = IsPermutation-trans _ _ _ first (swap_middle (take p.used pool) r _ rs) in
+            rw (reach-some p ps some, take-add, start, take-append-add)
+            (rw (front_and_rest p pool here (omega arith)) at swapped)
       ]
 
   -- if nothing is left before the last one that was used, they are what the list begins with
@@ -172,14 +147,13 @@ module _ {A : Type 0} where
       let others = λ (whole : count_of ps ≡ reach_of ps). used_is_front (drop p.size pool) ps (others_used p ps fits)
       whole (omega (arith, length-drop p.size pool)) in
       elim (none_or_some (reach_of ps)) [
-        | inl none ↦ let none_used : count_of ps
-            ≡ 0 = omega (arith, few) in let sum : p.used ≡ p.used + count_of ps = omega arith in ap (take p.used pool ++◌)
-            (used_none (drop p.size pool) ps none_used) ∙ append-nil (take p.used pool)
-            ∙ ap (λ n. take n pool) sum
-        | inr some ↦ let reach = reach-some p ps some in let full : p.used
-            ≡ p.size = omega (arith, few, here) in let sum : p.size + count_of ps ≡ p.used
-            + count_of ps = omega arith in (λ i. take (full i) pool ++ others (omega (arith, few, here)) i)
-            ∙ sym (take-add p.size (count_of ps) pool) ∙ ap (λ n. take n pool) sum
+        | inl none ↦
+            let sum : p.used + count_of ps ≡ p.used = omega arith in
+            rw (used_none (drop p.size pool) ps (omega arith), append-nil, sum)
+        | inr some ↦
+            let reach = reach-some p ps some in
+            let full : p.used ≡ p.size = omega arith in
+            rw (full, others (omega arith)) (sym (take-add p.size (count_of ps) pool))
       ]
 
   pub left_is_behind : (pool : List A) (ps : List Portion) → AreUsed ps → count_of ps ≡ reach_of ps
@@ -219,49 +193,25 @@ module _ (ps : List Portion) (k : ℕ) (p : Portion) (lt : k < length ps) (is : 
           → take more (left_of (drop before pool) (drop k ps)) ≡ take n (drop (before + p.used) pool)
           ++ take (more - n) (left_of (drop (before + p.size) pool) (drop (k + 1) ps))
       left_more more n least fits within =
-          let others = left_of (drop (before + p.size) pool) (drop (k + 1) ps) in
-          let long : p.size ≤ length (drop before pool) = omega (arith, length-drop before pool) in
-          ap (λ ps. take more (left_of (drop before pool) ps)) portion_more
-          ∙ ap (λ xs. take more (drop p.used (take p.size (drop before pool)) ++ left_of xs (drop (k + 1) ps)))
-          (drop-drop p.size before pool) ∙ take_left p (drop before pool) fits long more n others least
-          ∙ ap (λ xs. take n xs ++ take (more - n) others) (drop-drop p.used before pool)
+          rw (portion_more, ← drop-drop p.size before pool, ← drop-drop p.used before pool)
+          (take_left p (drop before pool) fits (omega (arith, length-drop before pool)) more n _ least)
 
 -- one more of what begins at a position
 pub list_more : {X : Type 0} (pool : List X) (from more : ℕ) (x : X) → slice_get pool (from + more) ≡ Some x
     → from + more < length pool → take (more + 1) (drop from pool) ≡ take more (drop from pool) ++ x ∷ []
-list_more pool from more x at below = take_more (drop from pool) more x (omega (arith, length-drop from pool))
-    ∙ ap (λ y. take more (drop from pool) ++ y ∷ []) (get_or-drop from pool more x
-    ∙ get_or_from_slice_get pool (from + more) x x at)
+list_more pool from more x at below = search
+    (rules, take_more (drop from pool) more x, length-drop, get_or-drop, get_or_from_slice_get pool (from + more) x x)
 
 -- ---- a list of which each element is mapped
 
 module _ {A B : Type 0} (f : A → B) where
-  pub map-append : (xs ys : List A) → map f (xs ++ ys) ≡ map f xs ++ map f ys
-  map-append [] ys = refl
-  map-append (x ∷ xs) ys = ap (f x ∷◌) (map-append xs ys)
-
-  map-take : (n : ℕ) (xs : List A) → map f (take n xs) ≡ take n (map f xs)
-  map-take zero xs = refl
-  map-take (suc n) [] = refl
-  map-take (suc n) (x ∷ xs) = ap (f x ∷◌) (map-take n xs)
-
-  map-drop : (n : ℕ) (xs : List A) → map f (drop n xs) ≡ drop n (map f xs)
-  map-drop zero xs = refl
-  map-drop (suc n) [] = refl
-  map-drop (suc n) (x ∷ xs) = map-drop n xs
-
   used-map : (pool : List A) (ps : List Portion) → map f (used_of pool ps) ≡ used_of (map f pool) ps
   used-map pool [] = refl
-  used-map pool (p ∷ ps) = map-append (take p.used pool) (used_of (drop p.size pool) ps)
-      ∙ (λ i. map-take p.used pool i ++ used-map (drop p.size pool) ps i)
-      ∙ ap (λ xs. take p.used (map f pool) ++ used_of xs ps) (map-drop p.size pool)
+  used-map pool (p ∷ ps) = search (rules, map-append, take-map, drop-map, used-map (drop p.size pool) ps)
 
   left-map : (pool : List A) (ps : List Portion) → map f (left_of pool ps) ≡ left_of (map f pool) ps
   left-map pool [] = refl
-  left-map pool (p ∷ ps) = map-append (drop p.used (take p.size pool)) (left_of (drop p.size pool) ps)
-      ∙ (λ i. (map-drop p.used (take p.size pool) ∙ ap (drop p.used) (map-take p.size pool)) i
-      ++ left-map (drop p.size pool) ps i) ∙ ap (λ xs. drop p.used (take p.size (map f pool)) ++ left_of xs ps)
-      (map-drop p.size pool)
+  left-map pool (p ∷ ps) = search (rules, map-append, take-map, drop-map, left-map (drop p.size pool) ps)
 
   pub front-map : (pool : List A) (ps : List Portion) → map f (front_of pool ps) ≡ front_of (map f pool) ps
-  front-map pool ps = grind (arith, common_steps, map-append, used-map, map-take, left-map)
+  front-map pool ps = rw (map-append, used-map, ← take-map, left-map)

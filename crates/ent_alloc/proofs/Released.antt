@@ -1,6 +1,6 @@
 -- A slot whose occupant is freed, and waits for the next one or is retired: the vectors stay
 -- linked, and the roster loses the occupant.
-use Rattle.ent_alloc.proofs.Common.{rules, ◌≡◌, ◌≢◌, ℕ, ◌+◌, ◌-◌, ◌<◌, ◌≤◌, true, false, List, [], ◌∷◌, ◌++◌, length, get_or, set, refl, arith, None, map, cases_lt, cases_eq, false≢true, length-set, length_push, map_push, get_or-set_same, get_or-set_other, get_or_append_left, get_or_push, Handle, handle_cmp, handle_cmp_total, handle_cmp-IsAntisymmetric, Limits, following, SlotRecord, Pending, Retired, occupants, is_alive, row_of, record_at, no_slot, handle_at, rows_from, roster_of, AreLinked, common_steps}
+use Rattle.ent_alloc.proofs.Common.{rules, ◌≡◌, ◌≢◌, ℕ, ◌+◌, ◌-◌, ◌<◌, ◌≤◌, true, false, List, [], ◌∷◌, ◌++◌, length, get_or, set, refl, arith, None, map, cases_lt, cases_eq, false≢true, length-set, length_push, map_push, get_or-set_same, get_or-set_other, get_or_append_left, get_or_push, Handle, handle_cmp, handle_cmp_total, handle_cmp-IsAntisymmetric, Limits, following, SlotRecord, Pending, Retired, occupants, is_alive, row_of, record_at, no_slot, handle_at, rows_from, Roster, roster_of, AreLinked, common_steps}
 use Rattle.std.specs.FinSet as sets
 use Rattle.std.specs.FinMap as maps
 use Rattle.ent_alloc.proofs.ListLaws.{map_alike}
@@ -63,14 +63,14 @@ module _ (limits : Limits) (records : List SlotRecord) (pending : List ℕ) (liv
       let made = made_slot in
       search (rules, length_push, cases_lt, cases_eq, get_or_append_left, get_or_push, apart)
 
-  pub roster_of-release : roster_of limits released (pending ++ h.index ∷ [])
-      ≡ record (roster_of limits records pending) {
-        live = sets.remove (roster_of limits records pending).live h;
-        rows =
-            maps.remove (roster_of limits records pending).rows h;
-        pending = (roster_of limits records pending).pending
-            ++ following h ∷ [];
-      }
+  abbrev was : Roster
+  was = roster_of limits records pending
+
+  pub roster_of-release : roster_of limits released (pending ++ h.index ∷ []) ≡ record was {
+    live = sets.remove was.live h;
+    rows = maps.remove was.rows h;
+    pending = was.pending ++ following h ∷ [];
+  }
   roster_of-release = search (rules, pending_is, map_push, same, live_is, rows_is, length-set)
 
   -- ---- the slot is retired
@@ -84,10 +84,6 @@ module _ (limits : Limits) (records : List SlotRecord) (pending : List ℕ) (liv
   pub retire_keeps_links : AreLinked limits retired pending (live - 1)
   retire_keeps_links = search (rules, fewer unused refl refl, made_slot)
 
-  pub roster_of-retire : roster_of limits retired pending ≡ record (roster_of limits records pending) {
-    live =
-        sets.remove (roster_of limits records pending).live h;
-    rows = maps.remove (roster_of limits records pending).rows
-        h;
-  }
+  pub roster_of-retire : roster_of limits retired pending
+      ≡ record was { live = sets.remove was.live h; rows = maps.remove was.rows h }
   roster_of-retire = search (rules, live_is, rows_is, pending_is, length-set)

@@ -1,11 +1,9 @@
 -- What a served reply lists: handles of different slots, none of them alive, all of them taken, and
 -- none twice in two replies.
-use Rattle.ent_alloc.proofs.Common.{rules, ◌≡◌, ◌≢◌, refl, sym, ap, subst, ℕ, ◌<◌, ◌≤◌, not, List, ◌++◌, length, take, reverse, filter, All, AllPairs, Contains, IsPermutation, Ok, Err, arith, common_steps, lt-leb, nat_tests, All-take, Contains-append_right, All-contains_itself, IsPermutation-refl, IsPermutation-sym, IsPermutation-trans, IsPermutation-append, IsPermutation-reverse, IsPermutation-filter_both, All-permutation, Handle, Space, Allocator, available, after_take, listed, reply_to, is_old, is_fresh, IsSound, AreApart, IsLive}
-use Rattle.std.proofs.Common.{le-leb}
+use Rattle.ent_alloc.proofs.Common.{rules, ◌≡◌, ◌≢◌, refl, sym, ap, subst, ℕ, ◌<◌, ◌≤◌, not, List, ◌++◌, length, take, reverse, filter, All, AllPairs, Contains, IsPermutation, Ok, Err, arith, common_steps, lt-leb, le-leb, nat_tests, All-take, Contains-append_right, All-contains_itself, IsPermutation-refl, IsPermutation-sym, IsPermutation-trans, IsPermutation-append, IsPermutation-reverse, IsPermutation-filter_both, All-permutation, Handle, Allocator, available, after_take, listed, reply_to, is_old, is_fresh, IsSound, AreApart, IsLive}
 use Rattle.ent_alloc.proofs.ListLaws.{AllPairs-right, AllPairs-take, AllPairs-IsPermutation, All-right}
 use Rattle.ent_alloc.proofs.Taken.{after_take-served}
 
--- a handle is fresh where it is not old
 pub fresh_is_not_old : (made : ℕ) (h : Handle) → is_fresh made h ≡ not (is_old made h)
 fresh_is_not_old made h = grind (arith, nat_tests)
 
@@ -21,7 +19,6 @@ listed-IsPermutation made given =
 pub reply-served : (s : Allocator) (n : ℕ) → n ≤ length s.pool → reply_to s n ≡ Ok (listed s.made (take n s.pool))
 reply-served s n enough = search (rules, le-leb)
 
--- a request for more than the pool has
 pub reply-refused : (s : Allocator) (n : ℕ) → length s.pool < n
     → reply_to s n ≡ Err (record { wanted = n; left = length s.pool })
 reply-refused s n short = search (rules, lt-leb)
@@ -31,11 +28,9 @@ pub served_from : (s : Allocator) (n : ℕ) (given : List Handle) → reply_to s
     → (n ≤ length s.pool) × (given ≡ listed s.made (take n s.pool))
 served_from s n given is = grind (arith, common_steps)
 
--- a handle is not apart from itself
 pub not_apart : (h : Handle) → ¬ (AreApart h h)
 not_apart h apart = apart refl
 
--- apart goes both ways
 pub apart_both : (g h : Handle) → AreApart g h → AreApart h g
 apart_both g h apart same = apart (sym same)
 
@@ -52,11 +47,9 @@ module _ (s : Allocator) (n : ℕ) (given : List Handle) (is : reply_to s n ≡ 
   pub reply-IsPermutation : IsPermutation (take n s.pool) given
   reply-IsPermutation = search (rules, served_from, listed-IsPermutation)
 
-  -- the front of the pool joins what is taken
   pub taken-after_served : (after_take s n).taken ≡ s.taken ++ take n s.pool
   taken-after_served = search (rules, after_take-served, served_from)
 
-  -- what holds of the whole pool holds of the reply
   pub of_reply : (P : Handle → Type 0) → All P s.pool → All P given
   of_reply P all = search (rules, All-permutation, reply-IsPermutation, All-take)
 
@@ -77,7 +70,6 @@ module _ (s : Allocator) (n : ℕ) (given : List Handle) (is : reply_to s n ≡ 
       (AllPairs-take AreApart n s.pool (AllPairs-right AreApart s.aside s.pool
       (AllPairs-right AreApart s.taken (s.aside ++ s.pool) h.apart)))
 
-  -- so no handle stands twice
   pub reply-distinct : IsSound s → AllPairs (λ g h. g ≢ h) given
   reply-distinct h = distinct_from_apart given (reply-apart h)
 
@@ -85,11 +77,5 @@ module _ (s : Allocator) (n : ℕ) (given : List Handle) (is : reply_to s n ≡ 
   pub reply-apart_from_live : IsSound s → (x : Handle) → IsLive s x → All (AreApart x) given
   reply-apart_from_live h x alive = of_reply (AreApart x) (of_pool (AreApart x) s (h.live x alive).apart)
 
-  -- so none is alive
   pub reply-not_live : IsSound s → All (λ x. ¬ (IsLive s x)) given
   reply-not_live h k d lt alive = search (rules, not_apart, reply-apart_from_live)
-
--- a refused request takes nothing
-pub taken-after_refused : (s : Allocator) (n : ℕ) (space : Space) → reply_to s n ≡ Err space
-    → (after_take s n).taken ≡ s.taken
-taken-after_refused s n space is = grind (arith, common_steps)

@@ -1,11 +1,10 @@
 -- All replies to requests in turn, taken together: no handle twice, none alive before, and a flush
 -- brings to life exactly those.
-use Rattle.ent_alloc.proofs.Common.{rules, get_or, ◌≡◌, refl, ℕ, List, [], ◌∷◌, ◌++◌, All, AllPairs, Contains, IsPermutation, Ok, Err, ◌⊎◌, ◌↔◌, inl, inr, IsPermutation-refl, IsPermutation-sym, IsPermutation-trans, IsPermutation-append_left, All-permutation, Contains-permutation, Handle, Allocator, after_take, after_flush, reply_to, IsSound, AreApart, IsLive, AreSpent, handles_in}
-use Rattle.std.proofs.Common.{append-nil, append_assoc}
+use Rattle.ent_alloc.proofs.Common.{rules, arith, common_steps, get_or, ◌≡◌, ℕ, List, [], ◌∷◌, ◌++◌, All, AllPairs, Contains, IsPermutation, ◌⊎◌, ◌↔◌, IsPermutation-refl, append-nil, append_assoc, IsPermutation-sym, IsPermutation-trans, IsPermutation-append_left, All-permutation, Contains-permutation, Handle, Allocator, after_take, after_flush, reply_to, IsSound, AreApart, IsLive, AreSpent, handles_in}
 use Rattle.ent_alloc.proofs.ListLaws.{All-left, All-right, AllPairs-left, AllPairs-right, AllPairs-IsPermutation}
 use Rattle.ent_alloc.proofs.LaidOut.{flushed-laid_out}
 use Rattle.ent_alloc.proofs.PoolLaw.{after_takes, live-after_takes, after_takes-sound}
-use Rattle.ent_alloc.proofs.Replies.{taken-IsPermutation, taken-after_refused, apart_both, not_apart}
+use Rattle.ent_alloc.proofs.Replies.{taken-IsPermutation, apart_both, not_apart}
 use Rattle.ent_alloc.proofs.Flushes.{live-after_flush, live-stays, taken-lives}
 use Rattle.ent_alloc.proofs.GivenOnce.{take-given, refused-given}
 
@@ -17,19 +16,15 @@ given_by s (n ∷ requests) = handles_in (reply_to s n) ++ given_by (after_take 
 -- what is taken is what was taken, and the handles of the reply
 pub taken-after_take : (s : Allocator) (n : ℕ) → IsPermutation (s.taken ++ handles_in (reply_to s n))
     (after_take s n).taken
-taken-after_take s n = search (rules, taken-IsPermutation, append-nil, taken-after_refused, IsPermutation-refl)
+taken-after_take s n = search (rules, taken-IsPermutation, append-nil, IsPermutation-refl)
 
--- and the handles of all replies
 pub taken-after_takes : (s : Allocator) (requests : List ℕ) → IsPermutation (s.taken ++ given_by s requests)
     (after_takes s requests).taken
 taken-after_takes s [] = rw (append-nil s.taken) (IsPermutation-refl s.taken)
 taken-after_takes s (n ∷ requests) =
     let t = after_take s n in
-    let one = handles_in (reply_to s n) in
-    let rest = given_by t requests in
-    IsPermutation-trans (s.taken ++ (one ++ rest)) (t.taken ++ rest) (after_takes t requests).taken
-    (rw append_assoc at (IsPermutation-append_left rest (s.taken ++ one) t.taken (taken-after_take s n)))
-    (taken-after_takes t requests)
+    let one = IsPermutation-append_left (given_by t requests) _ t.taken (taken-after_take s n) in
+    IsPermutation-trans _ _ _ (rw append_assoc at one) (taken-after_takes t requests)
 
 module _ (s : Allocator) (requests : List ℕ) (h : IsSound s) where
   -- no two of all are of one slot
@@ -40,14 +35,12 @@ module _ (s : Allocator) (requests : List ℕ) (h : IsSound s) where
       AllPairs-right AreApart s.taken (given_by s requests) (AllPairs-IsPermutation AreApart apart_both t.taken
       (s.taken ++ given_by s requests) (search (rules, IsPermutation-sym, taken-after_takes)) taken)
 
-  -- none is alive
   pub given_by-not_live : All (λ x. ¬ (IsLive s x)) (given_by s requests)
   given_by-not_live =
       let t = after_takes s requests in
-      let taken_not_live : All (λ x. ¬ (IsLive s x)) t.taken = λ k d lt alive. let x = get_or t.taken k d in let still :
-      IsLive t x = rw (live-after_takes s requests) alive in not_apart x
-      (All-left (AreApart x) t.taken (t.aside ++ t.pool) ((after_takes-sound s requests h).live x still).apart k d
-      lt) in
+      let sound = after_takes-sound s requests h in
+      let taken_not_live : All (λ x. ¬ (IsLive s x)) t.taken = λ k d lt alive. let x = get_or t.taken k d in not_apart x
+      (All-left (AreApart x) t.taken _ (sound.live x (rw (live-after_takes s requests) alive)).apart k d lt) in
       All-right (λ x. ¬ (IsLive s x)) s.taken (given_by s requests) (All-permutation (λ x. ¬ (IsLive s x)) t.taken
       (s.taken ++ given_by s requests) (search (rules, IsPermutation-sym, taken-after_takes)) taken_not_live)
 
@@ -61,26 +54,14 @@ module _ (s : Allocator) (requests : List ℕ) (h : IsSound s) where
   live-since_flush flushed x =
       let t = after_takes s requests in
       let all = taken-since_flush flushed in
-      let back = IsPermutation-sym (given_by s requests) t.taken all in
-      let same = live-after_takes s requests in (
-        λ alive. elim (live-after_flush t x alive) [
-          | inl was ↦ inl (rw same at was)
-          | inr in_taken ↦ inr
-              (Contains-permutation t.taken (given_by s requests) x back in_taken)
-        ],
-        λ either. elim either [
-          | inl was ↦ live-stays t x (rw same was)
-          | inr given ↦ taken-lives t x
-              (Contains-permutation (given_by s requests) t.taken x all given)
-        ],
-      )
+      let back = Contains-permutation t.taken (given_by s requests) x (IsPermutation-sym _ t.taken all) in
+      let there = Contains-permutation (given_by s requests) t.taken x all in
+      let same = live-after_takes s requests in
+      grind (arith, common_steps, live-after_flush t x, live-stays t x, taken-lives t x)
 
 -- one request gives nothing that was given before
 pub requested-given : (s : Allocator) (n : ℕ) (given : List Handle) → IsSound s → AreSpent s given
     → AreSpent (after_take s n) (given ++ handles_in (reply_to s n))
-requested-given s n given h once = elim (reply_to s n) as (λ r. reply_to s n ≡ r → AreSpent (after_take s n)
-    (given ++ handles_in r)) [
-      | Ok more ↦ λ is. take-given s n given more h is once
-      | Err space ↦ λ is. rw
-          (append-nil given) (refused-given s n given once)
-    ] refl
+requested-given s n given h once =
+    let refused = refused-given s n given once in
+    grind (arith, common_steps, take-given s n given, append-nil given)

@@ -1,6 +1,6 @@
 -- How many slots are retired: all that were made but those of the living and those of the old
 -- handles that may be given.
-use Rattle.ent_alloc.proofs.Common.{rules, ◌≡◌, ℕ, ◌+◌, ◌<◌, ◌≤◌, Bool, true, false, cond, not, ◌||◌, eqb, List, [], ◌∷◌, length, get_or, filter, refl, sym, ap, ◌∙◌, arith, suc, zero, All, AllPairs, Contains, true≢false, common_steps, count_by, range_with_len, cases_eq, eq-eqb, ne_eqb, eqb-true, false_from_ne_true, AllPairs-filter, sum_by-cons, All-head, All-tail, All-contains, Contains-get_or, Handle, handle_cmp, handle_cmp_total, handle_cmp-IsAntisymmetric, Allocator, available, top, is_old, has_slot, retired, stands_in, IsSound, AreApart, IsLive, Any-from_list_any, list_any_at, list_any_none}
+use Rattle.ent_alloc.proofs.Common.{rules, ◌≡◌, ℕ, ◌+◌, ◌<◌, ◌≤◌, Bool, true, false, cond, not, ◌⊎◌, inl, inr, ◌||◌, eqb, List, [], ◌∷◌, length, filter, refl, sym, ◌∙◌, arith, suc, zero, All, AllPairs, Contains, true≢false, common_steps, count_by, range_with_len, cases_eq, eq-eqb, ne_eqb, eqb-true, false_from_ne_true, AllPairs-filter, sum_by-cons, All-head, All-tail, All-contains, Contains-get_or, Handle, handle_cmp, handle_cmp_total, handle_cmp-IsAntisymmetric, Allocator, available, top, is_old, has_slot, retired, stands_in, IsSound, AreApart, IsLive, Any-from_list_any, list_any_at, list_any_none}
 use Rattle.std.specs.FinSet as set
 use Rattle.ent_alloc.proofs.ListLaws.{AllPairs-head, AllPairs-tail}
 use Rattle.ent_alloc.proofs.HandleSets.{Contains-from_stands_in, stands_in-from_Contains}
@@ -8,7 +8,6 @@ use Rattle.ent_alloc.proofs.LaidOut.{old_ones, old_ones_below}
 
 -- ---- counting numbers
 
--- what a test adds to a count
 abbrev weight : Bool → ℕ
 weight b = cond b 1 0
 
@@ -80,9 +79,8 @@ in_tail x handles h (k, below, is) = (suc k, omega arith, is)
 alone-tail : (x : Handle) (handles : List Handle) → AreAlone (x ∷ handles) → AreAlone handles
 alone-tail x handles alone g h in_g in_h = search (rules, in_tail)
 
-either_of : (b : Bool) (P : Type 0) → (b ≡ true → P) → (b ≡ false → P) → P
-either_of true P f g = f refl
-either_of false P f g = g refl
+cases_eq_bool : (b : Bool) → (b ≡ true) ⊎ (b ≡ false)
+cases_eq_bool b = grind (arith, common_steps)
 
 -- the set of them has as many
 count-alone : (handles : List Handle) (n : ℕ) → AreAlone handles → All (λ h. h.index < n) handles
@@ -93,15 +91,20 @@ count-alone (h ∷ handles) n alone below =
     let rest = count-alone handles n (alone-tail h handles alone) (All-tail (λ h. h.index < n) h handles below) in
     let long = set.len-insert handle_cmp_total (set.from_list handles) h in
     let tells = set.contains-from_list handle_cmp_total handles h in
-    either_of (stands_in handles h) (count (has_slot (h ∷ handles)) 0 n
-    ≡ set.len {R = handle_cmp} (set.from_list (h ∷ handles)))
-    (λ is. let there = has_slot-has handles h (Contains-from_stands_in handles h is) in let same = count_alike
-    (has_slot (h ∷ handles)) (has_slot handles) 0 n (λ i _ _. grind (arith, common_steps)) in cc)
-    (λ is. let none : has_slot handles h.index ≡ false = false_from_ne_true _
-    (λ one. let found = has_slot-found handles h.index one in let same = alone found.0 h
-    (in_tail h handles found.0 found.1) (0, omega arith, refl) found.2 in true≢false
-    (search (rules, stands_in-from_Contains, same))) in let more = count-one_more (has_slot handles) h.index 0 n
-    (omega arith) (omega arith) none in cc)
+    elim (cases_eq_bool (stands_in handles h)) [
+      | inl is ↦
+          let there = has_slot-has handles h (Contains-from_stands_in handles h is) in
+          let same = count_alike (has_slot (h ∷ handles)) (has_slot handles) 0 n
+          (λ i _ _. grind (arith, common_steps)) in
+          cc
+      | inr is ↦
+          let none : has_slot handles h.index ≡ false = false_from_ne_true _ (λ one.
+          let found = has_slot-found handles h.index one in
+          let same = alone found.0 h (in_tail h handles found.0 found.1) (0, omega arith, refl) found.2 in
+          true≢false (search (rules, stands_in-from_Contains, same))) in
+          let more = count-one_more (has_slot handles) h.index 0 n (omega arith) (omega arith) none in
+          cc
+    ]
 
 -- of the old slots, the old handles tell
 has_slot-old : (made : ℕ) (handles : List Handle) (index : ℕ) → index < made
@@ -120,12 +123,12 @@ module _ (s : Allocator) (sound : IsSound s) where
 
   listed : s.live ≡ set.from_list living
   listed = set.same_set handle_cmp_total handle_cmp-IsAntisymmetric _ _
-      (λ q. set.contains-items s.live q ∙ sym (set.contains-from_list handle_cmp_total living q))
+      (λ q. search (rules, set.contains-items, set.contains-from_list, handle_cmp_total))
 
   count-living : count (has_slot living) 0 s.made ≡ set.len s.live
-  count-living = count-alone living s.made (λ g h in_g in_h. sound.one_occupant g h (lives g in_g) (lives h in_h))
-      (λ i d lt. (sound.live (get_or living i d) (lives (get_or living i d) (Contains-get_or living i d lt))).made)
-      ∙ ap (λ l. set.len l) (sym listed)
+  count-living = rw (← listed) at (count-alone living s.made
+      (λ g h in_g in_h. sound.one_occupant g h (lives g in_g) (lives h in_h))
+      (λ i d lt. (sound.live _ (lives _ (Contains-get_or living i d lt))).made))
 
   count-waiting : count (has_slot (available s)) 0 s.made ≡ top s
   count-waiting = count_alike (has_slot (available s)) (has_slot (old_ones s)) 0 s.made

@@ -9,15 +9,13 @@ use Rattle.ent_alloc.proofs.Meaning.{append_parts}
 use Rattle.ent_alloc.proofs.RequestLaws.{given_by, taken-since_flush}
 
 module _ (s : Allocator) (h : IsSound s) (flushed : s.asked ≡ 0) where
-  -- a flushed allocator has taken nothing
+  -- a flushed allocator has taken nothing, nor passed anything over
   nothing_taken : s.taken ≡ []
   nothing_taken = (flushed-laid_out s h flushed).taken
 
-  -- nor passed anything over
   nothing_aside : s.aside ≡ []
   nothing_aside = (flushed-laid_out s h flushed).aside
 
-  -- so all there is to give is in the pool
   all_in_pool : available s ≡ s.pool
   all_in_pool = rw (nothing_taken, nothing_aside)
 

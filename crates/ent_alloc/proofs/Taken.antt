@@ -1,6 +1,5 @@
 -- What a request does to the lists of a sound allocator, and what is taken by all requests.
-use Rattle.ent_alloc.proofs.Common.{rules, ◌≡◌, sym, ap, ◌∙◌, subst, ℕ, ◌+◌, ◌-◌, ◌<◌, ◌≤◌, List, [], ◌++◌, length, take, drop, filter, All, arith, ◌⊎◌, common_steps, cases_lt, lt-leb, take-append_seam, drop-append_seam, length-append, length-drop, All-take, All-append, All-weaker, Handle, Allocator, top, available, after_take, after_flush, fresh, is_fresh, IsSound}
-use Rattle.std.proofs.Common.{le-leb}
+use Rattle.ent_alloc.proofs.Common.{rules, ◌≡◌, sym, ap, ◌∙◌, subst, ℕ, ◌+◌, ◌-◌, ◌<◌, ◌≤◌, List, [], ◌++◌, length, take, drop, All, arith, ◌⊎◌, common_steps, cases_lt, lt-leb, le-leb, take-append_seam, drop-append_seam, length-append, length-drop, All-take, All-append, All-weaker, Handle, Allocator, top, available, after_take, after_flush, fresh, IsSound}
 use Rattle.ent_alloc.proofs.FreshHandles.{All-fresh, fresh_of_joined, take_joined, drop_joined, length-fresh}
 use Rattle.ent_alloc.proofs.LaidOut.{old_ones, old_ones_below}
 
@@ -8,7 +7,6 @@ use Rattle.ent_alloc.proofs.LaidOut.{old_ones, old_ones_below}
 pub aside_or_pool : (s : Allocator) → IsSound s → (s.aside ≡ []) ⊎ (s.pool ≡ [])
 aside_or_pool s h = grind (arith, common_steps)
 
--- how many are left
 pub length-pool : (s : Allocator) → IsSound s → length s.pool ≡ length (available s) - s.asked
 length-pool s h = ap length h.pool ∙ length-drop s.asked (available s)
 
@@ -27,7 +25,6 @@ pub after_take-refused : (s : Allocator) (n : ℕ) → length s.pool < n
     → after_take s n ≡ record s { aside = s.aside ++ s.pool; pool = []; asked = s.asked + n }
 after_take-refused s n short = search (rules, lt-leb)
 
--- what there was to give stays
 pub available-after_take : (s : Allocator) (n : ℕ) → IsSound s → available (after_take s n) ≡ available s
 available-after_take s n h = search (rules, cases_lt, after_take-served, take_moves, aside_or_pool)
 
@@ -37,7 +34,6 @@ length-available s h = search (rules, length-append, old_ones, length-fresh)
 
 -- what is taken: old handles, and fresh ones once there are no more old ones
 module _ (s : Allocator) (h : IsSound s) where
-  -- no more is taken than there was
   pub enough : length s.taken ≤ length (old_ones s) + (s.limits.slots - s.made)
   enough = search (rules, old_ones, length-available, length-append)
 
@@ -50,13 +46,8 @@ module _ (s : Allocator) (h : IsSound s) where
   taken_old_below : All (λ h. h.index < s.made) (take (length s.taken) (old_ones s))
   taken_old_below = search (rules, All-take, old_ones, old_ones_below)
 
-  -- the fresh ones
-  pub taken-fresh : filter (is_fresh s.made) s.taken ≡ fresh s.made (length s.taken - top s)
-  taken-fresh = search (rules, taken-parts, fresh_of_joined, old_ones, taken_old_below)
-
-  -- the flush makes the slots of the fresh ones
   pub made-after_flush : (after_flush s).made ≡ s.made + (length s.taken - top s)
-  made-after_flush = search (rules, taken-fresh, length-fresh)
+  made-after_flush = search (rules, length-fresh, taken-parts, fresh_of_joined, old_ones, taken_old_below)
 
   -- what is left by the flush
   pub left-parts : s.aside ++ s.pool ≡ drop (length s.taken) (old_ones s)
@@ -68,9 +59,8 @@ module _ (s : Allocator) (h : IsSound s) where
   -- and so every slot from which something is taken
   pub taken_below : All (λ h. h.index < (after_flush s).made) s.taken
   taken_below =
-      let more : s.made + (length s.taken - top s) ≡ (after_flush s).made = sym made-after_flush in
-      subst (All (λ h. h.index < (after_flush s).made)) (sym taken-parts)
-      (All-append (λ h. h.index < (after_flush s).made) (take (length s.taken) (old_ones s))
-      (fresh s.made (length s.taken - top s)) (All-weaker (λ h. h.index < s.made) (λ h. h.index < (after_flush s).made)
-      (λ h lt. omega arith) (take (length s.taken) (old_ones s)) taken_old_below)
-      (All-fresh (λ h. h.index < (after_flush s).made) s.made (length s.taken - top s) (λ k lt. omega arith)))
+      let below = λ (h : Handle). h.index < (after_flush s).made in
+      let more = made-after_flush in
+      let olds = All-weaker (λ h. h.index < s.made) below (λ h lt. omega arith) _ taken_old_below in
+      let news = All-fresh below s.made (length s.taken - top s) (λ k lt. omega arith) in
+      subst (All below) (sym taken-parts) (All-append below _ _ olds news)

@@ -23,21 +23,17 @@ none_left : (c : Then-room-gt0) → IsAtRest c.self.inside.slots c.self.inside.r
 none_left c rest none = search (rules, some_room, length_pool, rest)
 
 -- the slot that waits last gives its next handle
-reused : (c : In-Some) → IsAtRest c.self.inside.slots c.self.inside.requests c.args.self.now.allocator
-    → IsGiven c.self.inside.requests c.args.self.now.allocator c.in-Some.handle c.reuse_last.new.self
-reused c rest = reused_given c.self.inside.slots c.self.inside.requests c.args.self.now.allocator rest c.in-Some.handle
-    c.in-Some.ensures.last c.reuse_last.new.self c.in-Some.ensures.some
+reused : (c : In-Some) → IsGiven c.self.inside.requests c.args.self.now.allocator c.in-Some.handle c.reuse_last.new.self
+reused c = reused_given _ _ _ (search (rules, at_rest, allocator_is)) _ c.in-Some.ensures.last _ c.in-Some.ensures.some
 
 -- no slot waits, and one is made
-made : (c : In_ok-make_one) → IsAtRest c.self.inside.slots c.self.inside.requests c.args.self.now.allocator
-    → c.self.inside.slots.made < c.self.inside.slots.limits.slots
-    → IsGiven c.self.inside.requests c.args.self.now.allocator c.in_ok-make_one.field-0 c.make_one.new.self
-made c rest room =
-    let same = c.in_default.ensures.unchanged in
+made : (c : In_ok-make_one) → IsGiven c.self.inside.requests c.args.self.now.allocator c.in_ok-make_one.field-0
+    c.make_one.new.self
+made c =
     let h = c.in_ok-make_one.field-0 in
-    made_given c.self.inside.slots c.self.inside.requests c.args.self.now.allocator rest h
-    (ap length c.in_default.ensures.none) room (search (rules, c.in_ok-make_one.ensures.first)) c.make_one.new.self
-    (c.in_ok-make_one.ensures.ok ∙ ap (λ (x : Roster). made_roster x h) same)
+    made_given c.self.inside.slots _ _ (search (rules, at_rest, allocator_is)) h (ap length c.in_default.ensures.none)
+    (search (rules, room_is)) (search (rules, c.in_ok-make_one.ensures.first)) c.make_one.new.self
+    (c.in_ok-make_one.ensures.ok ∙ ap (λ (x : Roster). made_roster x h) c.in_default.ensures.unchanged)
 
 -- lack of memory is no lack of slots
 not_space : (result : Result Handle AllocFault) → IsErrAnd result (λ e. e ≡ Memory) → IsErrOf result Space → ⊥
@@ -45,31 +41,24 @@ not_space (Ok h) is same = is
 not_space (Err e) is same = cc
 
 pub invariant_of-self : goal.invariant_of-self
-invariant_of-self c =
-    let at = goal.at.invariant_of-self c in (reused at.In-Some (rest at.Else-needs_flush)).stands.reserved
+invariant_of-self c = (reused (goal.at.invariant_of-self c).In-Some).stands.reserved
 
 pub invariant_of-self-then-room-gt0 : goal.invariant_of-self-then-room-gt0
-invariant_of-self-then-room-gt0 c =
-    let at = goal.at.invariant_of-self-then-room-gt0 c in
-    (made at.In_ok-make_one (rest at.Else-needs_flush) (some_room at.Then-room-gt0)).stands.reserved
+invariant_of-self-then-room-gt0 c = (made (goal.at.invariant_of-self-then-room-gt0 c).In_ok-make_one).stands.reserved
 
-pub returns-in-Some-clause-front : goal.returns-in-Some-clause-front
-returns-in-Some-clause-front c = search (rules, reused, rest)
+pub returns-in-Some : goal.returns-in-Some
+returns-in-Some c =
+    let at = goal.at.returns-in-Some c in
+    let given = reused at.In-Some in
+    let rest = rest at.Else-needs_flush in
+    search (rules, given, rest, first_within)
 
-pub returns-in-Some-clause-ok : goal.returns-in-Some-clause-ok
-returns-in-Some-clause-ok c =
-    let at = goal.at.returns-in-Some-clause-ok c in (reused at.In-Some (rest at.Else-needs_flush)).stands.view
-
-pub returns-in_ok-make_one-clause-front : goal.returns-in_ok-make_one-clause-front
-returns-in_ok-make_one-clause-front c = search (rules, made, rest, some_room)
-
-pub returns-in_ok-make_one-clause-ok : goal.returns-in_ok-make_one-clause-ok
-returns-in_ok-make_one-clause-ok c =
-    let at = goal.at.returns-in_ok-make_one-clause-ok c in
-    (made at.In_ok-make_one (rest at.Else-needs_flush) (some_room at.Then-room-gt0)).stands.view
-
-pub returns-in_ok-make_one-clause-space : goal.returns-in_ok-make_one-clause-space
-returns-in_ok-make_one-clause-space c = search (rules, none_left, rest)
+pub returns-in_ok-make_one : goal.returns-in_ok-make_one
+returns-in_ok-make_one c =
+    let at = goal.at.returns-in_ok-make_one c in
+    let given = made at.In_ok-make_one in
+    let rest = rest at.Else-needs_flush in
+    search (rules, given, rest, none_left, first_within)
 
 pub returns-in_err-make_one-clause-space : goal.returns-in_err-make_one-clause-space
 returns-in_err-make_one-clause-space c = search (rules, not_space, none_left, rest)
@@ -79,30 +68,3 @@ returns-in_err-make_one-clause-memory c = search (rules, top_view, allocator_is)
 
 pub returns-else-room-gt0-clause-space : goal.returns-else-room-gt0-clause-space
 returns-else-room-gt0-clause-space c = search (rules, room_is, length_pool, nil_from_length)
-
-pub returns-in-Some-clause-no_row : goal.returns-in-Some-clause-no_row
-returns-in-Some-clause-no_row c =
-    let at = goal.at.returns-in-Some-clause-no_row c in (reused at.In-Some (rest at.Else-needs_flush)).no_row
-
-pub returns-in-Some-clause-rows_of_living : goal.returns-in-Some-clause-rows_of_living
-returns-in-Some-clause-rows_of_living c =
-    let at = goal.at.returns-in-Some-clause-rows_of_living c in
-    (reused at.In-Some (rest at.Else-needs_flush)).stands.reserved.rows
-
-pub returns-in_ok-make_one-clause-no_row : goal.returns-in_ok-make_one-clause-no_row
-returns-in_ok-make_one-clause-no_row c = search (rules, made, rest, some_room)
-
-pub returns-in_ok-make_one-clause-rows_of_living : goal.returns-in_ok-make_one-clause-rows_of_living
-returns-in_ok-make_one-clause-rows_of_living c =
-    let at = goal.at.returns-in_ok-make_one-clause-rows_of_living c in
-    let given = made at.In_ok-make_one (rest at.Else-needs_flush) (some_room at.Then-room-gt0) in
-    given.stands.reserved.rows
-
-pub returns-in-Some-clause-within : goal.returns-in-Some-clause-within
-returns-in-Some-clause-within c =
-    let at = goal.at.returns-in-Some-clause-within c in
-    let rest = rest at.Else-needs_flush in
-    first_within c.args.self.now.allocator c.in-Some.handle rest.sound (reused at.In-Some rest).front
-
-pub returns-in_ok-make_one-clause-within : goal.returns-in_ok-make_one-clause-within
-returns-in_ok-make_one-clause-within c = search (rules, rest, first_within, made, some_room)

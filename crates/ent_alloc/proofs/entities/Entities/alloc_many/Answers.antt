@@ -1,12 +1,11 @@
-use Rattle.ent_alloc.proofs.Common.{rules, ◌≡◌, sym, ◌∙◌, subst, ℕ, ◌+◌, ◌-◌, ◌≤◌, length, drop, ◌++◌, length-append, fresh, after_take, after_flush, IsSound, Entities, HasRowsOfLiving}
+use Rattle.ent_alloc.proofs.Common.{rules, arith, ◌≡◌, ◌∙◌, subst, ◌+◌, ◌-◌, ◌≤◌, length, drop, length-append, fresh, after_take, after_flush, IsSound, Entities, HasRowsOfLiving}
 use Rattle.ent_alloc.proofs.FreshHandles.{length-fresh}
 use Rattle.ent_alloc.proofs.Meaning.{allocator_is, IsAtRest, at_rest, StandFor}
 use Rattle.ent_alloc.proofs.MeaningOfAlloc.{length_pool}
-use Rattle.ent_alloc.proofs.MeaningOfFlush.{flushed_roster}
 use Rattle.ent_alloc.proofs.GivenMany.{front_no_row, front_is, many_given, ordered}
 use Rattle.ent_alloc.proofs.Asked.{front_within}
 use Rattle.ent_alloc.proofs.OneByOne.{one_by_one}
-use Rattle.ent_alloc.proofs.entities.Entities.alloc_many.Goals.{Else-needs_flush, Else-n-left, After-fresh-fresh, In_ok-bring_to_life}
+use Rattle.ent_alloc.proofs.entities.Entities.alloc_many.Goals.{Else-needs_flush, Else-n-left, In_ok-bring_to_life}
 use Rattle.ent_alloc.proofs.entities.Entities.alloc_many.Goals as goal
 
 -- nothing is reserved
@@ -18,67 +17,46 @@ enough : (c : Else-n-left) → IsAtRest c.self.inside.slots c.self.inside.reques
     → c.args.n ≤ length c.self.inside.slots.pending + (c.self.inside.slots.limits.slots - c.self.inside.slots.made)
 enough c rest = search (rules, length_pool, rest)
 
--- how many slots go on waiting, and how many are made
-record AreCounted (waiting n kept news : ℕ) : Type 0 where
-  kept_is : kept ≡ waiting - n
-  news_is : news ≡ n - waiting
-
-counted : (c : After-fresh-fresh) → AreCounted (length c.self.inside.slots.pending) c.args.n c.kept-kept.result
-    c.fresh-fresh.result
-counted c = search (rules)
-
 -- what is left stands for the allocator after the call
-given : (c : In_ok-bring_to_life) → IsAtRest c.self.inside.slots c.self.inside.requests c.args.self.now.allocator
-    → c.args.n ≤ length c.self.inside.slots.pending + (c.self.inside.slots.limits.slots - c.self.inside.slots.made)
-    → AreCounted (length c.self.inside.slots.pending) c.args.n c.kept-kept.result c.fresh-fresh.result
-    → StandFor c.bring_to_life.new.self c.self.inside.requests
+given : (c : In_ok-bring_to_life) → StandFor c.bring_to_life.new.self c.self.inside.requests
     (after_flush (after_take c.args.self.now.allocator c.args.n))
-given c rest enough counts = many_given c.self.inside.slots c.self.inside.requests c.args.self.now.allocator rest
-    c.args.n enough c.bring_to_life.new.self (c.in_ok-bring_to_life.ensures.ok
-    ∙ (λ i. flushed_roster c.self.inside.slots (counts.kept_is i) (counts.news_is i)))
+given c =
+    let rest : IsAtRest _ _ _ = at_rest _ _ _ _ c.self.invariant (allocator_is c.self.view_is) c.needs_flush.ensures
+    c.if-needs_flush.false in
+    many_given _ _ _ rest c.args.n (search (rules, length_pool, rest)) c.bring_to_life.new.self (search (rules))
 
 pub bring_to_life-requires-clause-room : goal.bring_to_life-requires-clause-room
-bring_to_life-requires-clause-room c = search (rules, enough, rest, counted)
+bring_to_life-requires-clause-room c = search (rules, enough, rest)
 
 pub in_order-requires : goal.in_order-requires
 in_order-requires c = search (rules, length-append, length-fresh)
 
 pub invariant_of-self-2 : goal.invariant_of-self-2
-invariant_of-self-2 c =
-    let at = goal.at.invariant_of-self-2 c in
-    (given at.In_ok-bring_to_life (rest at.Else-needs_flush) (enough at.Else-n-left (rest at.Else-needs_flush))
-    (counted at.After-fresh-fresh)).reserved
+invariant_of-self-2 c = (given (goal.at.invariant_of-self-2 c).In_ok-bring_to_life).reserved
 
 pub returns-clause-ok : goal.returns-clause-ok
-returns-clause-ok c = search (rules, given, rest, enough, counted)
+returns-clause-ok c = search (rules, given)
 
 pub returns-clause-handles : goal.returns-clause-handles
 returns-clause-handles c =
     let at = goal.at.returns-clause-handles c in
     let r = c.self.inside.slots in
     let n = c.args.n in
-    let counts = counted at.After-fresh-fresh in
-    let news = fresh r.made (n - length r.pending) in
-    let olds = drop (length r.pending - n) r.pending in
-    let items_are : c.bring_to_life.new.out.items ≡ news ++ olds = search (rules, counts) in
-    let many_is : c.fresh-fresh.result ≡ length news = counts.news_is
-    ∙ sym (length-fresh r.made (n - length r.pending)) in
-    ordered news olds c.bring_to_life.new.out.items c.in_order.new.handles c.fresh-fresh.result
-    c.bring_to_life.new.out.len items_are many_is (search (rules)) (search (rules))
-    ∙ front_is r c.self.inside.requests c.args.self.now.allocator (rest at.Else-needs_flush) n
-    (enough at.Else-n-left (rest at.Else-needs_flush))
+    let news_is : c.fresh-fresh.result ≡ n - length r.pending = search (rules) in
+    let long = length-fresh r.made (n - length r.pending) in
+    ordered (fresh r.made (n - length r.pending)) (drop (length r.pending - n) r.pending) c.bring_to_life.new.out.items
+    c.in_order.new.handles c.fresh-fresh.result c.bring_to_life.new.out.len (search (rules, news_is)) (omega arith)
+    (search (rules)) (search (rules)) ∙ front_is r c.self.inside.requests c.args.self.now.allocator
+    (rest at.Else-needs_flush) n (enough at.Else-n-left (rest at.Else-needs_flush))
 
 pub returns-clause-calls : goal.returns-clause-calls
-returns-clause-calls c = search (rules, at_rest, rest, enough, given, counted, one_by_one)
+returns-clause-calls c = search (rules, rest, enough, given, one_by_one)
 
 pub returns-clause-within : goal.returns-clause-within
 returns-clause-within c = search (rules, returns-clause-handles, front_within, rest)
 
 pub returns-clause-rows_of_living : goal.returns-clause-rows_of_living
-returns-clause-rows_of_living c =
-    let at = goal.at.returns-clause-rows_of_living c in
-    (given at.In_ok-bring_to_life (rest at.Else-needs_flush) (enough at.Else-n-left (rest at.Else-needs_flush))
-    (counted at.After-fresh-fresh)).reserved.rows
+returns-clause-rows_of_living c = (invariant_of-self-2 c).rows
 
 pub returns-clause-no_rows : goal.returns-clause-no_rows
 returns-clause-no_rows c =

@@ -1,4 +1,4 @@
-use Rattle.ent_alloc.proofs.Common.{rules, ◌≡◌, ◌≢◌, sym, ◌∙◌, slots_of, count_of, reach_of, front_of}
+use Rattle.ent_alloc.proofs.Common.{rules, ◌≡◌, sym, ◌∙◌, slots_of, count_of, reach_of, front_of}
 use Rattle.ent_alloc.proofs.Portioned.{count_within}
 use Rattle.ent_alloc.proofs.Meaning.{allocator_is}
 use Rattle.ent_alloc.proofs.PortionPools.{front_slots, order_few, order_slots, order_is}
@@ -8,18 +8,11 @@ use Rattle.ent_alloc.proofs.entities.Entities.arrange.Goals as goal
 -- the slots are those of the front
 are_front : (c : After-deref) → c.deref.result.now ≡ slots_of
     (front_of c.args.self.now.allocator.pool c.args.portions.now)
-are_front c =
-    let e = c.self.inside in
-    front_slots e.slots e.requests c.args.self.now.allocator c.deref.result.now c.args.portions.now c.self.invariant
-    (allocator_is c.self.view_is) c.requires.flushed (c.deref.ensures.value ∙ c.in_ok-order.ensures)
+are_front c = front_slots _ _ _ _ c.args.portions.now c.self.invariant (allocator_is c.self.view_is) c.requires.flushed
+    (c.deref.ensures.value ∙ c.in_ok-order.ensures)
 
-pub set_front-requires-clause-few : goal.set_front-requires-clause-few
-set_front-requires-clause-few c = order_few c.args.self.now.allocator c.args.portions.now c.requires.used
-    c.requires.within c.deref.result.now (are_front (goal.at.set_front-requires-clause-few c).After-deref)
-
-pub set_front-requires-clause-same : goal.set_front-requires-clause-same
-set_front-requires-clause-same c = order_slots c.args.self.now.allocator c.args.portions.now c.requires.used
-    c.requires.within c.deref.result.now (are_front (goal.at.set_front-requires-clause-same c).After-deref)
+pub set_front-requires : goal.set_front-requires
+set_front-requires c = search (rules, order_few, order_slots, are_front)
 
 pub returns-in_err-order-clause-memory : goal.returns-in_err-order-clause-memory
 returns-in_err-order-clause-memory c = search (rules, count_within)
@@ -29,9 +22,7 @@ returns-in_err-set_front-clause-memory c = search (rules, count_within)
 
 pub returns-clause-ok : goal.returns-clause-ok
 returns-clause-ok c =
-    let ps = c.args.portions.now in
-    let short : count_of ps ≢ reach_of ps = λ all. c.if-count-reach.false
+    let short = λ (all : count_of c.args.portions.now ≡ reach_of c.args.portions.now). c.if-count-reach.false
     (c.requires.count ∙ all ∙ sym c.reach_of-reach.ensures) in
-    order_is c.args.self.now.allocator ps c.requires.used c.requires.within c.deref.result.now
-    (are_front (goal.at.returns-clause-ok c).After-deref) c.set_front.new.self.allocator short
+    order_is _ _ c.requires.used c.requires.within _ (are_front (goal.at.returns-clause-ok c).After-deref) _ short
     c.in_ok-set_front.ensures.ok

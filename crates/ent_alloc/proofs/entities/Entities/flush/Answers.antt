@@ -1,9 +1,9 @@
-use Rattle.ent_alloc.proofs.Common.{rules, ◌≡◌, Result, Ok, Err, OnErr, ◌-◌, ℕ, length, ap, subst, ◌∙◌, length-take-le, after_flush, IsSound, Entities, HasRowsOfLiving}
+use Rattle.ent_alloc.proofs.Common.{rules, Result, Ok, Err, OnErr, ◌-◌, length, ap, subst, ◌∙◌, length-take-le, after_flush, IsSound, Entities, HasRowsOfLiving}
 use Rattle.ent_alloc.proofs.Soundness.{after_flush-sound}
 use Rattle.ent_alloc.proofs.Meaning.{allocator_is, length-idle, closed, StandFor}
 use Rattle.ent_alloc.proofs.MeaningOfFlush.{flushed_roster, made_at_flush_is, flush_is, born_is_listed}
 use Rattle.ent_alloc.proofs.RowsOfLiving.{rows-joined, born-no_row}
-use Rattle.ent_alloc.proofs.entities.Entities.flush.Goals.{After-fresh-fresh, After-none-self-inside}
+use Rattle.ent_alloc.proofs.entities.Entities.flush.Goals.{After-none-self-inside}
 use Rattle.ent_alloc.proofs.entities.Entities.flush.Goals as goal
 
 -- what is so anyhow is so after a refusal
@@ -11,20 +11,10 @@ anyhow : {T E : Type 0} (r : Result T E) (P : Type 0) → P → OnErr r P
 anyhow (Ok x) P so = tt
 anyhow (Err e) P so = so
 
--- how many slots stay pending, and how many are made
-record AreCounted (waiting given kept news : ℕ) : Type 0 where
-  kept_is : kept ≡ waiting - given
-  news_is : news ≡ given - waiting
-
-counted : (c : After-fresh-fresh) → AreCounted (length c.self.inside.slots.pending) c.self.inside.requests.served
-    c.kept-kept.result c.fresh-fresh.result
-counted c = search (rules)
-
 -- the roster that a flush leaves stands for the flushed allocator
-left : (c : After-none-self-inside) → AreCounted (length c.self.inside.slots.pending) c.self.inside.requests.served
-    c.kept-kept.result c.fresh-fresh.result → StandFor c.bring_to_life.new.self c.none-self-inside.result
+left : (c : After-none-self-inside) → StandFor c.bring_to_life.new.self c.none-self-inside.result
     (after_flush c.args.self.now.allocator)
-left c counts =
+left c =
     let r = c.self.inside.slots in
     let view = allocator_is c.self.view_is in
     let inv = c.self.invariant in
@@ -36,17 +26,16 @@ left c counts =
 
 pub returns-in_err-bring_to_life-clause-memory : goal.returns-in_err-bring_to_life-clause-memory
 returns-in_err-bring_to_life-clause-memory c = search
-    (rules, counted, length-take-le, length-idle, allocator_is, made_at_flush_is, anyhow)
+    (rules, length-take-le, length-idle, allocator_is, made_at_flush_is, anyhow)
 
 pub invariant_of-self-2 : goal.invariant_of-self-2
-invariant_of-self-2 c =
-    let at = goal.at.invariant_of-self-2 c in (left at.After-none-self-inside (counted at.After-fresh-fresh)).reserved
+invariant_of-self-2 c = (left (goal.at.invariant_of-self-2 c).After-none-self-inside).reserved
 
 pub returns-clause-ok : goal.returns-clause-ok
-returns-clause-ok c = search (rules, left, counted)
+returns-clause-ok c = search (rules, left)
 
 pub returns-clause-born : goal.returns-clause-born
-returns-clause-born c = search (rules, counted, born_is_listed, allocator_is)
+returns-clause-born c = search (rules, born_is_listed, allocator_is)
 
 pub returns-clause-no_rows : goal.returns-clause-no_rows
 returns-clause-no_rows c k d below =

@@ -1,5 +1,5 @@
-use Rattle.ent_alloc.proofs.Common.{rules, ◌≡◌, ◌+◌, subst, sym, arith, length, inl, inr, ℕ, ◌-◌, common_steps, ints, cases_lt, Requests, Roster, Allocator, AreReserved}
-use Rattle.ent_alloc.proofs.Spans.{IsSpanOf-after_take}
+use Rattle.ent_alloc.proofs.Common.{rules, ◌≡◌, ◌+◌, subst, sym, arith, length, inl, inr, ℕ, ◌-◌, common_steps, ints, cases_lt, Requests, Roster, Allocator, AreReserved, IsSpanOf, IsSound, pos, ◌^◌, ◌<◌, ◌≤◌, ◌-ℤ◌, cursor, after_take}
+use Rattle.ent_alloc.proofs.PoolLaw.{top-after_take}
 use Rattle.ent_alloc.proofs.Meaning.{allocator_is, length_available}
 use Rattle.ent_alloc.proofs.MeaningOfRequests.{served_view, served_reserved, refused_view, refused_reserved}
 use Rattle.ent_alloc.proofs.entities.Entities.lower.Goals.{After-available-available}
@@ -29,13 +29,19 @@ invariant_of-self c =
     let keeps : Requests → Type 0 = λ q. AreReserved r q.asked q.served in
     elim (cases_lt c.available-available.result (e.requests.asked + n)) [
       | inl short ↦ search (rules, c.and-self-inside.ensures.refused, refused_reserved)
-      | inr enough ↦ subst keeps
-          (sym (c.and-self-inside.ensures.served enough)) (served_reserved r e.requests.asked e.requests.served n s inv view
-          (omega arith) (omega arith))
+      | inr enough ↦ subst keeps (sym (c.and-self-inside.ensures.served enough))
+          (served_reserved _ _ _ n s inv view (omega arith) (omega arith))
     ]
 
 pub returns-clause-step : goal.returns-clause-step
 returns-clause-step c = search (rules, allocator_is, many, cases_lt, refused_view, served_view)
 
+-- the span of a request is one that the allocator can reply to
+requested : (s : Allocator) (n : ℕ) → IsSound s → s.asked ≤ 2 ^ 50 → n < 2 ^ 32
+    → IsSpanOf (after_take s n) (record { high = cursor s; low = cursor s -ℤ pos n })
+requested s n sound few small = search (rules, top-after_take, ints)
+
 pub returns-clause-valid : goal.returns-clause-valid
-returns-clause-valid c = search (rules, allocator_is, ints, IsSpanOf-after_take, returns-clause-step)
+returns-clause-valid c =
+    let view = allocator_is c.self.view_is in
+    search (rules, ints, requested, subst IsSound view c.self.invariant.sound, returns-clause-step)

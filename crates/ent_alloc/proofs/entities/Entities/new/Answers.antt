@@ -1,11 +1,11 @@
 use Rattle.ent_alloc.proofs.Common.{rules}
 use Rattle.ent_alloc.proofs.Soundness.{opening-sound}
-use Rattle.ent_alloc.proofs.Meaning.{AreReserved-flushed, opening_is}
+use Rattle.ent_alloc.proofs.Meaning.{opening_is}
 use Rattle.ent_alloc.proofs.RowsOfLiving.{no_rows}
 use Rattle.ent_alloc.proofs.entities.Entities.new.Goals as goal
 
 pub invariant_of-result : goal.invariant_of-result
-invariant_of-result c = search (rules, AreReserved-flushed, opening_is, opening-sound, no_rows)
+invariant_of-result c = search (rules, opening_is, opening-sound, no_rows)
 
 pub returns-clause-rows_of_living : goal.returns-clause-rows_of_living
 returns-clause-rows_of_living c = (invariant_of-result c).rows

@@ -45,12 +45,6 @@ are_served c = search (rules, numbers_are)
 pub invariant_of-result : goal.invariant_of-result
 invariant_of-result c = search (rules, reserved_are, are_served)
 
-pub returns-clause-found : goal.returns-clause-found
-returns-clause-found c = search (rules, image_is, reserved_are, are_served, numbers_are)
-
-pub returns-clause-has_image : goal.returns-clause-has_image
-returns-clause-has_image c = search (rules, has_image, reserved_are, are_served)
-
 -- ---- the first fault
 
 -- the tests that are left after those of the letters, the length and the version
@@ -69,8 +63,8 @@ to_slots_of c whole =
     let h = c.in_ok-header.header in
     let slots = c.in_ok-header.slots.now in
     let limits : c.in-Some.limits ≡ limits_in h = c.in-Some.ensures.value in
-    to_numbers c.args.bytes.now h slots c.in_ok-header.ensures.fits c.in_ok-header.ensures.found
-    c.in_ok-header.ensures.faultless ∙ to_slots h (length c.args.bytes.now) slots (c.in-Some.ensures.in_range.0 refl)
+    let header = c.in_ok-header.ensures in
+    to_numbers _ _ _ header.fits header.found header.faultless ∙ to_slots _ _ slots (c.in-Some.ensures.in_range.0 refl)
     (omega arith) (omega arith) c.in-Some-requests_of.ensures.some (omega (arith, long_is c))
     ∙ ap (λ (l : Limits). first_failing (slots_tests l.generations h.made h.waiting slots)) (sym limits)
 
@@ -110,9 +104,11 @@ returns-in_err-slots-clause-fault c = handed_on c.from_residual-in_err-slots.res
     (goal.at.returns-in_err-slots-clause-fault c).In-Some-requests_of c.if-slots-header.false
     ∙ c.in_err-slots.ensures.fault not_memory)
 
-pub returns-clause-faultless : goal.returns-clause-faultless
-returns-clause-faultless c = to_slots_of (goal.at.returns-clause-faultless c).In-Some-requests_of
-    c.if-slots-header.false ∙ c.in_ok-slots.ensures.faultless
+pub returns : goal.returns
+returns c =
+    let slots = to_slots_of (goal.at.returns c).In-Some-requests_of c.if-slots-header.false
+    ∙ c.in_ok-slots.ensures.faultless in
+    search (rules, slots, image_is, has_image, reserved_are, are_served, numbers_are)
 
 -- ---- memory
 
@@ -124,13 +120,11 @@ returns-in_err-header-clause-slots c = search (rules, handed_on)
 
 pub returns-in_err-slots-clause-memory : goal.returns-in_err-slots-clause-memory
 returns-in_err-slots-clause-memory c =
-    let h = c.in_ok-header.header in
-    let slots = c.in_ok-header.slots.now in
     let header = c.in_ok-header.ensures in
     let long = long_is (goal.at.returns-in_err-slots-clause-memory c).In-Some-requests_of in
     handed_on c.from_residual-in_err-slots.result c.in_err-slots.field-0.0 _ c.from_residual-in_err-slots.ensures.1
-    (λ _. no_header_fault c.args.bytes.now h slots header.fits header.found header.faultless
-    (header_passes h (length c.args.bytes.now) slots (c.in-Some.ensures.in_range.0 refl) (omega arith) (omega arith)
+    (λ _. no_header_fault _ _ _ header.fits header.found header.faultless (header_passes c.in_ok-header.header
+    (length c.args.bytes.now) c.in_ok-header.slots.now (c.in-Some.ensures.in_range.0 refl) (omega arith) (omega arith)
     c.in-Some-requests_of.ensures.some (omega (arith, long, c.if-slots-header.false))))
 
 pub returns-in_err-slots-clause-slots : goal.returns-in_err-slots-clause-slots

@@ -1,8 +1,7 @@
-use Rattle.ent_alloc.proofs.Common.{rules, ◌≡◌, ◌+◌, pos, ◌-ℤ◌, nat_abs, ap, ◌∙◌, Ok, arith, to_z, of_z, w64, ℕ, ints, pool_at, reply_from, reserved_handles}
+use Rattle.ent_alloc.proofs.Common.{rules, ◌≡◌, ap, ◌∙◌, Ok, arith, to_z, of_z, w64, ℕ, ints, pool_at, reply_from, reserved_handles}
 use Rattle.ent_alloc.proofs.FreshHandles.{fresh-none}
 use Rattle.ent_alloc.proofs.Meaning.{allocator_is}
-use Rattle.ent_alloc.proofs.MeaningOfReplies.{reply_none}
-use Rattle.ent_alloc.proofs.OneReply.{IsBelowTop, below_top, replied, several, short_of, left_is, served, served_in_range, IsServed}
+use Rattle.ent_alloc.proofs.OneReply.{reply_none, IsBelowTop, below_top, replied, several, short_of, left_is, IsServed}
 use Rattle.ent_alloc.proofs.entities.Entities.reply.Goals.{After-self, After-slots}
 use Rattle.ent_alloc.proofs.entities.Entities.reply.Goals as goal
 
@@ -31,24 +30,22 @@ new-requires-then-low-ge0 c =
 pub returns-then-low-ge0 : goal.returns-then-low-ge0
 returns-then-low-ge0 c =
     let at = lies (goal.at.returns-then-low-ge0 c).After-self in
-    search (rules, lists (goal.at.returns-then-low-ge0 c).After-self, served, ints)
+    search (rules, lists (goal.at.returns-then-low-ge0 c).After-self, ints)
 
 pub returns-then-index_end-from : goal.returns-then-index_end-from
 returns-then-index_end-from c n requested =
-    let e = c.self.inside in
     let at = lies (goal.at.returns-then-index_end-from c).After-self in
     let slots = slots_is (goal.at.returns-then-index_end-from c).After-slots in
     let word : to_z w64 (of_z w64 c.args.span.high) ≡ c.args.span.high = omega (arith, ints) in
-    let left = left_is e.slots e.requests.asked e.requests.served c.args.span.high c.args.self.now.allocator
-    c.self.invariant (allocator_is c.self.view_is) in
-    short_of e.slots e.requests.asked e.requests.served c.args.span.high c.args.self.now.allocator c.self.invariant
-    (allocator_is c.self.view_is) n _ _ (omega (arith, ints)) (omega (arith, ints)) (omega (arith, ints))
-    (search (rules, c.left_below.ensures, word, left))
+    let view = allocator_is c.self.view_is in
+    let left = left_is _ _ _ c.args.span.high _ c.self.invariant view in
+    short_of _ _ _ c.args.span.high _ c.self.invariant view n _ _ (omega (arith, ints)) (omega (arith, ints))
+    (omega (arith, ints)) (search (rules, c.left_below.ensures, word, left))
 
 pub new-requires-then-high-gt0 : goal.new-requires-then-high-gt0
 new-requires-then-high-gt0 c =
     let at = lies (goal.at.new-requires-then-high-gt0 c).After-self in
-    search (rules, slots_is, served_in_range, c.self.inside.slots, c.args.span.high, ints, served)
+    search (rules, slots_is, c.self.inside.slots, c.args.span.high, ints)
 
 pub returns-then-high-gt0 : goal.returns-then-high-gt0
 returns-then-high-gt0 c n requested =
@@ -58,14 +55,10 @@ returns-then-high-gt0 c n requested =
     (search (rules, ints))
 
 pub new-requires-2 : goal.new-requires-2
-new-requires-2 c = search (rules, lies, slots_is, served_in_range, served)
+new-requires-2 c = search (rules, lies, slots_is)
 
 pub returns : goal.returns
-returns c =
-    let start = (goal.at.returns c).After-self in
-    let at = lies start in
+returns c n requested =
+    let at = lies (goal.at.returns c).After-self in
     let slots = slots_is (goal.at.returns c).After-slots in
-    λ n requested. ap Ok c.new-2.ensures ∙ lists start n 0 0
-    (c.made-made.result + nat_abs (to_z w64 (of_z w64 (pos 0 -ℤ to_z w64 (of_z w64 c.args.span.high)))))
-    (c.from.result + nat_abs (to_z w64 (of_z w64 (pos 0 -ℤ to_z w64 (of_z w64 c.args.span.low)))))
-    (search (rules, ints))
+    ap Ok c.new-2.ensures ∙ lists (goal.at.returns c).After-self n 0 0 _ _ (search (rules, ints))

@@ -17,19 +17,15 @@ returns-then-position-ge0 c = search (rules, lies, one_pending, allocator_is, in
 
 pub returns-then-index-from : goal.returns-then-index-from
 returns-then-index-from c =
-    let e = c.self.inside in
     let at = lies (goal.at.returns-then-index-from c).After-self in
     let slots = slots_is (goal.at.returns-then-index-from c).After-slots in
-    ap (λ (h : Handle). Ok (h ∷ [])) c.first_occupant.ensures ∙ one_fresh e.slots e.requests.asked e.requests.served
-    c.args.high c.args.self.now.allocator c.self.invariant (allocator_is c.self.view_is) _ at.within
-    (omega (arith, ints)) (omega arith) (omega arith)
+    ap (λ (h : Handle). Ok (h ∷ [])) c.first_occupant.ensures ∙ one_fresh _ _ _ _ _ c.self.invariant
+    (allocator_is c.self.view_is) _ at.within (omega (arith, ints)) (omega arith) (omega arith)
 
 pub returns-else-index-from : goal.returns-else-index-from
 returns-else-index-from c =
-    let e = c.self.inside in
     let at = lies (goal.at.returns-else-index-from c).After-self in
     let slots = slots_is (goal.at.returns-else-index-from c).After-slots in
-    one_refused e.slots e.requests.asked e.requests.served c.args.high c.args.self.now.allocator c.self.invariant
-    (allocator_is c.self.view_is) (c.from.result + nat_abs
+    one_refused _ _ _ _ _ c.self.invariant (allocator_is c.self.view_is) (c.from.result + nat_abs
     (to_z w64 (of_z w64 (pos 0 -ℤ to_z w64 (of_z w64 c.args.high))))) at.within (omega (arith, ints)) (omega arith)
     (omega arith)

@@ -26,14 +26,9 @@ append-requires c =
     (sym (replied at.After-reply) ∙ c.in_ok-reply.was) in
     search (rules)
 
-pub returns-clause-listed : goal.returns-clause-listed
-returns-clause-listed c = search (rules, of_served, sound, replied)
-
-pub returns-clause-enough : goal.returns-clause-enough
-returns-clause-enough c =
-    let at = goal.at.returns-clause-enough c in
-    (of_served c.args.self.now.allocator c.args.n c.in_ok-reply.field-0 (sound at.After-reply)
-    (sym (replied at.After-reply) ∙ c.in_ok-reply.was)).enough
-
-pub returns-clause-within : goal.returns-clause-within
-returns-clause-within c = search (rules, of_served, sound, replied)
+pub returns : goal.returns
+returns c =
+    let at = goal.at.returns c in
+    let is = of_served c.args.self.now.allocator c.args.n c.in_ok-reply.field-0 (sound at.After-reply)
+    (sym (replied at.After-reply) ∙ c.in_ok-reply.was) in
+    search (rules, is)

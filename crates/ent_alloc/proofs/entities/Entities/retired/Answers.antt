@@ -12,10 +12,8 @@ counted c = search (rules, allocator_is, top_view, retired-rest)
 
 pub overflow_sub-result : goal.overflow_sub-result
 overflow_sub-result c =
-    let s = c.args.self.now.allocator in
-    let view = allocator_is c.self.view_is in
-    let all = retired-rest s (subst IsSound view c.self.invariant.sound) in
-    search (rules, c.live.ensures, view, c.total.ensures)
+    let all = retired-rest _ (subst IsSound (allocator_is c.self.view_is) c.self.invariant.sound) in
+    search (rules, c.live.ensures, c.self.view_is, c.total.ensures)
 
 pub overflow_sub-result-2 : goal.overflow_sub-result-2
 overflow_sub-result-2 c = search (rules, counted)

@@ -33,19 +33,11 @@ invariant_of-self-2 c =
     let at = goal.at.invariant_of-self-2 c in
     (left at.After-wait_last (grown_is at.After-wait_last-arg-1) c.requires.same).reserved
 
-pub returns-clause-ok : goal.returns-clause-ok
-returns-clause-ok c slots = search (rules, left, grown_is)
-
-pub returns-clause-rows : goal.returns-clause-rows
-returns-clause-rows c =
+pub returns : goal.returns
+returns c =
     let e = c.self.inside in
-    let at = goal.at.returns-clause-rows c in
+    let at = goal.at.returns c in
     let is = c.wait_last.ensures (waits_of e.slots e.requests c.args.self.now.allocator c.args.front.now
     c.self.invariant (allocator_is c.self.view_is) c.requires.flushed c.requires.few c.requires.same
     c.make_waiting.new.self (grown_is at.After-wait_last-arg-1)) in
-    search (rules, is, c.in_ok-make_waiting.ensures.ok)
-
-pub returns-clause-rows_of_living : goal.returns-clause-rows_of_living
-returns-clause-rows_of_living c =
-    let at = goal.at.returns-clause-rows_of_living c in
-    (left at.After-wait_last (grown_is at.After-wait_last-arg-1) c.requires.same).reserved.rows
+    search (rules, left, grown_is, is, c.in_ok-make_waiting.ensures.ok)

@@ -14,9 +14,8 @@ lives : (c : After-set_row) → sets.contains c.self.inside.slots.live c.args.ha
 lives c = grind (arith, common_steps)
 
 pub invariant_of-self : goal.invariant_of-self
-invariant_of-self c =
-    let e = c.self.inside in
-    search (rules, c.set_row.ensures, with_row, c.args.handle, c.args.row, lives, c.self.invariant)
+invariant_of-self c = search
+    (rules, c.set_row.ensures, with_row, c.args.handle, c.args.row, lives, c.self.invariant)
 
 pub returns-clause-rows_of_living : goal.returns-clause-rows_of_living
 returns-clause-rows_of_living c = (invariant_of-self c).rows

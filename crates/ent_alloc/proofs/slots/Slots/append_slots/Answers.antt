@@ -1,5 +1,4 @@
-use Rattle.ent_alloc.proofs.Common.{rules, length-map}
-use Rattle.std.proofs.Common.{append_assoc}
+use Rattle.ent_alloc.proofs.Common.{rules, length-map, append_assoc}
 use Rattle.ent_alloc.proofs.Portioned.{list_more}
 use Rattle.ent_alloc.proofs.slots.Slots.append_slots.Goals as goal
 

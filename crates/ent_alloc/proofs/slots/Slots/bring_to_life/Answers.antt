@@ -31,14 +31,10 @@ linked c = search (rules, make_keeps_links, all_written c, c.self.invariant)
 grown_roster : (c : After-reuse_all) → roster_of c.self.inside.limits
     (c.self.inside.records.items ++ replicate c.args.fresh new_record) c.self.inside.pending.items
     ≡ record c.args.self.now {
-      live = sets.union c.args.self.now.live
-          (sets.from_list (fresh c.args.self.now.made c.args.fresh));
+      live = sets.union c.args.self.now.live (sets.from_list (fresh c.args.self.now.made c.args.fresh));
       made = c.args.self.now.made + c.args.fresh;
     }
-grown_roster c =
-    let whole = roster_of-make c.self.inside.limits c.self.inside.records.items c.self.inside.pending.items
-    c.self.inside.live c.args.fresh c.self.invariant (all_written c).room in
-    search (rules, whole, c.self.view_is)
+grown_roster c = search (rules, roster_of-make _ _ _ _ _ c.self.invariant (all_written c).room, c.self.view_is)
 
 pub reuse_all-requires-clause-room : goal.reuse_all-requires-clause-room
 reuse_all-requires-clause-room c = grind (arith, common_steps)
@@ -48,31 +44,24 @@ invariant_of-self-2 c =
     let at = (goal.at.invariant_of-self-2 c).After-reuse_all in
     let all = all_written at in
     let long = with_items_is c.make_all.new.records c.reuse_all.new.records all.long in
-    let keeps = reuse_keeps_links c.self.inside.limits _ c.self.inside.pending.items _ c.args.kept (linked at)
-    all.within in
+    let keeps = reuse_keeps_links _ _ _ _ c.args.kept (linked at) all.within in
     search (rules, long, all.written_is, c.truncate.ensures.items, keeps)
 
 pub returns-clause-ok : goal.returns-clause-ok
 returns-clause-ok c =
-    let e = c.self.inside in
     let at = (goal.at.returns-clause-ok c).After-reuse_all in
     let all = all_written at in
     let long = with_items_is c.make_all.new.records c.reuse_all.new.records all.long in
-    rw (long, all.written_is, c.truncate.ensures.items) (roster_of-reuse e.limits
-    (e.records.items ++ replicate c.args.fresh new_record) e.pending.items (e.live + c.args.fresh) c.args.kept
-    (linked at) all.within ∙ (search (rules, grown_roster)))
+    rw (long, all.written_is, c.truncate.ensures.items) (roster_of-reuse _ _ _ _ c.args.kept (linked at) all.within
+    ∙ search (rules, grown_roster))
 
 pub returns-clause-born : goal.returns-clause-born
 returns-clause-born c =
-    let e = c.self.inside in
     let kept = c.args.kept in
     let at = (goal.at.returns-clause-born c).After-reuse_all in
-    let all = all_written at in
-    let made : length e.records.items ≡ c.args.self.now.made = ap (λ (r : Roster). r.made) c.self.view_is in
-    let len = c.in_ok-reserve.ensures.len in
-    let first : c.reserve.new.self.len ≡ c.args.self.now.made = omega arith in
+    let first : c.reserve.new.self.len ≡ c.args.self.now.made = search (rules, c.self.view_is) in
     let roster = ap (λ (r : Roster). drop kept r.pending) (grown_roster at) in
     let old : map (handle_at c.deref_mut.result.now) (take (length c.deref.result.now - kept)
     (drop kept c.deref.result.now)) ≡ drop kept c.args.self.now.pending = search
-    (rules, waited, all.grown_is, c.deref_mut.ensures.value, c.deref.ensures.value) in
+    (rules, waited, (all_written at).grown_is, c.deref_mut.ensures.value, c.deref.ensures.value) in
     search (rules, old, c.reuse_all.ensures.listed, c.in_ok-reserve-2.ensures.items, append_assoc)

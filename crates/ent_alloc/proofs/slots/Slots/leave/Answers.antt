@@ -1,4 +1,4 @@
-use Rattle.ent_alloc.proofs.Common.{rules, ◌≡◌, ◌≢◌, ◌≤◌, true, length, arith, ◌∙◌, sym, false≢true}
+use Rattle.ent_alloc.proofs.Common.{rules, ◌≡◌, ◌≢◌, ◌≤◌, true, length, arith, false≢true}
 use Rattle.std.specs.FinSet as sets
 use Rattle.ent_alloc.proofs.Occupants.{is_occupant, contains_occupants}
 use Rattle.ent_alloc.proofs.LivingOccupant.{occupant_generation}
@@ -6,22 +6,16 @@ use Rattle.ent_alloc.proofs.Released.{one_lives, release_keeps_links, roster_of-
 use Rattle.ent_alloc.proofs.slots.Slots.leave.Goals.{Else-not-is_occupied_by, After-is_occupied_by, Else-generation-generations}
 use Rattle.ent_alloc.proofs.slots.Slots.leave.Goals as goal
 
--- the look-up tells whether the handle is that of an occupant
-found : (c : After-is_occupied_by) → c.is_occupied_by.result ≡ is_occupant c.self.inside.records.items c.args.handle
-found c = search (rules)
-
 -- whom the vectors let live
 living : (c : After-is_occupied_by) → sets.contains c.args.self.now.live c.args.handle
     ≡ is_occupant c.self.inside.records.items c.args.handle
 living c = search (rules, contains_occupants, c.self.view_is)
 
 lives : (c : Else-not-is_occupied_by) → is_occupant c.self.inside.records.items c.args.handle ≡ true
-lives c = search (rules, found)
+lives c = search (rules)
 
 some_live : (c : Else-not-is_occupied_by) → 1 ≤ c.self.inside.live
-some_live c =
-    let e = c.self.inside in
-    one_lives e.limits e.records.items e.pending.items e.live c.args.handle c.self.invariant (lives c)
+some_live c = one_lives _ _ _ _ _ c.self.invariant (lives c)
 
 -- it is not of the last generation
 not_last : (c : Else-generation-generations) → c.args.handle.generation ≢ c.self.inside.limits.generations
@@ -31,44 +25,31 @@ pub returns-in_default-clause-not_alive : goal.returns-in_default-clause-not_ali
 returns-in_default-clause-not_alive c = search (rules, contains_occupants, c.self.view_is)
 
 pub returns-then-not-is_occupied_by-clause-not_alive : goal.returns-then-not-is_occupied_by-clause-not_alive
-returns-then-not-is_occupied_by-clause-not_alive c = search (rules, found, living)
+returns-then-not-is_occupied_by-clause-not_alive c = search (rules, living)
 
 pub overflow_sub-self : goal.overflow_sub-self
-overflow_sub-self c = some_live (goal.at.overflow_sub-self c).Else-not-is_occupied_by
+overflow_sub-self c = search (rules, some_live)
 
 pub overflow_sub-self-2 : goal.overflow_sub-self-2
-overflow_sub-self-2 c = some_live (goal.at.overflow_sub-self-2 c).Else-not-is_occupied_by
+overflow_sub-self-2 c = search (rules, some_live)
 
 pub invariant_of-self-then-generation-generations : goal.invariant_of-self-then-generation-generations
 invariant_of-self-then-generation-generations c =
-    let e = c.self.inside in
-    let h = c.args.handle in
-    let at = goal.at.invariant_of-self-then-generation-generations c in
-    let lives = lives at.Else-not-is_occupied_by in
-    let same = occupant_generation e.records.items h lives in
-    let keeps = retire_keeps_links e.limits e.records.items e.pending.items e.live h c.self.invariant lives in
-    search (rules, same, keeps)
+    let lives = lives (goal.at.invariant_of-self-then-generation-generations c).Else-not-is_occupied_by in
+    let same = occupant_generation c.self.inside.records.items c.args.handle lives in
+    search (rules, same, retire_keeps_links _ _ _ _ _ c.self.invariant lives)
 
 pub returns-then-generation-generations-clause-retired : goal.returns-then-generation-generations-clause-retired
 returns-then-generation-generations-clause-retired c last =
-    let e = c.self.inside in
-    let h = c.args.handle in
-    let at = goal.at.returns-then-generation-generations-clause-retired c in
-    let lives = lives at.Else-not-is_occupied_by in
-    let same = occupant_generation e.records.items h lives in
-    let whole = roster_of-retire e.limits e.records.items e.pending.items e.live h c.self.invariant lives in
-    search (rules, same, whole, c.self.view_is)
+    let lives = lives (goal.at.returns-then-generation-generations-clause-retired c).Else-not-is_occupied_by in
+    let same = occupant_generation c.self.inside.records.items c.args.handle lives in
+    search (rules, same, roster_of-retire _ _ _ _ _ c.self.invariant lives, c.self.view_is)
 
 pub returns-then-generation-generations-clause-lived : goal.returns-then-generation-generations-clause-lived
-returns-then-generation-generations-clause-lived c =
-    let at = goal.at.returns-then-generation-generations-clause-lived c in
-    living at.After-is_occupied_by ∙ lives at.Else-not-is_occupied_by
+returns-then-generation-generations-clause-lived c = search (rules, living, lives)
 
 pub returns-then-generation-generations-clause-not_alive : goal.returns-then-generation-generations-clause-not_alive
-returns-then-generation-generations-clause-not_alive c =
-    let at = goal.at.returns-then-generation-generations-clause-not_alive c in
-    let alive = living at.After-is_occupied_by ∙ lives at.Else-not-is_occupied_by in
-    (λ no. absurd cc, λ dead. absurd (false≢true (sym dead ∙ alive)))
+returns-then-generation-generations-clause-not_alive c = search (rules, living, lives, false≢true)
 
 pub returns-then-is_err-clause-not_alive : goal.returns-then-is_err-clause-not_alive
 returns-then-is_err-clause-not_alive c = search (rules, living, lives, false≢true)
@@ -80,18 +61,16 @@ pending-requires-clause-few c =
 pub invariant_of-self-2 : goal.invariant_of-self-2
 invariant_of-self-2 c =
     let at = goal.at.invariant_of-self-2 c in
-    let is = lives at.Else-not-is_occupied_by in
     let position_is : c.len-position.result ≡ length c.self.inside.pending.items = omega arith in
-    let keeps = release_keeps_links c.self.inside.limits c.self.inside.records.items c.self.inside.pending.items
-    c.self.inside.live c.args.handle c.self.invariant is (not_last at.Else-generation-generations) in
+    let keeps = release_keeps_links _ _ _ _ _ c.self.invariant (lives at.Else-not-is_occupied_by)
+    (not_last at.Else-generation-generations) in
     search (rules, keeps, c.push.ensures.items)
 
 pub returns-clause-waits : goal.returns-clause-waits
 returns-clause-waits c before =
-    let is = lives (goal.at.returns-clause-waits c).Else-not-is_occupied_by in
     let position_is : c.len-position.result ≡ length c.self.inside.pending.items = omega arith in
-    let whole = roster_of-release c.self.inside.limits c.self.inside.records.items c.self.inside.pending.items
-    c.self.inside.live c.args.handle c.self.invariant is in
+    let whole = roster_of-release _ _ _ _ _ c.self.invariant
+    (lives (goal.at.returns-clause-waits c).Else-not-is_occupied_by) in
     search (rules, whole, c.self.view_is, c.index-index.ensures, c.push.ensures.items)
 
 pub returns-clause-lived : goal.returns-clause-lived

@@ -1,23 +1,13 @@
-use Rattle.ent_alloc.proofs.Common.{rules, ◌≡◌, length, ap, arith, Roster}
+use Rattle.ent_alloc.proofs.Common.{rules, ◌-◌, ap, arith, Roster}
 use Rattle.ent_alloc.proofs.Waits.{waiting_keeps_links, roster_of-waiting}
 use Rattle.ent_alloc.proofs.slots.Slots.make_waiting.Goals as goal
 
 pub invariant_of-self-2 : goal.invariant_of-self-2
 invariant_of-self-2 c =
-    let e = c.self.inside in
-    let r : Roster = c.args.self.now in
-    let made : length e.records.items ≡ r.made = ap (λ (r : Roster). r.made) c.self.view_is in
-    let slots : e.limits.slots ≡ r.limits.slots = ap (λ (r : Roster). r.limits.slots) c.self.view_is in
-    let keeps = waiting_keeps_links e.limits e.records.items e.pending.items e.live c.args.count c.self.invariant
-    (omega arith) in
-    search (rules, keeps)
+    let room = ap (λ (r : Roster). r.limits.slots - r.made) c.self.view_is in
+    search (rules, waiting_keeps_links _ _ _ _ c.args.count c.self.invariant (omega arith))
 
 pub returns-clause-ok : goal.returns-clause-ok
 returns-clause-ok c =
-    let e = c.self.inside in
-    let r : Roster = c.args.self.now in
-    let made : length e.records.items ≡ r.made = ap (λ (r : Roster). r.made) c.self.view_is in
-    let slots : e.limits.slots ≡ r.limits.slots = ap (λ (r : Roster). r.limits.slots) c.self.view_is in
-    let whole = roster_of-waiting e.limits e.records.items e.pending.items e.live c.args.count c.self.invariant
-    (omega arith) in
-    search (rules, whole, c.self.view_is)
+    let room = ap (λ (r : Roster). r.limits.slots - r.made) c.self.view_is in
+    search (rules, roster_of-waiting _ _ _ _ c.args.count c.self.invariant (omega arith), c.self.view_is)

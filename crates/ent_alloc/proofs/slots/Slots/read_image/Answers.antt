@@ -11,10 +11,8 @@ are_tied : (c : In_ok-records) → AreTied c.args.limits c.in_ok-records.field-0
 are_tied c = search (rules, read_all)
 
 pub invariant_of-result : goal.invariant_of-result
-invariant_of-result c =
-    let lists = c.in_ok-records.field-0 in
-    linked c.args.limits lists.records.items lists.pending.items lists.live
-    (are_tied (goal.at.invariant_of-result c).In_ok-records) c.in_ok-records.ensures.read.counted
+invariant_of-result c = linked _ _ _ _ (are_tied (goal.at.invariant_of-result c).In_ok-records)
+    c.in_ok-records.ensures.read.counted
 
 pub returns-clause-found : goal.returns-clause-found
 returns-clause-found c = search (rules, slots_bytes_are, are_tied)

@@ -15,19 +15,12 @@ index_mut-requires c = omega
 
 pub invariant_of-self : goal.invariant_of-self
 invariant_of-self c =
-    let e = c.self.inside in
-    let h = c.args.handle in
     let lives = lives (goal.at.invariant_of-self c).After-self in
-    let same = occupant_generation e.records.items h lives in
-    let keeps = set_row_keeps_links e.limits e.records.items e.pending.items e.live h c.args.row c.self.invariant
-    lives in
-    search (rules, same, keeps)
+    let same = occupant_generation c.self.inside.records.items c.args.handle lives in
+    search (rules, same, set_row_keeps_links _ _ _ _ _ c.args.row c.self.invariant lives)
 
 pub returns : goal.returns
 returns c =
-    let e = c.self.inside in
-    let h = c.args.handle in
     let lives = lives (goal.at.returns c).After-self in
-    let same = occupant_generation e.records.items h lives in
-    let whole = roster_of-set_row e.limits e.records.items e.pending.items e.live h c.args.row c.self.invariant lives in
-    search (rules, same, whole, c.self.view_is)
+    let same = occupant_generation c.self.inside.records.items c.args.handle lives in
+    search (rules, same, roster_of-set_row _ _ _ _ _ c.args.row c.self.invariant lives, c.self.view_is)

@@ -4,11 +4,9 @@ use Rattle.ent_alloc.proofs.slots.Slots.wait_last.Goals.{After-wait_last}
 use Rattle.ent_alloc.proofs.slots.Slots.wait_last.Goals as goal
 
 pub wait_last-requires-clause-made : goal.wait_last-requires-clause-made
-wait_last-requires-clause-made c =
-    let e = c.self.inside in
-    subst (λ (rs : List SlotRecord). All (λ i. i < length rs) c.args.order.now) (sym c.deref_mut.ensures.value)
-    (slots_in e.limits e.records.items e.pending.items e.live c.args.order.now c.args.self.now c.self.invariant
-    c.self.view_is c.requires.few c.requires.same)
+wait_last-requires-clause-made c = subst (λ (rs : List SlotRecord). All (λ i. i < length rs) c.args.order.now)
+    (sym c.deref_mut.ensures.value)
+    (slots_in _ _ _ _ _ c.args.self.now c.self.invariant c.self.view_is c.requires.few c.requires.same)
 
 -- what is written
 record AreWritten (records new_records : List SlotRecord) (pending new_pending : List ℕ)
@@ -25,20 +23,16 @@ written c = search (rules, length-moved, length-placed)
 
 pub invariant_of-self : goal.invariant_of-self
 invariant_of-self c =
-    let e = c.self.inside in
-    let is = c.args.order.now in
     let all = written (goal.at.invariant_of-self c).After-wait_last in
-    let records = with_items_is e.records c.wait_last.new.records all.made_are in
-    let pending = with_items_is e.pending c.wait_last.new.pending all.waiting_are in
-    rw (records, pending, all.records_are, all.pending_are) (links_in e.limits e.records.items e.pending.items e.live is
-    c.args.self.now c.self.invariant c.self.view_is c.requires.few c.requires.same)
+    let records = with_items_is c.self.inside.records c.wait_last.new.records all.made_are in
+    let pending = with_items_is c.self.inside.pending c.wait_last.new.pending all.waiting_are in
+    rw (records, pending, all.records_are, all.pending_are)
+    (links_in _ _ _ _ _ c.args.self.now c.self.invariant c.self.view_is c.requires.few c.requires.same)
 
 pub returns : goal.returns
 returns c slots =
-    let e = c.self.inside in
-    let is = c.args.order.now in
     let all = written (goal.at.returns c).After-wait_last in
-    let records = with_items_is e.records c.wait_last.new.records all.made_are in
-    let pending = with_items_is e.pending c.wait_last.new.pending all.waiting_are in
-    rw (records, pending, all.records_are, all.pending_are) (roster_in e.limits e.records.items e.pending.items e.live
-    is c.args.self.now c.self.invariant c.self.view_is c.requires.few slots)
+    let records = with_items_is c.self.inside.records c.wait_last.new.records all.made_are in
+    let pending = with_items_is c.self.inside.pending c.wait_last.new.pending all.waiting_are in
+    rw (records, pending, all.records_are, all.pending_are)
+    (roster_in _ _ _ _ _ c.args.self.now c.self.invariant c.self.view_is c.requires.few slots)
