@@ -29,8 +29,7 @@ fails : (bytes : List ℕ) → IsWithoutLetter bytes → All (λ b. is_letter b 
 fails bytes h k d lt = ne_eqb _ 118 (h k d lt)
 
 decimal_without_letter : (ds : List ℕ) → IsDecimal ds → IsWithoutLetter ds
-decimal_without_letter ds is k d lt e = grind
-    (arith, common_steps, not_in_digits, digit_texts, plain_from_decimal, get_or_default)
+decimal_without_letter ds is k d lt e = grind (arith, common_steps, not_in_digits, digit_texts, plain_from_decimal)
 
 -- no letter: no handle
 pub handle_of_whole : (bytes : List ℕ) → IsWithoutLetter bytes → handle_of bytes ≡ Err Shape
@@ -46,12 +45,11 @@ one_part index generation (part ∷ more ∷ others) e lacks = search (rules, co
 -- the parts round the first letter are the handle's numbers, or there is no handle
 handle_of-split : (bytes index generation : List ℕ) → bytes ≡ index ++ 118 ∷ generation → IsWithoutLetter index
     → handle_of bytes ≡ handle_of_numbers index generation
-handle_of-split bytes index generation e h = ap handle_of e ∙ ap handle_of_parts (slice_split_at is_letter index 118
-    generation (fails index h) refl) ∙ elim (cases_Bool (is_decimal generation)) [
-      | inl is ↦ ap (λ (parts : List (List ℕ)). handle_of_parts (index ∷ parts))
-          (slice_split_none is_letter generation (fails generation (decimal_without_letter generation is)))
-      | inr lacks ↦
-          one_part index generation (slice_split is_letter generation) refl lacks
+handle_of-split bytes index generation e h =
+    let parts = slice_split_at is_letter index 118 generation (fails index h) refl in
+    elim (cases_Bool (is_decimal generation)) [
+      | inl is ↦ rw (e, parts, slice_split_none is_letter generation (fails generation (decimal_without_letter generation is)))
+      | inr lacks ↦ rw (e, parts) (one_part index generation _ refl lacks)
     ]
 
 same_handle : (h k : Handle) → h.index ≡ k.index → h.generation ≡ k.generation → h ≡ k
@@ -82,8 +80,7 @@ shape_of_none bytes e form =
 
 parts_of : (bytes : List ℕ) → position_or_len is_letter bytes < length bytes
     → bytes ≡ before_first is_letter bytes ++ 118 ∷ after_first is_letter bytes
-parts_of bytes lt = split_at_first is_letter bytes 0 lt ∙ ap (λ (b : ℕ). before_first is_letter bytes ++ b ∷ after_first
-    is_letter bytes) (eqb-true _ 118 (passes_at_first is_letter bytes 0 lt))
+parts_of bytes lt = rw (eqb-true _ 118 (passes_at_first is_letter bytes 0 lt)) at (split_at_first is_letter bytes 0 lt)
 
 -- a text is of the form, with its two decimals, or it is not, and then no handle is read
 abbrev pub Reading : List ℕ → Type 0
@@ -116,11 +113,9 @@ reading bytes =
 pub read_parts : (bytes index generation : List ℕ) → bytes ≡ index ++ 118 ∷ generation → IsWithoutLetter index
     → IsDecimal index → IsDecimal generation → (o : Option Handle) → IfSome o (λ h. h ≡ written index generation)
     → IsSome o ↔ IsHandle (written index generation) → ok_or o Range ≡ handle_of bytes
-read_parts bytes index generation e h i g (Some k) value in_range = ap (λ (x : Handle). Ok x) value
-    ∙ sym (handle_of_form bytes index generation i g e ∙ cond-true _ _ _ (is_handle_from _ (in_range.0 refl)))
-read_parts bytes index generation e h i g None value in_range = sym
-    (handle_of_form bytes index generation i g e ∙ cond-false _ _ _
-    (false_from_ne_true _ (λ is. absurd (false≢true (in_range.1 (handle_from _ is))))))
+read_parts bytes index generation e h i g it value in_range =
+    let form = handle_of_form bytes index generation i g e in
+    grind (arith, common_steps, form, is_handle_from, handle_from)
 
 pub shapeless_parts : (bytes index generation : List ℕ) → bytes ≡ index ++ 118 ∷ generation → IsWithoutLetter index
     → (is_decimal index ≡ false) ⊎ (is_decimal generation ≡ false) → handle_of bytes ≡ Err Shape
@@ -163,7 +158,7 @@ handle_found bytes r e =
 
 pub handle_only : (bytes : List ℕ) (r : Result Handle TextFault) → r ≡ handle_of bytes → (h : Handle) → IsHandle h
     → bytes ≡ handle_text h → r ≡ Ok h
-handle_only bytes r e h is spelled = e ∙ ap handle_of spelled ∙ handle_of_text h is
+handle_only bytes r e h is spelled = search (rules, handle_of_text)
 
 pub handle_shape : (bytes : List ℕ) (r : Result Handle TextFault) → r ≡ handle_of bytes
     → IsErrOf r Shape ↔ (¬ HasHandleForm bytes)
