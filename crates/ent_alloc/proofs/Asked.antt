@@ -16,8 +16,7 @@ pub front_within : (s : Allocator) (n : ℕ) → IsSound s → All (IsWithin s.l
 front_within s n sound = search (rules, All-take, of_pool)
 
 pub first_within : (s : Allocator) (h : Handle) → IsSound s → slice_get s.pool 0 ≡ Some h → IsWithin s.limits h
-first_within s h sound first = search (rules, of_pool (IsWithin s.limits) s sound.within 0 h,
-    slice_get_within s.pool 0 h, get_or_from_slice_get s.pool 0 h h first)
+first_within s h sound first = search (rules, of_pool (IsWithin s.limits) s sound.within 0 h, slice_get_within s.pool 0 h, get_or_from_slice_get s.pool 0 h h first)
 
 -- what a request is given that is served
 pub record IsServed (s : Allocator) (n : ℕ) (given : List Handle) : Type 0 where
@@ -66,7 +65,7 @@ of_front s h sound is =
     let from = served_from s 1 (h ∷ []) is in
     let front = first s.made s.pool h from.0 from.1 in
     let within = of_reply s 1 (h ∷ []) is (IsWithin s.limits) (of_pool (IsWithin s.limits) s sound.within) 0 h
-        (omega arith) in
+    (omega arith) in
     grind (arith, common_steps)
 
 pub none_left : (s : Allocator) (n : ℕ) (space : Space) → n ≤ 1 → IsShort s n space → s.pool ≡ []

@@ -1,7 +1,7 @@
 -- The names that proofs of this crate cite, of std, of the crates below and of its own specs. Declares nothing.
-pub use Rattle.std.proofs.Common.{All, AllPairs, Bool, Contains, Err, IfNone, IfOk, IfSome, IsPermutation, IsTrue, List, None, Ok, OnErr, Option, Result, Some, [], add-zero, ap, arith, cond, drop, eqb, false, filter, get_or, inl, inr, le_of_eq, leb, length, ltb, map, map as maps, nat_abs, negsuc, not, of_z, pos, refl, replicate, reverse, rules, set, slice_get, slice_index, slice_index_or, subst, suc, sum, swap, sym, take, to_z, true, true≢false, vec_len, w64, zero, zero-add, ℕ, ℤ, ◌&&◌, ◌*◌, ◌++◌, ◌+◌, ◌-ℤ◌, ◌-◌, ◌/◌, ◌<◌, ◌==◌, ◌^◌, ◌||◌, ◌↔◌, ◌∙◌, ◌∷◌, ◌≡◌, ◌≢◌, ◌≤ℤ◌, ◌≤◌, ◌⊎◌}
+pub use Rattle.std.proofs.Common.{All, AllPairs, Bool, Contains, Err, IfNone, IfOk, IfSome, IsPermutation, IsTrue, List, None, Ok, OnErr, Option, Result, Some, [], add-zero, ap, arith, cond, drop, eqb, false, filter, get_or, inl, inr, le_of_eq, leb, length, ltb, map, nat_abs, negsuc, not, of_z, pos, refl, replicate, reverse, rules, set, slice_get, slice_index_or, subst, suc, sum, swap, sym, take, to_z, true, true≢false, vec_len, w64, zero, zero-add, ℕ, ℤ, ◌&&◌, ◌*◌, ◌++◌, ◌+◌, ◌-ℤ◌, ◌-◌, ◌/◌, ◌<◌, ◌==◌, ◌^◌, ◌||◌, ◌↔◌, ◌∙◌, ◌∷◌, ◌≡◌, ◌≢◌, ◌≤ℤ◌, ◌≤◌, ◌⊎◌}
 pub use Rattle.std.proofs.Math.Bool.{and-false, or-false, or-true, or_assoc, or_comm}
-pub use Rattle.std.proofs.Math.ListN.{drop_of_length-le, get_or-map as get_or_mapped}
+pub use Rattle.std.proofs.Math.ListN.{get_or-map as get_or_mapped}
 pub use Rattle.std.proofs.Math.Nat.{min-eq_left, min-eq_right}
 pub use Rattle.std.proofs.Math.Seq.{drop-append-add, drop-append_seam, take-add, take-append-add, take-append_seam}
 pub use Rattle.std.proofs.lemmas.Bool.{and_from, and_parts, cases_Bool, cases_eq, cases_lt, cond-false, cond-true, eq-eqb, eqb-true, false_from_ne_true, false≢true, le-leb, le-ltb, leb-true, lt-leb, lt-ltb, ltb-true, ne_eqb}
@@ -18,8 +18,6 @@ pub use Rattle.std.proofs.lemmas.List.Kept.{AllPairs-cons, AllPairs-filter}
 pub use Rattle.std.proofs.lemmas.List.Quantifiers.{all_pairs_push}
 pub use Rattle.std.proofs.lemmas.List.Sorted.{All-permutation, Contains-permutation, IsPermutation-append, IsPermutation-append_comm, IsPermutation-append_left, IsPermutation-append_right, IsPermutation-filter_both, IsPermutation-keeps, IsPermutation-refl, IsPermutation-reverse, IsPermutation-sym, IsPermutation-trans, length_permutation, list_any-IsPermutation}
 pub use Rattle.std.proofs.lemmas.List.Sums.{sum_by-cons}
-pub use Rattle.std.proofs.lemmas.Map.Made.{IsDistinct-from_AllPairs}
-pub use Rattle.std.proofs.lemmas.Map.Steps.{length-le_from_distinct_below}
 pub use Rattle.std.proofs.lemmas.Map.Views.{Contains-from_any, tells_apart}
 pub use Rattle.std.proofs.lemmas.Nat.{div-mul-add, from_le_bytes-to_le_bytes_4, from_le_bytes-to_le_bytes_8, le_bytes_4, le_bytes_8}
 pub use Rattle.std.proofs.lemmas.Option.{get_or_from_slice_get, slice_get-get_or, slice_get_read, slice_get_within}
@@ -27,14 +25,13 @@ pub use Rattle.std.proofs.lemmas.Slice.Eq.{starts_is}
 pub use Rattle.std.specs.FinMap.{find}
 pub use Rattle.std.specs.Int.{from_le_bytes, w32}
 pub use Rattle.std.specs.List.{count_by, flat_map, list_any, range_with_len, starts_with}
-pub use Rattle.std.specs.Option.{is_some}
 pub use Rattle.std.specs.Ordering.{eq_by_cmp}
 pub use Rattle.std.specs.Prelude.{if◌then◌else◌, min, nat_eq, vec_capacity}
 pub use Rattle.std.specs.Result.{IfErr, IsErrAnd, IsErrOf}
 pub use Rattle.std.specs.Simd.{first_chunks}
 pub use Rattle.ent_handle.specs.Handle.{Handle, IsHandle, handle_cmp, handle_cmp-IsAntisymmetric, handle_cmp_total}
 pub use Rattle.ent_alloc.specs.Entities.{AreReserved, Entities, HasRowsOfLiving, allocator_of, beneath, entities_of, idle}
-pub use Rattle.ent_alloc.specs.FirstFault.{Test, first_failing, first_fault, front_tests, generation_of, has_place, header_fault, header_in, header_tests, in_counts, in_limits, in_requests, is_slot, is_taken, kind_in, number_in, position_test, slot_test, slots_tests, waits_at}
+pub use Rattle.ent_alloc.specs.FirstFault.{Test, first_failing, first_fault, front_tests, generation_of, has_place, header_fault, header_in, header_tests, is_slot, is_taken, kind_in, number_in, position_test, slot_test, slots_tests, waits_at}
 unfoldable pub use Rattle.ent_alloc.specs.FirstFault.{long_at, word_at}
 pub use Rattle.ent_alloc.specs.Front.{AreSlotsOf, moved, new_waiting, placed, slots_of, waiting_at, with_front}
 pub use Rattle.ent_alloc.specs.History.{Call, IsLegal, after_history, given_in, handles_in, requests_of}
@@ -43,11 +40,11 @@ unfoldable pub use Rattle.ent_alloc.specs.Image.{header_bytes, long, numbers_byt
 pub use Rattle.ent_alloc.specs.ImageRecords.{AreNumbers, AreRead, AreServed, CanWait, IsGeneration, IsWritten, kept, kept_generation, record_bytes, rowless_bytes, vacant, with_waiting, without_row, without_row_of}
 pub use Rattle.ent_alloc.specs.Limits.{AreLimits, Limits}
 pub use Rattle.ent_alloc.specs.Portions.{AreUsed, after_portions, arranged, count_of, front_of, left_of, reach_of, size_of, used_of}
-pub use Rattle.ent_alloc.specs.Reserved.{AreToList, IsInRange, handles_of, reserved_handles}
+pub use Rattle.ent_alloc.specs.Reserved.{AreToList, handles_of, reserved_handles}
 pub use Rattle.ent_alloc.specs.Roster.{Roster, freed_roster, retired_roster}
 pub use Rattle.ent_alloc.specs.Sequential.{Allocator, after_alloc, after_allocs, after_flush, after_free, after_take, asked_at, available, before_requests, born, cursor, following, has_slot, in_front, is_fresh, is_old, listed, listed_alone, made_at_flush, next, opening, pool_at, reply_from, reply_to, retired, settled, stands_in, state_of, top}
 unfoldable pub use Rattle.ent_alloc.specs.Sequential.{fresh}
-pub use Rattle.ent_alloc.specs.Slots.{AreLinked, handle_at, is_alive, is_pending_from, lives, new_record, no_slot, occupancy_of, occupants, record_at, reuse, reused, roster_of, row_kept, row_of, rows_from, waits_from, with_row}
+pub use Rattle.ent_alloc.specs.Slots.{AreLinked, handle_at, is_alive, is_pending_from, lives, new_record, no_slot, occupancy_of, occupants, record_at, reuse, reused, roster_of, row_kept, row_of, rows_from, waits_from}
 pub use Rattle.ent_alloc.specs.Sound.{AreApart, IsLive, IsSound, IsWithin}
 pub use Rattle.ent_alloc.specs.Span.{IsSpanOf}
 pub use Rattle.ent_alloc.specs.Spent.{AreSpent, IsSpent}

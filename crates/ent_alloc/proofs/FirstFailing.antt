@@ -30,8 +30,8 @@ module _ (test : ℕ → Test) where
   pub fails_at : (from count k : ℕ) → from ≤ k → k < from + count → ((j : ℕ) → from ≤ j → j < k → (test j).0 ≡ true)
       → (test k).0 ≡ false → first_failing (map test (range_with_len from count)) ≡ Some (test k).1
   fails_at from zero k least lt before fails = absurd (omega arith)
-  fails_at from (suc count) k least lt before fails = grind (arith, common_steps, passed, failed, before,
-      fails_at (from + 1) count k)
+  fails_at from (suc count) k least lt before fails = grind
+      (arith, common_steps, passed, failed, before, fails_at (from + 1) count k)
 
 -- ---- whether one of some numbers is such
 

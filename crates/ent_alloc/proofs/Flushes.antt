@@ -22,21 +22,18 @@ born-IsPermutation s =
     let old = filter (is_old s.made) s.taken in
     let new = filter (is_fresh s.made) s.taken in
     let parted = IsPermutation-filter_both (is_old s.made) (is_fresh s.made) (fresh_is_not_old s.made) s.taken in
-    let turned : IsPermutation (new ++ old) (new ++ reverse old) = search (rules, IsPermutation-append,
-        IsPermutation-refl, IsPermutation-reverse) in
-    search (rules, IsPermutation-trans s.taken (old ++ new), IsPermutation-trans (old ++ new) (new ++ old),
-        IsPermutation-append_comm old new)
+    let turned : IsPermutation (new ++ old) (new ++ reverse old) = search
+    (rules, IsPermutation-append, IsPermutation-refl, IsPermutation-reverse) in
+    search (rules, IsPermutation-trans s.taken (old ++ new), IsPermutation-trans (old ++ new) (new ++ old), IsPermutation-append_comm old new)
 
 -- each that is born is alive then
 pub born-lives : (s : Allocator) → All (IsLive (after_flush s)) (born s)
-born-lives s = search (rules, All-permutation (IsLive (after_flush s)) s.taken (born s), born-IsPermutation,
-    taken-lives, All-contains_itself)
+born-lives s = search (rules, All-permutation (IsLive (after_flush s)) s.taken (born s), born-IsPermutation, taken-lives, All-contains_itself)
 
 module _ (s : Allocator) (h : IsSound s) where
   -- no two are of one slot
   pub born-apart : AllPairs AreApart (born s)
-  born-apart = search (rules, AllPairs-IsPermutation AreApart apart_both s.taken (born s), born-IsPermutation,
-      AllPairs-left AreApart s.taken (s.aside ++ s.pool), h.apart)
+  born-apart = search (rules, AllPairs-IsPermutation AreApart apart_both s.taken (born s), born-IsPermutation, AllPairs-left AreApart s.taken (s.aside ++ s.pool), h.apart)
 
   -- none was alive
   pub born-not_live : All (λ x. ¬ (IsLive s x)) (born s)

@@ -56,14 +56,14 @@ fresh_apart index slots i j d lt within same = search (rules, length-fresh, get_
 
 -- none of them is old where they begin
 pub no_fresh_is_old : (made index slots : ℕ) → made ≤ index → filter (is_old made) (fresh index slots) ≡ []
-no_fresh_is_old made index slots le = filter_none (is_old made) (fresh index slots) (λ k d lt. grind (arith, nat_tests,
-    common_steps, length-fresh, get_or-fresh))
+no_fresh_is_old made index slots le = filter_none (is_old made) (fresh index slots) (λ k d lt. grind
+    (arith, nat_tests, common_steps, length-fresh, get_or-fresh))
 
 -- so a filter of the fresh keeps all
 pub all_fresh_are_fresh : (made index slots : ℕ) → made ≤ index → filter (is_fresh made) (fresh index slots) ≡ fresh
     index slots
-all_fresh_are_fresh made index slots le = filter_all (is_fresh made) (fresh index slots) (λ k d lt. grind (arith,
-    nat_tests, common_steps, length-fresh, get_or-fresh))
+all_fresh_are_fresh made index slots le = filter_all (is_fresh made) (fresh index slots) (λ k d lt. grind
+    (arith, nat_tests, common_steps, length-fresh, get_or-fresh))
 
 -- old handles are no fresh ones
 pub no_old_is_fresh : (made : ℕ) (old : List Handle) → All (λ h. h.index < made) old → filter (is_fresh made) old ≡ []

@@ -47,13 +47,12 @@ module _ (s : Allocator) (hs : List Handle) (sound : IsSound s) (flushed : s.ask
       let older : All P (old_ones s) = λ k d lt. omega (arith, was.below k d lt) in
       let both = All-append P (take n (old_ones s)) (fresh s.made (n - top s)) (All-take P n (old_ones s) older)
       (All-fresh P s.made (n - top s) (λ k lt. omega arith)) in
-      let front : All P hs = search (rules, arith, All-permutation P (take n s.pool) hs same,
-      take_joined s.made (s.limits.slots - s.made) (old_ones s) was.below n, was.pool, long) in
+      let front : All P hs = search (rules, arith, All-permutation P (take n s.pool) hs same, take_joined s.made (s.limits.slots - s.made) (old_ones s) was.below n, was.pool, long) in
       let over : made ≤ s.limits.slots = omega (arith, long, was.made) in
       let below = All-append P hs (drop n (old_ones s)) front (All-drop P n (old_ones s) older) in
       let apart = AllPairs-left AreApart old (fresh made (s.limits.slots - made))
-          (rw (← pool_is) (AllPairs-IsPermutation AreApart (λ g h ne e. ne (sym e)) s.pool (hs ++ drop n s.pool) moved
-          (rw all at sound.apart))) in
+      (rw (← pool_is) (AllPairs-IsPermutation AreApart (λ g h ne e. ne (sym e)) s.pool (hs ++ drop n s.pool) moved
+      (rw all at sound.apart))) in
       let live_apart = λ (h : Handle) (alive : IsLive s h). each (AreApart h) (sound.live h alive).apart in
       let it = was in
       laid_out-sound (with_front s hs) old (search (rules, arith, pool_is, each (IsWithin s.limits)))
@@ -91,12 +90,10 @@ module _ (r : Roster) (hs : List Handle) (sound : IsSound (allocator_of r 0 0)) 
       (IsPermutation-reverse last)) (rw front at same))
 
   kept_is : take (length wide - length hs) wide ≡ take (length r.pending - length hs) r.pending
-  kept_is = search (rules, arith, length-append r.pending (fresh r.made more), length-fresh r.made more,
-      take-append-le (length r.pending - length hs) r.pending (fresh r.made more))
+  kept_is = search (rules, arith, length-append r.pending (fresh r.made more), length-fresh r.made more, take-append-le (length r.pending - length hs) r.pending (fresh r.made more))
 
   pub front_view : allocator_of (turned (grown r more) hs) 0 0 ≡ with_front (allocator_of r 0 0) hs
-  front_view = search (rules, top_is r 0 0, sound, kept_is, reverse-append, reverse-reverse, append_assoc, drop_joined,
-      below, length-reverse, drop-reverse)
+  front_view = search (rules, top_is r 0 0, sound, kept_is, reverse-append, reverse-reverse, append_assoc, drop_joined, below, length-reverse, drop-reverse)
 
 -- ---- where a call begins and ends that has the slots of the handles
 
@@ -147,28 +144,24 @@ module _ (r : Roster) (requests : Requests) (s : Allocator) (is : List ℕ)
     unfolding waits_of
     stands_of r'' each =
         let is : r'' ≡ turned r' hs = rw (← as_long) (each waits_of) in
-        search (rules, closed, none_is, front_view_in, with_front-sound, sound_at_rest, few_at_rest, same_at_rest,
-        view_at_rest)
+        search (rules, closed, none_is, front_view_in, with_front-sound, sound_at_rest, few_at_rest, same_at_rest, view_at_rest)
 
 -- ---- the slot at a position
 
 module _ (r : Roster) (position : ℕ) where
   at_position : (x : ℕ) (d : Handle) → position < length (idle r) → (get_or (idle r) position d).index ≡ x
       → slice_get (slots_of (idle r)) position ≡ Some x
-  at_position x d below is = slice_get_read (slots_of (idle r)) _ position x refl (omega (arith,
-      length-map (idle r) (λ (h : Handle). h.index))) (search (rules, get_or_default, get_or-map, length-map))
+  at_position x d below is = slice_get_read (slots_of (idle r)) _ position x refl (omega
+      (arith, length-map (idle r) (λ (h : Handle). h.index))) (search (rules, get_or_default, get_or-map, length-map))
 
   pub slot_waits : (h : Handle) → position < length r.pending → slice_get r.pending (length r.pending - 1 - position)
       ≡ Some h → slice_get (slots_of (idle r)) position ≡ Some h.index
-  slot_waits h waits is = at_position h.index h (omega (arith, length-idle r)) (search (rules, get_or_append_left,
-      length-reverse, get_or-reverse, get_or_from_slice_get))
+  slot_waits h waits is = at_position h.index h (omega (arith, length-idle r)) (search
+      (rules, get_or_append_left, length-reverse, get_or-reverse, get_or_from_slice_get))
 
   pub slot_is_fresh : length r.pending ≤ position → position < length (idle r)
       → slice_get (slots_of (idle r)) position ≡ Some (r.made + (position - length r.pending))
-  slot_is_fresh late below = search (rules, arith, length-reverse r.pending, length-idle r,
-      at_position (r.made + (position - length r.pending)) (first_of_slot 0),
-      get_or-append_right (reverse r.pending) (fresh r.made (r.limits.slots - r.made)) (length r.pending) position
-      (first_of_slot 0), get_or-fresh r.made (r.limits.slots - r.made) (position - length r.pending) (first_of_slot 0))
+  slot_is_fresh late below = search (rules, arith, length-reverse r.pending, length-idle r, at_position (r.made + (position - length r.pending)) (first_of_slot 0), get_or-append_right (reverse r.pending) (fresh r.made (r.limits.slots - r.made)) (length r.pending) position (first_of_slot 0), get_or-fresh r.made (r.limits.slots - r.made) (position - length r.pending) (first_of_slot 0))
 
 -- ---- those that wait, as they are listed
 
@@ -181,8 +174,7 @@ module _ (records : List SlotRecord) where
 pub turned_part : (xs ys : List ℕ) (from n : ℕ) → n ≤ length xs - from
     → reverse (take n (drop (length xs - from - n) xs)) ≡ take n (drop from (reverse xs ++ ys))
 turned_part xs ys from n few = search
-    (rules, arith, cases_lt, length-take-le, drop-append-le, take-append-le, length-reverse, length-drop, drop-reverse,
-        take-reverse, drop-take)
+    (rules, arith, cases_lt, length-take-le, drop-append-le, take-append-le, length-reverse, length-drop, drop-reverse, take-reverse, drop-take)
 
 pub waiting_long : (limits : Limits) (records : List SlotRecord) (pending : List ℕ) (r : Roster)
     → roster_of limits records pending ≡ r → length r.pending ≡ length pending

@@ -32,8 +32,7 @@ pub moved-other : (records : List SlotRecord) (top at : ℕ) (hs : List Handle) 
 moved-other records top at [] others = refl
 moved-other records top at (h ∷ hs) others =
     let w = waiting_at (record_at records h.index).generation (top - 1) in
-    search (rules, arith, moved-other (set records h.index w) (top - 1) at hs, All-tail (λ h. h.index ≢ at) h hs others,
-    get_or-set_other records h.index at w no_slot, others 0 h)
+    search (rules, arith, moved-other (set records h.index w) (top - 1) at hs, All-tail (λ h. h.index ≢ at) h hs others, get_or-set_other records h.index at w no_slot, others 0 h)
 
 pub generation-moved : (records : List SlotRecord) (top at : ℕ) (hs : List Handle)
     → All (λ h. h.index < length records) hs → (record_at (moved records top (slots_of hs)) at).generation
@@ -51,13 +50,12 @@ moved-at records top k [] d made apart below = absurd (omega arith)
 moved-at records top zero (h ∷ hs) d made apart below =
     let w = waiting_at (record_at records h.index).generation (top - 1) in
     let others : All (λ g. g.index ≢ h.index) hs = λ i e lt same. AllPairs-head AreApart h hs apart i e lt (sym same) in
-    search (rules, arith, moved-other (set records h.index w) (top - 1) h.index hs,
-    get_or-set_same records h.index w no_slot, made 0 h)
+    search (rules, arith, moved-other (set records h.index w) (top - 1) h.index hs, get_or-set_same records h.index w no_slot, made 0 h)
 moved-at records top (suc k) (h ∷ hs) d made apart below =
     let w = waiting_at (record_at records h.index).generation (top - 1) in
     let small = All-tail (λ h. h.index < length records) h hs made in
-    search (rules, arith, moved-at (set records h.index w) (top - 1) k hs d, length-set,
-        AllPairs-tail AreApart h hs apart)
+    search
+    (rules, arith, moved-at (set records h.index w) (top - 1) k hs d, length-set, AllPairs-tail AreApart h hs apart)
 
 -- ---- who lives
 
@@ -94,8 +92,8 @@ map-reverse f (x ∷ xs) = grind (arith, common_steps, reverse-append, map-appen
 map_back : (records : List SlotRecord) (hs : List Handle) → All (λ h. handle_at records h.index ≡ h) hs
     → map (handle_at records) (slots_of hs) ≡ hs
 map_back records [] named = refl
-map_back records (h ∷ hs) named = search (rules, arith, named 0 h, map_back records hs,
-    All-tail (λ h. handle_at records h.index ≡ h) h hs named)
+map_back records (h ∷ hs) named = search
+    (rules, arith, named 0 h, map_back records hs, All-tail (λ h. handle_at records h.index ≡ h) h hs named)
 
 -- ---- links
 
@@ -106,9 +104,9 @@ among index [] = inr (λ k d lt. absurd (omega arith))
 among index (h ∷ hs) = elim (cases_eq h.index index) [
   | inl same ↦ inl (0, omega arith, λ d. same)
   | inr other ↦ elim (among index hs) [
-      | inl found ↦ inl (suc found.0, omega (arith, found.1), found.2)
-      | inr none ↦ inr (All-cons (λ h. h.index ≢ index) h hs other none)
-    ]
+    | inl found ↦ inl (suc found.0, omega (arith, found.1), found.2)
+    | inr none ↦ inr (All-cons (λ h. h.index ≢ index) h hs other none)
+  ]
 ]
 
 module _ (limits : Limits) (records : List SlotRecord) (pending : List ℕ) (live : ℕ)
@@ -154,8 +152,7 @@ module _ (limits : Limits) (records : List SlotRecord) (pending : List ℕ) (liv
     order_long = length-placed pending (length pending) (slots_of hs)
 
     order_is : order ≡ take from pending ++ reverse (slots_of hs)
-    order_is = search (rules, arith, placed_is pending (length pending) (slots_of hs),
-        length-map hs (λ (h : Handle). h.index), drop_all (length pending) pending, append-nil)
+    order_is = search (rules, arith, placed_is pending (length pending) (slots_of hs), length-map hs (λ (h : Handle). h.index), drop_all (length pending) pending, append-nil)
 
     after_long : length after ≡ length records
     after_long = length-moved records (length pending) (slots_of hs)
@@ -172,24 +169,17 @@ module _ (limits : Limits) (records : List SlotRecord) (pending : List ℕ) (liv
     late_is position d late within =
         let many = length-map hs (λ (h : Handle). h.index) in
         let k = length pending - 1 - position in
-        search (rules, arith, order_is, get_or-append_right (take from pending) (reverse (slots_of hs)) from position 0,
-        length-take-le from pending, get_or-reverse (slots_of hs) (position - from) 0,
-            get_or-map (λ (h : Handle). h.index) hs k d 0)
+        search (rules, arith, order_is, get_or-append_right (take from pending) (reverse (slots_of hs)) from position 0, length-take-le from pending, get_or-reverse (slots_of hs) (position - from) 0, get_or-map (λ (h : Handle). h.index) hs k d 0)
 
     made_after : (position : ℕ) → position < length order → get_or order position 0 < length after
-    made_after position within = search (rules, arith, cases_lt position from, early_is position,
-        late_is position (handle_at records 0), order_long, after_long, linked.made position,
-        made_slots (length pending - 1 - position) (handle_at records 0))
+    made_after position within = search (rules, arith, cases_lt position from, early_is position, late_is position (handle_at records 0), order_long, after_long, linked.made position, made_slots (length pending - 1 - position) (handle_at records 0))
 
     forward_after : (position : ℕ) → position < length order → (record_at after (get_or order position 0)).occupancy
         ≡ Pending position
     forward_after position within =
         let d = handle_at records 0 in
         let k = length pending - 1 - position in
-        search (rules, arith, cases_lt position from, early_is position, late_is position d, order_long,
-        moved-other records (length pending) (get_or pending position 0) hs,
-            each (λ h. h.index ≢ get_or pending position 0), linked.forward position,
-            moved-at records (length pending) k hs d made_slots apart)
+        search (rules, arith, cases_lt position from, early_is position, late_is position d, order_long, moved-other records (length pending) (get_or pending position 0) hs, each (λ h. h.index ≢ get_or pending position 0), linked.forward position, moved-at records (length pending) k hs d made_slots apart)
 
     back_after : (index position : ℕ) → index < length after → (record_at after index).occupancy ≡ Pending position
         → (position < length order) × (get_or order position 0 ≡ index)
@@ -208,9 +198,9 @@ module _ (limits : Limits) (records : List SlotRecord) (pending : List ℕ) (liv
               let listed = linked.listed index position (omega arith) was in
               let back = linked.back index position (omega arith) was in
               let still = All-permutation (λ h. h.index ≢ index) hs waited (IsPermutation-sym waited hs same) none
-                  (position - from) d in
-              search (rules, arith, cases_lt position from, early_is position, waited_at (position - from) d,
-                  long_waited)
+              (position - from) d in
+              search
+              (rules, arith, cases_lt position from, early_is position, waited_at (position - from) d, long_waited)
         ]
 
     same_living : occupants 0 after ≡ occupants 0 records
@@ -222,9 +212,9 @@ module _ (limits : Limits) (records : List SlotRecord) (pending : List ℕ) (liv
     pub front_keeps_links : AreLinked limits after order live
     front_keeps_links =
         let listed = λ (index position : ℕ) (lt : index < length after) (is : (record_at after index).occupancy
-            ≡ Pending position). (back_after index position lt is).0 in
+        ≡ Pending position). (back_after index position lt is).0 in
         let back = λ (index position : ℕ) (lt : index < length after) (is : (record_at after index).occupancy
-            ≡ Pending position). (back_after index position lt is).1 in
+        ≡ Pending position). (back_after index position lt is).1 in
         search (rules, order_long, after_long, same_living, generation_after, made_after, forward_after)
 
     -- they are those that waited, and then these, the last first
@@ -266,5 +256,5 @@ module _ (limits : Limits) (records : List SlotRecord) (pending : List ℕ) (liv
 
   pub roster_in : roster_of limits (moved records (length pending) is) (placed pending (length pending) is)
       ≡ record r { pending = take (length r.pending - length is) r.pending ++ reverse hs }
-  roster_in = search (rules, order.slots, roster_of-front limits records pending live hs linked few_in same_in,
-      long_view, as_many)
+  roster_in = search
+      (rules, order.slots, roster_of-front limits records pending live hs linked few_in same_in, long_view, as_many)

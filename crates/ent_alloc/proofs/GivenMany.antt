@@ -45,6 +45,4 @@ module _ (r : Roster) (requests : Requests) (s : Allocator) (rest : IsAtRest r r
   -- the slots that are left stand for the allocator
   pub many_given : (new : Roster) → new ≡ flushed_roster r waits news
       → StandFor new requests (after_flush (after_take s n))
-  many_given new is = search (rules, arith,
-      closed new (flushed_roster r waits news) requests (after_flush (after_take s n)) is, rest.requests_is,
-      flush_is r n n, sound, requested, after_flush-sound, after_take-sound, rows-joined)
+  many_given new is = search (rules, arith, closed new (flushed_roster r waits news) requests (after_flush (after_take s n)) is, rest.requests_is, flush_is r n n, sound, requested, after_flush-sound, after_take-sound, rows-joined)

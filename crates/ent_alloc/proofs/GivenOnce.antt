@@ -29,12 +29,12 @@ pub taken-spent : (s : Allocator) (h : Handle) → IsSound s → Contains s.take
 taken-spent s h sound in_taken =
     let across = AllPairs-across AreApart s.taken (s.aside ++ s.pool) sound.apart in
     let among = AllPairs-left AreApart s.taken (s.aside ++ s.pool) sound.apart in
-    let taken : All (NotBefore h) s.taken = λ k d lt same. search (rules,
-        same_from_AllPairs AreApart s.taken (get_or s.taken k d) h among) in
+    let taken : All (NotBefore h) s.taken = λ k d lt same. search
+    (rules, same_from_AllPairs AreApart s.taken (get_or s.taken k d) h among) in
     let left : All (After h) (s.aside ++ s.pool) = search (rules, All-weaker, after_if_apart, All-contains) in
     let live : (g : Handle) → IsLive s g → NotBefore h g =
-        λ g alive same. absurd (All-contains (AreApart g) (available s) h (sound.live g alive).apart
-        (Contains-append_left s.taken (s.aside ++ s.pool) h in_taken) same) in
+    λ g alive same. absurd (All-contains (AreApart g) (available s) h (sound.live g alive).apart
+    (Contains-append_left s.taken (s.aside ++ s.pool) h in_taken) same) in
     search rules
 
 -- what is alive
@@ -42,10 +42,10 @@ pub live-spent : (s : Allocator) (h : Handle) → IsSound s → IsLive s h → I
 live-spent s h sound alive =
     let apart = (sound.live h alive).apart in
     let left = All-weaker (AreApart h) (After h) (after_if_apart h) _ (All-right (AreApart h) s.taken (s.aside
-        ++ s.pool) apart) in
+    ++ s.pool) apart) in
     let taken = All-weaker (AreApart h) (NotBefore h) (λ g apart same. absurd (apart (sym same))) _
-        (All-left (AreApart h) s.taken (s.aside
-        ++ s.pool) apart) in
+    (All-left (AreApart h) s.taken (s.aside
+    ++ s.pool) apart) in
     search (rules, le_of_eq)
 
 -- ---- what is spent stays so
@@ -67,7 +67,7 @@ module _ (s : Allocator) (h : Handle) (spent : IsSpent s h) where
       let each = in_pool in
       let left = with_aside (drop n s.pool) (All-drop (After h) n s.pool each) in
       let taken : All (NotBefore h) (s.taken ++ take n s.pool) = grind
-          (arith, common_steps, All-append, All-weaker, not_before_if_after, All-take) in
+      (arith, common_steps, All-append, All-weaker, not_before_if_after, All-take) in
       search (rules, arith, cases_lt (length s.pool) n, after_take-refused s n, after_take-served s n, append-nil)
 
   -- after a flush

@@ -69,9 +69,7 @@ module _ (limits : Limits) (within : AreLimits limits) (records : List SlotRecor
   -- a position that some slot waits at, and one that none does
   taken : (count position : ℕ) → count ≤ length records → position < length pending → get_or pending position 0 ≢ vacant
       → get_or pending position 0 < count → is_taken slots count position ≡ true
-  taken count position le lt other below = search (rules, arith,
-      one_is (waits_at slots position) 0 count (get_or pending position 0), waits (get_or pending position 0) position,
-      read.forward position)
+  taken count position le lt other below = search (rules, arith, one_is (waits_at slots position) 0 count (get_or pending position 0), waits (get_or pending position 0) position, read.forward position)
 
   untaken : (count position : ℕ) → count ≤ length records → ((j : ℕ) → j < count → (record_at records j).occupancy
       ≢ Pending position) → is_taken slots count position ≡ false
@@ -111,8 +109,7 @@ module _ (limits : Limits) (within : AreLimits limits) (records : List SlotRecor
         let first = 12 * length records in
         let past = word_past (flat_map record_bytes records) (slot ++ more) first in
         let long = length-records records in
-        slot_fault lt (search (rules, arith, past 0 first, past 4 (first + 4), past 8 (first + 8),
-            word_before slot more 0, word_before slot more 4, word_before slot more 8))
+        slot_fault lt (search (rules, arith, past 0 first, past 4 (first + 4), past 8 (first + 8), word_before slot more 0, word_before slot more 4, word_before slot more 8))
 
     -- a slot that has no place to wait at
     pub no_place_next : (s : SlotRecord) (more : List ℕ) → rest ≡ record_bytes s ++ more
@@ -120,7 +117,7 @@ module _ (limits : Limits) (within : AreLimits limits) (records : List SlotRecor
         → length records < made → first_failing slots_then ≡ Some (Slot (length records))
     no_place_next s more cut generation number not_can lt =
         let there = next_spelled (flat_map record_bytes records) (record_bytes s ++ more) (length records) 0
-            (length records)
+        (length records)
         (kept s) (length-records records) (omega arith) (first_spelled s more
         (small_kept limits within s.generation s.occupancy generation number)) in
         let words = rw (← cut, ← same) at there in

@@ -51,8 +51,8 @@ pieces_of : (g : SlotRecord → List ℕ) (f : ℕ → List ℕ) (from : ℕ) (r
     → flat_map f (range_with_len from (length records)) ≡ flat_map g records
 pieces_of g f from [] each = refl
 pieces_of g f from (r ∷ records) each =
-    let next : (k : ℕ) → k < length records → f (from + 1 + k) ≡ g (record_at records k) = λ k lt. search (rules, arith,
-        each (suc k)) in
+    let next : (k : ℕ) → k < length records → f (from + 1 + k) ≡ g (record_at records k) = λ k lt. search
+    (rules, arith, each (suc k)) in
     search (rules, arith, each 0, pieces_of g f (from + 1) records next)
 
 module _ (limits : Limits) (records : List SlotRecord) (pending : List ℕ) (tied : AreTied limits records pending) where
@@ -70,8 +70,7 @@ module _ (limits : Limits) (records : List SlotRecord) (pending : List ℕ) (tie
   occupant h lives = sym (contains_occupants records h) ∙ lives
 
   pub are_slots : AreSlots stands
-  are_slots = search (rules, occupant_generation, occupant_made, occupant_alive, false≢true, long, at, get_rows, no_row,
-      contains_occupants, and_from, kept_row, row_made, row_alive)
+  are_slots = search (rules, occupant_generation, occupant_made, occupant_alive, false≢true, long, at, get_rows, no_row, contains_occupants, and_from, kept_row, row_made, row_alive)
 
   -- ---- what is written of each
 
@@ -80,13 +79,11 @@ module _ (limits : Limits) (records : List SlotRecord) (pending : List ℕ) (tie
     where
       alive_slot : is_alive (record_at records index).occupancy ≡ true → slot stands index
           ≡ occupied (record_at records index).generation (row_of (record_at records index).occupancy)
-      alive_slot alive = search (rules, slot_lives stands are_slots (handle_at records index), contains_occupants,
-          and_from, eq-eqb, get_rows records (handle_at records index))
+      alive_slot alive = search (rules, slot_lives stands are_slots (handle_at records index), contains_occupants, and_from, eq-eqb, get_rows records (handle_at records index))
 
       by_occupancy : (t : Occupancy) → (record_at records index).occupancy ≡ t
           → slot stands index ≡ kept (record_at records index)
-      by_occupancy (Pending position) is = search (rules, arith, tied.listed index position made,
-          tied.back index position made, at position no_handle, slot_waits stands are_slots position, long)
+      by_occupancy (Pending position) is = search (rules, arith, tied.listed index position made, tied.back index position made, at position no_handle, slot_waits stands are_slots position, long)
       by_occupancy Retired is = rw is (elim (became stands index) [
         | Lives h alive same tells ↦ let lives = occupant_alive records h (occupant h alive) in absurd cc
         | Waits position lt same tells ↦

@@ -1,7 +1,6 @@
 -- The image of a sound allocator: its numbers fit, it tells the allocator, and that of what was read
 -- is what was read.
 use Rattle.ent_alloc.proofs.Common.{common_steps, rules, ◌≡◌, ◌≢◌, refl, sym, ap, ◌∙◌, ℕ, ◌+◌, ◌-◌, ◌*◌, ◌<◌, ◌≤◌, List, ◌++◌, length, take, drop, filter, arith, Ok, Err, Result, IfOk, ◌⊎◌, inl, inr, ImageFault, Memory, length-append, length-reverse, length-drop, length-take-le, Roster, Allocator, available, top, is_old, Entities, allocator_of, entities_of, AreReserved, slot, slot_bytes, slots_bytes, AreSlots, HasImage, roster, header, header_bytes, image, kept_bytes, AreServed, AreNumbers, Header, IfErr, IsErrAnd}
-use Rattle.ent_alloc.specs.declared.image_fault.ImageFault.TheVariants.{Limits, Requests}
 use Rattle.ent_alloc.proofs.PoolLaw.{length-taken}
 use Rattle.ent_alloc.proofs.Meaning.{length-idle, top_is}
 use Rattle.ent_alloc.proofs.Settled.{settled-sound}
@@ -77,8 +76,8 @@ numbers r asked given = record {
 module _ (r : Roster) (asked given : ℕ) (are : AreSlots r)
     (requests : AreServed asked given (length r.pending + (r.limits.slots - r.made))) where
   pub reserved_are : AreReserved r asked given
-  reserved_are = search (rules, arith, settled-sound (allocator_of r 0 0) (slots_sound r are) refl given asked,
-      length-idle r, settled_is)
+  reserved_are = search
+      (rules, arith, settled-sound (allocator_of r 0 0) (slots_sound r are) refl given asked, length-idle r, settled_is)
 
 module _ (r : Roster) (asked given : ℕ) (are : AreSlots r) (reserved : AreReserved r asked given)
   where

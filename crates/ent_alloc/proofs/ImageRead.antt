@@ -41,11 +41,11 @@ module _ (limits : Limits) (records : List SlotRecord) (pending : List ℕ) (liv
         generations = each_more (λ _ r. IsGeneration limits r.generation) records s read.generations generation;
         numbers = each_more (λ _ r. number_of r.occupancy < 2 ^ 32) records s read.numbers number;
         made = λ at below taken. search (rules, arith, it at, read.made at);
-        forward = λ at below taken. search (rules, arith, it at, read.made at, read.forward at, get_or_push,
-            get_or_append_left);
+        forward = λ at below taken. search
+            (rules, arith, it at, read.made at, read.forward at, get_or_push, get_or_append_left);
         listed = λ index at below. each_more (λ _ r. r.occupancy ≡ Pending at → at < length next) records s
-            (λ k before is. let was = read.listed k at before is in omega arith) (search (rules, arith,
-                it at)) index below;
+            (λ k before is. let was = read.listed k at before is in omega arith) (search
+            (rules, arith, it at)) index below;
         back = λ index at below. each_more (λ k r. r.occupancy ≡ Pending at → get_or next at 0 ≡ k) records s
             (λ k before is. search (rules, arith, it at, read.back k at before is)) (search (rules, it at)) index below;
       }

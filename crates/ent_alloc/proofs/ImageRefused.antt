@@ -80,8 +80,7 @@ module _ (r : Roster) (are : AreSlots r) where
         → position < length pending → get_or pending position 0 ≢ vacant
     position_taken all long position lt vacant_there =
         let index = (waiter r position).index in
-        search (rules, arith, so_far index, slot_waits r are position, read.back index position, are.limits.slots,
-            are.made, are.waiting_made)
+        search (rules, arith, so_far index, slot_waits r are position, read.back index position, are.limits.slots, are.made, are.waiting_made)
 
     -- a slot that waits where another one does
     pub can_wait : length pending ≡ length r.pending → (s : SlotRecord) → slot r (length records) ≡ kept s
@@ -92,8 +91,7 @@ module _ (r : Roster) (are : AreSlots r) where
         by_occupancy (Pending position) waits =
             let here = waits_as (length records) position s is waits in
             let j = get_or pending position 0 in
-            search (rules, arith, cases_eq j vacant, read.made position, read.forward position, so_far j,
-            waits_as j position (record_at records j))
+            search (rules, arith, cases_eq j vacant, read.made position, read.forward position, so_far j, waits_as j position (record_at records j))
         by_occupancy _ waits = tt
 
   -- bytes that begin with no slot
@@ -106,9 +104,7 @@ module _ (r : Roster) (are : AreSlots r) where
   pub next_slot : (records : List SlotRecord) (rest : List ℕ) (s : SlotRecord) → length records < r.made
       → IsGeneration r.limits s.generation → number_of s.occupancy < 2 ^ 32
       → slots_bytes r ≡ flat_map record_bytes records ++ (record_bytes s ++ rest) → slot r (length records) ≡ kept s
-  next_slot records rest s lt generation number same = search (rules, arith, same_kept (length records) s,
-      begins records (record_bytes s ++ rest) (omega arith) same,
-          same_parts 12 (record_bytes s) rest (piece (length records)), length-slot_bytes)
+  next_slot records rest s lt generation number same = search (rules, arith, same_kept (length records) s, begins records (record_bytes s ++ rest) (omega arith) same, same_parts 12 (record_bytes s) rest (piece (length records)), length-slot_bytes)
 
 -- ---- a slot that is read of its twelve bytes
 

@@ -53,6 +53,4 @@ rowless_slots limits records pending live linked = rw (← rowless_is limits rec
 pub rowless_bytes_are : (limits : Limits) (records : List SlotRecord) (pending : List ℕ) (live : ℕ)
     → AreLinked limits records pending live → flat_map rowless_bytes records
     ≡ slots_bytes (record (roster_of limits records pending) { rows = maps.empty })
-rowless_bytes_are limits records pending live linked = search (rules, flat_map-map record_bytes without_row records,
-    rowless_is limits records pending,
-    slots_bytes_are limits (map without_row records) pending (rowless_tied limits records pending live linked))
+rowless_bytes_are limits records pending live linked = search (rules, flat_map-map record_bytes without_row records, rowless_is limits records pending, slots_bytes_are limits (map without_row records) pending (rowless_tied limits records pending live linked))

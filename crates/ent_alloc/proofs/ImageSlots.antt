@@ -73,9 +73,9 @@ waiting_is [] index first = inr ((λ k lt. absurd (omega arith)), refl)
 waiting_is (h ∷ handles) index first = elim (cases_eq h.index index) [
   | inl same ↦ let test = eq-eqb h.index index same in inl (0, omega arith, same, search (rules, arith))
   | inr other ↦ rw (ne_eqb h.index index other) (elim (waiting_is handles index (first + 1)) [
-      | inl found ↦ inl (suc found.0, omega arith, found.2, search (rules, arith))
-      | inr none ↦ inr (none_more h handles index other none.0, none.1)
-    ])
+    | inl found ↦ inl (suc found.0, omega arith, found.2, search (rules, arith))
+    | inr none ↦ inr (none_more h handles index other none.0, none.1)
+  ])
 ]
 
 module _ (r : Roster) (index : ℕ) where
@@ -86,9 +86,9 @@ module _ (r : Roster) (index : ℕ) where
   living_is (h ∷ handles) = elim (cases_eq h.index index) [
     | inl same ↦ inl (h, (0, omega arith, refl), same, rw (eq-eqb h.index index same) refl)
     | inr other ↦ rw (ne_eqb h.index index other) (elim (living_is handles) [
-        | inl found ↦ inl (found.0, (suc found.1.0, omega (arith, found.1.1), found.1.2), found.2, found.3)
-        | inr none ↦ inr (none_more h handles index other none.0, none.1)
-      ])
+      | inl found ↦ inl (found.0, (suc found.1.0, omega (arith, found.1.1), found.1.2), found.2, found.3)
+      | inr none ↦ inr (none_more h handles index other none.0, none.1)
+    ])
   ]
 
   pub became : Became r index (slot r index)
@@ -173,13 +173,8 @@ same_roster r q is_r is_q limits made long each =
     let there = also_lives r q is_r is_q each in
     let here = also_lives q r is_q is_r (λ index lt. sym (each index (omega arith))) in
     let alive : (h : Handle) → set.contains r.live h ≡ set.contains q.live h = λ h. grind (arith, there h, here h) in
-    let row : (h : Handle) → map.get r.rows h ≡ map.get q.rows h = λ h. search (rules,
-        cases_Bool (set.contains r.live h), there h, is_r.rows_of_living h, is_q.rows_of_living h, alive h,
-        false≢true) in
+    let row : (h : Handle) → map.get r.rows h ≡ map.get q.rows h = λ h. search (rules, cases_Bool (set.contains r.live h), there h, is_r.rows_of_living h, is_q.rows_of_living h, alive h, false≢true) in
     let live = set.same_set handle_cmp_total handle_cmp-IsAntisymmetric r.live q.live alive in
     let rows = map.same_map handle_cmp_total handle_cmp-IsAntisymmetric r.rows q.rows row in
-    let pending = same_lists r.pending q.pending long (λ k d lt. search (rules, arith,
-        get_or_default r.pending k d no_handle, waits_from q is_q (waiter r k).index k (waiter r k).generation,
-        each (waiter r k).index, is_r.waiting_made k no_handle, slot_waits r is_r k,
-        get_or_default q.pending k no_handle d)) in
+    let pending = same_lists r.pending q.pending long (λ k d lt. search (rules, arith, get_or_default r.pending k d no_handle, waits_from q is_q (waiter r k).index k (waiter r k).generation, each (waiter r k).index, is_r.waiting_made k no_handle, slot_waits r is_r k, get_or_default q.pending k no_handle d)) in
     search rules

@@ -66,8 +66,7 @@ module _ (f : ℕ → List ℕ) (n : ℕ) (long : (i : ℕ) → length (f i) ≡
       let here : at ≡ from = omega arith in search (rules, take_at)
   piece from (suc count) (suc k) at lt is =
       let rest = flat_map f (range_with_len (from + 1) count) in
-      search (rules, arith, drop-drop (n * k) n (f from ++ rest), drop_at (f from) rest n (long from),
-          piece (from + 1) count k at)
+      search (rules, arith, drop-drop (n * k) n (f from ++ rest), drop_at (f from) rest n (long from), piece (from + 1) count k at)
 
 -- ---- the number at a place of bytes that are spelled word by word
 

@@ -49,3 +49,4 @@ pub mod FrontPools
 pub mod Portioned
 pub mod PortionPools
 pub mod Common
+pub mod Laws

@@ -56,18 +56,7 @@ module _ (s : Allocator) (ps : List Portion) (fits : AreUsed ps) (within : size_
 
   -- the pool was arranged
   moved_taken : count ≢ reach → s.taken ≡ [] → s.asked ≡ 0 → after_take (with_front s front) count ≡ after_portions s ps
-  moved_taken short none flushed = search (
-    rules,
-    append_assoc,
-    length-append,
-    us_long,
-    front_long,
-    behind_reach,
-    take-append-drop,
-    take_at,
-    drop_at,
-    after_take-served,
-  )
+  moved_taken short none flushed = search (rules, append_assoc, length-append, us_long, front_long, behind_reach, take-append-drop, take_at, drop_at, after_take-served)
 
   pub portions_taken : s.taken ≡ [] → s.asked ≡ 0 → after_take (arranged s ps) count ≡ after_portions s ps
   portions_taken none flushed = grind

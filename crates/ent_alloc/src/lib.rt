@@ -1,6 +1,6 @@
 //! Bevy's entity allocator for one caller: its exclusive calls, and the arithmetic by which many
 //! callers reserve.
-#![tactic(auto)]
+#![tactic(auto, using(crate::proofs::Laws::laws))]
 
 mod absent;
 mod asking;

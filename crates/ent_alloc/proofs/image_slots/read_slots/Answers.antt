@@ -1,4 +1,4 @@
-use Rattle.ent_alloc.proofs.Common.{rules, ◌≡◌, ◌+◌, ◌*◌, ◌<◌, ◌++◌, ℕ, List, [], ◌∷◌, length, arith, sym, ap, ◌∙◌, drop, get_or, flat_map, append_assoc, flat_map_more, SlotRecord, record_bytes, with_waiting}
+use Rattle.ent_alloc.proofs.Common.{rules, ◌≡◌, ◌+◌, ◌*◌, ◌<◌, ◌++◌, ℕ, List, [], length, arith, sym, ap, ◌∙◌, drop, get_or, flat_map, append_assoc, flat_map_more, SlotRecord, record_bytes, with_waiting}
 use Rattle.ent_alloc.proofs.ImageWords.{pieces, before_end, length-piece, cut, none_cut}
 use Rattle.ent_alloc.proofs.ImageFaults.{no_row_next, no_place_next, no_fault, position_free}
 use Rattle.ent_alloc.proofs.ImageRead.{read_more, length-with_waiting, written_back}
@@ -66,7 +66,7 @@ returns-then-not-admit-clause-refused c not_memory r are limits made waiting sam
     let read = rw (← limits) at loop.read in
     let below = below_made here in
     let bytes_are = same ∙ loop.bytes ∙ ap (flat_map record_bytes records ++◌)
-        (slot_first here slot _ c.in-Some.ensures.bytes) in
+    (slot_first here slot _ c.in-Some.ensures.bytes) in
     let is = next_slot r are records (more here) slot (omega arith) within c.in-Some.ensures.fits bytes_are in
     let can = can_wait r are records c.loop-slot.pending.items _ c.loop-slot.live read (omega arith) (same ∙ loop.bytes)
     (loop.waiting ∙ sym waiting) slot is in
@@ -77,8 +77,7 @@ returns-then-not-admit-clause-fault c not_memory =
     let here = (goal.at.returns-then-not-admit-clause-fault c).After-len-index in
     let loop = c.loop-slot.invariant in
     let slot = c.in-Some.record in
-    rw (← loop.waiting, c.slot_fault-then-not-admit.ensures,
-        ← index_is here) (no_place_next c.args.limits (search rules)
+    rw (← loop.waiting, c.slot_fault-then-not-admit.ensures, ← index_is here) (no_place_next c.args.limits (search rules)
     _ c.loop-slot.pending.items _ (bytes here) c.loop-slot.live loop.read loop.bytes c.args.made slot (more here)
     (slot_first here slot _ c.in-Some.ensures.bytes) c.in-Some.ensures.within c.in-Some.ensures.fits
     (λ can. c.admit.ensures.refused c.if-not-admit.true (rw c.deref_mut.ensures.value can)) (below_made here))
@@ -96,10 +95,10 @@ loop-slot-preserved c =
     rw (← lent, index_is here) (c.admit.ensures.placed c.if-not-admit.false) in
     let long = length-with_waiting pending slot.occupancy (length records) in
     let placed = written_back c.loop-slot.pending.len pending c.admit.new.pending (ap length new ∙ long) (search rules)
-        ∙ new in
+    ∙ new in
     let more_read = read_more c.args.limits records pending c.loop-slot.live loop.read slot c.in-Some.ensures.within
-    c.in-Some.ensures.fits (rw (← lent) (c.admit.ensures.waits c.if-not-admit.false)) (omega (arith,
-        c.ranges.made.fits)) in
+    c.in-Some.ensures.fits (rw (← lent) (c.admit.ensures.waits c.if-not-admit.false)) (omega
+    (arith, c.ranges.made.fits)) in
     let items = rw c.of.ensures at c.push_reserved.ensures.items in
     let lives = ap (c.loop-slot.live +◌) c.occupants_of-live.ensures.value in
     record {
@@ -128,5 +127,4 @@ returns-in-Some-vacant_position-clause-fault c not_memory =
 
 pub returns-in-None-clause-faultless : goal.returns-in-None-clause-faultless
 returns-in-None-clause-faultless c = search
-    (rules, no_fault, read_all (goal.at.returns-in-None-clause-faultless c).After-deref, c.loop-slot.invariant.waiting,
-        c.in-None.ensures.none)
+    (rules, no_fault, read_all (goal.at.returns-in-None-clause-faultless c).After-deref, c.loop-slot.invariant.waiting, c.in-None.ensures.none)

@@ -1,6 +1,6 @@
 use Rattle.ent_alloc.proofs.Common.{rules, ◌≡◌, ℕ, ◌-◌, ◌<◌, [], length, Result, Ok, Err, ap, ◌∙◌, IsErrAnd, IsErrOf, nil_from_length, Handle, AllocFault, Roster}
 use Rattle.ent_alloc.specs.declared.fault.AllocFault.TheVariants.{Memory, Space}
-use Rattle.ent_alloc.proofs.Meaning.{allocator_is, IsAtRest, at_rest, top_view}
+use Rattle.ent_alloc.proofs.Meaning.{allocator_is, IsAtRest, at_rest}
 use Rattle.ent_alloc.proofs.MeaningOfAlloc.{IsGiven, made_roster, length_pool, reused_given, made_given}
 use Rattle.ent_alloc.proofs.Asked.{first_within}
 use Rattle.ent_alloc.proofs.entities.Entities.alloc.Goals.{Else-needs_flush, Then-room-gt0, In-Some, In_ok-make_one}
@@ -62,9 +62,6 @@ returns-in_ok-make_one c =
 
 pub returns-in_err-make_one-clause-space : goal.returns-in_err-make_one-clause-space
 returns-in_err-make_one-clause-space c = search (rules, not_space, none_left, rest)
-
-pub returns-in_err-make_one-clause-memory : goal.returns-in_err-make_one-clause-memory
-returns-in_err-make_one-clause-memory c = search (rules, top_view, allocator_is)
 
 pub returns-else-room-gt0-clause-space : goal.returns-else-room-gt0-clause-space
 returns-else-room-gt0-clause-space c = search (rules, room_is, length_pool, nil_from_length)

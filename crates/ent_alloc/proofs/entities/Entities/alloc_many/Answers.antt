@@ -1,4 +1,4 @@
-use Rattle.ent_alloc.proofs.Common.{rules, arith, ◌≡◌, ◌∙◌, subst, ◌+◌, ◌-◌, ◌≤◌, length, drop, length-append, fresh, after_take, after_flush, IsSound, Entities, HasRowsOfLiving}
+use Rattle.ent_alloc.proofs.Common.{rules, arith, ◌≡◌, ◌∙◌, subst, ◌+◌, ◌-◌, ◌≤◌, length, drop, fresh, after_take, after_flush, IsSound, Entities, HasRowsOfLiving}
 use Rattle.ent_alloc.proofs.FreshHandles.{length-fresh}
 use Rattle.ent_alloc.proofs.Meaning.{allocator_is, IsAtRest, at_rest, StandFor}
 use Rattle.ent_alloc.proofs.MeaningOfAlloc.{length_pool}
@@ -27,9 +27,6 @@ given c =
 
 pub bring_to_life-requires-clause-room : goal.bring_to_life-requires-clause-room
 bring_to_life-requires-clause-room c = search (rules, enough, rest)
-
-pub in_order-requires : goal.in_order-requires
-in_order-requires c = search (rules, length-append, length-fresh)
 
 pub invariant_of-self-2 : goal.invariant_of-self-2
 invariant_of-self-2 c = (given (goal.at.invariant_of-self-2 c).In_ok-bring_to_life).reserved

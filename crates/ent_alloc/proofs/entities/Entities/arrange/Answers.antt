@@ -1,5 +1,4 @@
 use Rattle.ent_alloc.proofs.Common.{rules, ◌≡◌, sym, ◌∙◌, slots_of, count_of, reach_of, front_of}
-use Rattle.ent_alloc.proofs.Portioned.{count_within}
 use Rattle.ent_alloc.proofs.Meaning.{allocator_is}
 use Rattle.ent_alloc.proofs.PortionPools.{front_slots, order_few, order_slots, order_is}
 use Rattle.ent_alloc.proofs.entities.Entities.arrange.Goals.{After-deref}
@@ -13,12 +12,6 @@ are_front c = front_slots _ _ _ _ c.args.portions.now c.self.invariant (allocato
 
 pub set_front-requires : goal.set_front-requires
 set_front-requires c = search (rules, order_few, order_slots, are_front)
-
-pub returns-in_err-order-clause-memory : goal.returns-in_err-order-clause-memory
-returns-in_err-order-clause-memory c = search (rules, count_within)
-
-pub returns-in_err-set_front-clause-memory : goal.returns-in_err-set_front-clause-memory
-returns-in_err-set_front-clause-memory c = search (rules, count_within)
 
 pub returns-clause-ok : goal.returns-clause-ok
 returns-clause-ok c =

@@ -1,7 +1,7 @@
 use Rattle.ent_alloc.proofs.Common.{rules, Result, Ok, Err, OnErr, ◌-◌, length, ap, subst, ◌∙◌, length-take-le, after_flush, IsSound, Entities, HasRowsOfLiving}
 use Rattle.ent_alloc.proofs.Soundness.{after_flush-sound}
 use Rattle.ent_alloc.proofs.Meaning.{allocator_is, length-idle, closed, StandFor}
-use Rattle.ent_alloc.proofs.MeaningOfFlush.{flushed_roster, made_at_flush_is, flush_is, born_is_listed}
+use Rattle.ent_alloc.proofs.MeaningOfFlush.{flushed_roster, made_at_flush_is, flush_is}
 use Rattle.ent_alloc.proofs.RowsOfLiving.{rows-joined, born-no_row}
 use Rattle.ent_alloc.proofs.entities.Entities.flush.Goals.{After-none-self-inside}
 use Rattle.ent_alloc.proofs.entities.Entities.flush.Goals as goal
@@ -33,9 +33,6 @@ invariant_of-self-2 c = (left (goal.at.invariant_of-self-2 c).After-none-self-in
 
 pub returns-clause-ok : goal.returns-clause-ok
 returns-clause-ok c = search (rules, left)
-
-pub returns-clause-born : goal.returns-clause-born
-returns-clause-born c = search (rules, born_is_listed, allocator_is)
 
 pub returns-clause-no_rows : goal.returns-clause-no_rows
 returns-clause-no_rows c k d below =

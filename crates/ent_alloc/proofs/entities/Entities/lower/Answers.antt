@@ -1,4 +1,4 @@
-use Rattle.ent_alloc.proofs.Common.{rules, ◌≡◌, ◌+◌, subst, sym, arith, length, inl, inr, ℕ, ◌-◌, common_steps, ints, cases_lt, Requests, Roster, Allocator, AreReserved, IsSpanOf, IsSound, pos, ◌^◌, ◌<◌, ◌≤◌, ◌-ℤ◌, cursor, after_take}
+use Rattle.ent_alloc.proofs.Common.{rules, ◌≡◌, ◌+◌, subst, sym, arith, length, inl, inr, ℕ, ◌-◌, ints, cases_lt, Requests, Roster, Allocator, AreReserved, IsSpanOf, IsSound, pos, ◌^◌, ◌<◌, ◌≤◌, ◌-ℤ◌, cursor, after_take}
 use Rattle.ent_alloc.proofs.PoolLaw.{top-after_take}
 use Rattle.ent_alloc.proofs.Meaning.{allocator_is, length_available}
 use Rattle.ent_alloc.proofs.MeaningOfRequests.{served_view, served_reserved, refused_view, refused_reserved}
@@ -13,9 +13,6 @@ record IsCounted (r : Roster) (asked : ℕ) (s : Allocator) (available : ℕ) : 
 many : (c : After-available-available) → IsCounted c.self.inside.slots c.self.inside.requests.asked
     c.args.self.now.allocator c.available-available.result
 many c = search (rules, allocator_is, length_available)
-
-pub new-span-requires-clause-greatest : goal.new-span-requires-clause-greatest
-new-span-requires-clause-greatest c = grind (arith, common_steps)
 
 pub invariant_of-self : goal.invariant_of-self
 invariant_of-self c =

@@ -1,8 +1,8 @@
-use Rattle.ent_alloc.proofs.Common.{rules, ◌≡◌, ◌+◌, ◌-◌, ◌*◌, length, sym, ap, ◌∙◌, subst, arith, inl, inr, refl, common_steps, length-append, false≢true, Limits, Entities, header, image, HasImage, slots_bytes, roster, AreServed, Header, first_fault, first_failing, slots_tests}
+use Rattle.ent_alloc.proofs.Common.{rules, ◌≡◌, ◌+◌, ◌-◌, ◌*◌, length, sym, ap, ◌∙◌, subst, arith, inl, inr, refl, length-append, false≢true, Limits, Entities, header, image, HasImage, slots_bytes, roster, AreServed, Header, first_fault, first_failing, slots_tests}
 use Rattle.ent_alloc.proofs.ImageSound.{roster_slots}
 use Rattle.ent_alloc.proofs.ImageOf.{told, served, few_wait, length-slots_bytes, reserved_are, has_image, image_is, numbers, top_as, handed_on}
 use Rattle.ent_alloc.proofs.ImageHeader.{length-header_bytes}
-use Rattle.ent_alloc.proofs.ImageFront.{front_fault, to_numbers, later_tests, limits_fault, header_passes, no_header_fault, counts_fault, requests_fault, whole_length_fault, to_slots}
+use Rattle.ent_alloc.proofs.ImageFront.{to_numbers, later_tests, limits_fault, header_passes, no_header_fault, counts_fault, requests_fault, whole_length_fault, to_slots}
 use Rattle.ent_alloc.proofs.entities.Entities.of_image.Goals.{In_ok-header, In-Some-requests_of, In_ok-slots}
 use Rattle.ent_alloc.proofs.entities.Entities.of_image.Goals as goal
 
@@ -68,9 +68,6 @@ to_slots_of c whole =
     (omega arith) (omega arith) c.in-Some-requests_of.ensures.some (omega (arith, long_is c))
     ∙ ap (λ (l : Limits). first_failing (slots_tests l.generations h.made h.waiting slots)) (sym limits)
 
-pub returns-in_err-header-clause-fault : goal.returns-in_err-header-clause-fault
-returns-in_err-header-clause-fault c = grind (arith, common_steps, handed_on, front_fault)
-
 pub returns-in_default-clause-fault : goal.returns-in_default-clause-fault
 returns-in_default-clause-fault c not_memory = to_later (goal.at.returns-in_default-clause-fault c).In_ok-header
     ∙ limits_fault c.in_ok-header.header (length c.args.bytes.now) c.in_ok-header.slots.now
@@ -111,12 +108,6 @@ returns c =
     search (rules, slots, image_is, has_image, reserved_are, are_served, numbers_are)
 
 -- ---- memory
-
-pub returns-in_err-header-clause-memory : goal.returns-in_err-header-clause-memory
-returns-in_err-header-clause-memory c = search (rules, handed_on)
-
-pub returns-in_err-header-clause-slots : goal.returns-in_err-header-clause-slots
-returns-in_err-header-clause-slots c = search (rules, handed_on)
 
 pub returns-in_err-slots-clause-memory : goal.returns-in_err-slots-clause-memory
 returns-in_err-slots-clause-memory c =

@@ -1,14 +1,8 @@
 use Rattle.ent_alloc.proofs.Common.{rules, ◌≡◌, ◌-◌, length, take, with_front, AreSlotsOf}
 use Rattle.ent_alloc.proofs.Meaning.{allocator_is, StandFor}
-use Rattle.ent_alloc.proofs.FrontPools.{few_of, room_of, enough_of, waits_of, stands_of, grown}
+use Rattle.ent_alloc.proofs.FrontPools.{enough_of, waits_of, stands_of, grown}
 use Rattle.ent_alloc.proofs.entities.Entities.set_front.Goals.{After-wait_last-arg-1, After-wait_last}
 use Rattle.ent_alloc.proofs.entities.Entities.set_front.Goals as goal
-
-pub overflow_cast-front : goal.overflow_cast-front
-overflow_cast-front c = search (rules, few_of, allocator_is)
-
-pub make_waiting-requires : goal.make_waiting-requires
-make_waiting-requires c = search (rules, room_of, allocator_is)
 
 -- the slots that were made wait
 grown_is : (c : After-wait_last-arg-1) → c.make_waiting.new.self ≡ grown c.self.inside.slots (length c.args.front.now

@@ -1,4 +1,4 @@
-use Rattle.ent_alloc.proofs.Common.{rules, ◌+◌, ◌-◌, ◌≤◌, drop, arith, drop_of_length-le, length-map, append-nil, All-drop, Handle, Portion, idle, slots_of, append_assoc}
+use Rattle.ent_alloc.proofs.Common.{rules, ◌+◌, ◌-◌, ◌≤◌, drop, arith, length-map, All-drop, Handle, Portion, idle, slots_of, append_assoc}
 use Rattle.ent_alloc.proofs.Portioned.{size_more, count_more, left_more, used_at, count_size, portion_is}
 use Rattle.ent_alloc.proofs.slots.Slots.append_left.Goals as goal
 
@@ -17,6 +17,3 @@ loop-portion-preserved c =
     let more = left_more ps k _ lt is slots c.loop-portion.before c.loop-portion.more c.lesser-count.result
     c.lesser-count.ensures fits (omega arith) in
     search (rules, more, append_assoc)
-
-pub returns : goal.returns
-returns c = search (rules, drop_of_length-le, append-nil)

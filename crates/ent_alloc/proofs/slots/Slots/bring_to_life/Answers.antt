@@ -36,9 +36,6 @@ grown_roster : (c : After-reuse_all) → roster_of c.self.inside.limits
     }
 grown_roster c = search (rules, roster_of-make _ _ _ _ _ c.self.invariant (all_written c).room, c.self.view_is)
 
-pub reuse_all-requires-clause-room : goal.reuse_all-requires-clause-room
-reuse_all-requires-clause-room c = grind (arith, common_steps)
-
 pub invariant_of-self-2 : goal.invariant_of-self-2
 invariant_of-self-2 c =
     let at = (goal.at.invariant_of-self-2 c).After-reuse_all in
