@@ -1,7 +1,7 @@
 -- The handles of the living entities that pass, by birth and then by handle.
-use Rattle.ent_storage.proofs.Common.{rules, ◌≡◌, ◌≢◌, ℕ, zero, suc, ◌<◌, Bool, true, false, cond, List, [], ◌∷◌, map, length, get_or, Option, Some, None, Contains, IsSomeAnd, IsTrue, refl, sym, ap, subst, ◌∙◌, arith, common_steps, Less, Equal, is_lt, is_eq, eq_by_cmp, ordering_then, ordering_reverse, IsTotalOrder, then_total, on_total, eq_by_cmp_equiv, All, AllPairs, IsDistinct, get_or-map, get_or_default, length-map, sorted_far, ranks_by, All-permutation, Contains-permutation, All-filter, filter_passes, AllPairs-filter, IsDistinct-from_apart, IsDistinct-IsPermutation, apart_from_distinct, FinMap, Birth, birth_cmp_total, Handle, handle_cmp, handle_cmp_total, handle_cmp-IsAntisymmetric, LivingEntity, Entity, entity_of, map_of, IsIndexed, birth_order, pair_cmp, ListsByBirth, IsInOrder, Ordering, filter}
+use Rattle.ent_storage.proofs.Common.{All-map, All-contains, Contains-append_right, rules, ◌≡◌, ◌≢◌, ℕ, zero, suc, ◌<◌, Bool, true, false, cond, List, [], ◌∷◌, map, length, get_or, Some, Contains, IsSomeAnd, IsTrue, refl, sym, ap, ◌∙◌, arith, common_steps, Less, is_lt, is_eq, eq_by_cmp, ordering_then, ordering_reverse, IsTotalOrder, then_total, on_total, eq_by_cmp_equiv, All, AllPairs, IsDistinct, get_or_default, sorted_far, ranks_by, All-permutation, Contains-permutation, All-filter, filter_passes, AllPairs-filter, IsDistinct-from_apart, IsDistinct-IsPermutation, apart_from_distinct, FinMap, Birth, birth_cmp_total, Handle, handle_cmp, handle_cmp_total, handle_cmp-IsAntisymmetric, LivingEntity, Entity, entity_of, map_of, IsIndexed, birth_order, pair_cmp, ListsByBirth, IsInOrder, Ordering, filter}
 use Rattle.std.specs.FinMap as finite
-use Rattle.ent_storage.proofs.Keys.{apart}
+use Rattle.ent_storage.proofs.Keys.{apart, AllPairs-map}
 use Rattle.ent_storage.proofs.Indexed.{some_entity, get_placed, placed_from_get, distinct}
 
 -- ---- the order is total
@@ -13,17 +13,12 @@ pair_cmp_total = then_total (on_total (λ (b : Birth × Handle). b.0) birth_cmp_
 -- an order that does not turn, at handles that differ
 strictly : (r s : Ordering) → is_lt (ordering_reverse (ordering_then r s)) ≡ false → is_eq s ≡ false
     → ordering_then r s ≡ Less
-strictly Less s h n = refl
-strictly Equal Less h n = refl
-strictly r s h n = cc
+strictly r s h n = search rules
 
 -- ---- membership
 
-contains_map : {X Y : Type 0} (f : X → Y) (xs : List X) (x : X) → Contains xs x → Contains (map f xs) (f x)
+pub contains_map : {X Y : Type 0} (f : X → Y) (xs : List X) (x : X) → Contains xs x → Contains (map f xs) (f x)
 contains_map f xs x h = grind (arith, common_steps)
-
-later : {X : Type 0} (xs : List X) (y x : X) → Contains xs x → Contains (y ∷ xs) x
-later xs y x h = (suc h.0, omega (arith, h.1), h.2)
 
 contains_filter : {X : Type 0} (p : X → Bool) (xs : List X) (x : X) (k : ℕ) → k < length xs → get_or xs k x ≡ x
     → p x ≡ true → Contains (filter p xs) x
@@ -31,7 +26,10 @@ contains_filter p [] x k l e pass = absurd (omega arith)
 contains_filter p (y ∷ ys) x zero l e pass = search (rules)
 contains_filter p (y ∷ ys) x (suc k) l e pass =
     let rest = contains_filter p ys x k (omega arith) e pass in
-    elim (p y) as (λ b. Contains (cond b (y ∷ filter p ys) (filter p ys)) x) [ true ↦ later _ y x rest | false ↦ rest ]
+    elim (p y) as (λ b. Contains (cond b (y ∷ filter p ys) (filter p ys)) x) [
+      | true ↦ Contains-append_right (y ∷ []) (filter p ys) x rest
+      | false ↦ rest
+    ]
 
 pub filter-all : {X : Type 0} (xs : List X) → filter (λ _. true) xs ≡ xs
 filter-all [] = refl
@@ -86,21 +84,16 @@ module _ (living : List LivingEntity) (index : FinMap handle_cmp ℕ) (indexed :
         search (rules, strictly)
 
     rising : AllPairs (λ a b. birth_order (map_of living) a b ≡ Less) (map (λ (born : Birth × Handle). born.1) sorted)
-    rising i j d l k =
-        let b : Birth × Handle = (record { frame = 0; system = 0; ordinal = 0 }, d) in
-        let below : j < length sorted = omega (arith, length-map {B = Handle} sorted (λ born. born.1)) in
-        let at_i = get_or-map (λ (born : Birth × Handle). born.1) sorted i b d (omega arith) in
-        let at_j = get_or-map (λ (born : Birth × Handle). born.1) sorted j b d below in
-        rw (at_i, at_j) (in_order i j b l below)
+    rising = AllPairs-map (λ a b. birth_order (map_of living) a b ≡ Less) (λ (born : Birth × Handle). born.1) sorted
+        in_order
 
     from_list : (h : Handle) → Contains (map (λ (born : Birth × Handle). born.1) sorted) h
         → IsSomeAnd (finite.get (map_of living) h) (λ e. IsTrue (passes e))
     from_list h at =
-        let b : Birth × Handle = (record { frame = 0; system = 0; ordinal = 0 }, h) in
-        let below : at.0 < length sorted = omega (arith, length-map {B = Handle} sorted (λ born. born.1), at.1) in
-        let is = get_or-map (λ (born : Birth × Handle). born.1) sorted at.0 b h below in
-        let born : IsBorn (get_or sorted at.0 b) = all_sorted at.0 b below in
-        search (rules, is, at.2, born.there, born.pass)
+        let holds = All-map (λ (h : Handle). IsSomeAnd (finite.get (map_of living) h) (λ e. IsTrue (passes e)))
+        (λ (born : Birth × Handle). born.1) sorted (λ k b l. let born : IsBorn (get_or sorted k b) = all_sorted k b l in
+        search (rules, born.there, born.pass)) in
+        All-contains (λ (h : Handle). IsSomeAnd (finite.get (map_of living) h) (λ e. IsTrue (passes e))) _ h holds at
 
     of_entity : (h : Handle) (e : Entity) (i : ℕ) → finite.get (map_of living) h ≡ Some e → finite.get index h ≡ Some i
         → passes e ≡ true → Contains (map (λ (born : Birth × Handle). born.1) sorted) h
@@ -114,16 +107,8 @@ module _ (living : List LivingEntity) (index : FinMap handle_cmp ℕ) (indexed :
         (complete i r at.0 (ap passes is ∙ pass)) in
         grind (arith, common_steps, contains_map)
 
-    to_list : (h : Handle) (o : Option Entity) → finite.get (map_of living) h ≡ o → IsSomeAnd o (λ e. IsTrue (passes e))
-        → Contains (map (λ (born : Birth × Handle). born.1) sorted) h
-    to_list h None found pass = absurd pass
-    to_list h (Some e) found pass = search (rules, placed_from_get, of_entity)
-
     pub lists_of : ListsByBirth passes (map_of living) handles
-    lists_of = subst (ListsByBirth passes (map_of living)) (sym ordered.are) (record {
-      rising = rising;
-      holds = λ h. (from_list h, to_list h _ refl);
-    })
+    lists_of = search (rules, rising, from_list, placed_from_get, of_entity)
 
   -- ---- the births of a filtered list
 
@@ -134,24 +119,19 @@ module _ (living : List LivingEntity) (index : FinMap handle_cmp ℕ) (indexed :
   births = map born_of chosen
 
   all_born : All IsBorn births
-  all_born k d l =
-      let r : LivingEntity = some_entity d.1 in
-      let below : k < length chosen = omega (arith, length-map {B = Birth × Handle} chosen born_of) in
-      rw (get_or-map born_of chosen k r d below) (record {
-        entity = entity_of (get_or chosen k r);
-        there = All-filter (λ entity. passes (entity_of entity)) (λ entity. finite.get (map_of living) entity.handle
-            ≡ Some (entity_of entity)) living all_there k r below;
-        birth = refl;
-        pass = search (rules, filter_passes);
-      })
+  all_born = All-map IsBorn born_of chosen (λ k r below. record {
+    entity = entity_of (get_or chosen k r);
+    there = All-filter (λ entity. passes (entity_of entity)) (λ entity. finite.get (map_of living) entity.handle
+        ≡ Some (entity_of entity)) living all_there k r below;
+    birth = refl;
+    pass = search (rules, filter_passes);
+  })
 
   births_apart : IsDistinct alike births
-  births_apart = IsDistinct-from_apart alike births (λ i j d l k. let r : LivingEntity = some_entity d.1 in let below :
-      j < length chosen = omega (arith, length-map {B = Birth × Handle} chosen born_of) in let at_i = get_or-map born_of
-      chosen i r d (omega arith) in let at_j = get_or-map born_of chosen j r d below in let differ = AllPairs-filter
+  births_apart = IsDistinct-from_apart alike births (AllPairs-map (λ a b. alike a b ≡ false) born_of chosen
+      (λ i j r l k. apart handle_cmp_total handle_cmp-IsAntisymmetric _ _ (AllPairs-filter
       (λ (a b : LivingEntity). a.handle ≢ b.handle) (λ entity. passes (entity_of entity)) living
-      (λ i j d l k e. omega (arith, distinct living index indexed i j d (omega arith) k e)) i j r l below in rw
-      (at_i, at_j) (apart handle_cmp_total handle_cmp-IsAntisymmetric _ _ differ))
+      (λ i j d l k e. omega (arith, distinct living index indexed i j d (omega arith) k e)) i j r l k)))
 
   complete : (i : ℕ) (r : LivingEntity) → i < length living → passes (entity_of (get_or living i r)) ≡ true
       → Contains births (born_of (get_or living i r))

@@ -1,24 +1,18 @@
 -- Slots that are clones of others, one by one: their maps have the same handles, and each value is a
 -- clone of the other's.
-use Rattle.ent_storage.proofs.Common.{rules, ◌≡◌, ℕ, ◌+◌, List, [], ◌∷◌, length, map, refl, ap, ◌∙◌, sym, length-map, length_all_zip, AllZip, Handle, entries_from, map_of_slots, AreCounted, AreSlotClones, Slot, Vacant, Occupied}
+use Rattle.ent_storage.proofs.Common.{rules, ◌≡◌, ℕ, ◌+◌, List, ◌∷◌, length, map, ap, ◌∙◌, sym, length-map, length_all_zip, AllZip, Handle, entries_from, map_of_slots, AreCounted, AreSlotClones, Slot}
 use Rattle.std.specs.FinMap as finite
 use Rattle.ent_storage.proofs.Entries.{entries_map}
 
 module _ {X : Type 0} (is_clone : X → X → Type 0) where
   keys_from : (index : ℕ) (old new : List (Slot X)) → AreSlotClones is_clone old new
       → map (λ e. e.0) (entries_from index new) ≡ map (λ e. e.0) (entries_from index old)
-  keys_from index [] [] all = refl
-  keys_from index (Vacant ∷ old) (Vacant ∷ new) all = keys_from (index + 1) old new all.1
-  keys_from index (Occupied generation v ∷ old) (Occupied other w ∷ new) all = search
-      (rules, all.0.0, keys_from (index + 1) old new all.1)
+  keys_from index (a ∷ old) (b ∷ new) all = search (rules, keys_from (index + 1) old new all.1)
   keys_from index old new all = search rules
 
   values_from : (index : ℕ) (old new : List (Slot X)) → AreSlotClones is_clone old new
       → AllZip is_clone (map (λ e. e.1) (entries_from index old)) (map (λ e. e.1) (entries_from index new))
-  values_from index [] [] all = tt
-  values_from index (Vacant ∷ old) (Vacant ∷ new) all = values_from (index + 1) old new all.1
-  values_from index (Occupied generation v ∷ old) (Occupied other w ∷ new) all =
-      (all.0.1, values_from (index + 1) old new all.1)
+  values_from index (a ∷ old) (b ∷ new) all = search (rules, values_from (index + 1) old new all.1)
   values_from index old new all = search rules
 
   pub length_from : (old new : List (Slot X)) → AreSlotClones is_clone old new → length new ≡ length old

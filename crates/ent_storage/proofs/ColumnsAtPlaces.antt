@@ -1,23 +1,19 @@
 -- What columns have at a place, and after each change.
-use Rattle.ent_storage.proofs.Common.{rules, ◌≡◌, ◌≢◌, ℕ, ℤ, zero, suc, ◌+◌, ◌<◌, ◌≤◌, cond, T, ◌⊎◌, inl, inr, List, [], ◌∷◌, length, get_or, set, Option, Some, None, refl, sym, ap, subst, ◌∙◌, arith, common_steps, none-some, get_or_past, get_or-set_same, get_or-set_other, cases_lt, cases_eq, nat_cmp, eq_by_cmp, is_lt, nat_cmp_total, find, is_sorted, below_all, ComponentId, component_cmp, Column, no_column, HasRoomAt, IsMovedDown, column_at, value_at, with_value, items_from, components_at}
+use Rattle.ent_storage.proofs.Common.{rules, ◌≡◌, ◌≢◌, ℕ, ℤ, zero, suc, ◌+◌, ◌<◌, ◌≤◌, T, ◌⊎◌, inl, inr, List, [], ◌∷◌, length, get_or, set, Option, Some, None, refl, sym, ◌∙◌, arith, none-some, get_or_past, get_or-set_same, get_or-set_other, cases_lt, cases_eq, nat_cmp, nat_cmp_total, find, is_sorted, below_all, ComponentId, component_cmp, Column, no_column, HasRoomAt, column_at, value_at, with_value, items_from, components_at}
 use Rattle.std.specs.FinMap as map
 use Rattle.ent_handle.specs.Component.{component_cmp_total as total, component_cmp-IsAntisymmetric as same}
 use Rattle.ent_storage.proofs.Rising.{both}
 use Rattle.ent_storage.proofs.Keys.{tied, apart, same_or_apart, get-insert_same, get-insert_other, get-remove_same, get-remove_other, remove_absent}
 
-id_of : ℕ → ComponentId
+pub id_of : ℕ → ComponentId
 id_of n = record { 0 = n }
 
 -- ---- the items are in the order of numbers
 
-below_less : (a b : ℕ) → a < b → T (is_lt (nat_cmp a b))
-below_less a b l = search (rules)
-
-all_above_value : (k n : ℕ) (o : Option ℤ) (items : List (ComponentId × ℤ)) → k < n
+pub all_above_value : (k n : ℕ) (o : Option ℤ) (items : List (ComponentId × ℤ)) → k < n
     → T (below_all component_cmp (id_of k) items) → T (below_all component_cmp (id_of k) (with_value o n items))
 unfolding id_of
-all_above_value k n None items l rest = rest
-all_above_value k n (Some v) items l rest = both _ _ (below_less k n l) rest
+all_above_value k n o items l rest = search (rules, both)
 
 all_above : (k n : ℕ) (columns : List Column) (place : ℕ) → k < n
     → T (below_all component_cmp (id_of k) (items_from n columns place))
@@ -25,11 +21,10 @@ all_above k n [] place l = tt
 all_above k n (column ∷ columns) place l = search
     (rules, all_above_value, all_above k (suc n) columns place (omega arith))
 
-rising_value : (n : ℕ) (o : Option ℤ) (items : List (ComponentId × ℤ)) → T (below_all component_cmp (id_of n) items)
+pub rising_value : (n : ℕ) (o : Option ℤ) (items : List (ComponentId × ℤ)) → T (below_all component_cmp (id_of n) items)
     → T (is_sorted component_cmp items) → T (is_sorted component_cmp (with_value o n items))
 unfolding id_of
-rising_value n None items above rest = rest
-rising_value n (Some v) items above rest = both _ _ above rest
+rising_value n o items above rest = search (rules, both)
 
 pub items_rising : (n : ℕ) (columns : List Column) (place : ℕ)
     → T (is_sorted component_cmp (items_from n columns place))
@@ -38,31 +33,21 @@ items_rising n (column ∷ columns) place = search (rules, rising_value, all_abo
 
 -- ---- the value of each component
 
-find_value : (n : ℕ) (o : Option ℤ) (items : List (ComponentId × ℤ)) (id : ComponentId) → (n ≡ id.0) ⊎ (n ≢ id.0)
-    → (n ≡ id.0 → find component_cmp id items ≡ None) → find component_cmp id (with_value o n items)
-    ≡ cond (eq_by_cmp nat_cmp id.0 n) o (find component_cmp id items)
-find_value n None items id (inl e) none = search (rules, tied)
-find_value n None items id (inr a) none = search (rules, apart)
-find_value n (Some v) items id c none = refl
-
 -- components of smaller numbers are not among the items
 find_below : (n : ℕ) (columns : List Column) (place : ℕ) (id : ComponentId) → id.0 < n
     → find component_cmp id (items_from n columns place) ≡ None
 find_below n [] place id l = refl
-find_below n (column ∷ columns) place id l = grind
-    (arith, common_steps, find_below (suc n) columns place id (omega arith))
+find_below n (column ∷ columns) place id l = search (rules, find_below (suc n) columns place id (omega arith))
 
-find_items : (n : ℕ) (columns : List Column) (place : ℕ) (id : ComponentId) (k : ℕ) → n + k ≡ id.0
+pub find_items : (n : ℕ) (columns : List Column) (place : ℕ) (id : ComponentId) (k : ℕ) → n + k ≡ id.0
     → find component_cmp id (items_from n columns place) ≡ map.get (column_at columns k).values place
 find_items n [] place id k e = sym (map.get-empty nat_cmp place)
-find_items n (column ∷ columns) place id zero e = search (rules, find_value, cases_eq, find_below, tied)
-find_items n (column ∷ columns) place id (suc k) e = grind
-    (arith, common_steps, find_items (suc n) columns place id k (omega arith))
+find_items n (column ∷ columns) place id zero e = search (rules, cases_eq, find_below, tied, apart)
+find_items n (column ∷ columns) place id (suc k) e = search (rules, find_items (suc n) columns place id k (omega arith))
 
 pub get_components : (columns : List Column) (place : ℕ) (id : ComponentId)
     → map.get (components_at columns place) id ≡ value_at columns place id
-get_components columns place id = map.get-from_sorted component_cmp _ id (items_rising 0 columns place)
-    ∙ find_items 0 columns place id id.0 (omega arith)
+get_components columns place id = search (rules, map.get-from_sorted, items_rising, find_items)
 
 pub entries_components : (columns : List Column) (place : ℕ) → map.entries (components_at columns place) ≡ items_from 0
     columns place
@@ -80,29 +65,19 @@ no_components columns place none = map.same_map total same _ _ (search (rules, g
 
 -- ---- one column is changed
 
-pub column_past : (columns : List Column) (n : ℕ) → length columns ≤ n → column_at columns n ≡ no_column
-column_past columns n l = get_or_past columns n no_column l
-
 -- a column with room is one of the list
 pub room_inside : (columns : List Column) (n place : ℕ) → HasRoomAt (column_at columns n) place → n < length columns
-room_inside columns n place room = search (rules, cases_lt n (length columns), column_past, map.get-empty)
+room_inside columns n place room = search (rules, cases_lt, get_or_past, map.get-empty)
 
 -- so is one with a value
 pub value_inside : (columns : List Column) (place : ℕ) (id : ComponentId) (v : ℤ) → value_at columns place id ≡ Some v
     → id.0 < length columns
-value_inside columns place id v at = elim (cases_lt id.0 (length columns)) [
-  | inl lt ↦ lt
-  | inr past ↦ absurd (none-some v (sym
-      (ap (λ (c : Column). map.get c.values place) (column_past columns id.0 past) ∙ map.get-empty nat_cmp place) ∙ at))
-]
-
-same_id : (a b : ComponentId) → a.0 ≡ b.0 → a ≡ b
-same_id a b e = λ i. record { 0 = e i }
+value_inside columns place id v at = search (rules, cases_lt, none-some, get_or_past, map.get-empty)
 
 module _ (old new : List Column) (place : ℕ) (id : ComponentId)
     (others : (n : ℕ) → n ≢ id.0 → column_at new n ≡ column_at old n) where
   value_apart : (p : ℕ) (q : ComponentId) → q ≢ id → value_at new p q ≡ value_at old p q
-  value_apart p q n = search (rules, same_id)
+  value_apart p q n = search rules
 
   -- a value is set at the place
   module _ (v : ℤ) (set_to : (column_at new id.0).values ≡ map.insert (column_at old id.0).values place v) where
@@ -117,41 +92,24 @@ module _ (old new : List Column) (place : ℕ) (id : ComponentId)
     pub components_insert : components_at new place ≡ map.insert (components_at old place) id v
     components_insert = map.same_map total same _ _ (search (rules, get_components, value_set, same_or_apart))
 
-    value_elsewhere : (p : ℕ) → p ≢ place → (q : ComponentId) → (q ≡ id) ⊎ (q ≢ id)
-        → value_at new p q ≡ value_at old p q
-    value_elsewhere p far q (inl e) = search (rules, get-insert_other, nat_cmp_total)
-    value_elsewhere p far q (inr n) = value_apart p q n
-
     pub insert_others : (p : ℕ) (q : ComponentId) → p ≢ place → value_at new p q ≡ value_at old p q
-    insert_others p q far = value_elsewhere p far q (same_or_apart total same q id)
-
-    room_by : (n : ℕ) → (n ≡ id.0) ⊎ (n ≢ id.0) → HasRoomAt (column_at old n) place → HasRoomAt (column_at new n) place
-    room_by n (inl e) room = search (rules, get-insert_same, nat_cmp_total, none-some)
-    room_by n (inr far) room = subst (λ c. HasRoomAt c place) (sym (others n far)) room
+    insert_others = search (rules, get-insert_other, map.nat_cmp-IsAntisymmetric, same_or_apart, value_apart)
 
     pub insert_room : (n : ℕ) → HasRoomAt (column_at old n) place → HasRoomAt (column_at new n) place
-    insert_room n = room_by n (cases_eq n id.0)
+    insert_room n = search (rules, cases_eq, get-insert_same, none-some)
 
   -- a value is taken out at the place
-  module _ (taken : (column_at new id.0).values ≡ map.remove (column_at old id.0).values place)
-    where
-      value_taken : (q : ComponentId) → (q ≡ id) ⊎ (q ≢ id)
-          → value_at new place q ≡ map.get (map.remove (components_at old place) id) q
-      value_taken q (inl e) = search (rules, get-remove_same)
-      value_taken q (inr n) = grind (arith, value_apart, get_components, get-remove_other total same)
+  module _ (taken : (column_at new id.0).values ≡ map.remove (column_at old id.0).values place) where
+    value_taken : (q : ComponentId) → (q ≡ id) ⊎ (q ≢ id)
+        → value_at new place q ≡ map.get (map.remove (components_at old place) id) q
+    value_taken q (inl e) = search (rules, get-remove_same)
+    value_taken q (inr n) = grind (arith, value_apart, get_components, get-remove_other total same)
 
-      pub components_remove : components_at new place ≡ map.remove (components_at old place) id
-      components_remove = map.same_map total same _ _ (search (rules, get_components, value_taken, same_or_apart))
+    pub components_remove : components_at new place ≡ map.remove (components_at old place) id
+    components_remove = map.same_map total same _ _ (search (rules, get_components, value_taken, same_or_apart))
 
-      value_left : (p : ℕ) → p ≢ place → (q : ComponentId) → (q ≡ id) ⊎ (q ≢ id) → value_at new p q ≡ value_at old p q
-      value_left p far q (inl e) =
-          let left = get-remove_other nat_cmp_total map.nat_cmp-IsAntisymmetric (column_at old id.0).values place p
-          far in
-          grind arith
-      value_left p far q (inr n) = value_apart p q n
-
-      pub remove_others : (p : ℕ) (q : ComponentId) → p ≢ place → value_at new p q ≡ value_at old p q
-      remove_others p q far = value_left p far q (same_or_apart total same q id)
+    pub remove_others : (p : ℕ) (q : ComponentId) → p ≢ place → value_at new p q ≡ value_at old p q
+    remove_others = search (rules, get-remove_other, map.nat_cmp-IsAntisymmetric, same_or_apart, value_apart)
 
 -- the column at the number is written over
 module _ (columns : List Column) (n : ℕ) (was is : Column) (inside : n < length columns)
@@ -166,9 +124,5 @@ module _ (columns : List Column) (n : ℕ) (was is : Column) (inside : n < lengt
 pub taken_none : (columns : List Column) (place : ℕ) (id : ComponentId) → length columns ≤ id.0
     → (value_at columns place id ≡ None) × (components_at columns place ≡ map.remove (components_at columns place) id)
 taken_none columns place id l =
-    let none : value_at columns place id ≡ None = search (rules, column_past, map.get-empty) in
+    let none : value_at columns place id ≡ None = search (rules, get_or_past, map.get-empty) in
     (none, sym (remove_absent total same _ _ (get_components columns place id ∙ none)))
-
--- no value moves in a column of no values
-pub moved_none : (place last : ℕ) → IsMovedDown place last map.empty map.empty
-moved_none place last = search (rules, map.get-empty)

@@ -2,15 +2,15 @@
 pub use Rattle.std.proofs.Common.{Bool, Contains, Err, IfErr, IfNone, IfOk, IfSome, IsSome, IsSomeAnd, IsTrue, List, MutBor, None, Ok, OnErr, OnOk, Option, Ordering, Result, Some, T, [], add-one, ap, arith, cond, drop, eqb, eqb-true, false, filter, get_or, inl, inr, is_none, is_some, length, lt-ltb, ltb, map, map as mapped, min, not, pos, refl, replicate, reverse, rules, set, slice_get, subst, suc, suc-ne-zero, sym, take, true, true≢false, unwrap_or, vec_len, zero, ℕ, ℤ, ◌&&◌, ◌*◌, ◌++◌, ◌+◌, ◌-◌, ◌<◌, ◌^◌, ◌||◌, ◌↔◌, ◌∙◌, ◌∷◌, ◌≡◌, ◌≢◌, ◌≤◌, ◌⊎◌}
 pub use Rattle.std.proofs.Math.Facts.{Fits-lt-pow, Fits-of_z}
 pub use Rattle.std.proofs.Math.Seq.{take-append_seam}
-pub use Rattle.std.proofs.lemmas.Bool.{cases_eq, cases_lt, cases_order, eq-eqb, false_from_ne_true, false≢true}
+pub use Rattle.std.proofs.lemmas.Bool.{cases_eq, cases_lt, cases_order, eq-eqb, false_from_ne_true, false≢true, or_right}
 pub use Rattle.std.proofs.lemmas.Bool.Decides.{nat_tests}
 pub use Rattle.std.proofs.lemmas.Fn.{filter_same}
 pub use Rattle.std.proofs.lemmas.Grind.{common_steps}
 pub use Rattle.std.proofs.lemmas.Int.{to_z-of_z}
-pub use Rattle.std.proofs.lemmas.List.{append-nil, append_assoc, at_drop_more, drop-set-lt, drop_all, drop_at, drop_more, flat_map_more, get_or-map, get_or-set_other, get_or-set_same, get_or-take, get_or_append_left, get_or_default, get_or_past, get_or_push, length-append, length-map, length-replicate, length-set, length-take, length-take-le, length_push, map_more, map_push, nil_from_length, take-append-drop, take_all, take_at, take_more, take_more_set}
+pub use Rattle.std.proofs.lemmas.List.{append-nil, append_assoc, at_drop_more, drop-set-lt, drop_all, drop_at, drop_more, flat_map_more, get_or-map, get_or-set_other, get_or-set_same, get_or-take, get_or_append_left, get_or_default, get_or_past, get_or_push, length-append, length-map, length-replicate, length-set, length-take, length-take-le, length_push, map-set, map_more, map_push, nil_from_length, same_lists, take-append-drop, take_all, take_at, take_more, take_more_set}
 pub use Rattle.std.proofs.lemmas.List.Concat.{flat_map-append}
 pub use Rattle.std.proofs.lemmas.List.Edits.{get_or-insert_above, get_or-insert_at, get_or-insert_below, insert_end, length-insert}
-pub use Rattle.std.proofs.lemmas.List.Elements.{All-cons, All-filter, All-head, All-nil, All-tail, Contains-append_left, Contains-push, Contains-push_cases, all_zip_more, filter_passes, length_all_zip}
+pub use Rattle.std.proofs.lemmas.List.Elements.{All-cons, All-contains, All-filter, All-head, All-map, All-nil, All-tail, Contains-append_left, Contains-append_right, Contains-push, Contains-push_cases, all_zip_more, filter_passes, length_all_zip}
 pub use Rattle.std.proofs.lemmas.List.Filters.{length-filter_more}
 pub use Rattle.std.proofs.lemmas.List.Kept.{AllPairs-cons, AllPairs-filter}
 pub use Rattle.std.proofs.lemmas.List.Sorted.{All-permutation, Contains-permutation, IsPermutation-trans, answers_always, ranks_by, searchable_from_sorted, searched, sorted_far}
@@ -19,7 +19,7 @@ pub use Rattle.std.proofs.lemmas.Map.Made.{Contains-tail}
 pub use Rattle.std.proofs.lemmas.Map.Steps.{length-le_from_distinct_below}
 pub use Rattle.std.proofs.lemmas.Map.Views.{Contains-from_any}
 pub use Rattle.std.proofs.lemmas.Nat.{from_le_bytes-to_le_bytes_4, from_le_bytes-to_le_bytes_8, le_bytes_4, le_bytes_8}
-pub use Rattle.std.proofs.lemmas.Option.{IfSome_then, get_or_from_slice_get, none-some, same_Some, slice_get-get_or, slice_get-map, slice_get_past, slice_get_read, slice_get_within, some_pair_parts}
+pub use Rattle.std.proofs.lemmas.Option.{IfSome_then, get_or_from_slice_get, none-some, option_and_then_some, same_Some, slice_get-get_or, slice_get-map, slice_get_cases, slice_get_past, slice_get_read, slice_get_within, some_pair_parts}
 pub use Rattle.std.proofs.lemmas.Result.{IfOk-weaker, on_err_weaker, on_ok_weaker}
 pub use Rattle.std.specs.Cmp.{IsTotalOrder, eq_by_cmp_equiv, nat_cmp_total, on_total, then_total, tied_itself}
 pub use Rattle.std.specs.Cmp.Lexicographic.{options_total}

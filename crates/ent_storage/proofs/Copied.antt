@@ -1,9 +1,9 @@
 -- What a storage takes over from another one.
-use Rattle.ent_storage.proofs.Common.{rules, ◌≡◌, ◌≢◌, ℕ, ℤ, zero, suc, ◌+◌, ◌<◌, ◌≤◌, Bool, List, [], ◌∷◌, length, filter, take, get_or, set, subst, refl, ap, sym, ◌∙◌, arith, inl, inr, ◌⊎◌, None, common_steps, none-some, cases_lt, cases_eq, get_or_default, All, nat_cmp, component_cmp, Handle, handle_cmp, ComponentId, Resident, Components, AreBare, map_of, entity_of, IsIndexed, LivingEntity, column_at, value_at, components_at, entities_from, AreColumnsOf, Column, Values, IsDense, HasRoomFor, Fits, no_column}
+use Rattle.ent_storage.proofs.Common.{rules, ◌≡◌, ◌≢◌, ℕ, ℤ, zero, suc, ◌+◌, ◌<◌, ◌≤◌, Bool, List, [], ◌∷◌, length, filter, take, get_or, set, refl, ap, sym, ◌∙◌, arith, inl, inr, None, common_steps, none-some, cases_lt, cases_eq, get_or-set_same, get_or-set_other, All, nat_cmp, component_cmp, Handle, handle_cmp, ComponentId, Resident, AreBare, map_of, entity_of, IsIndexed, LivingEntity, column_at, value_at, entities_from, AreColumnsOf, Column, Values, IsDense, HasRoomFor, Fits, no_column}
 use Rattle.std.specs.Cmp.{nat_cmp_total as total}
 use Rattle.std.specs.FinMap as map
 use Rattle.std.specs.FinMap.{nat_cmp-IsAntisymmetric as same}
-use Rattle.ent_storage.proofs.ColumnsAtPlaces.{get_components, column_set, column_kept}
+use Rattle.ent_storage.proofs.ColumnsAtPlaces.{get_components}
 use Rattle.ent_storage.proofs.Dense.{has}
 use Rattle.ent_storage.proofs.EntitiesOfResidents.{at_from, length_from, same_from}
 use Rattle.ent_storage.proofs.Indexed.{get_placed, some_entity}
@@ -24,23 +24,12 @@ fits column source (inr vectors) some = vectors
 pub room_kept : (columns : List Column) (number : ℕ) (is : Column) → number < length columns
     → ((c : Column) → HasRoomFor (column_at columns number) c → HasRoomFor is c) → (other : ℕ) (c : Column)
     → HasRoomFor (column_at columns other) c → HasRoomFor (column_at (set columns number is) other) c
-room_kept columns number is inside kept other c room = by (cases_eq other number)
-  where
-    was : Column
-    was = column_at columns number
+room_kept columns number is inside kept other c room = elim (cases_eq other number) [
+  | inl e ↦ rw (e, get_or-set_same columns number is no_column inside) (kept c (rw e at room))
+  | inr far ↦ rw (get_or-set_other columns number other is no_column far) room
+]
 
-    read : was ≡ get_or columns number was
-    read = get_or_default columns number no_column was inside
-
-    by : (other ≡ number) ⊎ (other ≢ number) → HasRoomFor (column_at (set columns number is) other) c
-    by (inl e) = subst (λ (n : ℕ). HasRoomFor (column_at (set columns number is) n) c) (sym e)
-        (subst (λ (x : Column). HasRoomFor x c) (sym (column_set columns number was is inside read))
-        (kept c (subst (λ (n : ℕ). HasRoomFor (column_at columns n) c) e room)))
-    by (inr far) = subst (λ (x : Column). HasRoomFor x c)
-        (sym (column_kept columns number was is inside read other far)) room
-
--- ---- columns with the same values
-
+-- columns with the same values
 module _ (old new : List Column) (values : (n : ℕ) → (column_at new n).values ≡ (column_at old n).values) where
   same_value : (p : ℕ) (id : ComponentId) → value_at new p id ≡ value_at old p id
   same_value p id = ap (λ (m : Values). map.get m p) (values id.0)
@@ -60,23 +49,17 @@ no_resident = record { handle = unused; birth = record { frame = 0; system = 0; 
 pub bare_columns : (residents : List Resident) (columns : List Column) → AreColumnsOf (length residents) columns
     → All (λ entity. entity.components ≡ map.empty) (entities_from 0 residents columns) → (n : ℕ)
     → (column_at columns n).values ≡ map.empty
-bare_columns residents columns are bare n = map.same_map total same _ _ (λ p. by p
-    (cases_lt p (length residents)) ∙ sym (map.get-empty nat_cmp p))
+bare_columns residents columns are bare n = map.same_map total same _ _ (λ p. none p ∙ sym (map.get-empty nat_cmp p))
   where
-    id : ComponentId
-    id = record { 0 = n }
-
-    none_at : (p : ℕ) → p < length residents → components_at columns p ≡ map.empty
-    none_at p l =
-        let same : p ≡ 0 + p = omega arith in
-        ap (components_at columns) same ∙ ap (λ (e : LivingEntity). e.components)
-        (sym (at_from 0 residents columns p no_resident (some_entity unused) l))
-        ∙ bare p (some_entity unused) (omega (arith, l, length_from 0 residents columns))
-
-    by : (p : ℕ) → (p < length residents) ⊎ (length residents ≤ p) → value_at columns p id ≡ None
-    by p (inl l) = sym (get_components columns p id) ∙ ap (λ (m : Components). map.get m id) (none_at p l)
-        ∙ map.get-empty component_cmp id
-    by p (inr beyond) = are.none_beyond p id beyond
+    none : (p : ℕ) → value_at columns p (record { 0 = n }) ≡ None
+    none p = elim (cases_lt p (length residents)) [
+      | inl l ↦
+          let same : 0 + p ≡ p = omega arith in
+          let is = rw (at_from 0 residents columns p no_resident (some_entity unused) l, same) at
+              (bare p (some_entity unused) (omega (arith, l, length_from 0 residents columns))) in
+          rw (← get_components columns p (record { 0 = n }), is) (map.get-empty component_cmp _)
+      | inr beyond ↦ are.none_beyond p (record { 0 = n }) beyond
+    ]
 
 -- the list has none, if the map has none
 pub bare_list : (living : List LivingEntity) (index : map.FinMap handle_cmp ℕ) → IsIndexed living index
@@ -84,8 +67,7 @@ pub bare_list : (living : List LivingEntity) (index : map.FinMap handle_cmp ℕ)
 bare_list living index indexed bare i d l = bare (get_or living i d).handle (entity_of (get_or living i d))
     (get_placed living index indexed (get_or living i d).handle i d (indexed.each_entity i l d))
 
--- ---- the first pairs of an index
-
+-- the first pairs of an index
 pub first_fit : {X : Type 0} (p : X → Bool) (xs : List X) (i : ℕ) → length (filter p (take i xs)) ≤ length (filter p xs)
 first_fit p xs zero = omega arith
 first_fit p [] (suc i) = omega arith

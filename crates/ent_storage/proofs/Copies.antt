@@ -1,5 +1,5 @@
 -- Copies of columns, and the entities that they stand for.
-use Rattle.ent_storage.proofs.Common.{rules, ◌≡◌, ℕ, ℤ, zero, suc, ◌≤◌, List, [], ◌∷◌, length, refl, sym, arith, inr, suc-ne-zero, none-some, AllZip, length_all_zip, nat_cmp, ComponentId, Resident, Column, IsDense, IsCopy, column_at, value_at, entities_from, AreColumnsOf, AreInUse}
+use Rattle.ent_storage.proofs.Common.{slice_get_within, rules, ◌≡◌, ℕ, ℤ, zero, suc, ◌≤◌, List, [], ◌∷◌, length, refl, arith, inr, AllZip, length_all_zip, nat_cmp, Resident, Column, IsDense, IsCopy, column_at, entities_from, AreColumnsOf, AreInUse}
 use Rattle.std.specs.FinMap as map
 use Rattle.ent_storage.proofs.EntitiesOfResidents.{same_from}
 use Rattle.ent_storage.proofs.InUse.{in_use_changed}
@@ -8,11 +8,8 @@ use Rattle.ent_storage.proofs.InUse.{in_use_changed}
 pub no_places : (dense : List (ℕ × ℤ)) (sparse : List ℕ) → IsDense dense sparse → length sparse ≡ 0
     → map.from_entries {R = nat_cmp} dense ≡ map.empty
 no_places [] sparse is none = refl
-no_places ((p, v) ∷ dense) [] is none = absurd (none-some _ (is.entry 0 p v refl))
-no_places ((p, v) ∷ dense) (s ∷ sparse) is none = absurd (suc-ne-zero _ none)
-
-pub copies_length : (old new : List Column) → AllZip IsCopy old new → length new ≡ length old
-copies_length old new all = sym (length_all_zip IsCopy old new all)
+no_places ((p, v) ∷ dense) sparse is none =
+    absurd (omega (arith, slice_get_within sparse p 0 (is.entry 0 p v refl), none))
 
 pub copy_at : (old new : List Column) → AllZip IsCopy old new → (number : ℕ)
     → IsCopy (column_at old number) (column_at new number)
@@ -22,16 +19,13 @@ copy_at (a ∷ old) (b ∷ new) all (suc number) = copy_at old new all.1 number
 copy_at old new all number = absurd all
 
 module _ (old new : List Column) (all : AllZip IsCopy old new) where
-  value_copied : (p : ℕ) (id : ComponentId) → value_at new p id ≡ value_at old p id
-  value_copied p id = search (rules, copy_at)
-
   pub entities_copied : (residents : List Resident) → entities_from 0 residents new ≡ entities_from 0 residents old
-  entities_copied residents = search (rules, same_from, value_copied)
+  entities_copied residents = search (rules, same_from, copy_at)
 
   pub columns_copied : (count : ℕ) → AreColumnsOf count old → AreColumnsOf count new
-  columns_copied count are = search (rules, value_copied, copies_length)
+  columns_copied count are = search (rules, length_all_zip, copy_at)
 
   pub in_use_copied : (used : List ℕ) → AreInUse used old → AreInUse used new
   in_use_copied used =
-      let longer : length old ≤ length new = omega (arith, copies_length old new all) in
+      let longer : length old ≤ length new = omega (arith, length_all_zip IsCopy old new all) in
       in_use_changed used old new longer (λ n none. inr ((copy_at old new all n).none none))

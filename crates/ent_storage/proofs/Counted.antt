@@ -1,11 +1,11 @@
 -- The places of an index that count.
-use Rattle.ent_storage.proofs.Common.{rules, ◌≡◌, ◌≢◌, ℕ, zero, suc, ◌<◌, ◌≤◌, Bool, true, false, cond, T, List, [], ◌∷◌, ◌+◌, map, ◌++◌, length, get_or, set, filter, Option, Some, None, is_some, Contains, refl, sym, ap, ◌∙◌, arith, eqb, eqb-true, Less, Greater, tied_itself, false≢true, false_from_ne_true, get_or-map, get_or_default, length-map, length-set, length_push, AllWithin, insert, IsGapFor, filter_passes, IsDistinct-from_apart, Contains-from_any, length-le_from_distinct_below, FinMap, find, is_sorted, Handle, handle_cmp, total, same, LivingEntity, IsMovedInto, IsFree, IsIndexed, IsKeptIndex, has_handle_at, counted, Keeps, HasAll}
+use Rattle.ent_storage.proofs.Common.{get_or-set_same, rules, AllPairs, ◌≡◌, ◌≢◌, ℕ, zero, suc, ◌<◌, ◌≤◌, Bool, true, false, cond, T, List, [], ◌∷◌, ◌+◌, ◌++◌, length, get_or, set, filter, Option, Some, None, is_some, refl, sym, ap, ◌∙◌, arith, Less, Greater, tied_itself, false≢true, get_or_default, length-set, length_push, AllWithin, insert, IsGapFor, filter_passes, FinMap, find, is_sorted, Handle, handle_cmp, total, same, LivingEntity, IsMovedInto, IsFree, IsIndexed, IsKeptIndex, has_handle_at, counted, Keeps, HasAll}
 use Rattle.std.specs.FinMap as finite
-use Rattle.ent_storage.proofs.Keys.{tied, insert_tells, remove_tells}
+use Rattle.ent_storage.proofs.Keys.{tied, insert_tells, remove_tells, few_apart}
 use Rattle.ent_storage.proofs.Indexed.{some_not_none, some_entity, indexed_set, indexed_push, indexed_none}
 use Rattle.ent_storage.proofs.Positions.{rising_at}
 use Rattle.ent_storage.proofs.Rising.{equal, get_at, map_insert, rising_insert}
-use Rattle.ent_storage.proofs.Overwritten.{is_sorted-filter, find-filter, passed, is_sorted-set, find-set_same, find-set_other}
+use Rattle.ent_storage.proofs.Overwritten.{is_sorted-filter, find-filter, passed, is_sorted-set, find-set_other}
 use Rattle.ent_storage.proofs.TakenOut.{indexed_moved, indexed_popped}
 
 pub stands : (living : List LivingEntity) (q : Handle) (i : ℕ) → has_handle_at living q (Some i) ≡ true
@@ -123,47 +123,28 @@ module _ (living : List LivingEntity) (pairs : List (Handle × ℕ)) (rising : T
   abbrev left : List (Handle × ℕ)
   left = filter (counts living) pairs
 
-  passed_is : (q : Handle) (o : Option ℕ) → passed total same (counts living) q o
-      ≡ cond (has_handle_at living q o) o None
-  passed_is q None = refl
-  passed_is q (Some i) = refl
-
   pub from_sorted_left : finite.from_sorted {R = handle_cmp} (filter (counts living) pairs)
       ≡ counted living (finite.from_sorted pairs)
-  from_sorted_left = finite.same_map total same _ _ (λ q. finite.get-from_sorted handle_cmp _ q
-      (is_sorted-filter total same (counts living) pairs rising) ∙ find-filter total same (counts living) pairs q rising
-      ∙ passed_is q (find handle_cmp q pairs) ∙ sym (get_counted living (finite.from_sorted pairs) q
-      ∙ ap (λ o. cond (has_handle_at living q o) o None) (finite.get-from_sorted handle_cmp pairs q rising)))
+  from_sorted_left = finite.same_map total same _ _ (λ q. rw (get_counted living (finite.from_sorted pairs) q,
+      finite.get-from_sorted handle_cmp left q (is_sorted-filter total same (counts living) pairs rising),
+      finite.get-from_sorted handle_cmp pairs q rising, find-filter total same (counts living) pairs q rising)
+      (search rules))
+
+  at_home : (k : ℕ) (d : Handle × ℕ) → k < length left → ((get_or left k d).1 < length living)
+      × ((e : LivingEntity) → (get_or living (get_or left k d).1 e).handle ≡ (get_or left k d).0)
+  at_home k d l = stands living _ _ (filter_passes (counts living) pairs k d l)
 
   -- no two of them have the same place
-  apart_places : (i j : ℕ) (d : ℕ) → i < j → j < length (map (λ e. e.1) left)
-      → eqb (get_or (map (λ e. e.1) left) i d) (get_or (map (λ e. e.1) left) j d) ≡ false
-  apart_places i j d l k =
-      let unused : Handle × ℕ = (record { index = 0; generation = 0 }, d) in
-      let inside : j < length left = omega (arith, length-map left (λ (e : Handle × ℕ). e.1), k) in
-      let at_i = get_or-map (λ (e : Handle × ℕ). e.1) left i unused d (omega arith) in
-      let at_j = get_or-map (λ (e : Handle × ℕ). e.1) left j unused d inside in
-      let resident_i = (stands living (get_or left i unused).0 (get_or left i unused).1
-      (filter_passes (counts living) pairs i unused (omega arith))).1 (some_entity unused.0) in
-      let resident_j = (stands living (get_or left j unused).0 (get_or left j unused).1
-      (filter_passes (counts living) pairs j unused inside)).1 (some_entity unused.0) in
-      let less = rising_at total left i j unused (is_sorted-filter total same (counts living) pairs rising) l inside in
-      let equals = tied_itself total (get_or left i unused).0 in
-      search (rules, false_from_ne_true, eqb-true)
-
-  place_below : (q : ℕ) → Contains (map (λ e. e.1) left) q → q < length living
-  place_below q at =
-      let unused : Handle × ℕ = (record { index = 0; generation = 0 }, q) in
-      let inside : at.0 < length left = search (rules, length-map) in
-      let resident = stands living _ _ (filter_passes (counts living) pairs at.0 unused inside) in
-      search (rules, get_or-map, resident)
+  apart_places : AllPairs (λ a b. a.1 ≢ b.1) left
+  apart_places i j d l k e =
+      let one = (at_home i d (omega arith)).1 (some_entity d.0) in
+      let other = (at_home j d k).1 (some_entity d.0) in
+      let less = rising_at total left i j d (is_sorted-filter total same (counts living) pairs rising) l k in
+      search rules
 
   -- so there are no more of them than residents
   pub left_fits : length (filter (counts living) pairs) ≤ length living
-  left_fits =
-      let counted_places = length-le_from_distinct_below (map (λ e. e.1) left) (length living)
-      (IsDistinct-from_apart eqb _ apart_places) (λ q any. place_below q (Contains-from_any eqb-true q _ any)) in
-      search (rules, length-map, counted_places)
+  left_fits = few_apart (λ (e : Handle × ℕ). e.1) left (length living) apart_places (λ k d l. (at_home k d l).0)
 
 -- ---- a pair is put over one that does not count, or into its gap
 
@@ -180,8 +161,8 @@ module _ (living : List LivingEntity) (pairs : List (Handle × ℕ)) (rising : T
       (p + 1) (length pairs) → IsFree living pairs p → IsPut living pairs (set pairs p (k, v)) k v
   put_over below above free = record {
     sorted = over_sorted;
-    placed = finite.get-from_sorted handle_cmp _ k over_sorted ∙ find-set_same total same k v pairs
-        p free.inside below;
+    placed = search (rules, get_at total same (set pairs p (k, v)) over_sorted k p (k, v), get_or-set_same, length-set,
+        free.inside, tied_itself total k);
     kept = λ q i n at.
         let old = counted_gives living (finite.from_sorted pairs) q i at in
         finite.get-from_sorted handle_cmp _ q over_sorted

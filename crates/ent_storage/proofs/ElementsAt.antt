@@ -1,6 +1,7 @@
 -- The elements of a list by their positions, after each change, and the first pair of a key.
-use Rattle.ent_storage.proofs.Common.{rules, ◌≡◌, ◌≢◌, ℕ, Ordering, zero, suc, ◌<◌, ◌≤◌, cond, ◌⊎◌, inl, inr, List, [], ◌∷◌, ◌++◌, length, set, Option, Some, None, slice_get, refl, sym, ap, ◌∙◌, arith, get_or, ◌+◌, ◌-◌, same_Some, none-some, slice_get-get_or, slice_get_past, slice_get_within, IsTotalOrder, find, IsAntisymmetric, cases_lt, cases_eq, get_or-set_same, get_or-set_other, length-set, get_or_append_left, get_or_push, length_push}
-use Rattle.ent_storage.proofs.Keys.{apart, same_or_apart, tied}
+use Rattle.ent_storage.proofs.Common.{mapped, slice_get-map, length-map, rules, common_steps, some_pair_parts, eq_by_cmp, ◌≡◌, ◌≢◌, ℕ, Ordering, zero, suc, ◌<◌, ◌≤◌, cond, ◌⊎◌, inl, inr, List, [], ◌∷◌, ◌++◌, length, set, Option, Some, None, slice_get, refl, sym, ap, ◌∙◌, arith, get_or, ◌+◌, ◌-◌, same_Some, none-some, slice_get-get_or, slice_get_past, slice_get_within, IsTotalOrder, find, IsAntisymmetric, cases_lt, cases_eq, get_or-set_same, get_or-set_other, length-set, get_or_append_left, get_or_push, length_push}
+use Rattle.std.specs.FinMap as map
+use Rattle.ent_storage.proofs.Keys.{none_from, apart, same_or_apart, tied, get-remove_same, get-remove_other, remove_tells}
 
 -- ---- elements by their positions
 
@@ -14,6 +15,9 @@ at_set_other xs i j y n = elim (cases_lt j (length xs)) [
   | inr g ↦ search
       (rules, slice_get_past, length-set)
 ]
+
+-- what stands in a list of pairs after a `set`
+pub ruleset at_set = (cases_eq, some_pair_parts, at_set_same, at_set_other)
 
 pub at_push_before : {X : Type 0} (xs : List X) (y : X) (k : ℕ) → k < length xs
     → slice_get (xs ++ y ∷ []) k ≡ slice_get xs k
@@ -33,9 +37,7 @@ at_pushed xs y = search (rules, slice_get-get_or (xs ++ y ∷ []) (length xs) y,
 
 pub same_option : {X : Type 0} (a b : Option X) → ((v : X) → a ≡ Some v → b ≡ Some v)
     → ((v : X) → b ≡ Some v → a ≡ Some v) → a ≡ b
-same_option None None f g = refl
-same_option (Some x) None f g = sym (f x refl)
-same_option a (Some y) f g = g y refl
+same_option a b f g = search rules
 
 -- ---- an element is taken out, and the last one moves to its position
 
@@ -45,14 +47,9 @@ pub record IsFilled {X : Type 0} (D : List X) (i : ℕ) (L : List X) : Type 0 wh
   pub others : (k : ℕ) → k ≢ i → k < length L → slice_get L k ≡ slice_get D k
   pub moved : i < length L → slice_get L i ≡ slice_get D (length L)
 
-module _ {X : Type 0} (D L : List X) (i : ℕ) (rest : IsFilled D i L) where
-  -- an element that is left was there, at another position
-  pub left_was : (k : ℕ) (x : X) → slice_get L k ≡ Some x → (j : ℕ) × (slice_get D j ≡ Some x) × (j ≢ i)
-  left_was k x found = search (rules, cases_eq, slice_get_within)
-
-  -- an element at another position is left
-  pub was_left : i < length D → (k : ℕ) (x : X) → k ≢ i → slice_get D k ≡ Some x → (j : ℕ) × (slice_get L j ≡ Some x)
-  was_left inside k x n found = search (rules, cases_lt, slice_get_within)
+pub filled_map : {X Y : Type 0} (f : X → Y) (D L : List X) (i : ℕ) → IsFilled D i L
+    → IsFilled (mapped f D) i (mapped f L)
+filled_map f D L i rest = search (rules, length-map, slice_get-map)
 
 -- what a vector's removal by swapping gives
 pub filled : {X : Type 0} (D L : List X) (i n m : ℕ) (d : X) → n ≡ length D → m ≡ length L → m + 1 ≡ n
@@ -60,31 +57,88 @@ pub filled : {X : Type 0} (D L : List X) (i n m : ℕ) (d : X) → n ≡ length 
     ≡ get_or D k d) → IsFilled D i L
 filled D L i n m d whole left one_less by_index = record {
   one_less = omega arith;
-  others = λ k apart l. let a = slice_get-get_or L k d l in let b = slice_get-get_or D k d (omega arith) in let e =
-      by_index.1 k d apart (omega arith) in cc;
-  moved = λ l. let last : n - 1 ≡ length L = omega arith in let a = slice_get-get_or L i d l in let b = slice_get-get_or
-      D (length L) d (omega arith) in let e = by_index.0 d (omega arith) in cc;
+  others = λ k apart l.
+      let a = slice_get-get_or L k d l in
+      let b = slice_get-get_or D k d (omega arith) in
+      cc (by_index.1 k d apart (omega arith));
+  moved = λ l.
+      let last : n - 1 ≡ length L = omega arith in
+      let a = slice_get-get_or L i d l in
+      let b = slice_get-get_or D (length L) d (omega arith) in
+      cc (by_index.0 d (omega arith));
 }
 
 -- ---- a scan from the front
+
+-- the list has each key once
+abbrev pub IsOnce : {K X : Type 0} → List (K × X) → Type 0
+IsOnce {K} {X} D = (j k : ℕ) (p : K) (v w : X) → slice_get D j ≡ Some (p, v) → slice_get D k ≡ Some (p, w) → j ≡ k
 
 module _ {K X : Type 0} {R : K → K → Ordering} (total : IsTotalOrder R) (same : IsAntisymmetric R) where
   pub find_at : (D : List (K × X)) (k : ℕ) (p : K) (v : X) → slice_get D k ≡ Some (p, v)
       → ((j : ℕ) (w : X) → j < k → slice_get D j ≢ Some (p, w)) → find R p D ≡ Some v
   find_at [] k p v e first = absurd (none-some (p, v) e)
   find_at (x ∷ D) zero p v e first = search (rules, same_Some, tied)
-  find_at (x ∷ D) (suc k) p v e first = ap (λ t. cond t (Some x.1) (find R p D))
-      (apart total same p x.0 (λ q. first 0 x.1 (omega arith) (ap (λ (n : K). Some (n, x.1)) (sym q))))
-      ∙ find_at D k p v e (λ j w l. first (suc j) w (omega arith))
-
-  find_gives_first : (x : K × X) (D : List (K × X)) (p : K) (v : X)
-      → (find R p D ≡ Some v → (k : ℕ) × (slice_get D k ≡ Some (p, v))) → (p ≡ x.0) ⊎ (p ≢ x.0)
-      → find R p (x ∷ D) ≡ Some v → (k : ℕ) × (slice_get (x ∷ D) k ≡ Some (p, v))
-  find_gives_first x D p v rest (inl q) e = search (rules, same_Some, tied)
-  find_gives_first x D p v rest (inr n) e =
-      let later = rest (sym (ap (λ t. cond t (Some x.1) (find R p D)) (apart total same p x.0 n)) ∙ e) in
-      (suc later.0, later.1)
+  find_at (x ∷ D) (suc k) p v e first =
+      let far : p ≢ x.0 = λ q. first 0 x.1 (omega arith) (ap (λ (n : K). Some (n, x.1)) (sym q)) in
+      rw (apart total same p x.0 far) (find_at D k p v e (λ j w l. first (suc j) w (omega arith)))
 
   pub find_gives : (D : List (K × X)) (p : K) (v : X) → find R p D ≡ Some v → (k : ℕ) × (slice_get D k ≡ Some (p, v))
   find_gives [] p v e = absurd (none-some v e)
-  find_gives (x ∷ D) p v e = find_gives_first x D p v (find_gives D p v) (same_or_apart total same p x.0) e
+  find_gives (x ∷ D) p v e = elim (same_or_apart total same p x.0) [
+    | inl q ↦ search (rules, same_Some, tied)
+    | inr n ↦ let later = find_gives D p v (rw (apart total same p x.0 n) at e) in (suc later.0, later.1)
+  ]
+
+  -- ---- a list that has each key once, as a map
+
+  pub entry_at : (D : List (K × X)) (p : K) (v : X) → map.get (map.from_entries {R = R} D) p ≡ Some v
+      → (k : ℕ) × (slice_get D k ≡ Some (p, v))
+  entry_at D p v e = find_gives D p v (sym (map.get-from_entries total D p) ∙ e)
+
+  pub nowhere : (D : List (K × X)) (p : K) → ((k : ℕ) (v : X) → slice_get D k ≢ Some (p, v))
+      → map.get (map.from_entries {R = R} D) p ≡ None
+  nowhere D p none = none_from _ (λ v e. let at = entry_at D p v e in none at.0 v at.1)
+
+  -- it has as many entries as its map
+  pub len_once : (D : List (K × X)) → IsOnce D → map.len (map.from_entries {R = R} D) ≡ length D
+  len_once [] once = map.len-empty R X
+  len_once (e ∷ D) once =
+      let rest = len_once D (λ j k h v w a b. omega (arith, once (suc j) (suc k) h v w a b)) in
+      let fresh = nowhere D e.0 (λ k v at. omega (arith, once (suc k) zero e.0 v e.1 at refl)) in
+      grind (arith, common_steps, map.len-insert total (map.from_entries D) e.0 e.1)
+
+  find_set : (D : List (K × X)) (i : ℕ) (p : K) (u v : X) → slice_get D i ≡ Some (p, u)
+      → ((j : ℕ) (w : X) → j < i → slice_get D j ≢ Some (p, w)) → (q : K)
+      → find R q (set D i (p, v)) ≡ cond (eq_by_cmp R q p) (Some v) (find R q D)
+  find_set [] i p u v e first q = absurd (none-some _ e)
+  find_set (x ∷ D) zero p u v e first q = let is = some_pair_parts _ _ _ _ e in grind (arith, common_steps)
+  find_set (x ∷ D) (suc i) p u v e first q =
+      let rest = find_set D i p u v e (λ j w l. first (suc j) w (omega arith)) q in
+      let far : x.0 ≢ p = λ is. first 0 x.1 (omega arith) (ap (λ (k : K). Some (k, x.1)) is) in
+      search (rules, same_or_apart, tied, apart)
+
+  pub has_entry : (D : List (K × X)) → IsOnce D → (k : ℕ) (p : K) (v : X) → slice_get D k ≡ Some (p, v)
+      → map.get (map.from_entries {R = R} D) p ≡ Some v
+  has_entry D once k p v e = search (rules, map.get-from_entries, find_at, once)
+
+  module _ (D : List (K × X)) (once : IsOnce D) (i : ℕ) (p : K) (u : X) (here : slice_get D i ≡ Some (p, u)) where
+    -- its value is written over
+    pub values_set : (v : X) → map.from_entries {R = R} (set D i (p, v)) ≡ map.insert (map.from_entries D) p v
+    values_set v = map.same_map total same _ _ (λ q. search (rules, map.get-from_entries, map.get-insert,
+        find_set D i p u v here (λ j w l at. omega (arith, once j i p w u at here)) q))
+
+    -- it is taken out, and the last one moves to its position
+    module _ (L : List (K × X)) (left_once : IsOnce L) (rest : IsFilled D i L) where
+      taken_there : (q : K) (w : X) → map.get (map.from_entries {R = R} L) q ≡ Some w
+          → map.get (map.remove (map.from_entries {R = R} D) p) q ≡ Some w
+      taken_there q w found = search (rules, entry_at, has_entry, remove_tells, cases_eq, slice_get_within)
+
+      taken_back : (q : K) (w : X) → (q ≡ p) ⊎ (q ≢ p) → map.get (map.remove (map.from_entries {R = R} D) p) q ≡ Some w
+          → map.get (map.from_entries {R = R} L) q ≡ Some w
+      taken_back q w (inl e) found = search (rules, none-some, get-remove_same)
+      taken_back q w (inr n) found = search
+          (rules, entry_at, get-remove_other, some_pair_parts, slice_get_within, has_entry, cases_lt)
+
+      pub values_taken : map.from_entries {R = R} L ≡ map.remove (map.from_entries D) p
+      values_taken = search (rules, map.same_map, same_option, taken_there, taken_back, same_or_apart)

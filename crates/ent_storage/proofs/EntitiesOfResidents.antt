@@ -1,5 +1,5 @@
 -- The living entities that residents and columns stand for, after each change.
-use Rattle.ent_storage.proofs.Common.{rules, ◌≡◌, ◌≢◌, ℕ, zero, suc, ◌+◌, ◌-◌, ◌<◌, ◌≤◌, false, List, [], ◌∷◌, ◌++◌, map, length, get_or, Option, Some, None, slice_get, take, drop, refl, ap, arith, common_steps, slice_get_past, cases_lt, cases_eq, option_map, option_map_or, eq_by_cmp, Birth, ComponentId, Handle, handle_cmp, Components, Column, IsMovedDown, Resident, LivingEntity, Living, IsMovedInto, AreColumnsOf, change_at, column_at, value_at, components_at, entities_from, born_at, has_handle_at}
+use Rattle.ent_storage.proofs.Common.{rules, ◌≡◌, ◌≢◌, ℕ, zero, suc, ◌+◌, ◌-◌, ◌<◌, ◌≤◌, false, List, [], ◌∷◌, ◌++◌, map, length, get_or, Some, None, slice_get, take, drop, refl, ap, arith, common_steps, slice_get_past, slice_get-get_or, slice_get_cases, get_or_from_slice_get, cases_eq, option_map, eq_by_cmp, Birth, ComponentId, Handle, handle_cmp, Components, Column, IsMovedDown, Resident, LivingEntity, Living, IsMovedInto, AreColumnsOf, change_at, column_at, value_at, components_at, entities_from, born_at, has_handle_at}
 use Rattle.std.proofs.Common.{option_and_then}
 use Rattle.std.specs.FinMap as finite
 use Rattle.ent_storage.proofs.ColumnsAtPlaces.{same_components, no_components, get_components}
@@ -18,13 +18,16 @@ pub length_from : (n : ℕ) (residents : List Resident) (columns : List Column)
 length_from n [] columns = refl
 length_from n (resident ∷ residents) columns = ap suc (length_from (suc n) residents columns)
 
+entry_from : (n : ℕ) (residents : List Resident) (columns : List Column) (i : ℕ)
+    → slice_get (entities_from n residents columns) i ≡ option_map (entity_at columns (n + i)) (slice_get residents i)
+entry_from n [] columns i = refl
+entry_from n (r ∷ residents) columns zero = search rules
+entry_from n (r ∷ residents) columns (suc i) = search (rules, entry_from (suc n) residents columns i)
+
 pub at_from : (n : ℕ) (residents : List Resident) (columns : List Column) (i : ℕ) (resident : Resident)
     (d : LivingEntity) → i < length residents → get_or (entities_from n residents columns) i d
     ≡ entity_at columns (n + i) (get_or residents i resident)
-at_from n [] columns i resident d l = absurd (omega arith)
-at_from n (r ∷ residents) columns zero resident d l = search rules
-at_from n (r ∷ residents) columns (suc i) resident d l = search
-    (rules, at_from (suc n) residents columns i resident d (omega arith))
+at_from n residents columns i resident d l = search (rules, get_or_from_slice_get, entry_from, slice_get-get_or)
 
 -- and that at a place of what contracts see
 module _ (residents : List Resident) (columns : List Column) (room : ℕ) (living : Living) (i : ℕ)
@@ -53,12 +56,10 @@ pub changed_from : (n : ℕ) (residents : List Resident) (old new : List Column)
     → entities_from n residents new ≡ change_at (entities_from n residents old) i change
 changed_from n [] old new i p change e here others = refl
 changed_from n (resident ∷ residents) old new zero p change e here others = search (rules, same_from)
-changed_from n (resident ∷ residents) old new (suc i) p change e here others =
-    let first = same_components old new n n (λ id. others n id (λ f. absurd (omega arith))) in
-    search (rules, changed_from (suc n) residents old new i p change (omega arith) here others)
+changed_from n (resident ∷ residents) old new (suc i) p change e here others = search
+    (rules, same_components, changed_from (suc n) residents old new i p change (omega arith) here others)
 
--- ---- an entity is added
-
+-- an entity is added
 pub pushed_from : (n : ℕ) (residents : List Resident) (columns : List Column) (resident : Resident)
     → ((id : ComponentId) → value_at columns (n + length residents) id ≡ None)
     → entities_from n (residents ++ resident ∷ []) columns ≡ entities_from n residents columns
@@ -66,19 +67,12 @@ pub pushed_from : (n : ℕ) (residents : List Resident) (columns : List Column) 
 pushed_from n [] columns resident none = search (rules, no_components)
 pushed_from n (r ∷ residents) columns resident none = search (rules, pushed_from (suc n) residents columns resident)
 
--- ---- an entity is taken out, and the last one moves to its place
-
+-- an entity is taken out, and the last one moves to its place
 module _ (residents left : List Resident) (i n m : ℕ) (whole : n ≡ length residents) (rest : m ≡ length left)
     (one_less : m + 1 ≡ n) (inside : i < n) (by_index : ((d : Resident) → i + 1 < n
     → get_or left i d ≡ get_or residents (n - 1) d) × ((k : ℕ) (d : Resident) → k ≢ i → k + 1 < n
     → get_or left k d ≡ get_or residents k d)) (old new : List Column)
     (down : (number : ℕ) → IsMovedDown i (n - 1) (column_at old number).values (column_at new number).values) where
-  components_moved : i + 1 < n → components_at new i ≡ components_at old (n - 1)
-  components_moved room = search (rules, same_components)
-
-  components_others : (k : ℕ) → k ≢ i → k + 1 < n → components_at new k ≡ components_at old k
-  components_others k far room = search (rules, same_components)
-
   moved_from : IsMovedInto (entities_from 0 residents old) i (entities_from 0 left new)
   moved_from = record {
     one_less = omega (arith, length_from 0 left new, length_from 0 residents old);
@@ -86,19 +80,16 @@ module _ (residents left : List Resident) (i n m : ℕ) (whole : n ≡ length re
         (entities_from 0 residents old) - 1 ≡ n - 1 = omega (arith, length_from 0 residents old) in let resident :
         Resident = record { handle = d.handle; birth = d.birth } in let now = at_from 0 left new i resident d
         (omega arith) in let was = at_from 0 residents old (n - 1) resident d (omega arith) in search
-        (rules, by_index.0 resident below, components_moved below);
+        (rules, by_index.0 resident below, same_components);
     others = λ k d far room. let below : k + 1 < n = omega (arith, length_from 0 residents old) in let resident :
         Resident = record { handle = d.handle; birth = d.birth } in let now = at_from 0 left new k resident d
         (omega arith) in let was = at_from 0 residents old k resident d (omega arith) in search
-        (rules, by_index.1 k resident far below, components_others k far below);
+        (rules, by_index.1 k resident far below, same_components);
   }
-
-  moved_within : length new ≡ length old → AreColumnsOf (length residents) old → AreColumnsOf (length left) new
-  moved_within len within = search (rules, cases_eq)
 
   pub moved : length new ≡ length old → AreColumnsOf (length residents) old
       → IsMovedInto (entities_from 0 residents old) i (entities_from 0 left new) × AreColumnsOf (length left) new
-  moved len within = (moved_from, moved_within len within)
+  moved len within = search (rules, moved_from, cases_eq)
 
 -- ---- what stays within the residents
 
@@ -115,50 +106,27 @@ pub written_back : {X : Type 0} (new old : List X) (n : ℕ) → length new ≡ 
     → take n (new ++ drop (length new) old) ≡ new
 written_back new old n same whole = grind (arith, common_steps)
 
--- what the entity at a place is tested for
-pub handle_get : (residents : List Resident) (columns : List Column) (n i : ℕ)
-    → option_map (λ (e : LivingEntity). e.handle) (slice_get (entities_from n residents columns) i)
-    ≡ option_map (λ (resident : Resident). resident.handle) (slice_get residents i)
-handle_get [] columns n i = refl
-handle_get (resident ∷ residents) columns n zero = refl
-handle_get (resident ∷ residents) columns n (suc i) = handle_get residents columns (suc n) i
-
 pub born_get : (residents : List Resident) (columns : List Column) (n i : ℕ)
     → born_at (entities_from n residents columns) i ≡ option_map {U = Birth × Handle}
     (λ (resident : Resident). (resident.birth, resident.handle)) (slice_get residents i)
-born_get [] columns n i = refl
-born_get (resident ∷ residents) columns n zero = refl
-born_get (resident ∷ residents) columns n (suc i) = born_get residents columns (suc n) i
+born_get residents columns n i = search (rules, entry_from)
 
 -- the value of a component of the entity at a place
-pub value_get : (residents : List Resident) (columns : List Column) (n i : ℕ) (id : ComponentId) → i < length residents
-    → option_and_then (λ (e : LivingEntity). finite.get e.components id) (slice_get (entities_from n residents columns)
-    i) ≡ value_at columns (n + i) id
-value_get [] columns n i id l = absurd (omega arith)
-value_get (resident ∷ residents) columns n zero id l = search (rules, get_components)
-value_get (resident ∷ residents) columns n (suc i) id l = search
-    (rules, value_get residents columns (suc n) i id (omega arith))
-
 pub value_from : (residents : List Resident) (columns : List Column) (i : ℕ) (id : ComponentId)
     → AreColumnsOf (length residents) columns → option_and_then (λ (e : LivingEntity). finite.get e.components id)
     (slice_get (entities_from 0 residents columns) i) ≡ value_at columns i id
-value_from residents columns i id within = search (rules, cases_lt, value_get, slice_get_past, length_from)
+value_from residents columns i id within = search
+    (rules, slice_get_cases residents i, entry_from 0 residents columns i, get_components)
 
 -- a test of the handle at a place
-test_of : (o : Option LivingEntity) (h : Handle) → option_map_or (λ (e : LivingEntity). eq_by_cmp handle_cmp e.handle h)
-    o false ≡ option_map_or (λ (g : Handle). eq_by_cmp handle_cmp g h) (option_map (λ e. e.handle) o) false
-test_of None h = refl
-test_of (Some x) h = refl
-
 pub test_at : (residents : List Resident) (columns : List Column) (i : ℕ) (resident : Resident) (h : Handle)
     → slice_get residents i ≡ Some resident → has_handle_at (entities_from 0 residents columns) h (Some i)
     ≡ eq_by_cmp handle_cmp resident.handle h
-test_at residents columns i resident h at = search
-    (rules, test_of (slice_get (entities_from 0 residents columns) i) h, handle_get)
+test_at residents columns i resident h at = search (rules, entry_from)
 
 pub test_past : (residents : List Resident) (columns : List Column) (i : ℕ) (h : Handle) → length residents ≤ i
     → has_handle_at (entities_from 0 residents columns) h (Some i) ≡ false
-test_past residents columns i h l = search (rules, test_of, handle_get, slice_get_past)
+test_past residents columns i h l = search (rules, entry_from, slice_get_past)
 
 -- the birth and the handle of each resident
 pub births_from : (n : ℕ) (residents : List Resident) (columns : List Column)

@@ -1,35 +1,20 @@
 -- The map that slots stand for: its entries, and what it has at each handle.
-use Rattle.ent_storage.proofs.Common.{rules, ◌≡◌, ◌≢◌, ℕ, zero, suc, ◌+◌, ◌-◌, ◌<◌, ◌≤◌, Bool, true, false, cond, ◌&&◌, inl, inr, eqb, T, List, [], ◌∷◌, ◌++◌, length, get_or, set, replicate, None, Some, refl, arith, not, common_steps, AllPairs-cons, cases_eq, eq-eqb, nat_tests, get_or_past, get_or-set_same, get_or-set_other, Equal, eq_by_cmp, is_lt, find, is_sorted, below_all, Handle, handle_cmp, handle_cmp_total, handle_cmp-IsAntisymmetric, HandleMap, HandleValues, without_slot, value_under, slot_at, value_in, entries_from, map_of_slots, padded, count_at, Slot, Vacant, Occupied}
+use Rattle.ent_storage.proofs.Common.{rules, All-cons, ◌≡◌, ◌≢◌, ℕ, zero, suc, ◌+◌, ◌-◌, ◌<◌, ◌≤◌, false, cond, inl, inr, eqb, T, List, [], ◌∷◌, ◌++◌, length, get_or, set, replicate, None, Some, refl, arith, not, common_steps, AllPairs-cons, cases_eq, eq-eqb, nat_tests, get_or-set_same, get_or-set_other, eq_by_cmp, find, is_sorted, below_all, Handle, handle_cmp, handle_cmp_total, handle_cmp-IsAntisymmetric, HandleMap, HandleValues, without_slot, value_under, slot_at, value_in, entries_from, map_of_slots, padded, count_at, Slot, Vacant, Occupied}
 use Rattle.std.proofs.Common.{All, AllPairs}
 use Rattle.std.specs.FinMap as map
 
 -- ---- handles
 
-both : (a b : Bool) → T a → T b → T (a && b)
-both true b p q = q
-both false b p q = absurd p
-
--- a handle of an earlier slot comes first
-less_by_index : (g h : Handle) → g.index < h.index → T (is_lt (handle_cmp g h))
-less_by_index g h l = search (rules)
-
--- two handles tie where both numbers are equal
-ties : (a b : Handle) → eq_by_cmp handle_cmp a b ≡ (eqb a.index b.index && eqb a.generation b.generation)
-ties a b = grind (arith, common_steps)
-
--- of count_at slot
+-- two handles of one slot tie where the generations are equal
 ties_here : (a b : Handle) → a.index ≡ b.index → eq_by_cmp handle_cmp a b ≡ eqb a.generation b.generation
-ties_here a b e = search (rules, ties a b, eq-eqb)
+ties_here a b e = search (rules, eq-eqb)
 
--- of two
+-- those of two slots do not
 pub ties_apart : (a b : Handle) → a.index ≢ b.index → eq_by_cmp handle_cmp a b ≡ false
 ties_apart a b ne = grind (arith, common_steps)
 
 eqb_sym : (a b : ℕ) → eqb a b ≡ eqb b a
 eqb_sym a b = grind (arith, nat_tests)
-
-alike : (h : Handle) (q x : Handle) → handle_cmp q x ≡ Equal → not (eqb x.index h.index) ≡ not (eqb q.index h.index)
-alike h q x e = grind (arith, common_steps)
 
 module _ {X : Type 0} where
   -- ---- the entries rise
@@ -37,26 +22,18 @@ module _ {X : Type 0} where
   above : (h : Handle) (index : ℕ) (slots : List (Slot X)) → h.index < index
       → T (below_all handle_cmp h (entries_from index slots))
   above h index [] l = tt
-  above h index (Vacant ∷ slots) l = above h (index + 1) slots (omega arith)
-  above h index (Occupied generation value ∷ slots) l = search
-      (rules, both, less_by_index, above h (index + 1) slots (omega arith))
+  above h index (slot ∷ slots) l = search (rules, above h (index + 1) slots (omega arith))
 
   pub rising : (index : ℕ) (slots : List (Slot X)) → T (is_sorted handle_cmp (entries_from index slots))
   rising index [] = tt
-  rising index (Vacant ∷ slots) = rising (index + 1) slots
-  rising index (Occupied generation value ∷ slots) = search (rules, both, above, rising (index + 1) slots)
+  rising index (slot ∷ slots) = search (rules, above, rising (index + 1) slots)
 
   -- ---- what a handle finds
 
   find_before : (q : Handle) (index : ℕ) (slots : List (Slot X)) → q.index < index
       → find handle_cmp q (entries_from index slots) ≡ None
   find_before q index [] l = refl
-  find_before q index (Vacant ∷ slots) l = find_before q (index + 1) slots (omega arith)
-  find_before q index (Occupied generation value ∷ slots) l = search
-      (rules, find_before q (index + 1) slots (omega arith))
-
-  vacant_past : (at wanted : ℕ) → value_under (slot_at {T = X} [] at) wanted ≡ None
-  vacant_past at wanted = search (rules, get_or_past)
+  find_before q index (slot ∷ slots) l = search (rules, find_before q (index + 1) slots (omega arith))
 
   -- the first of the slots is not the one that is looked for
   later : (slot : Slot X) (slots : List (Slot X)) (q : Handle) (index : ℕ) → index < q.index
@@ -71,19 +48,11 @@ module _ {X : Type 0} where
 
   find_from : (q : Handle) (index : ℕ) (slots : List (Slot X)) → index ≤ q.index
       → find handle_cmp q (entries_from index slots) ≡ value_under (get_or slots (q.index - index) Vacant) q.generation
-  find_from q index [] l = search (rules, vacant_past)
-  find_from q index (Vacant ∷ slots) l = elim (cases_eq q.index index) [
-    | inl e ↦ search (rules, find_before, first_one)
-    | inr ne ↦ search
-        (rules, later, find_from q (index + 1) slots (omega (arith, ne)))
+  find_from q index [] l = search rules
+  find_from q index (slot ∷ slots) l = elim (cases_eq q.index index) [
+    | inl e ↦ search (rules, ties_here, find_before, eqb_sym, first_one)
+    | inr ne ↦ search (rules, ties_apart, later, find_from q (index + 1) slots (omega (arith, ne)))
   ]
-  find_from q index (Occupied generation value ∷ slots) l =
-      let here : Handle = record { index = index; generation = generation } in
-      elim (cases_eq q.index index) [
-        | inl e ↦ search (rules, ties_here, here, find_before, eqb_sym, first_one)
-        | inr
-            ne ↦ search (rules, ties_apart, here, later, find_from q (index + 1) slots (omega (arith, ne)))
-      ]
 
   -- what the map has at a handle
   pub get_map : (slots : List (Slot X)) (q : Handle) → map.get (map_of_slots slots) q ≡ value_in slots q
@@ -105,7 +74,7 @@ module _ {X : Type 0} where
       (record { values = map.empty; slots = 0; room = room; limit = other })
   map_emptied slots len room limit other none no_slots same = search (rules, map_none)
 
-  -- ---- count_at slot set
+  -- ---- a slot is set
 
   set_here : (slots : List (Slot X)) (h : Handle) (slot : Slot X) → h.index < length slots → (q : Handle)
       → q.index ≡ h.index → map.get (map_of_slots (set slots h.index slot)) q ≡ value_under slot q.generation
@@ -115,14 +84,9 @@ module _ {X : Type 0} where
       → map.get (map_of_slots (set slots h.index slot)) q ≡ map.get (map_of_slots slots) q
   set_elsewhere slots h slot q ne = search (rules, get_map, get_or-set_other)
 
-  -- a slot that has nothing of the slot's handles but the value of one
-  here_alone : (h q : Handle) (value : X) → q.index ≡ h.index → value_under (Occupied h.generation value) q.generation
-      ≡ cond (eq_by_cmp handle_cmp q h) (Some value) None
-  here_alone h q value e = search (rules, eqb_sym, ties_here)
-
   get-without : (m : HandleValues X) (h q : Handle) → map.get (without_slot m h.index) q
       ≡ cond (not (eqb q.index h.index)) (map.get m q) None
-  get-without m h q = map.get-retain_keys m (λ x. not (eqb x.index h.index)) q (alike h q)
+  get-without m h q = search (rules, map.get-retain_keys)
 
   -- in the slot of h, the map has but the value of h
   abbrev pub IsAlone : HandleValues X → Handle → X → Type 0
@@ -137,30 +101,17 @@ module _ {X : Type 0} where
         (λ q. let put = map.get-insert handle_cmp_total (without_slot m h.index) h v q in let less = get-without m h
         q in let tie = ties_apart q h in grind (arith, nat_tests, here q, elsewhere q))
 
-    -- the value of h is written over
-    pub is_written : (u v : X) → IsAlone m h u → IsAlone n h v → n ≡ map.insert m h v
-    is_written u v was here = map.same_map handle_cmp_total handle_cmp-IsAntisymmetric _ _
-        (λ q. let put = map.get-insert handle_cmp_total m h v q in let tie = ties_apart q h in grind
-        (arith, nat_tests, was q, here q, elsewhere q))
-
-    -- it is taken out
-    pub is_taken : (u : X) → IsAlone m h u → ((q : Handle) → q.index ≡ h.index → map.get n q ≡ None)
-        → n ≡ map.remove m h
-    is_taken u was none = map.same_map handle_cmp_total handle_cmp-IsAntisymmetric _ _
-        (λ q. let put = map.get-remove handle_cmp_total m h q in let tie = ties_apart q h in grind
-        (arith, nat_tests, was q, none q, elsewhere q))
-
   -- a slot has the value of the handle
   abbrev pub HasValue : List (Slot X) → Handle → X → Type 0
   HasValue slots h value = slot_at slots h.index ≡ Occupied h.generation value
 
   alone : (slots : List (Slot X)) (h : Handle) (value : X) → HasValue slots h value
       → IsAlone (map_of_slots slots) h value
-  alone slots h value has q e = search (rules, get_map, here_alone)
+  alone slots h value has q e = search (rules, get_map, eqb_sym, ties_here)
 
   alone_set : (slots : List (Slot X)) (h : Handle) (value : X) → h.index < length slots
       → IsAlone (map_of_slots (set slots h.index (Occupied h.generation value))) h value
-  alone_set slots h value within q e = search (rules, set_here, here_alone)
+  alone_set slots h value within q e = search (rules, set_here, eqb_sym, ties_here)
 
   pub map-put : (slots : List (Slot X)) (h : Handle) (value : X) → h.index < length slots
       → map_of_slots (set slots h.index (Occupied h.generation value)) ≡ map.insert (without_slot (map_of_slots slots)
@@ -169,26 +120,23 @@ module _ {X : Type 0} where
 
   pub map-write : (slots : List (Slot X)) (h : Handle) (old value : X) → h.index < length slots → HasValue slots h old
       → map_of_slots (set slots h.index (Occupied h.generation value)) ≡ map.insert (map_of_slots slots) h value
-  map-write slots h old value within has = is_written _ _ h (set_elsewhere slots h _) old value (alone slots h old has)
-      (alone_set slots h value within)
+  map-write slots h old value within has = map.same_map handle_cmp_total handle_cmp-IsAntisymmetric _ _ (λ q. grind
+      (arith, nat_tests, map.get-insert handle_cmp_total (map_of_slots slots) h value q, ties_apart q h,
+      alone slots h old has q, alone_set slots h value within q, set_elsewhere slots h (Occupied h.generation value) q))
 
   pub map-take : (slots : List (Slot X)) (h : Handle) (value : X) → h.index < length slots → HasValue slots h value
       → map_of_slots (set slots h.index Vacant) ≡ map.remove (map_of_slots slots) h
-  map-take slots h value within has = is_taken _ _ h (set_elsewhere slots h _) value (alone slots h value has)
-      (set_here slots h Vacant within)
+  map-take slots h value within has = map.same_map handle_cmp_total handle_cmp-IsAntisymmetric _ _ (λ q. grind
+      (arith, nat_tests, map.get-remove handle_cmp_total (map_of_slots slots) h q, ties_apart q h,
+      alone slots h value has q, set_here slots h Vacant within q, set_elsewhere slots h Vacant q))
 
-  one_more : (index : ℕ) (slot : Slot X) (slots : List (Slot X)) → length (entries_from index (slot ∷ slots)) ≡ count_at
-      slot + length (entries_from (index + 1) slots)
-  one_more index Vacant slots = omega arith
-  one_more index (Occupied generation value) slots = omega arith
-
-  -- how many there are after count_at slot is set
+  -- how many there are after a slot is set
   pub length-set_slot : (index : ℕ) (slots : List (Slot X)) (at : ℕ) (slot : Slot X) → at < length slots
       → length (entries_from index (set slots at slot)) + count_at (slot_at slots at)
       ≡ length (entries_from index slots) + count_at slot
   length-set_slot index [] at slot within = absurd (omega arith)
-  length-set_slot index (x ∷ slots) zero slot within = search (rules, one_more)
-  length-set_slot index (x ∷ slots) (suc at) slot within = search (rules, one_more, length-set_slot (index + 1) slots)
+  length-set_slot index (x ∷ slots) zero slot within = search rules
+  length-set_slot index (x ∷ slots) (suc at) slot within = search (rules, length-set_slot (index + 1) slots)
 
   -- ---- vacant slots behind
 
@@ -199,8 +147,7 @@ module _ {X : Type 0} where
   entries_more : (index : ℕ) (slots : List (Slot X)) (count : ℕ) → entries_from index (slots ++ replicate count Vacant)
       ≡ entries_from index slots
   entries_more index [] count = entries_vacant index count
-  entries_more index (Vacant ∷ slots) count = entries_more (index + 1) slots count
-  entries_more index (Occupied generation value ∷ slots) count = search (rules, entries_more (index + 1) slots count)
+  entries_more index (slot ∷ slots) count = search (rules, entries_more (index + 1) slots count)
 
   pub entries_padded : (slots : List (Slot X)) (count : ℕ) → entries_from 0 (padded slots count) ≡ entries_from 0 slots
   entries_padded slots count = entries_more 0 slots (count - length slots)
@@ -210,22 +157,13 @@ module _ {X : Type 0} where
 
   -- ---- in pairs
 
-  here : (from : ℕ) (e : Handle × X) (es : List (Handle × X)) → from ≤ e.0.index → All (λ x. from ≤ x.0.index) es
-      → All (λ x. from ≤ x.0.index) (e ∷ es)
-  here from e es first rest zero d l = first
-  here from e es first rest (suc k) d l = rest k d (omega (arith, l))
-
   entries_after : (from index : ℕ) (slots : List (Slot X)) → from ≤ index
       → All (λ e. from ≤ e.0.index) (entries_from index slots)
   entries_after from index [] least = λ k d l. absurd (omega (arith, l))
-  entries_after from index (Vacant ∷ slots) least = entries_after from (index + 1) slots (omega arith)
-  entries_after from index (Occupied generation value ∷ slots) least = here from
-      (record { index = index; generation = generation }, value) (entries_from (index + 1) slots) least
-      (entries_after from (index + 1) slots (omega arith))
+  entries_after from index (slot ∷ slots) least = search
+      (rules, All-cons, entries_after from (index + 1) slots (omega arith))
 
   pub pairs_rising : (index : ℕ) (slots : List (Slot X)) → AllPairs (λ a b. a.0.index < b.0.index) (entries_from index
       slots)
   pairs_rising index [] = λ i j d l m. absurd (omega (arith, m))
-  pairs_rising index (Vacant ∷ slots) = pairs_rising (index + 1) slots
-  pairs_rising index (Occupied generation value ∷ slots) = search
-      (rules, AllPairs-cons, entries_after, pairs_rising (index + 1) slots)
+  pairs_rising index (slot ∷ slots) = search (rules, AllPairs-cons, entries_after, pairs_rising (index + 1) slots)

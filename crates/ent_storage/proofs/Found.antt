@@ -1,5 +1,5 @@
 -- The slot of a handle that has a value.
-use Rattle.ent_storage.proofs.Common.{rules, ◌≡◌, ℕ, ◌+◌, ◌-◌, ◌<◌, ◌≤◌, ◌^◌, true, false, List, [], ◌∷◌, length, get_or, set, Some, is_some, refl, ap, arith, true≢false, cases_lt, eq-eqb, get_or_past, length-append, length-replicate, get_or_default, Handle, handle_cmp_total, handle_cmp-IsAntisymmetric, HandleValues, without_slot, HasLater, value_under, slot_at, entries_from, map_of_slots, count_at, AreCounted, padded, generation_of, Slot, Vacant, Occupied}
+use Rattle.ent_storage.proofs.Common.{common_steps, rules, ◌≡◌, ℕ, ◌+◌, ◌-◌, ◌<◌, ◌≤◌, ◌^◌, true, false, List, [], ◌∷◌, length, get_or, set, Some, is_some, refl, ap, arith, true≢false, cases_lt, eq-eqb, get_or_past, length-append, length-replicate, get_or_default, Handle, handle_cmp_total, handle_cmp-IsAntisymmetric, HandleValues, without_slot, HasLater, value_under, slot_at, entries_from, map_of_slots, count_at, AreCounted, padded, generation_of, Slot, Vacant, Occupied}
 use Rattle.std.proofs.Common.{length-set}
 use Rattle.std.specs.FinMap as map
 use Rattle.ent_storage.proofs.Entries.{HasValue, get_map, length-set_slot, map_padded, map-put, entries_padded}
@@ -54,14 +54,12 @@ module _ {X : Type 0} where
 
   pub later : (slots : List (Slot X)) (values : HandleValues X) (h : Handle) → map_of_slots slots ≡ values
       → h.generation < generation_of (slot_at slots h.index) → HasLater values h
-  later slots values h is above = by (slot_at slots h.index) refl above
-    where
-      by : (slot : Slot X) → slot_at slots h.index ≡ slot → h.generation < generation_of slot
-          → HasLater values h
-      by Vacant e l = absurd (omega arith)
-      by (Occupied g value) e l =
-          let q : Handle = record { index = h.index; generation = g } in
-          (g, l, ap is_some (got slots values q value is e))
+  later slots values h is above =
+      elim (slot_at slots h.index) as (λ slot. slot_at slots h.index ≡ slot → HasLater values h) [
+        | Vacant ↦ λ e. absurd (omega (arith, rw e at above))
+        | Occupied g value ↦ λ e.
+            (g, rw e at above, ap is_some (got slots values (record { index = h.index; generation = g }) value is e))
+      ] refl
 
   pub no_later : (slots : List (Slot X)) (values : HandleValues X) (h : Handle) → map_of_slots slots ≡ values
       → generation_of (slot_at slots h.index) ≤ h.generation → HasLater values h → ⊥
@@ -71,40 +69,23 @@ module _ {X : Type 0} where
 
   length-entries_le : (index : ℕ) (slots : List (Slot X)) → length (entries_from index slots) ≤ length slots
   length-entries_le index [] = omega arith
-  length-entries_le index (Vacant ∷ slots) = omega (arith, length-entries_le (index + 1) slots)
-  length-entries_le index (Occupied g value ∷ slots) = search (rules, length-entries_le (index + 1) slots)
+  length-entries_le index (slot ∷ slots) = search (rules, length-entries_le (index + 1) slots)
 
   pub few_values : (slots : List (Slot X)) (count : ℕ) → AreCounted 0 slots count → count < 2 ^ 32
   few_values slots count are = omega (arith, are.few, are.counted, length-entries_le 0 slots)
 
-  length-padded : (slots : List (Slot X)) (count : ℕ) → length (padded slots count) ≡ length slots
-      + (count - length slots)
-  length-padded slots count = search (rules, length-append, length-replicate)
-
   module _ (slots all : List (Slot X)) (h : Handle) (index : ℕ) (before after : Slot X) (value : X)
       (at : index ≡ h.index) (is : all ≡ padded slots (index + 1)) (was : before ≡ get_or all index before)
       (written : after ≡ Occupied h.generation value) where
-    reaches : index < length all
-    reaches = omega (arith, ap length is, length-padded slots (index + 1))
-
-    stood : before ≡ slot_at all h.index
-    stood = search (rules, read, reaches, was)
-
-    same : map_of_slots all ≡ map_of_slots slots
-    same = search (rules, map_padded)
-
-    entered : set all index after ≡ set all h.index (Occupied h.generation value)
-    entered = cc
-
     pub put-map : (values : HandleValues X) → map_of_slots slots ≡ values
         → map_of_slots (set all index after) ≡ map.insert (without_slot values h.index) h value
-    put-map values stands = search (rules, map_of_slots, entered, map-put, reaches, same)
+    put-map values stands = search (rules, map-put, map_padded, length-append, length-replicate)
 
     pub put-before : (values : HandleValues X) → map_of_slots slots ≡ values
         → value_under before h.generation ≡ map.get values h
-    put-before values stands = search (rules, stood, get_map, same)
+    put-before values stands = grind (arith, common_steps, get_map, read, map_padded, length-append, length-replicate)
 
     pub put-counted : (count lacking : ℕ) → AreCounted 0 slots count → index < 2 ^ 32 - 1
         → lacking + count_at before ≡ 1 → AreCounted 0 (set all index after) (count + lacking)
     put-counted count lacking are fits one = search
-        (rules, length-set_slot, reaches, read, entries_padded, length-padded, length-set)
+        (rules, length-set_slot, read, entries_padded, length-set, length-append, length-replicate)

@@ -1,6 +1,7 @@
 -- Entities, one by one: what is written of them tells them.
-use Rattle.ent_storage.proofs.Common.{common_steps, rules, ◌≡◌, ◌≢◌, refl, sym, ap, ◌∙◌, ℕ, zero, suc, ℤ, ◌+◌, ◌*◌, ◌<◌, ◌≤◌, Bool, true, false, IsTrue, List, [], ◌∷◌, ◌++◌, length, arith, Option, None, Some, IsSomeAnd, is_some, Contains, ◌||◌, ◌⊎◌, inl, inr, if◌then◌else◌, option_and_then, flat_map, list_any, cases_eq, cases_lt, false≢true, append_assoc, length-append, Birth, ComponentId, component_cmp_total, component_cmp-IsAntisymmetric, Handle, handle_cmp_total, handle_cmp-IsAntisymmetric, Entity, EntityMap, birth_of, value_of, word, long, birth_bytes, values_bytes, component, entity_bytes, entities_bytes, is_held, width_below, width, IsBirth, IsStored, AreStored}
+use Rattle.ent_storage.proofs.Common.{same_Some, Contains-append_right, common_steps, rules, ◌≡◌, ◌≢◌, refl, sym, ap, ◌∙◌, ℕ, zero, suc, ℤ, ◌+◌, ◌*◌, ◌<◌, ◌≤◌, Bool, false, List, [], ◌∷◌, ◌++◌, length, arith, Option, None, Some, is_some, Contains, ◌⊎◌, flat_map, list_any, cases_eq, cases_lt, false≢true, append_assoc, length-append, Birth, ComponentId, component_cmp_total, component_cmp-IsAntisymmetric, Handle, handle_cmp_total, handle_cmp-IsAntisymmetric, Entity, EntityMap, birth_of, value_of, birth_bytes, values_bytes, component, entity_bytes, entities_bytes, is_held, width_below, width, IsBirth, IsStored, AreStored}
 use Rattle.std.specs.FinMap as map
+use Rattle.ent_storage.proofs.Keys.{none_from}
 use Rattle.ent_storage.proofs.ImageBytes.{length-word, length-long, same_words, same_longs}
 use Rattle.ent_storage.proofs.ImageValues.{AllFit, same_values}
 
@@ -9,23 +10,15 @@ use Rattle.ent_storage.proofs.ImageValues.{AllFit, same_values}
 length-birth_bytes : (b : Birth) → length (birth_bytes b) ≡ 16
 length-birth_bytes b = search (rules, length-append, length-long, length-word)
 
-birth_then : (b : Birth) (rest : List ℕ) → birth_bytes b ++ rest ≡ long b.frame
-    ++ (word b.system ++ (word b.ordinal ++ rest))
-birth_then b rest = search (rules, append_assoc)
-
 same_births : (a b : Birth) (xs ys : List ℕ) → IsBirth a → IsBirth b → birth_bytes a ++ xs ≡ birth_bytes b ++ ys
     → (a ≡ b) × (xs ≡ ys)
-same_births a b xs ys fa fb same = search (rules, same_longs, birth_then, same_words)
+same_births a b xs ys fa fb same = search (rules, same_longs, same_words, append_assoc)
 
 -- ---- one entity
 
-known : (o : Option Birth) → IsSomeAnd o IsBirth → (b : Birth) × ((o ≡ Some b) × IsBirth b)
-known None is = absurd is
-known (Some b) is = (b, (refl, is))
-
 -- the birth of an entity that is there
 pub birth_known : (m : EntityMap) (h : Handle) → IsStored m h → (b : Birth) × ((birth_of m h ≡ Some b) × IsBirth b)
-birth_known m h is = known (birth_of m h) is.birth
+birth_known m h is = search rules
 
 pub entity_is : (n : ℕ) (m : EntityMap) (h : Handle) (b : Birth) (rest : List ℕ) → birth_of m h ≡ Some b
     → entity_bytes n m h ++ rest ≡ birth_bytes b ++ (values_bytes (value_of m h) n ++ rest)
@@ -80,14 +73,6 @@ same_entity n a b h xs ys is_a is_b same =
     let values = same_values (value_of a h) (value_of b h) n xs ys (fit_all a h is_a) (fit_all b h is_b) births.1 in
     search rules
 
--- it has at least 16 bytes
-entity_least : (n : ℕ) (m : EntityMap) (h : Handle) → IsStored m h → 16 ≤ length (entity_bytes n m h)
-entity_least n m h is =
-    let birth = birth_known m h is in
-    let all = ap length (entity_alone n m h birth.0 birth.1.0) in
-    let joined = length-append (birth_bytes birth.0) (values_bytes (value_of m h) n) in
-    omega (arith, all, joined, length-birth_bytes birth.0)
-
 -- what is written of an entity depends on it alone
 pub written_alike : (n : ℕ) (a b : EntityMap) (h : Handle) → map.get a h ≡ map.get b h
     → entity_bytes n a h ≡ entity_bytes n b h
@@ -102,25 +87,24 @@ stored_alike a b h same is = search (rules)
 first_in : (h : Handle) (hs : List Handle) → Contains (h ∷ hs) h
 first_in h hs = (0, omega arith, refl)
 
-later_in : (g h : Handle) (hs : List Handle) → Contains hs h → Contains (g ∷ hs) h
-later_in g h hs is = (suc is.0, omega (arith, is.1), is.2)
-
 pub all_alike : (n : ℕ) (a b : EntityMap) (hs : List Handle) → ((h : Handle) → Contains hs h → map.get a h ≡ map.get b
     h) → flat_map (entity_bytes n a) hs ≡ flat_map (entity_bytes n b) hs
 all_alike n a b [] each = refl
 all_alike n a b (h ∷ hs) each =
     let here = written_alike n a b h (each h (first_in h hs)) in
-    let rest = all_alike n a b hs (λ g is. each g (later_in h g hs is)) in
+    let rest = all_alike n a b hs (λ g is. each g (Contains-append_right (h ∷ []) hs g is)) in
     λ i. here i ++ rest i
 
 listed_least : (n : ℕ) (m : EntityMap) (hs : List Handle) → ((h : Handle) → Contains hs h → IsStored m h)
     → 16 * length hs ≤ length (flat_map (entity_bytes n m) hs)
 listed_least n m [] stored = omega arith
 listed_least n m (h ∷ hs) stored =
-    let here = entity_least n m h (stored h (first_in h hs)) in
-    let rest = listed_least n m hs (λ g is. stored g (later_in h g hs is)) in
+    let birth = birth_known m h (stored h (first_in h hs)) in
+    let here = ap length (entity_alone n m h birth.0 birth.1.0) in
+    let parts = length-append (birth_bytes birth.0) (values_bytes (value_of m h) n) in
+    let rest = listed_least n m hs (λ g is. stored g (Contains-append_right (h ∷ []) hs g is)) in
     let joined = length-append (entity_bytes n m h) (flat_map (entity_bytes n m) hs) in
-    omega (arith, here, rest, joined)
+    omega (arith, length-birth_bytes birth.0)
 
 pub entities_least : (m : EntityMap) (hs : List Handle) → AreStored m hs
     → 4 + 16 * length hs ≤ length (entities_bytes m hs)
@@ -128,8 +112,7 @@ entities_least m hs stored = search (rules, listed_least, length-append, length-
 
 -- the first handle, or a later one
 cases_in : (g : Handle) (hs : List Handle) (h : Handle) → Contains (g ∷ hs) h → (g ≡ h) ⊎ Contains hs h
-cases_in g hs h (zero, lt, at) = inl at
-cases_in g hs h (suc k, lt, at) = inr (k, omega (arith, lt), at)
+cases_in g hs h at = search rules
 
 pub same_listed : (n : ℕ) (a b : EntityMap) (hs : List Handle) (xs ys : List ℕ)
     → ((h : Handle) → Contains hs h → IsStored a h) → ((h : Handle) → Contains hs h → IsStored b h)
@@ -141,45 +124,26 @@ same_listed n a b (h ∷ hs) xs ys in_a in_b same =
     let rest_b = flat_map (entity_bytes n b) hs in
     let one = same_entity n a b h (rest_a ++ xs) (rest_b ++ ys) (in_a h (first_in h hs)) (in_b h (first_in h hs))
     (sym (append_assoc (entity_bytes n a h) rest_a xs) ∙ same ∙ append_assoc (entity_bytes n b h) rest_b ys) in
-    let rest = same_listed n a b hs xs ys (λ g is. in_a g (later_in h g hs is)) (λ g is. in_b g (later_in h g hs is))
-    one.1 in
+    let rest = same_listed n a b hs xs ys (λ g is. in_a g (Contains-append_right (h ∷ []) hs g is))
+    (λ g is. in_b g (Contains-append_right (h ∷ []) hs g is)) one.1 in
     search (rules, cases_in)
 
 -- ---- the width
 
-most_of : (held : Bool) (n most : ℕ) → most ≤ n → (if held then suc n else most) ≤ suc n
-most_of true n most least = omega arith
-most_of false n most least = omega arith
-
 width_most : (m : EntityMap) (hs : List Handle) (n : ℕ) → width_below m hs n ≤ n
 width_most m hs zero = omega arith
-width_most m hs (suc n) = most_of (is_held m hs n) n (width_below m hs n) (width_most m hs n)
+width_most m hs (suc n) = search (rules, width_most m hs n)
 
 pub width_few : (m : EntityMap) (hs : List Handle) → width m hs ≤ 256
 unfolding width
 width_few m hs = width_most m hs 256
 
-by_last : (m : EntityMap) (hs : List Handle) (n k : ℕ) (held : Bool) → is_held m hs n ≡ held
-    → (width_below m hs n ≤ k → k < n → is_held m hs k ≡ false) → (if held then suc n else width_below m hs n) ≤ k
-    → k < suc n → is_held m hs k ≡ false
-by_last m hs n k true is rest least below = absurd (omega arith)
-by_last m hs n k false is rest least below = search (rules, cases_eq)
-
 pub not_held : (m : EntityMap) (hs : List Handle) (n k : ℕ) → width_below m hs n ≤ k → k < n → is_held m hs k ≡ false
 not_held m hs zero k least below = absurd (omega arith)
-not_held m hs (suc n) k least below = by_last m hs n k (is_held m hs n) refl (not_held m hs n k) least below
-
-or_false : (a b : Bool) → a || b ≡ false → (a ≡ false) × (b ≡ false)
-or_false true b is = absurd (false≢true (sym is))
-or_false false b is = (refl, is)
+not_held m hs (suc n) k least below = search (rules, cases_eq, not_held m hs n k)
 
 any_false : (p : Handle → Bool) (hs : List Handle) → list_any p hs ≡ false → (h : Handle) → Contains hs h → p h ≡ false
-any_false p [] none h is = absurd (omega (arith, is.1))
-any_false p (g ∷ hs) none h is = grind (arith, common_steps, or_false, cases_in)
-
-pub none_from : {X : Type 0} (o : Option X) → ((v : X) → o ≡ Some v → ⊥) → o ≡ None
-none_from None never = refl
-none_from (Some v) never = absurd (never v refl)
+any_false p hs none h is = grind (arith, common_steps, cases_in, false≢true)
 
 -- no entity has a component past the width
 pub value_beyond : (m : EntityMap) (hs : List Handle) → AreStored m hs → (h : Handle) → Contains hs h
@@ -190,14 +154,6 @@ value_beyond m hs stored h is id least = none_from (value_of m h id)
     (not_held m hs 256 id.0 least ((stored.each h is).numbered id v at)) h is in false≢true (sym none ∙ ap is_some at))
 
 -- ---- all of them
-
-unwrapped : (o : Option Birth) → Birth → Birth
-unwrapped None b = b
-unwrapped (Some c) b = c
-
-inside : (m : EntityMap) (h : Handle) (o : Option Entity) → map.get m h ≡ o → (e : Entity) → o ≡ Some e
-    → IsTrue (map.contains_key m h)
-inside m h o is e some = ap is_some (is ∙ some)
 
 pub never_stored : (m : EntityMap) (h : Handle) → map.get m h ≡ None → IsStored m h → ⊥
 never_stored m h none is = search rules
@@ -210,16 +166,14 @@ module _ (a b : EntityMap) (hs : List Handle) (in_a : AreStored a hs) (in_b : Ar
   same_values_of h is id = search (rules, cases_lt)
 
   same_at : (h : Handle) (o p : Option Entity) → map.get a h ≡ o → map.get b h ≡ p → o ≡ p
-  unfolding unwrapped
   same_at h None None is_a is_b = refl
-  same_at h None (Some f) is_a is_b = search (rules, never_stored, inside)
-  same_at h (Some e) None is_a is_b = search (rules, never_stored, inside)
+  same_at h None (Some f) is_a is_b = search (rules, never_stored)
+  same_at h (Some e) None is_a is_b = search (rules, never_stored)
   same_at h (Some e) (Some f) is_a is_b =
-      let listed = in_a.only h (inside a h (Some e) is_a e refl) in
-      let births : e.birth ≡ f.birth = search (rules, unwrapped) in
-      let components : e.components ≡ f.components = map.same_map component_cmp_total component_cmp-IsAntisymmetric
-      e.components f.components (λ id. sym (ap (option_and_then (λ (x : Entity). map.get x.components id)) is_a)
-      ∙ same_values_of h listed id ∙ ap (option_and_then (λ (x : Entity). map.get x.components id)) is_b) in
+      let listed = in_a.only h (ap (λ x. is_some x) is_a) in
+      let births = same_Some _ _ (rw (is_a, is_b) at (alike h listed).birth) in
+      let components = map.same_map component_cmp_total component_cmp-IsAntisymmetric e.components f.components
+          (λ id. rw (is_a, is_b) at (same_values_of h listed id)) in
       λ i. Some (record { birth = births i; components = components i })
 
   pub same_all : a ≡ b

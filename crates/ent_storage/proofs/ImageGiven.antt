@@ -1,7 +1,7 @@
 -- An entity that was given a component.
-use Rattle.ent_storage.proofs.Common.{rules, ◌≡◌, ◌≢◌, refl, sym, ap, ◌∙◌, ℤ, true, [], ◌∷◌, Option, None, Some, is_some, option_and_then, false≢true, ComponentId, component_cmp_total, component_cmp-IsAntisymmetric, Handle, handle_cmp_total, handle_cmp-IsAntisymmetric, with_items, Entity, EntityMap, birth_of, value_of, with_components}
+use Rattle.ent_storage.proofs.Common.{arith, common_steps, rules, ◌≡◌, ◌≢◌, refl, ap, ◌∙◌, ℤ, true, [], ◌∷◌, Some, is_some, ComponentId, component_cmp_total, component_cmp-IsAntisymmetric, Handle, handle_cmp_total, handle_cmp-IsAntisymmetric, with_items, Entity, EntityMap, birth_of, value_of, with_components}
 use Rattle.std.specs.FinMap as map
-use Rattle.ent_storage.proofs.Keys.{get-insert_same, get-insert_other}
+use Rattle.ent_storage.proofs.Keys.{some_value, get-insert_same, get-insert_other}
 
 module _ (m : EntityMap) (h : Handle) (id : ComponentId) (v : ℤ) where
   abbrev pub given : EntityMap
@@ -17,31 +17,21 @@ module _ (m : EntityMap) (h : Handle) (id : ComponentId) (v : ℤ) where
   get_here e at = ap (λ x. map.get x h) (given_is e at) ∙ get-insert_same handle_cmp_total handle_cmp-IsAntisymmetric m
       h (with_one e) h refl
 
-  other_at : (q : Handle) → q ≢ h → (o : Option Entity) → map.get m h ≡ o → map.get given q ≡ map.get m q
-  other_at q other None at = search rules
-  other_at q other (Some e) at = ap (λ x. map.get x q) (given_is e at)
-      ∙ get-insert_other handle_cmp_total handle_cmp-IsAntisymmetric m h (with_one e) q other
-
   pub given_rest : (q : Handle) → q ≢ h → map.get given q ≡ map.get m q
-  given_rest q other = other_at q other (map.get m h) refl
+  given_rest q other = grind (arith, common_steps, λ (e : Entity). given_is e, λ (e : Entity). get-insert_other
+      handle_cmp_total handle_cmp-IsAntisymmetric m h (with_one e) q other)
 
   module _ (there : is_some (birth_of m h) ≡ true) where
-    there_at : (o : Option Entity) → map.get m h ≡ o → (e : Entity) × (map.get m h ≡ Some e)
-    there_at None at = search (rules, false≢true)
-    there_at (Some e) at = (e, at)
-
     entity : (e : Entity) × (map.get m h ≡ Some e)
-    entity = there_at (map.get m h) refl
+    entity = some_value (map.get m h) (search rules)
 
     pub given_value : value_of given h id ≡ Some v
-    given_value = ap (option_and_then (λ (e : Entity). map.get e.components id)) (get_here entity.0 entity.1)
-        ∙ get-insert_same component_cmp_total component_cmp-IsAntisymmetric entity.0.components id v id refl
+    given_value = rw (get_here entity.0 entity.1) (get-insert_same component_cmp_total component_cmp-IsAntisymmetric
+        entity.0.components id v id refl)
 
     pub given_others : (other : ComponentId) → other ≢ id → value_of given h other ≡ value_of m h other
-    given_others other apart = ap (option_and_then (λ (e : Entity). map.get e.components other))
-        (get_here entity.0 entity.1) ∙ get-insert_other component_cmp_total component_cmp-IsAntisymmetric
-        entity.0.components id v other apart ∙ sym (ap (option_and_then (λ (e : Entity). map.get e.components other))
-        entity.1)
+    given_others other apart = rw (get_here entity.0 entity.1, entity.1) (get-insert_other component_cmp_total
+        component_cmp-IsAntisymmetric entity.0.components id v other apart)
 
     pub given_birth : birth_of given h ≡ birth_of m h
     given_birth = search (rules, get_here)

@@ -2,9 +2,9 @@
 use Rattle.ent_storage.proofs.Common.{rules, ◌≡◌, ◌≢◌, sym, ap, ◌∙◌, subst, ℕ, ◌+◌, ◌^◌, ◌<◌, ◌≤◌, List, [], ◌∷◌, ◌++◌, length, take, drop, get_or, Contains, IsTrue, None, arith, inl, inr, is_some, common_steps, flat_map, append_assoc, append-nil, length-append, flat_map_more, take_all, take-append-drop, drop_more, take_more, length-take, get_or-take, flat_map-append, Contains-append_left, Contains-push, Contains-push_cases, ComponentId, Handle, handle_cmp_total, handle_cmp-IsAntisymmetric, EntityMap, value_of, word, entity_bytes, entities_bytes, width, IsStored, AreStored, AreFirst}
 use Rattle.std.proofs.Common.{AllPairs}
 use Rattle.std.specs.FinMap as map
-use Rattle.ent_storage.proofs.Keys.{same_or_apart}
+use Rattle.ent_storage.proofs.Keys.{none_from, same_or_apart}
 use Rattle.ent_storage.proofs.ImageBytes.{length-word, same_words}
-use Rattle.ent_storage.proofs.ImageEntities.{IsAlike, all_alike, same_listed, same_all, never_stored, value_beyond, width_few, none_from, stored_alike}
+use Rattle.ent_storage.proofs.ImageEntities.{IsAlike, all_alike, same_listed, same_all, never_stored, value_beyond, width_few, stored_alike}
 
 -- ---- what the bytes begin with
 
@@ -58,11 +58,8 @@ module _ {n : ℕ} {old : EntityMap} {bytes rest : List ℕ} (hs : List Handle) 
   -- another entity is read
   module _ (apart : AllPairs (λ a b. a ≢ b) hs) (new : EntityMap) (kept : (g : Handle) → g ≢ h → map.get new g ≡ map.get
       old g) where
-    free : map.get old h ≡ None
-    free = search (rules, none_from, length-take, get_or-take)
-
     same_at : (g : Handle) → Contains before g → map.get old g ≡ map.get new g
-    same_at g at = search (rules, never_stored, free)
+    same_at g at = search (rules, never_stored, none_from, length-take, get_or-take)
 
     -- what holds of each entity so far, and of this one
     each_more : (P : EntityMap → Handle → Type 0) → ((g : Handle) → map.get old g ≡ map.get new g → P old g → P new g)
@@ -73,17 +70,15 @@ module _ {n : ℕ} {old : EntityMap} {bytes rest : List ℕ} (hs : List Handle) 
     pub read_more : (left : List ℕ) → rest ≡ entity_bytes n new h ++ left → IsStored new h
         → ((id : ComponentId) → n ≤ id.0 → value_of new h id ≡ None) → AreRead n new (take (i + 1) hs) bytes left
     read_more left first stored beyond = subst (λ xs. AreRead n new xs bytes left) (sym next) (record {
-      spelled = read.spelled ∙ ap (word n ++◌) ((λ j. all_alike n old new before same_at j ++ first j)
-          ∙ sym (append_assoc (flat_map (entity_bytes n new) before) (entity_bytes n new h) left)
-          ∙ ap (◌++ left) (flat_map_more (entity_bytes n new) [] before h));
-      each = each_more IsStored (stored_alike old new) read.each stored;
-      beyond = search (rules, each_more);
-      only = λ g there. elim (same_or_apart handle_cmp_total handle_cmp-IsAntisymmetric g h) [
-        | inl same ↦ subst (Contains (before ++ h ∷ [])) (sym same) (Contains-push before h)
-        | inr other ↦
-            Contains-append_left before (h ∷ []) g (read.only g (ap (λ o. is_some o) (sym (kept g other)) ∙ there))
-      ];
-    })
+          spelled = grind (arith, common_steps, all_alike, same_at, append_assoc, flat_map_more);
+          each = each_more IsStored (stored_alike old new) read.each stored;
+          beyond = search (rules, each_more);
+          only = λ g there. elim (same_or_apart handle_cmp_total handle_cmp-IsAntisymmetric g h) [
+            | inl same ↦ subst (Contains (before ++ h ∷ [])) (sym same) (Contains-push before h)
+            | inr other ↦ Contains-append_left before (h ∷ []) g
+                (read.only g (ap (λ o. is_some o) (sym (kept g other)) ∙ there))
+          ];
+        })
 
 -- the entities are the first of the bytes
 abbrev pub first_read : {n : ℕ} {s : EntityMap} {bytes rest : List ℕ} (hs : List Handle) (k : ℕ) → n ≤ 256

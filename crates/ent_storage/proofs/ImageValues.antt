@@ -1,5 +1,5 @@
 -- The values of an entity, one by one: what is written tells them.
-use Rattle.ent_storage.proofs.Common.{rules, ◌≡◌, ◌≢◌, refl, sym, ap, ◌∙◌, ℕ, zero, suc, ℤ, ◌+◌, ◌^◌, ◌<◌, ◌≤◌, List, ◌++◌, drop, Option, None, Some, add-one, arith, w64, cast_unsigned, FitsSigned, flat_map, range_with_len, Fits-lt-pow, Fits-of_z, cases_eq, append_assoc, append-nil, ComponentId, value_bytes, values_bytes, component, to_z-of_z}
+use Rattle.ent_storage.proofs.Common.{rules, ◌≡◌, ◌≢◌, refl, sym, ap, ◌∙◌, ℕ, zero, suc, ℤ, ◌+◌, ◌<◌, ◌≤◌, List, ◌++◌, Option, None, Some, add-one, arith, w64, FitsSigned, flat_map, range_with_len, Fits-lt-pow, Fits-of_z, cases_eq, append_assoc, append-nil, ComponentId, value_bytes, values_bytes, component, to_z-of_z}
 use Rattle.ent_storage.proofs.ImageBytes.{same_longs}
 
 -- ---- pieces, one for each number
@@ -7,10 +7,7 @@ use Rattle.ent_storage.proofs.ImageBytes.{same_longs}
 module _ (f : ℕ → List ℕ) where
   pieces_more : (a n : ℕ) → flat_map f (range_with_len a (suc n)) ≡ flat_map f (range_with_len a n) ++ f (a + n)
   pieces_more a zero = search (rules, append-nil)
-  pieces_more a (suc n) =
-      let at : a + 1 + n ≡ a + suc n = omega arith in
-      ap (f a ++◌) (pieces_more (a + 1) n ∙ ap (λ k. flat_map f (range_with_len (a + 1) n) ++ f k) at)
-      ∙ sym (append_assoc (f a) (flat_map f (range_with_len (a + 1) n)) (f (a + suc n)))
+  pieces_more a (suc n) = search (rules, append_assoc, pieces_more (a + 1) n)
 
   -- the piece of one number, and those before and after it
   pieces_split : (a n k : ℕ) → k < n → (rest : List ℕ) × (flat_map f (range_with_len a n)
@@ -20,11 +17,7 @@ module _ (f : ℕ → List ℕ) where
       let at : a ≡ a + 0 = omega arith in
       let rest = flat_map f (range_with_len (a + 1) n) in
       (rest, ap (λ k. f k ++ rest) at)
-  pieces_split a (suc n) (suc k) lt =
-      let inner = pieces_split (a + 1) n k (omega arith) in
-      let at : a + 1 + k ≡ a + suc k = omega arith in
-      let before = flat_map f (range_with_len (a + 1) k) in
-      search (rules, append_assoc)
+  pieces_split a (suc n) (suc k) lt = let inner = pieces_split (a + 1) n k (omega arith) in search (rules, append_assoc)
 
 -- pieces that are alike one by one
 pieces_alike : (f g : ℕ → List ℕ) (a n : ℕ) → ((k : ℕ) → a ≤ k → k < a + n → f k ≡ g k)
@@ -44,18 +37,9 @@ Fits value = (v : ℤ) → value ≡ Some v → FitsSigned w64 v
 abbrev pub AllFit : (ComponentId → Option ℤ) → Type 0
 AllFit value = (id : ComponentId) → Fits (value id)
 
-unsigned_below : (z : ℤ) → FitsSigned w64 z → cast_unsigned w64 z < 2 ^ 64
-unsigned_below z fits = Fits-lt-pow (Fits-of_z fits)
-
-not_below : (m n : ℕ) → m ≡ n → m < n → ⊥
-not_below m n is lt = omega arith
-
 same_value : (v w : Option ℤ) (xs ys : List ℕ) → Fits v → Fits w → value_bytes v ++ xs ≡ value_bytes w ++ ys
     → (v ≡ w) × (xs ≡ ys)
-same_value None None xs ys fv fw same = (refl, ap (drop 1) same)
-same_value None (Some w) xs ys fv fw same = search (rules, not_below)
-same_value (Some v) None xs ys fv fw same = search (rules, not_below)
-same_value (Some v) (Some w) xs ys fv fw same = search (rules, same_longs, unsigned_below, to_z-of_z)
+same_value v w xs ys fv fw same = search (rules, same_longs, to_z-of_z, Fits-lt-pow, Fits-of_z)
 
 -- ---- values
 

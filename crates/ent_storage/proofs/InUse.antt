@@ -4,7 +4,7 @@ use Rattle.std.specs.Cmp.{nat_cmp_total as total}
 use Rattle.std.specs.FinMap as map
 use Rattle.std.specs.FinMap.{nat_cmp-IsAntisymmetric as same}
 use Rattle.ent_storage.proofs.Keys.{same_or_apart}
-use Rattle.ent_storage.proofs.ColumnsAtPlaces.{column_set, column_kept, moved_none}
+use Rattle.ent_storage.proofs.ColumnsAtPlaces.{column_set, column_kept}
 
 pub in_use_none : AreInUse [] []
 in_use_none = search (rules)
@@ -32,22 +32,25 @@ module _ (used : List ℕ) (gap number : ℕ) (within : gap ≤ length used)
       ⊎ (((k ≡ gap) × (get_or more k d ≡ number)) ⊎ ((gap < k) × (k - 1 < length used)
       × (get_or more k d ≡ get_or used (k - 1) d) × (number < get_or used (k - 1) d)))
   placed k d l = elim (cases_order k gap) [
-    | inl e ↦ let here = get_or-insert_at used gap number d within in inr
-        (inl (e, cc))
+    | inl e ↦ let here = get_or-insert_at used gap number d within in inr (inl (e, cc))
     | inr far ↦ elim far [
-      | inl m ↦ let read = get_or_default used k d 0 (omega arith) in let kept =
-          get_or-insert_below used gap number d k m within in inl (m, kept, omega (arith, below k m))
-      | inr m ↦ let back : k
-          - 1 + 1 ≡ k = omega arith in let last : k - 1 < length used = omega
-          (arith, length-insert used gap number within) in let read = get_or_default used (k - 1) d 0 last in let moved =
-          get_or-insert_above used gap number d (k - 1) (omega arith) within in inr
-          (inr (m, last, cc, omega (arith, above (k - 1) (omega arith) last)))
+      | inl m ↦
+          let read = get_or_default used k d 0 (omega arith) in
+          let kept = get_or-insert_below used gap number d k m within in
+          inl (m, kept, omega (arith, below k m))
+      | inr m ↦
+          let back : k - 1 + 1 ≡ k = omega arith in
+          let last : k - 1 < length used = omega (arith, length-insert used gap number within) in
+          let read = get_or_default used (k - 1) d 0 last in
+          let moved = get_or-insert_above used gap number d (k - 1) (omega arith) within in
+          inr (inr (m, last, cc, omega (arith, above (k - 1) (omega arith) last)))
     ]
   ]
 
-  module _ (columns : List Column) (inside : number < length columns) (in_use : AreInUse used columns) where
-    pub in_use_inserted : AreInUse more columns
-    in_use_inserted = search (rules, placed, cases_lt, get_or-insert_below, length-insert, get_or-insert_above)
+  pub in_use_inserted : (columns : List Column) → number < length columns → AreInUse used columns
+      → AreInUse more columns
+  in_use_inserted columns inside in_use = search
+      (rules, placed, cases_lt, get_or-insert_below, length-insert, get_or-insert_above)
 
 -- ---- a column without values or room stays as it is
 
@@ -68,8 +71,7 @@ pub in_use_set : (used : List ℕ) (columns : List Column) (id : ℕ) (is : Colu
     → AreInUse used columns → AreInUse used (set columns id is)
 in_use_set used columns id is there in_use = grind (arith, common_steps)
 
--- ---- the columns in use are passed one by one
-
+-- the columns in use are passed one by one
 module _ (used : List ℕ) (place last : ℕ) (old : List Column) where
   -- the number is one of the first i in use
   abbrev Passed : ℕ → ℕ → Type 0
@@ -110,7 +112,6 @@ module _ (used : List ℕ) (place last : ℕ) (old : List Column) where
           column_kept new (get_or used i 0) was is inside read n far ∙ ahead.1,
         )
 
-  module _ (in_use : AreInUse used old) where
-    pub passed_all : (i : ℕ) (new : List Column) → length used ≤ i → ((n : ℕ) → IsPassed i new n) → (n : ℕ)
-        → IsMovedDown place last (column_at old n).values (column_at new n).values
-    passed_all i new whole passed n = search (rules, moved_none)
+  pub passed_all : AreInUse used old → (i : ℕ) (new : List Column) → length used ≤ i → ((n : ℕ) → IsPassed i new n)
+      → (n : ℕ) → IsMovedDown place last (column_at old n).values (column_at new n).values
+  passed_all in_use i new whole passed n = search (rules, map.get-empty)

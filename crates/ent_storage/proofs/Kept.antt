@@ -10,8 +10,7 @@ module _ {X : Type 0} where
   pub entries-append : (index : ℕ) (front back : List (Slot X)) → entries_from index (front ++ back) ≡ entries_from
       index front ++ entries_from (index + length front) back
   entries-append index [] back = search rules
-  entries-append index (Vacant ∷ front) back = search (rules, entries-append (index + 1) front back)
-  entries-append index (Occupied generation value ∷ front) back = search (rules, entries-append (index + 1) front back)
+  entries-append index (slot ∷ front) back = search (rules, entries-append (index + 1) front back)
 
   -- the entries up to a slot that was just set
   pub entries-upto : (slots : List (Slot X)) (index : ℕ) (slot : Slot X) → index < length slots
@@ -34,30 +33,25 @@ module _ {X : Type 0} where
   -- ---- one slot
 
 module _ {X F : Type 0} (step : F → Handle → MutBor X → Bool → MutBor X → F → Type 0) where
-  pub called_at : (f : F) (h : Handle) (shown : MutBor X) (keep : Bool) (left : MutBor X) (next : F)
-      → step f h shown keep left next → CalledAt step f h shown.now keep left.now next
-  called_at f h shown keep left next called = search rules
+  -- f was called at the value of a slot
+  module _ (f next : F) (index : ℕ) (slot : Slot X) (h : Handle) (shown left : MutBor X) (keep : Bool)
+      (has : handle_in slot index ≡ Some h) (value : any_value slot ≡ Some shown.now)
+      (called : step f h shown keep left next) where
+    called_at : CalledAt step f h shown.now keep left.now next
+    called_at = search rules
 
-  -- f was called at the value of a slot, and kept it
-  pub kept_slot : (f next : F) (index : ℕ) (slot : Slot X) (h : Handle) (shown left : MutBor X) (keep : Bool)
-      → handle_in slot index ≡ Some h → any_value slot ≡ Some shown.now → step f h shown keep left next → keep ≡ true
-      → RetainsSlot step f index slot (Occupied (generation_of slot) left.now) next
-  kept_slot f next index slot h shown left keep has value called is = search
-      (rules, called_at f h shown keep left next called)
+    -- and kept it, or not
+    pub kept_slot : keep ≡ true → RetainsSlot step f index slot (Occupied (generation_of slot) left.now) next
+    kept_slot is = search (rules, called_at)
 
-  -- it didn't
-  pub gone_slot : (f next : F) (index : ℕ) (slot : Slot X) (h : Handle) (shown left : MutBor X) (keep : Bool)
-      → handle_in slot index ≡ Some h → any_value slot ≡ Some shown.now → step f h shown keep left next → keep ≡ false
-      → RetainsSlot step f index slot Vacant next
-  gone_slot f next index slot h shown left keep has value called is = search
-      (rules, called_at f h shown keep left next called)
+    pub gone_slot : keep ≡ false → RetainsSlot step f index slot Vacant next
+    gone_slot is = search (rules, called_at)
 
   -- a slot in front of the others
   in_front : (f next : F) (index : ℕ) (slot new : Slot X) (slots : List (Slot X)) (later : List (Handle × X))
       → RetainsSlot step f index slot new next → Retains step next (entries_from (index + 1) slots) later
       → Retains step f (entries_from index (slot ∷ slots)) (entries_from index (new ∷ []) ++ later)
-  in_front f next index Vacant new slots later kept rest = search (rules)
-  in_front f next index (Occupied generation old) new slots later (keep, left, called, is) rest = search (rules)
+  in_front f next index slot new slots later kept rest = search rules
 
   -- The walk has come to a slot: those from it on are as they were, and whatever f makes of them
   -- completes its work.

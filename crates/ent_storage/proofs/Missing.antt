@@ -1,5 +1,5 @@
 -- How many items set a component that is not there.
-use Rattle.ent_storage.proofs.Common.{common_steps, ◌≡◌, ℕ, None, ℤ, ◌<◌, List, length, get_or, arith, Result, Ok, Err, OnErr, ComponentId, Components, missing}
+use Rattle.ent_storage.proofs.Common.{rules, common_steps, ◌≡◌, ℕ, None, ℤ, ◌<◌, List, length, get_or, arith, Result, OnErr, ComponentId, Components, missing}
 use Rattle.std.specs.FinMap as map
 
 -- a component is missing that one of the items sets
@@ -9,5 +9,4 @@ missing_at m items i d l none = grind (arith, common_steps)
 
 -- what holds, holds also if a call was refused
 pub on_err : {X E : Type 0} {P : Type 0} (r : Result X E) → P → OnErr r P
-on_err (Ok x) p = tt
-on_err (Err e) p = p
+on_err r p = search rules

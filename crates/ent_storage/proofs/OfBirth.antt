@@ -1,5 +1,5 @@
 -- The least handle of a birth, among pairs and in the map.
-use Rattle.ent_storage.proofs.Common.{common_steps, rules, ◌≡◌, ◌≢◌, ◌⊎◌, inl, inr, List, [], ◌∷◌, ◌++◌, map, length, Option, Some, None, IfSome, IfNone, IsSomeAnd, Contains, true, ℕ, false, ◌<◌, refl, sym, ap, subst, ◌∙◌, arith, Less, Equal, Greater, eq_by_cmp, option_map, false≢true, same_Some, none-some, get_or-map, length-map, Contains-push, Contains-push_cases, FinMap, Birth, birth_cmp, Handle, handle_cmp, total, same, LivingEntity, Entity, birth_of, map_of, IsIndexed, IsLeastOf, Ordering}
+use Rattle.ent_storage.proofs.Common.{common_steps, rules, ◌≡◌, ◌≢◌, ◌⊎◌, inl, inr, List, [], ◌∷◌, ◌++◌, map, length, Option, Some, None, IfSome, IfNone, IsSomeAnd, Contains, true, ℕ, false, ◌<◌, refl, sym, subst, ◌∙◌, arith, Greater, eq_by_cmp, option_map, false≢true, same_Some, none-some, get_or-map, length-map, Contains-push, Contains-push_cases, FinMap, Birth, birth_cmp, Handle, handle_cmp, LivingEntity, Entity, birth_of, map_of, IsIndexed, IsLeastOf}
 use Rattle.std.specs.FinMap as finite
 use Rattle.ent_storage.proofs.ByBirth.{born_of}
 use Rattle.ent_storage.proofs.Indexed.{some_entity, get_placed, placed_from_get}
@@ -13,28 +13,11 @@ same_birth a b e = search (rules, same_or_apart, false≢true, apart)
 pub other_birth : (a b : Birth) → eq_by_cmp birth_cmp a b ≡ false → a ≢ b
 other_birth a b e is = search (rules, false≢true)
 
--- ---- a handle that is not after a second one, which is not after a third
-
-less_not : (r : Ordering) → r ≡ Less → r ≢ Greater
-less_not r p q = cc
-
-by_cases : (a b c : Handle) (r s : Ordering) → handle_cmp a b ≡ r → handle_cmp b c ≡ s → r ≢ Greater → s ≢ Greater
-    → handle_cmp a c ≢ Greater
-by_cases a b c Less Less p q n m = less_not _ (total.trans a b c p q)
-by_cases a b c Less Equal p q n m = less_not _ (ap (handle_cmp a) (sym (same b c q)) ∙ p)
-by_cases a b c Less Greater p q n m = absurd (m refl)
-by_cases a b c Equal s p q n m = λ e. m (sym q ∙ sym (total.congr a b c p) ∙ e)
-by_cases a b c Greater s p q n m = absurd (n refl)
-
-not_after : (a b c : Handle) → handle_cmp a b ≢ Greater → handle_cmp b c ≢ Greater → handle_cmp a c ≢ Greater
-not_after a b c n m = by_cases a b c _ _ refl refl n m
-
 -- ---- one pair more
 
 from_least : (o : Option Handle) (k q : Handle) → IfSome o (λ l. handle_cmp k l ≢ Greater)
     → IsSomeAnd o (λ l. handle_cmp l q ≢ Greater) → handle_cmp k q ≢ Greater
-from_least None k q below at = absurd at
-from_least (Some l) k q below at = not_after k l q below at
+from_least o k q below at = search rules
 
 module _ (birth : Birth) (pairs : List (Birth × Handle)) (o : Option Handle) (is : IsLeastOf birth pairs o) where
   pub least_other : (p : Birth × Handle) → p.0 ≢ birth → IsLeastOf birth (pairs ++ p ∷ []) o
@@ -46,13 +29,11 @@ module _ (birth : Birth) (pairs : List (Birth × Handle)) (o : Option Handle) (i
     listed = grind (arith, common_steps, Contains-push pairs (birth, h));
     before = λ q at. elim (Contains-push_cases pairs (birth, h) (birth, q) at) [
       | inl old ↦ from_least o k q below (is.before q old)
-      | inr e ↦ subst (λ x. handle_cmp k x ≢ Greater)
-          (ap (λ (p : Birth × Handle). p.1) e) here
+      | inr e ↦ subst (λ (p : Birth × Handle). handle_cmp k p.1 ≢ Greater) e here
     ];
   }
 
--- ---- in the map
-
+-- in the map
 module _ (living : List LivingEntity) (index : FinMap handle_cmp ℕ) (indexed : IsIndexed living index)
     (birth : Birth) where
   pub to_map : (h : Handle) → Contains (map born_of living) (birth, h) → birth_of (map_of living) h ≡ Some birth
@@ -65,10 +46,9 @@ module _ (living : List LivingEntity) (index : FinMap handle_cmp ℕ) (indexed :
       → Contains (map born_of living) (birth, h)
   found h None at is = absurd (none-some birth is)
   found h (Some e) at is =
-      let r : LivingEntity = some_entity h in
       let place = placed_from_get living index indexed h e at in
-      let born = same_Some _ _ (sym (ap (option_map (λ (e : Entity). e.birth))
-      (get_placed living index indexed h place.0 r place.1)) ∙ ap (option_map (λ (e : Entity). e.birth)) at ∙ is) in
+      let same = same_Some _ _ (sym (get_placed living index indexed h place.0 (some_entity h) place.1) ∙ at) in
+      let born = same_Some _ _ is in
       search (rules, length-map, born_of, get_or-map)
 
   pub from_map : (h : Handle) → birth_of (map_of living) h ≡ Some birth → Contains (map born_of living) (birth, h)
@@ -79,10 +59,8 @@ module _ (living : List LivingEntity) (index : FinMap handle_cmp ℕ) (indexed :
 pub least_if : (o : Option Handle) (P : Handle → Type 0)
     → ((h : Handle) → P h → IsSomeAnd o (λ l. handle_cmp l h ≢ Greater))
     → IfSome o (λ l. (h : Handle) → P h → handle_cmp l h ≢ Greater)
-least_if None P f = tt
-least_if (Some l) P f = f
+least_if o P f = search rules
 
 pub none_if : (o : Option Handle) (P : Handle → Type 0)
     → ((h : Handle) → P h → IsSomeAnd o (λ l. handle_cmp l h ≢ Greater)) → IfNone o ((h : Handle) → P h → ⊥)
-none_if None P f = f
-none_if (Some l) P f = tt
+none_if o P f = search rules

@@ -10,23 +10,17 @@ module _ {X : Type 0} (R : X → X → Type 0) (asym : (a b : X) → R a b → �
   front x y xs ys p q (suc k, l, e) (zero, m, f) = f
   front x y xs ys p q (suc k, l, e) (suc j, m, f) = search (rules, asym x y, p 0 (suc j) y, q 0 (suc k) x)
 
-  -- what is above the first one is among the others
-  later : (x z : X) (ys : List X) → R x z → Contains (x ∷ ys) z → Contains ys z
-  later x z ys r (zero, l, e) = search rules
-  later x z ys r (suc k, l, e) = (k, omega (arith, l), e)
-
-  above : (x z : X) (xs : List X) → AllPairs R (x ∷ xs) → Contains xs z → R x z
-  above x z xs p (k, l, e) = search (rules, p 0 (suc k) z)
-
-  deeper : (x z : X) (xs : List X) → Contains xs z → Contains (x ∷ xs) z
-  deeper x z xs (k, l, e) = (suc k, omega (arith, l), e)
-
-  others : (x : X) (xs : List X) → AllPairs R (x ∷ xs) → AllPairs R xs
-  others x xs p = λ i j d lt l. p (suc i) (suc j) d (omega (arith, lt)) (omega (arith, l))
-
+  -- behind two heads that are the same, what is in one list is in the other
   within : (x y : X) (xs ys : List X) → x ≡ y → AllPairs R (x ∷ xs) → ((z : X) → Contains (x ∷ xs) z → Contains (y ∷ ys)
       z) → (z : X) → Contains xs z → Contains ys z
-  within x y xs ys same p f z c = search (rules, later x z ys (above x z xs p c), f z (deeper x z xs c))
+  within x y xs ys same p f z (k, l, e) = by (f z (suc k, omega (arith, l), e))
+    where
+      by : Contains (y ∷ ys) z → Contains ys z
+      by (zero, m, g) = search (rules, asym x z, p 0 (suc k) z)
+      by (suc j, m, g) = (j, omega (arith, m), g)
+
+  others : (x : X) (xs : List X) → AllPairs R (x ∷ xs) → AllPairs R xs
+  others x xs p i j d lt l = p (suc i) (suc j) d (omega (arith, lt)) (omega (arith, l))
 
   -- two lists that rise and have the same members are the same
   pub same_list : (xs ys : List X) → AllPairs R xs → AllPairs R ys → ((z : X) → Contains xs z → Contains ys z)
@@ -44,14 +38,12 @@ module _ {X : Type 0} (R : X → X → Type 0) (asym : (a b : X) → R a b → �
 not_both : {K : Type 0} {C : K → K → Ordering} → IsTotalOrder C → (a b : K) → C a b ≡ Less → ¬ (C b a ≡ Less)
 not_both o a b r s = search (rules)
 
-birth_order_total : (m : EntityMap) → IsTotalOrder (birth_order m)
-birth_order_total m = then_total (on_total (birth_of m) (options_total birth_cmp_total)) handle_cmp_total
-
 -- the entities that pass a test have one list
 pub one_list : (passes : Entity → Bool) (m : EntityMap) (hs ks : List Handle) → ListsByBirth passes m hs
     → ListsByBirth passes m ks → hs ≡ ks
-one_list passes m hs ks a b = same_list (λ x y. birth_order m x y ≡ Less) (not_both (birth_order_total m)) hs ks
-    a.rising b.rising (λ h c. (b.holds h).1 ((a.holds h).0 c)) (λ h c. (a.holds h).1 ((b.holds h).0 c))
+one_list passes m hs ks a b = same_list (λ x y. birth_order m x y ≡ Less)
+    (not_both (then_total (on_total (birth_of m) (options_total birth_cmp_total)) handle_cmp_total)) hs ks a.rising
+    b.rising (λ h c. (b.holds h).1 ((a.holds h).0 c)) (λ h c. (a.holds h).1 ((b.holds h).0 c))
 
 -- so have all entities
 pub one_list_of_all : (m : EntityMap) (hs ks : List Handle) → ListsAll m hs → ListsAll m ks → hs ≡ ks

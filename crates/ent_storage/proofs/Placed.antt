@@ -1,6 +1,7 @@
 -- The handles at the places of the residents.
-use Rattle.ent_storage.proofs.Common.{rules, ◌≡◌, ℕ, zero, suc, ◌+◌, ◌-◌, ◌<◌, List, [], ◌∷◌, length, get_or, set, Some, None, Option, is_some, slice_get, refl, ap, arith, length-map, get_or_default, get_or-map, FinMap, Components, Handle, handle_cmp, LivingEntity, IsMovedInto, Store, IsIndexed, entity_of, map_of, handles_by_place, AreWithout, slice_get-get_or}
+use Rattle.ent_storage.proofs.Common.{common_steps, rules, ◌≡◌, ℕ, zero, suc, ◌-◌, ◌<◌, List, [], ◌∷◌, length, get_or, set, Some, None, is_some, slice_get, refl, ap, arith, length-map, get_or-map, FinMap, Handle, handle_cmp, LivingEntity, IsMovedInto, Store, IsIndexed, entity_of, map_of, handles_by_place, AreWithout, slice_get-get_or}
 use Rattle.std.specs.FinMap as finite
+use Rattle.ent_storage.proofs.ElementsAt.{filled, filled_map}
 use Rattle.ent_storage.proofs.Indexed.{some_entity, some_not_none, get_placed, get_unplaced}
 
 pub at_place : (living : List LivingEntity) (i : ℕ) (h : Handle) → slice_get (handles_by_place living) i ≡ Some h
@@ -30,19 +31,13 @@ pub record IsEntityAt (living : List LivingEntity) (s : Store) (h : Handle) (i :
   pub found : finite.get s.entities h ≡ Some (entity_of (get_or living i (some_entity h)))
 
 module _ (living : List LivingEntity) (index : FinMap handle_cmp ℕ) (spare : ℕ) (s : Store)
-    (indexed : IsIndexed living index) (view : record {
-      entities = map_of living;
-      places = handles_by_place living;
-      spare = spare;
-    } ≡ s) (h : Handle) where
-  pub entity_placed : (i : ℕ) → finite.get index h ≡ Some i → IsEntityAt living s h i
-  entity_placed i at = search (rules, get_placed, some_entity)
-
+    (indexed : IsIndexed living index) (view : record { entities = map_of living; places = handles_by_place living;
+    spare = spare } ≡ s) (h : Handle) where
   pub placed_at : (i : ℕ) → slice_get s.places i ≡ Some h → finite.get index h ≡ Some i
   placed_at i at = search (rules, placed_from_place)
 
   pub entity_at : (i : ℕ) → slice_get s.places i ≡ Some h → IsEntityAt living s h i
-  entity_at i at = entity_placed i (placed_at i at)
+  entity_at i at = search (rules, placed_at, get_placed, some_entity)
 
 -- an entity that keeps its handle
 pub handles_set : (living : List LivingEntity) (i : ℕ) (entity : LivingEntity)
@@ -50,36 +45,18 @@ pub handles_set : (living : List LivingEntity) (i : ℕ) (entity : LivingEntity)
     → handles_by_place (set living i entity) ≡ handles_by_place living
 handles_set [] i entity is = refl
 handles_set (x ∷ living) zero entity is = ap (λ (h : Handle). h ∷ handles_by_place living) (is x (omega arith))
-handles_set (x ∷ living) (suc i) entity is = ap (λ (hs : List Handle). x.handle ∷ hs)
-    (handles_set living i entity (λ d l. is d (omega arith)))
-
-pub handles_changed : (living : List LivingEntity) (i : ℕ) (entity : LivingEntity) → entity ≡ get_or living i entity
-    → (held : Components) → handles_by_place (set living i
-    (record { handle = entity.handle; birth = entity.birth; components = held })) ≡ handles_by_place living
-handles_changed living i entity read held = search (rules, handles_set, get_or_default)
+handles_set (x ∷ living) (suc i) entity is = search (rules, handles_set living i entity (λ d l. is d (omega arith)))
 
 -- a handle has a place if it is in the map
 pub placed_known : (living : List LivingEntity) (index : FinMap handle_cmp ℕ) → IsIndexed living index → (h : Handle)
     → is_some (finite.get index h) ≡ is_some (finite.get (map_of living) h)
-placed_known living index indexed h = by (finite.get index h) refl
-  where
-    by : (o : Option ℕ) → finite.get index h ≡ o → is_some o
-        ≡ is_some (finite.get (map_of living) h)
-    by None at = search (rules, get_unplaced)
-    by (Some i) at = let found = get_placed living index indexed h i (some_entity h) at in cc
+placed_known living index indexed h = grind (arith, common_steps, get_unplaced living index indexed h,
+    λ (i : ℕ). get_placed living index indexed h i (some_entity h))
 
 -- the last one has moved into the place
 pub handles_without : (living left : List LivingEntity) (i : ℕ) (h : Handle) → i < length living
     → IsMovedInto living i left → AreWithout i (handles_by_place living) (handles_by_place left)
-handles_without living left i h inside rest = record {
-  one_less = search (rules, length-map, rest.one_less);
-  moved = λ room. let before : i + 1 < length living = omega
-      (arith, length-map living (λ (e : LivingEntity). e.handle), room) in let n_is : length living - 1
-      ≡ length (handles_by_place living) - 1 = omega (arith, length-map living (λ (e : LivingEntity). e.handle)) in let
-      now = from_place left i (some_entity h) (omega (arith, rest.one_less)) in let was = from_place living
-      (length living - 1) (some_entity h) (omega arith) in let same_one = rest.moved (some_entity h) before in cc;
-  others = λ k apart room. let before : k + 1 < length living = omega
-      (arith, length-map living (λ (e : LivingEntity). e.handle), room) in let now = from_place left k (some_entity h)
-      (omega (arith, rest.one_less)) in let was = from_place living k (some_entity h) (omega arith) in let same_one =
-      rest.others k (some_entity h) apart before in cc;
-}
+handles_without living left i h inside rest =
+    let taken = filled_map (λ (e : LivingEntity). e.handle) living left i (filled living left i _ _ (some_entity h) refl
+    refl rest.one_less (rest.moved, rest.others)) in
+    search rules

@@ -1,5 +1,5 @@
 -- Components that are put one after the other.
-use Rattle.ent_storage.proofs.Common.{rules, ◌≡◌, ◌∙◌, refl, ap, arith, ◌+◌, ◌<◌, ◌≤◌, ℕ, ℤ, List, [], ◌∷◌, length, reverse, T, cond, is_some, Some, None, reverse_aux, put, find, is_sorted, find-put, length-put, is_sorted-put, eq_by_cmp, ComponentId, component_cmp, component_cmp_total, Bundle, with_put, bundle_of}
+use Rattle.ent_storage.proofs.Common.{common_steps, rules, ◌≡◌, ◌∙◌, refl, ap, arith, ◌+◌, ◌<◌, ◌≤◌, ℕ, ℤ, List, [], ◌∷◌, length, reverse, T, cond, is_some, Some, None, reverse_aux, put, find, is_sorted, find-put, length-put, is_sorted-put, eq_by_cmp, ComponentId, component_cmp, component_cmp_total, Bundle, with_put, bundle_of}
 
 -- A later item counts before an earlier one, and before what was held.
 find_with : (id : ComponentId) (held earlier items : List (ComponentId × ℤ))
@@ -23,17 +23,13 @@ module _ (id : ComponentId) (value : ℤ) (held : Bundle) (rising : T (is_sorted
       (length held + 1)
   grown = length-put component_cmp component_cmp_total id value held rising
 
-  no_shorter_by_one : length held ≤ length (put component_cmp id value held)
-  no_shorter_by_one = search (rules, grown)
-
 -- No component is lost.
 no_shorter : (held : Bundle) (items : List (ComponentId × ℤ)) → T (is_sorted component_cmp held)
     → length held ≤ length (with_put held items)
 no_shorter held [] rising = omega arith
 no_shorter held (item ∷ items) rising =
-    let one = no_shorter_by_one item.0 item.1 held rising in
     let others = no_shorter (put component_cmp item.0 item.1 held) items (still_rising item.0 item.1 held rising) in
-    omega arith
+    grind (arith, common_steps, grown item.0 item.1 held rising)
 
 -- Where at least n are held, one that is not there makes more than n.
 pub more_than : (n : ℕ) (held : Bundle) (id : ComponentId) (value : ℤ) (items : List (ComponentId × ℤ))

@@ -1,7 +1,7 @@
 -- The birth of the entity at a place is changed.
-use Rattle.ent_storage.proofs.Common.{rules, ◌≡◌, ℕ, zero, suc, ◌<◌, List, [], ◌∷◌, length, get_or, set, Some, refl, ap, ◌∙◌, arith, get_or_default, FinMap, Birth, Handle, handle_cmp, Resident, with_birth, Column, LivingEntity, entities_from, with_birth_at, map_of, handles_by_place, counted, IsKeptIndex}
+use Rattle.ent_storage.proofs.Common.{rules, ◌≡◌, ℕ, zero, suc, ◌<◌, List, [], ◌∷◌, length, get_or, set, Some, refl, ap, arith, get_or_default, FinMap, Birth, Handle, handle_cmp, Resident, with_birth, Column, LivingEntity, entities_from, with_birth_at, map_of, handles_by_place, counted, IsKeptIndex}
 use Rattle.std.specs.FinMap as finite
-use Rattle.ent_storage.proofs.Indexed.{some_entity, entities_set, read_handle, get_read}
+use Rattle.ent_storage.proofs.Indexed.{some_entity, entities_set, get_placed}
 use Rattle.ent_storage.proofs.Counted.{kept_set}
 use Rattle.ent_storage.proofs.Placed.{handles_set}
 
@@ -21,11 +21,7 @@ length_reborn (e ∷ living) (suc i) birth = ap suc (length_reborn living i birt
 length_reborn living i birth = refl
 
 as_set : (living : List LivingEntity) (i : ℕ) (d : LivingEntity) (birth : Birth) → i < length living
-    → with_birth_at living i birth ≡ set living i (record {
-      handle = (get_or living i d).handle;
-      birth = birth;
-      components = (get_or living i d).components;
-    })
+    → with_birth_at living i birth ≡ set living i (record (get_or living i d) { birth = birth })
 as_set [] i d birth l = absurd (omega arith)
 as_set (e ∷ living) zero d birth l = refl
 as_set (e ∷ living) (suc i) d birth l = ap (λ es. e ∷ es) (as_set living i d birth (omega arith))
@@ -36,25 +32,16 @@ module _ (living : List LivingEntity) (index : FinMap handle_cmp ℕ) (room : �
   was = get_or living i (some_entity h)
 
   abbrev changed : LivingEntity
-  changed = record { handle = was.handle; birth = birth; components = was.components }
-
-  inside : i < length living
-  inside = (kept.indexed.each_place h i placed).0
-
-  read : was ≡ get_or living i was
-  read = search (rules, get_or_default, some_entity, inside)
-
-  its_handle : was.handle ≡ h
-  its_handle = search (rules, read_handle, read)
+  changed = record was { birth = birth }
 
   at : finite.get (counted living index) changed.handle ≡ Some i
-  at = ap (finite.get (counted living index)) its_handle ∙ placed
+  at = search (rules, some_entity)
 
   is_set : with_birth_at living i birth ≡ set living i changed
-  is_set = as_set living i (some_entity h) birth inside
+  is_set = search (rules, as_set, some_entity, kept.indexed)
 
   pub reborn_entities : map_of (with_birth_at living i birth) ≡ with_birth (map_of living) h birth
-  reborn_entities = search (rules, is_set, entities_set, at, its_handle, get_read, read)
+  reborn_entities = search (rules, is_set, entities_set, at, get_placed, some_entity)
 
   pub reborn_handles : handles_by_place (with_birth_at living i birth) ≡ handles_by_place living
   reborn_handles = search (rules, is_set, handles_set, get_or_default, some_entity)

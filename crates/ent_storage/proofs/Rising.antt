@@ -1,16 +1,14 @@
 -- Lists of pairs whose keys strictly rise, as maps: what an edit at a position leaves.
-use Rattle.ent_storage.proofs.Common.{common_steps, rules, ◌≡◌, ℕ, zero, suc, ◌+◌, ◌-◌, ◌<◌, ◌≤◌, inl, inr, Bool, true, false, cond, T, ◌&&◌, List, [], ◌∷◌, length, get_or, set, Some, None, Ordering, refl, sym, ap, subst, ◌∙◌, arith, Less, Equal, Greater, is_eq, IsTotalOrder, insert, HoldsAt, cases_lt, IsAntisymmetric, find, put, is_sorted, is_sorted-put, IsAt, IsGapFor}
+use Rattle.ent_storage.proofs.Common.{common_steps, rules, ◌≡◌, ℕ, zero, suc, ◌+◌, ◌-◌, ◌<◌, ◌≤◌, inl, inr, Bool, T, ◌&&◌, List, [], ◌∷◌, length, get_or, set, Some, None, Ordering, refl, sym, ap, subst, ◌∙◌, arith, Less, Equal, Greater, is_eq, IsTotalOrder, insert, HoldsAt, cases_lt, IsAntisymmetric, find, put, is_sorted, is_sorted-put, IsAt, IsGapFor}
 use Rattle.std.specs.FinMap as map
 use Rattle.ent_storage.proofs.Positions.{second, turn, rising_at}
 use Rattle.ent_storage.proofs.Putting.{above_head, find_in_gap, inserted, written}
 
 pub both : (a b : Bool) → T a → T b → T (a && b)
-both true b x y = y
-both false b x y = absurd x
+both a b x y = search rules
 
 pub equal : (r : Ordering) → T (is_eq r) → r ≡ Equal
-equal Equal h = refl
-equal r h = absurd h
+equal r h = search rules
 
 module _ {K X : Type 0} {R : K → K → Ordering} (o : IsTotalOrder R) where
   -- a key that ties at a position is found there
@@ -18,8 +16,8 @@ module _ {K X : Type 0} {R : K → K → Ordering} (o : IsTotalOrder R) where
       → R (get_or es i d).0 k ≡ Equal → find R k es ≡ Some (get_or es i d).1
   find_at [] k i d h l t = absurd (omega arith)
   find_at (e ∷ es) k zero d h l t = grind (arith, common_steps, turn)
-  find_at (e ∷ es) k (suc i) d h l t = ap (λ r. cond (is_eq r) (Some e.1) (find R k es))
-      (above_head o k e es i d h (omega arith) t) ∙ find_at es k i d (second _ _ h) (omega arith) t
+  find_at (e ∷ es) k (suc i) d h l t = rw (above_head o k e es i d h (omega arith) t)
+      (find_at es k i d (second _ _ h) (omega arith) t)
 
   -- the maps of the edited lists
   pub from_sorted-put : (es : List (K × X)) (k : K) (v : X) → T (is_sorted R es)
@@ -39,11 +37,9 @@ gap_from_neighbours {K = K} {X = X} {R = R} o es k p rising l before after = rec
     | inr near ↦ before j (omega arith) d
   ];
   greater_after = λ j d low high. elim (cases_lt p j) [
-    | inl far ↦ turn o k (get_or es j d).0 Less
-        (o.trans _ _ _ (turn o (get_or es p d).0 k Greater (after (omega arith) d))
-        (rising_at o es p j d rising far high))
-    | inr near ↦ let same : j
-        ≡ p = omega arith in rw same (after (omega arith) d)
+    | inl far ↦ turn o k (get_or es j d).0 Less (o.trans _ _ _
+        (turn o (get_or es p d).0 k Greater (after (omega arith) d)) (rising_at o es p j d rising far high))
+    | inr near ↦ let same : j ≡ p = omega arith in rw same (after (omega arith) d)
   ];
 }
 

@@ -1,11 +1,11 @@
 -- The entities that have a component, by the pairs of its dense vector.
-use Rattle.ent_storage.proofs.Common.{rules, ◌≡◌, ◌≢◌, ℕ, ℤ, ◌<◌, Bool, true, List, length, get_or, map, Option, IsSome, [], ◌∷◌, Some, None, slice_get, is_some, pos, Contains, inl, inr, refl, sym, ap, subst, ◌∙◌, arith, option_map, All, AllPairs, IsDistinct, cases_lt, false≢true, length-map, get_or_default, none-some, same_Some, slice_get-map, slice_get-get_or, slice_get_past, get_or_from_slice_get, IsDistinct-from_apart, FinMap, Birth, ComponentId, Handle, handle_cmp, handle_cmp_total, handle_cmp-IsAntisymmetric, Entity, EntityMap, value_of, ListsWith, IsInOrder, LivingEntity, IsValueAt, born_at, entity_of, map_of, handles_by_place, IsIndexed}
+use Rattle.ent_storage.proofs.Common.{false, All-map, get_or-map, same_lists, option_and_then_some, rules, ◌≡◌, ◌≢◌, ℕ, ℤ, ◌<◌, Bool, true, List, length, get_or, map, Option, IsSome, [], ◌∷◌, Some, slice_get, pos, Contains, inl, inr, refl, sym, ap, subst, ◌∙◌, arith, All, AllPairs, IsDistinct, cases_lt, length-map, get_or_default, none-some, same_Some, slice_get-map, slice_get-get_or, slice_get_past, IsDistinct-from_apart, FinMap, Birth, ComponentId, Handle, handle_cmp, handle_cmp_total, handle_cmp-IsAntisymmetric, Entity, value_of, ListsWith, IsInOrder, LivingEntity, IsValueAt, born_at, entity_of, map_of, handles_by_place, IsIndexed}
 use Rattle.std.proofs.Common.{option_and_then}
 use Rattle.std.specs.FinMap as finite
-use Rattle.ent_storage.proofs.Keys.{apart}
+use Rattle.ent_storage.proofs.Keys.{apart, some_value, AllPairs-map}
 use Rattle.ent_storage.proofs.Indexed.{some_entity, distinct, get_placed}
 use Rattle.ent_storage.proofs.Placed.{from_place}
-use Rattle.ent_storage.proofs.ByBirth.{born_of, IsBorn, alike, all_there, lists_of}
+use Rattle.ent_storage.proofs.ByBirth.{born_of, contains_map, IsBorn, alike, all_there, lists_of}
 
 -- a place at which an entity has a value is inside
 value_inside : (living : List LivingEntity) (p : ℕ) (id : ComponentId) (v : ℤ) → IsValueAt living p id v
@@ -25,22 +25,12 @@ pub same_value : (living : List LivingEntity) (index : FinMap handle_cmp ℕ) �
     (slice_get living p) ≡ option_and_then (λ (h : Handle). value_of (map_of living) h id)
     (slice_get (handles_by_place living) p)
 same_value living index indexed id p = elim (cases_lt p (length living)) [
-  | inl l ↦ let r : LivingEntity = some_entity (record { index = 0; generation = 0 }) in let there = get_placed
-      living index indexed (get_or living p r).handle p r (indexed.each_entity p l r) in rw
-      (slice_get-get_or living p r l, from_place living p r l, there)
-  | inr g ↦ rw (
-    slice_get_past living p g,
-    slice_get_past (handles_by_place living) p (omega (arith, length-map living (λ (e : LivingEntity). e.handle))),
-  )
+  | inl l ↦
+      let r : LivingEntity = some_entity (record { index = 0; generation = 0 }) in
+      let there = get_placed living index indexed (get_or living p r).handle p r (indexed.each_entity p l r) in
+      rw (slice_get-get_or living p r l, from_place living p r l, there)
+  | inr past ↦ rw (slice_get-map (λ (e : LivingEntity). e.handle) living p, slice_get_past living p past)
 ]
-
-inner : {X : Type 0} (o x : Option X) → option_map {U = Option X} Some o ≡ Some x → o ≡ x
-inner None x e = absurd (none-some x e)
-inner (Some y) x e = same_Some _ _ e
-
-some_value : (o : Option ℤ) → is_some o ≡ true → (v : ℤ) × (o ≡ Some v)
-some_value None e = absurd (false≢true e)
-some_value (Some v) e = (v, refl)
 
 -- there are as many births as pairs
 pub as_many : (living : List LivingEntity) (births : List (Birth × Handle)) (pairs : List (ℕ × ℤ))
@@ -57,67 +47,59 @@ module _ (living : List LivingEntity) (index : FinMap handle_cmp ℕ) (indexed :
   abbrev passes : Entity → Bool
   passes e = finite.contains_key e.components id
 
-  born_pair : (k : ℕ) (d : ℕ × ℤ) → k < length pairs → slice_get births k ≡ born_at living (get_or pairs k d).0
-  born_pair k d l =
-      let e = ap (λ (bs : List (Option (Birth × Handle))). slice_get bs k) are in
-      search (rules, inner, slice_get-map, slice_get-get_or pairs k d l)
+  abbrev unused : LivingEntity
+  unused = some_entity (record { index = 0; generation = 0 })
 
-  -- the birth of the pair at a position is that of the entity at its place
-  birth_is : (k : ℕ) (d : ℕ × ℤ) (r : LivingEntity) → k < length pairs
-      → slice_get births k ≡ Some (born_of (get_or living (get_or pairs k d).0 r))
-  birth_is k d r l = born_pair k d l ∙ ap (option_map {U = Birth × Handle} (λ (e : LivingEntity). (e.birth, e.handle)))
-      (slice_get-get_or living (get_or pairs k d).0 r (pair_inside living id pairs has k d l))
+  abbrev born : ℕ × ℤ → Birth × Handle
+  born pair = born_of (get_or living pair.0 unused)
+
+  births_are : births ≡ map born pairs
+  births_are = same_lists births (map born pairs) (search (rules, as_many, length-map)) (λ k d l.
+      let pair : ℕ × ℤ = (0, pos 0) in
+      let below : k < length pairs = omega (arith, as_many living births pairs are) in
+      let was = get_or-map (λ (b : Birth × Handle). Some b) births k d (Some d) l in
+      let is = get_or-map (λ (pair : ℕ × ℤ). born_at living pair.0) pairs k pair (Some d) below in
+      let there = slice_get-get_or living _ unused (pair_inside living id pairs has k pair below) in
+      let same = ap (λ (bs : List (Option (Birth × Handle))). get_or bs k (Some d)) are in
+      rw (get_or-map born pairs k pair d below) (same_Some _ _ (sym was ∙ same ∙ rw there at is)))
 
   all_born : All (IsBorn living index indexed passes) births
-  all_born k b l =
-      let d : ℕ × ℤ = (0, pos 0) in
-      let r : LivingEntity = some_entity b.1 in
-      let below : k < length pairs = omega (arith, as_many living births pairs are) in
+  all_born = rw births_are (All-map (IsBorn living index indexed passes) born pairs (λ k d l.
       let pair = get_or pairs k d in
-      let inside = pair_inside living id pairs has k d below in
-      let value = has pair.0 pair.1 (k, below, get_or_default pairs k (pair.0, pair.1) d below) in
-      rw (get_or_from_slice_get births k _ b (birth_is k d r below)) (record {
-        entity = entity_of (get_or living pair.0 r);
-        there = all_there living index indexed passes pair.0 r inside;
+      let inside = pair_inside living id pairs has k d l in
+      let value = has pair.0 pair.1 (k, l, get_or_default pairs k (pair.0, pair.1) d l) in
+      record {
+        entity = entity_of (get_or living pair.0 unused);
+        there = all_there living index indexed passes pair.0 unused inside;
         birth = refl;
-        pass = search (rules, slice_get-get_or living pair.0 r inside, value);
-      })
+        pass = search (rules, slice_get-get_or living pair.0 unused inside, value);
+      }))
 
   births_apart : IsDistinct (alike living index indexed passes) births
-  births_apart = IsDistinct-from_apart (alike living index indexed passes) births
-      (λ i j b l k. let d : ℕ × ℤ = (0, pos 0) in let r : LivingEntity = some_entity b.1 in let below : j
-      < length pairs = omega (arith, as_many living births pairs are) in let at_i = get_or_from_slice_get births i _ b
-      (birth_is i d r (omega arith)) in let at_j = get_or_from_slice_get births j _ b (birth_is j d r below) in let
-      differ = λ (e : (get_or living (get_or pairs i d).0 r).handle
-      ≡ (get_or living (get_or pairs j d).0 r).handle). once i j d l below
-      (distinct living index indexed _ _ r (pair_inside living id pairs has i d (omega arith))
-      (pair_inside living id pairs has j d below) e) in rw (at_i, at_j)
-      (apart handle_cmp_total handle_cmp-IsAntisymmetric _ _ differ))
+  births_apart = rw births_are (IsDistinct-from_apart (alike living index indexed passes) (map born pairs)
+      (AllPairs-map (λ a b. alike living index indexed passes a b ≡ false) born pairs
+      (λ i j d l k. apart handle_cmp_total handle_cmp-IsAntisymmetric _ _ (λ e. once i j d l k
+      (distinct living index indexed _ _ unused (pair_inside living id pairs has i d (omega arith))
+      (pair_inside living id pairs has j d k) e)))))
 
   complete : (i : ℕ) (r : LivingEntity) → i < length living → passes (entity_of (get_or living i r)) ≡ true
       → Contains births (born_of (get_or living i r))
   complete i r l pass =
       let value = some_value _ pass in
-      let one = slice_get-get_or living i r l in
-      let at = all i value.0 (search (rules, one, value.1)) in
-      let born = born_pair at.0 (i, value.0) at.1 in
-      search (rules, as_many, get_or_from_slice_get)
+      let at = all i value.0 (search (rules, slice_get-get_or living i r l, value.1)) in
+      rw (births_are, get_or_default living i r unused l) (contains_map born pairs (i, value.0) at)
 
   pub lists_with : (handles : List Handle) → IsInOrder births handles → ListsWith id (map_of living) handles
   lists_with = lists_of living index indexed passes births all_born births_apart complete
 
 -- ---- who has it, if anybody does
 
-valued : (m : EntityMap) (id : ComponentId) (o : Option Handle) (v : ℤ)
-    → option_and_then (λ (h : Handle). value_of m h id) o ≡ Some v → (h : Handle) × IsSome (value_of m h id)
-valued m id None v is = absurd (none-some v is)
-valued m id (Some h) v is = (h, subst IsSome (sym is) refl)
-
 -- an entity has the component if there is a pair
 pub some_with : (living : List LivingEntity) (index : FinMap handle_cmp ℕ) → IsIndexed living index
     → (id : ComponentId) (pairs : List (ℕ × ℤ)) → ((p : ℕ) (v : ℤ) → Contains pairs (p, v) → IsValueAt living p id v)
     → 0 < length pairs → (h : Handle) × IsSome (value_of (map_of living) h id)
 some_with living index indexed id [] has some = absurd (omega arith)
-some_with living index indexed id (pair ∷ pairs) has some = valued (map_of living) id
-    (slice_get (handles_by_place living) pair.0) pair.1 (sym (same_value living index indexed id pair.0)
-    ∙ has pair.0 pair.1 (0, omega arith, refl))
+some_with living index indexed id (pair ∷ pairs) has some = option_and_then_some
+    (λ (h : Handle). value_of (map_of living) h id) (slice_get (handles_by_place living) pair.0) pair.1
+    (sym (same_value living index indexed id pair.0) ∙ has pair.0 pair.1 (0, omega arith, refl))
+    (λ h _ at. (h, subst IsSome (sym at) refl))
