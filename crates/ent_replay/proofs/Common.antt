@@ -3,7 +3,7 @@ pub use Rattle.std.proofs.Common.{All, AllPairs, Bool, Contains, Err, IsPermutat
 pub use Rattle.std.proofs.Math.ListN.{get_or-eq_default}
 pub use Rattle.std.proofs.Math.Numerals.{add-one}
 pub use Rattle.std.proofs.Math.Seq.{drop-cons}
-pub use Rattle.std.proofs.lemmas.Bool.{and_from, and_parts, cases_Bool, cases_eq, cases_lt, cond-false, cond_both, eqb-true, false≢true, le-ltb, lt-ltb}
+pub use Rattle.std.proofs.lemmas.Bool.{and_from, and_parts, cases_Bool, cases_eq, cases_lt, cond-false, cond-true, cond_both, eqb-true, false≢true, le-ltb, lt-ltb}
 pub use Rattle.std.proofs.lemmas.Bool.Decides.{nat_tests}
 pub use Rattle.std.proofs.lemmas.Grind.{common_steps, get_or-set_at}
 pub use Rattle.std.proofs.lemmas.Int.{ints}
@@ -12,6 +12,7 @@ pub use Rattle.std.proofs.lemmas.List.Edits.{map_over_more}
 pub use Rattle.std.proofs.lemmas.List.Elements.{All-cons, All-filter, All-from_recursion, All-head, All-nil, All-tail, filter-append, recursion_from_All}
 pub use Rattle.std.proofs.lemmas.List.Folds.{flat_map-map}
 pub use Rattle.std.proofs.lemmas.List.Sorted.{Contains-permutation, IsNonDecreasingBy-from_sort_by_key, IsPermutation-append_comm, IsPermutation-append_left, IsPermutation-append_right, IsPermutation-map, IsPermutation-refl, IsPermutation-sym, IsPermutation-trans, answers_always, length_permutation, sum_by-IsPermutation}
+pub use Rattle.std.proofs.lemmas.List.Kept.{IsNonDecreasingBy-filter}
 pub use Rattle.std.proofs.lemmas.List.Splits.{join_with_byte-slice_split, length-slice_split, slice_split_at, slice_split_none}
 pub use Rattle.std.proofs.lemmas.List.Sums.{AllPass-from_list_all, sum_by-cons, sum_by_push}
 pub use Rattle.std.proofs.lemmas.Map.{lookup-set_value}

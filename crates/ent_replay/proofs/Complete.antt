@@ -1,11 +1,9 @@
 -- If any order of a run is answered so, the sorted one is.
 use Rattle.ent_replay.proofs.Common.{rules, ◌≡◌, ℕ, zero, suc, ◌+◌, ◌^◌, ◌<◌, ◌≤◌, List, [], ◌∷◌, ◌++◌, length, filter, Err, refl, sym, ap, ◌∙◌, arith, inl, inr, ◌⊎◌, common_steps, AllByRecursion, cases_lt, All-filter, All-from_recursion, Handle, Allocator, available, after_take, IsSound, reply-refused, asked-after_take, after_take-sound, available-after_take, after_take-refused, ReserveReply, Placed, FitsReserved, KeyOf, AreKeyed, raised}
 use Rattle.ent_replay.specs.declared.trace.reply.ReserveReply.TheVariants as reserve
-use Rattle.ent_replay.proofs.Lists.{no_middle, split, all_at, all_without, all_left, all_weaker}
-use Rattle.ent_replay.proofs.Parting.{parted}
+use Rattle.ent_replay.proofs.Lists.{no_middle, split, all_at, all_without, all_weaker, itself_or}
 use Rattle.ent_replay.proofs.Sorted.{tie, tie_from, IsRising, TieAlike, whole, least, begins, nothing_left, alike_rest}
-use Rattle.ent_replay.proofs.Legal.{asks, Answers, after_run, FindsNone, FitsLeft, Answers-empty, empty-Answers, after-empty, total}
-use Rattle.ent_replay.proofs.KeysOf.{IsOfOther, keyed_head, keyed_without, HasKey, has_keys, later_keys, served_key, refused_key}
+use Rattle.ent_replay.proofs.Legal.{asks, Answers, after_run, FindsNone, FitsLeft, Answers-empty, empty-Answers, after-empty, total, IsOfOther, keyed_head, keyed_without, HasKey, has_keys, later_keys, served_key, refused_key}
 
 -- an order of placed reservations that keeps each caller's
 abbrev pub IsPlacedOrder : List Placed → List Placed → Type 0
@@ -23,18 +21,13 @@ module _ (P : Placed → Type 0) where
   pub all_ordered : (run order : List Placed) → IsPlacedOrder run order → AllByRecursion P run → AllByRecursion P order
   all_ordered run [] is all = tt
   all_ordered run (p ∷ order) (before, after, parts, others, more) all =
-      let here = rw parts at all in
-      (all_at P before after p here, all_ordered (before ++ after) order more (all_without P before after p here))
+      let here = rw parts at all in search (rules, all_at, all_without, all_ordered (before ++ after) order more)
 
   pub all_unordered : (run order : List Placed) → IsPlacedOrder run order → AllByRecursion P order
       → AllByRecursion P run
   all_unordered run [] is all = rw is tt
   all_unordered run (p ∷ order) (before, after, parts, others, more) all = rw parts
-      (all_with before after p all.0 (all_unordered (before ++ after) order more all.1))
-
-all_right : (P : Placed → Type 0) (xs ys : List Placed) → AllByRecursion P (xs ++ ys) → AllByRecursion P ys
-all_right P [] ys all = all
-all_right P (x ∷ xs) ys all = all_right P xs ys all.1
+      (search (rules, all_with, all_unordered (before ++ after) order more all.1))
 
 -- what holds of all that tie with any one in one list does so in the other
 pub all_alike : (P : Placed → Type 0) (sorted run : List Placed) → TieAlike sorted run → AllByRecursion P run
@@ -113,6 +106,8 @@ module _ (given : List Handle) where
       let floor_asked = floor.0 in
       let floor_small = floor.1 in
       let least_own = head.least in
+      let h_key = all_at (HasKey given) sp.before sp.after h (rw (← sp.is) (has_keys given f run keyed)) in
+      let h_least = h_key.least in
       elim (cases_lt (length s.pool) n) [
         | inr enough ↦
             let place = served_key given s sound is n head.own c.reservation.reply some.0 enough answered.0
@@ -127,14 +122,9 @@ module _ (given : List Handle) where
             let order_later = later_keys given order (after_take s n) (head.own + 1) t_sound t_is (omega arith)
             (omega arith) some.1 order_keys answered.1 in
             let later = all_unordered (λ (p : Placed). head.own + 1 ≤ p.key) (before ++ after) order more order_later in
-            elim (parted before after sp.before sp.after c h both) [
-              | inl p ↦ absurd
-                  (omega (
-                    arith,
-                    all_at (λ (p : Placed). head.own + 1 ≤ p.key) sp.before p.more h
-                        (rw (← p.front_is) (all_left (λ (p : Placed). head.own + 1 ≤ p.key) before after later)),
-                  ))
-              | inr (inl p) ↦
+            elim (itself_or (λ (p : Placed). head.own + 1 ≤ p.key) before after sp.before sp.after c h both later) [
+              | inl above ↦ absurd (omega arith)
+              | inr p ↦
                   let same_rest : sp.before ++ sp.after ≡ before ++ after = λ i. p.before_is i ++ p.after_is i in
                   let asks_same : asks h ≡ asks c = ap asks p.is in
                   let rest_sum : total sorted ≡ total order = omega arith in
@@ -144,12 +134,6 @@ module _ (given : List Handle) where
                     rw p.is (answered.0, rest.0),
                     rest.1 ∙ ap (λ (y : Placed). after_run (after_take s (asks y)) sorted) (sym p.is),
                   )
-              | inr (inr p) ↦ absurd
-                  (omega (
-                    arith,
-                    all_at (λ (p : Placed). head.own + 1 ≤ p.key) p.more sp.after h
-                        (rw (← p.rest_is) (all_right (λ (p : Placed). head.own + 1 ≤ p.key) before after later)),
-                  ))
             ]
         | inl short ↦
             let left = length s.pool in
@@ -173,8 +157,6 @@ module _ (given : List Handle) where
                   let all_none = all_with FindsNone before after c c_none rest_none in
                   let h_all = rw both at all_none in
                   let h_none = all_at FindsNone sp.before sp.after h h_all in
-                  let h_key = all_at (HasKey given) sp.before sp.after h (rw (← sp.is) (has_keys given f run keyed)) in
-                  let h_least = h_key.least in
                   let first = takes_place given n (asks h) left head.own h_key.own c.reservation.reply
                   h.reservation.reply fits c_later short head.key_of h_none.fits h_none.some h_key.key_of
                   (omega arith) in
@@ -182,21 +164,16 @@ module _ (given : List Handle) where
                   (all_without FindsNone sp.before sp.after h h_all))
               | inr only ↦
                   let own : head.own ≡ 2 ^ 32 = only head.own head.key_of in
-                  let not_other : FindsNone h → Answers s (h ∷ sorted) × (after_run s (c ∷ order) ≡ after_run s
-                  (h ∷ sorted)) = λ none. let h_key = all_at (HasKey given) sp.before sp.after h
-                  (rw (← sp.is) (has_keys given f run keyed)) in let h_least = h_key.least in let above = none_high
-                  given (asks h) h_key.own h.reservation.reply h_key.small none.fits h_key.key_of in absurd
-                  (omega arith) in
-                  elim (parted before after sp.before sp.after c h both) [
-                    | inl p ↦ not_other (all_at FindsNone sp.before p.more h
-                        (rw (← p.front_is) (all_left FindsNone before after rest_none)))
-                    | inr (inl p) ↦
+                  elim (itself_or FindsNone before after sp.before sp.after c h both rest_none) [
+                    | inl none ↦
+                        let above = none_high given (asks h) h_key.own h.reservation.reply h_key.small none.fits
+                        h_key.key_of in
+                        absurd (omega arith)
+                    | inr p ↦
                         let same_rest : sp.before ++ sp.after ≡ before ++ after = λ i. p.before_is i ++ p.after_is i in
                         let asks_same : asks h ≡ asks c = ap asks p.is in
                         ends (omega arith) (rw p.is fits) (all_alike FindsNone sorted (before ++ after)
                         (rw (← same_rest) alike_here) rest_none)
-                    | inr (inr p) ↦ not_other (all_at FindsNone p.more sp.after h
-                        (rw (← p.rest_is) (all_right FindsNone before after rest_none)))
                   ]
             ]
       ]

@@ -1,11 +1,11 @@
--- Orders of the lines of a run as orders of its reservations with their keys, and without those for
--- nothing.
-use Rattle.ent_replay.proofs.Common.{rules, ◌≡◌, ℕ, ◌+◌, ◌<◌, ◌≤◌, Bool, List, [], ◌∷◌, ◌++◌, filter, Ok, refl, sym, ap, subst, ◌∙◌, arith, inl, inr, AllByRecursion, cases_eq, cases_Bool, cond_both, filter-append, sum_by-cons, Handle, Allocator, available, IsSound, Call, ReserveReply, Placed, MayPass, IsOrderOf, FitsReserved, AreAnswered, after_lines, KeyOf, AreKeyed, raised, reservations_of, requested_in}
+-- Orders of the lines of a run as orders of its reservations with their keys, without those for nothing,
+-- and with those of each caller in the same order.
+use Rattle.ent_replay.proofs.Common.{one, IsNonDecreasingBy, IsNonDecreasingBy-filter, recursion_from_All, All-filter, All-from_recursion, rules, ◌≡◌, ℕ, ◌+◌, ◌<◌, Bool, List, [], ◌∷◌, ◌++◌, filter, Ok, refl, sym, ap, subst, ◌∙◌, arith, inl, inr, AllByRecursion, cases_eq, cases_Bool, filter-append, sum_by-cons, Handle, Allocator, available, IsSound, Call, ReserveReply, Placed, MayPass, IsOrderOf, FitsReserved, AreAnswered, after_lines, KeyOf, AreKeyed, raised, reservations_of, requested_in, common_steps, ◌≢◌, true, false, eq-eqb, ne_eqb, KeepsCallers, is_of}
 use Rattle.ent_replay.specs.declared.trace.call.Call.TheVariants as line
-use Rattle.ent_replay.proofs.Sorted.{lines, lines_append, tie, IsRising, TieAlike}
-use Rattle.ent_replay.proofs.Legal.{asks, asks_some, some_or_none, kept, left_out, total, FitsNothing, Answers-some, after-some, nothing-fits, Answers-from_some}
-use Rattle.ent_replay.proofs.KeysOf.{IsOfOther, raised_own, raised_other}
+use Rattle.ent_replay.proofs.Sorted.{lines, lines_append, tie, key, rising, TieAlike}
+use Rattle.ent_replay.proofs.Legal.{asks, asks_some, some_or_none, kept, left_out, total, FitsNothing, Answers-some, after-some, nothing-fits, Answers-from_some, IsOfOther, raised_own, raised_other}
 use Rattle.ent_replay.proofs.Complete.{IsPlacedOrder, all_unordered, all_alike, sorted_is}
+use Rattle.ent_replay.proofs.Lists.{split, none_kept, kept_forward, kept_rest, all_weaker}
 
 -- ---- with their keys
 
@@ -34,8 +34,8 @@ unmapped (p ∷ run) (b ∷ before) after c e =
       first = p ∷ u.first;
       rest = u.rest;
       placed = u.placed;
-      is = ap (λ ps. p ∷ ps) u.is;
-      before_is = λ i. one i ∷ u.before_is i;
+      is = cc u.is;
+      before_is = cc (one, u.before_is);
       placed_is = u.placed_is;
       after_is = u.after_is;
     }
@@ -55,8 +55,7 @@ lifted [] [] is = record { placed = []; is = refl; is_order = refl }
 lifted [] (p ∷ run) is = search (rules, lines)
 lifted (c ∷ order) run (before, after, parts, passes, more) =
     let u = unmapped run before after c parts in
-    let same : before ++ after ≡ lines (u.first ++ u.rest) = (λ i. sym u.before_is i ++ sym u.after_is i)
-    ∙ sym (lines_append u.first u.rest) in
+    let same : before ++ after ≡ lines (u.first ++ u.rest) = search (rules, lines_append) in
     let next = lifted order (u.first ++ u.rest) (rw (← same) more) in
     let here = simp (← u.before_is) at (subst (λ (l : Call). AllByRecursion (MayPass l) before) (sym u.placed_is)
     passes) in
@@ -70,30 +69,11 @@ lifted (c ∷ order) run (before, after, parts, passes, more) =
 
 all_filtered : (P : Placed → Type 0) (p : Placed → Bool) (xs : List Placed) → AllByRecursion P xs
     → AllByRecursion P (filter p xs)
-all_filtered P p [] all = tt
-all_filtered P p (x ∷ xs) all =
-    let rest = all_filtered P p xs all.1 in cond_both (p x) _ _ (AllByRecursion P) (λ _. (all.0, rest)) (λ _. rest)
-
-rising_filtered : (p : Placed → Bool) (xs : List Placed) → IsRising xs → IsRising (filter p xs)
-rising_filtered p [] up = tt
-rising_filtered p (x ∷ xs) up =
-    let rest = rising_filtered p xs up.1 in
-    cond_both (p x) _ _ IsRising (λ _. (all_filtered (λ (q : Placed). x.key ≤ q.key) p xs up.0, rest)) (λ _. rest)
+all_filtered P p xs all = recursion_from_All P (filter p xs) (All-filter p P xs (All-from_recursion P xs all))
 
 swap_filters : (p q : Placed → Bool) (xs : List Placed) → filter p (filter q xs) ≡ filter q (filter p xs)
 swap_filters p q [] = refl
-swap_filters p q (x ∷ xs) =
-    let rest = swap_filters p q xs in
-    elim (cases_Bool (p x)) [
-      | inl first ↦ elim (cases_Bool (q x)) [
-        | inl both ↦ simp (first, both, rest)
-        | inr only ↦ simp (first, only, rest)
-      ]
-      | inr fails ↦ elim (cases_Bool (q x)) [
-        | inl only ↦ simp (fails, only, rest)
-        | inr neither ↦ simp (fails, neither, rest)
-      ]
-    ]
+swap_filters p q (x ∷ xs) = search (rules, cases_Bool, swap_filters p q xs)
 
 alike_filtered : (p : Placed → Bool) (sorted run : List Placed) → TieAlike sorted run
     → TieAlike (filter p sorted) (filter p run)
@@ -106,10 +86,7 @@ order_filtered (p ∷ order) run (before, after, parts, others, more) =
     let rest = order_filtered order (before ++ after) more in
     let joined = filter-append asks_some before after in
     let split_here = ap (filter asks_some) parts ∙ filter-append asks_some before (p ∷ after) in
-    elim (some_or_none (asks p)) [
-      | inl some ↦ search (rules, IsPlacedOrder, asks_some, kept, all_filtered, IsOfOther)
-      | inr none ↦ search (rules, IsPlacedOrder, asks_some, left_out)
-    ]
+    search (rules, some_or_none, asks, asks_some, kept, all_filtered, left_out)
 
 nothing_key : (given : List Handle) (n own : ℕ) (reply : ReserveReply) → FitsReserved reply (Ok [])
     → KeyOf given n reply own → own ≡ 0
@@ -127,13 +104,9 @@ not_raised f p same = λ i q. each q i
 pub keyed_filtered : (given : List Handle) (f : ℕ → ℕ) (run : List Placed) → AreKeyed given f run
     → AllByRecursion FitsNothing run → AreKeyed given f (filter asks_some run)
 keyed_filtered given f [] keyed fits = tt
-keyed_filtered given f (p ∷ run) keyed fits = elim (some_or_none (asks p)) [
-  | inl some ↦ rw (kept p run some.0) (keyed.0, keyed_filtered given (raised f p) run keyed.1 fits.1)
-  | inr none ↦
-      let key = keyed.0 in
-      let zero_own = nothing_key given (asks p) key.own p.reservation.reply (fits.0 none.1) key.key_of in
-      search (rules, left_out, asks_some, not_raised, keyed_filtered given (raised f p) run keyed.1 fits.1)
-]
+keyed_filtered given f (p ∷ run) keyed fits =
+    let rest = keyed_filtered given (raised f p) run keyed.1 fits.1 in
+    search (rules, some_or_none, kept, left_out, asks_some, not_raised, nothing_key, rest)
 
 total_filtered : (run : List Placed) → total (filter asks_some run) ≡ total run
 total_filtered [] = refl
@@ -158,7 +131,7 @@ some_filtered (p ∷ run) = search (rules, some_filtered run)
 
 -- If any order of a run is answered so, the sorted one is, and leaves the same state.
 pub sorted_run : (s : Allocator) (sorted run : List Placed) (order : List Call) → IsSound s
-    → AreKeyed (available s) (λ _. 0) run → IsRising sorted → TieAlike sorted run
+    → AreKeyed (available s) (λ _. 0) run → IsNonDecreasingBy key sorted → TieAlike sorted run
     → requested_in (reservations_of sorted) ≡ requested_in (reservations_of run) → IsOrderOf (lines run) order
     → AreAnswered s order → AreAnswered s (lines sorted) × (after_lines s order ≡ after_lines s (lines sorted))
 sorted_run s sorted run order sound keyed up alike sum is answered =
@@ -179,7 +152,60 @@ sorted_run s sorted run order sound keyed up alike sum is answered =
     let ends = sorted_is (available s) (some l.placed) (some sorted) (some run) s (λ _. 0) sound refl
     (λ q. (omega arith, omega arith)) (keyed_filtered (available s) (λ _. 0) run keyed fits_run)
     (order_filtered l.placed run l.is_order) (some_filtered l.placed) (Answers-some l.placed s order_yes)
-    (rising_filtered asks_some sorted up) (alike_filtered asks_some sorted run alike) sums in (
+    (rising (some sorted) (IsNonDecreasingBy-filter key asks_some sorted up))
+    (alike_filtered asks_some sorted run alike) sums in (
       Answers-from_some sorted s fits_sorted ends.0,
       ap (after_lines s) l.is ∙ after-some l.placed s ∙ ends.1 ∙ sym (after-some sorted s),
     )
+
+-- ---- which caller
+
+pub own : (p : Placed) (q : ℕ) → p.reservation.caller ≡ q → is_of q p ≡ true
+own p q same = eq-eqb p.reservation.caller q same
+
+pub other : (p : Placed) (q : ℕ) → p.reservation.caller ≢ q → is_of q p ≡ false
+other p q apart = ne_eqb p.reservation.caller q apart
+
+pub kept_own : (p : Placed) (q : ℕ) (ps : List Placed) → p.reservation.caller ≡ q
+    → filter (is_of q) (p ∷ ps) ≡ p ∷ filter (is_of q) ps
+kept_own p q ps same = simp own
+
+pub others_all : (c : Placed) (before : List Placed) → AllByRecursion (λ b. is_of c.reservation.caller b ≡ false) before
+    → AllByRecursion (MayPass (line.Reserve c.reservation)) (lines before)
+others_all c [] all = tt
+others_all c (b ∷ before) all = search (rules, own, others_all c before all.1)
+
+-- ---- an order keeps the callers, and what keeps them is an order
+
+nothing : (run : List Placed) → KeepsCallers run [] → run ≡ []
+nothing [] keeps = refl
+nothing (d ∷ run) keeps =
+    let no : [] ≡ d ∷ filter (is_of d.reservation.caller) run = search (rules, kept_own) in absurd cc
+
+-- one comes before those of others
+forward : (p : Placed) (left rest : List Placed) → filter (is_of p.reservation.caller) left ≡ [] → (q : ℕ)
+    → filter (is_of q) (p ∷ (left ++ rest)) ≡ filter (is_of q) (left ++ p ∷ rest)
+forward p left rest none q = grind (arith, common_steps, kept_forward)
+
+pub keeps-IsOrderOf : (order run : List Placed) → KeepsCallers run order → IsOrderOf (lines run) (lines order)
+keeps-IsOrderOf [] run keeps = ap lines (nothing run keeps)
+keeps-IsOrderOf (p ∷ order) run keeps =
+    let q = p.reservation.caller in
+    let s = split (is_of q) p (filter (is_of q) order) run (sym (keeps q) ∙ kept_own p q order refl) in
+    let none = none_kept (is_of q) s.before s.none in
+    let rest : KeepsCallers (s.before ++ s.after) order = λ k. kept_rest (is_of k) order (s.before ++ s.after) p
+    (keeps k ∙ ap (filter (is_of k)) s.is ∙ sym (forward p s.before s.after none k)) in
+    search (rules, lines, lines_append, others_all, keeps-IsOrderOf order (s.before ++ s.after) rest)
+
+pub order-keeps : (order run : List Placed) → IsPlacedOrder run order → KeepsCallers run order
+order-keeps [] run is q = cc
+order-keeps (p ∷ order) run (before, after, parts, others, more) q = search
+    (rules, none_kept, all_weaker, other, forward, order-keeps order (before ++ after) more q)
+
+pub keeps-again : (first second third : List Placed) → KeepsCallers first second → KeepsCallers second third
+    → KeepsCallers first third
+keeps-again first second third one two q = two q ∙ one q
+
+pub keeps-forward : (run placed left rest : List Placed) (p : Placed) → filter (is_of p.reservation.caller) left ≡ []
+    → KeepsCallers run (placed ++ (left ++ p ∷ rest)) → KeepsCallers run (placed ++ (p ∷ (left ++ rest)))
+keeps-forward run placed left rest p none keeps q = search (rules, filter-append, forward)

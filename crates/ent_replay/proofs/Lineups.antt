@@ -1,16 +1,91 @@
--- What is placed of a run, and what is left: one pass over what is left, and what stops it.
-use Rattle.ent_replay.proofs.Common.{rules, arith, ◌≡◌, ℕ, ◌+◌, ◌^◌, ◌≤◌, ℤ, pos, ◌-ℤ◌, ◌+ℤ◌, ◌≤ℤ◌, List, [], ◌∷◌, ◌++◌, filter, length, Option, Some, None, refl, sym, ap, subst, ◌∙◌, inl, inr, ◌⊎◌, drop, true, false, true≢false, get_or, take, ints, is_some, cases_eq, append_assoc, length-append, filter-append, nat_cmp, Allocator, after_take, available, cursor, pool_at, reply_from, asked_at, reply_to, top, IsSound, asked-after_take, cursor-after_take, made-after_take, pool_at-cursor, reply-cursor, top-after_take, after_take-sound, available-after_take, Lineup, Placed, AreAnswered, FitsReserved, after_lines, reserve_reply, FitsAt, IsLineup, KeepsCallers, NoneFits, all_of, is_of, lines_of, IsFirstAt, NamesOne, reached, Difference}
-use Rattle.std.proofs.Common.{append-nil}
+-- What is placed of a run, and what is left: one pass over what is left, what stops it, and which one a
+-- difference names.
+use Rattle.ent_replay.proofs.Common.{add-one, rules, ◌≡◌, ℕ, suc, ◌+◌, ◌-◌, ◌<◌, ◌≤◌, ℤ, pos, ◌+ℤ◌, ◌-ℤ◌, ◌≤ℤ◌, List, [], ◌∷◌, ◌++◌, length, take, drop, slice_get, Some, arith, ints, drop-drop, append_assoc, length-append, Handle, Allocator, top, cursor, asked_at, pool_at, IsSound, pool_at-cursor, ◌^◌, get_or, common_steps, drop-cons, drop_all, sum_by-cons, after_take, asked-after_take, Placed, after_lines, reservations_of, requested_in, ◌≢◌, filter, None, refl, cases_eq, take_more, take-append-drop, length-take, filter-append, nat_cmp, IsFirstAt, is_of, sym, ap, ◌∙◌, inl, inr, ◌⊎◌, nil_from_length, available, reply_from, reply_to, cursor-after_take, made-after_take, reply-cursor, top-after_take, after_take-sound, available-after_take, Lineup, AreAnswered, FitsReserved, reserve_reply, FitsAt, IsLineup, KeepsCallers, NoneFits, all_of, lines_of, NamesOne, reached, Difference, append-nil}
 use Rattle.std.specs.FinMap as finite
 use Rattle.ent_replay.specs.declared.trace.call.Call.TheVariants as line
-use Rattle.ent_replay.proofs.Legal.{asks, total}
-use Rattle.ent_replay.proofs.Lifted.{total_append, total_is}
+use Rattle.ent_replay.proofs.Sorted.{lines, lines_append}
 use Rattle.ent_replay.proofs.Maps.{get-inserted, get-insert_other, nothing_in}
+use Rattle.ent_replay.proofs.Lifted.{other, total_append, total_is, keeps-again, keeps-forward, own}
+use Rattle.ent_replay.proofs.Legal.{asks, total}
 use Rattle.ent_replay.proofs.Orders.{AreAnswered-append, answered_back}
-use Rattle.ent_replay.proofs.Parting.{parted}
-use Rattle.ent_replay.proofs.Sorted.{lines_append}
-use Rattle.ent_replay.proofs.Callers.{keeps-again, keeps-forward, own, other}
-use Rattle.ent_replay.proofs.Lists.{no_middle}
+use Rattle.ent_replay.proofs.Lists.{parted, no_middle}
+
+-- one position below, one more was asked for
+asked_below : (high : ℕ) (p : ℤ) → p ≤ℤ pos high → asked_at high (p -ℤ pos 1) ≡ asked_at high p + 1
+asked_below high p below = search (rules, ints)
+
+pool_below : (s : Allocator) (p : ℤ) → p ≤ℤ pos (top s) → pool_at s (p -ℤ pos 1) ≡ drop 1 (pool_at s p)
+pool_below s p below = search (rules, asked_below, drop-drop)
+
+-- what is listed of the front, and what is left of it
+pub record Listed (s : Allocator) (start next : ℤ) (front : List Handle) : Type 0 where
+  pub is : front ++ take (8 - length front) (pool_at s next) ≡ take 8 (pool_at s start)
+  pub few : length front ≤ 8
+  pub above : start ≡ next +ℤ pos (length front)
+
+module _ (s : Allocator) (start next : ℤ) (front : List Handle) (listed : Listed s start next front) where
+  pub Listed-next : next ≤ℤ pos (top s) → length front < 8 → (h : Handle) → slice_get (pool_at s next) 0 ≡ Some h
+      → Listed s start (next -ℤ pos 1) (front ++ h ∷ [])
+  Listed-next below more h is =
+      let left : 8 - length front ≡ suc (7 - length front) = omega arith in
+      search (rules, length-append, append_assoc, pool_below, ints)
+
+-- at the cursor it is the front of the pool
+pub front_here : (s : Allocator) (at : ℤ) → IsSound s → at ≡ cursor s → take 8 (pool_at s at) ≡ take 8 s.pool
+front_here s at sound is = simp (is, pool_at-cursor)
+
+-- those before an index were made
+pub record Made (old s : Allocator) (run : List Placed) (i : ℕ) : Type 0 where
+  pub after : after_lines s (lines (drop i run)) ≡ after_lines old (lines run)
+  pub asked : s.asked + requested_in (reservations_of (drop i run)) ≤ 2 ^ 50
+
+module _ (old s : Allocator) (run : List Placed) (i : ℕ) where
+  pub Made-few : Made old s run i → (p : Placed) → i < length run → p ≡ get_or run i p
+      → s.asked + p.reservation.requested ≤ 2 ^ 50
+  Made-few made p within is = grind (arith, common_steps, drop-cons, sum_by-cons)
+
+  pub Made-next : Made old s run i → (p : Placed) → i < length run → p ≡ get_or run i p → (t : Allocator)
+      → t ≡ after_take s p.reservation.requested → Made old t run (i + 1)
+  Made-next made p within is t after = grind (arith, common_steps, lines, drop-cons, sum_by-cons, asked-after_take)
+
+  pub Made-last : Made old s run i → length run ≤ i → s ≡ after_lines old (lines run)
+  Made-last made past = search (rules, drop_all, lines)
+
+-- a caller that was not seen has none among the first ones
+abbrev pub AreSeen : finite.FinMap nat_cmp ℕ → List Placed → ℕ → Type 0
+AreSeen seen rest index = (q : ℕ) → finite.get seen q ≡ None → filter (is_of q) (take index rest) ≡ []
+
+module _ (seen : finite.FinMap nat_cmp ℕ) (rest : List Placed) (index : ℕ) (p : Placed) (within : index < length rest)
+    (at : p ≡ get_or rest index p) (h : AreSeen seen rest index) where
+  more : take (index + 1) rest ≡ take index rest ++ p ∷ []
+  more = cc (take_more rest index p within, at)
+
+  others : (q : ℕ) → q ≢ p.reservation.caller → finite.get seen q ≡ None → filter (is_of q) (take (index + 1) rest) ≡ []
+  others q apart is = search (rules, more, filter-append, other, append-nil)
+
+  pub AreSeen-next : (key : ℕ) → AreSeen (finite.insert seen p.reservation.caller key) rest (index + 1)
+  AreSeen-next key q is = search (rules, cases_eq, get-inserted, others, get-insert_other)
+
+  pub IsFirstAt-unseen : finite.get seen p.reservation.caller ≡ None → IsFirstAt rest index
+  IsFirstAt-unseen none = record {
+    before = take index rest;
+    named = p;
+    after = drop (index + 1) rest;
+    is = cc (take-append-drop index rest, drop-cons rest index p within, add-one index, at);
+    index_is = omega (arith, length-take index rest);
+    first = h p.reservation.caller none;
+  }
+
+pub IsFirstAt-head : (rest : List Placed) → rest ≢ [] → IsFirstAt rest 0
+IsFirstAt-head [] some = absurd (some refl)
+IsFirstAt-head (p ∷ rest) some =
+    record { before = []; named = p; after = rest; is = refl; index_is = refl; first = refl }
+
+-- what the search for it keeps
+pub record Trying (seen : finite.FinMap nat_cmp ℕ) (rest : List Placed) (index tries : ℕ)
+    : Type 0 where
+  pub seen_are : AreSeen seen rest index
+  pub few : tries < 64
 
 abbrev after : Allocator → List Placed → Allocator
 after s run = after_lines s (lines_of run)
@@ -29,15 +104,8 @@ is_after [] s sound = search rules
 is_after (p ∷ run) s sound =
     let n = asks p in
     let more = is_after run (after_take s n) (after_take-sound s n sound) in
-    let asked = asked-after_take s n in
     let later = more.asked_is in
-    record {
-      sound = more.sound;
-      available_is = more.available_is ∙ available-after_take s n sound;
-      made_is = more.made_is ∙ made-after_take s n;
-      top_is = more.top_is ∙ top-after_take s n sound;
-      asked_is = omega arith;
-    }
+    search (rules, available-after_take, made-after_take, top-after_take)
 
 after-append : (xs ys : List Placed) (s : Allocator) → after s (xs ++ ys) ≡ after (after s xs) ys
 after-append [] ys s = refl
@@ -87,31 +155,19 @@ pub record Passing (s : Allocator) (start : Lineup) (placed left rest : List Pla
   pub whole : AreAnswered s (lines_of (all_of start))
       → (left ≡ []) × AreAnswered s (lines_of (placed ++ rest))
 
-pub Passing-start : (s : Allocator) (l : Lineup) (blocked : finite.FinMap nat_cmp ℕ) → IsLineup s l
-    → blocked ≡ finite.empty → Passing s l l.placed.items [] l.rest.items l.at blocked
-Passing-start s l blocked h none = search (rules, length-append, nothing_in, no_middle)
-
-module _ (s : Allocator) (start : Lineup) (placed left rest : List Placed) (p : Placed) (at : ℤ)
-    (blocked : finite.FinMap nat_cmp ℕ) (sound : IsSound s) (h : Passing s start placed left (p ∷ rest) at
-    blocked) where
-  abbrev pub caller : ℕ
-  caller = p.reservation.caller
-
-  one_more : length (placed ++ p ∷ []) ≡ length placed + 1
-  one_more = length-append placed (p ∷ [])
-
-  moved : (placed ++ p ∷ []) ++ (left ++ rest) ≡ placed ++ (p ∷ (left ++ rest))
-  moved = append_assoc placed (p ∷ []) (left ++ rest)
-
+module _ {s : Allocator} {start : Lineup} {placed left rest : List Placed} {p : Placed} {at : ℤ}
+    {blocked : finite.FinMap nat_cmp ℕ} (sound : IsSound s)
+    (h : Passing s start placed left (p ∷ rest) at blocked) where
   -- it is its caller's next one, and fits
-  pub Passing-place : finite.get blocked caller ≡ None → FitsAt (after s placed) p
+  pub Passing-place : finite.get blocked p.reservation.caller ≡ None → FitsAt (after s placed) p
       → Passing s start (placed ++ p ∷ []) left rest (at -ℤ pos (asks p)) blocked
   Passing-place none fits = search
-      (rules, moved, keeps-forward, lines_append, AreAnswered-append, at-next, total_append, one_more, append_assoc)
+      (rules, append_assoc, length-append, keeps-forward, lines_append, AreAnswered-append, at-next, total_append)
 
   -- it isn't, or doesn't fit
-  pub Passing-leave : (key : ℕ) → ((v : ℕ) × (finite.get blocked caller ≡ Some v)) ⊎ (FitsAt (after s placed) p → ⊥)
-      → Passing s start placed (left ++ p ∷ []) rest at (finite.insert blocked caller key)
+  pub Passing-leave : (key : ℕ)
+      → ((v : ℕ) × (finite.get blocked p.reservation.caller ≡ Some v)) ⊎ (FitsAt (after s placed) p → ⊥)
+      → Passing s start placed (left ++ p ∷ []) rest at (finite.insert blocked p.reservation.caller key)
   Passing-leave key why = record {
     keeps = rw (append_assoc left (p ∷ []) rest) h.keeps;
     answered = h.answered;
@@ -119,50 +175,25 @@ module _ (s : Allocator) (start : Lineup) (placed left rest : List Placed) (p : 
     sum = rw (append_assoc left (p ∷ []) rest) h.sum;
     count = omega (arith, length-append left (p ∷ []));
     grown = h.grown;
-    free = λ q is. elim (cases_eq q caller) [
-      | inl same ↦
-          let no : Some key ≡ None = sym (get-inserted blocked caller key)
-          ∙ ap (finite.get (finite.insert blocked caller key)) (sym same) ∙ is in
-          absurd cc
-      | inr apart ↦ simp (filter-append, other p q (λ e. apart (sym e)), append-nil)
-          (h.free q (sym (get-insert_other blocked caller key q apart) ∙ is))
-    ];
-    held = λ q v is empty. elim (cases_eq q caller) [
-      | inl same ↦ no_middle (filter (is_of q) left) [] p (simp (filter-append, own p q (sym same)) at empty)
-      | inr apart ↦ h.held q v (sym (get-insert_other blocked caller key q apart) ∙ is)
-          (simp (filter-append, other p q (λ e. apart (sym e)), append-nil) at empty)
-    ];
+    free = search (rules, cases_eq, get-inserted, get-insert_other, filter-append, other, append-nil);
+    held = search (rules, cases_eq, no_middle, own, get-insert_other, filter-append, other, append-nil);
     still = λ same. let before = h.still same in (
       before.0,
       λ front x more parts first. elim (parted left [] front more p x parts) [
         | inl inside ↦ before.1 front x inside.more inside.front_is first
-        | inr (inl itself) ↦ λ fits. last front x before.0 itself.before_is itself.is first fits
+        | inr (inl itself) ↦ λ fits. search (rules, itself, before, h.held)
         | inr (inr behind) ↦ absurd (no_middle behind.more more x (sym behind.rest_is))
       ],
     );
     whole = λ all. let before = h.whole all in let fits : FitsAt (after s placed) p =
         (answered_back s (lines_of placed) (lines_of (p ∷ rest)) (rw (← lines_append placed (p ∷ rest)) before.1)).0 in
-        elim why [
-          | inl found ↦ absurd (h.held caller found.0 found.1 (ap (filter (is_of caller)) before.0))
-          | inr unfit ↦ absurd (unfit fits)
-        ];
+        search (rules, h.held);
   }
-    where
-      last : (front : List Placed) (x : Placed) → placed ≡ start.placed.items → front ≡ left
-          → x ≡ p → filter (is_of x.reservation.caller) front ≡ [] → FitsAt (reached s start) x → ⊥
-      last front x same all is first fits = elim why [
-        | inl found ↦
-            h.held caller found.0 found.1
-            ((λ i. filter (is_of (sym is i).reservation.caller) (sym all i)) ∙ first)
-        | inr unfit ↦ unfit (subst (λ (y : Placed). FitsAt (after s placed) y) is
-            (subst (λ (ps : List Placed). FitsAt (after s ps) x) (sym same) fits))
-      ]
 
 -- ---- the same for what a loop has
 
-module _ (s : Allocator) (start : Lineup) (placed left all rest : List Placed) (p : Placed) (at : ℤ)
-    (blocked : finite.FinMap nat_cmp ℕ) (begun : IsLineup s start)
-    (h : Passing s start placed left all at blocked) where
+module _ {s : Allocator} {start : Lineup} {placed left all : List Placed} {at : ℤ} {blocked : finite.FinMap nat_cmp ℕ}
+    (begun : IsLineup s start) (h : Passing s start placed left all at blocked) where
   few : s.asked + total (placed ++ (left ++ all)) ≤ 2 ^ 50
   few = omega (arith, total_is)
 
@@ -172,40 +203,40 @@ module _ (s : Allocator) (start : Lineup) (placed left all rest : List Placed) (
   pub Passing-least : pos (top s) ≤ℤ (at +ℤ pos (2 ^ 50))
   Passing-least = search (rules, few, total_append, at-least)
 
-  pub Passing-lower : all ≡ p ∷ rest → pos (top s) ≤ℤ ((at -ℤ pos (asks p)) +ℤ pos (2 ^ 50))
-  Passing-lower parts =
-      let a : s.asked + total (placed ++ (left ++ p ∷ rest)) ≤ 2 ^ 50 = rw (← parts) few in
-      let b = total_append placed (left ++ p ∷ rest) in
-      let e = total_append left (p ∷ rest) in
-      let f = total_append placed (p ∷ []) in
-      at-least s (placed ++ p ∷ []) (at -ℤ pos (asks p)) begun.sound (at-next s placed at begun.sound h.at_is p)
-      (omega arith)
+  module _ {rest : List Placed} {p : Placed} (parts : all ≡ p ∷ rest) where
+    pub Passing-lower : pos (top s) ≤ℤ ((at -ℤ pos (asks p)) +ℤ pos (2 ^ 50))
+    Passing-lower =
+        let a : s.asked + total (placed ++ (left ++ p ∷ rest)) ≤ 2 ^ 50 = rw (← parts) few in
+        search (
+          rules,
+          total_append,
+          at-least s (placed ++ p ∷ []) (at -ℤ pos (asks p)) begun.sound (at-next s placed at begun.sound h.at_is p),
+        )
 
-  fits_here : FitsReserved p.reservation.reply (reply_from s.made (pool_at s at) (asks p)) ≡ FitsAt (after s placed) p
-  fits_here = cc (reply-here s placed at begun.sound h.at_is (asks p))
+    fits_here : FitsReserved p.reservation.reply (reply_from s.made (pool_at s at) (asks p)) ≡ FitsAt (after s placed) p
+    fits_here = cc (reply-here s placed at begun.sound h.at_is (asks p))
 
-  pub placed_next : (items : List Placed) (below : ℤ) → all ≡ p ∷ rest → items ≡ placed ++ p ∷ []
-      → below ≡ at -ℤ pos (asks p) → finite.get blocked p.reservation.caller ≡ None
-      → FitsReserved p.reservation.reply (reply_from s.made (pool_at s at) (asks p))
-      → Passing s start items left rest below blocked
-  placed_next items below parts is lower none fits = rw (is, lower) (Passing-place s start placed left rest p at blocked
-      begun.sound (rw parts at h) none (rw (← fits_here) fits))
+    pub placed_next : {items : List Placed} {below : ℤ} → items ≡ placed ++ p ∷ [] → below ≡ at -ℤ pos (asks p)
+        → finite.get blocked p.reservation.caller ≡ None
+        → FitsReserved p.reservation.reply (reply_from s.made (pool_at s at) (asks p))
+        → Passing s start items left rest below blocked
+    placed_next {items} {below} is lower none fits = rw (is, lower)
+        (Passing-place begun.sound (rw parts at h) none (rw (← fits_here) fits))
 
-  pub left_next : (items : List Placed) (now : finite.FinMap nat_cmp ℕ) (key : ℕ) → all ≡ p ∷ rest
-      → items ≡ left ++ p ∷ [] → now ≡ finite.insert blocked p.reservation.caller key
-      → ((v : ℕ) × (finite.get blocked p.reservation.caller ≡ Some v))
-      ⊎ (FitsReserved p.reservation.reply (reply_from s.made (pool_at s at) (asks p)) → ⊥)
-      → Passing s start placed items rest at now
-  left_next items now key parts is inserted why = rw (is, inserted)
-      (Passing-leave s start placed left rest p at blocked begun.sound (rw parts at h) key
-      (elim why [ inl found ↦ inl found | inr unfit ↦ inr (λ fits. unfit (rw fits_here fits)) ]))
+    pub left_next : {items : List Placed} {now : finite.FinMap nat_cmp ℕ} (key : ℕ) → items ≡ left ++ p ∷ []
+        → now ≡ finite.insert blocked p.reservation.caller key
+        → ((v : ℕ) × (finite.get blocked p.reservation.caller ≡ Some v))
+        ⊎ (FitsReserved p.reservation.reply (reply_from s.made (pool_at s at) (asks p)) → ⊥)
+        → Passing s start placed items rest at now
+    left_next {items} {now} key is inserted why = rw (is, inserted) (Passing-leave begun.sound (rw parts at h) key
+        (rw (← fits_here) why))
 
 -- nothing is left to go over
-module _ (s : Allocator) (start l : Lineup) (all : List Placed) (blocked : finite.FinMap nat_cmp ℕ)
-    (begun : IsLineup s start) (none : all ≡ []) (h : Passing s start l.placed.items l.rest.items all l.at
-    blocked) where
+module _ {s : Allocator} {start : Lineup} {all : List Placed} {blocked : finite.FinMap nat_cmp ℕ} (l : Lineup)
+    (begun : IsLineup s start) (none : all ≡ [])
+    (h : Passing s start l.placed.items l.rest.items all l.at blocked) where
   over : l.placed.items ++ (l.rest.items ++ all) ≡ all_of l
-  over = rw (none, append-nil) refl
+  over = simp (none, append-nil)
 
   pub over_lined : IsLineup s l
   over_lined = search (rules, few, total_is, total, over)
@@ -213,28 +244,12 @@ module _ (s : Allocator) (start l : Lineup) (all : List Placed) (blocked : finit
   pub over_keeps : KeepsCallers (all_of start) (all_of l)
   over_keeps = rw (← over) h.keeps
 
-  counted : length l.placed.items + length l.rest.items ≡ length start.placed.items + length start.rest.items
-  counted = search (rules, length-append)
-
   pub over_stuck : length l.rest.items ≡ length start.rest.items → NoneFits (reached s l) l.rest.items
-  over_stuck same = search (rules, counted)
-
--- what is some is something
-pub some_of : {X : Type 0} (o : Option X) → is_some o ≡ true → (v : X) × (o ≡ Some v)
-some_of (Some v) is = (v, refl)
-some_of None is = absurd (true≢false (sym is))
-
-pub none_of_some : {X : Type 0} (o : Option X) → is_some o ≡ false → o ≡ None
-none_of_some (Some v) is = absurd (true≢false is)
-none_of_some None is = refl
+  over_stuck same = search (rules, length-append)
 
 pub started : (s : Allocator) (l : Lineup) (left rest : List Placed) (blocked : finite.FinMap nat_cmp ℕ) → IsLineup s l
     → left ≡ [] → rest ≡ l.rest.items → blocked ≡ finite.empty → Passing s l l.placed.items left rest l.at blocked
-started s l left rest blocked h none all empty = search (rules, Passing-start)
-
-pub no_items : {X : Type 0} (xs : List X) → length xs ≡ 0 → xs ≡ []
-no_items [] is = refl
-no_items (x ∷ xs) is = absurd (omega arith)
+started s l left rest blocked h none all empty = search (rules, length-append, nothing_in, no_middle)
 
 -- ---- pass after pass
 
@@ -254,23 +269,19 @@ module _ (s : Allocator) (start l next : Lineup) (before : ℕ) (h : Settling s 
       → length next.rest.items ≤ length l.rest.items → (length next.rest.items ≡ length l.rest.items
       → NoneFits (reached s next) next.rest.items) → (AreAnswered s (lines_of (all_of l)) → next.rest.items ≡ [])
       → Settling s start next (length l.rest.items)
-  Settling-next lined keeps fewer stuck whole = search (rules, keeps-again, no_items)
+  Settling-next lined keeps fewer stuck whole = search (rules, keeps-again, nil_from_length)
 
 -- the position of a lineup is one that its allocator counts
 module _ (s : Allocator) (l : Lineup) (h : IsLineup s l) where
   pub lined-least : pos (top s) ≤ℤ (l.at +ℤ pos (2 ^ 50))
-  lined-least =
-      let a = h.few in
-      let b = total_is (all_of l) in
-      let e = total_append l.placed.items l.rest.items in
-      at-least s l.placed.items l.at h.sound h.at_is (omega arith)
+  lined-least = at-least s l.placed.items l.at h.sound h.at_is
+      (omega (arith, h.few, total_is (all_of l), total_append l.placed.items l.rest.items))
 
   pub lined-passed : l.at ≤ℤ pos (top s)
   lined-passed = at-passed s l.placed.items l.at h.sound h.at_is
 
 at_middle : (before after : List Placed) (p x : Placed) → get_or (before ++ p ∷ after) (length before) x ≡ p
-at_middle [] after p x = refl
-at_middle (b ∷ before) after p x = at_middle before after p x
+at_middle before after p x = grind (arith, common_steps)
 
 pub names_one : (s : Allocator) (l : Lineup) (rest : List Placed) (index : ℕ) (x : Placed) (d : Difference)
     → IsLineup s l → NoneFits (reached s l) l.rest.items → rest ≡ l.rest.items → IsFirstAt rest index

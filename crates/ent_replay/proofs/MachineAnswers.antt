@@ -1,25 +1,25 @@
 -- What a test of a machine's answer tells, and what a refusal for lack of memory has to be.
-use Rattle.ent_replay.proofs.Common.{rules, ◌≡◌, sym, ◌∙◌, ℕ, ◌<◌, Bool, true, false, nat_lt, List, ◌∷◌, length, drop, slice_get, Option, Some, None, Result, Ok, Err, arith, option_map, is_some, OnOk, OnErr, is_err, nat_tests, Handle, next, Allocator, Outcome, ReplayFault, MachineState, Returned, event_takes_memory, Makes, machine_state, AreConsistent, nat_cmp, StoredCall}
+use Rattle.ent_replay.proofs.Common.{allocator_is, rules, ◌≡◌, sym, ◌∙◌, ℕ, ◌<◌, true, false, List, ◌∷◌, drop, slice_get, Option, Some, None, Result, Ok, Err, arith, option_map, is_some, OnOk, OnErr, is_err, next, Allocator, Outcome, ReplayFault, MachineState, Returned, event_takes_memory, Makes, machine_state, AreConsistent, nat_cmp, StoredCall}
 use Rattle.std.specs.FinMap as finite
 use Rattle.ent_replay.specs.declared.fault.ReplayFault.TheVariants as fault
 use Rattle.ent_replay.proofs.Maps.{no_test}
 
 -- The machine did what the step says, or refused for lack of memory: told of the values that a
 -- contract sees.
-pub done : (on : MachineState → Returned) (inside now : MachineState) → inside ≡ now
-    → (result answer : Result Outcome ReplayFault) → result ≡ answer → (after next : MachineState) → after ≡ next
+pub done : (on : MachineState → Returned) {inside now : MachineState} → inside ≡ now
+    → {result answer : Result Outcome ReplayFault} → result ≡ answer → {after next : MachineState} → after ≡ next
     → on inside ≡ (answer, next) → Makes (on now) now result after
-done on inside now view result answer is after next is_next step = search (rules)
+done on view is is_next step = search rules
 
 -- It found a fault, and changed nothing.
-pub faulty : (on : MachineState → Returned) (inside now : MachineState) → inside ≡ now → (why : ReplayFault)
+pub faulty : (on : MachineState → Returned) {inside now : MachineState} → inside ≡ now → (why : ReplayFault)
     → on inside ≡ (Err why, inside) → Makes (on now) now (Err why) now
-faulty on inside now view why = search (rules, done)
+faulty on view why = search (rules, done)
 
-pub refused : (on : MachineState → Returned) (inside now : MachineState) → inside ≡ now
-    → (result : Result Outcome ReplayFault) → result ≡ Err fault.Memory → (after : MachineState) → after ≡ inside
+pub refused : (on : MachineState → Returned) {inside now : MachineState} → inside ≡ now
+    → {result : Result Outcome ReplayFault} → result ≡ Err fault.Memory → {after : MachineState} → after ≡ inside
     → event_takes_memory inside (on inside).0 ≡ true → Makes (on now) now result after
-refused on inside now view result is after unchanged takes = search rules
+refused on view is unchanged takes = search rules
 
 -- The same of an event that the allocator alone decides.
 module _ (on : MachineState → Returned) (s : Allocator) (spent : finite.FinMap nat_cmp ℕ)
@@ -61,21 +61,15 @@ pub ok_not_err : {T E : Type 0} (x : T) (e : E) → Ok x ≡ Err e → ⊥
 ok_not_err x e is = cc
 
 -- and one refusal is no other
-abbrev refusal : (T : Type 0) {E : Type 0} → E → Result T E
-refusal T x = Err x
-
-pub not_other : {T E : Type 0} (x why other : E) → x ≡ why → ¬ (why ≡ other) → refusal T x ≡ refusal T other → ⊥
+pub not_other : {T E : Type 0} (x why other : E) → x ≡ why → ¬ (why ≡ other) → ◌≡◌ {A = Result T E} (Err x) (Err other)
+    → ⊥
 not_other x why other is differ same = let also : x ≡ other = cc in differ (sym is ∙ also)
+
+-- what an event says that the allocator refused, or did
+pub ruleset told = (allocator_did, allocator_is, allocator_refused, flushed, not_other, ok_not_err)
 
 pub front : {X : Type 0} (xs : List X) (x : X) → slice_get xs 0 ≡ Some x → xs ≡ x ∷ drop 1 xs
 front ys x is = search rules
 
 pub none_is_none : {X Y : Type 0} (f : X → Y) (o : Option X) → option_map f o ≡ None → o ≡ None
 none_is_none f it is = search rules
-
--- a list that is not empty
-pub some_handles : (hs : List Handle) → 0 < length hs → nat_lt 0 (length hs) ≡ true
-some_handles hs some = grind (arith, nat_tests)
-
-pub not_false : (b : Bool) → ¬ (b ≡ false) → b ≡ true
-not_false b other = search rules

@@ -1,5 +1,6 @@
--- Maps of callers: what a tree's entries stand for, and the values of a map under a function.
-use Rattle.ent_replay.proofs.Common.{rules, ◌≡◌, ◌≢◌, refl, sym, ap, ◌∙◌, ℕ, true, false, cond, List, [], ◌∷◌, map, Some, None, arith, eq-eqb, ne_eqb, cases_eq, same_Some, common_steps, option_map, IsSome, nat_cmp, eq_by_cmp, nat_cmp_total, eq_by_cmp_equiv, unsigned_tied, nat_tests, lookup, set_value, lookup-set_value, BTreeMap, is_at, FinMap, find, same_map, nat_cmp-IsAntisymmetric, get-from_entries, get-entries, get-insert, get-remove, get-empty, map_values}
+-- Maps of callers: what a tree's entries stand for, the values of a map under a function, and sums over
+-- the callers.
+use Rattle.ent_replay.proofs.Common.{rules, ◌≡◌, ◌≢◌, refl, sym, ap, ◌∙◌, ℕ, true, false, cond, List, [], ◌∷◌, map, Some, None, arith, eq-eqb, ne_eqb, cases_eq, same_Some, common_steps, option_map, IsSome, nat_cmp, eq_by_cmp, nat_cmp_total, eq_by_cmp_equiv, unsigned_tied, nat_tests, lookup, set_value, lookup-set_value, BTreeMap, is_at, FinMap, find, same_map, nat_cmp-IsAntisymmetric, get-from_entries, get-entries, get-insert, get-remove, get-empty, map_values, zero, suc, ◌+◌, ◌*◌, ◌<◌, ◌≤◌, inl, inr, cases_lt, sum_below}
 use Rattle.std.specs.BTreeMap as tree
 use Rattle.std.specs.FinMap as finite
 
@@ -35,15 +36,11 @@ maps_alike m n alike = same_map nat_cmp_total nat_cmp-IsAntisymmetric m n alike
 
 pub of_tree-insert : {X : Type 0} (m n : BTreeMap ℕ X) (k : ℕ) (v : X) → tree.Updates nat_cmp m n k (Some v)
     → of_tree n ≡ finite.insert (of_tree m) k v
-of_tree-insert m n k v updates = maps_alike (of_tree n) (finite.insert (of_tree m) k v)
-    (λ q. get-of_tree n q ∙ updates.0 q ∙ (λ i. cond ((eq_by_cmp_equiv nat_cmp_total).symm k q i) (Some v)
-    (sym (get-of_tree m q) i)) ∙ sym (get-insert nat_cmp_total (of_tree m) k v q))
+of_tree-insert m n k v updates = search (rules, maps_alike, get-of_tree, updates.0, get-insert, eq_by_cmp_equiv)
 
 pub of_tree-remove : {X : Type 0} (m n : BTreeMap ℕ X) (k : ℕ) → tree.Updates nat_cmp m n k None
     → of_tree n ≡ finite.remove (of_tree m) k
-of_tree-remove m n k updates = maps_alike (of_tree n) (finite.remove (of_tree m) k)
-    (λ q. get-of_tree n q ∙ updates.0 q ∙ (λ i. cond ((eq_by_cmp_equiv nat_cmp_total).symm k q i) None
-    (sym (get-of_tree m q) i)) ∙ sym (get-remove nat_cmp_total (of_tree m) k q))
+of_tree-remove m n k updates = search (rules, maps_alike, get-of_tree, updates.0, get-remove, eq_by_cmp_equiv)
 
 -- to write over the value of a key that is there
 pub from_entries-set : {X : Type 0} (es : List (ℕ × X)) (k : ℕ) (w : X) → IsSome (lookup (is_at (nat_cmp k)) es)
@@ -96,11 +93,7 @@ find-values f q (e ∷ es) = search (rules, find-values f q es)
 
 pub get-map_values : {X Y : Type 0} (f : X → Y) (m : FinMap nat_cmp X) (q : ℕ)
     → finite.get (map_values f m) q ≡ option_map f (finite.get m q)
-get-map_values f m q = cc (
-  get-from_entries nat_cmp_total (map (λ e. (e.0, f e.1)) (finite.entries m)) q,
-  find-values f q (finite.entries m),
-  get-entries m q,
-)
+get-map_values f m q = search (rules, get-from_entries, nat_cmp_total, find-values, get-entries)
 
 pub map_values-insert : {X Y : Type 0} (f : X → Y) (m : FinMap nat_cmp X) (k : ℕ) (v : X)
     → map_values f (finite.insert m k v) ≡ finite.insert (map_values f m) k (f v)
@@ -117,5 +110,38 @@ something x is = search (rules)
 pub from_entries-empty : {X : Type 0} (es : List (ℕ × X)) → finite.from_entries {R = nat_cmp} es ≡ finite.empty
     → es ≡ []
 from_entries-empty [] is = refl
-from_entries-empty (e ∷ es) is = absurd (something e.1 (sym (get-inserted (finite.from_entries es) e.0 e.1) ∙ ap
-    (λ m. finite.get m e.0) is ∙ get-empty nat_cmp e.0))
+from_entries-empty (e ∷ es) is =
+    let no : Some e.1 ≡ None = cc (get-inserted (finite.from_entries es) e.0 e.1, is, get-empty {X = _} nat_cmp e.0) in
+    absurd cc
+
+pub sum_below-alike : (f g : ℕ → ℕ) (n : ℕ) → ((q : ℕ) → q < n → f q ≡ g q) → sum_below f n ≡ sum_below g n
+unfolding sum_below
+sum_below-alike f g zero alike = refl
+sum_below-alike f g (suc n) alike = omega
+    (arith, sum_below-alike f g n (λ q lt. alike q (omega arith)), alike n (omega arith))
+
+-- where the two differ at c alone
+pub sum_below-changed : (f g : ℕ → ℕ) (c n : ℕ) → c < n → ((q : ℕ) → q ≢ c → f q ≡ g q)
+    → sum_below f n + g c ≡ sum_below g n + f c
+unfolding sum_below
+sum_below-changed f g c zero lt alike = absurd (omega arith)
+sum_below-changed f g c (suc n) lt alike = grind
+    (arith, cases_lt c n, sum_below-changed f g c n, sum_below-alike f g n, alike n, ap f, ap g)
+
+pub sum_below-bound : (f : ℕ → ℕ) (b n : ℕ) → ((q : ℕ) → f q ≤ b) → sum_below f n ≤ n * b
+unfolding sum_below
+sum_below-bound f b zero bound = omega arith
+sum_below-bound f b (suc n) bound = search (rules, sum_below-bound f b n bound)
+
+pub sum_below-part : (f : ℕ → ℕ) (c n : ℕ) → c < n → f c ≤ sum_below f n
+unfolding sum_below
+sum_below-part f c zero lt = absurd (omega arith)
+sum_below-part f c (suc n) lt = elim (cases_lt c n) [
+  | inl below ↦ omega (arith, sum_below-part f c n below)
+  | inr past ↦ let here : c ≡ n = omega arith in omega (arith, ap f here)
+]
+
+pub sum_below-none : (f : ℕ → ℕ) (n : ℕ) → ((q : ℕ) → f q ≡ 0) → sum_below f n ≡ 0
+unfolding sum_below
+sum_below-none f zero none = refl
+sum_below-none f (suc n) none = omega (arith, sum_below-none f n none, none n)

@@ -1,8 +1,7 @@
 -- Orders that lines may have come in: of a front and a rest, and what they are answered.
-use Rattle.ent_replay.proofs.Common.{arith, rules, ◌≡◌, ℕ, List, [], ◌∷◌, ◌++◌, refl, ap, subst, length, sym, ◌∙◌, inl, inr, common_steps, append_assoc, append-nil, length-append, Allocator, Call, Reservation, Fits, AreAnswered, after_line, after_lines, IsAlone, IsOrderOf, Checked, reserve_lines, AgreesWith, IsSettled, Follows, Reaches, Differs, IfReserve, Shows, HasNoOrder, NoneFollows, Difference}
+use Rattle.ent_replay.proofs.Common.{none, arith, rules, ◌≡◌, ℕ, List, [], ◌∷◌, ◌++◌, refl, ap, length, sym, ◌∙◌, inl, inr, common_steps, append_assoc, append-nil, length-append, Allocator, Call, Reservation, Fits, AreAnswered, after_line, after_lines, IsAlone, IsOrderOf, Checked, reserve_lines, AgreesWith, IsSettled, Follows, Reaches, Differs, IfReserve, Shows, HasNoOrder, NoneFollows, Difference}
 use Rattle.ent_replay.specs.declared.trace.call.Call.TheVariants as line
-use Rattle.ent_replay.proofs.Parting.{IsReserve, parts, parted, all_reserve}
-use Rattle.ent_replay.proofs.Lists.{all_at}
+use Rattle.ent_replay.proofs.Lists.{parts, parted, all_reserve, all_at}
 use Rattle.ent_replay.proofs.Requested.{reserves-ordered}
 
 -- an order of the front and one of the rest are one of all
@@ -25,8 +24,7 @@ AreAnswered-append s (l ∷ first) second first_yes more =
 -- one more reservation in the run, or as the next line
 pub run_more : (run : List Reservation) (r : Reservation) (rest : List Call)
     → reserve_lines (run ++ r ∷ []) ++ rest ≡ reserve_lines run ++ line.Reserve r ∷ rest
-run_more [] r rest = refl
-run_more (q ∷ run) r rest = cc (run_more run r rest)
+run_more run r rest = grind (arith, common_steps)
 
 answered_front : (s : Allocator) (first second : List Call) → AreAnswered s (first ++ second) → AreAnswered s first
 answered_front s [] second all = tt
@@ -68,30 +66,13 @@ called-Follows c l after alone settled fits = record {
 
 length-ordered : (order lines : List Call) → IsOrderOf lines order → length order ≡ length lines
 length-ordered [] lines is = ap length (sym is)
-length-ordered (l ∷ order) lines (before, after, parts, passes, more) =
-    let a = length-ordered order (before ++ after) more in
-    let b = length-append before after in
-    let e = length-append before (l ∷ after) in
-    let f : length lines ≡ length (before ++ l ∷ after) = ap length parts in
-    omega arith
+length-ordered (l ∷ order) lines (before, after, parts, passes, more) = search
+    (rules, length-append, parts, length-ordered order (before ++ after) more)
 
 -- an alone line isn't one of a run
 not_in_run : (run : List Reservation) (order before after : List Call) (l : Call) → IsOrderOf (reserve_lines run) order
     → order ≡ before ++ l ∷ after → IsAlone l → ⊥
-not_in_run run order before after l is parts alone = not_both l alone
-    (all_at IsReserve before after l (rw (← parts) (reserves-ordered order (reserve_lines run) is (all_reserve run))))
-  where
-    not_both : (l : Call) → IsAlone l → IsReserve l → ⊥
-    not_both (line.Reserve r) alone reserve = alone
-    not_both other alone reserve = reserve
-
-no_rest : (run : List Reservation) (order : List Call) → IsOrderOf (reserve_lines run ++ []) order
-    → IsOrderOf (reserve_lines run) order
-no_rest run order is = rw (← append-nil (reserve_lines run)) is
-
-some_rest : (run : List Reservation) (order : List Call) → IsOrderOf (reserve_lines run) order
-    → IsOrderOf (reserve_lines run ++ []) order
-some_rest run order is = rw append-nil is
+not_in_run run order before after it is parts alone = search (rules, parts, reserves-ordered, all_reserve, all_at)
 
 -- one more line doesn't change it
 pub Shows-more : (c : Checked) (n : ℕ) (l : Call) (d : Difference) → IsAlone l → Shows c n [] d → Shows c n (l ∷ []) d
@@ -101,12 +82,12 @@ Shows-more c n l d alone shows = record {
   left = shows.left ++ l ∷ [];
   is_order = rw (← append_assoc shows.placed (shows.next ∷ shows.left) (l ∷ []))
       (IsOrderOf-append (reserve_lines c.run) (l ∷ []) (shows.placed ++ shows.next ∷ shows.left) (l ∷ [])
-      (no_rest c.run (shows.placed ++ shows.next ∷ shows.left) shows.is_order) (IsOrderOf-cons l [] [] refl));
+      (rw append-nil at shows.is_order) (IsOrderOf-cons l [] [] refl));
   answered = shows.answered;
   differs = shows.differs;
   blamed = shows.blamed;
   stuck = λ x more is. let p = parts (reserve_lines c.run) [] l (shows.placed ++ x ∷ more) (all_reserve c.run) alone
-      is in let own = no_rest c.run (shows.placed ++ shows.next ∷ shows.left) shows.is_order in elim
+      is in let own = rw append-nil at shows.is_order in elim
       (parted shows.placed more p.first p.second x l p.is) [
         | inl inside ↦ absurd (not_in_run c.run (shows.placed ++ shows.next ∷ shows.left) p.first
             (inside.more ++ shows.next ∷ shows.left) l own (ap (λ (ls : List Call). ls ++ shows.next ∷ shows.left)
@@ -117,14 +98,12 @@ Shows-more c n l d alone shows = record {
             let e = length-append shows.placed (shows.next ∷ shows.left) in
             let f : length p.first ≡ length shows.placed = ap length itself.before_is in
             absurd (omega arith)
-        | inr (inr behind) ↦ shows.stuck x behind.more (some_rest c.run (shows.placed ++ x ∷ behind.more)
-            (rw (← behind.before_is) p.first_is))
+        | inr (inr behind) ↦ shows.stuck x behind.more (rw (append-nil, ← behind.before_is) p.first_is)
       ];
 }
 
 none_blamed : (l : Call) (P : Type 0) → IsAlone l → IfReserve l P
-none_blamed (line.Reserve r) P alone = absurd alone
-none_blamed other P alone = tt
+none_blamed it P alone = search rules
 
 -- the run was settled, and the line differs then
 pub called-Shows : (c : Checked) (l : Call) (after : Allocator) (n : ℕ) (d : Difference) → IsAlone l → IsSettled c after
@@ -133,22 +112,11 @@ called-Shows c l after n d alone settled differs = record {
   placed = settled.order;
   next = l;
   left = [];
-  is_order = IsOrderOf-append (reserve_lines c.run) (l ∷ []) settled.order (l ∷ []) settled.is_order
-      (IsOrderOf-cons l [] [] refl);
+  is_order = search (rules, IsOrderOf-append, IsOrderOf-cons);
   answered = settled.answered;
   differs = rw (← settled.after_is) differs;
   blamed = none_blamed l (HasNoOrder c) alone;
-  stuck = λ x more is fits. let p = parts (reserve_lines c.run) [] l (settled.order ++ x ∷ more) (all_reserve c.run)
-      alone is in elim (parted settled.order more p.first p.second x l p.is) [
-        | inl inside ↦ not_in_run c.run settled.order p.first inside.more l settled.is_order inside.front_is alone
-        | inr (inl itself) ↦ differs.unlike (subst (λ s. Fits s l) (sym settled.after_is) (rw itself.is fits))
-        | inr (inr behind) ↦
-            let a = length-ordered p.first (reserve_lines c.run) p.first_is in
-            let b = length-ordered settled.order (reserve_lines c.run) settled.is_order in
-            let e = length-append settled.order (x ∷ behind.more) in
-            let f : length p.first ≡ length (settled.order ++ x ∷ behind.more) = ap length behind.before_is in
-            absurd (omega arith)
-      ];
+  stuck = grind (arith, common_steps, parts, all_reserve, parted, not_in_run, length-ordered, length-append);
 }
 
 -- and no other order of the run would help

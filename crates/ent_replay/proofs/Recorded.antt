@@ -1,6 +1,71 @@
--- What the answers of a checker say of all its calls together.
-use Rattle.ent_replay.proofs.Common.{◌≡◌, List, [], ◌∷◌, ◌++◌, Result, Ok, Err, refl, ap, subst, ◌∙◌, rules, inl, inr, ◌⊎◌, IsOk, append-nil, Limits, opening, Call, CheckError, Checker, Difference, AgreesWith, AllFollow, Checked, Follows, opened, Agrees, Compares, Finishes, Takes, TakesAll, numbered, numbered_after, one_more, OnOk, OnErr}
+-- What a checker takes, one call after the other, and what its answers say of all its calls together.
+use Rattle.ent_replay.proofs.Common.{next, rules, Result, IfOk, IfErr, OnOk, Difference, CheckError, OnDiffers, ◌≡◌, ℕ, ◌+◌, ◌<◌, ◌≤◌, List, [], ◌∷◌, ◌++◌, map, length, get_or, set, take, drop, refl, reverse, add-one, append-nil, drop-set-lt, drop_all, reverse-append, reverse-reverse, take_all, Call, Checker, Reservation, reserve_lines, Log, emptied, new_logs, Takes, TakesAll, lines_in, lines_in_all, drop-cons, Ok, Err, ap, subst, ◌∙◌, inl, inr, ◌⊎◌, IsOk, Limits, opening, AgreesWith, AllFollow, Checked, opened, Agrees, Compares, Finishes, numbered, numbered_after, one_more, OnErr}
+use Rattle.ent_replay.specs.declared.trace.call.Call.TheVariants as line
 use Rattle.ent_replay.specs.declared.trace.check_error.CheckError.TheVariants as error
+
+pub on_differs : (s : CheckError) (P Q : Difference → Type 0) → ((d : Difference) → P d → Q d) → OnDiffers s P
+    → OnDiffers s Q
+on_differs it P Q each h = search rules
+
+module _ {X E : Type 0} where
+  pub on_both : (r : Result X E) (F : Type 0) (P Q : X → Type 0) → (F → (x : X) → P x → Q x) → OnOk r F → IfOk r P
+      → IfOk r Q
+  on_both it F P Q each f h = search rules
+
+  pub on_err : (r : Result X E) (P Q : E → Type 0) → ((e : E) → P e → Q e) → IfErr r P → IfErr r Q
+  on_err it P Q each h = search rules
+
+pub TakesAll-append : (first second : List Call) (old middle new : Checker) → TakesAll old first middle
+    → TakesAll middle second new → TakesAll old (first ++ second) new
+TakesAll-append [] second old middle new same more = rw (← same) more
+TakesAll-append (l ∷ first) second old middle new (next, takes, others) more =
+    (next, takes, TakesAll-append first second next middle new others more)
+
+-- one more call after these
+pub TakesAll-push : (lines : List Call) (l : Call) (old middle new : Checker) → TakesAll old lines middle
+    → Takes middle l new → TakesAll old (lines ++ l ∷ []) new
+TakesAll-push lines l old middle new all takes = search (rules, TakesAll-append)
+
+-- All calls were taken from the old state on, if those that are left are taken from this one on.
+abbrev pub Leads : Checker → List Call → Checker → List Call → Type 0
+Leads old all now left = (final : Checker) → TakesAll now left final → TakesAll old all final
+
+pub Leads-all : (old now : Checker) (all : List Call) → Leads old all now [] → TakesAll old all now
+Leads-all old now all leads = leads now refl
+
+-- ---- a list from its end on
+
+reverse-push : (rs : List Reservation) (r : Reservation) → reverse (rs ++ r ∷ []) ≡ r ∷ reverse rs
+reverse-push rs r = reverse-append rs (r ∷ [])
+
+pub Leads-reversed : (c : Checker) (rs turned : List Reservation) → turned ≡ reverse rs
+    → Leads c (reserve_lines rs) c (reserve_lines (reverse turned))
+Leads-reversed c rs turned is = search (rules, reverse-reverse)
+
+pub Leads-popped : (old now next : Checker) (all : List Call) (before after : List Reservation) (r : Reservation)
+    → before ≡ after ++ r ∷ [] → Leads old all now (reserve_lines (reverse before)) → Takes now (line.Reserve r) next
+    → Leads old all next (reserve_lines (reverse after))
+Leads-popped old now next all before after r is leads takes final more = search (rules, reverse-push)
+
+-- ---- logs
+
+pub Leads-joined : (old now next : Checker) (all : List Call) (logs : List Log) (i : ℕ) (log changed : Log)
+    → i < length logs → log ≡ get_or logs i log → Leads old all now (lines_in_all (drop i logs))
+    → TakesAll now (lines_in log) next → Leads old all next (lines_in_all (drop (i + 1) (set logs i changed)))
+Leads-joined old now next all logs i log changed within here leads takes final more = search
+    (rules, drop-set-lt, add-one, drop-cons, TakesAll-append)
+
+pub new_logs-next : (n : ℕ) (logs : List Log) → logs ≡ new_logs n → logs ++ record { caller = n; reservations = [] }
+    ∷ [] ≡ new_logs (n + 1)
+new_logs-next n logs is = cc (is, add-one n)
+
+pub Leads-end : (old now : Checker) (all : List Call) (logs : List Log) (i : ℕ) → length logs ≤ i
+    → Leads old all now (lines_in_all (drop i logs)) → TakesAll old all now
+Leads-end old now all logs i over leads = search (rules, Leads-all, drop_all)
+
+pub emptied-end : (logs now : List Log) (i : ℕ) → length logs ≤ i → now ≡ map emptied (take i logs) ++ drop i logs
+    → now ≡ map emptied logs
+emptied-end logs now i over is = search (rules, take_all, drop_all, append-nil)
 
 ok_or_err : {X E : Type 0} (r : Result X E) → ((x : X) × (r ≡ Ok x)) ⊎ ((e : E) × (r ≡ Err e))
 ok_or_err (Ok x) = inl (x, refl)
@@ -23,18 +88,11 @@ counted : (old next : Checker) (l : Call) (c : Checked) → old.comparer ≡ Ok 
     → next.calls ≡ one_more old.calls
 counted old next l c is takes = rw is at takes.counted
 
--- before and after a call, and then before and after others
-both_follow : (c m d : Checked) (l : Call) (lines : List Call) → Follows c l m → AllFollow m lines d
-    → AllFollow c (l ∷ lines) d
-both_follow c m d l lines one all = search rules
-
 pub all_follow : (lines : List Call) (old new : Checker) (c d : Checked) → old.comparer ≡ Ok c → new.comparer ≡ Ok d
     → TakesAll old lines new → AllFollow c (numbered_after old.calls lines) d
 all_follow [] old new c d is new_is same = search rules
 all_follow (l ∷ lines) old new c d is new_is (next, takes, more) = elim (ok_or_err next.comparer) [
-  | inl ok ↦ rw (← counted old next l c is takes) (both_follow c ok.0 d (numbered next.calls l)
-      (numbered_after next.calls lines) (compared old next l c (Ok ok.0) is ok.1 takes).follows
-      (all_follow lines next new ok.0 d ok.1 new_is more))
+  | inl ok ↦ search (rules, counted, compared, all_follow lines next new ok.0 d ok.1 new_is more)
   | inr bad ↦ let same = ap (λ (x : Checker). x.comparer) (stopped-all lines next new bad.0 bad.1 more) in absurd cc
 ]
 
@@ -58,16 +116,15 @@ taken-differs (l ∷ lines) old new c d is new_is (next, takes, more) rest agree
 
 -- ---- from the first call on
 
-given_ok : {T E : Type 0} (r : Result T E) (P : Type 0) → IsOk r → OnOk r P → P
-given_ok it P ok h = search rules
-
 -- No call fails, and neither does the end: the trace agrees.
 pub finished-agrees : {A : Type 0} (limits : Limits) (start : Checker) (lines : List Call)
     (answer : Result A CheckError) → start.comparer ≡ Ok (opened limits) → Finishes start lines answer → IsOk answer
     → Agrees (opening limits) (numbered_after start.calls lines)
 finished-agrees limits start lines answer opens (taken, all, closes, stopped) ok = elim (ok_or_err taken.comparer) [
-  | inl c ↦ rw append-nil at ((all_follow lines start taken (opened limits) c.0 opens c.1 all).sound []
-      (given_ok answer (AgreesWith c.0 []) ok (rw c.1 at closes).agrees))
+  | inl c ↦
+      let closed = rw c.1 at closes in
+      rw append-nil at ((all_follow lines start taken (opened limits) c.0 opens c.1 all).sound []
+      (search (rules, closed.agrees)))
   | inr e ↦ let same : answer ≡ Err e.0 = rw e.1 at stopped in let failed = rw same at ok in absurd cc
 ]
 

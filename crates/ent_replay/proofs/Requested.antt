@@ -1,8 +1,7 @@
 -- What the lines that were taken request.
-use Rattle.ent_replay.proofs.Common.{rules, ◌≡◌, ℕ, ◌+◌, Bool, true, false, if◌then◌else◌, arith, List, [], ◌∷◌, ◌++◌, Option, ap, sym, refl, sum_by-cons, sum_by_push, AllByRecursion, Handle, Allocator, after_free, asked-after_take, Call, Reservation, IsOrderOf, after_front, after_line, after_lines, Checked, IsSettled, Reaches, ReachesAll, requested_in, reserve_lines, AllocReply, FreeReply, FlushReply, State}
+use Rattle.ent_replay.proofs.Common.{rules, ◌≡◌, ℕ, ◌+◌, Bool, if◌then◌else◌, arith, List, [], ◌∷◌, ◌++◌, Option, ap, sym, refl, sum_by-cons, sum_by_push, AllByRecursion, Handle, Allocator, after_free, asked-after_take, Call, Reservation, IsOrderOf, after_front, after_line, after_lines, Checked, IsSettled, Reaches, ReachesAll, requested_in, reserve_lines, AllocReply, FreeReply, FlushReply, State}
 use Rattle.ent_replay.specs.declared.trace.call.Call.TheVariants as line
-use Rattle.ent_replay.proofs.Lists.{all_at, all_without}
-use Rattle.ent_replay.proofs.Parting.{IsReserve, all_reserve}
+use Rattle.ent_replay.proofs.Lists.{all_at, all_without, IsReserve, all_reserve}
 
 abbrev asks_line : Call → ℕ
 asks_line (line.Reserve r) = r.requested
@@ -30,10 +29,7 @@ pub reserves-ordered : (order lines : List Call) → IsOrderOf lines order → A
     → AllByRecursion IsReserve order
 reserves-ordered [] lines is all = tt
 reserves-ordered (l ∷ order) lines (before, after, parts, passes, more) all =
-    let here = rw parts at all in (
-      all_at IsReserve before after l here,
-      reserves-ordered order (before ++ after) more (all_without IsReserve before after l here),
-    )
+    let here = rw parts at all in search (rules, all_at, all_without, reserves-ordered order (before ++ after) more)
 
 asked-reserves : (order : List Call) (s : Allocator) → AllByRecursion IsReserve order
     → (after_lines s order).asked ≡ s.asked + asks_in order
@@ -44,29 +40,19 @@ asked-reserves (l ∷ order) s all = absurd all.0
 
 -- the state after a run has asked for what the run requests
 pub asked-settled : (c : Checked) (at : Allocator) → IsSettled c at → at.asked ≡ c.allocator.asked + requested_in c.run
-asked-settled c at settled = cc (
-  settled.after_is,
-  asked-reserves settled.order c.allocator (reserves-ordered settled.order (reserve_lines c.run) settled.is_order
-      (all_reserve c.run)),
-  asks-ordered settled.order (reserve_lines c.run) settled.is_order,
-  asks-run c.run,
-)
+asked-settled c at settled = search (rules, asked-reserves, reserves-ordered, all_reserve, asks-ordered, asks-run)
 
 -- ---- after one more line
 
 asked-front : (s : Allocator) (pool : List Handle) → (after_front s pool).asked ≡ s.asked
-asked-front s [] = refl
-asked-front s (h ∷ pool) = refl
+asked-front s it = search rules
 
 asked-alloc : (b : Bool) (s : Allocator) → (if b then s else after_front s s.pool).asked ≡ s.asked
-asked-alloc true s = refl
-asked-alloc false s = asked-front s s.pool
+asked-alloc it s = search (rules, asked-front)
 
 asked-free : (b c : Bool) (s : Allocator) (h : Handle) → (if b then s else (if c then after_free s h else s)).asked
     ≡ s.asked
-asked-free true c s h = refl
-asked-free false true s h = refl
-asked-free false false s h = refl
+asked-free it other s h = search rules
 
 -- how many are requested since the last flush, in the lines that were taken
 abbrev pub requested_by : Checked → ℕ
@@ -96,7 +82,7 @@ module _ (old new : Checked) where
 
   pub requested-state : (h : Handle) (told : Option State) → Reaches old (line.State h told) new
       → requested_by new ≡ requested_by old
-  requested-state h told (at, settled, fits, is) = kept at (line.State h told) settled is refl
+  requested-state h told (at, settled, fits, is) = search (rules, kept)
 
   pub requested-len : (told : Option ℕ) → Reaches old (line.Len told) new → requested_by new ≡ requested_by old
   requested-len told (at, settled, fits, is) = kept at (line.Len told) settled is refl

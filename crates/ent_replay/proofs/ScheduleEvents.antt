@@ -1,6 +1,5 @@
 -- An event is read from its own text and from no other.
-use Rattle.ent_replay.proofs.Common.{rules, ◌≡◌, ℕ, ◌^◌, ◌<◌, Bool, true, false, not, cond, eqb, List, [], ◌∷◌, ◌++◌, All, Result, Ok, refl, sym, ap, ◌∙◌, arith, common_steps, codes, is_ascii_digit, decimal, join_with_byte, list_all, slice_split, bytes_eq, and_parts, and_from, false≢true, slice_split_none, slice_split_at, AllPass-from_list_all, bytes_eq-Decides, Handle, IsHandle, number_of, handle_of, handle_text, TextFault, plain_from_decimal, decimal_is_decimal, number_found, number_of-decimal, handle_found, handle_of_text, Event, Alloc, Free, Flush, Begin, Step, Answer, Cause, ◌>>=◌, event_text, IsEvent, words_of, or_cause, number_word, handle_word, none, one, two, begin_of, event_with, event_of}
-use Rattle.std.proofs.Common.{append_assoc}
+use Rattle.ent_replay.proofs.Common.{cases_Bool, rules, ◌≡◌, ℕ, ◌^◌, ◌<◌, Bool, true, false, not, cond, eqb, List, [], ◌∷◌, ◌++◌, All, Result, Ok, refl, sym, arith, common_steps, codes, is_ascii_digit, decimal, join_with_byte, list_all, slice_split, bytes_eq, and_parts, and_from, slice_split_none, slice_split_at, AllPass-from_list_all, Handle, IsHandle, number_of, handle_of, handle_text, TextFault, plain_from_decimal, decimal_is_decimal, number_found, number_of-decimal, handle_found, handle_of_text, Event, Alloc, Free, Flush, Begin, Step, Answer, Cause, ◌>>=◌, event_text, IsEvent, words_of, or_cause, number_word, handle_word, none, one, two, begin_of, event_with, event_of, append_assoc}
 use Rattle.ent_replay.specs.declared.read_fault.Cause.TheVariants as cause
 
 -- ---- steps that did not fail
@@ -21,13 +20,10 @@ or_cause_ok c it x e = search (rules, ok_is)
 two_ok : (words : List (List ℕ)) (pair : List ℕ × List ℕ) → two words ≡ Ok pair → words ≡ pair.0 ∷ pair.1 ∷ []
 two_ok more pair h = search (rules, ok_is)
 
-number_is_small : (word : List ℕ) (n : ℕ) → number_of word ≡ Ok n → n < 2 ^ 32
-number_is_small word n e = grind (arith, common_steps)
-
 number_ok : (word : List ℕ) (n : ℕ) → number_word word ≡ Ok n → (n < 2 ^ 32) × (word ≡ decimal n)
 number_ok word n e =
     let f = or_cause_ok cause.Number (number_of word) n e in
-    (number_is_small word n f, number_found word (Ok n) (sym f))
+    (grind (arith, common_steps), number_found word (Ok n) (sym f))
 
 handle_ok : (word : List ℕ) (h : Handle) → handle_word word ≡ Ok h → IsHandle h × (word ≡ handle_text h)
 handle_ok word h e = handle_found word (Ok h) (sym (or_cause_ok cause.Handle (handle_of word) h e))
@@ -43,16 +39,12 @@ handle_again h is = simp handle_of_text
 abbrev pub lacks : ℕ → List ℕ → Bool
 lacks separator bytes = list_all (λ byte. not (eqb byte separator)) bytes
 
-digit_is_other : (separator c : ℕ) → is_ascii_digit separator ≡ false → is_ascii_digit c ≡ true
-    → not (eqb c separator) ≡ true
-digit_is_other separator c h d = grind (arith, common_steps)
-
 digits_lack : (separator : ℕ) (ds : List ℕ) → is_ascii_digit separator ≡ false → list_all is_ascii_digit ds ≡ true
     → lacks separator ds ≡ true
 digits_lack separator [] h d = refl
 digits_lack separator (c ∷ cs) h d =
     let p = and_parts (is_ascii_digit c) (list_all is_ascii_digit cs) d in
-    and_from _ _ (digit_is_other separator c h p.0) (digits_lack separator cs h p.1)
+    grind (arith, common_steps, digits_lack separator cs h p.1)
 
 decimal_lacks : (separator n : ℕ) → is_ascii_digit separator ≡ false → n < 2 ^ 64 → lacks separator (decimal n) ≡ true
 decimal_lacks separator n h small = search (rules, digits_lack, plain_from_decimal, decimal_is_decimal)
@@ -67,12 +59,8 @@ event_lacks it is = grind (arith, common_steps, handle_lacks, decimal_lacks)
 
 lacks_all : (separator : ℕ) (bytes : List ℕ) → lacks separator bytes ≡ true
     → All (λ byte. eqb byte separator ≡ false) bytes
-lacks_all separator bytes h k d lt = not_true _ (AllPass-from_list_all (λ byte. not (eqb byte separator)) bytes h k d
-    lt)
-  where
-    not_true : (b : Bool) → not b ≡ true → b ≡ false
-    not_true true e = absurd (false≢true e)
-    not_true false e = refl
+lacks_all separator bytes h k d lt =
+    let other = AllPass-from_list_all (λ byte. not (eqb byte separator)) bytes h k d lt in search (rules, cases_Bool)
 
 pub split_lacking : (separator : ℕ) (bytes : List ℕ) → lacks separator bytes ≡ true
     → slice_split (λ byte. eqb byte separator) bytes ≡ bytes ∷ []
@@ -92,60 +80,50 @@ joined words = join_with_byte 32 words
 abbrev IsRead : List (List ℕ) → Event → Type 0
 IsRead words event = IsEvent event × (joined words ≡ event_text event)
 
-word_is : (word text : List ℕ) → bytes_eq word text ≡ true → word ≡ text
-word_is word text e = (bytes_eq-Decides word text).0 e
+module _ (word : List ℕ) (others : List (List ℕ)) (e : Event) where
+  alone_found : (event : Event) → IsEvent event → word ≡ event_text event → none event others ≡ Ok e
+      → IsRead (word ∷ others) e
+  alone_found event fits is h = search (rules, ok_is)
 
-alone_found : (word : List ℕ) (others : List (List ℕ)) (event e : Event) → word ≡ event_text event → IsEvent event
-    → none event others ≡ Ok e → IsRead (word ∷ others) e
-alone_found word others event e is fits h = search (rules, ok_is)
+  free_found : word ≡ codes "free" → (one others >>= handle_word >>= λ h. Ok (Free h)) ≡ Ok e → IsRead (word ∷ others) e
+  free_found is h = search
+      (rules, bind_ok (one others >>= handle_word) (λ h. Ok (Free h)) e h, bind_ok, handle_ok, ok_is)
 
-free_found : (word : List ℕ) (others : List (List ℕ)) (e : Event) → word ≡ codes "free"
-    → (one others >>= handle_word >>= λ h. Ok (Free h)) ≡ Ok e → IsRead (word ∷ others) e
-free_found word others e is h =
-    let b = bind_ok (one others >>= handle_word) (λ h. Ok (Free h)) e h in search (rules, bind_ok, handle_ok, ok_is)
+  -- a keyword with one number after it
+  caller_found : (make : ℕ → Event) (keyword : List ℕ) → ((n : ℕ) → n < 2 ^ 32 → IsEvent (make n))
+      → ((n : ℕ) → event_text (make n) ≡ keyword ++ 32 ∷ decimal n) → word ≡ keyword
+      → (one others >>= number_word >>= λ caller. Ok (make caller)) ≡ Ok e → IsRead (word ∷ others) e
+  caller_found make keyword fits text is h = search (rules, bind_ok, number_ok, ok_is)
 
--- a keyword with one number after it
-caller_found : (make : ℕ → Event) (keyword : List ℕ) → ((n : ℕ) → n < 2 ^ 32 → IsEvent (make n))
-    → ((n : ℕ) → event_text (make n) ≡ keyword ++ 32 ∷ decimal n) → (word : List ℕ) (others : List (List ℕ)) (e : Event)
-    → word ≡ keyword → (one others >>= number_word >>= λ caller. Ok (make caller)) ≡ Ok e → IsRead (word ∷ others) e
-caller_found make keyword fits text word others e is h = search (rules, bind_ok, number_ok, ok_is)
+  begin_found : word ≡ codes "begin" → begin_of others ≡ Ok e → IsRead (word ∷ others) e
+  unfolding begin_of
+  begin_found is h =
+      let a = bind_ok (two others)
+      (λ pair. number_word pair.0 >>= λ caller. number_word pair.1 >>= λ n. Ok (Begin caller n)) e h in
+      let b = bind_ok (number_word a.0.0) (λ caller. number_word a.0.1 >>= λ n. Ok (Begin caller n)) e a.2 in
+      let c = bind_ok (number_word a.0.1) (λ n. Ok (Begin b.0 n)) e b.2 in
+      let p = number_ok a.0.0 b.0 b.1 in
+      let q = number_ok a.0.1 c.0 c.1 in
+      rw (← ok_is (Begin b.0 c.0) e c.2)
+      ((p.0, q.0), simp (two_ok others a.0 a.1, is, p.1, q.1, append_assoc))
 
-begin_found : (word : List ℕ) (others : List (List ℕ)) (e : Event) → word ≡ codes "begin" → begin_of others ≡ Ok e
-    → IsRead (word ∷ others) e
-unfolding begin_of
-begin_found word others e is h =
-    let a = bind_ok (two others) (λ pair. number_word pair.0 >>= λ caller. number_word pair.1 >>= λ n. Ok (Begin caller n))
-    e h in
-    let b = bind_ok (number_word a.0.0) (λ caller. number_word a.0.1 >>= λ n. Ok (Begin caller n)) e a.2 in
-    let c = bind_ok (number_word a.0.1) (λ n. Ok (Begin b.0 n)) e b.2 in
-    let p = number_ok a.0.0 b.0 b.1 in
-    let q = number_ok a.0.1 c.0 c.1 in
-    rw (← ok_is (Begin b.0 c.0) e c.2) (
-      (p.0, q.0),
-      ap (λ (ws : List (List ℕ)). joined (word ∷ ws)) (two_ok others a.0 a.1)
-          ∙ ap (λ (w : List ℕ). w ++ 32 ∷ (a.0.0 ++ 32 ∷ a.0.1)) is
-          ∙ ap (λ (w : List ℕ). codes "begin " ++ (w ++ 32 ∷ a.0.1)) p.1
-          ∙ ap (λ (w : List ℕ). codes "begin " ++ (decimal b.0 ++ 32 ∷ w)) q.1
-          ∙ ap (λ (w : List ℕ). codes "begin " ++ w) (sym (append_assoc (decimal b.0) (codes " ") (decimal c.0))),
-    )
+  -- one test of the first word
+  tested : (keyword : List ℕ) (x y : Result Event Cause) → cond (bytes_eq word keyword) x y ≡ Ok e
+      → (word ≡ keyword → x ≡ Ok e → IsRead (word ∷ others) e) → (y ≡ Ok e → IsRead (word ∷ others) e)
+      → IsRead (word ∷ others) e
+  tested keyword x y h found goes_on = search rules
 
--- one test of the first word
-tested : (word : List ℕ) (others : List (List ℕ)) (e : Event) (keyword : List ℕ) (x y : Result Event Cause)
-    → cond (bytes_eq word keyword) x y ≡ Ok e → (word ≡ keyword → x ≡ Ok e → IsRead (word ∷ others) e)
-    → (y ≡ Ok e → IsRead (word ∷ others) e) → IsRead (word ∷ others) e
-tested word others e keyword x y h found goes_on = search (rules, word_is)
+  found : event_of (word ∷ others) ≡ Ok e → IsRead (word ∷ others) e
+  unfolding event_with
+  found h = tested (codes "alloc") _ _ h (alone_found Alloc tt) (λ h1. tested (codes "flush") _ _ h1
+      (alone_found Flush tt) (λ h2. tested (codes "free") _ _ h2 free_found (λ h3. tested (codes "begin") _ _ h3
+      begin_found (λ h4. tested (codes "step") _ _ h4 (caller_found (λ n. Step n) (codes "step") (λ n small. small)
+      (λ n. refl)) (λ h5. tested (codes "answer") _ _ h5 (caller_found (λ n. Answer n) (codes "answer")
+      (λ n small. small) (λ n. refl)) (λ unknown. absurd cc))))))
 
 pub event_found : (words : List (List ℕ)) (e : Event) → event_of words ≡ Ok e → IsRead words e
-unfolding event_with
 event_found [] e h = absurd cc
-event_found (word ∷ others) e h = tested word others e (codes "alloc") _ _ h
-    (λ is p. alone_found word others Alloc e is tt p) (λ h1. tested word others e (codes "flush") _ _ h1
-    (λ is p. alone_found word others Flush e is tt p) (λ h2. tested word others e (codes "free") _ _ h2
-    (λ is p. free_found word others e is p) (λ h3. tested word others e (codes "begin") _ _ h3
-    (λ is p. begin_found word others e is p) (λ h4. tested word others e (codes "step") _ _ h4
-    (λ is p. caller_found (λ n. Step n) (codes "step") (λ n small. small) (λ n. refl) word others e is p)
-    (λ h5. tested word others e (codes "answer") _ _ h5 (λ is p. caller_found (λ n. Answer n) (codes "answer")
-    (λ n small. small) (λ n. refl) word others e is p) (λ unknown. absurd cc))))))
+event_found (word ∷ others) e h = found word others e h
 
 -- ---- what is spelled so is read
 
@@ -160,7 +138,7 @@ event_again (Begin caller n) is =
       split_at_lacking 32 (decimal caller) (decimal n) refl (decimal_lacks 32 caller refl (omega (arith, is.0))),
       split_lacking 32 (decimal n) (decimal_lacks 32 n refl (omega (arith, is.1))),
     ) in
-    ap event_of words ∙ rw (number_again caller is.0, number_again n is.1) refl
+    search (rules, number_of-decimal)
 event_again (Step caller) is = rw
     (split_lacking 32 (decimal caller) (decimal_lacks 32 caller refl (omega (arith, is))), number_again caller is) refl
 event_again (Answer caller) is = rw

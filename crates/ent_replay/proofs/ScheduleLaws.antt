@@ -1,10 +1,28 @@
 -- What is read is spelled so, what is spelled so is read, and a refused text has events up to the
--- line that is named.
-use Rattle.ent_replay.proofs.Common.{rules, ◌≡◌, ℕ, ◌+◌, ◌<◌, ◌⊎◌, Bool, eqb, List, [], ◌∷◌, ◌++◌, length, map, Result, Ok, Err, refl, sym, ap, subst, ◌∙◌, inl, inr, arith, common_steps, flat_map, join_with_byte, slice_split, onto_first, cases_Bool, flat_map-map, join_with_byte-slice_split, Event, Alloc, Cause, ReadFault, Line, event_text, AreEvents, schedule_text, Spells, without_empty_end, words_of, event_of, goes_on, events_of, schedule_of, ExplainsFault}
-use Rattle.std.proofs.Common.{append_assoc}
+-- line that is named; reading line after line, as a loop does.
+use Rattle.ent_replay.proofs.Common.{next, rules, ◌≡◌, ℕ, ◌+◌, List, ◌∷◌, ◌++◌, length, Result, Ok, Err, append-nil, nil_from_length, Event, Cause, ReadFault, Line, words_of, event_of, events_of, ◌<◌, ◌⊎◌, Bool, eqb, [], map, refl, sym, ap, ◌∙◌, inl, inr, arith, common_steps, flat_map, join_with_byte, slice_split, onto_first, cases_Bool, flat_map-map, join_with_byte-slice_split, event_text, AreEvents, schedule_text, Spells, without_empty_end, goes_on, schedule_of, ExplainsFault, append_assoc}
 use Rattle.ent_replay.specs.ScheduleText.{lines_of}
 use Rattle.ent_replay.proofs.ScheduleEvents.{split_at_lacking, event_lacks, event_found, event_again}
 use Rattle.ent_replay.proofs.ScheduleWords.{parts_nonempty, without_empty_end-cons}
+
+-- the events so far, and what is read after them
+abbrev pub with_front : List Event → Result (List Event) ReadFault → Result (List Event) ReadFault
+with_front front (Ok events) = Ok (front ++ events)
+with_front front (Err fault) = Err fault
+
+-- what is read from a rest of the text, after this many lines
+abbrev pub read_from : ℕ → List ℕ → Result (List Event) ReadFault
+read_from so_far rest = events_of (so_far + 1) (lines_of rest)
+
+pub stops : (front : List Event) (so_far : ℕ) (rest line following : List ℕ) (c : Cause)
+    (total : Result (List Event) ReadFault) → lines_of rest ≡ line ∷ lines_of following
+    → event_of (words_of line) ≡ Err c → with_front front (read_from so_far rest) ≡ total
+    → total ≡ Err (Line (so_far + 1) c)
+stops front so_far rest line following c total split named invariant = search rules
+
+pub ends : (front : List Event) (so_far : ℕ) (rest : List ℕ) (total : Result (List Event) ReadFault) → length rest ≡ 0
+    → with_front front (read_from so_far rest) ≡ total → total ≡ Ok front
+ends front so_far rest total empty invariant = search (rules, nil_from_length, append-nil)
 
 -- ---- lines of events
 
@@ -92,31 +110,18 @@ ended lines = flat_map (λ line. line ++ 10 ∷ []) lines
 abbrev IsEnded : List ℕ → List (List ℕ) → Type 0
 IsEnded text lines = (text ≡ ended lines) ⊎ (text ++ 10 ∷ [] ≡ ended lines)
 
-more_ended : (line text : List ℕ) (lines : List (List ℕ)) → IsEnded text lines
-    → IsEnded (line ++ 10 ∷ text) (line ∷ lines)
-more_ended line text lines which = grind (arith, common_steps)
-
-last_ended : (part : List ℕ) → IsEnded part (without_empty_end (part ∷ []))
-last_ended part = grind (arith, common_steps)
-
 parts_ended : (parts : List (List ℕ)) → 0 < length parts → IsEnded (join_with_byte 10 parts) (without_empty_end parts)
 parts_ended [] long = absurd (omega arith)
-parts_ended (part ∷ []) long = last_ended part
-parts_ended (part ∷ next ∷ more) long = more_ended part (join_with_byte 10 (next ∷ more))
-    (without_empty_end (next ∷ more)) (parts_ended (next ∷ more) (omega arith))
+parts_ended (part ∷ []) long = grind (arith, common_steps)
+parts_ended (part ∷ next ∷ more) long = grind (arith, common_steps, parts_ended (next ∷ more) (omega arith))
 
 -- a text has its lines
 text_ended : (text : List ℕ) → IsEnded text (lines_of text)
-text_ended text =
-    let P : List ℕ → Type 0 = λ t. IsEnded t (lines_of text) in
-    subst P (join_with_byte-slice_split 10 text) (parts_ended (slice_split (λ byte. eqb byte 10) text)
+text_ended text = rw (join_with_byte-slice_split 10 text) at (parts_ended (slice_split (λ byte. eqb byte 10) text)
     (parts_nonempty 10 text))
 
 ended_events : (events : List Event) → ended (map event_text events) ≡ schedule_text events
 ended_events events = flat_map-map (λ line. line ++ 10 ∷ []) event_text events
-
-spells_from_lines : (text : List ℕ) (events : List Event) → lines_of text ≡ map event_text events → Spells events text
-spells_from_lines text events e = search (rules, ended_events, text_ended)
 
 -- ---- the lines of what is spelled
 
@@ -146,18 +151,12 @@ split_ended (x ∷ xs) = elim (cases_Bool (is_end x)) [
 ]
 
 without_empty_end-ended : (parts : List (List ℕ)) → without_empty_end (parts ++ [] ∷ []) ≡ parts
-without_empty_end-ended [] = refl
-without_empty_end-ended (part ∷ []) = refl
 without_empty_end-ended (part ∷ next ∷ more) = search (rules, without_empty_end-ended (next ∷ more))
-
-last_line : (b : ℕ) (bs : List ℕ) → without_empty_end ((b ∷ bs) ∷ []) ≡ (b ∷ bs) ∷ []
-last_line b bs = grind (arith, common_steps)
+without_empty_end-ended _ = refl
 
 without_empty_end-events : (events : List Event) → without_empty_end (map event_text events) ≡ map event_text events
-without_empty_end-events [] = refl
-without_empty_end-events (Alloc ∷ []) = last_line _ _
-without_empty_end-events (event ∷ []) = last_line _ _
 without_empty_end-events (event ∷ next ∷ events) = search (rules, without_empty_end-events (next ∷ events))
+without_empty_end-events _ = grind (arith, common_steps)
 
 lines_from_spelling : (text : List ℕ) (events : List Event) → AreEvents events → Spells events text
     → lines_of text ≡ map event_text events
@@ -172,7 +171,7 @@ lines_from_spelling text events fits (inr e) =
 pub schedule_found : (text : List ℕ) (events : List Event) → schedule_of text ≡ Ok events
     → AreEvents events × Spells events text
 schedule_found text events e =
-    let f = events_found 1 (lines_of text) events e in (f.0, spells_from_lines text events f.1)
+    let f = events_found 1 (lines_of text) events e in search (rules, ended_events, text_ended)
 
 pub schedule_again : (text : List ℕ) (events : List Event) → AreEvents events → Spells events text
     → schedule_of text ≡ Ok events

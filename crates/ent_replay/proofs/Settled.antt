@@ -1,11 +1,67 @@
--- The sorted run is lined up: all of it is placed, or no order of the run is answered so.
-use Rattle.ent_replay.proofs.Common.{rules, ◌≡◌, ◌≢◌, ℕ, ◌++◌, ◌≤◌, List, [], ◌∷◌, filter, append-nil, Allocator, available, IsSound, Call, Lineup, Placed, Difference, AreAnswered, IsOrderOf, after_lines, AreKeyed, AreSteady, HasNoOrder, IsSettled, Shows, requested_in, reservations_of, IsLineup, KeepsCallers, NamesOne, NoneFits, all_of, lines_of, reached}
-use Rattle.ent_replay.proofs.Lists.{split, all_left}
+-- The sorted run is lined up: all of it is placed, or no order of the run is answered so. If no caller's
+-- first reservation that is left fits, no line that may come next does.
+use Rattle.ent_replay.proofs.Common.{common_steps, IsNonDecreasingBy, arith, ◌≡◌, ℕ, List, [], ◌∷◌, ◌++◌, filter, length, refl, sym, subst, append-nil, filter-append, Allocator, Difference, Call, Lineup, Placed, Fits, IsOrderOf, HasNoOrder, Shows, reservations_of, IsLineup, KeepsCallers, NamesOne, NoneFits, all_of, is_of, lines_of, reached, rules, ◌≢◌, ◌≤◌, available, AreAnswered, after_lines, AreKeyed, AreSteady, IsSettled, requested_in}
+use Rattle.ent_replay.specs.declared.trace.call.Call.TheVariants as line
+use Rattle.ent_replay.proofs.Lists.{split, none_kept, all_left}
+use Rattle.ent_replay.proofs.Lifted.{lifted, unmapped, keeps-IsOrderOf, keeps-forward, kept_own, order-keeps, others_of, sorted_run, keeps-again}
+use Rattle.ent_replay.proofs.Sorted.{lines_append, key, rising, IsRising, TieAlike, alike_rest, begins, least, nothing_left, passes, steady_before, steady_without, tie}
 use Rattle.ent_replay.proofs.Complete.{IsPlacedOrder}
-use Rattle.ent_replay.proofs.Lifted.{others_of, sorted_run}
-use Rattle.ent_replay.proofs.Sorted.{IsRising, TieAlike, alike_rest, begins, least, nothing_left, passes, steady_before, steady_without, tie}
-use Rattle.ent_replay.proofs.Callers.{keeps-IsOrderOf, keeps-again, order-keeps}
-use Rattle.ent_replay.proofs.Stuck.{lineup-Shows}
+
+-- lists of the same lines have as many of each caller
+alike : (q : ℕ) (xs ys : List Placed) → lines_of xs ≡ lines_of ys
+    → length (filter (is_of q) xs) ≡ length (filter (is_of q) ys)
+alike q [] [] is = refl
+alike q (x ∷ xs) (y ∷ ys) is =
+    let others : lines_of xs ≡ lines_of ys = cc in grind (arith, common_steps, alike q xs ys others)
+alike q _ _ is = search rules
+
+-- of equal lists what follows as many is equal
+cancelled : (a b c d : List Placed) → length a ≡ length b → a ++ c ≡ b ++ d → c ≡ d
+cancelled [] [] c d long is = is
+cancelled (x ∷ a) (y ∷ b) c d long is = let rest : a ++ c ≡ b ++ d = cc in cancelled a b c d (omega arith) rest
+cancelled _ _ c d long is = absurd (omega arith)
+
+module _ (s : Allocator) (run : List Placed) (l : Lineup) (keeps : KeepsCallers run (all_of l)) where
+  pub stuck : NoneFits (reached s l) l.rest.items → (next : Call) (left : List Call)
+      → IsOrderOf (lines_of run) (lines_of l.placed.items ++ next ∷ left) → Fits (reached s l) next → ⊥
+  stuck none next left is fits =
+      let up = lifted (lines_of l.placed.items ++ next ∷ left) run is in
+      let u = unmapped up.placed (lines_of l.placed.items) left next (sym up.is) in
+      let q = u.placed.reservation.caller in
+      let order = order-keeps up.placed run up.is_order in
+      let whole : filter (is_of q) u.first ++ u.placed ∷ filter (is_of q) u.rest ≡ filter (is_of q) l.placed.items
+      ++ filter (is_of q) l.rest.items = cc (
+        kept_own u.placed q u.rest refl,
+        filter-append (is_of q) u.first (u.placed ∷ u.rest),
+        u.is,
+        order q,
+        keeps q,
+        filter-append (is_of q) l.placed.items l.rest.items,
+      ) in
+      let here : u.placed ∷ filter (is_of q) u.rest ≡ filter (is_of q) l.rest.items = cancelled
+      (filter (is_of q) u.first) (filter (is_of q) l.placed.items) (u.placed ∷ filter (is_of q) u.rest)
+      (filter (is_of q) l.rest.items) (alike q u.first l.placed.items u.before_is) whole in
+      let at = split (is_of q) u.placed (filter (is_of q) u.rest) l.rest.items (sym here) in
+      none at.before u.placed at.after at.is (none_kept (is_of q) at.before at.none)
+      (subst (Fits (reached s l)) (sym u.placed_is) fits)
+
+  pub lineup-Shows : IsLineup s l → NoneFits (reached s l) l.rest.items
+      → HasNoOrder (record { allocator = s; run = reservations_of run }) → (d : Difference) → NamesOne s l d → (n : ℕ)
+      → Shows (record { allocator = s; run = reservations_of run }) n [] d
+  lineup-Shows lined none unordered d names n =
+      let forward : KeepsCallers run (l.placed.items ++ names.named ∷ (names.before ++ names.after)) = keeps-forward run
+      l.placed.items names.before names.after names.named names.first (rw (← names.is) keeps) in
+      record {
+        placed = lines_of l.placed.items;
+        next = line.Reserve names.named.reservation;
+        left = lines_of (names.before ++ names.after);
+        is_order = rw append-nil (rw (← lines_append l.placed.items (names.named ∷ (names.before ++ names.after)))
+            (keeps-IsOrderOf (l.placed.items ++ names.named ∷ (names.before ++ names.after)) run forward));
+        answered = lined.answered;
+        differs = names.differs n;
+        stuck = λ next left is. stuck none next left (rw (← append-nil (lines_of run)) is);
+        blamed = unordered;
+      }
 
 -- a stable sort by keys that don't fall along a caller keeps each caller's order
 sorted-placed : (sorted run : List Placed) → IsRising sorted → TieAlike sorted run → AreSteady run
@@ -26,27 +82,33 @@ sorted-placed (h ∷ sorted) run up alike steady =
           (steady_without s.before s.after h steady_here),
     )
 
-module _ (s : Allocator) (run sorted : List Placed) (l : Lineup) (sound : IsSound s)
-    (keyed : AreKeyed (available s) (λ _. 0) run) (steady : AreSteady run) (up : IsRising sorted)
-    (alike : TieAlike sorted run) (sum : requested_in (reservations_of sorted) ≡ requested_in (reservations_of run))
-    (lined : IsLineup s l) (keeps : KeepsCallers sorted (all_of l)) where
+-- a run is sorted and lined up
+pub record IsLinedUp (s : Allocator) (run sorted : List Placed) (l : Lineup) : Type 0 where
+  pub keyed : AreKeyed (available s) (λ _. 0) run
+  pub steady : AreSteady run
+  pub up : IsNonDecreasingBy key sorted
+  pub alike : TieAlike sorted run
+  pub sum : requested_in (reservations_of sorted) ≡ requested_in (reservations_of run)
+  pub lined : IsLineup s l
+  pub keeps : KeepsCallers sorted (all_of l)
+  pub whole : AreAnswered s (lines_of sorted) → l.rest.items ≡ []
+
+module _ {s : Allocator} {run sorted : List Placed} {l : Lineup} (h : IsLinedUp s run sorted l) where
   kept : KeepsCallers run (all_of l)
-  kept = search (rules, keeps-again, order-keeps, sorted-placed)
+  kept = search (rules, keeps-again, order-keeps, sorted-placed, rising)
 
   -- if any order of the run is answered so, the sorted one is, and leaves the same state
   best : (other : List Call) → IsOrderOf (lines_of run) other → AreAnswered s other
       → AreAnswered s (lines_of sorted) × (after_lines s other ≡ after_lines s (lines_of sorted))
-  best other is all = search (rules, sorted_run)
+  best other is all = sorted_run s sorted run other h.lined.sound h.keyed h.up h.alike h.sum is all
 
-  pub all-settled : l.rest.items ≡ [] → (at : Allocator) → at ≡ after_lines s (lines_of l.placed.items)
-      → IsSettled (record { allocator = s; run = reservations_of run }) at
-  all-settled none at at_is = search (rules, append-nil, keeps-IsOrderOf, kept, best)
+  pub all-settled : l.rest.items ≡ [] → (placed : List Placed) → placed ≡ l.placed.items → (at : Allocator)
+      → at ≡ after_lines s (lines_of placed) → IsSettled (record { allocator = s; run = reservations_of run }) at
+  all-settled none placed is at at_is = search (rules, append-nil, keeps-IsOrderOf, kept, best)
 
-  pub some-none : l.rest.items ≢ [] → (AreAnswered s (lines_of sorted) → l.rest.items ≡ [])
-      → HasNoOrder (record { allocator = s; run = reservations_of run })
-  some-none some whole other is all = some (whole (best other is all).0)
+  pub some-none : l.rest.items ≢ [] → HasNoOrder (record { allocator = s; run = reservations_of run })
+  some-none some other is all = some (h.whole (best other is all).0)
 
-  pub some-Shows : l.rest.items ≢ [] → (AreAnswered s (lines_of sorted) → l.rest.items ≡ [])
-      → NoneFits (reached s l) l.rest.items → (d : Difference) → NamesOne s l d → (n : ℕ)
+  pub some-Shows : l.rest.items ≢ [] → NoneFits (reached s l) l.rest.items → (d : Difference) → NamesOne s l d → (n : ℕ)
       → Shows (record { allocator = s; run = reservations_of run }) n [] d
-  some-Shows some whole none d names n = search (rules, lineup-Shows, kept, some-none)
+  some-Shows some none d names n = search (rules, lineup-Shows, kept, some-none)

@@ -1,8 +1,10 @@
 -- A sorted run is in an order that its reservations may have come in: a stable sort by keys that don't
--- fall along a caller keeps each caller's order.
-use Rattle.ent_replay.proofs.Common.{rules, ◌≡◌, ℕ, suc, ◌≤◌, Bool, true, false, not, ◌&&◌, cond, nat_lt, List, [], ◌∷◌, ◌++◌, filter, All, refl, sym, ◌∙◌, arith, true≢false, common_steps, AllByRecursion, ties, IsNonDecreasingBy, nat_cmp, is_lt, le-ltb, cases_Bool, All-head, All-tail, All-cons, All-filter, All-from_recursion, recursion_from_All, Call, Placed, MayPass, reservations_of, reserve_lines, ComesAfter, AreSteady}
+-- fall along a caller keeps each caller's order, and along a caller the keys of a run don't fall.
+use Rattle.ent_replay.proofs.Common.{none, rules, ◌≡◌, ℕ, suc, ◌≤◌, Bool, true, false, not, ◌&&◌, cond, nat_lt, List, [], ◌∷◌, ◌++◌, filter, All, refl, arith, true≢false, common_steps, AllByRecursion, ties, IsNonDecreasingBy, nat_cmp, is_lt, le-ltb, All-head, All-tail, All-cons, All-filter, All-from_recursion, recursion_from_All, Call, Placed, MayPass, reservations_of, reserve_lines, ComesAfter, AreSteady, sum_by_push, ◌+◌, ◌^◌, unwrap_or, cases_eq, requested_in, IsLatest, IsChecking, IsKeyed, AreKeyed, keys_after, raised, Handle, Allocator, available, eq-eqb, ne_eqb}
+use Rattle.std.specs.FinMap as finite
 use Rattle.ent_replay.specs.declared.trace.call.Call.TheVariants as line
-use Rattle.ent_replay.proofs.Lists.{all_at, all_without, all_weaker, none_kept, kept_forward, kept_rest}
+use Rattle.ent_replay.proofs.Lists.{all_at, all_without, all_weaker, none_kept, kept_forward, kept_rest, all_push}
+use Rattle.ent_replay.proofs.Maps.{get-inserted, get-insert_other}
 
 abbrev pub lines : List Placed → List Call
 lines run = reserve_lines (reservations_of run)
@@ -18,17 +20,11 @@ tie = ties (λ x y. is_lt (nat_cmp (key x) (key y)))
 tie_is : (p q : Placed) → tie p q ≡ (not (nat_lt p.key q.key) && not (nat_lt q.key p.key))
 tie_is p q = search rules
 
-tests_same : (a b : ℕ) → a ≡ b → (not (nat_lt a b) && not (nat_lt b a)) ≡ true
-tests_same a b e = search (rules, le-ltb)
-
-tests_apart : (a b : ℕ) → (not (nat_lt a b) && not (nat_lt b a)) ≡ true → a ≡ b
-tests_apart a b e = grind (arith, common_steps)
-
 pub tie_from : (p q : Placed) → p.key ≡ q.key → tie p q ≡ true
-tie_from p q e = tie_is p q ∙ tests_same p.key q.key e
+tie_from p q e = search (rules, le-ltb)
 
 pub tie_key : (p q : Placed) → tie p q ≡ true → p.key ≡ q.key
-tie_key p q e = tests_apart p.key q.key (sym (tie_is p q) ∙ e)
+tie_key p q e = grind (arith, common_steps, tie_is p q)
 
 -- ---- a sorted list
 
@@ -90,22 +86,13 @@ passes h (b ∷ before) none least steady = search (rules, true≢false, tie_fro
 
 -- ---- one is taken out
 
-pub lines_split : (before after : List Placed) (h : Placed) → lines (before ++ h ∷ after) ≡ lines before ++ line.Reserve
-    h.reservation ∷ lines after
-lines_split [] after h = refl
-lines_split (b ∷ before) after h = search (rules, lines_split before after h)
-
 pub lines_append : (xs ys : List Placed) → lines (xs ++ ys) ≡ lines xs ++ lines ys
-lines_append [] ys = refl
-lines_append (x ∷ xs) ys = search (rules, lines_append xs ys)
-
-none_tie : (x h : Placed) (before : List Placed) → x.key ≡ h.key → AllByRecursion (λ b. tie h b ≡ false) before
-    → filter (tie x) before ≡ []
-none_tie x h before same none = search (rules, none_kept, all_weaker, cases_Bool, tie_from, tie_key)
+lines_append xs ys = grind (arith, common_steps)
 
 pub alike_rest : (h : Placed) (sorted before after : List Placed) → AllByRecursion (λ b. tie h b ≡ false) before
     → TieAlike (h ∷ sorted) (before ++ h ∷ after) → TieAlike sorted (before ++ after)
-alike_rest h sorted before after none alike x = grind (arith, common_steps, kept_rest, kept_forward, none_tie, tie_key)
+alike_rest h sorted before after none alike x = grind
+    (arith, common_steps, kept_rest, kept_forward, tie_key, none_kept, all_weaker, tie_from)
 
 pub begins : (h : Placed) (sorted run : List Placed) → TieAlike (h ∷ sorted) run
     → filter (tie h) run ≡ h ∷ filter (tie h) sorted
@@ -114,3 +101,65 @@ begins h sorted run alike = search (rules, tie_from)
 pub nothing_left : (run : List Placed) → TieAlike [] run → run ≡ []
 nothing_left [] alike = refl
 nothing_left (d ∷ run) alike = search (rules, tie_from d d refl)
+
+-- one more is requested
+pub requested-push : (run : List Placed) (p : Placed) → requested_in (reservations_of (run ++ p ∷ []))
+    ≡ requested_in (reservations_of run) + p.reservation.requested
+requested-push run p = grind (arith, common_steps, sum_by_push)
+
+keyed_push : (given : List Handle) (run : List Placed) (f : ℕ → ℕ) (p : Placed) → AreKeyed given f run
+    → IsKeyed given (keys_after f run p.reservation.caller) p → AreKeyed given f (run ++ p ∷ [])
+keyed_push given [] f p keyed own = (own, tt)
+keyed_push given (q ∷ run) f p keyed own = (keyed.0, keyed_push given run (raised f q) p keyed.1 own)
+
+after_push : (run : List Placed) (f : ℕ → ℕ) (p : Placed) → keys_after f (run ++ p ∷ []) ≡ raised (keys_after f run) p
+after_push [] f p = refl
+after_push (q ∷ run) f p = after_push run (raised f q) p
+
+module _ (latest : finite.FinMap nat_cmp ℕ) (p : Placed) (greatest : unwrap_or (finite.get latest p.reservation.caller)
+    0 ≤ p.key) where
+  abbrev now : finite.FinMap nat_cmp ℕ
+  now = finite.insert latest p.reservation.caller p.key
+
+  steady_push : (run : List Placed) → AreSteady run → AllByRecursion (IsLatest latest) run → AreSteady (run ++ p ∷ [])
+  steady_push [] steady all = (tt, tt)
+  steady_push (q ∷ run) steady all = search (rules, all_push, steady_push run steady.1 all.1)
+
+  latest_kept : (q : Placed) → IsLatest latest q → IsLatest now q
+  latest_kept q is = search (rules, cases_eq, get-inserted, get-insert_other)
+
+  -- what is kept for each caller is its last key
+  last_push : (f : ℕ → ℕ) → ((q : ℕ) → unwrap_or (finite.get latest q) 0 ≡ f q) → (q : ℕ)
+      → unwrap_or (finite.get now q) 0 ≡ raised f p q
+  last_push f last q = search (rules, cases_eq, get-inserted, eq-eqb, get-insert_other, ne_eqb)
+
+  pub IsChecking-push : (s : Allocator) (wanted : ℕ) (run : List Placed) → IsChecking s wanted run latest
+      → wanted + p.reservation.requested ≤ 2 ^ 50 → IsKeyed (available s)
+      (unwrap_or (finite.get latest p.reservation.caller) 0) p → IsChecking s (wanted + p.reservation.requested) (run
+      ++ p ∷ []) now
+  IsChecking-push s wanted run is few keyed = search (
+    rules,
+    requested-push,
+    steady_push,
+    all_push,
+    all_weaker (IsLatest latest) (IsLatest now) latest_kept,
+    keyed_push,
+    last_push,
+    after_push,
+    get-inserted,
+  )
+
+-- an empty map keeps nothing
+pub empty_keeps : (latest : finite.FinMap nat_cmp ℕ) → latest ≡ finite.empty → (q : ℕ)
+    → unwrap_or (finite.get latest q) 0 ≡ 0
+empty_keeps latest is q = simp (is, finite.get-empty)
+
+pub no_run : (run : List Placed) → reservations_of run ≡ [] → run ≡ []
+no_run [] is = refl
+no_run (p ∷ run) is = search rules
+
+-- a call that nothing overlaps leaves a checker without a run so
+pub IsChecking-called : (s t : Allocator) (wanted next : ℕ) (run : List Placed) (latest : finite.FinMap nat_cmp ℕ)
+    → reservations_of run ≡ [] → IsChecking s wanted run latest → next ≡ t.asked → next ≤ 2 ^ 50
+    → IsChecking t next run latest
+IsChecking-called s t wanted next run latest none before is few = search (rules, no_run)

@@ -1,6 +1,5 @@
 -- Handles following one another, each with its space.
-use Rattle.ent_replay.proofs.Common.{rules, ◌≡◌, ℕ, ◌+◌, ◌<◌, ◌≤◌, List, [], ◌∷◌, ◌++◌, length, get_or, drop, max, refl, sym, ap, ◌∙◌, arith, common_steps, append-nil, Handle, handle_text, handles_text, spaced}
-use Rattle.std.proofs.Common.{length-append}
+use Rattle.ent_replay.proofs.Common.{rules, ◌≡◌, ℕ, ◌+◌, ◌<◌, ◌≤◌, List, [], ◌∷◌, ◌++◌, length, get_or, drop, max, refl, sym, ap, arith, common_steps, append-nil, Handle, handle_text, handles_text, spaced, length-append}
 
 -- the texts from a handle on begin with its own
 pub length-spaced_drop : (handles : List Handle) (i : ℕ) (h : Handle) → i < length handles → h ≡ get_or handles i h
@@ -11,11 +10,8 @@ length-spaced_drop handles i h lt is = grind (arith, common_steps)
 pub spaced_fits : (old now : List ℕ) (handles : List Handle) (i : ℕ) (h : Handle) → i < length handles
     → h ≡ get_or handles i h → now ++ spaced (drop i handles) ≡ old ++ spaced handles
     → length now + (1 + length (handle_text h)) ≤ length old + length (spaced handles)
-spaced_fits old now handles i h lt is e = omega (
-  arith,
-  length-spaced_drop handles i h lt is,
-  sym (length-append now (spaced (drop i handles))) ∙ ap length e ∙ length-append old (spaced handles),
-)
+spaced_fits old now handles i h lt is e =
+    let long = ap length e in grind (arith, common_steps, length-spaced_drop handles i h lt is)
 
 -- the first handle, and then each with its space
 pub handles_text-cons : (first : Handle) (others : List Handle) → handles_text (first ∷ others) ≡ handle_text first

@@ -1,12 +1,9 @@
--- Words: what stands before a comment, blanks that part words, and the front of a text's words.
-use Rattle.ent_replay.proofs.Common.{rules, ◌≡◌, ◌≢◌, ℕ, ◌<◌, Bool, true, false, not, eqb, List, [], ◌∷◌, ◌++◌, length, take, All, refl, ◌∙◌, arith, suc, common_steps, before_first, append-nil, slice_split_none, slice_split_at, is_blank, words_in, before_comment, filter, ne_eqb}
-
--- the first element passes, and what is so of the rest
-first_of : {X : Type 0} (P : X → Type 0) (x : X) (xs : List X) → All P (x ∷ xs) → P x
-first_of P x xs all = all 0 x (omega arith)
-
-rest_of : {X : Type 0} (P : X → Type 0) (x : X) (xs : List X) → All P (x ∷ xs) → All P xs
-rest_of P x xs all k d lt = all (suc k) d (omega (arith, lt))
+-- Words: what stands before a comment, blanks that part words, the front of a text's words, and a decimal
+-- in brackets.
+use Rattle.ent_replay.proofs.Common.{none, next, rules, ◌≡◌, ◌≢◌, ℕ, ◌<◌, Bool, true, false, not, eqb, List, [], ◌∷◌, ◌++◌, length, take, All, refl, ◌∙◌, arith, common_steps, before_first, append-nil, slice_split_none, slice_split_at, is_blank, words_in, before_comment, filter, ne_eqb, All-head, All-tail, Result, Err, ap, inl, inr, slice_split, cases_Bool, cond-false, nil_from_length, Word, count_in, number_told}
+use Rattle.ent_replay.specs.declared.trace.read_fault.Cause.TheVariants as cause
+use Rattle.ent_replay.proofs.ScheduleWords.{parts_whole, parts_first, parts_nonempty}
+use Rattle.ent_replay.specs.declared.trace.read_fault.Cause.{Cause}
 
 -- ---- what stands before the first element that passes
 
@@ -16,15 +13,13 @@ cut p x xs fails = search (rules)
 pub before_first_at : (p : ℕ → Bool) (xs : List ℕ) (y : ℕ) (ys : List ℕ) → All (λ x. p x ≡ false) xs → p y ≡ true
     → before_first p (xs ++ y ∷ ys) ≡ xs
 before_first_at p [] y ys none passes = search rules
-before_first_at p (x ∷ xs) y ys none passes = cc (
-  cut p x (xs ++ y ∷ ys) (first_of (λ x. p x ≡ false) x xs none),
-  before_first_at p xs y ys (rest_of (λ x. p x ≡ false) x xs none) passes,
-)
+before_first_at p (x ∷ xs) y ys none passes = search
+    (rules, cut, All-head, All-tail, before_first_at p xs y ys (All-tail (λ x. p x ≡ false) x xs none) passes)
 
 pub before_first_none : (p : ℕ → Bool) (xs : List ℕ) → All (λ x. p x ≡ false) xs → before_first p xs ≡ xs
 before_first_none p [] none = refl
-before_first_none p (x ∷ xs) none = cc
-    (cut p x xs (first_of (λ x. p x ≡ false) x xs none), before_first_none p xs (rest_of (λ x. p x ≡ false) x xs none))
+before_first_none p (x ∷ xs) none = search
+    (rules, cut, All-head, before_first_none p xs (All-tail (λ x. p x ≡ false) x xs none))
 
 fails_at : (y : ℕ) (xs : List ℕ) → All (λ x. x ≢ y) xs → All (λ x. eqb x y ≡ false) xs
 fails_at y xs none k d lt = ne_eqb _ y (none k d lt)
@@ -49,8 +44,8 @@ words_in-blank x xs passes = grind (arith, common_steps)
 
 pub words_in-blanks : (xs ys : List ℕ) → AreBlank xs → words_in (xs ++ ys) ≡ words_in ys
 words_in-blanks [] ys all = refl
-words_in-blanks (x ∷ xs) ys all = words_in-blank x (xs ++ ys) (first_of (λ x. is_blank x ≡ true) x xs all)
-    ∙ words_in-blanks xs ys (rest_of (λ x. is_blank x ≡ true) x xs all)
+words_in-blanks (x ∷ xs) ys all = search
+    (rules, words_in-blank, All-head, words_in-blanks xs ys (All-tail (λ x. is_blank x ≡ true) x xs all))
 
 not_empty : (n : ℕ) → 0 < n → eqb n 0 ≡ false
 not_empty n long = ne_eqb n 0 (λ e. absurd (omega (arith, e)))
@@ -59,18 +54,10 @@ kept : (word : List ℕ) (parts : List (List ℕ)) → 0 < length word → filte
     ≡ word ∷ filter (λ w. not (eqb (length w) 0)) parts
 kept word parts long = rw (not_empty (length word) long) refl
 
--- the text begins with a word, which ends at its end or at a blank
-pub words_in-last : (word : List ℕ) → AreNoBlank word → 0 < length word → words_in word ≡ word ∷ []
-words_in-last word all long = search (rules, slice_split_none, kept)
-
-pub words_in-word : (word : List ℕ) (y : ℕ) (ys : List ℕ) → AreNoBlank word → 0 < length word → is_blank y ≡ true
-    → words_in (word ++ y ∷ ys) ≡ word ∷ words_in (y ∷ ys)
-words_in-word word y ys all long passes = search (rules, slice_split_at, kept, words_in-blank)
-
 word_first : (word rest : List ℕ) → AreNoBlank word → AreBlank (take 1 rest) → 0 < length word
     → words_in (word ++ rest) ≡ word ∷ words_in rest
-word_first word [] all next long = simp (append-nil, words_in-last)
-word_first word (y ∷ ys) all next long = words_in-word word y ys all long (next 0 y (omega arith))
+word_first word [] all next long = search (rules, append-nil, slice_split_none, kept)
+word_first word (y ∷ ys) all next long = search (rules, slice_split_at, kept, words_in-blank, next 0 y)
 
 -- a text that begins with no blank has a word at its front
 word_long : (word rest : List ℕ) → AreNoBlank (take 1 (word ++ rest)) → AreBlank (take 1 rest)
@@ -82,3 +69,36 @@ pub first_word_found : (text front middle word rest : List ℕ) → text ≡ fro
     → words_in text ≡ word ∷ words_in rest
 first_word_found text front middle word rest whole parts blanks first long all next = search
     (rules, word_long, words_in-blanks, word_first)
+
+abbrev parts : List ℕ → List Word
+parts text = slice_split (λ byte. eqb byte 41) text
+
+abbrev no_count : Result ℕ Cause
+no_count = Err cause.Reply
+
+more_parts : (count : Word) (others : List Word) → 0 < length others → count_in (count ∷ [] ∷ others) ≡ no_count
+more_parts count others long = search rules
+
+longer : (count : Word) (x : ℕ) (xs : List ℕ) → count_in (count ∷ parts (x ∷ xs)) ≡ no_count
+longer count x xs = elim (cases_Bool (eqb x 41)) [
+  | inl closes ↦ search (rules, more_parts count (parts xs) (parts_nonempty 41 xs))
+  | inr other ↦ search (rules, cond-false)
+]
+
+not_last : (count : Word) (others : List ℕ) → eqb (length others) 0 ≡ false → count_in (count ∷ parts others) ≡ no_count
+not_last count [] long = absurd cc
+not_last count (x ∷ xs) long = longer count x xs
+
+pub never_closed : (text : List ℕ) → All (λ x. x ≢ 41) text → count_in (slice_split (λ byte. eqb byte 41) text) ≡ Err
+    cause.Reply
+never_closed text none = simp parts_whole
+
+pub closed_early : (text count others : List ℕ) → text ≡ count ++ 41 ∷ others → All (λ x. x ≢ 41) count
+    → eqb (length others) 0 ≡ false → count_in (slice_split (λ byte. eqb byte 41) text) ≡ Err cause.Reply
+closed_early text count others is none long = ap count_in (parts_first 41 text count others is none)
+    ∙ not_last count others long
+
+pub closed : (text count others : List ℕ) → text ≡ count ++ 41 ∷ others → All (λ x. x ≢ 41) count → length others ≡ 0
+    → count_in (slice_split (λ byte. eqb byte 41) text) ≡ number_told count
+closed text count others is none last = search
+    (rules, parts_first 41 text count others is none, nil_from_length others last)

@@ -1,6 +1,5 @@
 use Rattle.ent_replay.proofs.Common.{rules, sym, vec_len, eqb-true, schedule_of}
-use Rattle.ent_replay.proofs.ScheduleLoop.{stops, ends}
-use Rattle.ent_replay.proofs.ScheduleLaws.{schedule_found, schedule_again, schedule_refused}
+use Rattle.ent_replay.proofs.ScheduleLaws.{stops, ends, schedule_found, schedule_again, schedule_refused}
 use Rattle.ent_replay.proofs.reading.read_schedule.Goals as goal
 
 pub returns-clause-found : goal.returns-clause-found

@@ -1,5 +1,5 @@
 use Rattle.ent_replay.proofs.Common.{◌≡◌, length, vec_len, schedule_of}
-use Rattle.ent_replay.proofs.ScheduleLoop.{with_front, read_from}
+use Rattle.ent_replay.proofs.ScheduleLaws.{with_front, read_from}
 use Rattle.ent_replay.proofs.reading.read_schedule.Given as goal
 
 abbrev pub invariant-loop-rest : goal.invariant-loop-rest

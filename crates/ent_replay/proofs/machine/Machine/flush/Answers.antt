@@ -1,7 +1,7 @@
 use Rattle.ent_replay.proofs.Common.{common_steps, rules, ◌<◌, Bool, List, length, arith, allocator_is, filter}
 use Rattle.ent_replay.proofs.Maps.{no_test}
 use Rattle.ent_replay.proofs.MachineAnswers.{done, faulty, refused, on_ok, on_err}
-use Rattle.ent_replay.proofs.ExclusiveEvents.{busy-flush, flush-flushed, flush-takes_memory, flush-consistent}
+use Rattle.ent_replay.proofs.MachineEvents.{busy-flush, flush-flushed, flush-takes_memory, flush-consistent}
 use Rattle.ent_replay.proofs.machine.Machine.flush.Goals as goal
 
 pub returns-then-not-is_empty : goal.returns-then-not-is_empty

@@ -1,7 +1,6 @@
-use Rattle.ent_replay.proofs.Giving.{all_held-none}
+use Rattle.ent_replay.proofs.Histories.{all_held-none}
 use Rattle.ent_replay.proofs.Common.{All-nil, get-empty, rules}
-use Rattle.ent_replay.proofs.Totals.{sum_below-none}
-use Rattle.ent_replay.proofs.Maps.{map_values-empty}
+use Rattle.ent_replay.proofs.Maps.{sum_below-none, map_values-empty}
 use Rattle.ent_replay.proofs.machine.Machine.new.Goals as goal
 
 pub invariant_of-result : goal.invariant_of-result

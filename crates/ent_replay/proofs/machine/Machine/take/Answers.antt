@@ -1,9 +1,9 @@
-use Rattle.ent_replay.proofs.Common.{rules, ◌≡◌, pos, ◌-ℤ◌, sym, ◌∙◌, Some, arith, ints, cursor}
+use Rattle.ent_replay.proofs.Common.{rules, ◌≡◌, sym, ◌∙◌, arith, ints}
 use Rattle.std.specs.FinMap as finite
 use Rattle.ent_replay.proofs.MachineAnswers.{done, faulty, some_of, none_of}
-use Rattle.ent_replay.proofs.CallEvents.{awaited-bound, step-not_open, step-stepped, step-taken, step-consistent}
-use Rattle.ent_replay.proofs.machine.Machine.take.Goals.{After-replace}
+use Rattle.ent_replay.proofs.MachineEvents.{stepped, awaited-bound, step-not_open, step-stepped, step-taken, step-consistent}
 use Rattle.ent_replay.proofs.machine.Machine.take.Goals as goal
+use Rattle.ent_replay.proofs.machine.Machine.take.Goals.{After-replace}
 
 pub returns-in_default : goal.returns-in_default
 returns-in_default c = search (rules, faulty, step-not_open)
@@ -21,20 +21,12 @@ lower-span-requires c =
     search (rules, c.in-Some.call.requested, c.in-Some.call.span)
 
 -- the call keeps what its step passed
-stepped : (c : After-replace) → c.replace.new.self ≡ finite.insert c.self.inside.calls c.args.caller
-    (record {
-      requested = c.in-Some.call.requested;
-      span = Some
-          (record {
-            high = cursor c.self.inside.entities.allocator;
-            low = cursor c.self.inside.entities.allocator -ℤ pos
-                c.in-Some.call.requested;
-          });
-    })
-stepped c = search (rules)
+replaced : (c : After-replace) → c.replace.new.self
+    ≡ finite.insert c.self.inside.calls c.args.caller (stepped c.self.inside.entities.allocator c.in-Some.call)
+replaced c = search rules
 
 pub invariant_of-self : goal.invariant_of-self
-invariant_of-self c = search (rules, none_of, stepped, step-consistent)
+invariant_of-self c = search (rules, none_of, replaced, step-consistent)
 
 pub returns : goal.returns
-returns c = search (rules, none_of, stepped, ints, done, step-taken)
+returns c = search (rules, none_of, replaced, ints, done, step-taken)

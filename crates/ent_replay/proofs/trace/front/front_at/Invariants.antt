@@ -1,5 +1,5 @@
 use Rattle.ent_replay.proofs.Common.{◌-◌, length}
-use Rattle.ent_replay.proofs.Fronts.{Listed}
+use Rattle.ent_replay.proofs.Lineups.{Listed}
 use Rattle.ent_replay.proofs.trace.front.front_at.Given as goal
 
 abbrev pub invariant-loop-handle : goal.invariant-loop-handle

@@ -1,5 +1,5 @@
 use Rattle.ent_replay.proofs.Common.{rules}
-use Rattle.ent_replay.proofs.Runs.{Made-few, Made-next, Made-last}
+use Rattle.ent_replay.proofs.Lineups.{Made-few, Made-next, Made-last}
 use Rattle.ent_replay.proofs.trace.lineup.make_all.Goals as goal
 
 pub lower-requires : goal.lower-requires

@@ -1,4 +1,4 @@
-use Rattle.ent_replay.proofs.Runs.{Made}
+use Rattle.ent_replay.proofs.Lineups.{Made}
 use Rattle.ent_replay.proofs.trace.lineup.make_all.Given as goal
 
 -- what is left to be made

@@ -1,5 +1,5 @@
 use Rattle.ent_replay.proofs.Common.{◌≡◌, ◌++◌, map, take, drop, emptied, lines_in_all}
-use Rattle.ent_replay.proofs.Taken.{Leads}
+use Rattle.ent_replay.proofs.Recorded.{Leads}
 use Rattle.ent_replay.proofs.trace.recorder.join_all.Given as goal
 
 abbrev pub invariant-loop-log : goal.invariant-loop-log

@@ -1,4 +1,4 @@
-use Rattle.ent_replay.proofs.Suspects.{Trying}
+use Rattle.ent_replay.proofs.Lineups.{Trying}
 use Rattle.ent_replay.proofs.trace.suspect.suspect.Given as goal
 
 abbrev pub invariant-loop-index : goal.invariant-loop-index

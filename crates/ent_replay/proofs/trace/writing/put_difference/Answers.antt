@@ -1,5 +1,4 @@
-use Rattle.ent_replay.proofs.Common.{rules, ◌≡◌, ℕ, List, ◌++◌, Result, ap, ◌∙◌, OnOk}
-use Rattle.std.proofs.Common.{append_assoc}
+use Rattle.ent_replay.proofs.Common.{rules, ◌≡◌, ℕ, List, ◌++◌, Result, ap, ◌∙◌, OnOk, append_assoc}
 use Rattle.ent_replay.proofs.trace.writing.put_difference.Goals as goal
 
 -- six parts, one after the other

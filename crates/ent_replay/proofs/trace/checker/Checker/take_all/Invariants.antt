@@ -1,5 +1,5 @@
 use Rattle.ent_replay.proofs.Common.{reverse, reserve_lines, vec_len}
-use Rattle.ent_replay.proofs.Taken.{Leads}
+use Rattle.ent_replay.proofs.Recorded.{Leads}
 use Rattle.ent_replay.proofs.trace.checker.Checker.take_all.Given as goal
 
 -- what is left, from its end on, leads to the end

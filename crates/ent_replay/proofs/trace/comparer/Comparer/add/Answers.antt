@@ -1,6 +1,6 @@
 use Rattle.ent_replay.proofs.Common.{rules, ◌≡◌, ◌+◌, ◌^◌, ◌≤◌, [], ◌∷◌, ◌++◌, sym, ap, subst, ◌∙◌, arith, unwrap_or, Placed, IsChecking, IsKeyed, available, cases_lt}
 use Rattle.std.specs.FinMap as finite
-use Rattle.ent_replay.proofs.Keys.{IsChecking-push}
+use Rattle.ent_replay.proofs.Sorted.{IsChecking-push}
 use Rattle.ent_replay.proofs.trace.comparer.Comparer.add.Goals as goal
 
 pub invariant_of-result : goal.invariant_of-result
@@ -14,14 +14,7 @@ invariant_of-result c =
     let greatest : unwrap_or (finite.get e.latest r.caller) 0 ≤ c.max-key.result = omega arith in
     let few : e.wanted + r.requested ≤ 2 ^ 50 = omega arith in
     let now = finite.insert e.latest r.caller c.max-key.result in
-    let keyed : IsKeyed (available s) (unwrap_or (finite.get e.latest r.caller) 0) p = record {
-      own = c.own_key.result;
-      key_of = c.own_key.ensures.key;
-      least = omega arith;
-      floor = greatest;
-      either = search (rules, cases_lt, c.own_key.result);
-      small = c.own_key.ensures.small;
-    } in
+    let keyed : IsKeyed (available s) (unwrap_or (finite.get e.latest r.caller) 0) p = search (rules, cases_lt) in
     let base = IsChecking-push e.latest p greatest s e.wanted e.run.items c.self.invariant few keyed in
     subst (λ m. IsChecking s (e.wanted + c.from.result) c.push.new.self.items m) (sym c.in_ok-insert.ensures.ok)
     (subst (λ ps. IsChecking s (e.wanted + c.from.result) ps now) (sym c.in_ok-push.ensures.items)

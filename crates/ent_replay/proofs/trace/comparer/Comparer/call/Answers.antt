@@ -1,6 +1,6 @@
 use Rattle.ent_replay.proofs.Common.{ap, ◌∙◌, rules, ints, Checked}
-use Rattle.ent_replay.proofs.Fronts.{front_here}
-use Rattle.ent_replay.proofs.Keys.{IsChecking-called}
+use Rattle.ent_replay.proofs.Lineups.{front_here}
+use Rattle.ent_replay.proofs.Sorted.{IsChecking-called}
 use Rattle.ent_replay.proofs.trace.comparer.Comparer.call.Goals as goal
 
 pub returns-in-Some-clause-differs : goal.returns-in-Some-clause-differs

@@ -1,6 +1,6 @@
 use Rattle.ent_replay.proofs.Common.{◌≡◌, ℕ, [], ◌∷◌, sym, subst, err_from_is_err_and, Fits, after_line, Checked, Follows, Reaches, Differs, Shows, OnDiffers, HasNoOrder, NoneFollows}
 use Rattle.ent_replay.proofs.Orders.{called-Follows, called-Shows, called-None, settled-None, Shows-more, alone_Reaches}
-use Rattle.ent_replay.proofs.Stops.{on_differs, on_both, on_err}
+use Rattle.ent_replay.proofs.Recorded.{on_differs, on_both, on_err}
 use Rattle.ent_replay.proofs.trace.comparer.Comparer.end_run.Goals as goal
 
 pub returns-in_err-settle : goal.returns-in_err-settle

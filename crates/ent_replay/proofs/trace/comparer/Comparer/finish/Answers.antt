@@ -1,10 +1,6 @@
-use Rattle.ent_replay.proofs.Common.{arith, rules, common_steps}
-use Rattle.std.proofs.Common.{append-nil}
-use Rattle.ent_replay.proofs.Stops.{on_differs, on_err}
+use Rattle.ent_replay.proofs.Common.{rules, append-nil}
+use Rattle.ent_replay.proofs.Recorded.{on_differs, on_err}
 use Rattle.ent_replay.proofs.trace.comparer.Comparer.finish.Goals as goal
-
-pub returns-clause-agrees : goal.returns-clause-agrees
-returns-clause-agrees c = grind (arith, common_steps)
 
 pub returns-clause-differs : goal.returns-clause-differs
 returns-clause-differs c = search (rules, on_err, on_differs)

@@ -4,6 +4,3 @@ use Rattle.ent_replay.proofs.trace.comparer.Comparer.take.Goals as goal
 
 pub returns-in-Reserve-clause-follows : goal.returns-in-Reserve-clause-follows
 returns-in-Reserve-clause-follows c = search (rules, run_more)
-
-pub returns-in-Reserve-clause-reaches : goal.returns-in-Reserve-clause-reaches
-returns-in-Reserve-clause-reaches c = search rules

@@ -1,0 +1,280 @@
+-- What events do to the fields of a `Machine`, and that they keep them in order.
+use Rattle.ent_replay.proofs.Common.{common_steps, none, cond-true, cond-false, All-nil, rules, ◌≡◌, ◌≢◌, sym, ap, ◌∙◌, ℕ, ◌+◌, ◌^◌, ◌<◌, ◌≤◌, true, false, [], length, slice_get, Some, Ok, Err, arith, inl, inr, unwrap_or, nat_cmp, FinMap, get-empty, len-empty, empty_of_len, nat_tests, length_permutation, Handle, quota, Allocator, top, next, born, after_alloc, after_free, after_flush, IsSound, born-IsPermutation, after_alloc-sound, after_free-sound, after_flush-sound, next-later, StoredCall, OpenCall, is_busy, on_alloc, on_free, on_flush, alloc_front, event_takes_memory, callers, sum_below, all_held, map_values, open_call_of, machine_state, awaited, AreConsistent, cases_eq, get-remove, pos, ◌-ℤ◌, nat_lt, Option, None, ints, option_map, same_Some, none-some, ℕ_discrete, Span, cursor, reply_from, reply_to, pool_at, after_take, available-after_take, after_take-sound, made-after_take, asked-after_take, top-after_take, cursor-after_take, reply-cursor, on_begin, on_step, on_answer, left_of, reported, MachineState, unasked, HasPassed}
+use Rattle.std.specs.FinSet as set
+use Rattle.std.specs.FinMap as finite
+use Rattle.ent_alloc.specs.Spent as given
+use Rattle.ent_replay.specs.declared.outcome.Outcome.TheVariants as outcome
+use Rattle.ent_replay.specs.declared.fault.ReplayFault.TheVariants as fault
+use Rattle.ent_replay.specs.declared.event.Event.TheVariants as event
+use Rattle.ent_replay.proofs.Histories.{all_held-none, all_held-next}
+use Rattle.ent_replay.proofs.Maps.{sum_below-bound, sum_below-none, maps_alike, get-map_values, map_values-empty, nothing_in, get-inserted, get-insert_other, get-removed, get-remove_other, map_values-insert, on_inserted, on_removed, sum_below-changed, sum_below-part}
+use Rattle.ent_replay.proofs.MachineAnswers.{front, none_is_none}
+
+-- a call after its step
+abbrev pub stepped : Allocator → StoredCall → StoredCall
+stepped s call = record {
+  requested = call.requested;
+  span = Some (record { high = cursor s; low = cursor s -ℤ pos call.requested });
+}
+
+module _ (s : Allocator) (spent : FinMap nat_cmp ℕ) (calls : FinMap nat_cmp StoredCall) where
+  abbrev pub here : MachineState
+  here = machine_state s spent calls
+
+  -- ---- whether a call is open
+
+  pub quiet : calls ≡ finite.empty → is_busy here ≡ false
+  quiet none = cc (none, map_values-empty (open_call_of s), len-empty nat_cmp OpenCall)
+
+  pub busy : ¬ (calls ≡ finite.empty) → is_busy here ≡ true
+  busy some = elim (cases_eq (finite.len (map_values (open_call_of s) calls)) 0) [
+    | inl is ↦ absurd (some (maps_alike calls finite.empty (λ q. none_is_none (open_call_of s) (finite.get calls q)
+        (sym (get-map_values (open_call_of s) calls q) ∙ ap (λ m. finite.get m q)
+        (empty_of_len (map_values (open_call_of s) calls) is) ∙ get-empty nat_cmp q) ∙ sym (get-empty nat_cmp q))))
+    | inr other ↦ grind (arith, nat_tests)
+  ]
+
+  -- nor is anything kept for one
+  quiet_once : calls ≡ finite.empty → (t : Allocator) → given.AreSpent t (all_held (map_values (open_call_of t) calls))
+  quiet_once none t = search (rules, All-nil, all_held-none, map_values-empty)
+
+  pub quiet_played : AreConsistent s spent calls → calls ≡ finite.empty → (t : Allocator) → IsSound t
+      → t.asked ≡ s.asked → AreConsistent t spent calls
+  quiet_played h none t sound same = record {
+    sound = sound;
+    quota = h.quota;
+    asked = omega arith;
+    requests = h.requests;
+    spans = search (rules, nothing_in);
+    once = quiet_once none t;
+  }
+
+  -- what was asked for, and what is still to be, is within what a span can have
+  pub asked-bound : AreConsistent s spent calls → s.asked + sum_below (λ q. awaited (finite.get calls q)) callers
+      ≤ 2 ^ 50
+  unfolding quota
+  asked-bound h = search (rules, sum_below-bound (λ q. unwrap_or (finite.get spent q) 0) quota callers h.quota, h.asked)
+
+  -- ---- events that need the allocator to themselves
+
+  pub busy-alloc : ¬ (calls ≡ finite.empty) → on_alloc here ≡ (Err fault.Busy, here)
+  busy-alloc some = search (rules, cond-true, busy)
+
+  pub busy-free : ¬ (calls ≡ finite.empty) → (h : Handle) → on_free here h ≡ (Err fault.Busy, here)
+  busy-free some h = search (rules, cond-true, busy)
+
+  pub busy-flush : ¬ (calls ≡ finite.empty) → on_flush here ≡ (Err fault.Busy, here)
+  busy-flush some = search (rules, cond-true, busy)
+
+  module _ (none : calls ≡ finite.empty) where
+    pub alloc-needs_flush : 0 < s.asked → on_alloc here ≡ (Ok outcome.NeedsFlush, here)
+    alloc-needs_flush some = search (rules, quiet none, nat_tests)
+
+    alloc-flushed : ¬ (0 < s.asked) → on_alloc here ≡ alloc_front here s.pool
+    alloc-flushed rest = search (rules, quiet none, nat_tests)
+
+    pub alloc-space : s.asked ≡ 0 → s.pool ≡ [] → on_alloc here ≡ (Ok (outcome.Space 1 0), here)
+    alloc-space rest empty = search (rules, alloc-flushed)
+
+    pub alloc-given : (h : Handle) → ¬ (0 < s.asked) → slice_get s.pool 0 ≡ Some h
+        → on_alloc here ≡ (Ok (outcome.Handle h), machine_state (after_alloc s h) spent calls)
+    alloc-given h rest first = search (rules, alloc-flushed, front, map_values-empty)
+
+    -- if no old slot waits, the front of the pool makes a slot
+    pub alloc-takes_memory : IsSound s → ¬ (0 < s.asked) → ¬ (s.pool ≡ []) → top s ≡ 0
+        → event_takes_memory here (on_alloc here).0 ≡ true
+    alloc-takes_memory sound rest some none_old = search (rules, alloc-flushed rest)
+
+    pub alloc-consistent : (h : Handle) → AreConsistent s spent calls → ¬ (0 < s.asked) → slice_get s.pool 0 ≡ Some h
+        → AreConsistent (after_alloc s h) spent calls
+    alloc-consistent h played rest first =
+        let nothing : s.asked ≡ 0 = omega arith in search (rules, quiet_played, after_alloc-sound, front)
+
+    pub free-needs_flush : (h : Handle) → 0 < s.asked → on_free here h ≡ (Ok outcome.NeedsFlush, here)
+    free-needs_flush h some = search (rules, quiet none, nat_tests)
+
+    pub free-not_alive : (h : Handle) → s.asked ≡ 0 → set.contains s.live h ≡ false
+        → on_free here h ≡ (Ok outcome.NotAlive, here)
+    free-not_alive h rest gone = search (rules, quiet none, nat_tests)
+
+    pub free-freed : (h : Handle) → ¬ (0 < s.asked) → set.contains s.live h ≡ true
+        → on_free here h ≡ (Ok (outcome.Freed h (next s.limits h)), machine_state (after_free s h) spent calls)
+    free-freed h rest lives = search (rules, cond-false, quiet, nat_tests, cond-true, map_values-empty)
+
+    -- to free what lives takes memory, unless its slot is retired
+    pub free-takes_memory : (h : Handle) → ¬ (0 < s.asked) → ¬ (set.contains s.live h ≡ false)
+        → h.generation ≢ s.limits.generations → event_takes_memory here (on_free here h).0 ≡ true
+    free-takes_memory h rest lives before = search (rules, free-freed, next-later)
+
+    pub free-consistent : (h : Handle) → AreConsistent s spent calls → ¬ (0 < s.asked) → set.contains s.live h ≡ true
+        → AreConsistent (after_free s h) spent calls
+    free-consistent h played rest lives =
+        let nothing : s.asked ≡ 0 = omega arith in search (rules, quiet_played, after_free-sound)
+
+    pub flush-flushed : on_flush here ≡ (Ok (outcome.Born (born s)), machine_state (after_flush s) finite.empty calls)
+    flush-flushed = search (rules, cond-false, quiet, map_values-empty)
+
+    -- to bring handles to life takes memory
+    pub flush-takes_memory : 0 < length s.taken → event_takes_memory here (on_flush here).0 ≡ true
+    flush-takes_memory some = search (rules, length_permutation, born-IsPermutation, flush-flushed)
+
+    pub flush-consistent : AreConsistent s spent calls → AreConsistent (after_flush s) finite.empty calls
+    flush-consistent played = record {
+      sound = after_flush-sound s played.sound;
+      quota = search (rules, get-empty);
+      asked = search (rules, sum_below-none, get-empty);
+      requests = played.requests;
+      spans = λ q call span is _. absurd (nothing_in calls none q call is);
+      once = quiet_once none (after_flush s);
+    }
+
+  -- ---- events of a call
+
+  module _ (caller : ℕ) (below : caller < callers) where
+    is_caller : nat_lt caller callers ≡ true
+    is_caller = grind (arith, nat_tests)
+
+    opened : (o : Option StoredCall) → finite.get calls caller ≡ o → finite.get (map_values (open_call_of s) calls)
+        caller ≡ option_map (open_call_of s) o
+    opened o is = simp (get-map_values, is)
+
+    -- what waits for this caller is counted
+    pub awaited-bound : AreConsistent s spent calls → (call : StoredCall) → finite.get calls caller ≡ Some call
+        → s.asked + unasked call.requested call.span ≤ 2 ^ 50
+    awaited-bound h call is =
+        let all = asked-bound h in
+        search (rules, sum_below-part (λ q. awaited (finite.get calls q)) caller callers below)
+
+    -- what waits in all where this call is new
+    waits-inserted : (new : StoredCall) → sum_below (λ q. awaited (finite.get calls q)) callers + awaited (Some new)
+        ≡ sum_below (λ q. awaited (finite.get (finite.insert calls caller new) q)) callers
+        + awaited (finite.get calls caller)
+    waits-inserted new = simp get-inserted at (sum_below-changed (λ q. awaited (finite.get calls q))
+        (λ q. awaited (finite.get (finite.insert calls caller new) q)) caller callers below
+        (λ q other. ap awaited (sym (get-insert_other calls caller new q other))))
+
+    module _ (none : finite.get calls caller ≡ None) where
+      pub step-not_open : on_step here caller ≡ (Err fault.NotOpen, here)
+      step-not_open = search (rules, is_caller, opened None none)
+
+      pub answer-not_open : on_answer here caller ≡ (Err fault.NotOpen, here)
+      answer-not_open = search (rules, is_caller, opened None none)
+
+      pub begin-quota : (n : ℕ) → left_of here caller < n → on_begin here caller n
+          ≡ (Err (fault.Quota (left_of here caller)), here)
+      begin-quota n short = search (rules, is_caller, opened None none, nat_tests)
+
+      module _ (n : ℕ) (enough : n ≤ left_of here caller) where
+        -- the call as it begins
+        abbrev pub begun : StoredCall
+        begun = record { requested = n; span = None }
+
+        abbrev pub more : FinMap nat_cmp ℕ
+        more = finite.insert spent caller (unwrap_or (finite.get spent caller) 0 + n)
+
+        pub begin-begun : on_begin here caller n
+            ≡ (Ok outcome.Open, machine_state s more (finite.insert calls caller begun))
+        begin-begun = search (rules, is_caller, opened None none, nat_tests, map_values-insert)
+
+        pub begin-takes_memory : event_takes_memory here (on_begin here caller n).0 ≡ true
+        begin-takes_memory = rw begin-begun
+
+        pub begin-consistent : AreConsistent s spent calls → n < 2 ^ 32
+            → AreConsistent s more (finite.insert calls caller begun)
+        begin-consistent h small = record {
+          sound = h.sound;
+          quota = search (rules, ℕ_discrete, get-inserted, get-insert_other);
+          asked =
+              let before = h.asked in
+              let waits = waits-inserted begun in
+              let waited : awaited (finite.get calls caller) ≡ 0 = ap awaited none in
+              let spends = simp get-inserted at (sum_below-changed (λ q. unwrap_or (finite.get spent q) 0)
+              (λ q. unwrap_or (finite.get more q) 0) caller callers below
+              (λ q other. ap (λ o. unwrap_or o 0) (sym (get-insert_other spent caller _ q other)))) in
+              omega arith;
+          requests = search (rules, on_inserted (λ q (c : StoredCall). c.requested < 2 ^ 32), h.requests);
+          spans = λ q call span at. on_inserted (λ q c. c.span ≡ Some span → HasPassed s c.requested span) calls caller
+              (λ q c _ at. h.spans q c span at) begun (λ no. absurd (none-some span no)) q call at;
+          once = all_held-next here (event.Begin caller n) begin-begun h.sound h.once;
+        }
+
+    module _ (call : StoredCall) (is : finite.get calls caller ≡ Some call) where
+      pub begin-open : (n : ℕ) → on_begin here caller n ≡ (Err fault.AlreadyOpen, here)
+      begin-open n = search (rules, is_caller, opened (Some call) is)
+
+      pub step-stepped : (span : Span) → call.span ≡ Some span → on_step here caller ≡ (Err fault.AlreadyStepped, here)
+      step-stepped span passed = search (rules, is_caller, opened (Some call) is)
+
+      pub step-taken : IsSound s → call.span ≡ None → on_step here caller
+          ≡ (
+            Ok (outcome.Cursor (cursor s -ℤ pos call.requested)),
+            machine_state (after_take s call.requested) spent (finite.insert calls caller (stepped s call)),
+          )
+      step-taken sound waits = search (rules, is_caller, opened (Some call) is, cursor-after_take, inserted)
+        where
+          -- what a span replies stays through the step
+          same : (c : StoredCall) → open_call_of s c ≡ open_call_of (after_take s call.requested) c
+          same c = simp (made-after_take, available-after_take)
+
+          inserted : finite.insert (map_values (open_call_of s) calls) caller
+              (record { requested = call.requested; reply = Some (reply_to s call.requested) })
+              ≡ map_values (open_call_of (after_take s call.requested)) (finite.insert calls caller (stepped s call))
+          inserted = ap (λ r. finite.insert (map_values (open_call_of s) calls) caller
+              (record { requested = call.requested; reply = Some r })) (sym (reply-cursor s call.requested sound))
+              ∙ sym (map_values-insert (open_call_of s) calls caller (stepped s call))
+              ∙ ap (λ f. map_values f (finite.insert calls caller (stepped s call))) (λ i c. same c i)
+
+      pub step-consistent : AreConsistent s spent calls → call.span ≡ None → AreConsistent (after_take s call.requested)
+          spent (finite.insert calls caller (stepped s call))
+      step-consistent h waits = record {
+        sound = after_take-sound s call.requested h.sound;
+        quota = h.quota;
+        asked =
+            let before = h.asked in
+            let all = waits-inserted (stepped s call) in
+            let waited : awaited (finite.get calls caller) ≡ call.requested = ap awaited is
+            ∙ ap (unasked call.requested) waits in
+            omega (arith, asked-after_take);
+        requests = search (rules, on_inserted (λ q (c : StoredCall). c.requested < 2 ^ 32), h.requests);
+        spans = λ q other_call span at. on_inserted (λ q c. c.span ≡ Some span
+            → HasPassed (after_take s call.requested) c.requested span) calls caller (λ q c _ at passed.
+            let old = h.spans q c span at passed in
+            let tops = top-after_take s call.requested h.sound in
+            record { least = old.least; high = rw tops old.high; low = old.low })
+            (stepped s call) (λ passed.
+            let at_span : record { high = cursor s; low = cursor s -ℤ pos call.requested }
+            ≡ span = same_Some _ span passed in
+            search (rules, asked-bound, top-after_take, ints)) q other_call at;
+        once = all_held-next here (event.Step caller) (step-taken h.sound waits) h.sound h.once;
+      }
+
+      pub answer-not_stepped : call.span ≡ None → on_answer here caller ≡ (Err fault.NotStepped, here)
+      answer-not_stepped waits = search (rules, is_caller, opened (Some call) is)
+
+      module _ (span : Span) (passed : call.span ≡ Some span) where
+        pub answer-answered : on_answer here caller
+            ≡ (
+              Ok (reported (reply_from s.made (pool_at s span.high) call.requested)),
+              machine_state s spent (finite.remove calls caller),
+            )
+        answer-answered =
+            let left = maps_alike (map_values (open_call_of s) (finite.remove calls caller))
+            (finite.remove (map_values (open_call_of s) calls) caller) in
+            search (rules, is_caller, opened (Some call) is, left, get-map_values, get-remove)
+
+        pub answer-consistent : AreConsistent s spent calls → AreConsistent s spent (finite.remove calls caller)
+        answer-consistent h = record {
+          sound = h.sound;
+          quota = h.quota;
+          asked =
+              let before = h.asked in
+              let all = simp get-removed at (sum_below-changed (λ q. awaited (finite.get calls q))
+              (λ q. awaited (finite.get (finite.remove calls caller) q)) caller callers below
+              (λ q other. ap awaited (sym (get-remove_other calls caller q other)))) in
+              let waited : awaited (finite.get calls caller) ≡ 0 = ap awaited is ∙ ap (unasked call.requested) passed in
+              omega arith;
+          requests = search (rules, on_removed (λ q (c : StoredCall). c.requested < 2 ^ 32), h.requests);
+          spans = λ q other_call span at. on_removed (λ q c. c.span ≡ Some span → HasPassed s c.requested span) calls
+              caller (λ q c _ at. h.spans q c span at) q other_call at;
+          once = all_held-next here (event.Answer caller) answer-answered h.sound h.once;
+        }

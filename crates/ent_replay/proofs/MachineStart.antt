@@ -1,1 +1,0 @@
--- The fields of a `Machine` at its start.
