@@ -1,5 +1,5 @@
 -- The words after the program's name, and the input file that they name.
-use Rattle.std.proofs.Common.{◌≡◌, ℕ, Bool, true, false, ◌∷◌, ◌++◌, [], List, Option, Some, None, Result, Ok, Err, refl, sym, ◌∙◌, ap, inr}
+use Rattle.std.proofs.Common.{rules, ◌≡◌, ℕ, Bool, true, false, ◌∷◌, ◌++◌, [], List, Option, Result, Ok, Err, ◌∙◌, ap, inr}
 use Rattle.std.specs.Prelude.{◌==◌, slice_index}
 use Rattle.std.specs.Vec.Iter.{into_iter_items, into_iter_steps}
 use Rattle.std.specs.declared.vec.IntoIter.{IntoIter}
@@ -9,15 +9,10 @@ use Rattle.cli.specs.Words.{IsUnknown, NamesFile, after_name, is_option}
 -- what is left once the first of some items is taken
 pub after_next : {X Z : Type 0} (old new : IntoIter X Z) (first : Option X) → into_iter_steps old first new
     → into_iter_items new ≡ after_name (into_iter_items old)
-after_next old new (Some first) step = ap after_name (sym step.0)
-after_next old new None step =
-    let none = nil_from_length (into_iter_items old) (sym old.rest.ok.0 ∙ step.0) in
-    let left = nil_from_length (into_iter_items new) (sym new.rest.ok.0 ∙ step.1) in
-    left ∙ ap after_name (sym none)
+after_next old new it step = search (rules, nil_from_length, old.rest.ok, new.rest.ok)
 
 pub no_option : (word : List ℕ) → (slice_index word 0 == 45) ≡ false → is_option word ≡ false
-no_option [] e = refl
-no_option (first ∷ others) e = e
+no_option word e = search rules
 
 module _ {Word Error : Type 0} (answers : List Word → Result Bool Error → Type 0) where
   pub unknown_before : (words before : List Word) (last : Word) (error : Error) → words ≡ before ++ last ∷ []

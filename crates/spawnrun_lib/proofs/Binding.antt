@@ -10,7 +10,7 @@ added_at [] n = search rules
 added_at (hs ∷ lists) n = search (rules, added_at lists)
 
 pub names_added : (lists : List (List Handle)) → names_of (lists ++ [] ∷ []) ≡ names_of lists
-names_added lists = same_names _ _ (added_at lists)
+names_added lists = λ i n. added_at lists n i
 
 -- a list that is put where another one stood
 set_at : (lists : List (List Handle)) (hs : List Handle) (n : ℕ) → n < length lists → (m : ℕ)
@@ -21,4 +21,4 @@ set_at (xs ∷ lists) hs (suc n) within m = search (rules, eqb-zero-suc, eqb-suc
 
 pub names_set : (lists : List (List Handle)) (hs : List Handle) (n : ℕ) → n < length lists
     → names_of (set lists n hs) ≡ bound n hs (names_of lists)
-names_set lists hs n within = same_names _ _ (set_at lists hs n within)
+names_set lists hs n within = λ i m. set_at lists hs n within m i

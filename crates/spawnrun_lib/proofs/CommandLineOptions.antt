@@ -38,7 +38,7 @@ optional_from option most rows value = search (rules, accepts-Accepts)
 
 blocks_from : (rows : List Row) → MayHaveValue blocks_rule rows → MayHaveBlocks rows
 blocks_from rows (inl none) = inl none
-blocks_from rows (inr value) = inr (optional_from (codes "blocks") most_handles rows value)
+blocks_from rows (inr value) = search (rules, optional_from)
 
 show_from : (rows : List Row) → HasValue show_rule rows → HasShow rows
 show_from rows value = search rules

@@ -1,10 +1,9 @@
 -- The names that proofs of this crate cite, of std, of the crates below and of its own specs. Declares nothing.
-pub use Rattle.std.proofs.Common.{All, Bool, Bor, Contains, Global, IfSome, IsSomeAnd, IsTrue, IsUtf8, List, None, Ok, OnOk, Option, Result, Some, String, T, [], ap, append-nil, append_assoc, arith, codes, cond, drop, eq-eqb, false, get_or, inl, inr, is_none, is_some, le-leb, length, length-drop, lit<, map, min, not, pos, refl, rules, set, string_bytes, subst, suc, sym, take, true, true≢false, unwrap_or, vec_len, zero, ℕ, ℤ, ◌%◌, ◌&&◌, ◌++◌, ◌+◌, ◌-◌, ◌/◌, ◌<◌, ◌^◌, ◌||◌, ◌∙◌, ◌∷◌, ◌≡◌, ◌≢◌, ◌≤◌, ◌⊎◌}
+pub use Rattle.std.proofs.Common.{All, Bool, Bor, Contains, Equal, Err, Global, Greater, IfSome, IsOk, IsSomeAnd, IsTrue, IsUtf8, Less, List, MatchOption, None, Ok, OnErr, OnOk, Option, Ordering, Result, Some, String, T, [], ap, append-nil, append_assoc, arith, bytes_eq, chars, codes, cond, drop, encode_utf8, false, filter, find, fold, get_or, if◌then◌else◌, inl, inr, is_none, is_some, le-leb, length, length-drop, lit<, map, min, nat_lt, not, option_map, pos, refl, rules, set, slice_get, slice_index, string_bytes, subst, suc, sym, take, true, true≢false, unwrap_or, vec_capacity, vec_len, zero, ℕ, ℤ, ◌%◌, ◌&&◌, ◌++◌, ◌+◌, ◌-◌, ◌/◌, ◌<◌, ◌==◌, ◌^◌, ◌||◌, ◌∙◌, ◌∷◌, ◌≡◌, ◌≢◌, ◌≤◌, ◌⊎◌}
 pub use Rattle.std.proofs.Math.Dec.{eqb-suc-suc, eqb-suc-zero, eqb-zero-suc}
 pub use Rattle.std.proofs.Math.Nat.{min-eq_left}
-pub use Rattle.std.proofs.lemmas.Bool.{and_parts, cases_eq, cases_lt, cond-false, cond-true, false≢true, iff_false, le-ltb, lt-ltb}
+pub use Rattle.std.proofs.lemmas.Bool.{and_parts, cases_lt, cond-false, cond-true, false≢true, iff_false, le-ltb, lt-ltb}
 pub use Rattle.std.proofs.lemmas.Bool.Decides.{nat_tests}
-pub use Rattle.std.proofs.lemmas.Cmp.{eq_by_cmp_equiv}
 pub use Rattle.std.proofs.lemmas.Fmt.{decimal_by_steps}
 pub use Rattle.std.proofs.lemmas.Grind.{common_steps, flat_map-append, take_at_read}
 pub use Rattle.std.proofs.lemmas.List.{drop_all, drop_more, ext_get_or, get_or_default, length-append, length-map, length-take, length-take-le, map-append, map-set, nil_from_length, take-append-drop, take-append-le, take_all, take_more}
@@ -20,11 +19,9 @@ pub use Rattle.std.proofs.lemmas.Slice.Eq.{bytes_eq-Decides}
 pub use Rattle.std.proofs.lemmas.Slice.Zip.{AllZip-long}
 pub use Rattle.std.proofs.lemmas.Str.{IsUtf8-past_char, chars-IsAscii, chars-nil, chars_past_char, encode_ascii, is_utf8-from_IsUtf8}
 pub use Rattle.std.proofs.lemmas.Str.Ascii.{IsAscii-from_all}
-pub use Rattle.std.specs.Char.{encode_utf8}
-pub use Rattle.std.specs.Cmp.{IsTotalOrder, on_total, then_total, tied_itself}
+pub use Rattle.std.specs.Cmp.{IsTotalOrder, eq_by_cmp_equiv, on_total, then_total, tied_itself}
 pub use Rattle.std.specs.Cmp.Lexicographic.{options_total}
-pub use Rattle.std.specs.FinMap.{is_sorted}
-pub use Rattle.std.specs.FinMap.Entries.{below_all}
+pub use Rattle.std.specs.FinMap.Entries.{below_all, is_sorted}
 pub use Rattle.std.specs.Fmt.{decimal, is_char_start}
 unfoldable pub use Rattle.std.specs.Fmt.{digits}
 unfoldable pub use Rattle.std.specs.Fmt.Cut.{cut_to, floor_char_boundary}
@@ -33,45 +30,41 @@ pub use Rattle.std.specs.List.{AllByRecursion, AllPairs, AllZip, flat_map, list_
 unfoldable pub use Rattle.std.specs.List.{IsDistinct}
 pub use Rattle.std.specs.List.Sorted.{IsPartitionedBy, IsPermutation}
 pub use Rattle.std.specs.Option.{option_cmp, option_eq, option_map_or}
-pub use Rattle.std.specs.Ordering.{eq_by_cmp, is_lt, ordering_then}
-pub use Rattle.std.specs.Prelude.{Err, IsOk, MatchOption, OnErr, filter, find, fold, if◌then◌else◌, nat_le, nat_lt, option_map, slice_get, slice_index, vec_capacity, ◌==◌}
-pub use Rattle.std.specs.Str.{bytes_eq, chars}
+pub use Rattle.std.specs.Ordering.{eq_by_cmp, is_lt}
 pub use Rattle.std.specs.Str.Iter.{chars_rest}
 pub use Rattle.std.specs.Str.Parse.{ExplainsUnsignedError, HasUnsignedDigitsIfOk, ParsesUnsigned}
-pub use Rattle.std.specs.declared.cmp.Ordering.{Ordering}
-pub use Rattle.std.specs.declared.cmp.Ordering.TheVariants.{Equal, Greater, Less}
 pub use Rattle.std.specs.declared.num.ParseIntError.{ParseIntError}
 unfoldable pub use Rattle.clap.proofs.OnLiterals.{clap_on_literals}
 pub use Rattle.clap.proofs.ValueTestLemmas.{accepts-Accepts}
 pub use Rattle.clap.proofs.WalkLemmas.{find-map, first_value-rows, list_any-map, one_text-rows}
-pub use Rattle.clap.specs.Built.{AddsArg, AddsSubcommand}
-pub use Rattle.clap.specs.Faults.{action_fault, check_fault, count_fault, default_fault, entered_fault, flag_word_fault, level_fault, long_fault, option_fault, other_fault, positional_fault, react_fault, set_fault, settle_fault, short_fault, step_fault, turn_fault, use_fault, values_fault}
+pub use Rattle.clap.specs.Faults.{action_fault, check_fault, default_fault, entered_fault, flag_word_fault, level_fault, long_fault, option_fault, react_fault, set_fault, settle_fault, short_fault, step_fault, turn_fault, use_fault}
 unfoldable pub use Rattle.clap.specs.Faults.{defaults_fault, flags_fault, walk_fault}
 pub use Rattle.clap.specs.Kinds.{Kinds, or_else, range_kinds}
-pub use Rattle.clap.specs.Lexer.{long_of}
-pub use Rattle.clap.specs.Matches.{ReadsOne, one_text, subcommand_name_of}
 pub use Rattle.clap.specs.Simple.{entered, filled, help_rule, label_of, new_shape, rows_at}
-pub use Rattle.clap.specs.Takes.{action_passes, built_takes, count_passes, default_passes, entered_passes, flag_word_passes, is_given, is_valid, level_passes, long_passes, option_passes, other_passes, positional_passes, react_passes, settle_passes, short_passes, step_passes, turn_passes, use_passes, value_passes, values_pass}
+pub use Rattle.clap.specs.Takes.{action_passes, built_takes, count_passes, default_passes, entered_passes, is_given, is_valid, level_passes, long_passes, option_passes, react_passes, settle_passes, short_passes, step_passes, turn_passes, value_passes, values_pass}
 unfoldable pub use Rattle.clap.specs.Takes.{flags_pass, walk_passes}
 pub use Rattle.clap.specs.Values.{is_request, same_text}
-pub use Rattle.clap.specs.Walk.{Held, Names, Outcome, Step, Waiting, Walk, action_of, after_flag, after_step, answers_to, arg_by_id, at_row, default_rows, finished, flag_met, has_row, long_met, long_or_other, more_values, nothing_held, option_met, option_word, plain_word, reacted, reading_by, rows_after, settled, settled_rows, short_met, short_or_plain, stop_after, subcommand_met, subcommand_or_other, texts, to_positional, used, used_as, used_by_id, values_or_missing, walk, walk_from, walked_from, with_default, with_values, without, word_met}
+pub use Rattle.clap.specs.Walk.{Held, Names, Outcome, Step, Waiting, Walk, action_of, after_flag, after_step, answers_to, arg_by_id, at_row, default_rows, finished, has_row, long_met, long_or_other, nothing_held, option_met, reacted, reading_by, rows_after, settled, short_met, short_or_plain, stop_after, subcommand_met, texts, used, used_as, used_by_id, values_or_missing, walk, walked_from, with_default, without, word_met}
 unfoldable pub use Rattle.clap.specs.Walk.{bundle_met, walked}
-pub use Rattle.clap.specs.Words.{App, HasKind, HasMatchesOf, Row, Rule, Shape, Text, app_of, built, fault_of, first_of, first_value, found_of, is_simple, is_simple_and_free, kind_of, one_of, read_as, rows_of, rule_of, subcommand_of, subcommand_rows_of, takes, with_rule, with_subcommand}
+pub use Rattle.clap.specs.Words.{AddsArg, AddsSubcommand, App, HasKind, HasMatchesOf, ReadsOne, Row, Rule, Shape, Text, app_of, built, fault_of, first_of, first_value, found_of, is_simple, is_simple_and_free, kind_of, one_of, one_text, read_as, rows_of, rule_of, subcommand_name_of, subcommand_of, subcommand_rows_of, takes, with_rule, with_subcommand}
 pub use Rattle.clap.specs.declared.builder.Arg.{Arg}
 pub use Rattle.clap.specs.declared.builder.ArgAction.{ArgAction}
 pub use Rattle.clap.specs.declared.builder.ArgAction.TheVariants.{Set}
 pub use Rattle.clap.specs.declared.builder.Command.TheViews.{out-Command as fields_of}
 pub use Rattle.clap.specs.declared.builder.value_parser.ValueParser.{ValueParser}
 pub use Rattle.clap.specs.declared.error.ErrorKind.{ErrorKind}
-pub use Rattle.clap.specs.declared.error.ErrorKind.TheVariants.{ArgumentConflict, TooManyValues}
 pub use Rattle.clap.specs.declared.parser.ArgMatches.{ArgMatches}
 pub use Rattle.clap.specs.declared.parser.matches.Found.{Found}
 pub use Rattle.clap.specs.declared.parser.matches.ValueSource.{ValueSource}
 pub use Rattle.clap.specs.declared.parser.matches.ValueSource.TheVariants.{DefaultValue}
+pub use Rattle.serde_json.specs.Data.{Data, Items}
+pub use Rattle.serde_json.specs.Find.{as_str}
+pub use Rattle.serde_json.specs.Read.{read}
+pub use Rattle.serde_json.specs.View.{items_view, view}
+pub use Rattle.serde_json.specs.declared.value.Value.{Value}
 pub use Rattle.cli.proofs.Faults.{found_fault, only_memory}
 pub use Rattle.cli.proofs.Numbers.{number_read}
 pub use Rattle.cli.specs.Options.{HasNumber, generations_option, number_option, option_number, slots_option}
-pub use Rattle.devices.specs.Device.{Takes}
 pub use Rattle.devices.specs.declared.input.InputFault.{InputFault}
 pub use Rattle.ent_alloc.proofs.FreshHandles.{length-fresh}
 pub use Rattle.ent_alloc.proofs.HandleSets.{Contains-from_stands_in, same_handle, stands_in-from_Contains}
@@ -94,7 +87,7 @@ pub use Rattle.ent_handle.specs.Handle.{Handle, handle_cmp, handle_cmp_total}
 pub use Rattle.ent_handle.specs.declared.birth.Birth.{Birth}
 pub use Rattle.ent_handle.specs.declared.component.ComponentId.{ComponentId}
 pub use Rattle.ent_handle.specs.declared.memory.Memory.{Memory}
-pub use Rattle.ent_queue.specs.Command.{Command, Despawn, Insert, Refused, Remove, Spawn, SpawnMany}
+pub use Rattle.ent_queue.specs.Command.{Command, Despawn, Refused, Remove, Spawn, SpawnMany}
 pub use Rattle.ent_queue.specs.Drawing.{AreDrawnBy, left_of, used_by}
 pub use Rattle.ent_queue.specs.Reserving.{FitQuota, FitsQuota, cost, stands_for}
 pub use Rattle.ent_replay.proofs.ScheduleWords.{IsWithout, lines_first, lines_whole}
@@ -138,11 +131,6 @@ pub use Rattle.ent_world.specs.Sync.{after_births, handles_listed, listed_by, sy
 pub use Rattle.ent_world.specs.World.{AreLiving, IsWorld, World, first_world}
 pub use Rattle.ent_world.specs.declared.fault.Fault.{Fault}
 pub use Rattle.ent_world.specs.declared.fault.FaultKind.{FaultKind}
-pub use Rattle.serde_json.specs.Data.{Data, Items}
-pub use Rattle.serde_json.specs.Find.{as_str}
-pub use Rattle.serde_json.specs.Read.{read}
-pub use Rattle.serde_json.specs.View.{items_view, view}
-pub use Rattle.serde_json.specs.declared.value.Value.{Value}
 pub use Rattle.spawnrun_lib.specs.CommandLine.{AsksFor, HasRun, HasShow, MayHaveBlocks, blocks_option, most_handles, optional_number, program, program_of, references_to, show_option, show_text, shown, workers_option}
 pub use Rattle.spawnrun_lib.specs.Course.{AreFew, HaveGone}
 pub use Rattle.spawnrun_lib.specs.CourseInBlocks.{EndsInBlocks, HaveGoneInBlocks, dealt_blocks}
@@ -159,10 +147,9 @@ pub use Rattle.spawnrun_lib.specs.Report.{AreExecutions, Execution, IsReport, Is
 pub use Rattle.spawnrun_lib.specs.ReportInBlocks.{AreQueues, IsTextFrom, IsTextInBlocks, blocks_of_frame, reserved_in, sizes_of}
 pub use Rattle.spawnrun_lib.specs.Rolls.{IsFirstFrom, IsRollOf, is_before}
 pub use Rattle.spawnrun_lib.specs.SameReport.{HasEnoughSlots, IsLines, IsRefusedRequest, IsWithoutHandles, TellsNoRefusal, requested_by_operation, requested_in_all}
-pub use Rattle.spawnrun_lib.specs.ScriptAlone.{birth_fault_line, birth_line, frame_text_alone, text_alone, text_from}
+pub use Rattle.spawnrun_lib.specs.ScriptAlone.{birth_fault_line, birth_line, text_alone, text_from}
 pub use Rattle.spawnrun_lib.specs.Shown.{ArePrintable, IsPrintable, byte_text, char_text, hex, is_printable, plain, unit_text}
 unfoldable pub use Rattle.spawnrun_lib.specs.Shown.{front}
-pub use Rattle.spawnrun_lib.specs.Status.{exit_number}
 pub use Rattle.spawnrun_lib.specs.Wants.{size_wants}
 pub use Rattle.spawnrun_lib.specs.Work.{Accepts, IsProductOf, Refusal, Refuses, fails, input_limit, is_too_long, size_line}
 pub use Rattle.spawnrun_lib.specs.WorldText.{IsWorldText, alive_line, item_text, line_in}

@@ -96,10 +96,10 @@ module _ (systems : List (List Operation)) (workers : ℕ) (w : World) (queues :
       (all_flat IsGrantedAt (λ mine. mine) frame.ran (all_from_each (λ mine. All IsGrantedAt mine) frame.ran
       worker-granted)) in
       all_from_each (All IsGranted) queues (λ k q at.
-      let within = slice_get_within queues k q at in
-      let count = frame.count in
-      subst (All IsGranted) (get_or_from_slice_get queues k q [] at) (below_each IsGrantedAt (length systems) all k
-      (omega arith)))
+          let within = slice_get_within queues k q at in
+          let count = frame.count in
+          subst (All IsGranted) (get_or_from_slice_get queues k q [] at) (below_each IsGrantedAt (length systems) all k
+              (omega arith)))
 
   -- what its systems have not requested is left for the frames after it
   frame-left : (n : ℕ) → requested_by_systems systems + n ≤ length w.allocator.pool
@@ -135,7 +135,4 @@ pub granted_if_enough : (script : Script) (workers : ℕ) (executions : List Exe
     → AreExecutions workers (first_world script.limits) script.frames executions → HasEnoughSlots script
     → All (λ e. AreGranted e.queues) executions
 unfolding quota
-granted_if_enough script workers executions limits went enough =
-    let all = length-fresh 0 script.limits.slots in
-    let few = limits.slots in
-    more_granted workers (first_world script.limits) script.frames executions went (omega arith) (omega arith)
+granted_if_enough script workers executions limits went enough = search (rules, length-fresh, more_granted)

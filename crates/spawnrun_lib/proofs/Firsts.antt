@@ -1,13 +1,9 @@
 -- The first of a list that passes a test, and keys as they lie in memory.
-use Rattle.spawnrun_lib.proofs.Common.{String, Global, string_bytes, rules, arith, ◌≡◌, refl, ℕ, Bool, true, false, cond, List, [], ◌∷◌, map, Some, Bor, Option, ℤ, is_some, is_none, true≢false, ◌+◌, ◌<◌, drop, take, length, get_or, whole, pair_view, twice, unwhole_in, bad_name, is_among, is_listed, is_text, key_but, common_steps, list_any, view, Value, drop_more, take_more, map-append, as_name}
-use Rattle.std.proofs.Common.{bytes_eq}
+use Rattle.spawnrun_lib.proofs.Common.{String, Global, string_bytes, rules, arith, ◌≡◌, refl, ℕ, Bool, true, false, cond, List, [], ◌∷◌, map, Some, Bor, Option, ℤ, is_some, is_none, true≢false, ◌+◌, ◌<◌, drop, take, length, get_or, whole, pair_view, twice, unwhole_in, bad_name, is_among, is_listed, is_text, key_but, common_steps, list_any, view, Value, drop_more, take_more, map-append, as_name, bytes_eq}
 
 -- what is not there, and what is
 none_if : (o : Option ℤ) → is_some o ≡ false → is_none o ≡ true
 none_if it fails = search (rules, true≢false)
-
-some_if : (o : Option ℤ) → is_some o ≡ true → is_none o ≡ false
-some_if it holds = search (rules, true≢false)
 
 abbrev pub Entry : Type 0
 Entry = String Global × Value
@@ -22,7 +18,7 @@ next_key is_known es e rest key test is same known = search rules
 pub next_whole : (es : List Entry) (e : Entry) (rest : List Entry) (test : Bool) → es ≡ e ∷ rest
     → is_some (whole (view e.1)) ≡ test → unwhole_in (map pair_view es)
     ≡ cond test (unwhole_in (map pair_view rest)) (Some (pair_view e))
-next_whole es e rest test is known = search (rules, none_if, some_if)
+next_whole es e rest test is known = search (rules, none_if, true≢false)
 
 -- one of the keys as they lie in memory
 pub among_lent : (key : List ℕ) (known : List (Bor (List ℕ))) → list_any (λ name. bytes_eq key name.now) known

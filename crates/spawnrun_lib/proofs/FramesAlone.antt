@@ -1,7 +1,6 @@
 -- A frame of scripted systems does to births alone what it does to the world, on every number of
 -- workers, if no request was refused and the systems name no handles.
-use Rattle.spawnrun_lib.proofs.Common.{entity_there, rules, ◌≡◌, refl, sym, ap, ◌∙◌, subst, ℕ, suc, ◌+◌, ◌^◌, ◌<◌, ◌≤◌, List, [], ◌∷◌, map, length, All, Some, is_some, unwrap_or, arith, min-eq_left, length-append, length-map, All-nil, All-cons, All-head, All-tail, All-weaker, All-contains_itself, IsPermutation-sym, IsPermutation-trans, length_permutation, none-some, Birth, ComponentId, component_cmp, Handle, born, Call, after_history, given_in-taken, ListsWith, Entity, EntityMap, birth_of, Command, BirthMap, applied, AreNamed, AreNames, AreNamedBy, AreBelow, AreListed, IsThere, sync, after_births, handles_listed, World, IsWorld, IsFlushed, flushed-kept, after_queues-keeps, frame-named, queues_births, sync-below, listed-named, after_births-world, after_history-world, IsFrame, queue_at, reserved_by, view_of, listed-few, listed-enters, listed-new, unlisted-stays, Lists, listed-IsPermutation, listed-born, map_map_is, Operation, IsOfBirth, MayIssue, births_meant, queues_alone, NamesNoHandle, IsGranted, AreGranted, IsFrameAlone, queues_by_births}
-use Rattle.std.proofs.Common.{slice_get, flat_map, option_map}
+use Rattle.spawnrun_lib.proofs.Common.{entity_there, rules, ◌≡◌, refl, sym, ap, ◌∙◌, subst, ℕ, suc, ◌+◌, ◌^◌, ◌<◌, ◌≤◌, List, [], ◌∷◌, map, length, All, Some, is_some, unwrap_or, arith, min-eq_left, length-append, length-map, All-nil, All-cons, All-head, All-tail, All-weaker, All-contains_itself, IsPermutation-sym, IsPermutation-trans, length_permutation, none-some, Birth, ComponentId, component_cmp, Handle, born, Call, after_history, given_in-taken, ListsWith, Entity, EntityMap, birth_of, Command, BirthMap, applied, AreNamed, AreNames, AreNamedBy, AreBelow, AreListed, IsThere, sync, after_births, handles_listed, World, IsWorld, IsFlushed, flushed-kept, after_queues-keeps, frame-named, queues_births, sync-below, listed-named, after_births-world, after_history-world, IsFrame, queue_at, reserved_by, view_of, listed-few, listed-enters, listed-new, unlisted-stays, Lists, listed-IsPermutation, listed-born, map_map_is, Operation, IsOfBirth, MayIssue, births_meant, queues_alone, NamesNoHandle, IsGranted, AreGranted, IsFrameAlone, queues_by_births, slice_get, flat_map}
 use Rattle.std.specs.FinMap as finite
 use Rattle.std.specs.FinMap.{find}
 use Rattle.ent_script.specs.declared.target.Target.TheVariants as target
@@ -11,9 +10,7 @@ use Rattle.spawnrun_lib.proofs.QueuesAlone.{AreInOrder, queue-alone}
 each_few : (most : ℕ) (queues : List (List Command)) → length (flat_map handles_listed queues) ≤ most
     → All (λ queue. length (handles_listed queue) ≤ most) queues
 each_few most [] few = All-nil (λ queue. length (handles_listed queue) ≤ most)
-each_few most (q ∷ queues) few =
-    let both = length-append (handles_listed q) (flat_map handles_listed queues) in
-    search (rules, each_few most queues (omega arith))
+each_few most (q ∷ queues) few = search (rules, length-append, each_few most queues, All-cons)
 
 -- an entity that has a birth is there
 entity_at : (m : EntityMap) (h : Handle) (birth : Birth) → birth_of m h ≡ Some birth
@@ -40,25 +37,25 @@ module _ (systems : List (List Operation)) (workers : ℕ) (w : World) (queues :
 
   names : AreNames name all_born
   unfolding name
-  names h e is = ap (λ o. unwrap_or (option_map (λ e. e.birth) o) (record { frame = 0; system = 0; ordinal = 0 })) is
+  names h e is = search rules
 
   -- who was there has not changed
   stays : (h : Handle) (e : Entity) → finite.get w.entities h ≡ Some e → finite.get all_born h ≡ Some e
-  stays h e is = unlisted-stays MayIssue systems workers w queues history frame is_world.sound flushed h
-      (λ listed. none-some e (sym (listed-new MayIssue systems workers w queues history frame is_world.sound flushed
-      is_world.living listed.0 listed.1 h listed.3) ∙ is)) ∙ is
+  stays h e is = unlisted-stays _ _ _ _ _ _ frame is_world.sound flushed h
+      (λ listed. none-some e (sym (listed-new _ _ _ _ _ _ frame is_world.sound flushed is_world.living listed.0 listed.1
+      h listed.3) ∙ is)) ∙ is
 
   old_names : AreNames name w.entities
   old_names h e is = names h e (stays h e is)
 
   old_there : (h : Handle) → IsThere w.entities h → IsThere all_born h
-  old_there h there = let e = entity_there w.entities h there in ap is_some (stays h e.0 e.1)
+  old_there h there = search (rules, entity_there, stays)
 
   -- a handle that a queue lists is there, with the birth of its position
   placed : (system k : ℕ) (h : Handle) → Lists queues system k h
       → IsThere all_born h × (name h ≡ record { frame = w.phase; system = system; ordinal = k })
   placed system k h at =
-      let there = listed-enters MayIssue systems workers w queues history frame is_world.sound flushed system k h at in
+      let there = listed-enters _ _ _ _ _ _ frame is_world.sound flushed system k h at in
       (ap is_some there, names h _ there)
 
   in_order : (system k : ℕ) (hs : List Handle) → ((j : ℕ) (h : Handle) → slice_get hs j ≡ Some h
@@ -67,15 +64,12 @@ module _ (systems : List (List Operation)) (workers : ℕ) (w : World) (queues :
   in_order system k [] at = tt
   in_order system k (h ∷ hs) at =
       let same : k + 0 ≡ k = omega arith in
-      let first = rw same at (at 0 h refl) in (
-        first.0,
-        first.1,
-        in_order system (k + 1) hs (λ j g is. subst (λ n. IsThere all_born g × (name g ≡ record {
-          frame = w.phase;
-          system = system;
-          ordinal = n;
-        })) (omega arith) (at (suc j) g is)),
-      )
+      let first = rw same at (at 0 h refl) in
+      (first.0, first.1, in_order system (k + 1) hs (λ j g is. subst (λ n. IsThere all_born g × (name g ≡ record {
+        frame = w.phase;
+        system = system;
+        ordinal = n;
+      })) (omega arith) (at (suc j) g is)))
 
   -- the entities of an `each`, in the order of births
   each_named : (id : ComponentId) (hs : List Handle) → ListsWith id w.entities hs

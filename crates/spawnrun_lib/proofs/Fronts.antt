@@ -1,19 +1,14 @@
 -- Fronts of texts: of a text that is appended to, of one in printable ASCII, and of one of which
 -- only the first parts are looked at.
-use Rattle.spawnrun_lib.proofs.Common.{common_steps, flat_map-append, take_at_read, rules, ◌≡◌, ℕ, suc, ◌+◌, ◌≤◌, ◌<◌, true, List, [], ◌∷◌, ◌++◌, length, take, sym, ap, subst, ◌∙◌, arith, codes, append_assoc, inl, inr, nat_le, slice_index, cut_to, floor_char_boundary, is_char_start, cond-true, cond-false, cases_lt, nat_tests, take-append-le, length-take-le, take_all, All-append, All-take, All-cons, All-nil, ArePrintable, IsPrintable, front, append-nil}
-use Rattle.std.proofs.Common.{length-append, flat_map}
+use Rattle.spawnrun_lib.proofs.Common.{common_steps, flat_map-append, take_at_read, rules, ◌≡◌, ℕ, suc, ◌+◌, ◌≤◌, ◌<◌, true, List, [], ◌∷◌, ◌++◌, length, take, sym, ap, subst, ◌∙◌, arith, codes, append_assoc, inl, inr, slice_index, cut_to, floor_char_boundary, is_char_start, cond-true, cond-false, cases_lt, nat_tests, take-append-le, length-take-le, take_all, All-append, All-take, All-cons, All-nil, ArePrintable, IsPrintable, front, append-nil, length-append, flat_map}
 
 pub front-short : (text : List ℕ) → length text ≤ 60 → front text ≡ text
 unfolding front
-front-short text short =
-    cond-true (nat_le (length text) 60) text (take 57 text ++ codes "...")
-    (grind (arith, nat_tests))
+front-short text short = search (rules, cond-true)
 
 pub front-long : (text : List ℕ) → 60 < length text → front text ≡ take 57 text ++ codes "..."
 unfolding front
-front-long text long =
-    cond-false (nat_le (length text) 60) text (take 57 text ++ codes "...")
-    (grind (arith, nat_tests))
+front-long text long = search (rules, cond-false)
 
 -- what comes after a text that is cut makes no difference
 front-past : (text more : List ℕ) → 60 < length text → front (text ++ more) ≡ front text
@@ -29,9 +24,7 @@ length-cut text long =
 -- what is cut stays as it is
 front-cut : (text more : List ℕ) → 60 < length text
     → front ((take 57 text ++ codes "...") ++ more) ≡ take 57 text ++ codes "..."
-front-cut text [] long =
-    ap front (append-nil (take 57 text ++ codes "..."))
-    ∙ front-short (take 57 text ++ codes "...") (omega (arith, length-cut text long))
+front-cut text [] long = search (rules, front, append-nil, front-short, length-cut)
 front-cut text (x ∷ xs) long =
     let cut = take 57 text ++ codes "..." in
     let len = length-take-le 57 text (omega arith) in
@@ -55,44 +48,32 @@ front-more text more = elim (cases_lt 60 (length text)) [
 dot-printable : IsPrintable 46
 dot-printable = (omega arith, omega arith)
 
-dots-printable : ArePrintable (codes "...")
-dots-printable = search (rules, All-cons, dot-printable, All-nil)
-
 pub front-printable : (text : List ℕ) → ArePrintable text → ArePrintable (front text)
 front-printable text h = elim (cases_lt 60 (length text)) [
-  | inl long ↦ subst ArePrintable (sym (front-long text long)) (search (rules, All-append, All-take, dots-printable))
+  | inl long ↦ subst ArePrintable (sym (front-long text long))
+      (search (rules, All-append, All-take, All-cons, dot-printable, All-nil))
   | inr short ↦ subst ArePrintable (sym (front-short text short)) h
 ]
 
 cut_to-short : (text : List ℕ) → length text ≤ 60 → cut_to 60 text ≡ text
 unfolding cut_to
-cut_to-short text short =
-    cond-true (nat_le (length text) 60) text
-    (take (floor_char_boundary text 57) text ++ codes "...")
-    (grind (arith, nat_tests))
+cut_to-short text short = search (rules, cond-true)
 
 boundary_at : (text : List ℕ) (i : ℕ) → is_char_start (slice_index text (suc i)) ≡ true
     → floor_char_boundary text (suc i) ≡ suc i
 unfolding floor_char_boundary
-boundary_at text i starts = cond-true (is_char_start (slice_index text (suc i))) (suc i) (floor_char_boundary text i)
-    starts
+boundary_at text i starts = search (rules, cond-true)
 
 starts : (code : ℕ) → code ≤ 126 → is_char_start code ≡ true
 starts code low = grind (arith, nat_tests)
 
-boundary : (text : List ℕ) → ArePrintable text → 60 < length text → floor_char_boundary text 57 ≡ 57
-boundary text h long = boundary_at text 56 (starts (slice_index text 57) (h 57 0 (omega arith)).1)
-
 cut_to-long : (text : List ℕ) → 60 < length text → floor_char_boundary text 57 ≡ 57
     → cut_to 60 text ≡ take 57 text ++ codes "..."
 unfolding cut_to
-cut_to-long text long at =
-    cond-false (nat_le (length text) 60) text
-    (take (floor_char_boundary text 57) text ++ codes "...") (grind (arith, nat_tests))
-    ∙ ap (λ (n : ℕ). take n text ++ codes "...") at
+cut_to-long text long at = search (rules, cond-false)
 
 pub cut_is_front : (text : List ℕ) → ArePrintable text → cut_to 60 text ≡ front text
-cut_is_front text h = search (rules, cases_lt, cut_to-long, cut_to-short, boundary, front-long, front-short)
+cut_is_front text h = search (rules, cases_lt, cut_to-long, cut_to-short, front-long, front-short, boundary_at, starts)
 
 -- a piece after a piece
 pub go_on : (old new piece more : List ℕ) → new ≡ front (old ++ piece)

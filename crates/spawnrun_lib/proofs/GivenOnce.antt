@@ -1,6 +1,5 @@
 -- No handle is given twice over all frames of a run.
-use Rattle.spawnrun_lib.proofs.Common.{rules, ◌≢◌, ℕ, List, [], ◌∷◌, ◌++◌, append_assoc, append-nil, Handle, AreSpent, given_in, AreGivenOnce, AreLimits, IsSound, World, first_world, AreLiving, frame-given, frame-sound, frame-living, opening-given, first_world-sound, first_world-living, Script, Operation, Execution, AreExecutions, synced, IsReportOf, handles_in_run, Show}
-use Rattle.std.proofs.Common.{AllPairs}
+use Rattle.spawnrun_lib.proofs.Common.{rules, ◌≢◌, ℕ, List, [], ◌∷◌, ◌++◌, append_assoc, append-nil, Handle, AreSpent, given_in, AreGivenOnce, AreLimits, IsSound, World, first_world, AreLiving, frame-given, frame-sound, frame-living, opening-given, first_world-sound, first_world-living, Script, Operation, Execution, AreExecutions, synced, IsReportOf, handles_in_run, Show, AllPairs}
 
 more_given : (workers : ℕ) (w : World) (frames : List (List (List Operation))) (executions : List Execution)
     (given : List Handle) → IsSound w.allocator → AreLiving w.allocator w.entities

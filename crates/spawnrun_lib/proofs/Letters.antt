@@ -1,10 +1,6 @@
 -- A text letter after letter.
-use Rattle.spawnrun_lib.proofs.Common.{front, sym, ◌∙◌, ◌≤◌, rules, ◌≡◌, ℕ, ◌++◌, [], List, length, ap, IsUtf8, nil_from_length, chars-nil, chars_past_char, encode_utf8, chars}
+use Rattle.spawnrun_lib.proofs.Common.{front, sym, ◌∙◌, ◌≤◌, rules, ◌≡◌, ℕ, ◌++◌, List, length, ap, IsUtf8, nil_from_length, chars-nil, chars_past_char, encode_utf8, chars, flat_map}
 use Rattle.spawnrun_lib.proofs.Fronts.{front-nothing, go_on}
-use Rattle.std.proofs.Common.{flat_map}
-
-no_letters : (part : ℕ → List ℕ) (text : List ℕ) → length text ≡ 0 → flat_map part (chars text) ≡ []
-no_letters part text none = search (rules, nil_from_length, chars-nil)
 
 past_letter : (part : ℕ → List ℕ) (text rest : List ℕ) (c : ℕ) → IsUtf8 text → text ≡ encode_utf8 c ++ rest
     → flat_map part (chars text) ≡ part c ++ flat_map part (chars rest)
@@ -20,4 +16,4 @@ next_letter part old new text rest all c utf8 parts shown so_far = go_on old new
 -- and all of them
 pub all_letters : (part : ℕ → List ℕ) (old text all : List ℕ) → length text ≡ 0 → length old ≤ 60
     → front (old ++ flat_map part (chars text)) ≡ all → old ≡ all
-all_letters part old text all none short so_far = search (rules, front-nothing, no_letters)
+all_letters part old text all none short so_far = search (rules, front-nothing, nil_from_length, chars-nil)

@@ -56,7 +56,7 @@ module _ (gone old rest : List (List (List Operation))) (systems : List (List Op
   one_more number is = search (rules, length-append, is)
 
   pub next_is_few : AreFew old → length systems ≤ 256
-  next_is_few few = All-head (λ systems. length systems ≤ 256) systems rest (subst AreFew front few)
+  next_is_few few = search (rules, All-head)
 
   pub others_are_few : AreFew old → AreFew rest
   others_are_few few = All-tail (λ systems. length systems ≤ 256) systems rest (subst AreFew front few)

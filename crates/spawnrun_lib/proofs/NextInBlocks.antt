@@ -1,5 +1,5 @@
 -- A run in blocks whose first frames are done goes on by one frame, and ends in the text of the script.
-use Rattle.spawnrun_lib.proofs.Common.{◌≡◌, refl, ℕ, ◌+◌, List, [], ◌∷◌, ◌++◌, length, append_assoc, append-nil, subst, sym, length-append, Handle, Command, World, first_world, Fault, Script, Operation, EndsInBlocks, HaveGoneInBlocks, frame_text, IsTextFrom, IsTextInBlocks, sizes_of, IsWorldText, Show}
+use Rattle.spawnrun_lib.proofs.Common.{rules, ◌≡◌, ℕ, ◌+◌, List, [], ◌∷◌, ◌++◌, length, append_assoc, append-nil, subst, sym, length-append, Handle, Command, World, first_world, Fault, Script, Operation, EndsInBlocks, HaveGoneInBlocks, frame_text, IsTextFrom, IsTextInBlocks, sizes_of, IsWorldText, Show}
 
 module _ (names : List (List ℕ)) (size : ℕ) (show : Show) (first : World) where
   pub has_begun_in_blocks : HaveGoneInBlocks names size show first first [] []
@@ -11,13 +11,8 @@ module _ (names : List (List ℕ)) (size : ℕ) (show : Show) (first : World) wh
       → EndsInBlocks (sizes_of size systems) systems now queues after came faults
       → HaveGoneInBlocks names size show first after (gone ++ systems ∷ [])
       (text ++ frame_text show (length gone) came faults)
-  has_gone_on_in_blocks now after gone systems text queues came faults run ends = record {
-    rest = λ frames others is. let count : length (gone ++ systems ∷ []) ≡ length gone
-        + 1 = length-append gone (systems ∷ []) in let more = rw (count, ends.world) at is in rw
-        (append_assoc gone (systems ∷ []) frames, append_assoc text (frame_text show (length gone) came faults) others)
-        (run.rest (systems ∷ frames) (frame_text show (length gone) came faults ++ others)
-        (queues, others, ends.issued, more, rw (ends.born_are, ends.faults_are) refl));
-  }
+  has_gone_on_in_blocks now after gone systems text queues came faults run ends = search
+      (rules, length-append, append_assoc)
 
   pub whole_in_blocks : (now : World) (frames : List (List (List Operation))) (text others : List ℕ)
       → HaveGoneInBlocks names size show first now frames text → IsWorldText names show now.entities others

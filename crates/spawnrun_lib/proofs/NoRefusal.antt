@@ -1,6 +1,6 @@
 -- A report by births that tells of no refusal: no request of the run was refused. A request that
 -- was refused is a fault of its frame, faults are only appended, and each has its line in the text.
-use Rattle.spawnrun_lib.proofs.Common.{common_steps, rules, arith, ◌≡◌, refl, ◌∙◌, inl, inr, ℕ, ◌+◌, List, [], ◌∷◌, ◌++◌, length, All, append_assoc, append-nil, decimal, flat_map, All-nil, All-cons, All-head, Handle, All-left, All-right, Command, Refused, Fault, FaultKind, World, first_world, Applied, applied, on_entity, on_each, with_fault, after_command, after_commands, after_queues, after_births, sync, reserved_by, Script, IsGranted, AreGranted, Births, kind_text, fault_line, frame_line, Execution, synced, born_in, frames_text, IsReportOf, IsRefusedRequest, IsLines, TellsNoRefusal, codes}
+use Rattle.spawnrun_lib.proofs.Common.{common_steps, rules, arith, ◌≡◌, refl, ◌∙◌, inl, inr, ℕ, ◌+◌, List, [], ◌∷◌, ◌++◌, length, All, append_assoc, append-nil, decimal, flat_map, All-nil, All-cons, All-head, Handle, All-left, All-right, Command, Refused, Fault, FaultKind, World, first_world, Applied, on_entity, on_each, with_fault, after_command, after_commands, after_queues, sync, reserved_by, Script, IsGranted, AreGranted, Births, kind_text, fault_line, frame_line, Execution, synced, born_in, frames_text, IsReportOf, IsRefusedRequest, IsLines, TellsNoRefusal, codes}
 use Rattle.ent_alloc.specs.declared.refused.Refused.TheVariants as refusal
 use Rattle.ent_world.specs.declared.fault.FaultKind.TheVariants as kind
 
@@ -48,13 +48,12 @@ before_commands system command (c ∷ q) a none = search (
 before_queues : (system : ℕ) (queues : List (List Command)) (a : Applied) → AreNone (after_queues system queues a)
     → AreNone a × AreGranted queues
 before_queues system [] a none = (none, All-nil (All IsGranted))
-before_queues system (q ∷ queues) a none =
-    let later = before_queues (system + 1) queues (after_commands system 0 q a) none in
-    search (rules, before_commands, All-cons)
+before_queues system (q ∷ queues) a none = search
+    (rules, before_commands, All-cons, before_queues (system + 1) queues (after_commands system 0 q a) none)
 
 pub sync-granted : (queues : List (List Command)) (w : World) → All IsNoRefusal (sync queues w).faults
     → AreGranted queues
-sync-granted queues w none = (before_queues 0 queues (applied (after_births queues w) []) none).1
+sync-granted queues w none = search (rules, before_queues)
 
 -- ---- lines
 

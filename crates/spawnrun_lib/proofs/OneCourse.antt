@@ -1,12 +1,54 @@
 -- A frame of scripted systems on one worker has one course: its queues and its history follow from
 -- the systems and the world.
-use Rattle.spawnrun_lib.proofs.Common.{rules, ◌≡◌, refl, sym, ◌∙◌, arith, append-nil, ℕ, ◌<◌, ℤ, List, [], ◌∷◌, ◌++◌, length, Some, Ok, Result, common_steps, if◌then◌else◌, nat_lt, slice_get, AllPairs, flat_map, range_with_len, IsPermutation, cond-true, cond-false, lt-ltb, le-ltb, ext_get_or, All-nil, All-cons, All-head, All-tail, length-range_with_len, get_or-range_with_len, All-permutation, IsPermutation-sym, ComponentId, Birth, Handle, OutOfSpace, quota, Allocator, reply_to, Call, reply-none, Quota, one_list_with, Command, Spawn, SpawnMany, Refused, World, View, IsFrame, view_of, queue_at, commands_of, at_within, all_below, calls_back, Operation, Target, Bindings, unbound, names_after, IsOfBirth, IsTargeted, OnEach, IsSpawn, IsSpawnMany, Issues, IssuesAll, MayIssue, All}
-use Rattle.std.proofs.Common.{Err}
+use Rattle.spawnrun_lib.proofs.Common.{rules, ◌≡◌, refl, sym, ◌∙◌, arith, append-nil, ℕ, ◌<◌, ℤ, List, [], ◌∷◌, ◌++◌, length, Some, Ok, Result, common_steps, if◌then◌else◌, nat_lt, slice_get, AllPairs, flat_map, range_with_len, IsPermutation, cond-true, cond-false, lt-ltb, le-ltb, ext_get_or, All-nil, All-cons, All-head, All-tail, length-range_with_len, get_or-range_with_len, All-permutation, IsPermutation-sym, ComponentId, Birth, Handle, OutOfSpace, quota, Allocator, reply_to, Call, reply-none, Quota, one_list_with, Command, Spawn, SpawnMany, Refused, World, View, IsFrame, view_of, queue_at, commands_of, at_within, all_below, calls_back, Operation, Target, Bindings, unbound, names_after, IsOfBirth, IsTargeted, OnEach, IsSpawn, IsSpawnMany, Issues, IssuesAll, MayIssue, All, Contains-permutation, same_list, ◌-◌, map, flat_map-append, map-append, after_take, IsLegal, after_history, stands_for, cost, FitQuota, first_call, first_world, Script, Show, Execution, AreExecutions, synced, last_world, frames_text, IsReport, Err}
 use Rattle.ent_alloc.specs.declared.refused.Refused.TheVariants.{Space}
 use Rattle.ent_script.specs.declared.operation.Operation.TheVariants as operation
 use Rattle.ent_script.specs.declared.target.Target.TheVariants as target
-use Rattle.spawnrun_lib.proofs.RisingLists.{one_rising}
-use Rattle.spawnrun_lib.proofs.Served.{calls_of, IsServed, state_after, left_after, served_first, served_rest}
+use Rattle.spawnrun_lib.proofs.OneText.{one_text}
+
+-- ---- commands whose reservations an allocator has replied to, and the quota has allowed
+
+-- the calls of the first worker that has issued these commands
+abbrev pub calls_of : List Command → List Call
+calls_of commands = map first_call (flat_map stands_for commands)
+
+-- The allocator has replied to the reservations of the commands, and that much quota was left
+-- before.
+pub record IsServed (s : Allocator) (left : ℕ) (commands : List Command) : Type 0 where
+  pub legal : IsLegal s (calls_of commands)
+  pub within : FitQuota left commands
+
+-- the allocator and the quota after the commands
+abbrev pub state_after : Allocator → List Command → Allocator
+state_after s commands = after_history s (calls_of commands)
+
+abbrev pub left_after : ℕ → List Command → ℕ
+left_after left [] = left
+left_after left (c ∷ cs) = left_after (left - cost c) cs
+
+within_parts : (left : ℕ) (cs ds : List Command) → FitQuota left (cs ++ ds)
+    → FitQuota left cs × FitQuota (left_after left cs) ds
+within_parts left [] ds within = (tt, within)
+within_parts left (c ∷ cs) ds within = search (rules, within_parts (left - cost c) cs ds)
+
+legal_parts : (s : Allocator) (calls more : List Call) → IsLegal s (calls ++ more)
+    → IsLegal s calls × IsLegal (after_history s calls) more
+legal_parts s [] more legal = (tt, legal)
+legal_parts s (call ∷ calls) more legal = search (rules, legal_parts (after_take s call.requested) calls more)
+
+-- what is served is served up to any command, and the others are served after it
+pub served_first : (s : Allocator) (left : ℕ) (cs ds : List Command) → IsServed s left (cs ++ ds) → IsServed s left cs
+served_first s left cs ds served = search (rules, legal_parts, flat_map-append, map-append, within_parts)
+
+pub served_rest : (s : Allocator) (left : ℕ) (cs ds : List Command) → IsServed s left (cs ++ ds)
+    → IsServed (state_after s cs) (left_after left cs) ds
+served_rest s left cs ds served = search (rules, legal_parts, flat_map-append, map-append, within_parts)
+
+pub one_rising : (ms ns all : List ℕ) → AllPairs (λ m n. m < n) ms → AllPairs (λ m n. m < n) ns → IsPermutation ms all
+    → IsPermutation ns all → ms ≡ ns
+one_rising ms ns all a b p q = same_list (λ m n. m < n) (λ m n less greater. absurd (omega (arith, less, greater))) ms
+    ns a b (λ n c. Contains-permutation all ns n (IsPermutation-sym ns all q) (Contains-permutation ms all n p c))
+    (search (rules, Contains-permutation, IsPermutation-sym))
 
 -- ---- one operation
 
@@ -53,10 +95,8 @@ same_on_each view names on command cs ds a b = search (rules, same_targets)
 
 same_operation : (view : View) (names : Bindings) (op : Operation) (s : Allocator) (left : ℕ) (cs ds : List Command)
     → Issues view names op cs → Issues view names op ds → IsServed s left cs → IsServed s left ds → cs ≡ ds
-same_operation view names (operation.Spawn bundle binds) s left cs ds a b p q = spawn_is s left bundle cs a p
-    ∙ sym (spawn_is s left bundle ds b q)
-same_operation view names (operation.SpawnMany count bundle binds) s left cs ds a b p q = many_is s left bundle count cs
-    a p ∙ sym (many_is s left bundle count ds b q)
+same_operation view names (operation.Spawn bundle binds) s left cs ds a b p q = search (rules, spawn_is)
+same_operation view names (operation.SpawnMany count bundle binds) s left cs ds a b p q = search (rules, many_is)
 same_operation view names _ s left cs ds a b p q = same_on_each view names _ _ cs ds a b
 
 -- ---- one system
@@ -145,3 +185,23 @@ one_course systems w q r h k first second =
     (λ n less. below_each (λ n. queue_at q n ≡ queue_at r n) (length systems) at n
     (omega (arith, less, first.count))) in
     (queues, a.calls ∙ (λ i. calls_of (commands_of (queues i) (mine i))) ∙ sym b.calls)
+
+-- ---- one report
+
+same_executions : (w : World) (frames : List (List (List Operation))) (es fs : List Execution)
+    → AreExecutions 1 w frames es → AreExecutions 1 w frames fs → es ≡ fs
+same_executions w [] [] [] a b = refl
+same_executions w (systems ∷ frames) (e ∷ es) (f ∷ fs) a b =
+    let same = one_course systems w e.queues f.queues e.history f.history a.0 b.0 in
+    let here : e ≡ f = (λ i. record { queues = same.0 i; history = same.1 i }) in
+    search (rules, same_executions (synced w e).world frames es fs a.1 (rw (← here) at b.1))
+same_executions w _ _ _ a b = search rules
+
+pub one_report : (script : Script) (show : Show) (text other : List ℕ) → IsReport script 1 show text
+    → IsReport script 1 show other → text ≡ other
+one_report script show text other a b =
+    let first = first_world script.limits in
+    let same = same_executions first script.frames a.0 b.0 a.1.frames b.1.frames in
+    let one = one_text script.components show (last_world first a.0).entities a.1.world_text b.1.world_text a.1.world
+    (rw (← same) at b.1.world) in
+    a.1.is ∙ (λ i. frames_text show 0 first (same i) ++ one i) ∙ sym b.1.is

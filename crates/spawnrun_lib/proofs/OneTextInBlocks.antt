@@ -1,6 +1,6 @@
 -- In blocks a script has one text: its queues, its handles and its world follow from the script and the
 -- size of the blocks.
-use Rattle.spawnrun_lib.proofs.Common.{◌≡◌, refl, sym, ap, ◌∙◌, arith, ℕ, suc, ◌+◌, ◌-◌, ◌<◌, ◌≤◌, ℤ, List, [], ◌∷◌, ◌++◌, length, take, common_steps, filter, ext_get_or, length-append, ComponentId, Handle, Allocator, is_old, is_fresh, listed, Block, rest_of, after_use, blocks_from, lesser, Command, Spawn, SpawnMany, AreDrawnBy, left_of, used_by, View, sync, World, first_world, view_of, queue_at, at_within, Script, Operation, Bindings, unbound, names_after, IsSpawn, IsSpawnMany, Issues, IssuesAll, AreQueues, IsTextFrom, IsTextInBlocks, sizes_of, blocks_of_frame, reserved_in, Show}
+use Rattle.spawnrun_lib.proofs.Common.{rules, ◌≡◌, refl, sym, ap, ◌∙◌, arith, ℕ, suc, ◌+◌, ◌-◌, ◌<◌, ◌≤◌, List, [], ◌∷◌, ◌++◌, length, take, common_steps, filter, ext_get_or, length-append, Handle, Allocator, is_old, is_fresh, listed, Block, rest_of, after_use, blocks_from, lesser, Command, Spawn, SpawnMany, AreDrawnBy, left_of, used_by, View, sync, World, view_of, queue_at, at_within, Script, Operation, Bindings, unbound, names_after, Issues, IssuesAll, AreQueues, IsTextFrom, IsTextInBlocks, sizes_of, blocks_of_frame, reserved_in, Show}
 use Rattle.ent_script.specs.declared.operation.Operation.TheVariants as operation
 use Rattle.spawnrun_lib.proofs.OneCourse.{same_on_each}
 use Rattle.spawnrun_lib.proofs.OneText.{one_text}
@@ -32,21 +32,11 @@ too_few s b hs is less = grind (arith, common_steps, few_listed, few_taken, few_
 
 -- ---- one operation
 
-module _ (s : Allocator) (b : Block) (bundle : List (ComponentId × ℤ)) where
-  same_spawn : (cs ds : List Command) → IsSpawn bundle cs → IsSpawn bundle ds → AreDrawnBy s b cs → AreDrawnBy s b ds
-      → cs ≡ ds
-  same_spawn cs ds is is' drawn drawn' = grind (arith, common_steps, none_left)
-
-  same_many : (count : ℕ) (cs ds : List Command) → IsSpawnMany count bundle cs → IsSpawnMany count bundle ds
-      → AreDrawnBy s b cs → AreDrawnBy s b ds → cs ≡ ds
-  same_many count cs ds is is' drawn drawn' = grind (arith, common_steps, too_few)
-
 same_operation : (view : View) (names : Bindings) (op : Operation) (s : Allocator) (b : Block) (cs ds : List Command)
     → Issues view names op cs → Issues view names op ds → AreDrawnBy s b cs → AreDrawnBy s b ds → cs ≡ ds
-same_operation view names (operation.Spawn bundle binds) s b cs ds is is' drawn drawn' = same_spawn s b bundle cs ds is
-    is' drawn drawn'
-same_operation view names (operation.SpawnMany count bundle binds) s b cs ds is is' drawn drawn' = same_many s b bundle
-    count cs ds is is' drawn drawn'
+same_operation view names (operation.Spawn bundle binds) s b cs ds is is' drawn drawn' = search (rules, none_left)
+same_operation view names (operation.SpawnMany count bundle binds) s b cs ds is is' drawn drawn' = search
+    (rules, too_few)
 same_operation view names _ s b cs ds is is' drawn drawn' = same_on_each view names _ _ cs ds is is'
 
 -- ---- one system
@@ -71,14 +61,8 @@ same_queue : (view : View) (names : Bindings) (ops : List Operation) (s : Alloca
 same_queue view names [] s b cs ds is is' drawn drawn' = is ∙ sym is'
 same_queue view names (op ∷ ops) s b cs ds (first, rest, cs_are, may, others) (first', rest', ds_are, may', others')
     drawn drawn' =
-    let one = rw cs_are at drawn in
-    let one' = rw ds_are at drawn' in
-    let same : first ≡ first' = same_operation view names op s b first first' may may' (drawn_first s b first rest one)
-    (drawn_first s b first' rest' one') in
-    let after = rw (← same) at (drawn_rest s b first' rest' one') in
-    let tails : rest ≡ rest' = same_queue view (names_after names op first) ops s (used_on b first) rest rest' others
-    (rw (← same) at others') (drawn_rest s b first rest one) after in
-    cs_are ∙ (λ i. same i ++ tails i) ∙ sym ds_are
+    let later = same_queue view (names_after names op first) ops s (used_on b first) rest rest' others in
+    search (rules, same_operation, drawn_first, drawn_rest, later)
 
 -- ---- one frame
 
@@ -97,12 +81,12 @@ same_queues size w systems q r a b =
     let many : length blocks ≡ length systems = count_from 0 (length w.allocator.pool) (sizes_of size systems)
     ∙ count_sizes size systems in
     ext_get_or [] q r (a.each_queue ∙ sym b.each_queue) (λ n less.
-    let within : n < length systems = omega (arith, less, a.each_queue) in
-    let system = at_within systems n within in
-    let block = at_within blocks n (omega (arith, within, many)) in
-    same_queue (view_of w) unbound system.0 w.allocator block.0 (queue_at q n) (queue_at r n)
-    (a.each_system n system.0 system.1) (b.each_system n system.0 system.1) (a.draws n block.0 block.1)
-    (b.draws n block.0 block.1))
+        let within : n < length systems = omega (arith, less, a.each_queue) in
+        let system = at_within systems n within in
+        let block = at_within blocks n (omega (arith, within, many)) in
+        same_queue (view_of w) unbound system.0 w.allocator block.0 (queue_at q n) (queue_at r n)
+            (a.each_system n system.0 system.1) (b.each_system n system.0 system.1) (a.draws n block.0 block.1)
+            (b.draws n block.0 block.1))
 
 -- ---- one text
 
@@ -112,12 +96,10 @@ same_text : (names : List (List ℕ)) (size : ℕ) (show : Show) (number : ℕ) 
 same_text names size show number w [] text other is is' = one_text names show w.entities text other is is'
 same_text names size show number w (systems ∷ frames) text other (q, rest, are, more, text_is)
     (r, rest', are', more', other_is) =
-    let same : q ≡ r = same_queues size w systems q r are are' in
-    let tails : rest ≡ rest' = same_text names size show (number + 1) (sync q (reserved_in size w systems q)).world
-    frames rest rest' more (rw (← same) at more') in
-    text_is ∙ rw (same, tails) refl ∙ sym other_is
+    let later = same_text names size show (number + 1) (sync q (reserved_in size w systems q)).world frames rest rest'
+    more in
+    search (rules, same_queues, later)
 
 pub one_text_in_blocks : (script : Script) (size : ℕ) (show : Show) (text other : List ℕ)
     → IsTextInBlocks script size show text → IsTextInBlocks script size show other → text ≡ other
-one_text_in_blocks script size show text other is is' = same_text script.components size show 0
-    (first_world script.limits) script.frames text other is is'
+one_text_in_blocks script size show text other is is' = search (rules, same_text)

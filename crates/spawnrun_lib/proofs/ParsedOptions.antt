@@ -1,7 +1,6 @@
 -- One induction over clap's walk, and so one file of more than 400 lines: where clap's parse of a
 -- command of options doesn't fail, each option has one value, which it accepts.
-use Rattle.spawnrun_lib.proofs.Common.{common_steps, rules, ◌≡◌, ◌∙◌, ◌⊎◌, ◌&&◌, ℕ, Bool, true, false, List, [], ◌∷◌, ◌++◌, length, cond, zero, suc, refl, inl, inr, arith, append-nil, Option, Some, None, IfSome, is_some, fold, find, AllByRecursion, option_map_or, bytes_eq, bytes_eq-Decides, Row, Rule, Shape, Text, first_of, one_of, read_as, Kinds, or_else, range_kinds, is_request, value_passes, long_of, nothing_held, long_or_other, Held, Outcome, Step, Waiting, Walk, action_of, after_flag, after_step, arg_by_id, at_row, bundle_met, default_rows, flag_met, has_row, long_met, more_values, option_met, plain_word, reacted, reading_by, rows_after, settled, short_met, subcommand_met, subcommand_or_other, used, used_as, used_by_id, values_or_missing, walk_from, walked, with_default, with_values, without, word_met, set_fault, flag_word_fault, flags_fault, level_fault, long_fault, option_fault, react_fault, settle_fault, short_fault, turn_fault, use_fault, walk_fault, Set, ErrorKind, ArgumentConflict, TooManyValues, ValueSource, DefaultValue}
-use Rattle.std.proofs.Common.{◌==◌}
+use Rattle.spawnrun_lib.proofs.Common.{common_steps, rules, ◌≡◌, ◌⊎◌, ℕ, Bool, true, false, List, [], ◌∷◌, ◌++◌, length, cond, zero, suc, refl, inl, inr, arith, append-nil, Option, Some, None, IfSome, fold, find, AllByRecursion, option_map_or, bytes_eq-Decides, Row, Rule, Shape, Text, first_of, one_of, read_as, Kinds, or_else, range_kinds, is_request, value_passes, nothing_held, long_or_other, Held, Outcome, Step, Waiting, Walk, action_of, after_step, arg_by_id, at_row, bundle_met, default_rows, has_row, long_met, option_met, reacted, reading_by, rows_after, settled, short_met, subcommand_met, used, used_as, used_by_id, values_or_missing, walked, with_default, without, set_fault, flag_word_fault, flags_fault, level_fault, long_fault, option_fault, react_fault, settle_fault, short_fault, turn_fault, use_fault, walk_fault, Set, ErrorKind, ValueSource, DefaultValue, ◌==◌}
 
 -- ---- kinds of errors
 
@@ -11,9 +10,6 @@ none_of ks second e = search rules
 
 passed : (test : Bool) (k : ErrorKind) → cond test [] (k ∷ []) ≡ [] → test ≡ true
 passed b k e = search rules
-
-not_again : (test : Bool) → cond (test && true) (ArgumentConflict ∷ []) [] ≡ [] → test ≡ false
-not_again b e = search rules
 
 -- ---- rows
 
@@ -33,13 +29,8 @@ new_row a text source = record {
   reading = reading_by a;
 }
 
-with_values-absent : (a : Rule) (text : Text) (source : ValueSource) (rows : List Row) → has_row a.id rows ≡ false
-    → with_values a.id (reading_by a) source (text ∷ []) rows ≡ rows ++ new_row a text source ∷ []
-with_values-absent a text source rows absent = at_row-absent a.id (more_values source (text ∷ []))
-    (new_row a text source ∷ []) rows absent
-
 without-absent : (a : Rule) (rows : List Row) → has_row a.id rows ≡ false → without a.id rows ≡ rows
-without-absent a rows absent = at_row-absent a.id (λ _. []) [] rows absent ∙ append-nil rows
+without-absent a rows absent = search (rules, at_row-absent, append-nil)
 
 -- ---- the arguments of a command
 
@@ -98,16 +89,12 @@ module _ (c : List Rule) where
       → or_else (range_kinds 1 1 (length values)) (set_fault false a (values_or_missing a values) rows) ≡ []
       → Good (used_as Set a.id (reading_by a) (values_or_missing a values) rows)
   set-good a own (text ∷ []) rows good e = search
-      (rules, none_of, passed, not_again, without-absent, with_values-absent, Good-append, new_row-good)
+      (rules, none_of, passed, without-absent, Good-append, new_row-good, at_row-absent)
   set-good a own _ rows good e = search rules
-
-  used-good : (a : Rule) → Fits a → (values : List Text) (rows : List Row) → use_fault false a values rows ≡ []
-      → Good rows → Good (used a values rows)
-  used-good a fits values rows e good = search (rules, set-good)
 
   used_by_id-good : (found : Option Rule) → IfSome found Fits → (values : List Text) (rows : List Row) → Good rows
       → option_map_or (λ a. use_fault false a values rows) found [] ≡ [] → Good (used_by_id found values rows)
-  used_by_id-good it fit values rows good e = search (rules, used-good)
+  used_by_id-good it fit values rows good e = search (rules, set-good)
 
   module _ (all : AllByRecursion Fits c) where
     find-fits : (test : Rule → Bool) (xs : List Rule) → AllByRecursion Fits xs → IfSome (find test xs) Fits
@@ -120,20 +107,16 @@ module _ (c : List Rule) where
 
     reacted-good : (a : Rule) → Fits a → (values : List Text) (h : Held) → Good h.rows
         → react_fault c false a values h ≡ [] → Good (reacted c a values h).rows
-    reacted-good a fit values h good e = search (rules, none_of, used-good, settle-good)
+    reacted-good a fit values h good e = search (rules, none_of, settle-good, set-good)
 
     option-good : (a : Rule) → Fits a → (v : Option Text) (h : Held) → Good h.rows → option_fault c false a v h ≡ []
         → Good (option_met c a v h).0.rows
     option-good a fit None h good e = settle-good h good e
     option-good a fit (Some text) h good e = reacted-good a fit (text ∷ []) h good e
 
-    flag-good : (a : Rule) → Fits a → (v : Option Text) (h : Held) → Good h.rows
-        → cond (is_some v) (TooManyValues ∷ []) (react_fault c false a [] h) ≡ [] → Good (flag_met c a v h).0.rows
-    flag-good a fit it h good e = search (rules, reacted-good)
-
     long-good : (o : Option Rule) → IfSome o Fits → (v : Option Text) (h : Held) → Good h.rows
         → long_fault c false o v h ≡ [] → Good (long_met c o v h).0.rows
-    long-good it fit v h good e = search (rules, option-good, flag-good)
+    long-good it fit v h good e = search (rules, option-good, reacted-good)
 
     -- what stands in a bundle of flags after its first
     abbrev GoesOn : (Held → Kinds) → (Held → Held × Outcome) → Type 0
@@ -151,17 +134,9 @@ module _ (c : List Rule) where
     bundle-good zero flags skip so_far h good e = good
     bundle-good (suc k) flags skip so_far h good e = search (rules, short-good, find-fits, bundle-good k)
 
-    -- a word that is no flag, or what stands after one
-    plain-rows : (waiting : Waiting) (word : Text) (h : Held) → (plain_word c waiting word h).0.rows ≡ h.rows
-    plain-rows waiting word h = search rules
-
-    after-rows : (waiting : Waiting) (word : Text) (h : Held) (outcome : Outcome)
-        → (after_flag c waiting word h outcome).0.rows ≡ h.rows
-    after-rows waiting word h it = search (rules, plain-rows)
-
     flag_word-good : (waiting : Waiting) (word : Text) (long : Option (Text × Option Text)) (h : Held) → Good h.rows
         → flag_word_fault c false long word h ≡ [] → Good (long_or_other c waiting word long h).0.rows
-    flag_word-good waiting word it h good e = search (rules, after-rows, long-good, find-fits, plain-rows, bundle-good)
+    flag_word-good waiting word it h good e = search (rules, long-good, find-fits, bundle-good)
 
     no_positional : (i : ℕ) (xs : List Rule) → AllByRecursion Fits xs → find (λ a. option_map_or (λ k. k == i) a.index
         false) xs ≡ None
@@ -175,22 +150,12 @@ module _ (c : List Rule) where
     stepped-rows : (word : Text) (w : Walk) (h : Held) (step : Step) → (after_step c word w h step).held.rows ≡ h.rows
     stepped-rows word w h it = search (rules, no_positional)
 
-    other-good : (waiting : Waiting) (position : ℕ) (word : Text) (h : Held) → Good h.rows
-        → cond (bytes_eq word (45 ∷ 45 ∷ [])) [] (flag_word_fault c false (long_of word) word h) ≡ []
-        → Good (subcommand_or_other c None waiting position word h).0.rows
-    other-good waiting position word h good e = search (rules, flag_word-good)
-
-    met-good : (is_trailing : Bool) (waiting : Waiting) (position : ℕ) (word : Text) (h : Held) → Good h.rows
-        → cond is_trailing [] (cond (bytes_eq word (45 ∷ 45 ∷ [])) [] (flag_word_fault c false (long_of word) word h))
-        ≡ [] → Good (word_met c [] is_trailing waiting position word h).0.rows
-    met-good b waiting position word h good e = search (rules, no_subcommand, other-good)
-
     -- ---- defaults
 
     -- an option that wasn't used gets the row of its default, and others none
     default_row-added : (a : Rule) (default : HasDefault a) (rows : List Row) → has_row a.id rows ≡ false
         → default_rows a.id (reading_by a) a.defaults rows ≡ rows ++ new_row a default.0 DefaultValue ∷ []
-    default_row-added a default rows is = search (rules, default.1, with_values-absent)
+    default_row-added a default rows is = search (rules, default.1, at_row-absent)
 
     adds_none : (a : Rule) → a.defaults ≡ [] → (rows : List Row) → default_rows a.id (reading_by a) a.defaults rows
         ≡ rows
@@ -261,7 +226,7 @@ module _ (c : List Rule) where
       turn-good : (w : Walk) (word : Text) → Good w.held.rows → turn_fault s [] w word ≡ []
           → Good (walked c [] w word).held.rows
       unfolding walked
-      turn-good w word good e = search (rules, none_of, no_subcommand, met-good, stepped-rows)
+      turn-good w word good e = search (rules, none_of, no_subcommand, stepped-rows, flag_word-good)
 
       walk-good : (words : List Text) (w : Walk) → Good w.held.rows → walk_fault s [] w words ≡ []
           → Good (fold (walked c []) w words).held.rows
@@ -271,15 +236,11 @@ module _ (c : List Rule) where
 
       module _ (words : List Text) (e : level_fault s [] nothing_held words false [] ≡ []) (a : Rule)
           (own : arg_by_id c a.id ≡ Some a) where
-        rows-good : Good (rows_after c [] words)
-        rows-good =
-            let walked_rows = walk-good words (walk_from nothing_held) tt (none_of _ _ e).0 in
-            search (rules, settle-good, none_of, defaults-good)
-
         -- each option of a parse that doesn't fail has one value, which it accepts
         pub option-has_value : HasDefault a → Among a c → HasValue a (rows_after c [] words)
-        option-has_value default among = search (rules, rows-good, value-found, defaults-add)
+        option-has_value default among = search
+            (rules, value-found, defaults-add, walk-good, none_of, settle-good, defaults-good)
 
         -- and one without a default has one at most
         pub optional-has_value : MayHaveValue a (rows_after c [] words)
-        optional-has_value = value-or_none a own (rows_after c [] words) rows-good
+        optional-has_value = search (rules, value-found, none-found, walk-good, none_of, settle-good, defaults-good)

@@ -1,6 +1,5 @@
 -- Texts following one another.
-use Rattle.spawnrun_lib.proofs.Common.{◌≡◌, ℕ, ◌+◌, ◌<◌, ◌≤◌, List, ◌∷◌, ◌++◌, length, get_or, drop, ap, append_assoc, arith, common_steps, flat_map}
-use Rattle.std.proofs.Common.{length-append}
+use Rattle.spawnrun_lib.proofs.Common.{◌≡◌, ℕ, ◌+◌, ◌<◌, ◌≤◌, List, ◌∷◌, ◌++◌, length, get_or, drop, ap, append_assoc, arith, common_steps, flat_map, length-append}
 
 -- the texts from a part on begin with its own
 pub length-parts : {X : Type 0} (g : X → List ℕ) (xs : List X) (i : ℕ) (x : X) → i < length xs → x ≡ get_or xs i x

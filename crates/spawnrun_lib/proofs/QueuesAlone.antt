@@ -1,6 +1,6 @@
 -- What a system issues by births is its queue with births in the place of handles, if no request of
 -- it was refused and it names no handle.
-use Rattle.spawnrun_lib.proofs.Common.{common_steps, rules, ◌≡◌, refl, sym, ap, subst, ℕ, ◌+◌, arith, ℤ, List, [], ◌∷◌, ◌++◌, map, length, All, Some, bound, OnEach, Bindings, names_after, IsTargeted, IsSpawn, IsSpawnMany, IsOfBirth, IssuesAll, AllZip, range_with_len, All-nil, All-cons, All-head, All-tail, Birth, ComponentId, Handle, All-left, All-right, ListsWith, EntityMap, Command, Spawn, SpawnMany, Insert, Remove, Despawn, BirthMap, BirthCommand, IsThere, IsNamedBy, View, listed_by, handles_listed, Operation, Target, BirthBindings, births_from, with_binding, births_meant, issued_alone, IsNoHandle, NeedsNoHandle, IsGranted}
+use Rattle.spawnrun_lib.proofs.Common.{rules, ◌≡◌, refl, sym, ap, subst, ℕ, ◌+◌, arith, ℤ, List, [], ◌∷◌, ◌++◌, map, length, All, bound, OnEach, Bindings, names_after, IsTargeted, IsSpawn, IsSpawnMany, IsOfBirth, IssuesAll, AllZip, range_with_len, All-nil, All-cons, All-head, All-tail, Birth, ComponentId, Handle, All-left, All-right, ListsWith, EntityMap, Command, Spawn, SpawnMany, BirthMap, BirthCommand, IsThere, IsNamedBy, View, listed_by, handles_listed, Operation, Target, BirthBindings, births_from, with_binding, births_meant, issued_alone, IsNoHandle, NeedsNoHandle, IsGranted}
 use Rattle.ent_world.specs.BirthsAlone as alone
 use Rattle.ent_script.specs.declared.operation.Operation.TheVariants as operation
 use Rattle.ent_script.specs.declared.target.Target.TheVariants as target
@@ -45,15 +45,6 @@ module _ (name : Handle → Birth) (m : EntityMap) where
     there : (n : ℕ) → All (IsThere m) (names n)
     are : (n : ℕ) → births n ≡ map name (names n)
 
-  -- also after a spawn
-  stand_bound : (names : Bindings) (births : BirthBindings) (n : ℕ) (hs : List Handle) (bs : List Birth)
-      → StandFor names births → All (IsThere m) hs → bs ≡ map name hs
-      → StandFor (bound n hs names) (with_binding (Some n) bs births)
-  stand_bound names births n hs bs stand there are = record {
-    there = λ x. grind (arith, common_steps, stand.there x);
-    are = λ x. grind (arith, common_steps, stand.are x);
-  }
-
   module _ (phase system : ℕ) where
     -- ---- births one after the other
 
@@ -77,7 +68,7 @@ module _ (name : Handle → Birth) (m : EntityMap) where
 
     order_there : (k : ℕ) (hs : List Handle) → AreInOrder k hs → All (IsThere m) hs
     order_there k [] order = All-nil (IsThere m)
-    order_there k (h ∷ hs) order = All-cons (IsThere m) h hs order.0 (order_there (k + 1) hs order.2)
+    order_there k (h ∷ hs) order = search (rules, All-cons, order_there (k + 1) hs order.2)
 
     births_on : (k i : ℕ) (hs : List Handle) → AreInOrder (k + i) hs
         → map name hs ≡ map (λ j. birth_at (k + j)) (range_with_len i (length hs))
@@ -133,7 +124,7 @@ module _ (name : Handle → Birth) (m : EntityMap) where
           let bs = births_are k (one.0 ∷ []) (here.0, here.1, tt) in
           let there = order_there k (one.0 ∷ []) (here.0, here.1, tt) in
           let after = issued-named ops (k + 1) (names_after names op (Spawn one.0 bundle ∷ []))
-          (with_binding binds (births_from (birth_at k) 1) bound) rest (search (rules, stand_bound)) here.2
+          (with_binding binds (births_from (birth_at k) 1) bound) rest (search rules) here.2
           (All-right IsGranted first rest all) (All-tail NeedsNoHandle op ops free) (rw one.1 at others) in
           rw (is, one.1) ((here.0, ap (λ b. alone.Spawn b bundle) bs), after)
       issued-named (operation.SpawnMany count bundle binds ∷ ops) k names bound queue stand order granted free
@@ -146,24 +137,12 @@ module _ (name : Handle → Birth) (m : EntityMap) where
           let there = order_there k hs (order_first k hs (handles_listed rest) here) in
           let bs = rw one.1.1 at (births_are k hs (order_first k hs (handles_listed rest) here)) in
           let after = issued-named ops (k + count) (names_after names op (SpawnMany hs bundle ∷ []))
-          (with_binding binds (births_from (birth_at k) count) bound) rest (search (rules, stand_bound))
+          (with_binding binds (births_from (birth_at k) count) bound) rest (search rules)
           (rw one.1.1 at (order_rest k hs (handles_listed rest) here)) (All-right IsGranted first rest all)
           (All-tail NeedsNoHandle op ops free) (rw one.1.0 at others) in
           rw (is, one.1.0) ((there, ap (λ b. alone.Spawn b bundle) bs), after)
-      issued-named (operation.Insert bundle on ∷ ops) k names bound queue stand order granted free
-          (first, rest, is, may, others) = change_named k names bound stand on (All-head NeedsNoHandle _ ops free)
-          (λ h. Insert h bundle) (λ b. alone.Insert b bundle) (λ h. refl) (λ h there. (there, refl)) queue first rest is
-          may order granted _ (λ o g. issued-named ops k names bound rest stand o g (All-tail NeedsNoHandle _ ops free)
-          others)
-      issued-named (operation.Remove id on ∷ ops) k names bound queue stand order granted free
-          (first, rest, is, may, others) = change_named k names bound stand on (All-head NeedsNoHandle _ ops free)
-          (λ h. Remove h id) (λ b. alone.Remove b id) (λ h. refl) (λ h there. (there, refl)) queue first rest is may
-          order granted _ (λ o g. issued-named ops k names bound rest stand o g (All-tail NeedsNoHandle _ ops free)
-          others)
-      issued-named (operation.Despawn on ∷ ops) k names bound queue stand order granted free
-          (first, rest, is, may, others) = change_named k names bound stand on (All-head NeedsNoHandle _ ops free)
-          Despawn alone.Despawn (λ h. refl) (λ h there. (there, refl)) queue first rest is may order granted _
-          (λ o g. issued-named ops k names bound rest stand o g (All-tail NeedsNoHandle _ ops free) others)
+      issued-named (_ ∷ ops) k names bound queue stand order granted free (first, rest, is, may, others) = search
+          (rules, change_named, All-head, All-tail, issued-named ops k names bound rest stand)
 
       -- With no names bound at first, the queue by names is what the operations issue by births.
       pub queue-alone : (ops : List Operation) (queue : List Command) → AreInOrder 0 (handles_listed queue)

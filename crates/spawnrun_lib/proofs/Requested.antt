@@ -1,6 +1,6 @@
 -- What the calls of a frame request is no more than what the operations of its systems request. So
 -- it counts neither the workers nor the order of the calls.
-use Rattle.spawnrun_lib.proofs.Common.{sum_by-cons, sum_by-append, sum_by-le-sum_by, get_or_from_slice_get, rules, ◌≡◌, ℕ, zero, suc, ◌+◌, ◌<◌, ◌≤◌, List, [], ◌∷◌, length, map, refl, sym, ap, arith, Some, Bool, true, false, cond, inl, inr, eq-eqb, Result, common_steps, ◌==◌, filter, slice_get, sum_by, flat_map, range_with_len, cases_eq, All-head, All-tail, sum_by-IsPermutation, Handle, Space, Call, Command, Refused, stands_for, cost, View, World, IsFrame, queue_at, commands_of, sum_map, Operation, Bindings, names_after, Issues, IssuesAll, MayIssue, requested_by_operation, All}
+use Rattle.spawnrun_lib.proofs.Common.{sum_by-cons, sum_by-append, sum_by-le-sum_by, get_or_from_slice_get, rules, ◌≡◌, ℕ, zero, suc, ◌+◌, ◌<◌, ◌≤◌, List, [], ◌∷◌, length, map, refl, sym, ap, arith, Some, Bool, true, false, cond, Result, common_steps, ◌==◌, filter, slice_get, sum_by, flat_map, range_with_len, All-head, All-tail, sum_by-IsPermutation, Handle, Space, Call, Command, Refused, stands_for, cost, View, World, IsFrame, queue_at, commands_of, sum_map, Operation, Bindings, names_after, IssuesAll, MayIssue, requested_by_operation, All}
 
 -- ---- sums
 
@@ -23,10 +23,8 @@ sum_by_number : {X : Type 0} (f : ℕ → ℕ) (g : X → ℕ) (a : ℕ) (xs : L
     → ((k : ℕ) (x : X) → slice_get xs k ≡ Some x → f (a + k) ≤ g x) → sum_by f (range_with_len a (length xs)) ≤ sum_by g
     xs
 sum_by_number f g a [] each = omega arith
-sum_by_number f g a (x ∷ xs) each =
-    let here = each 0 x refl in
-    let rest = sum_by_number f g (a + 1) xs (λ k y at. grind (arith, each (suc k) y at)) in
-    grind (arith, common_steps)
+sum_by_number f g a (x ∷ xs) each = grind
+    (arith, common_steps, each 0 x refl, sum_by_number f g (a + 1) xs (λ k y at. grind (arith, each (suc k) y at)))
 
 -- ---- the calls of a history, caller by caller
 
@@ -44,12 +42,7 @@ requested_of history caller = requested_in (filter (λ (call : Call). call.calle
 -- who has made a call is one of the callers
 one_caller : (c n a many : ℕ) → a ≤ c → c < a + many → n ≤ sum_by (λ k. cond (c == k) n 0) (range_with_len a many)
 one_caller c n a zero from below = absurd (omega arith)
-one_caller c n a (suc many) from below =
-    let sums = sum_by-cons (λ k. cond (c == k) n 0) a (range_with_len (a + 1) many) in
-    elim (cases_eq c a) [
-      | inl e ↦ search (rules, eq-eqb)
-      | inr ne ↦ let rest = one_caller c n (a + 1) many (omega arith) (omega arith) in omega arith
-    ]
+one_caller c n a (suc many) from below = grind (arith, common_steps, sum_by-cons, one_caller c n (a + 1) many)
 
 by_callers : (callers : ℕ) (history : List Call) → All (λ (call : Call). call.caller < callers) history
     → requested_in history ≤ sum_by (requested_of history) (range_with_len 0 callers)
@@ -93,18 +86,12 @@ none_wanted : (command : Handle → Command) → ((h : Handle) → wanted_by (co
 none_wanted command none [] = refl
 none_wanted command none (h ∷ hs) = search (rules, sum_by-cons, none_wanted command none hs)
 
-operation-wanted : (view : View) (names : Bindings) (op : Operation) (issued : List Command)
-    → Issues view names op issued → wanted_in issued ≡ requested_by_operation op
-operation-wanted view names it issued is = search (rules, none_wanted)
-
 operations-wanted : (view : View) (names : Bindings) (ops : List Operation) (queue : List Command)
     → IssuesAll view names ops queue → wanted_in queue ≡ sum_by requested_by_operation ops
 operations-wanted view names [] queue is = ap wanted_in is
 operations-wanted view names (op ∷ ops) queue (first, rest, is, may, others) =
-    let whole = ap wanted_in is in
-    let both = sum_by-append wanted_by first rest in
-    let here = operation-wanted view names op first may in
-    search (rules, sum_by-cons, operations-wanted view (names_after names op first) ops rest others)
+    let later = operations-wanted view (names_after names op first) ops rest others in
+    grind (arith, common_steps, sum_by-append, sum_by-cons, later, none_wanted)
 
 -- The queues of the systems want what their operations request.
 pub queues-wanted : (view : View) (systems : List (List Operation)) (queues : List (List Command))
@@ -133,8 +120,7 @@ module _ {S : Type 0} (may : S → View → List Command → Type 0) (systems : 
   of_workers =
       let flat = sum_flat wanted_at (λ mine. mine) frame.ran in
       let moved = sum_by-IsPermutation wanted_at _ _ frame.once in
-      let by_queue = sum_by_number wanted_at wanted_in 0 queues (λ k q at. let same : 0 + k ≡ k = omega arith in let
-      wants = ap wanted_in (get_or_from_slice_get queues k q [] at) in rw same (omega arith)) in
+      let by_queue = sum_by_number wanted_at wanted_in 0 queues (search (rules, get_or_from_slice_get)) in
       let count = ap (λ n. sum_by wanted_at (range_with_len 0 n)) frame.count in
       omega arith
 

@@ -1,5 +1,5 @@
 -- A birth that is looked up in the list of all entities.
-use Rattle.spawnrun_lib.proofs.Common.{rules, ◌≡◌, ◌≢◌, ◌⊎◌, inl, inr, ℕ, ◌<◌, ◌≤◌, true, false, List, length, get_or, Option, Some, sym, ap, ◌∙◌, arith, Contains, Ordering, Less, Equal, Greater, eq_by_cmp, is_lt, ordering_then, option_cmp, option_eq, IsTotalOrder, tied_itself, options_total, IsPartitionedBy, cases_lt, false≢true, get_or_default, Birth, birth_cmp, birth_cmp_total, birth_cmp-IsAntisymmetric, Handle, handle_cmp, handle_cmp_total, birth_order, ListsAll, EntityMap, birth_of, same_birth, View, is_before, IsFirstFrom}
+use Rattle.spawnrun_lib.proofs.Common.{rules, ◌≡◌, ◌≢◌, ◌⊎◌, inl, inr, ℕ, ◌<◌, ◌≤◌, true, false, List, length, get_or, Option, Some, sym, ap, ◌∙◌, arith, Contains, Ordering, Less, Equal, Greater, eq_by_cmp, is_lt, option_cmp, option_eq, IsTotalOrder, tied_itself, options_total, IsPartitionedBy, cases_lt, false≢true, get_or_default, Birth, birth_cmp, birth_cmp_total, birth_cmp-IsAntisymmetric, Handle, handle_cmp, handle_cmp_total, birth_order, ListsAll, EntityMap, birth_of, same_birth, View, is_before, IsFirstFrom}
 
 abbrev key_cmp : Option Birth → Option Birth → Ordering
 key_cmp = option_cmp birth_cmp
@@ -24,17 +24,13 @@ other_if_not it birth e is = search rules
 less_if : (r : Ordering) → is_lt r ≡ true → r ≡ Less
 less_if it e = search (rules, false≢true)
 
--- of two comparisons, the first tells, or they tie and the second tells
-either_less : (r s : Ordering) → ordering_then r s ≡ Less → (r ≡ Less) ⊎ ((r ≡ Equal) × (s ≡ Less))
-either_less it s e = search rules
-
 module _ (view : View) (birth : Birth) where
   abbrev m : EntityMap
   m = view.entities
 
   in_order : (a b : Handle) → birth_order m a b ≡ Less → (key_cmp (birth_of m a) (birth_of m b) ≡ Less)
       ⊎ ((key_cmp (birth_of m a) (birth_of m b) ≡ Equal) × (handle_cmp a b ≡ Less))
-  in_order a b e = either_less _ _ e
+  in_order a b e = search rules
 
   -- who stands before an earlier birth has an earlier birth
   before_too : (a b : Handle) → birth_order m a b ≡ Less → is_before view birth b ≡ true → is_before view birth a ≡ true
@@ -77,10 +73,7 @@ module _ (view : View) (birth : Birth) where
         least_here own g is greater =
             let itself = tied_itself handle_cmp_total h in
             let key : key_cmp (Some birth) (Some birth) ≡ Equal = tied_itself birth_cmp_total birth in
-            elim (after g is) [
-              | inl same ↦ absurd cc
-              | inr less ↦ elim (in_order h g less) [ inl first ↦ absurd cc | inr tie ↦ absurd (cc tie.1) ]
-            ]
+            elim (after g is) [ inl same ↦ absurd cc | inr less ↦ search (rules, in_order h g less) ]
 
         pub none_here : birth_of m h ≢ Some birth → (g : Handle) → birth_of m g ≢ Some birth
         none_here other g is =

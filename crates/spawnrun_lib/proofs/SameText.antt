@@ -1,6 +1,6 @@
 -- A report by births is the text of births alone, if no request of the run was refused and the
 -- script names no handle: each frame is told by births alone, and so is the next one.
-use Rattle.spawnrun_lib.proofs.Common.{rules, ◌≡◌, sym, ◌∙◌, ℕ, ◌+◌, ◌^◌, ◌<◌, List, [], ◌∷◌, length, All, Some, arith, All-head, All-tail, none-some, Handle, handle_cmp, Entity, BirthMap, frame_alone, AreNamed, AreBelow, World, IsWorld, first_world-sound, first_world-living, IsScript, Script, Operation, IsFrameAlone, queues_by_births, NamesNoHandle, AreGranted, Births, Execution, AreExecutions, synced, IsReportOf, IsReport, IsWithoutHandles, HasEnoughSlots, TellsNoRefusal, text_alone}
+use Rattle.spawnrun_lib.proofs.Common.{rules, ◌≡◌, ℕ, ◌+◌, ◌^◌, ◌<◌, List, [], ◌∷◌, length, All, Some, arith, All-head, All-tail, none-some, Handle, handle_cmp, Entity, BirthMap, frame_alone, AreNamed, AreBelow, World, IsWorld, first_world-sound, first_world-living, IsScript, Script, Operation, IsFrameAlone, queues_by_births, NamesNoHandle, AreGranted, Births, Execution, AreExecutions, synced, IsReportOf, IsReport, IsWithoutHandles, HasEnoughSlots, TellsNoRefusal, text_alone}
 use Rattle.std.specs.FinMap as finite
 use Rattle.spawnrun_lib.proofs.FramesAlone.{frame-alone}
 use Rattle.spawnrun_lib.proofs.Enough.{granted_if_enough}
@@ -26,16 +26,13 @@ told workers w view _ _ went is_world flushed named below few free granted = abs
 -- ---- from nobody on
 
 nobody : (h : Handle) (e : Entity) → finite.get (finite.empty {R = handle_cmp}) h ≡ Some e → ⊥
-nobody h e is = none-some e (sym (finite.get-empty handle_cmp h) ∙ is)
-
-nobody_named : AreNamed finite.empty []
-nobody_named = search (rules, finite.get-empty, none-some)
+nobody h e is = search (rules, none-some, finite.get-empty)
 
 pub same_if_granted : (script : Script) (workers : ℕ) (executions : List Execution) (text : List ℕ) → IsScript script
     → IsReportOf script workers Births executions text → IsWithoutHandles script
     → All (λ e. AreGranted e.queues) executions → text ≡ text_alone script
 same_if_granted script workers executions text ranges report free granted = search
-    (rules, first_world-sound, first_world-living, text_alike, nobody_named, told, nobody)
+    (rules, first_world-sound, first_world-living, text_alike, told, nobody, finite.get-empty, none-some)
 
 pub same_text : (script : Script) (workers : ℕ) (text : List ℕ) → IsScript script → IsReport script workers Births text
     → IsWithoutHandles script → TellsNoRefusal text → text ≡ text_alone script

@@ -1,9 +1,7 @@
 -- From the program's words to its task: the subcommand that clap finds, and the faults.
 use Rattle.spawnrun_lib.proofs.Common.{rules, ◌≡◌, ◌∙◌, true, false, List, [], IfSome, refl, sym, ap, subst, codes, Option, Some, None, option_map, slice_index_or, HasMatchesOf, is_simple, Row, Shape, Text, built, fault_of, is_simple_and_free, subcommand_of, rows_of, subcommand_rows_of, App, found_of, takes, subcommand_name_of, ArgMatches, new_shape, entered, nothing_held, stop_after, texts, entered_fault, clap_on_literals, built_takes, entered_passes, HasNumber, AsksFor, HasRun, HasShow, MayHaveBlocks, program, program_of, references_to, shown, Task, Bor}
 use Rattle.clap.specs.Simple.{names_of}
-use Rattle.spawnrun_lib.proofs.MovedFaults.{level_fault-moved}
-use Rattle.spawnrun_lib.proofs.MovedNames.{rows_after-moved}
-use Rattle.spawnrun_lib.proofs.MovedTakes.{level_passes-moved}
+use Rattle.spawnrun_lib.proofs.MovedNames.{level_fault-moved, level_passes-moved, rows_after-moved}
 use Rattle.spawnrun_lib.proofs.CommandLineOptions.{replay_shape, IsAsked, IsAsked-no_fault}
 
 -- the name of the subcommand that a parse met

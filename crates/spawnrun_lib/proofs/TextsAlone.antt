@@ -1,8 +1,6 @@
 -- Where births alone tell each frame of a run, its text by births is that of births alone.
-use Rattle.spawnrun_lib.proofs.Common.{arith, rules, ◌≡◌, refl, sym, ap, ◌∙◌, ℕ, ◌+◌, Bool, true, false, T, List, [], ◌∷◌, ◌++◌, length, map, All, Contains, Option, is_some, unwrap_or, IsSomeAnd, IsTrue, append_assoc, append-nil, common_steps, then_total, on_total, options_total, Ordering, is_sorted, below_all, AllByRecursion, AllZip, flat_map, IsDistinct, eq_by_cmp, eq_by_cmp_equiv, length-map, All-head, All-tail, All-weaker, All-contains_itself, IsDistinct-from_apart, length-from_same_keys, AllZip-long, Birth, birth_cmp_total, Handle, handle_cmp, handle_cmp_total, stands_in, same_handle, Contains-from_stands_in, stands_in-from_Contains, ListsAll, Entity, EntityMap, birth_of, filter-all, Bundle, first, second, Fault, World, BirthMap, BirthFault, frame_alone, AreNamed, AreNames, IsThere, IsSameFault, entity_there, listed-named, Operation, IsFrameAlone, queues_by_births, Births, fault_line, frame_text, IsWorldText, line_in, alive_line, Execution, synced, born_in, last_world, frames_text, birth_fault_line, birth_line, frame_text_alone, text_from}
-use Rattle.std.proofs.Common.{option_map}
+use Rattle.spawnrun_lib.proofs.Common.{arith, rules, ◌≡◌, refl, sym, ◌∙◌, ℕ, ◌+◌, Bool, true, false, T, List, [], ◌∷◌, ◌++◌, length, map, All, Contains, Option, is_some, unwrap_or, IsSomeAnd, IsTrue, append_assoc, append-nil, common_steps, then_total, on_total, options_total, Ordering, is_sorted, below_all, AllByRecursion, AllZip, flat_map, IsDistinct, eq_by_cmp, eq_by_cmp_equiv, length-map, All-head, All-tail, All-weaker, All-contains_itself, IsDistinct-from_apart, length-from_same_keys, AllZip-long, Birth, birth_cmp_total, Handle, handle_cmp, handle_cmp_total, stands_in, same_handle, Contains-from_stands_in, stands_in-from_Contains, ListsAll, Entity, EntityMap, birth_of, filter-all, Bundle, first, second, Fault, World, BirthMap, BirthFault, frame_alone, AreNamed, AreNames, IsThere, IsSameFault, entity_there, listed-named, Operation, IsFrameAlone, queues_by_births, Births, fault_line, IsWorldText, line_in, alive_line, Execution, synced, last_world, frames_text, birth_fault_line, birth_line, text_from, option_map, tied_itself}
 use Rattle.std.specs.FinMap as finite
-use Rattle.std.proofs.lemmas.Cmp.{tied_itself}
 
 -- ---- the text of a frame
 
@@ -11,11 +9,6 @@ faults_alike : (faults : List Fault) (by_births : List BirthFault) → AllZip Is
 faults_alike [] [] are = refl
 faults_alike (fault ∷ faults) (b ∷ by_births) are = grind (arith, common_steps, faults_alike faults by_births are.1)
 faults_alike _ _ are = absurd are
-
-frame_alike : (w : World) (e : Execution) (systems : List (List Operation)) (view : BirthMap) → (number : ℕ)
-    → IsFrameAlone w e.queues e.history systems view → frame_text Births number (born_in w e) (synced w e).faults
-    ≡ frame_text_alone number (queues_by_births w view systems) (frame_alone (queues_by_births w view systems) view)
-frame_alike w e systems view number one = search (rules, faults_alike, AllZip-long)
 
 -- ---- the text of a world
 
@@ -64,15 +57,11 @@ module _ (components : List (List ℕ)) (name : Handle → Birth) (m : EntityMap
   abbrev entry_of : Handle → Birth × Bundle
   entry_of h = (name h, unwrap_or (option_map (λ e. finite.entries e.components) (finite.get m h)) [])
 
-  line_alike : (h : Handle) → IsThere m h → line_in components Births m h ≡ birth_line components (entry_of h)
-  line_alike h there = search (rules, entity_there, append-nil)
-
   lines_alike : (handles : List Handle) → All (IsThere m) handles → flat_map (line_in components Births m) handles
       ≡ flat_map (birth_line components) (map entry_of handles)
   lines_alike [] all = refl
-  lines_alike (h ∷ handles) all =
-      let here = line_alike h (All-head (IsThere m) h handles all) in
-      search (rules, lines_alike handles (All-tail (IsThere m) h handles all), here)
+  lines_alike (h ∷ handles) all = search
+      (rules, All-head, All-tail, lines_alike handles (All-tail (IsThere m) h handles all), entity_there, append-nil)
 
   world_alike : (text : List ℕ) → IsWorldText components Births m text → text ≡ flat_map (birth_line components) births
       ++ alive_line (length births)
@@ -94,7 +83,7 @@ AreToldAlone w view (systems ∷ frames) (e ∷ executions) = IsFrameAlone w e.q
 
 -- the birth of each entity is a name for it
 some_names : (m : EntityMap) (other : Birth) → AreNames (λ h. unwrap_or (birth_of m h) other) m
-some_names m other h e there = ap (λ o. unwrap_or (option_map (λ x. x.birth) o) other) there
+some_names m other h e there = search rules
 
 nobodys : Birth
 nobodys = record { frame = 0; system = 0; ordinal = 0 }
@@ -106,9 +95,7 @@ pub text_alike : (components : List (List ℕ)) (w : World) (view : BirthMap) (f
 text_alike components w view [] [] world_text named told is = world_alike components
     (λ h. unwrap_or (birth_of w.entities h) nobodys) w.entities view named (some_names w.entities nobodys) world_text is
 text_alike components w view (systems ∷ frames) (e ∷ executions) world_text named told is =
-    let rest = rw told.0.phase at (text_alike components (synced w e).world
-    (frame_alone (queues_by_births w view systems) view).entities frames executions world_text told.0.after.entities
-    told.1 is) in
-    let here = frame_alike w e systems view w.phase told.0 in
-    rw append_assoc (λ i. here i ++ rest i)
+    let later = text_alike components (synced w e).world (frame_alone (queues_by_births w view systems) view).entities
+    frames executions world_text told.0.after.entities told.1 is in
+    search (rules, append_assoc, later, faults_alike, AllZip-long)
 text_alike components w view _ _ world_text named told is = absurd told

@@ -1,31 +1,24 @@
 -- The names that proofs of this crate cite, of std, of the crates below and of its own specs. Declares nothing.
-pub use Rattle.std.proofs.Common.{All, Bool, Err, List, None, Ok, Option, Result, Some, [], ap, append_assoc, arith, codes, cond, eqb, false, inl, inr, is_some, length, length-append, map, refl, rules, subst, suc, sym, take, true, zero, ℕ, ◌++◌, ◌+◌, ◌<◌, ◌^◌, ◌∙◌, ◌∷◌, ◌≡◌, ◌≢◌, ◌≤◌, ◌⊎◌}
+pub use Rattle.std.proofs.Common.{All, Bool, Bor, Err, IfErr, IfSome, IsErrAnd, List, None, Ok, OnErr, OnOk, Option, Result, Some, [], ap, append_assoc, arith, bytes_eq, codes, cond, eqb, false, find, if◌then◌else◌, inl, inr, is_some, length, length-append, map, not, option_and_then, option_map, pos, refl, rules, subst, suc, sym, take, true, zero, ℕ, ◌&&◌, ◌++◌, ◌+◌, ◌<◌, ◌^◌, ◌∙◌, ◌∷◌, ◌≡◌, ◌≢◌, ◌≤◌, ◌⊎◌}
 pub use Rattle.std.proofs.lemmas.Bool.{cases_lt, cond-false, eqb-true, false≢true, ne_eqb}
 pub use Rattle.std.proofs.lemmas.Grind.{common_steps}
-pub use Rattle.std.proofs.lemmas.List.{append-nil, nil_from_length}
+pub use Rattle.std.proofs.lemmas.List.{append-nil, length-map, nil_from_length}
 pub use Rattle.std.proofs.lemmas.List.Elements.{All-append}
 pub use Rattle.std.proofs.lemmas.List.Sums.{sum_by_push}
 pub use Rattle.std.proofs.lemmas.Result.{err_from_is_err_and}
 pub use Rattle.std.proofs.lemmas.Slice.Eq.{bytes_eq-Decides}
-pub use Rattle.std.specs.Borrow.{Bor}
 pub use Rattle.std.specs.Io.KnownBytes.{Consumes, IsAtEnd}
 pub use Rattle.std.specs.List.{list_all, slice_index_or}
-pub use Rattle.std.specs.Prelude.{IfErr, IfSome, IsErrAnd, OnErr, OnOk, find, if◌then◌else◌, not, option_and_then, option_map, pos, ◌&&◌}
-pub use Rattle.std.specs.Str.{bytes_eq}
 pub use Rattle.clap.proofs.CallerLemmas.{default_present, entry_by_id, same_rules_by_id}
 unfoldable pub use Rattle.clap.proofs.OnLiterals.{clap_on_literals}
 pub use Rattle.clap.proofs.SimpleLemmas.{ready_simple, simple_groups}
 pub use Rattle.clap.proofs.WalkLemmas.{find_row, first_value-rows, one_text-rows}
 pub use Rattle.clap.specs.Built.{IsAuto, IsParsedFrom, SameRules}
 pub use Rattle.clap.specs.Facts.{Entry, EntryPasses, HasId, HasReading, IsFilledEntry, IsKnownGroup, MayBeEmpty, PassesArg, ValuesPass, WantsDefault, args_of, groups_of, least_values, unwrap_or_range}
-pub use Rattle.clap.specs.Faults.{is_simple_and_free}
 pub use Rattle.clap.specs.Kinds.{HasKind, Kinds, or_else}
-pub use Rattle.clap.specs.Matches.{first_value, matched_of}
 pub use Rattle.clap.specs.Simple.{App, HasMatchesOf, IsSimple, IsSimpleArg, app_of, is_ready, is_ready_leaf, matches_of}
-pub use Rattle.clap.specs.Texts.{items_of}
-pub use Rattle.clap.specs.Values.{IsSignedIn}
 pub use Rattle.clap.specs.Walk.{Row, Rule, Text, first_of, row_of, rows_of, rule_of, texts}
-pub use Rattle.clap.specs.Words.{fault_of, found_of, is_simple, takes}
+pub use Rattle.clap.specs.Words.{IsSignedIn, fault_of, first_value, found_of, is_simple, is_simple_and_free, items_of, matched_of, takes}
 pub use Rattle.clap.specs.declared.builder.ArgAction.TheVariants.{Set}
 pub use Rattle.clap.specs.declared.builder.arg.Arg.{Arg}
 pub use Rattle.clap.specs.declared.builder.command.Command.{Command}

@@ -1,10 +1,6 @@
-pub mod Joined
 pub mod Taking
 pub mod LinesRead
-pub mod InputRead
 pub mod OptionsGiven
-pub mod LimitsOfWords
 pub mod Strangers
 pub mod Beginnings
-pub mod FromImage
 pub mod Common

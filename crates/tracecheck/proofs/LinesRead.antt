@@ -39,10 +39,9 @@ lines_last line long all = ap ended (parts_whole 10 line all) ∙ cond-false (eq
 pub cut_line : (begin : Allocator) (text : List ℕ) (old : Checking) (pending bytes : List ℕ) → IsUnended bytes
     → (h : HasRead begin text old pending) → (more : List ℕ) → lines_of (text ++ bytes ++ 10 ∷ more) ≡ h.texts
     ++ without_return (pending ++ bytes) ∷ lines_of more
-cut_line begin text old pending bytes all h more = ap lines_of (append_assoc text bytes (10 ∷ more))
-    ∙ h.lines (bytes ++ 10 ∷ more) ∙ ap (λ (bs : List ℕ). h.texts ++ lines_of bs)
-    (sym (append_assoc pending bytes (10 ∷ more))) ∙ ap (λ (ls : List (List ℕ)). h.texts ++ ls)
-    (lines_first (pending ++ bytes) more (All-append (λ byte. byte ≢ 10) pending bytes h.unended all))
+cut_line begin text old pending bytes all h more =
+    let unended = All-append (λ byte. byte ≢ 10) pending bytes h.unended all in
+    rw (append_assoc, h.lines, ← append_assoc, lines_first) refl
 
 pub HasRead-line : (begin : Allocator) (text : List ℕ) (old new : Checking) (pending bytes : List ℕ) → IsUnended bytes
     → (h : HasRead begin text old pending) → HasTaken begin (h.texts ++ without_return (pending ++ bytes) ∷ []) new
@@ -60,6 +59,12 @@ HasRead-line begin text old new pending bytes all h taken = record {
 pub lines_now : (begin : Allocator) (text : List ℕ) (old : Checking) (pending : List ℕ)
     → (h : HasRead begin text old pending) → lines_of text ≡ h.texts ++ lines_of pending
 lines_now begin text old pending h = grind (arith, common_steps, append-nil text, append-nil pending, h.lines, h.texts)
+
+-- and the last line has no end
+pub lines_at_end : (begin : Allocator) (text : List ℕ) (old : Checking) (pending : List ℕ)
+    → (h : HasRead begin text old pending) → eqb (length pending) 0 ≡ false → lines_of text ≡ h.texts ++ pending ∷ []
+lines_at_end begin text old pending h long = lines_now begin text old pending h
+    ∙ ap (λ (ls : List (List ℕ)). h.texts ++ ls) (lines_last pending long h.unended)
 
 -- ---- a piece
 

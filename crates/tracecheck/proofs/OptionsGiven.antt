@@ -1,7 +1,5 @@
 -- What clap's facts of a parse say of an option with a default: it has a number in its range.
-use Rattle.tracecheck.proofs.Common.{common_steps, rules, ◌≡◌, ◌∙◌, ◌⊎◌, ◌<◌, ◌≤◌, ℕ, Bool, true, false, List, [], ◌∷◌, cond, length, zero, suc, refl, sym, ap, subst, inl, inr, codes, arith, map, Option, Some, None, is_some, false≢true, bytes_eq-Decides, Bor, list_all, slice_index_or, option_map, pos, bytes_eq, IsAuto, IsParsedFrom, SameRules, Entry, EntryPasses, HasId, HasReading, IsFilledEntry, IsKnownGroup, MayBeEmpty, PassesArg, ValuesPass, WantsDefault, args_of, groups_of, least_values, unwrap_or_range, matched_of, App, IsSimple, IsSimpleArg, app_of, is_ready, is_ready_leaf, IsSignedIn, Rule, Text, rows_of, rule_of, texts, items_of, Set, Arg, Command, Reading, WithoutMinus, Signed, ArgMatches, Found, MatchedArg, default_present, entry_by_id, same_rules_by_id, clap_on_literals, ready_simple, simple_groups, one_text-rows, HasNumber, given, number_option, program, All}
-use Rattle.std.specs.List.{find}
-use Rattle.clap.specs.Matches.{found_of}
+use Rattle.tracecheck.proofs.Common.{common_steps, rules, length-map, ◌≡◌, ◌∙◌, ◌⊎◌, ◌<◌, ◌≤◌, ℕ, true, false, List, [], ◌∷◌, length, zero, suc, refl, sym, ap, subst, inl, inr, codes, arith, map, Option, Some, None, is_some, false≢true, bytes_eq-Decides, Bor, list_all, slice_index_or, option_map, pos, bytes_eq, IsAuto, IsParsedFrom, SameRules, Entry, EntryPasses, HasId, HasReading, IsFilledEntry, IsKnownGroup, MayBeEmpty, PassesArg, ValuesPass, WantsDefault, args_of, groups_of, least_values, unwrap_or_range, matched_of, App, IsSimple, IsSimpleArg, app_of, is_ready, is_ready_leaf, IsSignedIn, Rule, Text, rows_of, rule_of, texts, items_of, Set, Arg, Command, Reading, WithoutMinus, Signed, ArgMatches, Found, MatchedArg, default_present, entry_by_id, same_rules_by_id, clap_on_literals, ready_simple, simple_groups, one_text-rows, HasNumber, given, number_option, program, All, find, found_of}
 
 -- ---- the arguments of the program's command
 
@@ -10,10 +8,6 @@ rule_at : (xs : List Arg) (k : ℕ) (d : Arg) → k < length xs → rule_of (sli
 rule_at [] k d lt = absurd (omega arith)
 rule_at (x ∷ xs) zero d lt = refl
 rule_at (x ∷ xs) (suc k) d lt = rule_at xs k d (omega arith)
-
-rule_count : (xs : List Arg) → length (map rule_of xs) ≡ length xs
-rule_count [] = refl
-rule_count (x ∷ xs) = ap suc (rule_count xs)
 
 first_arg : (xs : List Arg) → 0 < length xs → Arg
 first_arg [] some = absurd (omega arith)
@@ -37,19 +31,8 @@ has-found : (xs : List Entry) (id : Text) (i : ℕ) → i < length xs
     → ((d : Entry) → bytes_eq (slice_index_or xs i d).0.now id ≡ true)
     → is_some (option_map (λ (e : Entry). e.1) (find (λ (e : Entry). bytes_eq e.0.now id) xs)) ≡ true
 has-found [] id i lt at = absurd (omega arith)
-has-found (x ∷ xs) id i lt at = go (bytes_eq x.0.now id) refl i lt at (has-found xs id)
-  where
-    go : (same : Bool) → bytes_eq x.0.now id ≡ same → (i : ℕ) → i < length (x ∷ xs)
-        → ((d : Entry) → bytes_eq (slice_index_or (x ∷ xs) i d).0.now id ≡ true)
-        → ((j : ℕ) → j < length xs
-        → ((d : Entry) → bytes_eq (slice_index_or xs j d).0.now id ≡ true)
-        → is_some (option_map (λ (e : Entry). e.1) (find (λ (e : Entry). bytes_eq e.0.now id) xs))
-        ≡ true)
-        → is_some (option_map (λ (e : Entry). e.1)
-        (cond same (Some x) (find (λ (e : Entry). bytes_eq e.0.now id) xs))) ≡ true
-    go true is i lt at rest = refl
-    go false is zero lt at rest = absurd (false≢true (sym is ∙ at x))
-    go false is (suc j) lt at rest = rest j (omega arith) at
+has-found (x ∷ xs) id zero lt at = rw (at x) refl
+has-found (x ∷ xs) id (suc j) lt at = search (rules, has-found xs id j (omega arith) at)
 
 module _ (c : Command) (id : Text) (most : ℕ) (no_groups : groups_of c ≡ []) (named : id ≡ [] → ⊥)
     (only : (j : ℕ) (a : Arg) → j < length (args_of c) → slice_index_or (args_of c) j a ≡ a
@@ -119,13 +102,12 @@ number-given : (cmd : Command) (m : ArgMatches) → app_of cmd ≡ program → I
     ≡ number_option option most default) → Alone k option → (option ≡ [] → ⊥)
     → ((option ≡ codes "help") ⊎ (option ≡ codes "version") → ⊥) → HasNumber option most (given m)
 number-given cmd m is p k option most default below at alone named own =
-    let rules : map rule_of (args_of cmd) ≡ program.top.rules = ap (λ (a : App). a.top.rules) is in
-    let count : length (args_of cmd) ≡ 3 = sym (rule_count (args_of cmd)) ∙ ap length rules in
+    let same : map rule_of (args_of cmd) ≡ program.top.rules = ap (λ (a : App). a.top.rules) is in
+    let count : length (args_of cmd) ≡ 3 = sym (length-map (args_of cmd) rule_of) ∙ ap length same in
     let d : Arg = first_arg (args_of cmd) (omega arith) in
     let a : Arg = slice_index_or (args_of cmd) k d in
     let lt : k < length (args_of cmd) = omega arith in
-    let rule : rule_of a ≡ number_option option most default = rule_at (args_of cmd) k d lt
-    ∙ (ap (λ (rs : List Rule). slice_index_or rs k (rule_of d)) rules ∙ at (rule_of d)) in
+    let rule : rule_of a ≡ number_option option most default = cc (rule_at (args_of cmd) k d lt, at (rule_of d)) in
     let id : a.id.now ≡ option = ap (λ (r : Rule). r.id) rule in
     let simple : IsSimple cmd = ready_simple cmd (ap (λ (a : App). is_ready a.top) is ∙ program-ready)
     (ap (λ (a : App). list_all is_ready_leaf a.subs) is) in
@@ -138,31 +120,20 @@ number-given cmd m is p k option most default below at alone named own =
     let wants : WantsDefault a =
     (simple_arg.default_ifs, some_text (items_of a.default_vals) default (ap (λ (r : Rule). r.defaults) rule)) in
     let unique : (j : ℕ) (e : Arg) → j < length (args_of cmd) → bytes_eq (slice_index_or (args_of cmd) j e).id.now
-    a.id.now ≡ true → j ≡ k = λ j e low same. alone j (rule_of e) (omega arith)
+    a.id.now ≡ true → j ≡ k = λ j e low same_id. alone j (rule_of e) (omega arith)
     (subst (λ (r : Rule). bytes_eq r.id option ≡ true) (rule_at (args_of cmd) j e low
-    ∙ ap (λ (rs : List Rule). slice_index_or rs j (rule_of e)) rules)
-    (subst (λ (text : Text). bytes_eq (slice_index_or (args_of cmd) j e).id.now text ≡ true) id same)) in
-    let free : IsAuto a → ⊥ = λ auto. own (renamed a.id.now option id auto) in
+    ∙ ap (λ (rs : List Rule). slice_index_or rs j (rule_of e)) same)
+    (subst (λ (text : Text). bytes_eq (slice_index_or (args_of cmd) j e).id.now text ≡ true) id same_id)) in
+    let free : IsAuto a → ⊥ = λ auto. own (search rules) in
     let only : (j : ℕ) (x : Arg) → j < length (args_of p.built) → slice_index_or (args_of p.built) j x ≡ x
-    → bytes_eq x.id.now option ≡ true → TakesNumber most x = λ j x high here same. let kept : SameRules a x =
-    same_rules_by_id cmd m p k d lt unique free j x high here
-    (subst (λ (text : Text). bytes_eq x.id.now text ≡ true) (sym id) same) in record {
-      parser = kept.parser _ (ap (λ (r : Rule). r.parser) rule);
-      ignore_case = kept.ignore_case
-          ∙ ap (λ (r : Rule). r.ignore_case) rule;
-      action = kept.action Set set;
-      delimiter = kept.val_delim
-          ∙ simple_arg.delimiter;
-      least = kept.least set (omega (arith, least));
-    } in
+        → bytes_eq x.id.now option ≡ true → TakesNumber most x = λ j x high here same_id. let kept : SameRules a x =
+        same_rules_by_id cmd m p k d lt unique free j x high here
+        (subst (λ (text : Text). bytes_eq x.id.now text ≡ true) (sym id) same_id) in record
+        { parser = kept.parser _ (ap (λ (r : Rule). r.parser) rule); ignore_case = kept.ignore_case
+        ∙ ap (λ (r : Rule). r.ignore_case) rule; action = kept.action Set set; delimiter = kept.val_delim
+        ∙ simple_arg.delimiter; least = kept.least set (omega (arith, least)) } in
     number-found p.built option most groups named only (found_of m) parsed.values
-    (subst (λ (text : Text). HasId (found_of m) text) id (default_present cmd m p simple.globals k d lt wants))
-  where
-    renamed : (name option : Text) → name ≡ option
-        → (name ≡ codes "help") ⊎ (name ≡ codes "version")
-        → (option ≡ codes "help") ⊎ (option ≡ codes "version")
-    renamed name option is (inl help) = inl (sym is ∙ help)
-    renamed name option is (inr version) = inr (sym is ∙ version)
+        (subst (λ (text : Text). HasId (found_of m) text) id (default_present cmd m p simple.globals k d lt wants))
 
 -- ---- both
 
@@ -171,16 +142,10 @@ differs : (a b : Text) → bytes_eq a b ≡ false → bytes_eq b b ≡ true → 
 differs a b other same e = search (rules, false≢true)
 
 slots-alone : Alone 0 (codes "slots")
-slots-alone zero e lt same = refl
-slots-alone (suc zero) e lt same = absurd (false≢true same)
-slots-alone (suc (suc zero)) e lt same = absurd (false≢true same)
-slots-alone (suc (suc (suc j))) e lt same = absurd (omega arith)
+slots-alone j e lt same = search (rules, arith, false≢true)
 
 generations-alone : Alone 1 (codes "generations")
-generations-alone zero e lt same = absurd (false≢true same)
-generations-alone (suc zero) e lt same = refl
-generations-alone (suc (suc zero)) e lt same = absurd (false≢true same)
-generations-alone (suc (suc (suc j))) e lt same = absurd (omega arith)
+generations-alone j e lt same = search (rules, arith, false≢true)
 
 pub slots-given : (cmd : Command) (m : ArgMatches) → app_of cmd ≡ program → IsParsedFrom cmd m
     → HasNumber (codes "slots") 4294967295 (given m)

@@ -1,17 +1,9 @@
 -- What is said of a trace whose first line can't be. The edits in must-fail/ say something else of it.
-use Rattle.tracecheck.proofs.Common.{rules, ◌≡◌, ℕ, ◌+◌, ◌^◌, ◌<◌, List, [], ◌∷◌, ◌++◌, length, take, None, Some, Ok, Err, refl, sym, ap, subst, arith, if◌then◌else◌, common_steps, Handle, Space, Limits, Allocator, cursor, opening, Difference, Call, Reservation, AreAnswered, Fits, FitsReserved, IsOrderOf, MayPass, after_line, line_of, words_of, calls_from, requested_from, HasTaken, IsVerdict, asks_too_many, differs, Checking, Bool, true, false}
+use Rattle.tracecheck.proofs.Common.{rules, ◌≡◌, ℕ, ◌+◌, ◌^◌, ◌<◌, List, [], ◌∷◌, ◌++◌, length, take, None, Some, Ok, Err, refl, arith, if◌then◌else◌, common_steps, Handle, Space, Limits, Allocator, cursor, opening, Difference, Call, Reservation, AreAnswered, Fits, FitsReserved, IsOrderOf, after_line, line_of, words_of, calls_from, requested_from, HasTaken, IsVerdict, asks_too_many, differs, Checking, Bool, true}
 use Rattle.ent_replay.specs.declared.trace.call.Call.TheVariants as line
 use Rattle.ent_replay.specs.declared.trace.reply.ReserveReply.TheVariants as reserve
 use Rattle.tracecheck.specs.declared.verdict.Verdict.TheVariants as verdict
 use Rattle.tracecheck.specs.declared.verdict.Refusal.TheVariants as refusal
-
-abbrev first_of : Call → List Call → Call
-first_of d [] = d
-first_of d (x ∷ xs) = x
-
-abbrev IsCons : List Call → Type 0
-IsCons [] = ⊥
-IsCons (x ∷ xs) = Unit {0}
 
 -- a request for none that was refused
 abbrev pub never : ℕ → ℕ → Reservation
@@ -19,8 +11,7 @@ never number caller = record { number = number; caller = caller; requested = 0; 
 
 none_refused : (b : Bool) (x : List Handle) (e : Space) → b ≡ true → FitsReserved reserve.Space (if b then Ok x else Err
     e) → ⊥
-none_refused true x e is fits = fits
-none_refused false x e is fits = grind arith
+none_refused it x e is fits = grind (arith, common_steps)
 
 never_fits : (number caller : ℕ) (s : Allocator) → Fits s (line.Reserve (never number caller)) → ⊥
 never_fits number caller s fits = search (rules, none_refused)
@@ -28,11 +19,10 @@ never_fits number caller s fits = search (rules, none_refused)
 -- a line that fits nowhere stands in no trace that agrees
 dead : (l : Call) → ((s : Allocator) → Fits s l → ⊥) → (order rest : List Call) (s : Allocator)
     → IsOrderOf (l ∷ rest) order → AreAnswered s order → ⊥
-dead l unfit [] rest s is answered = subst IsCons is tt
+dead l unfit [] rest s is answered = absurd cc
 dead l unfit (k ∷ order) rest s ([], after, parts, passes, more) answered = search rules
-dead l unfit (k ∷ order) rest s (x ∷ before, after, parts, passes, more) answered = dead l unfit order (before ++ after)
-    (after_line s k) (subst (λ (y : Call). IsOrderOf (y ∷ (before ++ after)) order) (sym (ap (first_of l) parts)) more)
-    answered.1
+dead l unfit (k ∷ order) rest s (x ∷ before, after, parts, passes, more) answered =
+    let same : x ≡ l = cc in dead l unfit order (before ++ after) (after_line s k) (rw same at more) answered.1
 
 -- the first line of the trace, and the line that is named
 abbrev first : Reservation
@@ -44,25 +34,12 @@ named = never 1 1
 no_order : (s : Allocator) (order : List Call) → IsOrderOf (line.Reserve named ∷ []) order → AreAnswered s order → ⊥
 no_order s order is answered = search (rules, dead, never_fits)
 
-abbrev rest_of : List Call → List Call
-rest_of [] = []
-rest_of (x ∷ xs) = xs
-
 -- of the two lines only the first may come next
 only_first : (s : Allocator) (next : Call) (left : List Call) → IsOrderOf (line.Reserve named ∷ line.Flush None ∷ [])
     (next ∷ left) → Fits s next → ⊥
-only_first s next left ([], after, parts, passes, more) fits = never_fits named.number named.caller s
-    (subst (Fits s) (sym (ap (first_of (line.Flush None)) parts)) fits)
-only_first s next left (b ∷ [], after, parts, passes, more) fits =
-    let one : line.Flush None ≡ next = ap (λ ls. first_of (line.Flush None) (rest_of ls)) parts in
-    let own : line.Reserve named ≡ b = ap (first_of b) parts in
-    let pass = passes.0 in
-    flush_stays b next (sym one) pass
-  where
-    flush_stays : (b next : Call) → next ≡ line.Flush None → MayPass next b → ⊥
-    flush_stays b next is pass = subst (λ (l : Call). MayPass l b) is pass
-only_first s next left (b ∷ d ∷ before, after, parts, passes, more) fits =
-    let no : [] ≡ before ++ next ∷ after = ap (λ ls. rest_of (rest_of ls)) parts in none_in before after next no
+only_first s next left ([], after, parts, passes, more) fits = search (rules, never_fits)
+only_first s next left (b ∷ [], after, parts, passes, more) fits = search rules
+only_first s next left (b ∷ d ∷ before, after, parts, passes, more) fits = none_in before after next cc
   where
     none_in : (before after : List Call) (l : Call) → [] ≡ before ++ l ∷ after → ⊥
     none_in [] after l is = cc

@@ -1,4 +1,4 @@
-use Rattle.std.proofs.Common.{rules, ◌≡◌, ◌∙◌, ◌<◌, ◌∷◌, [], Some, ℕ, ℤ, pos, ap, to_z, of_z, w64}
+use Rattle.std.proofs.Common.{rules, ◌≡◌, ◌<◌, ◌∷◌, [], Some, ℕ, ℤ, pos, ap, to_z, of_z, w64}
 use Rattle.clap.specs.declared.builder.ArgAction.TheVariants.{Set}
 use Rattle.clap.specs.declared.builder.value_parser.ValueParser.{ValueParser}
 use Rattle.clap.specs.Words.{NarrowsTo, Rule}
@@ -13,11 +13,9 @@ narrowed parser from start end most fits narrow starts is ends = search rules
 
 pub returns-clause-rule : goal.returns-clause-rule
 returns-clause-rule c =
-    let given = c.value_parser-2.ensures.given in
     let narrow = rw c.value_parser.ensures at c.range-range.ensures in
-    let new = c.new.ensures in
-    let parser : c.value_parser-2.result.value_parser ≡ Some (Signed (pos 1) (pos c.args.most)) = given.1
-    ∙ ap Some (given.2 ∙ narrowed _ c.from.result _ _ _ c.ranges.most.fits narrow new.start c.from.ensures new.end) in
+    let parser : c.value_parser-2.result.value_parser ≡ Some (Signed (pos 1) (pos c.args.most)) = search
+    (rules, narrowed) in
     rw (
       c.help.ensures,
       c.default_value.ensures,
@@ -30,7 +28,6 @@ returns-clause-rule c =
       long = Some c.args.name.now;
       action = Some Set;
       value_names = 1;
-      parser = Some
-          (Signed (pos 1) (pos c.args.most));
+      parser = Some (Signed (pos 1) (pos c.args.most));
       defaults = c.args.default.now ∷ [];
     }) c.new-2.ensures.rule)

@@ -1,5 +1,5 @@
-use Rattle.spawnrun_lib.proofs.Common.{true, false, sym, ap, ◌∙◌, ℕ, List, Bor, is_listed}
 use Rattle.std.proofs.Common.{option_map}
+use Rattle.spawnrun_lib.proofs.Common.{true, false, sym, ap, ◌∙◌, ℕ, List, Bor, is_listed, option_map}
 use Rattle.spawnrun_lib.proofs.Firsts.{next_name}
 use Rattle.spawnrun_lib.proofs.first.bad_name.Goals as goal
 

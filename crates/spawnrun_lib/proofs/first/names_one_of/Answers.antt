@@ -1,5 +1,5 @@
-use Rattle.spawnrun_lib.proofs.Common.{◌≡◌, false, sym, ap, ◌∙◌, ℕ, List, map, Bor, Some, unwrap_or, as_str, view, is_listed}
 use Rattle.std.proofs.Common.{option_map}
+use Rattle.spawnrun_lib.proofs.Common.{◌≡◌, false, sym, ap, ◌∙◌, ℕ, List, map, Bor, Some, unwrap_or, as_str, view, is_listed, option_map}
 use Rattle.spawnrun_lib.proofs.Firsts.{listed_lent}
 use Rattle.spawnrun_lib.proofs.first.names_one_of.Goals as goal
 

@@ -3,6 +3,3 @@ use Rattle.spawnrun_lib.proofs.frame_in_blocks.sizes.Goals as goal
 
 pub loop-system-preserved : goal.loop-system-preserved
 loop-system-preserved c = grind (arith, common_steps, take_more, map-append)
-
-pub returns : goal.returns
-returns c = grind (arith, common_steps)

@@ -1,4 +1,4 @@
-use Rattle.spawnrun_lib.proofs.Common.{arith, rules, common_steps, drop_all}
+use Rattle.spawnrun_lib.proofs.Common.{rules, drop_all}
 use Rattle.spawnrun_lib.proofs.SystemRunning.{has_begun, has_gone_on, has_ended}
 use Rattle.spawnrun_lib.proofs.issuing.issue_all.Goals as goal
 
@@ -7,9 +7,6 @@ loop-operation-init g c = search (rules, has_begun)
 
 pub loop-operation-preserved : goal.loop-operation-preserved
 loop-operation-preserved g c = search (rules, g.met.Q.Issue.then, has_gone_on)
-
-pub returns-in_err-issue-clause-leaves : goal.returns-in_err-issue-clause-leaves
-returns-in_err-issue-clause-leaves g c empty = grind (arith, common_steps)
 
 pub returns-clause-may : goal.returns-clause-may
 returns-clause-may g c empty = search (rules, drop_all, has_ended)

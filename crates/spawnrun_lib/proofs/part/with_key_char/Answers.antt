@@ -1,5 +1,5 @@
 use Rattle.spawnrun_lib.proofs.Common.{rules, ◌≡◌, ◌∷◌, ◌++◌, [], ℕ, List, key_char, front, plain}
-use Rattle.spawnrun_lib.proofs.Printable.{passes, plain_same}
+use Rattle.spawnrun_lib.proofs.Pieces.{passes, plain_same}
 use Rattle.spawnrun_lib.proofs.part.with_key_char.Goals as goal
 
 escaped : (old new : List ℕ) (letter c : ℕ) → plain (92 ∷ c ∷ []) ≡ key_char c → letter ≡ c

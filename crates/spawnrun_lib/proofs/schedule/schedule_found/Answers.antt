@@ -1,5 +1,5 @@
+use Rattle.spawnrun_lib.proofs.Pieces.{passes, decimal-printable, three}
 use Rattle.spawnrun_lib.proofs.Common.{rules, ◌≡◌, ℕ, ◌++◌, List, sym, subst, codes, decimal, inline_text, ArePrintable}
-use Rattle.spawnrun_lib.proofs.Printable.{passes, decimal-printable, three}
 use Rattle.spawnrun_lib.proofs.schedule.schedule_found.Goals as goal
 
 framed : (shown number : List ℕ) → ArePrintable shown → ArePrintable number

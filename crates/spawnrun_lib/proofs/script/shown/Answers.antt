@@ -1,7 +1,9 @@
-use Rattle.spawnrun_lib.proofs.Common.{rules, ◌≡◌, List, ℕ, subst, sym, MatchOption, inline_text, iff_false, Data, view, ReadFault, Place, IsPlaceOf, Shows, place_of, front, plain, json_none, Option}
-use Rattle.spawnrun_lib.proofs.Json.{json_some}
+use Rattle.spawnrun_lib.proofs.Common.{rules, ◌≡◌, List, ℕ, subst, sym, MatchOption, inline_text, iff_false, Data, view, ReadFault, Place, IsPlaceOf, Shows, place_of, front, plain, json_none, Option, Some, IsUtf8, cond-true, is_utf8-from_IsUtf8, read, json_of}
 use Rattle.spawnrun_lib.proofs.Pieces.{if_some}
 use Rattle.spawnrun_lib.proofs.script.shown.Goals as goal
+
+json_some : (text : List ℕ) (d : Data) → IsUtf8 text → read text ≡ Some d → json_of text ≡ Some d
+json_some text d utf8 e = search (rules, cond-true, is_utf8-from_IsUtf8)
 
 abbrev ShowsOf : ReadFault → List ℕ → Option Data → Type 0
 ShowsOf e shown o = MatchOption o ((words : List ℕ) × (shown ≡ front (plain words)))

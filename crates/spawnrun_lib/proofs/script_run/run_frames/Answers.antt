@@ -1,4 +1,4 @@
-use Rattle.spawnrun_lib.proofs.Common.{common_steps, rules, arith}
+use Rattle.spawnrun_lib.proofs.Common.{rules}
 use Rattle.spawnrun_lib.proofs.NextFrame.{goes_on, has_gone_on, next_is_few, one_more, others_are_few}
 use Rattle.spawnrun_lib.proofs.script_run.run_frames.Goals as goal
 
@@ -24,6 +24,3 @@ loop-current-preserved g c =
       flushed = c.in_ok-report.ensures.flushed;
       run = search (rules, i.counted, on);
     }
-
-pub returns : goal.returns
-returns g c = grind (arith, common_steps)

@@ -1,4 +1,4 @@
-use Rattle.spawnrun_lib.proofs.Common.{common_steps, arith, map, string_bytes, err_from_is_err_and, line_in}
+use Rattle.spawnrun_lib.proofs.Common.{arith, map, string_bytes, err_from_is_err_and, line_in}
 use Rattle.spawnrun_lib.proofs.Parts.{part_fits}
 use Rattle.spawnrun_lib.proofs.world_text.append_entities.Goals as goal
 
@@ -9,15 +9,3 @@ returns-in_err-append_entity-clause-full c =
     c.loop-handle-test.true c.handle-item.is c.loop-handle.invariant.told in
     let p = err_from_is_err_and c.from_residual.result c.from_residual.ensures.1 in
     rw p.1 (omega (arith, c.in_err-append_entity.ensures.full, c.loop-handle.out.ok))
-
-pub loop-handle-init : goal.loop-handle-init
-loop-handle-init c = grind (arith, common_steps)
-
-pub returns-in_err-append_entity-clause-kept : goal.returns-in_err-append_entity-clause-kept
-returns-in_err-append_entity-clause-kept c = grind (arith, common_steps)
-
-pub loop-handle-preserved : goal.loop-handle-preserved
-loop-handle-preserved c = grind (arith, common_steps)
-
-pub returns-clause-ok : goal.returns-clause-ok
-returns-clause-ok c = grind (arith, common_steps)

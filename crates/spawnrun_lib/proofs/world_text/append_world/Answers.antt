@@ -1,5 +1,4 @@
-use Rattle.spawnrun_lib.proofs.Common.{rules, ◌≡◌, ◌+◌, ◌++◌, ℕ, List, length, refl, flat_map, err_from_is_err_and, on_err_weaker, Handle, EntityMap, ListsAll, Show, line_in, alive_line, IsWorldText}
-use Rattle.std.proofs.Common.{length-append}
+use Rattle.spawnrun_lib.proofs.Common.{rules, ◌≡◌, ◌+◌, ◌++◌, ℕ, List, length, refl, flat_map, err_from_is_err_and, on_err_weaker, Handle, EntityMap, ListsAll, Show, line_in, alive_line, IsWorldText, length-append}
 use Rattle.std.specs.FinMap as finite
 use Rattle.spawnrun_lib.proofs.OneText.{one_text}
 use Rattle.spawnrun_lib.proofs.world_text.append_world.Goals as goal

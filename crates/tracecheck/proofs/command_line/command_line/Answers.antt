@@ -1,6 +1,5 @@
-use Rattle.tracecheck.proofs.Common.{rules, arith, ◌≡◌, ◌∙◌, List, ℕ, true, ap, map, common_steps, takes, only_memory, is_taken}
-use Rattle.clap.specs.Words.{App}
-use Rattle.tracecheck.proofs.Beginnings.{both_not_taken, clap_fault, faultless, faultless_of_one, faulty_of_both, is_taken-takes, rows_asked}
+use Rattle.tracecheck.proofs.Common.{rules, arith, ◌≡◌, ◌∙◌, List, ℕ, true, ap, map, common_steps, takes, only_memory, is_taken, App}
+use Rattle.tracecheck.proofs.Beginnings.{both_not_taken, clap_fault, faultless_of_one, faulty_of_both, is_taken-takes, rows_asked}
 use Rattle.tracecheck.proofs.OptionsGiven.{generations-given, slots-given}
 use Rattle.tracecheck.proofs.command_line.command_line.Goals as goal
 
@@ -25,21 +24,14 @@ pub returns-clause-asked : goal.returns-clause-asked
 returns-clause-asked g c = grind (arith, common_steps, rows_asked)
 
 pub returns-clause-taken : goal.returns-clause-taken
-returns-clause-taken g c =
-    let words : List (List ℕ) = map g.S.AsStr.text c.args.words.now in
-    faultless_of_one c.beginning_of.result words _ (rows_asked _ words _ c.in_ok-program.ensures
-    c.in_ok-matches.ensures.matches) (faultless _ words c.in_ok-program.ensures c.in_ok-matches.ensures.kinds)
-    c.beginning_of.ensures.one
+returns-clause-taken g c = faultless_of_one _ (map g.S.AsStr.text c.args.words.now) _ c.in_ok-program.ensures
+    c.in_ok-matches.ensures.matches c.beginning_of.result c.in_ok-matches.ensures.kinds c.beginning_of.ensures.one
 
 pub returns-clause-fault : goal.returns-clause-fault
-returns-clause-fault g c =
-    let words : List (List ℕ) = map g.S.AsStr.text c.args.words.now in
-    faulty_of_both c.beginning_of.result words _ (rows_asked _ words _ c.in_ok-program.ensures
-    c.in_ok-matches.ensures.matches) (faultless _ words c.in_ok-program.ensures c.in_ok-matches.ensures.kinds)
-    c.beginning_of.ensures.both c.beginning_of.ensures.fault
+returns-clause-fault g c = faulty_of_both _ (map g.S.AsStr.text c.args.words.now) _ c.in_ok-program.ensures
+    c.in_ok-matches.ensures.matches c.beginning_of.result c.in_ok-matches.ensures.kinds c.beginning_of.ensures.both
+    c.beginning_of.ensures.fault
 
 pub returns-clause-refused : goal.returns-clause-refused
-returns-clause-refused g c =
-    let words : List (List ℕ) = map g.S.AsStr.text c.args.words.now in
-    both_not_taken c.beginning_of.result words _ (rows_asked _ words _ c.in_ok-program.ensures
-    c.in_ok-matches.ensures.matches) c.beginning_of.ensures.both
+returns-clause-refused g c = both_not_taken _ (map g.S.AsStr.text c.args.words.now) _ c.in_ok-program.ensures
+    c.in_ok-matches.ensures.matches c.beginning_of.result c.beginning_of.ensures.both

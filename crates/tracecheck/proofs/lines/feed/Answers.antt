@@ -6,9 +6,8 @@ pub returns-in_err-checking-clause-ends : goal.returns-in_err-checking-clause-en
 returns-in_err-checking-clause-ends c =
     let p = err_from_is_err_and c.from_residual.result c.from_residual.ensures.1 in
     let before = c.loop-line.invariant in
-    rw (p.1, p.2) (λ begin text more read. subst (λ (bs : List ℕ). MayEnd begin (lines_of bs)
-    c.in_err-checking.field-0.0) (sym (piece_rest text c.args.piece.now before.0 c.loop-line.rest.now c.in-Some.line.now
-    c.in-Some.others.now more before.1 c.in-Some.ensures.found))
+    rw (p.1, p.2) (λ begin text more read. rw (piece_rest text c.args.piece.now before.0 c.loop-line.rest.now
+    c.in-Some.line.now c.in-Some.others.now more before.1 c.in-Some.ensures.found)
     (search (rules, c.in_err-checking.ensures.ends, c.in-Some.others.now)))
 
 pub loop-line-preserved : goal.loop-line-preserved

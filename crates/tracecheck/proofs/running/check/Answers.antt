@@ -1,6 +1,18 @@
-use Rattle.tracecheck.proofs.Common.{◌++◌, ◌∙◌, List, ℕ, take, ap, sym, subst, arith, append-nil, Consumes, Consumes-append, HasRead}
-use Rattle.tracecheck.proofs.InputRead.{ended_at_end, ended_early}
+use Rattle.tracecheck.proofs.Common.{rules, IfSome, ◌++◌, ◌∙◌, List, ℕ, take, ap, sym, subst, arith, append-nil, Consumes, Consumes-append, HasRead, Option, IsAtEnd, Allocator, lines_of, MayEnd, Checking, End}
 use Rattle.tracecheck.proofs.running.check.Goals as goal
+
+-- the whole input was read
+ended_at_end : (begin : Allocator) (old new : Option (List ℕ)) (text pending : List ℕ) (c : Checking) (end : End)
+    → Consumes old new text → IsAtEnd new → HasRead begin text c pending → ((all : List ℕ) → HasRead begin all c pending
+    → MayEnd begin (lines_of all) end) → IfSome old (λ all. MayEnd begin (lines_of all) end)
+ended_at_end begin it new text pending c end taken last read ends = search (rules, append-nil)
+
+-- what was read is enough
+ended_early : (begin : Allocator) (old middle new : Option (List ℕ)) (text piece pending : List ℕ) (c : Checking)
+    (end : End) → Consumes old middle text → Consumes middle new piece → HasRead begin text c pending
+    → ((all more : List ℕ) → HasRead begin all c pending → MayEnd begin (lines_of (all ++ piece ++ more)) end)
+    → IfSome old (λ all. MayEnd begin (lines_of all) end)
+ended_early begin it middle new text piece pending c end taken next read ends = search (rules, Consumes-append)
 
 pub returns-then-count-eq0-clause-ends : goal.returns-then-count-eq0-clause-ends
 returns-then-count-eq0-clause-ends g c =
@@ -17,10 +29,8 @@ returns-then-count-eq0-clause-ends g c =
 pub returns-in-Err-clause-ends : goal.returns-in-Err-clause-ends
 returns-in-Err-clause-ends g c =
     let before = c.loop.invariant.read in
-    ended_early c.args.entities.allocator (g.I.Source.remaining c.args.input.now) (g.I.Source.remaining c.loop.input)
-    (g.I.Source.remaining c.take.new.self) before.0 (take c.in_ok-count.count c.take.new.buffer) c.loop.pending.items
-    c.loop.checking c.in-Err.end before.1 c.in_ok-count.ensures.bytes before.2
-    (c.in-Err.ensures.ends c.args.entities.allocator)
+    ended_early _ _ _ _ before.0 _ c.loop.pending.items c.loop.checking c.in-Err.end before.1
+    c.in_ok-count.ensures.bytes before.2 (c.in-Err.ensures.ends c.args.entities.allocator)
 
 pub loop-preserved : goal.loop-preserved
 loop-preserved g c =

@@ -1,5 +1,11 @@
-use Rattle.tracecheck.proofs.FromImage.{said_from}
+use Rattle.tracecheck.proofs.Common.{rules, List, ℕ, Option, Some, None, inl, IfSome, Writes, Entities, IsImageOf, HasSaidFrom, IsSaidOf, Status}
 use Rattle.tracecheck.proofs.running.check_from.Goals as goal
+
+said_from : (image input old new : Option (List ℕ)) (e : Entities) (ended : Status)
+    → IfSome image (λ bytes. IsImageOf bytes e) → Writes (IsSaidOf e.allocator ended) input old new
+    → IfSome image (λ bytes. HasSaidFrom bytes ended input old new)
+said_from None input old new e ended is written = tt
+said_from (Some bytes) input old new e ended is written = inl (e, is, written)
 
 pub returns-in-Ok-clause-said : goal.returns-in-Ok-clause-said
 returns-in-Ok-clause-said g c = λ memory device. said_from _ _ _ _ c.in-Ok.entities c.check_trace.result

@@ -1,6 +1,5 @@
-use Rattle.spawnrun_lib.proofs.Common.{rules, ◌++◌, refl, codes, decimal, inline_text, view, quoted, plain}
-use Rattle.spawnrun_lib.proofs.Pieces.{from_nothing, if_some, more_text, two_pieces}
-use Rattle.spawnrun_lib.proofs.Printable.{decimal-printable, passes}
+use Rattle.spawnrun_lib.proofs.Pieces.{decimal-printable, passes, from_nothing, if_some, more_text, two_pieces}
+use Rattle.spawnrun_lib.proofs.Common.{rules, ◌++◌, refl, codes, decimal, inline_text, quoted, plain}
 use Rattle.spawnrun_lib.proofs.part.Part.shown.Goals as goal
 
 pub returns-in-Absent-clause-text : goal.returns-in-Absent-clause-text
@@ -34,20 +33,10 @@ returns-in-Long-clause-text c =
 pub returns-in-Member-clause-text : goal.returns-in-Member-clause-text
 returns-in-Member-clause-text c =
     let nothing = inline_text c.new-nothing.result in
-    let key = inline_text c.with_quoted-in-Member.result in
-    let colon = inline_text c.with_text-shown.result in
     let name = c.in-Member.key.now in
-    let d = view c.in-Member.value.now in
-    let before = two_pieces nothing key colon (quoted name) (codes ":")
-    c.with_quoted-in-Member.ensures.text
-    (more_text key colon (codes ":") (passes (codes ":") refl)
-    c.with_text-shown.ensures.text) in
     rw c.in-Member.is (if_some c.with_json-in-Member.result _ _
     (λ shown h. record {
       text = quoted name ++ codes ":" ++ plain h.0;
       spells = (h.0, h.1, refl);
-      is = from_nothing nothing (quoted name ++ codes ":" ++ plain h.0) (inline_text shown)
-          c.new-nothing.ensures.text
-          (two_pieces nothing colon (inline_text shown) (quoted name ++ codes ":") (plain h.0)
-          before h.2);
+      is = search (rules, from_nothing, two_pieces nothing, more_text, passes);
     }) c.with_json-in-Member.ensures.text)

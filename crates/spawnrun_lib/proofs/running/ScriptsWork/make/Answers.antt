@@ -1,4 +1,4 @@
-use Rattle.spawnrun_lib.proofs.Common.{rules, ◌∙◌, ap, sym, script_of_text}
+use Rattle.spawnrun_lib.proofs.Common.{◌∙◌, ap, sym, script_of_text}
 use Rattle.spawnrun_lib.proofs.running.ScriptsWork.make.Goals as goal
 
 pub returns-in_ok-report-in-Ok : goal.returns-in_ok-report-in-Ok
@@ -14,9 +14,3 @@ returns-in_ok-report-in-Ok g c =
         enough = report.enough;
       },
     )
-
-pub no_script-requires : goal.no_script-requires
-no_script-requires g c = search rules
-
-pub returns-in_ok-no_script-in-Err : goal.returns-in_ok-no_script-in-Err
-returns-in_ok-no_script-in-Err g c = search rules

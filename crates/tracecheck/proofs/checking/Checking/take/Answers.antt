@@ -1,4 +1,4 @@
-use Rattle.tracecheck.proofs.Common.{rules, arith}
+use Rattle.tracecheck.proofs.Common.{arith, rules}
 use Rattle.tracecheck.proofs.Taking.{HasTaken-none, none_here}
 use Rattle.tracecheck.proofs.checking.Checking.take.Goals as goal
 
@@ -6,6 +6,6 @@ pub returns-in-Ok-None-clause-taken : goal.returns-in-Ok-None-clause-taken
 returns-in-Ok-None-clause-taken c = search (rules, HasTaken-none)
 
 pub returns-in-Err-Cause-clause-ends : goal.returns-in-Err-Cause-clause-ends
-returns-in-Err-Cause-clause-ends c = λ begin texts after taken. none_here begin texts after c.args.text.now
-    c.in-Err-Cause.cause c.args.self c.in-Some.number (grind arith)
-    (rw c.in-Err-Cause.field-0-is at c.in-Err-Cause.ensures.exact) taken
+returns-in-Err-Cause-clause-ends c = λ begin texts after taken. none_here begin texts c.args.text.now c.args.self
+    c.in-Some.number (grind arith) taken after c.in-Err-Cause.cause
+    (rw c.in-Err-Cause.field-0-is at c.in-Err-Cause.ensures.exact)

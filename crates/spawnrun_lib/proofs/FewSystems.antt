@@ -1,8 +1,0 @@
--- No frame of a script has more systems than a frame may have.
-use Rattle.spawnrun_lib.proofs.Common.{rules, ℕ, ◌+◌, ◌≤◌, List, [], ◌∷◌, length, All-nil, All-cons, AllFrom, IsFrameOf, Operation, AreFew}
-
-pub few_systems : (components n : ℕ) (frames : List (List (List Operation))) → AllFrom (IsFrameOf components) n frames
-    → AreFew frames
-few_systems components n [] ranges = All-nil (λ systems. length systems ≤ 256)
-few_systems components n (systems ∷ frames) ranges = search
-    (rules, All-cons, few_systems components (n + 1) frames ranges.1)

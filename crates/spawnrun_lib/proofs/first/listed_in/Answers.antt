@@ -1,5 +1,0 @@
-use Rattle.spawnrun_lib.proofs.Common.{rules}
-use Rattle.spawnrun_lib.proofs.first.listed_in.Goals as goal
-
-pub returns-in-Some : goal.returns-in-Some
-returns-in-Some c = search rules

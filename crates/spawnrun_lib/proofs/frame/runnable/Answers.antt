@@ -1,8 +1,0 @@
-use Rattle.spawnrun_lib.proofs.Common.{arith, common_steps}
-use Rattle.spawnrun_lib.proofs.frame.runnable.Goals as goal
-
-pub loop-system-preserved : goal.loop-system-preserved
-loop-system-preserved c = grind (arith, common_steps)
-
-pub returns : goal.returns
-returns c = grind (arith, common_steps)
