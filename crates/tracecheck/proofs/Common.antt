@@ -1,5 +1,5 @@
 -- The names that proofs of this crate cite, of std, of the crates below and of its own specs. Declares nothing.
-pub use Rattle.std.proofs.Common.{All, Bool, Bor, Err, IfErr, IfSome, IsErrAnd, List, None, Ok, OnErr, OnOk, Option, Result, Some, [], ap, append_assoc, arith, bytes_eq, codes, cond, eqb, false, find, if◌then◌else◌, inl, inr, is_some, length, length-append, map, not, option_and_then, option_map, pos, refl, rules, subst, suc, sym, take, true, zero, ℕ, ◌&&◌, ◌++◌, ◌+◌, ◌<◌, ◌^◌, ◌∙◌, ◌∷◌, ◌≡◌, ◌≢◌, ◌≤◌, ◌⊎◌}
+pub use Rattle.std.proofs.Common.{All, Bool, Bor, Err, IfErr, IfSome, IsErrAnd, List, None, Ok, OnErr, OnOk, Option, Result, Some, [], ap, append_assoc, arith, bytes_eq, codes, eqb, false, find, if◌then◌else◌, inl, inr, is_some, length, length-append, map, not, option_and_then, option_map, pos, refl, rules, subst, suc, sym, take, true, zero, ℕ, ◌&&◌, ◌++◌, ◌+◌, ◌<◌, ◌^◌, ◌∙◌, ◌∷◌, ◌≡◌, ◌≢◌, ◌≤◌, ◌⊎◌}
 pub use Rattle.std.proofs.lemmas.Bool.{cases_lt, cond-false, eqb-true, false≢true, ne_eqb}
 pub use Rattle.std.proofs.lemmas.Grind.{common_steps}
 pub use Rattle.std.proofs.lemmas.List.{append-nil, length-map, nil_from_length}
@@ -17,7 +17,7 @@ pub use Rattle.clap.specs.Built.{IsAuto, IsParsedFrom, SameRules}
 pub use Rattle.clap.specs.Facts.{Entry, EntryPasses, HasId, HasReading, IsFilledEntry, IsKnownGroup, MayBeEmpty, PassesArg, ValuesPass, WantsDefault, args_of, groups_of, least_values, unwrap_or_range}
 pub use Rattle.clap.specs.Kinds.{HasKind, Kinds, or_else}
 pub use Rattle.clap.specs.Simple.{App, HasMatchesOf, IsSimple, IsSimpleArg, app_of, is_ready, is_ready_leaf, matches_of}
-pub use Rattle.clap.specs.Walk.{Row, Rule, Text, first_of, row_of, rows_of, rule_of, texts}
+pub use Rattle.clap.specs.Walk.{Row, Rule, Text, first_of, rows_of, rule_of, texts}
 pub use Rattle.clap.specs.Words.{IsSignedIn, fault_of, first_value, found_of, is_simple, is_simple_and_free, items_of, matched_of, takes}
 pub use Rattle.clap.specs.declared.builder.ArgAction.TheVariants.{Set}
 pub use Rattle.clap.specs.declared.builder.arg.Arg.{Arg}
@@ -34,7 +34,7 @@ pub use Rattle.cli.proofs.Faults.{found_fault, only_memory}
 pub use Rattle.cli.specs.Fault.{IsFaultAmong, IsFaultOf}
 pub use Rattle.cli.specs.Options.{HasNumber, given, number_option}
 pub use Rattle.cli.specs.declared.line_fault.LineFault.{LineFault}
-pub use Rattle.cli.specs.declared.line_fault.LineFault.TheVariants.{Line, Memory}
+pub use Rattle.cli.specs.declared.line_fault.LineFault.TheVariants.{Memory}
 pub use Rattle.devices.proofs.TakenInSteps.{Consumes-append}
 pub use Rattle.devices.specs.Device.{Writes}
 pub use Rattle.ent_alloc.specs.Entities.{Entities}
@@ -46,7 +46,7 @@ pub use Rattle.ent_replay.proofs.Requested.{ReachesAll-next, requested-alloc, re
 pub use Rattle.ent_replay.proofs.ScheduleWords.{parts_first, parts_nonempty, parts_whole}
 pub use Rattle.ent_replay.specs.Checker.{AgreesWith, AllFollow, Checked, Follows, IsTooMany, NoneFollows, Reaches, Shows}
 pub use Rattle.ent_replay.specs.Text.{ended, line_of, lines_of, without_return, words_of}
-pub use Rattle.ent_replay.specs.Trace.{AreAnswered, Fits, FitsReserved, IsOrderOf, MayPass, after_line}
+pub use Rattle.ent_replay.specs.Trace.{AreAnswered, Fits, FitsReserved, IsOrderOf, after_line}
 pub use Rattle.ent_replay.specs.declared.trace.call.Call.{Call}
 pub use Rattle.ent_replay.specs.declared.trace.difference.Difference.{Difference}
 pub use Rattle.ent_replay.specs.declared.trace.read_fault.Cause.{Cause}

@@ -4,3 +4,4 @@ pub mod OptionsGiven
 pub mod Strangers
 pub mod Beginnings
 pub mod Common
+pub mod Laws

@@ -126,14 +126,19 @@ number-given cmd m is p k option most default below at alone named own =
     (subst (λ (text : Text). bytes_eq (slice_index_or (args_of cmd) j e).id.now text ≡ true) id same_id)) in
     let free : IsAuto a → ⊥ = λ auto. own (search rules) in
     let only : (j : ℕ) (x : Arg) → j < length (args_of p.built) → slice_index_or (args_of p.built) j x ≡ x
-        → bytes_eq x.id.now option ≡ true → TakesNumber most x = λ j x high here same_id. let kept : SameRules a x =
-        same_rules_by_id cmd m p k d lt unique free j x high here
-        (subst (λ (text : Text). bytes_eq x.id.now text ≡ true) (sym id) same_id) in record
-        { parser = kept.parser _ (ap (λ (r : Rule). r.parser) rule); ignore_case = kept.ignore_case
-        ∙ ap (λ (r : Rule). r.ignore_case) rule; action = kept.action Set set; delimiter = kept.val_delim
-        ∙ simple_arg.delimiter; least = kept.least set (omega (arith, least)) } in
+    → bytes_eq x.id.now option ≡ true → TakesNumber most x = λ j x high here same_id. let kept : SameRules a x =
+    same_rules_by_id cmd m p k d lt unique free j x high here
+    (subst (λ (text : Text). bytes_eq x.id.now text ≡ true) (sym id) same_id) in record {
+      parser = kept.parser _ (ap (λ (r : Rule). r.parser) rule);
+      ignore_case = kept.ignore_case
+          ∙ ap (λ (r : Rule). r.ignore_case) rule;
+      action = kept.action Set set;
+      delimiter = kept.val_delim
+          ∙ simple_arg.delimiter;
+      least = kept.least set (omega (arith, least));
+    } in
     number-found p.built option most groups named only (found_of m) parsed.values
-        (subst (λ (text : Text). HasId (found_of m) text) id (default_present cmd m p simple.globals k d lt wants))
+    (subst (λ (text : Text). HasId (found_of m) text) id (default_present cmd m p simple.globals k d lt wants))
 
 -- ---- both
 

@@ -1,6 +1,6 @@
 //! Compares a recorded trace of an entity allocator with the proved one: `tracecheck` reads it on
 //! standard input, and writes whether it agrees, or the first line that doesn't.
-#![tactic(auto)]
+#![tactic(auto, using(crate::proofs::Laws::laws))]
 
 mod checking;
 mod command_line;

@@ -1,4 +1,4 @@
-use Rattle.tracecheck.proofs.Common.{rules, ◌++◌, List, ℕ, subst, sym, ap, ◌∙◌, eqb-true, append-nil, MayEnd}
+use Rattle.tracecheck.proofs.Common.{rules, ◌++◌, List, ℕ, sym, ap, ◌∙◌, eqb-true, append-nil}
 use Rattle.tracecheck.proofs.LinesRead.{lines_at_end, lines_none, lines_now}
 use Rattle.tracecheck.proofs.lines.finish.Goals as goal
 

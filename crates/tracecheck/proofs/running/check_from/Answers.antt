@@ -1,4 +1,4 @@
-use Rattle.tracecheck.proofs.Common.{rules, List, ℕ, Option, Some, None, inl, IfSome, Writes, Entities, IsImageOf, HasSaidFrom, IsSaidOf, Status}
+use Rattle.tracecheck.proofs.Common.{List, ℕ, Option, Some, None, inl, IfSome, Writes, Entities, IsImageOf, HasSaidFrom, IsSaidOf, Status}
 use Rattle.tracecheck.proofs.running.check_from.Goals as goal
 
 said_from : (image input old new : Option (List ℕ)) (e : Entities) (ended : Status)

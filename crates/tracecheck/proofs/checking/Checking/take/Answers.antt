@@ -1,9 +1,6 @@
-use Rattle.tracecheck.proofs.Common.{arith, rules}
-use Rattle.tracecheck.proofs.Taking.{HasTaken-none, none_here}
+use Rattle.tracecheck.proofs.Common.{arith}
+use Rattle.tracecheck.proofs.Taking.{none_here}
 use Rattle.tracecheck.proofs.checking.Checking.take.Goals as goal
-
-pub returns-in-Ok-None-clause-taken : goal.returns-in-Ok-None-clause-taken
-returns-in-Ok-None-clause-taken c = search (rules, HasTaken-none)
 
 pub returns-in-Err-Cause-clause-ends : goal.returns-in-Err-Cause-clause-ends
 returns-in-Err-Cause-clause-ends c = λ begin texts after taken. none_here begin texts c.args.text.now c.args.self
