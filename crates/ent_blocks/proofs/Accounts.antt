@@ -1,5 +1,5 @@
 -- Reservers of some blocks, in their order, and what was used of all.
-use Rattle.ent_blocks.proofs.Common.{rules, ◌≡◌, refl, sym, ap, ◌∙◌, ℕ, zero, suc, ◌+◌, ◌<◌, ◌≤◌, List, [], ◌∷◌, length, map, drop, get_or, arith, Bool, true, false, common_steps, drop_more, get_or-map, length-map, length-drop, Block, Reserver, unused, is_same, are_among, accounted, blocks_of, AreLaid}
+use Rattle.ent_blocks.proofs.Common.{rules, inl, inr, cases_Bool, ◌≡◌, refl, sym, ap, ◌∙◌, ℕ, ◌+◌, ◌<◌, ◌≤◌, List, [], ◌∷◌, length, map, drop, get_or, arith, true, false, common_steps, drop_all, drop_more, get_or-map, length-map, length-drop, Block, Reserver, unused, is_same, are_among, accounted, blocks_of, AreLaid}
 
 same_size : (b r : Block) → is_same b r ≡ true → b.size ≡ r.size
 same_size b r same = grind (arith, common_steps)
@@ -12,19 +12,14 @@ pub few_among : (blocks reservers : List Block) → are_among blocks reservers �
 few_among [] [] among = omega arith
 few_among [] (r ∷ reservers) among = absurd cc
 few_among (b ∷ blocks) [] among = omega arith
-few_among (b ∷ blocks) (r ∷ reservers) among =
-    by_same (is_same b r) refl (few_among blocks reservers) (few_among blocks (r ∷ reservers))
-  where
-    by_same : (x : Bool) → is_same b r ≡ x
-        → (are_among blocks reservers ≡ true → length reservers ≤ length blocks)
-        → (are_among blocks (r ∷ reservers) ≡ true → length (r ∷ reservers) ≤ length blocks)
-        → length (r ∷ reservers) ≤ length (b ∷ blocks)
-    by_same true is first second =
-        let rest : are_among blocks reservers ≡ true = grind (arith, common_steps) in
-        omega (arith, first rest)
-    by_same false is first second =
-        let rest : are_among blocks (r ∷ reservers) ≡ true = grind (arith, common_steps) in
-        omega (arith, second rest)
+few_among (b ∷ blocks) (r ∷ reservers) among = elim (cases_Bool (is_same b r)) [
+  | inl is ↦
+      let rest : are_among blocks reservers ≡ true = grind (arith, common_steps) in
+      omega (arith, few_among blocks reservers rest)
+  | inr is ↦
+      let rest : are_among blocks (r ∷ reservers) ≡ true = grind (arith, common_steps) in
+      omega (arith, few_among blocks (r ∷ reservers) rest)
+]
 
 -- the blocks are those that were dealt
 pub unused_accounted : (before : ℕ) (blocks reservers : List Block) → AreLaid before blocks
@@ -35,23 +30,19 @@ unused_accounted before (b ∷ blocks) [] laid =
     let rest = unused_accounted (before + b.size) blocks [] laid.2 in
     λ i. first i ∷ rest i
 unused_accounted before (b ∷ blocks) (r ∷ reservers) laid =
-    by_same (is_same b r) refl (unused_accounted (before + b.size) blocks reservers laid.2)
-    (unused_accounted (before + b.size) blocks (r ∷ reservers) laid.2)
-  where
-    first : unused b ≡ b
-    first = λ i. record b { used = sym laid.1 i }
-
-    by_same : (x : Bool) → is_same b r ≡ x → map unused (accounted blocks reservers) ≡ blocks
-        → map unused (accounted blocks (r ∷ reservers)) ≡ blocks → map unused (accounted (b ∷ blocks) (r ∷ reservers))
-        ≡ b ∷ blocks
-    by_same true is rest second =
-        let here : accounted (b ∷ blocks) (r ∷ reservers) ≡ record b { used = r.used }
-        ∷ accounted blocks reservers = grind (arith, common_steps) in
-        ap (map unused) here ∙ (λ i. first i ∷ rest i)
-    by_same false is second rest =
-        let here : accounted (b ∷ blocks) (r ∷ reservers) ≡ record b { used = b.size }
-        ∷ accounted blocks (r ∷ reservers) = grind (arith, common_steps) in
-        ap (map unused) here ∙ (λ i. first i ∷ rest i)
+    let first : unused b ≡ b = λ i. record b { used = sym laid.1 i } in
+    elim (cases_Bool (is_same b r)) [
+      | inl is ↦
+          let here : accounted (b ∷ blocks) (r ∷ reservers) ≡ record b { used = r.used }
+          ∷ accounted blocks reservers = grind (arith, common_steps) in
+          let rest = unused_accounted (before + b.size) blocks reservers laid.2 in
+          ap (map unused) here ∙ (λ i. first i ∷ rest i)
+      | inr is ↦
+          let here : accounted (b ∷ blocks) (r ∷ reservers) ≡ record b { used = b.size }
+          ∷ accounted blocks (r ∷ reservers) = grind (arith, common_steps) in
+          let rest = unused_accounted (before + b.size) blocks (r ∷ reservers) laid.2 in
+          ap (map unused) here ∙ (λ i. first i ∷ rest i)
+    ]
 
 -- if all are here, it is what they say
 pub all_accounted : (blocks reservers : List Block) → are_among blocks reservers ≡ true
@@ -59,30 +50,21 @@ pub all_accounted : (blocks reservers : List Block) → are_among blocks reserve
 all_accounted [] [] among all = refl
 all_accounted [] (r ∷ reservers) among all = absurd (omega arith)
 all_accounted (b ∷ blocks) [] among all = absurd (omega arith)
-all_accounted (b ∷ blocks) (r ∷ reservers) among all =
-    by_same (is_same b r) refl (λ rest. all_accounted blocks reservers rest (omega arith))
-  where
-    by_same : (x : Bool) → is_same b r ≡ x
-        → (are_among blocks reservers ≡ true → accounted blocks reservers ≡ reservers)
-        → accounted (b ∷ blocks) (r ∷ reservers) ≡ r ∷ reservers
-    by_same true is others =
-        let rest : are_among blocks reservers ≡ true = grind (arith, common_steps) in
-        let here : accounted (b ∷ blocks) (r ∷ reservers)
-        ≡ record b { used = r.used } ∷ accounted blocks reservers = grind (arith, common_steps) in
-        let first : record b { used = r.used } ≡ r =
-        λ i. record { before = same_before b r is i; size = same_size b r is i; used = r.used } in
-        here ∙ (λ i. first i ∷ others rest i)
-    by_same false is others =
-        let rest : are_among blocks (r ∷ reservers) ≡ true = grind (arith, common_steps) in
-        absurd (omega (arith, few_among blocks (r ∷ reservers) rest))
+all_accounted (b ∷ blocks) (r ∷ reservers) among all = elim (cases_Bool (is_same b r)) [
+  | inl is ↦
+      let rest : are_among blocks reservers ≡ true = grind (arith, common_steps) in
+      let here : accounted (b ∷ blocks) (r ∷ reservers)
+      ≡ record b { used = r.used } ∷ accounted blocks reservers = grind (arith, common_steps) in
+      let first : record b { used = r.used } ≡ r =
+      λ i. record { before = same_before b r is i; size = same_size b r is i; used = r.used } in
+      let others = all_accounted blocks reservers rest (omega arith) in
+      here ∙ (λ i. first i ∷ others i)
+  | inr is ↦
+      let rest : are_among blocks (r ∷ reservers) ≡ true = grind (arith, common_steps) in
+      absurd (omega (arith, few_among blocks (r ∷ reservers) rest))
+]
 
 -- ---- one more block
-
-drop_all : {X : Type 0} (n : ℕ) (xs : List X) → length xs ≤ n → drop n xs ≡ []
-drop_all zero [] le = refl
-drop_all zero (x ∷ xs) le = absurd (omega arith)
-drop_all (suc n) [] le = refl
-drop_all (suc n) (x ∷ xs) le = drop_all n xs (omega arith)
 
 module _ (bs : List Block) (rs : List Reserver) (i k : ℕ) (b : Block) (here : i < length bs)
     (b_is : b ≡ get_or bs i b) where

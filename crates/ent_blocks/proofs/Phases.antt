@@ -1,5 +1,5 @@
 -- What a phase says of a reserver's block, and of all blocks as they come back.
-use Rattle.ent_blocks.proofs.Common.{rules, ◌≡◌, sym, subst, ℕ, ◌+◌, ◌^◌, ◌<◌, ◌≤◌, List, length, map, arith, Allocator, Block, Blocks, dealt, unused, IsOf, AreLaid, AreDealt, accounted}
+use Rattle.ent_blocks.proofs.Common.{rules, ◌≡◌, ℕ, ◌+◌, ◌^◌, ◌<◌, ◌≤◌, List, length, map, arith, Allocator, Block, Blocks, dealt, unused, IsOf, AreLaid, AreDealt, accounted}
 use Rattle.ent_blocks.proofs.Dealing.{of_phase, dealt-unused}
 use Rattle.ent_blocks.proofs.Accounts.{unused_accounted}
 
@@ -25,8 +25,4 @@ pub closing : (s : Allocator) (blocks reservers : List Block) → AreDealt s blo
 closing s blocks reservers are =
     let same = unused_accounted 0 blocks reservers are.laid in
     let long : dealt (accounted blocks reservers) ≡ dealt blocks = search (rules, dealt-unused) in
-    record {
-      laid = subst (AreLaid 0) (sym same) are.laid;
-      within = omega (arith, long, are.within);
-      few = omega (arith, long, are.few);
-    }
+    record { laid = rw same are.laid; within = omega (arith, are.within); few = omega (arith, are.few) }

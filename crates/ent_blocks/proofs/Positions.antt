@@ -1,5 +1,5 @@
 -- A position of the pool, from its front, and what a request finds there.
-use Rattle.ent_blocks.proofs.Common.{rules, ◌≡◌, refl, sym, ap, ◌∙◌, ℕ, zero, suc, ℤ, pos, ◌-ℤ◌, ◌+◌, ◌-◌, ◌<◌, ◌≤◌, List, [], ◌∷◌, ◌++◌, length, take, drop, get_or, arith, Ok, Err, slice_get, Some, Result, common_steps, le-leb, lt-leb, get_or-drop, length-drop, take_more, drop_more, drop-take, length-take-le, drop-drop, length_permutation, get_or_from_slice_get, slice_get_read, Handle, Space, Allocator, available, top, cursor, asked_at, pool_at, reply_from, listed, listed_alone, IsSound, asked_at-is, flushed-laid_out, listed-IsPermutation, Block, used_of, rest_of}
+use Rattle.ent_blocks.proofs.Common.{rules, ◌≡◌, refl, sym, ap, ◌∙◌, ℕ, ℤ, pos, ◌-ℤ◌, ◌+◌, ◌-◌, ◌<◌, ◌≤◌, List, [], ◌∷◌, ◌++◌, length, take, drop, get_or, arith, Ok, Err, slice_get, Some, Result, common_steps, le-leb, lt-leb, get_or-drop, length-drop, take_more, drop_more, drop-take, length-take-le, take-take, drop-drop, length_permutation, get_or_from_slice_get, slice_get_read, Handle, Space, Allocator, available, top, cursor, asked_at, pool_at, reply_from, listed, listed_alone, IsSound, asked_at-is, flushed-laid_out, listed-IsPermutation, Block, used_of, rest_of}
 
 -- one more of what begins at a position
 pub list_more : (pool : List Handle) (from more : ℕ) (h : Handle) → slice_get pool (from + more) ≡ Some h
@@ -43,12 +43,6 @@ module _ (s : Allocator) (sound : IsSound s) (flushed : s.asked ≡ 0) (position
 
 -- ---- a block
 
-pub take_of_take : {X : Type 0} (n m : ℕ) (xs : List X) → n ≤ m → take n (take m xs) ≡ take n xs
-take_of_take zero m xs le = refl
-take_of_take (suc n) zero xs le = absurd (omega arith)
-take_of_take (suc n) (suc m) [] le = refl
-take_of_take (suc n) (suc m) (x ∷ xs) le = ap (x ∷◌) (take_of_take n m xs (omega arith))
-
 -- enough are left
 pub served : (made n : ℕ) (pool : List Handle) → n ≤ length pool
     → reply_from made pool n ≡ Ok (listed made (take n pool))
@@ -65,7 +59,7 @@ pub length-rest : (pool : List Handle) (b : Block) → b.used ≤ b.size → b.b
 length-rest pool b used within = search (rules, rest_is, length-take-le, length-drop)
 
 pub used_is : (pool : List Handle) (b : Block) → b.used ≤ b.size → used_of pool b ≡ take b.used (drop b.before pool)
-used_is pool b used = take_of_take b.used b.size (drop b.before pool) used
+used_is pool b used = take-take b.used b.size (drop b.before pool) used
 
 pub length-used : (pool : List Handle) (b : Block) → b.used ≤ b.size → b.before + b.size ≤ length pool
     → length (used_of pool b) ≡ b.used
@@ -85,14 +79,14 @@ served_one made pool b h less within at =
     let long : length rest ≡ b.size - b.used = length-rest pool b (omega arith) within in
     let there = drop (b.before + b.used) pool in
     let first : take 1 rest ≡ h ∷ [] = ap (take 1) (rest_is pool b (omega arith) within)
-    ∙ take_of_take 1 (b.size - b.used) there (omega arith) ∙ list_more pool (b.before + b.used) 0 h (ap (slice_get pool)
+    ∙ take-take 1 (b.size - b.used) there (omega arith) ∙ list_more pool (b.before + b.used) 0 h (ap (slice_get pool)
     (omega arith) ∙ at) (omega arith) in
     search (rules, served, single)
 
 -- n of a block are those that begin where its rest begins
 pub served_many : (made n : ℕ) (pool : List Handle) (b : Block) → b.used + n ≤ b.size → b.before + b.size ≤ length pool
     → reply_from made (drop (b.before + b.used) pool) n ≡ reply_from made (rest_of pool b) n
-served_many made n pool b few within = search (rules, length-rest, rest_is, take_of_take, served, length-drop)
+served_many made n pool b few within = search (rules, length-rest, rest_is, take-take, served, length-drop)
 
 -- as many are listed as are given
 pub length-listed : (made : ℕ) (given : List Handle) → length (listed made given) ≡ length given

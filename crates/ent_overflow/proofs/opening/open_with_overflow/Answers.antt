@@ -4,18 +4,15 @@ use Rattle.ent_overflow.proofs.opening.open_with_overflow.Goals as goal
 
 pub hand_out-requires-clause-phase : goal.hand_out-requires-clause-phase
 hand_out-requires-clause-phase c =
-    let s = c.args.entities.allocator in
     let is = c.deref-2.ensures.value ∙ c.in-Ok.ensures.blocks in
-    opened s c.args.sizes.now c.in_ok-shared.shared c.deal.new.dealer c.deref-2.result.now c.dealt.result
-    c.requires.flushed c.in_ok-shared.ensures.sound c.in_ok-shared.ensures.shared.0 (c.in_ok-shared.ensures.shared.1) is
+    opened _ _ _ _ _ _ c.requires.flushed c.in_ok-shared.ensures.sound c.in_ok-shared.ensures.shared.0
+    c.in_ok-shared.ensures.shared.1 is
     (subst (λ (bs : List Block). dealt bs < 2 ^ 32) (sym c.deref-2.ensures.value) c.in-Ok.ensures.few) c.deal.ensures.of
     (c.dealt.ensures ∙ ap dealt (c.deref.ensures.value ∙ sym c.deref-2.ensures.value)) c.deal.ensures.dealt
 
 pub hand_out-requires-clause-fresh : goal.hand_out-requires-clause-fresh
-hand_out-requires-clause-fresh c = others_fresh c.in_ok-shared.shared c.in_ok-shared.reservers.items
-    c.pop.new.self.items c.in-Some.dealer c.in-Some.ensures.items
-    (all_fresh c.in_ok-shared.shared c.in_ok-shared.reservers.items c.in_ok-shared.ensures.own
-    c.in_ok-shared.ensures.unused)
+hand_out-requires-clause-fresh c = others_fresh _ _ _ _ c.in-Some.ensures.items
+    (all_fresh _ _ c.in_ok-shared.ensures.own c.in_ok-shared.ensures.unused)
 
 pub hand_out-requires-clause-many : goal.hand_out-requires-clause-many
 hand_out-requires-clause-many c = search (rules, length-append, length-from)
@@ -25,10 +22,9 @@ hand_out-requires-clause-room c = search (rules, length-from)
 
 pub new-requires-clause-phase : goal.new-requires-clause-phase
 new-requires-clause-phase c =
-    let s = c.args.entities.allocator in
     let is = c.deref-2.ensures.value ∙ c.in-Ok.ensures.blocks in
-    let phase = opened s c.args.sizes.now c.in_ok-shared.shared c.deal.new.dealer c.deref-2.result.now c.dealt.result
-    c.requires.flushed c.in_ok-shared.ensures.sound c.in_ok-shared.ensures.shared.0 (c.in_ok-shared.ensures.shared.1) is
+    let phase = opened _ _ _ _ _ _ c.requires.flushed c.in_ok-shared.ensures.sound c.in_ok-shared.ensures.shared.0
+    c.in_ok-shared.ensures.shared.1 is
     (subst (λ (bs : List Block). dealt bs < 2 ^ 32) (sym c.deref-2.ensures.value) c.in-Ok.ensures.few) c.deal.ensures.of
     (c.dealt.ensures ∙ ap dealt (c.deref.ensures.value ∙ sym c.deref-2.ensures.value)) c.deal.ensures.dealt in
     search rules

@@ -4,15 +4,13 @@ use Rattle.ent_storage.proofs.Missing.{on_err}
 use Rattle.ent_storage.proofs.columns.reserve_one_for.Goals as goal
 
 pub returns-in_err-put_in_use-clause-memory : goal.returns-in_err-put_in_use-clause-memory
-returns-in_err-put_in_use-clause-memory c = on_err _ (c.has_values.ensures.some
-    (search (rules, c.if-not-has_values.false)))
+returns-in_err-put_in_use-clause-memory c = search (rules, on_err)
 
 pub returns-clause-kept : goal.returns-clause-kept
 returns-clause-kept c other column room =
     let columns = c.put_in_use.new.columns.items in
     let inside : c.args.number < length columns = search (rules, c.in_ok-put_in_use.ensures.there) in
     let here : c.index_mut.result.now ≡ column_at columns c.args.number = c.index_mut.ensures.value
-    ∙ get_or_default columns c.args.number _ no_column inside in
-    room_kept columns c.args.number c.reserve_for.new.self inside
-    (λ x fits. c.reserve_for.ensures.kept x (subst (λ (y : Column). HasRoomFor y x) (sym here) fits)) other column
-    (subst (λ (y : Column). HasRoomFor y column) (sym (c.in_ok-put_in_use.ensures.same other)) room)
+    ∙ get_or_default _ _ _ no_column inside in
+    room_kept _ _ _ inside (λ x fits. c.reserve_for.ensures.kept x (subst (λ (y : Column). HasRoomFor y x) (sym here)
+    fits)) other column (subst (λ (y : Column). HasRoomFor y column) (sym (c.in_ok-put_in_use.ensures.same other)) room)

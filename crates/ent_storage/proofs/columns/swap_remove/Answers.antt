@@ -10,8 +10,7 @@ returns-clause-in_use c = grind (arith, common_steps)
 
 pub loop-number-preserved : goal.loop-number-preserved
 loop-number-preserved c = record {
-  passed = passed_more c.args.used.now c.args.place c.args.last c.args.columns.now c.loop-number.number-index
-      c.loop-number.columns c.index-columns-number.result c.swap_remove.new.self c.requires.in_use.rising (omega arith)
-      (omega arith) c.index-columns-number.is c.swap_remove.ensures c.loop-number.invariant.passed;
+  passed = passed_more _ _ _ _ _ _ _ _ c.requires.in_use.rising (omega arith) (omega arith) c.index-columns-number.is
+      c.swap_remove.ensures c.loop-number.invariant.passed;
   len = search rules;
 }

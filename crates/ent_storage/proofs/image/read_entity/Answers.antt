@@ -1,4 +1,4 @@
-use Rattle.ent_storage.proofs.Common.{◌≡◌, ◌≢◌, ◌++◌, refl, ap, sym, ◌∙◌, List, [], ◌∷◌, length, Some, Option, slice_get, subst, is_some, IsSomeAnd, option_map, option_and_then, Birth, component_cmp, Handle, handle_cmp_total, handle_cmp-IsAntisymmetric, Entity, EntityMap, newborn, birth_of, IsBirth}
+use Rattle.ent_storage.proofs.Common.{◌≡◌, ◌≢◌, ◌++◌, refl, ap, sym, ◌∙◌, List, [], ◌∷◌, length, Some, Option, slice_get, subst, is_some, IsSomeAnd, option_map, option_and_then, Birth, component_cmp, Handle, total, same, Entity, EntityMap, birth_of, IsBirth}
 use Rattle.std.specs.FinMap as map
 use Rattle.ent_storage.proofs.Keys.{get-insert_same, get-insert_other}
 use Rattle.ent_storage.proofs.ImageEntities.{entity_short, entity_read, entity_refused}
@@ -13,18 +13,15 @@ at_end (x ∷ xs) h = at_end xs h
 -- the entity was born
 born : (c : In-Ok) → birth_of c.born_within.new.self.entities c.args.handle ≡ Some c.read_birth.result.0
 born c = ap (λ (n : EntityMap). birth_of n c.args.handle) c.in-Ok.ensures.ok
-    ∙ ap (option_map (λ (e : Entity). e.birth)) (get-insert_same handle_cmp_total handle_cmp-IsAntisymmetric
-    c.args.storage.now.entities c.args.handle (newborn c.read_birth.result.0) c.args.handle refl)
+    ∙ ap (option_map (λ (e : Entity). e.birth)) (get-insert_same total same _ _ _ _ refl)
 
 others : (c : In-Ok) (q : Handle) → q ≢ c.args.handle → map.get c.born_within.new.self.entities q
     ≡ map.get c.args.storage.now.entities q
 others c q apart = ap (λ (n : EntityMap). map.get n q) c.in-Ok.ensures.ok
-    ∙ get-insert_other handle_cmp_total handle_cmp-IsAntisymmetric c.args.storage.now.entities c.args.handle
-    (newborn c.read_birth.result.0) q apart
+    ∙ get-insert_other total same _ _ _ q apart
 
 pub returns-then-bytes-lt16-clause-none : goal.returns-then-bytes-lt16-clause-none
-returns-then-bytes-lt16-clause-none c m rest is = entity_short c.args.width m c.args.handle c.args.bytes.now rest
-    c.if-bytes-lt16.true is
+returns-then-bytes-lt16-clause-none c m rest is = entity_short _ m _ _ rest c.if-bytes-lt16.true is
 
 pub read_values-requires-clause-at : goal.read_values-requires-clause-at
 read_values-requires-clause-at c = (λ i. slice_get (c.in-Ok.ensures.places i) (c.len-place.ensures.places i))
@@ -33,8 +30,7 @@ read_values-requires-clause-at c = (λ i. slice_get (c.in-Ok.ensures.places i) (
 pub read_values-requires-clause-free : goal.read_values-requires-clause-free
 read_values-requires-clause-free c id = ap (λ (m : EntityMap). option_and_then (λ (e : Entity). map.get e.components id)
     (map.get m c.args.handle)) c.in-Ok.ensures.ok ∙ ap (option_and_then (λ (e : Entity). map.get e.components id))
-    (get-insert_same handle_cmp_total handle_cmp-IsAntisymmetric c.args.storage.now.entities c.args.handle
-    (newborn c.read_birth.result.0) c.args.handle refl) ∙ map.get-empty component_cmp id
+    (get-insert_same total same _ _ _ _ refl) ∙ map.get-empty component_cmp id
 
 pub read_values-requires-clause-there : goal.read_values-requires-clause-there
 read_values-requires-clause-there c = ap is_some (born (goal.at.read_values-requires-clause-there c).In-Ok)
@@ -46,8 +42,7 @@ returns-in_err-rest-clause-rest c h apart = c.in_err-rest.ensures.rest h apart
 pub returns-in_default-2-clause-none : goal.returns-in_default-2-clause-none
 returns-in_default-2-clause-none c m rest is same =
     let none = rw c.in_default-2.is at c.in_ok-rest.ensures.none in
-    entity_refused c.args.width m c.args.handle c.read_birth.result.0 c.args.bytes.now c.read_birth.result.1.now rest
-    c.read_birth.ensures.fits c.read_birth.ensures.bytes none is same
+    entity_refused _ m _ _ _ _ rest c.read_birth.ensures.fits c.read_birth.ensures.bytes none is same
 
 pub returns-in_default-2-clause-rest : goal.returns-in_default-2-clause-rest
 returns-in_default-2-clause-rest c h apart = c.in_ok-rest.ensures.rest h apart
@@ -56,9 +51,7 @@ returns-in_default-2-clause-rest c h apart = c.in_ok-rest.ensures.rest h apart
 pub returns-clause-found : goal.returns-clause-found
 returns-clause-found c =
     let birth = c.in_ok-rest.ensures.birth ∙ born (goal.at.returns-clause-found c).In-Ok in
-    let values = rw c.in-Some.is at c.in_ok-rest.ensures.found in
-    entity_read c.args.width c.read_values.new.storage.entities c.args.handle c.read_birth.result.0 c.args.bytes.now
-    c.read_birth.result.1.now c.in-Some.rest.now birth c.read_birth.ensures.bytes values
+    entity_read _ _ _ _ _ _ _ birth c.read_birth.ensures.bytes (rw c.in-Some.is at c.in_ok-rest.ensures.found)
 
 pub returns-clause-stored : goal.returns-clause-stored
 returns-clause-stored c =

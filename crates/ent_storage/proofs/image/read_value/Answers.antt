@@ -19,11 +19,9 @@ too_short flag bytes (Some v) rest not_0 short same =
 pub returns-then-flag-ne1-clause-none : goal.returns-then-flag-ne1-clause-none
 returns-then-flag-ne1-clause-none c value rest same =
     let whole : c.in_ok-flag.flag.now ∷ c.in_ok-flag.rest.now ≡ c.args.bytes.now = search rules in
-    other_flag c.in_ok-flag.flag.now c.in_ok-flag.rest.now value rest c.if-flag-eq0.false c.if-flag-ne1.true
-    (whole ∙ same)
+    other_flag _ _ value rest c.if-flag-eq0.false c.if-flag-ne1.true (whole ∙ same)
 
 pub returns-then-rest-lt8-clause-none : goal.returns-then-rest-lt8-clause-none
 returns-then-rest-lt8-clause-none c value rest same =
     let whole : c.in_ok-flag.flag.now ∷ c.in_ok-flag.rest.now ≡ c.args.bytes.now = search rules in
-    too_short c.in_ok-flag.flag.now c.in_ok-flag.rest.now value rest c.if-flag-eq0.false c.if-rest-lt8.true
-    (whole ∙ same)
+    too_short _ _ value rest c.if-flag-eq0.false c.if-rest-lt8.true (whole ∙ same)

@@ -5,9 +5,8 @@ use Rattle.ent_storage.proofs.image.read_values.Goals as goal
 pub returns-in_default-clause-none : goal.returns-in_default-clause-none
 returns-in_default-clause-none c value rest fits same =
     let loop = c.loop-number.invariant in
-    none_next (value_of c.loop-number.storage.entities c.args.handle) value c.args.width c.loop-number.number
-    c.args.bytes.now c.loop-number.rest.now rest c.loop-number-test.true (λ id v at. (loop.fits id v at).1) fits
-    loop.bytes c.in_default.ensures.none same
+    none_next _ value _ _ _ _ rest c.loop-number-test.true (λ id v at. (loop.fits id v at).1) fits loop.bytes
+    c.in_default.ensures.none same
 
 pub returns-in_err-give-clause-fits : goal.returns-in_err-give-clause-fits
 returns-in_err-give-clause-fits c id v at = c.loop-number.invariant.fits id v
@@ -16,21 +15,13 @@ returns-in_err-give-clause-fits c id v at = c.loop-number.invariant.fits id v
 pub loop-number-preserved : goal.loop-number-preserved
 loop-number-preserved c =
     let loop = c.loop-number.invariant in
-    let old = value_of c.loop-number.storage.entities c.args.handle in
-    let new = value_of c.give.new.self.entities c.args.handle in
-    let n = c.loop-number.number in
-    let value = c.in-Some.value in
     let here = c.in_ok-give.ensures.here in
     let others = c.in_ok-give.ensures.others in
     record {
-      bytes = read_more old new n value here others c.args.bytes.now c.loop-number.rest.now c.in-Some.left.now
-          loop.bytes c.in-Some.ensures.found;
-      free = free_more old new n value here others loop.free;
-      fits = fits_more old new n value here others (λ k v. (k < 256) × FitsSigned w64 v) loop.fits
-          (λ v is. (
-            omega (arith, c.loop-number-test.true, c.requires.few),
-            subst (λ (o : Option ℤ). IfSome o (FitsSigned w64)) is c.in-Some.ensures.fits,
-          ));
+      bytes = read_more _ _ _ _ here others _ _ _ loop.bytes c.in-Some.ensures.found;
+      free = free_more _ _ _ _ here others loop.free;
+      fits = fits_more _ _ _ _ here others (λ k v. (k < 256) × FitsSigned w64 v) loop.fits
+          (λ v is. (omega arith, subst (λ (o : Option ℤ). IfSome o (FitsSigned w64)) is c.in-Some.ensures.fits));
       birth = c.in_ok-give.ensures.birth ∙ loop.birth;
       others = λ h apart. c.in_ok-give.ensures.rest h apart ∙ loop.others h apart;
       places = c.in_ok-give.ensures.places ∙ loop.places;

@@ -20,10 +20,7 @@ push_reserved-requires c =
       more,
       first_fit test source (i + 1),
       left_fits c.args.living.now.entities source c.requires.sorted,
-      c.requires.room,
-      c.loop-pair.invariant.capacity,
       ap length c.loop-pair.invariant.items,
-      c.loop-pair.pairs.ok.0,
     )
 
 -- all pairs were passed

@@ -8,7 +8,7 @@ pub returns-in_default : goal.returns-in_default
 returns-in_default c =
     let gap = rw c.in_default.is at c.requires.absent in
     let none = get_in_gap total same _ c.requires.sorted _ _ gap in
-    sym (counted_none c.args.living.now.entities _ c.args.handle none)
+    sym (counted_none _ _ _ none)
 
 -- the pair that was read is the handle's
 pub returns-then-has_key_at : goal.returns-then-has_key_at

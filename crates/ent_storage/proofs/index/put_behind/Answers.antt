@@ -9,14 +9,11 @@ module _ (c : goal.After-push_reserved) where
 
   end : insert c.args.pairs.now.items c.len-end.result c.args.pair ≡ c.push_reserved.new.self.items
   end =
-      let position : c.len-end.result ≡ length c.args.pairs.now.items = omega
-      (arith, c.len-end.ensures, c.args.pairs.now.ok.0) in
+      let position : c.len-end.result ≡ length c.args.pairs.now.items = omega arith in
       search (rules, c.args.pairs.now.items, c.args.pair, insert_end, c.push_reserved.ensures.items)
 
 pub returns-then-is_gap : goal.returns-then-is_gap
 returns-then-is_gap c =
-    let new = counted_none c.args.living.now.entities _ c.args.pair.0
-    (get_in_gap total same _ c.requires _ _ (gap c)) in
-    let put = rw (end c) at (put_between c.args.living.now.entities c.args.pairs.now.items c.requires c.args.pair.0
-    c.args.pair.1 c.len-end.result (gap c)) in
+    let new = counted_none c.args.living.now.entities _ _ (get_in_gap total same _ c.requires _ _ (gap c)) in
+    let put = rw (end c) at (put_between c.args.living.now.entities _ c.requires _ c.args.pair.1 _ (gap c)) in
     search (rules, new, put)

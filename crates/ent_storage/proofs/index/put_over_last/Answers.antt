@@ -12,16 +12,14 @@ module _ (c : goal.After-pairs-1) where
 
   put : IsPut c.args.living.now.entities c.args.pairs.now.items (set c.args.pairs.now.items c.index-slot.result
       (c.args.pair.0, c.args.pair.1)) c.args.pair.0 c.args.pair.1
-  put = put_over c.args.living.now.entities c.args.pairs.now.items c.requires c.args.pair.0 c.args.pair.1
-      c.index-slot.result (λ j d low high. gap.smaller_before j d low (omega arith)) gap.greater_after free
+  put = put_over _ _ c.requires _ _ _ (λ j d low high. gap.smaller_before j d low (omega arith)) gap.greater_after free
 
 pub returns-then-is_gap-clause-sorted : goal.returns-then-is_gap-clause-sorted
 returns-then-is_gap-clause-sorted c = (put c).sorted
 
 -- the handle is in a gap
 pub returns-then-is_gap-clause-new : goal.returns-then-is_gap-clause-new
-returns-then-is_gap-clause-new c _ = counted_none c.args.living.now.entities _ c.args.pair.0
-    (get_in_gap total same _ c.requires _ _ (gap c))
+returns-then-is_gap-clause-new c _ = counted_none _ _ _ (get_in_gap total same _ c.requires _ _ (gap c))
 
 pub returns-then-is_gap-clause-placed : goal.returns-then-is_gap-clause-placed
 returns-then-is_gap-clause-placed c _ = (put c).placed

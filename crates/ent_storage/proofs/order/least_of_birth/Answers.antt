@@ -13,13 +13,12 @@ loop-resident-preserved c =
     let resident = c.resident-item.result in
     let birth = c.args.birth in
     let before = map pair_of (take i residents) in
-    let more = map_more pair_of residents i resident (omega arith) ∙ (λ j. before ++ pair_of (sym c.resident-item.is j)
-    ∷ []) in
+    let more = map_more pair_of _ _ _ (omega arith) ∙ (λ j. before ++ pair_of (sym c.resident-item.is j) ∷ []) in
     let tests : c.eq.result ≡ eq_by_cmp birth_cmp resident.birth c.args.birth = search rules in
     elim c.if-eq.branch [
-      | then-eq w ↦ let same = same_birth resident.birth birth (sym tests ∙ w.if-eq.true) in grind
-          (arith, common_steps, least_this, c.loop-resident.least, c.loop-resident.invariant)
-      | else-eq w ↦ rw
-          (w.least-is, more) (least_other birth before c.loop-resident.least c.loop-resident.invariant (pair_of resident)
-          (other_birth resident.birth birth (sym tests ∙ w.if-eq.false)))
+      | then-eq w ↦
+          let same = same_birth resident.birth birth (sym tests ∙ w.if-eq.true) in
+          grind (arith, common_steps, least_this, c.loop-resident.least, c.loop-resident.invariant)
+      | else-eq w ↦ rw (w.least-is, more) (least_other birth before c.loop-resident.least c.loop-resident.invariant
+          (pair_of resident) (other_birth resident.birth birth (sym tests ∙ w.if-eq.false)))
     ]

@@ -1,14 +1,9 @@
-use Rattle.ent_storage.proofs.Common.{rules, ◌≡◌, ◌<◌, ◌^◌, ◌++◌, ◌∷◌, [], ◌∙◌, ap, length, arith, values_of}
+use Rattle.ent_storage.proofs.Common.{rules, ◌≡◌, ◌<◌, ◌++◌, ◌∷◌, [], length}
 use Rattle.ent_storage.proofs.Sparse.{few_entries, more_slots, pushed_positioned, pushed_values}
 use Rattle.ent_storage.proofs.sparse_map.add.Goals as goal
 
 pub overflow_cast-len : goal.overflow_cast-len
-overflow_cast-len g c =
-    let few = few_entries c.args.entries.now.items c.args.positions.now.items c.requires.positioned
-    (c.args.handle, c.args.value) in
-    let len : c.len.result ≡ length c.args.entries.now.items = search rules in
-    let small : c.len.result < 2 ^ 32 = omega (arith, few, len) in
-    search (rules, small)
+overflow_cast-len g c = search (rules, few_entries)
 
 pub returns-clause-positioned : goal.returns-clause-positioned
 returns-clause-positioned g c =
@@ -17,18 +12,8 @@ returns-clause-positioned g c =
     let index : c.index-index.result ≡ c.args.handle.index = search rules in
     let len : c.len.result ≡ length c.args.entries.now.items = search rules in
     let room : c.args.handle.index < length c.make_position.new.positions.items = search rules in
-    let is = more_slots c.args.entries.now.items c.args.positions.now.items _ c.requires.positioned
-    c.make_position.ensures.few c.make_position.ensures.kept in
-    rw (items, index, len) (pushed_positioned c.args.entries.now.items _ is c.args.handle c.args.value c.requires.free
-    room)
+    let is = more_slots _ _ _ c.requires.positioned c.make_position.ensures.few c.make_position.ensures.kept in
+    rw (items, index, len) (pushed_positioned _ _ is _ _ c.requires.free room)
 
 pub returns-clause-ok : goal.returns-clause-ok
-returns-clause-ok g c =
-    let items : c.push_reserved.new.self.items ≡ c.args.entries.now.items ++ (c.args.handle, c.args.value)
-    ∷ [] = search rules in
-    let index : c.index-index.result ≡ c.args.handle.index = search rules in
-    let len : c.len.result ≡ length c.args.entries.now.items = search rules in
-    let room : c.args.handle.index < length c.make_position.new.positions.items = search rules in
-    let is = more_slots c.args.entries.now.items c.args.positions.now.items _ c.requires.positioned
-    c.make_position.ensures.few c.make_position.ensures.kept in
-    ap values_of items ∙ pushed_values c.args.entries.now.items _ is c.args.handle c.args.value c.requires.free room
+returns-clause-ok g c = search (rules, more_slots, pushed_values)

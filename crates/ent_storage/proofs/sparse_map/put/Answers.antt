@@ -8,8 +8,7 @@ use Rattle.ent_storage.proofs.sparse_map.put.Goals as goal
 pub returns-in_default-clause-before : goal.returns-in_default-clause-before
 returns-in_default-clause-before g c =
     let free : IsFree c.args.entries.now.items c.args.handle.index = search rules in
-    before_none _ _ (none_free c.args.entries.now.items c.args.positions.now.items c.requires.positioned c.args.handle
-    free) c.add.ensures.before
+    before_none _ _ (none_free _ _ c.requires.positioned _ free) c.add.ensures.before
 
 pub returns-in_default-clause-later : goal.returns-in_default-clause-later
 returns-in_default-clause-later g c =
@@ -21,16 +20,15 @@ returns-in_default-clause-later g c =
 
 pub returns-then-generation-clause-later : goal.returns-then-generation-clause-later
 returns-then-generation-clause-later g c =
-    let D = c.args.entries.now.items in
     let k = c.in-Some.position in
     let x = c.index.result.now in
     let inside = rw c.deref.ensures.value at c.in-Some.ensures.inside in
     let found = rw c.deref.ensures.value at c.in-Some.ensures.found in
-    let here = slice_get_read D _ k x refl inside c.index.ensures in
+    let here = slice_get_read _ _ _ _ refl inside c.index.ensures in
     let slot : x.0.index ≡ c.args.handle.index = ap (λ (y : Handle × g.row.T.Denot). y.0.index) c.index.ensures
     ∙ found x ∙ c.index_of-index.ensures.value in (
       λ _. has_later c.args.entries.now.items c.args.positions.now.items c.requires.positioned k x here c.args.handle
-          slot (omega (arith, c.generation.ensures, c.generation-2.ensures, c.if-generation.true)),
+          slot (omega arith),
       λ _. refl,
     )
 
@@ -50,53 +48,25 @@ stood g c =
     let found = rw c.deref.ensures.value at c.in-Some.ensures.found in
     let was : x ≡ get_or D k x = c.replace-standing.ensures.value ∙ c.index_mut.ensures.value
     ∙ ap (get_or D k) (sym c.replace-standing.ensures.value) in
-    let here = slice_get_read D _ k x refl inside was in
-    let read = slice_get_read D _ k c.index.result.now refl inside c.index.ensures in
+    let here = slice_get_read _ _ _ _ refl inside was in
+    let read = slice_get_read _ _ _ _ refl inside c.index.ensures in
     let generation = ap (λ (y : Handle × g.row.T.Denot). y.0.generation) (same_Some _ _ (sym read ∙ here)) in
     record {
       here = here;
       slot = ap (λ (y : Handle × g.row.T.Denot). y.0.index) was ∙ found x ∙ c.index_of-index.ensures.value;
-      least = omega (arith, generation, c.generation.ensures, c.generation-2.ensures, c.if-generation.false);
+      least = omega arith;
     }
 
-pub returns-then-eq-clause-positioned : goal.returns-then-eq-clause-positioned
-returns-then-eq-clause-positioned g c =
-    let was = stood g (goal.at.returns-then-eq-clause-positioned g c).After-replace-standing in
-    rw c.replace-standing.ensures.after (over_positioned _ _ c.requires.positioned _ _ _ was.here _ _ was.slot)
+pub returns-then-eq : goal.returns-then-eq
+returns-then-eq g c =
+    let was = stood g (goal.at.returns-then-eq g c).After-replace-standing in
+    let over = over_positioned _ _ c.requires.positioned _ _ _ was.here c.args.handle c.args.value was.slot in
+    let none = has_no_later _ _ c.requires.positioned _ _ was.here _ was.slot was.least in
+    search (rules, over, none, over_values, had, is_handle, was, none-some)
 
-pub returns-then-eq-clause-ok : goal.returns-then-eq-clause-ok
-returns-then-eq-clause-ok g c =
-    let was = stood g (goal.at.returns-then-eq-clause-ok g c).After-replace-standing in search (rules, over_values, was)
-
-pub returns-then-eq-clause-before : goal.returns-then-eq-clause-before
-returns-then-eq-clause-before g c =
-    let was = stood g (goal.at.returns-then-eq-clause-before g c).After-replace-standing in
-    search (rules, had, is_handle, was)
-
-pub returns-then-eq-clause-later : goal.returns-then-eq-clause-later
-returns-then-eq-clause-later g c =
-    let was = stood g (goal.at.returns-then-eq-clause-later g c).After-replace-standing in (
-      λ e. absurd (none-some _ e),
-      λ l. absurd (has_no_later _ _ c.requires.positioned _ _ was.here _ was.slot was.least l),
-    )
-
-pub returns-else-eq-clause-positioned : goal.returns-else-eq-clause-positioned
-returns-else-eq-clause-positioned g c =
-    let was = stood g (goal.at.returns-else-eq-clause-positioned g c).After-replace-standing in
-    rw c.replace-standing.ensures.after (over_positioned _ _ c.requires.positioned _ _ _ was.here _ _ was.slot)
-
-pub returns-else-eq-clause-ok : goal.returns-else-eq-clause-ok
-returns-else-eq-clause-ok g c =
-    let was = stood g (goal.at.returns-else-eq-clause-ok g c).After-replace-standing in search (rules, over_values, was)
-
-pub returns-else-eq-clause-before : goal.returns-else-eq-clause-before
-returns-else-eq-clause-before g c =
-    let was = stood g (goal.at.returns-else-eq-clause-before g c).After-replace-standing in
-    search (rules, had_other, not_handle, was)
-
-pub returns-else-eq-clause-later : goal.returns-else-eq-clause-later
-returns-else-eq-clause-later g c =
-    let was = stood g (goal.at.returns-else-eq-clause-later g c).After-replace-standing in (
-      λ e. absurd (none-some _ e),
-      λ l. absurd (has_no_later _ _ c.requires.positioned _ _ was.here _ was.slot was.least l),
-    )
+pub returns-else-eq : goal.returns-else-eq
+returns-else-eq g c =
+    let was = stood g (goal.at.returns-else-eq g c).After-replace-standing in
+    let over = over_positioned _ _ c.requires.positioned _ _ _ was.here c.args.handle c.args.value was.slot in
+    let none = has_no_later _ _ c.requires.positioned _ _ was.here _ was.slot was.least in
+    search (rules, over, none, over_values, had_other, not_handle, was, none-some)

@@ -6,14 +6,12 @@ use Rattle.ent_storage.proofs.sparse_map.take.Goals.{After-index-position, After
 use Rattle.ent_storage.proofs.sparse_map.take.Goals as goal
 
 pub index-position-requires : goal.index-position-requires
-index-position-requires g c =
-    let within = in_slots _ _ c.requires.positioned _ refl c.args.handle c.requires.has in search (rules, within)
+index-position-requires g c = search (rules, in_slots)
 
 -- the entry of the handle is at the position
 here : (g : Over) (c : After-index-position g) → IsStanding c.args.entries.now.items c.args.handle
     c.index-position.result.now
-here g c = standing _ _ c.requires.positioned _ refl c.args.handle c.requires.has _ _ c.index.ensures
-    c.index-position.ensures
+here g c = standing _ _ c.requires.positioned _ refl _ c.requires.has _ _ c.index.ensures c.index-position.ensures
 
 -- the last one has filled its position
 rest : (g : Over) (c : After-swap_remove-value g) → IsFilled c.args.entries.now.items c.index-position.result.now
@@ -46,30 +44,14 @@ index_mut-requires g c =
       read g at.After-index-then-position-len,
     )
 
-pub returns-then-position-len-clause-positioned : goal.returns-then-position-len-clause-positioned
-returns-then-position-len-clause-positioned g c =
-    let at = goal.at.returns-then-position-len-clause-positioned g c in
-    search (
-      rules,
-      refilled_positioned,
-      here g at.After-index-position,
-      rest g at.After-swap_remove-value,
-      read g at.After-index-then-position-len,
-    )
-
-pub returns-then-position-len-clause-value : goal.returns-then-position-len-clause-value
-returns-then-position-len-clause-value g c =
-    let was = here g (goal.at.returns-then-position-len-clause-value g c).After-index-position in
-    search (rules, was, slice_get_read, slice_get_within, same_Some)
-
-pub returns-then-position-len-clause-values : goal.returns-then-position-len-clause-values
-returns-then-position-len-clause-values g c =
-    let at = goal.at.returns-then-position-len-clause-values g c in
+pub returns-then-position-len : goal.returns-then-position-len
+returns-then-position-len g c =
+    let at = goal.at.returns-then-position-len g c in
     let was = here g at.After-index-position in
     let rest = rest g at.After-swap_remove-value in
     let read = read g at.After-index-then-position-len in
-    taken_values _ _ c.requires.positioned _ _ _ was.entry _ rest _ (refilled_positioned _ _ c.requires.positioned _ _ _
-    was.entry _ rest _ _ read)
+    let positioned = refilled_positioned _ _ c.requires.positioned _ _ _ was.entry _ rest _ _ read in
+    search (rules, positioned, taken_values, was, slice_get_read, slice_get_within, same_Some)
 
 pub returns-else-position-len-clause-positioned : goal.returns-else-position-len-clause-positioned
 returns-else-position-len-clause-positioned g c =

@@ -1,21 +1,9 @@
-use Rattle.ent_blocks.proofs.Common.{arith}
+use Rattle.ent_blocks.proofs.Common.{rules, arith}
 use Rattle.ent_blocks.proofs.Phases.{lies_in}
 use Rattle.ent_blocks.proofs.blocks.Blocks.reserve.Goals as goal
 
-pub take_one-requires-clause-within : goal.take_one-requires-clause-within
-take_one-requires-clause-within g c =
-    let s = c.self.inside.entities.allocator in
-    let lies = lies_in g.J.BlockNumbering.blocks_of c.reserver.inside.number c.self.inside.number
-    (record { start = s; rows = c.self.inside.entities.rows; blocks = c.self.inside.parts.items })
-    c.reserver.inside.part c.self.invariant.0 c.self.invariant.1 (omega (arith, c.if-reserver-self.false))
-    c.reserver.invariant in
-    lies.within
-
-pub take_one-requires-clause-few : goal.take_one-requires-clause-few
-take_one-requires-clause-few g c =
-    let s = c.self.inside.entities.allocator in
-    let lies = lies_in g.J.BlockNumbering.blocks_of c.reserver.inside.number c.self.inside.number
-    (record { start = s; rows = c.self.inside.entities.rows; blocks = c.self.inside.parts.items })
-    c.reserver.inside.part c.self.invariant.0 c.self.invariant.1 (omega (arith, c.if-reserver-self.false))
-    c.reserver.invariant in
-    lies.few
+pub take_one-requires : goal.take_one-requires
+take_one-requires g c =
+    let lies = lies_in g.J.BlockNumbering.blocks_of c.reserver.inside.number c.self.inside.number _
+    c.reserver.inside.part c.self.invariant.0 c.self.invariant.1 (omega arith) c.reserver.invariant in
+    search (rules, lies)

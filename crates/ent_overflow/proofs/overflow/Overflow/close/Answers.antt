@@ -1,4 +1,4 @@
-use Rattle.ent_overflow.proofs.Common.{rules, ◌≡◌, ◌∙◌, ℕ, ◌-◌, ◌∷◌, ◌++◌, sym, ap, subst, arith, List, All, length, map, All-cons, Allocator, before_requests, IsSound, given_in, Block, dealt, unused, Reserver, IsReserverOf, records_of, Phase, IsOf, blocks_of, past_of, past_history, past_block}
+use Rattle.ent_overflow.proofs.Common.{rules, ◌≡◌, ◌∙◌, ℕ, ◌-◌, ◌∷◌, ◌++◌, sym, ap, subst, arith, List, All, length, map, All-cons, Allocator, before_requests, IsSound, given_in, Block, dealt, unused, IsReserverOf, records_of, Phase, IsOf, blocks_of, past_of, past_history, past_block}
 use Rattle.ent_overflow.proofs.Closings.{Closed, Ending, own_past, ending}
 use Rattle.ent_overflow.proofs.Endings.{ends_laid, ends_dealt}
 use Rattle.ent_overflow.proofs.overflow.Overflow.close.Goals.{After-close-entities}
@@ -18,12 +18,9 @@ handed c = search rules
 -- what is known once it is closed
 known : (c : After-close-entities) → Ending (seen c) c.args.callers.items c.close-entities.result.allocator
 known c =
-    let e = c.close-entities.ensures in
     let closed : Closed c.self.inside.shared.start (records_of c.take_apart.new.reservers.items)
     c.close-entities.result.allocator = search rules in
-    ending (seen c) c.args.callers.items c.close-entities.result.allocator c.self.invariant.0 (own c)
-    (subst (λ (rs : List Reserver). Closed c.self.inside.shared.start (records_of rs) c.close-entities.result.allocator)
-    (handed c) closed)
+    ending (seen c) _ _ c.self.invariant.0 (own c) (rw (handed c) at closed)
 
 before_is : (c : After-close-entities) → c.dealt-before.result ≡ dealt c.self.inside.parts.items
 before_is c = c.dealt-before.ensures ∙ ap dealt c.deref.ensures.value
@@ -49,24 +46,16 @@ ends_are c reserved ends taken is =
 
 pub close-entities-requires-clause-own : goal.close-entities-requires-clause-own
 close-entities-requires-clause-own c =
-    let o = c.self.inside in
-    let seen : Phase = record { shared = o.shared; dealer = o.dealer; blocks = o.parts.items } in
-    let own : All (IsOf seen) c.args.callers.items = subst (λ (q : Phase). All (IsOf q) c.args.callers.items)
-    (sym c.self.view_is) c.requires.own in
-    let handed : c.take_apart.new.reservers.items ≡ o.dealer ∷ past_of c.args.callers.items = search rules in
-    subst (All (IsReserverOf o.shared)) (sym handed) (All-cons (IsReserverOf o.shared) o.dealer
-    (past_of c.args.callers.items) c.self.invariant.0.of (own_past seen c.args.callers.items own))
+    let own = rw (← c.self.view_is) at c.requires.own in
+    let handed : c.take_apart.new.reservers.items
+    ≡ c.self.inside.dealer ∷ past_of c.args.callers.items = search rules in
+    rw handed (All-cons (IsReserverOf c.self.inside.shared) _ _ c.self.invariant.0.of (own_past _ _ own))
 
 pub overflow_sub-requested : goal.overflow_sub-requested
 overflow_sub-requested c =
-    let k = known (goal.at.overflow_sub-requested c).After-close-entities in
-    omega (
-      arith,
-      c.from.ensures,
-      before_is (goal.at.overflow_sub-requested c).After-close-entities,
-      c.asked.ensures.value,
-      k.asked,
-    )
+    let at = (goal.at.overflow_sub-requested c).After-close-entities in
+    let k = known at in
+    omega (arith, before_is at, k.asked)
 
 pub overflow_sub-given : goal.overflow_sub-given
 overflow_sub-given c =

@@ -1,5 +1,4 @@
-use Rattle.ent_storage.proofs.Common.{◌≡◌, ◌+◌, ◌∙◌, ap, arith, rules, drop, get_or, pos, to_z-of_z, drop_all, drop_more, put, component_cmp}
-use Rattle.std.proofs.Common.{w64, FitsSigned}
+use Rattle.ent_storage.proofs.Common.{◌≡◌, ◌∙◌, ap, arith, rules, get_or, pos, to_z-of_z, drop_all, drop_more, put, component_cmp, w64, FitsSigned}
 use Rattle.ent_storage.proofs.Puts.{last_value, more_than, still_rising}
 use Rattle.ent_storage.proofs.Results.{OnErr-always}
 use Rattle.ent_storage.proofs.bundle.Bundle.of.Goals as goal
@@ -18,12 +17,7 @@ loop-id-preserved g c =
 
 pub returns-in_err-put-clause-memory : goal.returns-in_err-put-clause-memory
 returns-in_err-put-clause-memory g c =
-    let items = c.args.items.now in
-    let at = c.loop-id.id-index in
-    let item = get_or items at (record { 0 = 0 }, pos 0) in
-    let held = c.loop-id.bundle in
-    let others = drop (at + 1) items in
-    let next = drop_more items at (record { 0 = 0 }, pos 0) c.loop-id-test.true in
+    let next = drop_more _ _ (record { 0 = 0 }, pos 0) c.loop-id-test.true in
     let needs = c.in_err-put.ensures.memory in
     let rising = c.loop-id.invariant.rising in
     search (rules, c.loop-id.invariant.left, OnErr-always, c.from_residual.result, more_than)

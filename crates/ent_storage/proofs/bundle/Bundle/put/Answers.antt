@@ -24,8 +24,7 @@ over g c =
 
 pub invariant_of-self : goal.invariant_of-self
 invariant_of-self g c = (
-  subst IsBundle (sym (over g c)) (bundle_put c.args.id c.args.value (search rules)
-      c.ranges.value c.self.inside.items.items c.self.invariant.0),
+  subst IsBundle (sym (over g c)) (bundle_put _ _ (search rules) c.ranges.value _ c.self.invariant.0),
   c.self.invariant.1,
 )
 
@@ -43,8 +42,7 @@ added g c =
 
 pub invariant_of-self-in-Continue-1 : goal.invariant_of-self-in-Continue-1
 invariant_of-self-in-Continue-1 g c = (
-  subst IsBundle (sym (added g c)) (bundle_put c.args.id c.args.value (search rules)
-      c.ranges.value c.self.inside.items.items c.self.invariant.0),
+  subst IsBundle (sym (added g c)) (bundle_put _ _ (search rules) c.ranges.value _ c.self.invariant.0),
   search (rules, c.insert.ensures.capacity, c.self.invariant.1),
 )
 

@@ -4,13 +4,10 @@ use Rattle.ent_storage.proofs.handle_map.HandleMap.insert.Goals as goal
 
 pub returns-then-generation-standing-clause-later : goal.returns-then-generation-standing-clause-later
 returns-then-generation-standing-clause-later g c =
-    let h = c.args.handle in
-    let slots = c.self.inside.slots.items in
     let values = ap (λ (m : HandleMap g.row.T.Denot). m.values) c.self.view_is in
-    let stands : c.generation_in-standing.result ≡ generation_of (slot_at slots h.index) =
-    c.generation_in-standing.ensures ∙ (λ i. generation_of
-    (slot_at (c.deref.ensures.value i) (c.index_of-index.ensures.value i))) in
-    let is = later slots _ h values (omega (arith, stands, c.generation.ensures, c.if-generation-standing.true)) in
+    let stands : c.generation_in-standing.result ≡ generation_of
+    (slot_at c.self.inside.slots.items c.args.handle.index) = search rules in
+    let is = later c.self.inside.slots.items _ c.args.handle values (omega (arith, stands)) in
     (λ _. (λ beyond. grind (arith, common_steps), is), λ _. refl)
 
 pub returns-in_default-clause-later : goal.returns-in_default-clause-later
@@ -22,12 +19,12 @@ overflow_add-self g c = search (rules, few_values)
 pub invariant_of-self-2 : goal.invariant_of-self-2
 invariant_of-self-2 g c =
     let all = c.make_slot.new.slots.items in
-    let at = c.index_of-index.result in
-    let was = c.replace-before.ensures.value ∙ c.index_mut.ensures.value
-    ∙ ap (get_or all at) (sym c.replace-before.ensures.value) in
-    put-counted c.self.inside.slots.items all c.args.handle at c.replace-before.result c.replace-before.new.dest
-    c.args.value c.index_of-index.ensures.value c.in-Ok.ensures.ok was (c.replace-before.ensures.after ∙ c.of.ensures)
-    c.self.inside.len c.lacking.result c.self.invariant c.index_of-index.ensures.in_range c.lacking.ensures
+    let was = c.replace-before.ensures.value ∙ c.index_mut.ensures.value ∙ ap (get_or all c.index_of-index.result) (sym
+    c.replace-before.ensures.value) in
+    put-counted c.self.inside.slots.items all c.args.handle c.index_of-index.result c.replace-before.result
+    c.replace-before.new.dest c.args.value c.index_of-index.ensures.value c.in-Ok.ensures.ok was
+    (c.replace-before.ensures.after ∙ c.of.ensures) _ _ c.self.invariant c.index_of-index.ensures.in_range
+    c.lacking.ensures
 
 pub returns-clause-ok : goal.returns-clause-ok
 returns-clause-ok g c = search (rules, put-map)
@@ -35,27 +32,19 @@ returns-clause-ok g c = search (rules, put-map)
 pub returns-clause-before : goal.returns-clause-before
 returns-clause-before g c =
     let all = c.make_slot.new.slots.items in
-    let at = c.index_of-index.result in
-    let was = c.replace-before.ensures.value ∙ c.index_mut.ensures.value
-    ∙ ap (get_or all at) (sym c.replace-before.ensures.value) in
+    let was = c.replace-before.ensures.value ∙ c.index_mut.ensures.value ∙ ap (get_or all c.index_of-index.result) (sym
+    c.replace-before.ensures.value) in
     c.into_value.ensures ∙ ap (value_under c.replace-before.result) c.generation-2.ensures
-    ∙ put-before c.self.inside.slots.items all c.args.handle at c.replace-before.result c.replace-before.new.dest
-    c.args.value c.index_of-index.ensures.value c.in-Ok.ensures.ok was (c.replace-before.ensures.after ∙ c.of.ensures) _
-    (ap (λ (m : HandleMap g.row.T.Denot). m.values) c.self.view_is)
+    ∙ put-before _ all c.args.handle _ _ _ c.args.value c.index_of-index.ensures.value c.in-Ok.ensures.ok was
+    (c.replace-before.ensures.after ∙ c.of.ensures) _ (ap (λ (m : HandleMap g.row.T.Denot). m.values) c.self.view_is)
 
 pub returns-clause-later : goal.returns-clause-later
 returns-clause-later g c =
-    let h = c.args.handle in
-    let slots = c.self.inside.slots.items in
     let values = ap (λ (m : HandleMap g.row.T.Denot). m.values) c.self.view_is in
-    let stands : c.generation_in-standing.result ≡ generation_of (slot_at slots h.index) =
-    c.generation_in-standing.ensures ∙ (λ i. generation_of
-    (slot_at (c.deref.ensures.value i) (c.index_of-index.ensures.value i))) in (
-      λ e. absurd (cc),
-      λ is. absurd
-          (no_later slots _ h values (omega (arith, stands, c.generation.ensures, c.if-generation-standing.false))
-          is.1),
-    )
+    let stands : c.generation_in-standing.result ≡ generation_of
+    (slot_at c.self.inside.slots.items c.args.handle.index) = search rules in
+    let none = no_later c.self.inside.slots.items _ c.args.handle values (omega (arith, stands)) in
+    (λ e. absurd cc, λ is. absurd (none is.1))
 
 pub index_mut-requires : goal.index_mut-requires
 index_mut-requires g c = grind (arith, common_steps)

@@ -8,11 +8,9 @@ returns-then-not-contains-clause-map g c = search (rules, remove_absent)
 
 pub overflow_sub-self : goal.overflow_sub-self
 overflow_sub-self g c =
-    let h = c.args.handle in
-    let slots = c.self.inside.slots.items in
     let values = ap (λ (m : HandleMap g.row.T.Denot). m.values) c.self.view_is in
-    let f = found slots _ h values (sym c.contains.ensures ∙ c.if-not-contains.false) in
-    (counted-take slots h f.0 c.self.inside.len f.1 c.self.invariant).0
+    let f = found c.self.inside.slots.items _ c.args.handle values (sym c.contains.ensures ∙ c.if-not-contains.false) in
+    (counted-take _ c.args.handle f.0 _ f.1 c.self.invariant).0
 
 pub index_mut-requires : goal.index_mut-requires
 index_mut-requires g c = grind (arith, common_steps, found, made)

@@ -5,27 +5,20 @@ use Rattle.ent_storage.proofs.handle_map.HandleMap.try_clone_from.Goals as goal
 
 -- the new slots are clones of the source's
 pub invariant_of-self-2 : goal.invariant_of-self-2
-invariant_of-self-2 g c = cloned_counted g.T.Clone.is_clone c.source.inside.slots.items
-    c.append_clones-cloned.new.slots.items _ (search rules) c.source.invariant
+invariant_of-self-2 g c = cloned_counted g.T.Clone.is_clone c.source.inside.slots.items _ _ (search rules)
+    c.source.invariant
 
 pub returns-clause-keys : goal.returns-clause-keys
-returns-clause-keys g c = search (
-  rules,
-  cloned_keys g.T.Clone.is_clone c.source.inside.slots.items c.append_clones-cloned.new.slots.items (search rules),
-)
+returns-clause-keys g c = search (rules, cloned_keys g.T.Clone.is_clone)
 
 pub returns-clause-clones : goal.returns-clause-clones
-returns-clause-clones g c = search (
-  rules,
-  cloned_values g.T.Clone.is_clone c.source.inside.slots.items c.append_clones-cloned.new.slots.items
-      (search rules),
-)
+returns-clause-clones g c = search (rules, cloned_values)
 
 pub returns-clause-slots : goal.returns-clause-slots
 returns-clause-slots g c =
     let same = length_from g.T.Clone.is_clone c.source.inside.slots.items c.append_clones-cloned.new.slots.items
     (search rules) in
-    search (rules, same, c.append_clones-cloned.new.slots.ok.0, c.source.inside.slots.ok.0)
+    search rules
 
 -- after an `Err` there is no slot
 pub returns-in_err-cloned-clause-emptied : goal.returns-in_err-cloned-clause-emptied

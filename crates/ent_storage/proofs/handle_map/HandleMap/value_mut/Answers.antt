@@ -11,12 +11,10 @@ value_mut-requires g c = search (rules, found, read_of)
 
 pub invariant_of-self-lent : goal.invariant_of-self-lent
 invariant_of-self-lent g c w =
-    let h = c.args.handle in
     let slots = c.self.inside.slots.items in
-    let values = ap (λ (m : HandleMap g.row.T.Denot). m.values) c.self.view_is in
-    let f = found slots _ h values c.requires in
-    let is = read_of slots h f.0 c.index.result c.index_mut.result.now f.1 c.index.ensures c.index_mut.ensures.value in
-    rw (c.index.ensures, is) (counted-write slots h f.0 w c.self.inside.len f.1 c.self.invariant)
+    let f = found slots _ c.args.handle (ap (λ (m : HandleMap g.row.T.Denot). m.values) c.self.view_is) c.requires in
+    let is = read_of slots _ f.0 _ c.index_mut.result.now f.1 c.index.ensures c.index_mut.ensures.value in
+    rw (c.index.ensures, is) (counted-write slots _ f.0 w _ f.1 c.self.invariant)
 
 pub returns : goal.returns
 returns g c = grind (arith, common_steps, found, read_of, map-write, made, got)

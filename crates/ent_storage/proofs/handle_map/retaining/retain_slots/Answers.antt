@@ -7,21 +7,16 @@ retain_slot-keep-requires-clause-counted g c = search (rules, counts_one)
 
 pub loop-index-preserved : goal.loop-index-preserved
 loop-index-preserved g c =
-    let now = c.loop-index.slots.items in
-    let index = c.loop-index.index in
-    let new = c.retain_slot-keep.new.slot in
     let inv = c.loop-index.invariant in
     record {
       callable = c.retain_slot-keep.ensures.callable;
       len = inv.len;
       capacity = inv.capacity;
-      counted = counted-slot now c.loop-index.len c.retain_slot-keep.new.len index c.index_mut.result.now new
-          inv.counted (omega (arith, inv.below.long)) c.index_mut.ensures.value c.retain_slot-keep.ensures.counted;
-      below = retained-more (goal.F-step g) c.args.keep c.args.slots.now.items now c.loop-index.keep
-          c.retain_slot-keep.result index c.index_mut.result.now new (omega (arith, inv.below.long))
-          c.index_mut.ensures.value c.retain_slot-keep.ensures.kept inv.below;
+      counted = counted-slot _ _ _ _ _ _ inv.counted (omega (arith, inv.below.long)) c.index_mut.ensures.value
+          c.retain_slot-keep.ensures.counted;
+      below = retained-more (goal.F-step g) _ _ _ _ _ _ _ _ (omega (arith, inv.below.long)) c.index_mut.ensures.value
+          c.retain_slot-keep.ensures.kept inv.below;
     }
 
 pub returns-clause-retained : goal.returns-clause-retained
-returns-clause-retained g c = retained-done (goal.F-step g) c.args.keep c.args.slots.now.items c.loop-index.slots.items
-    c.loop-index.keep c.loop-index.index (omega arith) c.loop-index.invariant.below
+returns-clause-retained g c = retained-done (goal.F-step g) _ _ _ _ _ (omega arith) c.loop-index.invariant.below

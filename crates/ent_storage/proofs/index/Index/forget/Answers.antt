@@ -1,4 +1,4 @@
-use Rattle.ent_storage.proofs.Common.{ap, sym, ◌∙◌, handle_cmp, total, same, IsAt, Places}
+use Rattle.ent_storage.proofs.Common.{ap, ◌∙◌, total, same, Places}
 use Rattle.std.specs.FinMap as map
 use Rattle.ent_storage.proofs.Keys.{get-insert_other}
 use Rattle.ent_storage.proofs.Rising.{rising_set, map_set}
@@ -6,14 +6,12 @@ use Rattle.ent_storage.proofs.index.Index.forget.Goals as goal
 
 pub invariant_of-self : goal.invariant_of-self
 invariant_of-self c =
-    let at : IsAt handle_cmp c.self.inside.pairs.items c.of.result c.in-Some.position = rw
-    (c.of.ensures, sym c.deref.ensures.value) c.in-Some.ensures in
+    let at = rw (← c.of.ensures, c.deref.ensures.value) at c.in-Some.ensures in
     rising_set total same _ c.self.invariant _ _ 4294967295 at
 
 pub returns-in-Some-clause-kept : goal.returns-in-Some-clause-kept
 returns-in-Some-clause-kept c q i n old =
-    let at : IsAt handle_cmp c.self.inside.pairs.items c.of.result c.in-Some.position = rw
-    (c.of.ensures, sym c.deref.ensures.value) c.in-Some.ensures in
+    let at = rw (← c.of.ensures, c.deref.ensures.value) at c.in-Some.ensures in
     ap (λ m. map.get m q) (map_set total same _ c.self.invariant _ _ 4294967295 at)
-    ∙ get-insert_other total same _ c.of.result 4294967295 q (λ is. n (is ∙ c.of.ensures))
+    ∙ get-insert_other total same _ _ 4294967295 q (λ is. n (is ∙ c.of.ensures))
     ∙ ap (λ (p : Places). map.get p.by_handle q) c.self.view_is ∙ old

@@ -4,5 +4,4 @@ use Rattle.ent_storage.proofs.index.Index.take_over.Goals as goal
 
 pub returns-then-len-capacity-clause-kept : goal.returns-then-len-capacity-clause-kept
 returns-then-len-capacity-clause-kept c q i at =
-    let gives = counted_gives c.args.living.now.entities c.args.source.now.by_handle q i at in
-    search (rules, gives.0, c.source.view_is)
+    let gives = counted_gives _ _ q i at in search (rules, gives.0, c.source.view_is)

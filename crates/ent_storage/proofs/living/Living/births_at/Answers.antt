@@ -4,9 +4,8 @@ use Rattle.ent_storage.proofs.living.Living.births_at.Goals as goal
 
 pub index-resident-requires : goal.index-resident-requires
 index-resident-requires c =
-    let inside = inside_from c.self.inside.residents.items c.self.inside.columns.items _ c.args.self.now _
-    c.self.view_is (c.requires c.loop-pair.pair-index (0, pos 0) (omega arith)) in
-    omega (arith, inside, c.self.inside.residents.ok.0)
+    let inside = inside_from _ _ _ _ _ c.self.view_is (c.requires c.loop-pair.pair-index (0, pos 0) (omega arith)) in
+    omega arith
 
 pub loop-pair-preserved : goal.loop-pair-preserved
 loop-pair-preserved c =

@@ -1,5 +1,4 @@
-use Rattle.ent_storage.proofs.Common.{rules, ◌≡◌, ℕ, List, length, slice_get, ap, sym, ◌∙◌, slice_get-get_or, none-some, ComponentId, Column, no_column, Resident, Living, LivingEntity, value_at, entities_from, AreColumnsOf}
-use Rattle.std.proofs.Common.{option_and_then}
+use Rattle.ent_storage.proofs.Common.{rules, ◌≡◌, ℕ, List, length, slice_get, ap, sym, ◌∙◌, slice_get-get_or, none-some, ComponentId, Column, no_column, Resident, Living, LivingEntity, value_at, entities_from, AreColumnsOf, option_and_then}
 use Rattle.ent_storage.proofs.ColumnsAtPlaces.{taken_none}
 use Rattle.std.specs.FinMap as finite
 use Rattle.ent_storage.proofs.EntitiesOfResidents.{value_from}
@@ -15,22 +14,16 @@ is_value residents columns room living place id is within = search (rules, value
 pub returns-in-Some-clause-has : goal.returns-in-Some-clause-has
 returns-in-Some-clause-has c place v at =
     let column = (rw c.deref.ensures.value at c.in-Some.ensures.lookup).3.1 no_column in
-    is_value c.self.inside.residents.items c.self.inside.columns.items _ c.args.self.now place c.args.id c.self.view_is
-    c.self.invariant.0 ∙ ap (λ (m : Column). finite.get m.values place) (sym column) ∙ c.pairs.ensures.has place v at
+    is_value _ _ _ _ place _ c.self.view_is c.self.invariant.0 ∙ ap (λ (m : Column). finite.get m.values place) (sym
+    column) ∙ c.pairs.ensures.has place v at
 
 pub returns-in-Some-clause-all : goal.returns-in-Some-clause-all
 returns-in-Some-clause-all c place v is =
     let column = (rw c.deref.ensures.value at c.in-Some.ensures.lookup).3.1 no_column in
-    c.pairs.ensures.all place v (ap (λ (m : Column). finite.get m.values place) column
-    ∙ sym (is_value c.self.inside.residents.items c.self.inside.columns.items _ c.args.self.now place c.args.id
-    c.self.view_is c.self.invariant.0) ∙ is)
+    search (rules, value_from, column)
 
 pub returns-in-Some-clause-once : goal.returns-in-Some-clause-once
 returns-in-Some-clause-once c i j d l k e = search (rules, slice_get-get_or)
 
 pub returns-in-None-clause-all : goal.returns-in-None-clause-all
-returns-in-None-clause-all c place v is =
-    let past = (rw c.deref.ensures.value at c.in-None.ensures.lookup).3 in
-    absurd (none-some v (sym (taken_none c.self.inside.columns.items place c.args.id past).0
-    ∙ sym (is_value c.self.inside.residents.items c.self.inside.columns.items _ c.args.self.now place c.args.id
-    c.self.view_is c.self.invariant.0) ∙ is))
+returns-in-None-clause-all c place v is = search (rules, none-some, taken_none, value_from)

@@ -1,4 +1,4 @@
-use Rattle.ent_storage.proofs.Common.{rules, ◌≡◌, length, AllZip, IsCopy}
+use Rattle.ent_storage.proofs.Common.{rules, ◌≡◌, AllZip, IsCopy}
 use Rattle.ent_storage.proofs.Copies.{entities_copied, columns_copied, in_use_copied}
 use Rattle.ent_storage.proofs.living.Living.try_clone.Goals as goal
 
@@ -7,13 +7,7 @@ invariant_of-result c =
     let copies : AllZip IsCopy c.self.inside.columns.items c.in_ok-try_clone.field-0.items = search rules in
     let residents : c.extend_from_slice.new.self.items ≡ c.self.inside.residents.items = search rules in
     let used : c.extend_from_slice-2.new.self.items ≡ c.self.inside.used.items = search rules in
-    rw (residents, used) (
-      columns_copied _ _ copies (length c.self.inside.residents.items) c.self.invariant.0,
-      in_use_copied _ _ copies c.self.inside.used.items c.self.invariant.1,
-    )
+    rw (residents, used) (columns_copied _ _ copies _ c.self.invariant.0, in_use_copied _ _ copies _ c.self.invariant.1)
 
 pub returns-clause-entities : goal.returns-clause-entities
-returns-clause-entities c =
-    let copies : AllZip IsCopy c.self.inside.columns.items c.in_ok-try_clone.field-0.items = search rules in
-    let residents : c.extend_from_slice.new.self.items ≡ c.self.inside.residents.items = search rules in
-    search (rules, residents, entities_copied _ _ copies c.self.inside.residents.items, c.self.view_is)
+returns-clause-entities c = search (rules, entities_copied)

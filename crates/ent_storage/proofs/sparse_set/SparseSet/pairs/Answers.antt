@@ -5,18 +5,13 @@ use Rattle.ent_storage.proofs.sparse_set.SparseSet.pairs.Goals as goal
 
 pub returns-clause-has : goal.returns-clause-has
 returns-clause-has c p v h =
-    let D = c.self.inside.dense.items in
     let k = rw c.deref.ensures.value at h in
-    ap (λ (m : Column). map.get m.values p) (sym c.self.view_is) ∙ has D c.self.inside.sparse.items c.self.invariant k.0
-    p v (search (rules, slice_get-get_or))
+    ap (λ (m : Column). map.get m.values p) (sym c.self.view_is)
+    ∙ has _ _ c.self.invariant k.0 p v (search (rules, slice_get-get_or))
 
 pub returns-clause-all : goal.returns-clause-all
-returns-clause-all c p v found =
-    let D = c.self.inside.dense.items in
-    let k = at D c.self.inside.sparse.items c.self.invariant p v (ap (λ (m : Column). map.get m.values p) c.self.view_is
-    ∙ found) in
-    search (rules, c.deref.ensures.value, slice_get_within, get_or_from_slice_get)
+returns-clause-all c p v found = search (rules, at, slice_get_within, get_or_from_slice_get)
 
 pub returns-clause-once : goal.returns-clause-once
-returns-clause-once c j k p v w a b = once c.self.inside.dense.items c.self.inside.sparse.items c.self.invariant j k p v
-    w (rw c.deref.ensures.value at a) (rw c.deref.ensures.value at b)
+returns-clause-once c j k p v w a b = once _ _ c.self.invariant j k p v w (rw c.deref.ensures.value at a)
+    (rw c.deref.ensures.value at b)

@@ -70,9 +70,8 @@ returns-then-position-len c =
     let at = (goal.at.returns-then-position-len c).After-swap_remove-value in
     record {
       value = search (rules, to_z-of_z, value);
-      after = without at _ (refilled_dense c.self.inside.dense.items c.self.inside.sparse.items c.self.invariant
-          c.in_ok-position.position c.args.place _ (here at) c.swap_remove-value.new.self.items (rest at)
-          c.index.result.now.0 c.index.result.now.1 (read (goal.at.returns-then-position-len c).After-index));
+      after = without at _ (refilled_dense _ _ c.self.invariant _ c.args.place _ (here at) _ (rest at) _ _
+          (read (goal.at.returns-then-position-len c).After-index));
       absent = search rules;
     }
 
@@ -81,8 +80,7 @@ returns-else-position-len c =
     let at = (goal.at.returns-else-position-len c).After-swap_remove-value in
     record {
       value = search (rules, to_z-of_z, value);
-      after = without at _ (popped_dense c.self.inside.dense.items c.self.inside.sparse.items c.self.invariant
-          c.in_ok-position.position c.args.place _ (here at) c.swap_remove-value.new.self.items (rest at)
+      after = without at _ (popped_dense _ _ c.self.invariant _ c.args.place _ (here at) _ (rest at)
           (last (goal.at.returns-else-position-len c).Else-position-len));
       absent = search rules;
     }

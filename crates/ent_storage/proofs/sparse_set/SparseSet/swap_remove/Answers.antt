@@ -10,5 +10,4 @@ pub returns-then-place-last : goal.returns-then-place-last
 returns-then-place-last c = search (rules, moved_down)
 
 pub returns-else-place-last : goal.returns-else-place-last
-returns-else-place-last c = removed_last c.args.place c.args.last _ _ c.remove.ensures.after
-    (omega (arith, c.requires, c.if-place-last.false))
+returns-else-place-last c = removed_last _ _ _ _ c.remove.ensures.after (omega arith)

@@ -1,4 +1,4 @@
-use Rattle.ent_storage.proofs.Common.{rules, ◌≢◌, ◌∙◌, ap, length, arith, Column, Fits}
+use Rattle.ent_storage.proofs.Common.{rules, ◌≢◌, ◌∙◌, ap, Column, Fits}
 use Rattle.std.specs.FinMap as map
 use Rattle.ent_storage.proofs.Copied.{some_values, fits}
 use Rattle.ent_storage.proofs.sparse_set.SparseSet.take_over.Goals.{Then-not-is_empty}
@@ -6,40 +6,22 @@ use Rattle.ent_storage.proofs.sparse_set.SparseSet.take_over.Goals as goal
 
 -- the source has values
 some : (c : Then-not-is_empty) → c.args.source.now.values ≢ map.empty
-some c none = some_values c.source.inside.dense.items c.source.inside.sparse.items c.source.invariant
-    (λ zero. search (rules, zero, c.source.inside.dense.ok.0, c.if-not-is_empty.true))
-    (ap (λ (m : Column). m.values) c.source.view_is ∙ none)
+some c none = some_values _ _ c.source.invariant (λ zero. search
+    (rules, zero, c.source.inside.dense.ok.0, c.if-not-is_empty.true)) (ap (λ (m : Column). m.values) c.source.view_is
+    ∙ none)
 
 -- so its vectors fit
 its : (c : Then-not-is_empty) → Fits c.args.self.now c.args.source.now
 its c = fits c.args.self.now c.args.source.now c.requires (some c)
 
 pub overwrite-requires : goal.overwrite-requires
-overwrite-requires c =
-    let fits = its (goal.at.overwrite-requires c).Then-not-is_empty in
-    let count = ap (λ (m : Column). m.count) c.source.view_is in
-    let room = ap (λ (m : Column). m.value_room) c.self.view_is in
-    omega (
-      arith,
-      fits.values,
-      count,
-      room,
-      c.clear.ensures.capacity,
-      ap length c.deref.ensures.value,
-      c.source.inside.dense.ok.0,
-    )
+overwrite-requires c = search (rules, some_values, fits)
 
 pub overwrite-requires-then-not-is_empty : goal.overwrite-requires-then-not-is_empty
 overwrite-requires-then-not-is_empty c =
-    let fits = its (goal.at.overwrite-requires-then-not-is_empty c).Then-not-is_empty in
-    let places = ap (λ (m : Column). m.places) c.source.view_is in
-    let room = ap (λ (m : Column). m.place_room) c.self.view_is in
-    omega
-    (arith, fits.places, places, room, ap length c.deref-then-not-is_empty.ensures.value, c.source.inside.sparse.ok.0)
+    let fits = its (goal.at.overwrite-requires-then-not-is_empty c).Then-not-is_empty in search rules
 
 -- a set without room takes over none
 pub returns-then-not-is_empty-clause-none : goal.returns-then-not-is_empty-clause-none
 returns-then-not-is_empty-clause-none c none =
-    let fits = its (goal.at.returns-then-not-is_empty-clause-none c).Then-not-is_empty in
-    let room = ap (λ (m : Column). m.value_room) none in
-    absurd (omega (arith, fits.some, fits.values, room))
+    let fits = its (goal.at.returns-then-not-is_empty-clause-none c).Then-not-is_empty in search rules

@@ -20,12 +20,10 @@ invariant_of-self c =
     let entity : LivingEntity = record { handle = c.args.handle; birth = c.args.birth; components = map.empty } in
     let room = ap (λ (s : Store). s.spare) c.self.view_is in
     let fits : length c.self.inside.living.entities < min c.self.inside.living.room c.self.inside.index.room = omega
-    (arith, room, c.requires) in
+    arith in
     let keeps = c.put.ensures.kept c.if-put.true in
-    rw (c.push.ensures.entities, c.push.ensures.room, c.put.ensures.room)
-    (kept_push c.self.inside.living.entities c.self.inside.index.by_handle
-    (min c.self.inside.living.room c.self.inside.index.room) c.self.invariant entity c.put.new.self.by_handle new fits
-    (c.put.ensures.placed c.if-put.true) keeps)
+    rw (c.push.ensures.entities, c.push.ensures.room, c.put.ensures.room) (kept_push _ _ _ c.self.invariant entity _ new
+    fits (c.put.ensures.placed c.if-put.true) keeps)
 
 pub returns-then-put-clause-ok : goal.returns-then-put-clause-ok
 returns-then-put-clause-ok c = search (rules, none_from_test, entities_push)

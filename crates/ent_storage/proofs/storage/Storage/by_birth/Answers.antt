@@ -1,4 +1,4 @@
-use Rattle.ent_storage.proofs.Common.{rules, ◌≡◌, ◌≢◌, ◌<◌, ℕ, List, length, true, mapped, ap, sym, ◌∙◌, length-map, handle_cmp, LivingEntity, Entity, EntityMap, Store, counted, map_of, IsIndexed}
+use Rattle.ent_storage.proofs.Common.{rules, ◌≡◌, ◌≢◌, ◌<◌, ℕ, List, length, true, mapped, ap, sym, ◌∙◌, length-map, handle_cmp, LivingEntity, Entity, EntityMap, Store, map_of, IsIndexed}
 use Rattle.std.specs.FinMap as map
 use Rattle.ent_storage.proofs.Missing.{on_err}
 use Rattle.ent_storage.proofs.Indexed.{len_living}
@@ -8,12 +8,10 @@ use Rattle.ent_storage.proofs.storage.Storage.by_birth.Goals as goal
 -- every entity passes
 pub returns-clause-ok : goal.returns-clause-ok
 returns-clause-ok c =
-    let living = c.self.inside.living.entities in
     let births = c.in_ok-births.ensures.ok ∙ ap (mapped (λ (entity : LivingEntity). (entity.birth, entity.handle)))
-    (sym (filter-all living)) in
+    (sym (filter-all _)) in
     let are = ap (λ (s : Store). s.entities) c.self.view_is in
-    rw (← are) (lists living (counted c.self.inside.living.entities c.self.inside.index.by_handle)
-    c.self.invariant.indexed (λ _. true) _ (rw births at c.in_ok-handles_in_order.ensures.ok))
+    rw (← are) (lists _ _ c.self.invariant.indexed (λ _. true) _ (rw births at c.in_ok-handles_in_order.ensures.ok))
 
 -- a map of somebody is not the empty one
 not_empty : (living : List LivingEntity) (index : map.FinMap handle_cmp ℕ) → IsIndexed living index → (m : EntityMap)

@@ -1,11 +1,9 @@
-use Rattle.ent_storage.proofs.Common.{ap, sym, ◌∙◌, Store, value_at_place, counted}
+use Rattle.ent_storage.proofs.Common.{ap, sym, ◌∙◌, Store, value_at_place}
 use Rattle.ent_storage.proofs.WithComponent.{same_value}
 use Rattle.ent_storage.proofs.storage.Storage.dense.Goals as goal
 
 pub returns-clause-has : goal.returns-clause-has
 returns-clause-has c place value =
-    let living = c.self.inside.living.entities in
-    let index = counted living c.self.inside.index.by_handle in
-    let same = same_value living index c.self.invariant.indexed c.args.id place
-    ∙ ap (λ (s : Store). value_at_place s place c.args.id) c.self.view_is in
+    let same = same_value _ _ c.self.invariant.indexed _ place ∙ ap (λ (s : Store). value_at_place s place c.args.id)
+    c.self.view_is in
     (λ at. sym same ∙ c.pairs.ensures.has place value at, λ is. c.pairs.ensures.all place value (same ∙ is))

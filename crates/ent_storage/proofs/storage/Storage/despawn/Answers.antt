@@ -6,13 +6,10 @@ use Rattle.ent_storage.proofs.storage.Storage.despawn.Goals as goal
 -- who was taken out is not there
 pub forget-requires : goal.forget-requires
 forget-requires c = ap (λ m. map.get m c.args.handle) c.despawn_at.ensures.entities
-    ∙ get-remove_same total same _ c.args.handle c.args.handle refl
+    ∙ get-remove_same total same _ _ _ refl
 
 -- it was taken out at its place
 pub returns-clause-places : goal.returns-clause-places
 returns-clause-places c =
-    let at = (c.in-Some.ensures.at c.in-Some.place).0 refl in (
-      c.in-Some.place,
-      slice_get_within _ c.in-Some.place c.args.handle at,
-      (at, rw c.forget.ensures c.despawn_at.ensures.places),
-    )
+    let at = (c.in-Some.ensures.at c.in-Some.place).0 refl in
+    (c.in-Some.place, slice_get_within _ _ _ at, (at, rw c.forget.ensures c.despawn_at.ensures.places))

@@ -1,4 +1,4 @@
-use Rattle.ent_storage.proofs.Common.{rules, ◌≡◌, ℕ, ◌<◌, ◌≤◌, List, length, get_or, min, Some, slice_get, ap, ◌∙◌, arith, common_steps, length-map, slice_get_past, Handle, Store, LivingEntity, counted, handles_by_place}
+use Rattle.ent_storage.proofs.Common.{rules, ◌≡◌, ℕ, ◌<◌, ◌≤◌, List, length, get_or, Some, slice_get, ap, ◌∙◌, arith, common_steps, length-map, slice_get_past, Handle, Store, LivingEntity, counted, handles_by_place}
 use Rattle.std.specs.FinMap as map
 use Rattle.ent_storage.proofs.Indexed.{some_entity}
 use Rattle.ent_storage.proofs.Counted.{kept_moved, kept_popped, moved_counts}
@@ -42,27 +42,25 @@ pub set_place-requires-clause-there : goal.set_place-requires-clause-there
 set_place-requires-clause-there c =
     let at = goal.at.set_place-requires-clause-there c in
     let moved = moved at.After-handle-moved in
-    rw moved.is (moved_counts c.self.inside.living.entities c.self.inside.index.by_handle c.args.handle _
-    (moved_is_there c.self.inside.living.entities _ c.self.invariant.indexed c.args.handle c.args.place
-    (placed at.After-self) _ c.swap_remove.ensures.entities moved.room _ moved.read))
+    rw moved.is (moved_counts _ _ _ _ (moved_is_there _ _ c.self.invariant.indexed _ _ (placed at.After-self) _
+    c.swap_remove.ensures.entities moved.room _ moved.read))
 
 pub invariant_of-self : goal.invariant_of-self
 invariant_of-self c =
     let at = goal.at.invariant_of-self c in
     let moved = moved at.After-handle-moved in
-    rw (c.set_place.ensures, moved.is, c.swap_remove.ensures.room)
-    (kept_moved c.self.inside.living.entities c.self.inside.index.by_handle
-    (min c.self.inside.living.room c.self.inside.index.room) c.self.invariant c.args.handle c.args.place
+    rw (c.set_place.ensures, moved.is, c.swap_remove.ensures.room) (kept_moved _ _ _ c.self.invariant _ _
     (placed at.After-self) _ c.swap_remove.ensures.entities moved.room _ moved.read)
 
 pub returns-then-place-len-clause-entities : goal.returns-then-place-len-clause-entities
 returns-then-place-len-clause-entities c = search (rules, entities_moved, placed, moved)
 
 pub returns-then-place-len-clause-places : goal.returns-then-place-len-clause-places
-returns-then-place-len-clause-places c = rw (← ap (λ (s : Store). s.places) c.self.view_is)
-    (handles_without c.self.inside.living.entities c.swap_remove.new.self.entities c.args.place c.args.handle
-    (at_place c.self.inside.living.entities c.args.place c.args.handle
-    (at (goal.at.returns-then-place-len-clause-places c).After-self)).0 c.swap_remove.ensures.entities)
+returns-then-place-len-clause-places c =
+    let at = at_place c.self.inside.living.entities c.args.place c.args.handle
+    (at (goal.at.returns-then-place-len-clause-places c).After-self) in
+    rw (← ap (λ (s : Store). s.places) c.self.view_is)
+    (handles_without _ _ _ c.args.handle at.0 c.swap_remove.ensures.entities)
 
 pub returns-then-place-len-clause-moved : goal.returns-then-place-len-clause-moved
 returns-then-place-len-clause-moved c = search (rules, moved, from_place)
@@ -70,18 +68,18 @@ returns-then-place-len-clause-moved c = search (rules, moved, from_place)
 pub invariant_of-self-else-place-len : goal.invariant_of-self-else-place-len
 invariant_of-self-else-place-len c =
     let at = goal.at.invariant_of-self-else-place-len c in
-    rw c.swap_remove.ensures.room (kept_popped c.self.inside.living.entities c.self.inside.index.by_handle
-    (min c.self.inside.living.room c.self.inside.index.room) c.self.invariant c.args.handle c.args.place
-    (placed at.After-self) _ c.swap_remove.ensures.entities (last at.Else-place-len))
+    rw c.swap_remove.ensures.room (kept_popped _ _ _ c.self.invariant _ _ (placed at.After-self) _
+    c.swap_remove.ensures.entities (last at.Else-place-len))
 
 pub returns-else-place-len-clause-entities : goal.returns-else-place-len-clause-entities
 returns-else-place-len-clause-entities c = search (rules, entities_popped, placed, last)
 
 pub returns-else-place-len-clause-places : goal.returns-else-place-len-clause-places
-returns-else-place-len-clause-places c = rw (← ap (λ (s : Store). s.places) c.self.view_is)
-    (handles_without c.self.inside.living.entities c.swap_remove.new.self.entities c.args.place c.args.handle
-    (at_place c.self.inside.living.entities c.args.place c.args.handle
-    (at (goal.at.returns-else-place-len-clause-places c).After-self)).0 c.swap_remove.ensures.entities)
+returns-else-place-len-clause-places c =
+    let at = at_place c.self.inside.living.entities c.args.place c.args.handle
+    (at (goal.at.returns-else-place-len-clause-places c).After-self) in
+    rw (← ap (λ (s : Store). s.places) c.self.view_is)
+    (handles_without _ _ _ c.args.handle at.0 c.swap_remove.ensures.entities)
 
 pub returns-else-place-len-clause-moved : goal.returns-else-place-len-clause-moved
 returns-else-place-len-clause-moved c = search (rules, last, slice_get_past, length-map)

@@ -33,20 +33,15 @@ returns-in-Some-clause-here c = if_ok c.give_one.result
     ∙ sym c.in-Some.is) (is_given (goal.at.returns-in-Some-clause-here c).After-give_one)
 
 pub returns-in-Some-clause-others : goal.returns-in-Some-clause-others
-returns-in-Some-clause-others c other apart =
-    let old = c.args.self.now.entities in
-    holds (goal.at.returns-in-Some-clause-others c).After-give_one (λ m. value_of m c.args.handle other ≡ value_of old
-    c.args.handle other) (given_others old c.args.handle c.args.id c.in-Some.value c.requires.there other apart) refl
+returns-in-Some-clause-others c other apart = holds (goal.at.returns-in-Some-clause-others c).After-give_one
+    (λ m. value_of m c.args.handle other ≡ value_of c.args.self.now.entities c.args.handle other)
+    (given_others _ _ _ _ c.requires.there other apart) refl
 
 pub returns-in-Some-clause-birth : goal.returns-in-Some-clause-birth
-returns-in-Some-clause-birth c =
-    let old = c.args.self.now.entities in
-    holds (goal.at.returns-in-Some-clause-birth c).After-give_one
-    (λ m. birth_of m c.args.handle ≡ birth_of old c.args.handle)
-    (given_birth old c.args.handle c.args.id c.in-Some.value c.requires.there) refl
+returns-in-Some-clause-birth c = holds (goal.at.returns-in-Some-clause-birth c).After-give_one
+    (λ m. birth_of m c.args.handle ≡ birth_of c.args.self.now.entities c.args.handle)
+    (given_birth _ _ _ _ c.requires.there) refl
 
 pub returns-in-Some-clause-rest : goal.returns-in-Some-clause-rest
-returns-in-Some-clause-rest c h apart =
-    let old = c.args.self.now.entities in
-    holds (goal.at.returns-in-Some-clause-rest c).After-give_one (λ m. map.get m h ≡ map.get old h)
-    (given_rest old c.args.handle c.args.id c.in-Some.value h apart) refl
+returns-in-Some-clause-rest c h apart = holds (goal.at.returns-in-Some-clause-rest c).After-give_one
+    (λ m. map.get m h ≡ map.get c.args.self.now.entities h) (given_rest _ _ _ _ h apart) refl

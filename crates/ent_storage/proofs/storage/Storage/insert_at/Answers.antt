@@ -1,17 +1,15 @@
 use Rattle.ent_storage.proofs.Common.{rules, ◌<◌, IfSome, min, ap, option_map, with_items, missing, Entity, components_of}
 use Rattle.ent_storage.proofs.Indexed.{some_entity}
 use Rattle.ent_storage.proofs.Missing.{on_err}
-use Rattle.ent_storage.proofs.Placed.{IsEntityAt, entity_at, placed_at}
+use Rattle.ent_storage.proofs.Placed.{entity_at, placed_at}
 use Rattle.ent_storage.proofs.Changed.{IsChanged, changed}
-use Rattle.ent_storage.proofs.storage.Storage.insert_at.Goals.{After-self, In_ok-insert}
+use Rattle.ent_storage.proofs.storage.Storage.insert_at.Goals.{In_ok-insert}
 use Rattle.ent_storage.proofs.storage.Storage.insert_at.Goals as goal
 
--- the place is that of the handle
-at : (c : After-self) → IsEntityAt c.self.inside.living.entities c.args.self.now c.args.handle c.args.place
-at c = search (rules, entity_at)
-
 pub insert-requires : goal.insert-requires
-insert-requires c = (at (goal.at.insert-requires c).After-self).inside
+insert-requires c =
+    let at = entity_at _ _ _ _ c.self.invariant.indexed c.self.view_is c.args.handle c.args.place c.requires in
+    at.inside
 
 -- the entity has the new components
 after : (c : In_ok-insert) → IsChanged c.args.self.now c.args.handle (λ held. with_items held c.args.items.now)
@@ -21,11 +19,10 @@ after c = search (rules, changed, placed_at, c.in_ok-insert.ensures.ok)
 -- memory was refused, for a component that is missing
 pub returns-in_err-insert-clause-memory_to_grow : goal.returns-in_err-insert-clause-memory_to_grow
 returns-in_err-insert-clause-memory_to_grow c =
-    let held = ap (option_map (λ (e : Entity). e.components))
-    (at (goal.at.returns-in_err-insert-clause-memory_to_grow c).After-self).found in
+    let at = entity_at _ _ _ _ c.self.invariant.indexed c.self.view_is c.args.handle c.args.place c.requires in
     on_err {P = IfSome (components_of c.args.self.now.entities c.args.handle)
-    (λ held. 0 < missing held c.args.items.now)} _ (rw held
-    (c.in_err-insert.ensures.growing (some_entity c.args.handle)))
+    (λ held. 0 < missing held c.args.items.now)} _ (rw (ap (option_map (λ (e : Entity). e.components)) at.found)
+    (c.in_err-insert.ensures.growing (some_entity _)))
 
 pub returns : goal.returns
 returns c = let now = after (goal.at.returns c).In_ok-insert in search (rules, now)

@@ -1,5 +1,4 @@
-use Rattle.ent_storage.proofs.Common.{common_steps, ap, ◌∙◌, arith, handle_cmp, Entity, Store, counted}
-use Rattle.std.proofs.Common.{eq-eqb}
+use Rattle.ent_storage.proofs.Common.{common_steps, ap, ◌∙◌, arith, handle_cmp, Entity, Store, counted, eq-eqb}
 use Rattle.std.specs.FinMap as map
 use Rattle.ent_storage.proofs.Indexed.{len_living}
 use Rattle.ent_storage.proofs.storage.Storage.is_empty.Goals as goal
@@ -7,11 +6,9 @@ use Rattle.ent_storage.proofs.storage.Storage.is_empty.Goals as goal
 -- an empty list stands for the empty map, and no other list does
 pub returns : goal.returns
 returns c =
-    let living = c.self.inside.living.entities in
-    let counted = len_living living (counted c.self.inside.living.entities c.self.inside.index.by_handle)
-    c.self.invariant.indexed in
+    let counted = len_living _ _ c.self.invariant.indexed in
     let view = ap (λ (s : Store). map.len s.entities) c.self.view_is in (
       grind (arith, common_steps, c.self.inside.living.entities, c.is_empty.ensures),
       λ empty. let none = ap map.len empty ∙ map.len-empty handle_cmp Entity in c.is_empty.ensures
-          ∙ eq-eqb _ _ (omega (arith, counted, view, none)),
+          ∙ eq-eqb _ _ (omega arith),
     )

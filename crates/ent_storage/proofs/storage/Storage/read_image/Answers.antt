@@ -28,15 +28,12 @@ loop-handle-init c =
 pub returns-in_default-clause-refused : goal.returns-in_default-clause-refused
 returns-in_default-clause-refused c other m stored same =
     let none = rw c.in_default.is at c.in_ok-left.ensures.none in
-    damaged c.args.handles.now c.loop-handle.handle-index c.loop-handle.invariant.read c.handle-item.result
-    c.loop-handle-test.true c.handle-item.is m (search rules) none stored same
+    damaged _ _ c.loop-handle.invariant.read _ c.loop-handle-test.true c.handle-item.is m (search rules) none stored
+    same
 
 pub loop-handle-preserved : goal.loop-handle-preserved
 loop-handle-preserved c =
     let loop = c.loop-handle.invariant in
-    let hs = c.args.handles.now in
-    let i = c.loop-handle.handle-index in
-    let h = c.handle-item.result in
     let lt = c.loop-handle-test.true in
     let found = rw c.in-Some.is at c.in_ok-left.ensures.found in
     let stored = rw c.in-Some.is at c.in_ok-left.ensures.stored in
@@ -44,36 +41,30 @@ loop-handle-preserved c =
     let places = rw c.in-Some.is at c.in_ok-left.ensures.places in
     let spare = rw c.in-Some.is at c.in_ok-left.ensures.spare in
     record {
-      read = read_more hs i loop.read h lt c.handle-item.is c.requires.apart c.read_entity.new.storage.entities
-          c.in_ok-left.ensures.rest c.in-Some.left.now found stored beyond;
-      places = places_more hs i loop.read h lt c.handle-item.is c.loop-handle.storage.places
-          c.read_entity.new.storage.places loop.places places;
-      spare = omega (arith, loop.spare, spare);
+      read = read_more _ _ loop.read _ lt c.handle-item.is c.requires.apart _ c.in_ok-left.ensures.rest _ found stored
+          beyond;
+      places = places_more _ _ loop.read _ lt c.handle-item.is _ _ loop.places places;
+      spare = omega arith;
     }
 
 pub returns-then-not-is_empty-clause-refused : goal.returns-then-not-is_empty-clause-refused
 returns-then-not-is_empty-clause-refused c other m stored same =
-    let read = all_read c.args.handles.now c.loop-handle.handle-index c.loop-handle-test.false
-    c.loop-handle.invariant.read in
+    let read = all_read _ _ c.loop-handle-test.false c.loop-handle.invariant.read in
     let zeros = ap length (nothing_left read m (search rules) stored same) in
     grind (arith, common_steps, zeros, c.is_empty.ensures, c.if-not-is_empty.true)
 
 pub returns-then-width-clause-refused : goal.returns-then-width-clause-refused
 returns-then-width-clause-refused c other m stored same =
-    let read = all_read c.args.handles.now c.loop-handle.handle-index c.loop-handle-test.false
-    c.loop-handle.invariant.read in
-    c.if-width.true (c.width.ensures.value ∙ width_placed c.loop-handle.storage.entities c.args.handles.now
-    c.loop-handle.handle-index c.loop-handle-test.false c.loop-handle.invariant.places
+    let read = all_read _ _ c.loop-handle-test.false c.loop-handle.invariant.read in
+    c.if-width.true (c.width.ensures.value ∙ width_placed _ _ _ c.loop-handle-test.false c.loop-handle.invariant.places
     ∙ width_told read m (search rules) stored same)
 
 pub returns-clause-stored : goal.returns-clause-stored
-returns-clause-stored c = are_stored (all_read c.args.handles.now c.loop-handle.handle-index c.loop-handle-test.false
-    c.loop-handle.invariant.read)
+returns-clause-stored c = are_stored (all_read _ _ c.loop-handle-test.false c.loop-handle.invariant.read)
 
 pub returns-clause-exact : goal.returns-clause-exact
 returns-clause-exact c m stored same =
-    let read = all_read c.args.handles.now c.loop-handle.handle-index c.loop-handle-test.false
-    c.loop-handle.invariant.read in
+    let read = all_read _ _ c.loop-handle-test.false c.loop-handle.invariant.read in
     is_read read m (search rules) stored same
 
 -- ---- the first fault
@@ -93,34 +84,31 @@ returns-in_default-clause-fault c other =
     let lt = c.loop-handle-test.true in
     let none = rw c.in_default.is at c.in_ok-left.ensures.none in
     let at : c.len-place.result ≡ i = c.len-place.ensures.places ∙ ap length loop.places
-    ∙ length-take-le i hs (omega (arith, lt)) in
+    ∙ length-take-le _ _ (omega arith) in
     subst (λ place. HasFault hs c.args.bytes.now (Entity place)) (sym at) (
-      lt,
-      (
-        first_read hs i c.if-width-gt256.false loop.read,
+      lt, (
+        first_read _ _ c.if-width-gt256.false loop.read,
         λ d. subst (IsNoEntity c.read_word-width.result.0 c.loop-handle.rest.now)
-            (c.handle-item.is ∙ get_or_default hs i c.handle-item.result d lt) none,
+            (c.handle-item.is ∙ get_or_default _ _ _ d lt) none,
       ),
     )
 
 pub returns-then-not-is_empty-clause-fault : goal.returns-then-not-is_empty-clause-fault
 returns-then-not-is_empty-clause-fault c other =
-    let read = all_read c.args.handles.now c.loop-handle.handle-index c.loop-handle-test.false
-    c.loop-handle.invariant.read in
+    let read = all_read _ _ c.loop-handle-test.false c.loop-handle.invariant.read in
     inr (
       all_first read c.if-width-gt256.false,
-      λ none. let zeros : length c.loop-handle.rest.now ≡ 0 = ap length none in
-          grind (arith, common_steps, zeros, c.is_empty.ensures, c.if-not-is_empty.true),
+      λ none. let zeros : length c.loop-handle.rest.now ≡ 0 = ap length none in grind
+          (arith, common_steps, zeros, c.is_empty.ensures, c.if-not-is_empty.true),
     )
 
 pub returns-then-width-clause-fault : goal.returns-then-width-clause-fault
 returns-then-width-clause-fault c other =
-    let read = all_read c.args.handles.now c.loop-handle.handle-index c.loop-handle-test.false
-    c.loop-handle.invariant.read in
+    let read = all_read _ _ c.loop-handle-test.false c.loop-handle.invariant.read in
     inr (
       all_first read c.if-width-gt256.false,
-      nil_from_length c.loop-handle.rest.now (grind (arith, common_steps, c.is_empty.ensures, c.if-not-is_empty.false)),
+      nil_from_length _ (grind (arith, common_steps, c.is_empty.ensures, c.if-not-is_empty.false)),
       refl,
-      λ same. c.if-width.true (c.width.ensures.value ∙ width_placed c.loop-handle.storage.entities c.args.handles.now
-          c.loop-handle.handle-index c.loop-handle-test.false c.loop-handle.invariant.places ∙ same),
+      λ same. c.if-width.true (c.width.ensures.value ∙ width_placed _ _ _ c.loop-handle-test.false
+          c.loop-handle.invariant.places ∙ same),
     )

@@ -1,18 +1,15 @@
-use Rattle.ent_storage.proofs.Common.{rules, Option, min, ap, sym, ◌∙◌, Entity}
-use Rattle.std.proofs.Common.{option_and_then}
+use Rattle.ent_storage.proofs.Common.{rules, Option, min, ap, sym, ◌∙◌, Entity, option_and_then}
 use Rattle.std.specs.FinMap as map
 use Rattle.ent_storage.proofs.Indexed.{some_entity}
-use Rattle.ent_storage.proofs.Placed.{IsEntityAt, entity_at, placed_at}
+use Rattle.ent_storage.proofs.Placed.{entity_at, placed_at}
 use Rattle.ent_storage.proofs.Changed.{IsChanged, changed}
-use Rattle.ent_storage.proofs.storage.Storage.remove_at.Goals.{After-self, After-remove}
+use Rattle.ent_storage.proofs.storage.Storage.remove_at.Goals.{After-remove}
 use Rattle.ent_storage.proofs.storage.Storage.remove_at.Goals as goal
 
--- the place is that of the handle
-at : (c : After-self) → IsEntityAt c.self.inside.living.entities c.args.self.now c.args.handle c.args.place
-at c = search (rules, entity_at)
-
 pub remove-requires : goal.remove-requires
-remove-requires c = (at (goal.at.remove-requires c).After-self).inside
+remove-requires c =
+    let at = entity_at _ _ _ _ c.self.invariant.indexed c.self.view_is c.args.handle c.args.place c.requires in
+    at.inside
 
 -- the entity has the new components
 after : (c : After-remove) → IsChanged c.args.self.now c.args.handle (λ held. map.remove held c.args.id)
@@ -21,9 +18,10 @@ after c = search (rules, changed, placed_at)
 
 -- the component is that of the entity
 pub returns-clause-value : goal.returns-clause-value
-returns-clause-value c = c.remove.ensures.value (some_entity c.args.handle)
-    ∙ sym (ap (λ (o : Option Entity). option_and_then (λ e. map.get e.components c.args.id) o)
-    (at (goal.at.returns-clause-value c).After-self).found)
+returns-clause-value c =
+    let at = entity_at _ _ _ _ c.self.invariant.indexed c.self.view_is c.args.handle c.args.place c.requires in
+    c.remove.ensures.value (some_entity _) ∙ sym (ap (λ (o : Option Entity). option_and_then
+    (λ e. map.get e.components c.args.id) o) at.found)
 
 pub returns-clause-entities : goal.returns-clause-entities
 returns-clause-entities c = (after (goal.at.returns-clause-entities c).After-remove).entities

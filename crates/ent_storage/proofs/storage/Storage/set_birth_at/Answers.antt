@@ -1,4 +1,4 @@
-use Rattle.ent_storage.proofs.Common.{rules, ◌≡◌, min, Some, ap, ◌∙◌, Store, with_birth, counted}
+use Rattle.ent_storage.proofs.Common.{rules, ◌≡◌, Some, ap, ◌∙◌, Store, with_birth, counted}
 use Rattle.std.specs.FinMap as map
 use Rattle.ent_storage.proofs.Placed.{placed_from_place, at_place}
 use Rattle.ent_storage.proofs.Reborn.{reborn_entities, reborn_handles, reborn_kept, length_reborn}
@@ -14,16 +14,12 @@ set_birth-requires c = search (rules, at_place)
 
 pub invariant_of-self : goal.invariant_of-self
 invariant_of-self c = rw (c.set_birth.ensures.entities, c.set_birth.ensures.room)
-    (reborn_kept c.self.inside.living.entities c.self.inside.index.by_handle
-    (min c.self.inside.living.room c.self.inside.index.room) c.self.invariant c.args.handle c.args.place
-    (placed (goal.at.invariant_of-self c).After-self) c.args.birth)
+    (reborn_kept _ _ _ c.self.invariant _ _ (placed (goal.at.invariant_of-self c).After-self) _)
 
 -- the entity has the new birth
 pub returns-clause-entities : goal.returns-clause-entities
 returns-clause-entities c = rw c.set_birth.ensures.entities
-    (reborn_entities c.self.inside.living.entities c.self.inside.index.by_handle
-    (min c.self.inside.living.room c.self.inside.index.room) c.self.invariant c.args.handle c.args.place
-    (placed (goal.at.returns-clause-entities c).After-self) c.args.birth)
+    (reborn_entities _ _ _ c.self.invariant _ _ (placed (goal.at.returns-clause-entities c).After-self) _)
     ∙ ap (λ (s : Store). with_birth s.entities c.args.handle c.args.birth) c.self.view_is
 
 pub returns-clause-spare : goal.returns-clause-spare
@@ -32,6 +28,5 @@ returns-clause-spare c = search (rules, length_reborn)
 -- no handle is changed
 pub returns-clause-places : goal.returns-clause-places
 returns-clause-places c = rw c.set_birth.ensures.entities
-    (reborn_handles c.self.inside.living.entities c.self.inside.index.by_handle
-    (min c.self.inside.living.room c.self.inside.index.room) c.self.invariant c.args.handle c.args.place
-    (placed (goal.at.returns-clause-places c).After-self) c.args.birth) ∙ ap (λ (s : Store). s.places) c.self.view_is
+    (reborn_handles _ _ _ c.self.invariant _ _ (placed (goal.at.returns-clause-places c).After-self) _)
+    ∙ ap (λ (s : Store). s.places) c.self.view_is

@@ -19,8 +19,7 @@ invariant_of-self-2 c =
       c.in_ok-reserve_or_more.ensures.ok,
       c.take_over.ensures.room,
     ) in
-    rw entities (kept_copied c.source.inside.living.entities c.source.inside.index.by_handle
-    c.take_over.new.self.by_handle _ _ c.source.invariant kept fits)
+    rw entities (kept_copied _ _ _ _ _ c.source.invariant kept fits)
 
 -- memory was refused for more room, or for a value of the source
 pub returns-in_err-try_clone_from-clause-memory : goal.returns-in_err-try_clone_from-clause-memory
@@ -28,24 +27,18 @@ returns-in_err-try_clone_from-clause-memory c =
     let own = c.self.inside.living.entities in
     let others = c.source.inside.living.entities in
     on_err {P = (length c.args.self.now.places + c.args.self.now.spare < length c.args.source.now.places
-    + c.args.source.now.spare) ⊎ (AreBare c.args.source.now.entities → ⊥)} _
-    (elim c.in_err-try_clone_from.ensures.memory [
-      | inl full ↦ inl
-          (omega (
-            arith,
-            full,
-            c.min-count.ensures,
-            c.capacity.ensures,
-            c.room.ensures,
-            c.self.invariant.fits,
-            c.source.invariant.fits,
-            ap (λ (s : Store). length s.places) c.self.view_is,
-            ap (λ (s : Store). s.spare) c.self.view_is,
-            length-map own (λ (e : LivingEntity). e.handle),
-            ap (λ (s : Store). length s.places) c.source.view_is,
-            ap (λ (s : Store). s.spare) c.source.view_is,
-            length-map others (λ (e : LivingEntity). e.handle),
-          ))
-      | inr some ↦ inr (λ bare. some (bare_list others (counted others c.source.inside.index.by_handle)
-          c.source.invariant.indexed (subst AreBare (sym (ap (λ (s : Store). s.entities) c.source.view_is)) bare)))
-    ])
+        + c.args.source.now.spare) ⊎ (AreBare c.args.source.now.entities → ⊥)} _
+        (elim c.in_err-try_clone_from.ensures.memory [
+          | inl full ↦ inl
+              (omega (
+                arith,
+                ap (λ (s : Store). length s.places) c.self.view_is,
+                ap (λ (s : Store). s.spare) c.self.view_is,
+                length-map own (λ (e : LivingEntity). e.handle),
+                ap (λ (s : Store). length s.places) c.source.view_is,
+                ap (λ (s : Store). s.spare) c.source.view_is,
+                length-map others (λ (e : LivingEntity). e.handle),
+              ))
+          | inr some ↦ inr (λ bare. some (bare_list others (counted others c.source.inside.index.by_handle)
+              c.source.invariant.indexed (subst AreBare (sym (ap (λ (s : Store). s.entities) c.source.view_is)) bare)))
+        ])

@@ -1,4 +1,4 @@
-use Rattle.ent_storage.proofs.Common.{refl, sym, ap, subst, ◌∙◌, MayWrite, entry_value, Gives}
+use Rattle.ent_storage.proofs.Common.{rules, refl, ap, ◌∙◌, MayWrite, entry_value}
 use Rattle.ent_storage.proofs.Written.{written_twice}
 use Rattle.ent_storage.proofs.handle_map.entry.Entry.and_modify.Goals as goal
 
@@ -16,9 +16,4 @@ returns-in-Occupied-clause-value g c =
     rw (old, (c.get_mut.ensures.written c.change.new.arg2).written) did
 
 pub returns-in-Occupied-clause-gives : goal.returns-in-Occupied-clause-gives
-returns-in-Occupied-clause-gives g c w m is =
-    let o = c.in-Occupied.entry in
-    subst (λ e. Gives e w m) (sym c.in-Occupied.is) (is ∙ written_twice o.map.now o.handle c.change.new.arg2 w)
-
-pub returns-in-Vacant-clause-value : goal.returns-in-Vacant-clause-value
-returns-in-Vacant-clause-value g c = rw (ap entry_value c.in-Vacant.is) refl
+returns-in-Occupied-clause-gives g c w m is = search (rules, written_twice)

@@ -1,26 +1,10 @@
-use Rattle.ent_storage.proofs.Common.{refl}
+use Rattle.ent_storage.proofs.Common.{rules}
 use Rattle.ent_storage.specs.SparseMap.{some_written}
 use Rattle.ent_storage.proofs.Written.{got_inserted, occupied_written_in}
 use Rattle.ent_storage.proofs.sparse_map.entry.OccupiedEntry.get_mut.Goals as goal
 
-pub value_mut-requires : goal.value_mut-requires
-value_mut-requires g c = c.args.self.now.present
-
 pub invariant_of-self-lent : goal.invariant_of-self-lent
-invariant_of-self-lent g c w = let o = c.args.self.now in (some_written o.map.now o.handle w, tt)
+invariant_of-self-lent g c w = search (rules, some_written)
 
 pub returns : goal.returns
-returns g c =
-    let o = c.args.self.now in (
-      (refl, λ w. occupied_written_in o w _),
-      record {
-        writes_back = tt;
-        value = c.value_mut.ensures.value;
-        written = λ w. record {
-          same_map = refl;
-          map = refl;
-          handle = refl;
-          written = got_inserted o.map.now.values o.handle w;
-        };
-      },
-    )
+returns g c = search (rules, occupied_written_in, got_inserted)
