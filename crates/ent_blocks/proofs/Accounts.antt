@@ -110,11 +110,8 @@ pub one_left : (bs : List Block) (rs : List Reserver) (i k : ℕ) → length bs 
     → are_among (drop i bs) (drop k (blocks_of rs)) ≡ false
 one_left bs rs i k past lt =
     let none : drop i bs ≡ [] = drop_all i bs past in
-    let some : 0 < length (drop k (blocks_of rs)) = omega (
-      arith,
-      length-drop k (blocks_of rs),
-      length-map rs (λ (r : Reserver). r.block),
-    ) in
+    let some : 0 < length (drop k (blocks_of rs)) = omega
+    (arith, length-drop k (blocks_of rs), length-map rs (λ (r : Reserver). r.block)) in
     ap (λ xs. are_among xs (drop k (blocks_of rs))) none ∙ by_list (drop k (blocks_of rs)) some
   where
     by_list : (xs : List Block) → 0 < length xs → are_among [] xs ≡ false

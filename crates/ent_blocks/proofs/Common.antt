@@ -1,10 +1,10 @@
 -- The names that proofs of this crate cite, of std, of the crates below and of its own specs. Declares nothing.
-pub use Rattle.std.proofs.Common.{All, AllPairs, Bool, Contains, Err, List, Ok, Result, Some, [], ap, append_assoc, arith, drop, false, get_or, inl, inr, length, length-append, map, max, pos, refl, rules, slice_get, subst, suc, sym, take, true, vec_len, zero, ℕ, ℤ, ◌++◌, ◌+◌, ◌-ℤ◌, ◌-◌, ◌<◌, ◌^◌, ◌↔◌, ◌∙◌, ◌∷◌, ◌≡◌, ◌≢◌, ◌≤◌, ◌⊎◌}
+pub use Rattle.std.proofs.Common.{All, AllPairs, Contains, Err, List, Ok, Result, Some, [], ap, append_assoc, arith, drop, false, get_or, inl, inr, length, length-append, map, max, pos, refl, rules, slice_get, subst, suc, sym, take, true, vec_len, zero, ℕ, ℤ, ◌++◌, ◌+◌, ◌-ℤ◌, ◌-◌, ◌<◌, ◌^◌, ◌↔◌, ◌∙◌, ◌∷◌, ◌≡◌, ◌≢◌, ◌≤◌, ◌⊎◌}
 pub use Rattle.std.proofs.lemmas.Bool.{cases_Bool, cases_eq, le-leb, lt-leb}
 pub use Rattle.std.proofs.lemmas.Grind.{common_steps}
 pub use Rattle.std.proofs.lemmas.Int.{ints}
-pub use Rattle.std.proofs.lemmas.List.{drop-drop, drop-take, drop_all, drop_more, get_or-drop, get_or-map, get_or_default, length-drop, length-map, length-take-le, take-take, take_all, take_more}
-pub use Rattle.std.proofs.lemmas.List.Elements.{All-more, All-push}
+pub use Rattle.std.proofs.lemmas.List.{drop-drop, drop-take, drop_all, drop_more, get_or-drop, get_or-map, length-drop, length-map, length-take-le, take-take, take_more}
+pub use Rattle.std.proofs.lemmas.List.Elements.{All-more}
 pub use Rattle.std.proofs.lemmas.List.Sorted.{length_permutation}
 pub use Rattle.std.proofs.lemmas.Option.{get_or_from_slice_get, slice_get_read}
 pub use Rattle.std.specs.List.{flat_map}
@@ -27,4 +27,4 @@ pub use Rattle.ent_alloc.specs.declared.portion.Portion.{Portion}
 pub use Rattle.ent_alloc.specs.declared.space.Space.{Space}
 pub use Rattle.ent_alloc.specs.declared.span.Span.{Span}
 pub use Rattle.ent_handle.specs.Handle.{Handle}
-pub use Rattle.ent_blocks.specs.Blocks.{AreDealt, AreLaid, Block, Blocks, IsOf, Phase, Reserver, accounted, after_blocks, are_among, blocks_from, blocks_of, dealt, is_same, lesser, portion_of, portions_of, rest_of, unused, used_of}
+pub use Rattle.ent_blocks.specs.Blocks.{AreDealt, AreLaid, Block, Blocks, IsOf, Reserver, accounted, after_blocks, are_among, blocks_from, blocks_of, dealt, is_same, lesser, portion_of, portions_of, rest_of, unused, used_of}

@@ -6,3 +6,4 @@ pub mod Phases
 pub mod Openings
 pub mod Waiting
 pub mod Common
+pub mod Laws

@@ -1,6 +1,6 @@
 //! Reservation in blocks: the front of the pool is dealt to callers before they run, so which
 //! handle each is given depends on no other, and on no thread.
-#![tactic(auto)]
+#![tactic(auto, using(crate::proofs::Laws::laws))]
 
 mod accounting;
 mod block_error;

@@ -5,7 +5,7 @@ pub use Rattle.std.proofs.lemmas.Bool.{cases_lt}
 pub use Rattle.std.proofs.lemmas.Grind.{common_steps}
 pub use Rattle.std.proofs.lemmas.Int.{ints}
 pub use Rattle.std.proofs.lemmas.List.{get_or_default, length-append, length-take, length-take-le, map-append, take_more}
-pub use Rattle.std.proofs.lemmas.List.Elements.{All-append, All-cons, All-contains, All-head, All-nil, All-push, All-same, All-tail, All-weaker, Contains-append_cases, Contains-append_right}
+pub use Rattle.std.proofs.lemmas.List.Elements.{All-append, All-cons, All-contains, All-head, All-nil, All-push, All-tail, All-weaker, Contains-append_cases, Contains-append_right}
 pub use Rattle.std.proofs.lemmas.List.Sorted.{Contains-permutation, IsPermutation-sym, length_permutation}
 pub use Rattle.std.proofs.lemmas.List.Sums.{sum_by-cons}
 pub use Rattle.std.specs.Prelude.{Result, vec_capacity}
@@ -23,7 +23,6 @@ pub use Rattle.ent_alloc.specs.Sequential.{Allocator, after_take, available, bef
 pub use Rattle.ent_alloc.specs.Sound.{AreApart, IsSound}
 pub use Rattle.ent_alloc.specs.declared.refused.Refused.{Refused}
 pub use Rattle.ent_blocks.proofs.Dealing.{of_phase}
-pub use Rattle.ent_blocks.proofs.Given.{used-distinct, used-live, used-not_live}
 pub use Rattle.ent_blocks.proofs.Openings.{are_dealt, length-from, none_used}
 pub use Rattle.ent_blocks.specs.Blocks.{AreDealt, AreLaid, Block, after_use, blocks_from, dealt, unused}
 pub use Rattle.ent_handle.specs.Handle.{Handle}

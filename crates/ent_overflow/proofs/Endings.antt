@@ -88,17 +88,7 @@ module _ (s : Allocator) (sound : IsSound s) (flushed : s.asked ≡ 0) (d : ℕ)
   all_asked = search (rules, asked-after_take, asked-after_takes)
 
   pub taken_back : before_requests last ≡ s
-  taken_back = search (
-    rules,
-    flushed-laid_out,
-    limits-after_takes,
-    limits-after_take,
-    live-after_takes,
-    live-after_take,
-    made-after_takes,
-    made-after_take,
-    last_available,
-  )
+  taken_back = search (rules, flushed-laid_out, limits-after_takes, limits-after_take, live-after_takes, live-after_take, made-after_takes, made-after_take, last_available)
 
 -- one more block
 laid_more : (before : ℕ) (xs ys : List Block) → AreLaid before xs → AreLaid (before + dealt xs) ys

@@ -4,3 +4,4 @@ pub mod Splitting
 pub mod Endings
 pub mod Closings
 pub mod Common
+pub mod Laws

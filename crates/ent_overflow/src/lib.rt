@@ -1,6 +1,6 @@
 //! Reservation in blocks, where a request past a block is served from one cursor that all callers
 //! share. As long as nobody goes past its block, which handle each is given depends on no other.
-#![tactic(auto)]
+#![tactic(auto, using(crate::proofs::Laws::laws))]
 
 mod dealing;
 mod ended;

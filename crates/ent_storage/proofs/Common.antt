@@ -1,5 +1,5 @@
 -- The names that proofs of this crate cite, of std, of the crates below and of its own specs. Declares nothing.
-pub use Rattle.std.proofs.Common.{Bool, Contains, Err, IfErr, IfNone, IfOk, IfSome, IsSome, IsSomeAnd, IsTrue, List, MutBor, None, Ok, OnErr, OnOk, Option, Ordering, Result, Some, T, [], add-one, ap, arith, cond, drop, eqb, eqb-true, false, filter, get_or, inl, inr, is_none, is_some, length, lt-ltb, ltb, map, map as mapped, min, not, pos, refl, replicate, reverse, rules, set, slice_get, subst, suc, suc-ne-zero, sym, take, true, true≢false, unwrap_or, vec_len, zero, ℕ, ℤ, ◌&&◌, ◌*◌, ◌++◌, ◌+◌, ◌-◌, ◌<◌, ◌^◌, ◌||◌, ◌↔◌, ◌∙◌, ◌∷◌, ◌≡◌, ◌≢◌, ◌≤◌, ◌⊎◌}
+pub use Rattle.std.proofs.Common.{Bool, Contains, Err, IfErr, IfNone, IfOk, IfSome, IsSome, IsSomeAnd, IsTrue, List, MutBor, None, Ok, OnErr, OnOk, Option, Ordering, Result, Some, T, [], add-one, ap, arith, cond, drop, eqb, eqb-true, false, filter, get_or, inl, inr, is_none, is_some, length, lt-ltb, ltb, map, map as mapped, min, not, pos, refl, replicate, reverse, rules, set, slice_get, subst, suc, sym, take, true, true≢false, vec_len, zero, ℕ, ℤ, ◌&&◌, ◌*◌, ◌++◌, ◌+◌, ◌-◌, ◌<◌, ◌^◌, ◌||◌, ◌↔◌, ◌∙◌, ◌∷◌, ◌≡◌, ◌≢◌, ◌≤◌, ◌⊎◌}
 pub use Rattle.std.proofs.Math.Facts.{Fits-lt-pow, Fits-of_z}
 pub use Rattle.std.proofs.Math.Seq.{take-append_seam}
 pub use Rattle.std.proofs.lemmas.Bool.{cases_eq, cases_lt, cases_order, eq-eqb, false_from_ne_true, false≢true, or_right}
@@ -10,7 +10,7 @@ pub use Rattle.std.proofs.lemmas.Int.{to_z-of_z}
 pub use Rattle.std.proofs.lemmas.List.{append-nil, append_assoc, at_drop_more, drop-set-lt, drop_all, drop_at, drop_more, flat_map_more, get_or-map, get_or-set_other, get_or-set_same, get_or-take, get_or_append_left, get_or_default, get_or_past, get_or_push, length-append, length-map, length-replicate, length-set, length-take, length-take-le, length_push, map-set, map_more, map_push, nil_from_length, same_lists, take-append-drop, take_all, take_at, take_more, take_more_set}
 pub use Rattle.std.proofs.lemmas.List.Concat.{flat_map-append}
 pub use Rattle.std.proofs.lemmas.List.Edits.{get_or-insert_above, get_or-insert_at, get_or-insert_below, insert_end, length-insert}
-pub use Rattle.std.proofs.lemmas.List.Elements.{All-cons, All-contains, All-filter, All-head, All-map, All-nil, All-tail, Contains-append_left, Contains-append_right, Contains-push, Contains-push_cases, all_zip_more, filter_passes, length_all_zip}
+pub use Rattle.std.proofs.lemmas.List.Elements.{All-cons, All-contains, All-filter, All-head, All-map, All-nil, All-tail, Contains-append_left, Contains-append_right, Contains-push, Contains-push_cases, filter_passes, length_all_zip}
 pub use Rattle.std.proofs.lemmas.List.Filters.{length-filter_more}
 pub use Rattle.std.proofs.lemmas.List.Kept.{AllPairs-cons, AllPairs-filter}
 pub use Rattle.std.proofs.lemmas.List.Sorted.{All-permutation, Contains-permutation, IsPermutation-trans, answers_always, ranks_by, searchable_from_sorted, searched, sorted_far}
@@ -20,7 +20,7 @@ pub use Rattle.std.proofs.lemmas.Map.Steps.{length-le_from_distinct_below}
 pub use Rattle.std.proofs.lemmas.Map.Views.{Contains-from_any}
 pub use Rattle.std.proofs.lemmas.Nat.{from_le_bytes-to_le_bytes_4, from_le_bytes-to_le_bytes_8, le_bytes_4, le_bytes_8}
 pub use Rattle.std.proofs.lemmas.Option.{IfSome_then, get_or_from_slice_get, none-some, option_and_then_some, same_Some, slice_get-get_or, slice_get-map, slice_get_cases, slice_get_past, slice_get_read, slice_get_within, some_pair_parts}
-pub use Rattle.std.proofs.lemmas.Result.{IfOk-weaker, on_err_weaker, on_ok_weaker}
+pub use Rattle.std.proofs.lemmas.Result.{IfOk-weaker}
 pub use Rattle.std.specs.Cmp.{IsTotalOrder, eq_by_cmp_equiv, nat_cmp_total, on_total, then_total, tied_itself}
 pub use Rattle.std.specs.Cmp.Lexicographic.{options_total}
 pub use Rattle.std.specs.FinMap.{FinMap, IsAntisymmetric, find, is_sorted, put}
@@ -30,9 +30,9 @@ pub use Rattle.std.specs.Int.RustNames.{FitsSigned}
 pub use Rattle.std.specs.List.{All, AllPairs, AllWithin, AllZip, HoldsAt, IsDistinct, count_by, flat_map, insert, list_any, range_with_len, refill}
 pub use Rattle.std.specs.List.Sorted.{IsBinarySearchResult, IsSearchInRange}
 pub use Rattle.std.specs.Map.Calls.{MayWrite}
-pub use Rattle.std.specs.Option.{UnwrapsOrElse, option_map, option_map_or}
+pub use Rattle.std.specs.Option.{option_map}
 pub use Rattle.std.specs.Ordering.{eq_by_cmp, is_eq, is_lt, nat_cmp, ordering_reverse, ordering_then}
-pub use Rattle.std.specs.Prelude.{if◌then◌else◌, option_and_then, vec_capacity}
+pub use Rattle.std.specs.Prelude.{option_and_then, vec_capacity}
 pub use Rattle.std.specs.Slice.Iter.{iter_rest}
 pub use Rattle.std.specs.Vec.Iter.{into_iter_items, into_iter_len}
 pub use Rattle.std.specs.declared.cmp.Ordering.TheVariants.{Equal, Greater, Less}
@@ -47,8 +47,8 @@ pub use Rattle.ent_storage.specs.BirthOrder.{IsInOrder, IsLeastOf, ListsAll, Lis
 pub use Rattle.ent_storage.specs.Bundle.{Bundle, IsBundle, IsItem, bundle_of, with_put}
 pub use Rattle.ent_storage.specs.Components.{Components, missing, with_items}
 pub use Rattle.ent_storage.specs.Copies.{IsCopy}
-pub use Rattle.ent_storage.specs.EntityMap.{AreBare, Entity, EntityMap, Store, birth_of, components_of, newborn, value_at_place, value_of, with_birth, with_components}
-pub use Rattle.ent_storage.specs.Entry.{Gives, IsFilled, entry_value}
+pub use Rattle.ent_storage.specs.EntityMap.{AreBare, Entity, EntityMap, Store, birth_of, components_of, value_at_place, value_of, with_birth, with_components}
+pub use Rattle.ent_storage.specs.Entry.{IsFilled, entry_value}
 pub use Rattle.ent_storage.specs.FirstFault.{AreFirst, HasFault, IsNoEntity}
 pub use Rattle.ent_storage.specs.HandleMap.{HandleMap, HandleValues, HasLater, error_of, same_handle, some_written, with_written, without_slot}
 pub use Rattle.ent_storage.specs.Image.{AreStored, IsBirth, IsStored, birth_bytes, component, entities_bytes, is_held, value_bytes, values_bytes, width_below}
@@ -59,7 +59,7 @@ pub use Rattle.ent_storage.specs.Places.{AreWithout, Places}
 pub use Rattle.ent_storage.specs.Position.{IsAt, IsGapFor}
 pub use Rattle.ent_storage.specs.Retained.{CalledAt, Retains, RetainsSlot}
 pub use Rattle.ent_storage.specs.Slots.{AreCounted, AreSlotClones, any_value, count_at, entries_from, generation_of, handle_in, map_of_slots, padded, slot_at, value_in, value_under}
-pub use Rattle.ent_storage.specs.SparseMap.{AreCloned, AreEntries, IsClonedOption, IsEntryClone, IsFullFor, IsPositioned, SparseMap, values_of, with_written_in}
+pub use Rattle.ent_storage.specs.SparseMap.{AreCloned, AreEntries, IsEntryClone, IsPositioned, SparseMap, values_of, with_written_in}
 pub use Rattle.ent_storage.specs.SparseSet.{Column, Fits, HasRoomAt, HasRoomFor, IsDense, IsMovedDown, Values, no_column}
 pub use Rattle.ent_storage.specs.declared.handle_map.entry.OccupiedEntry.{OccupiedEntry}
 pub use Rattle.ent_storage.specs.declared.handle_map.error.InsertError.TheVariants.{Later, Memory}

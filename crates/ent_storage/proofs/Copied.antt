@@ -56,7 +56,7 @@ bare_columns residents columns are bare n = map.same_map total same _ _ (λ p. n
       | inl l ↦
           let same : 0 + p ≡ p = omega arith in
           let is = rw (at_from 0 residents columns p no_resident (some_entity unused) l, same) at
-              (bare p (some_entity unused) (omega (arith, l, length_from 0 residents columns))) in
+          (bare p (some_entity unused) (omega (arith, l, length_from 0 residents columns))) in
           rw (← get_components columns p (record { 0 = n }), is) (map.get-empty component_cmp _)
       | inr beyond ↦ are.none_beyond p (record { 0 = n }) beyond
     ]

@@ -1,11 +1,11 @@
 -- The places of an index that count.
-use Rattle.ent_storage.proofs.Common.{get_or-set_same, rules, AllPairs, ◌≡◌, ◌≢◌, ℕ, zero, suc, ◌<◌, ◌≤◌, Bool, true, false, cond, T, List, [], ◌∷◌, ◌+◌, ◌++◌, length, get_or, set, filter, Option, Some, None, is_some, refl, sym, ap, ◌∙◌, arith, Less, Greater, tied_itself, false≢true, get_or_default, length-set, length_push, AllWithin, insert, IsGapFor, filter_passes, FinMap, find, is_sorted, Handle, handle_cmp, total, same, LivingEntity, IsMovedInto, IsFree, IsIndexed, IsKeptIndex, has_handle_at, counted, Keeps, HasAll}
+use Rattle.ent_storage.proofs.Common.{get_or-set_same, rules, AllPairs, ◌≡◌, ◌≢◌, ℕ, zero, suc, ◌<◌, ◌≤◌, Bool, true, false, cond, T, List, [], ◌∷◌, ◌+◌, ◌++◌, length, get_or, set, filter, Some, None, is_some, refl, sym, ap, ◌∙◌, arith, Less, Greater, tied_itself, false≢true, get_or_default, length-set, length_push, AllWithin, insert, IsGapFor, filter_passes, FinMap, is_sorted, Handle, handle_cmp, total, same, LivingEntity, IsMovedInto, IsFree, IsIndexed, IsKeptIndex, has_handle_at, counted, Keeps, HasAll}
 use Rattle.std.specs.FinMap as finite
 use Rattle.ent_storage.proofs.Keys.{tied, insert_tells, remove_tells, few_apart}
 use Rattle.ent_storage.proofs.Indexed.{some_not_none, some_entity, indexed_set, indexed_push, indexed_none}
 use Rattle.ent_storage.proofs.Positions.{rising_at}
 use Rattle.ent_storage.proofs.Rising.{equal, get_at, map_insert, rising_insert}
-use Rattle.ent_storage.proofs.Overwritten.{is_sorted-filter, find-filter, passed, is_sorted-set, find-set_other}
+use Rattle.ent_storage.proofs.Overwritten.{is_sorted-filter, find-filter, is_sorted-set, find-set_other}
 use Rattle.ent_storage.proofs.TakenOut.{indexed_moved, indexed_popped}
 
 pub stands : (living : List LivingEntity) (q : Handle) (i : ℕ) → has_handle_at living q (Some i) ≡ true
@@ -125,9 +125,7 @@ module _ (living : List LivingEntity) (pairs : List (Handle × ℕ)) (rising : T
 
   pub from_sorted_left : finite.from_sorted {R = handle_cmp} (filter (counts living) pairs)
       ≡ counted living (finite.from_sorted pairs)
-  from_sorted_left = finite.same_map total same _ _ (λ q. rw (get_counted living (finite.from_sorted pairs) q,
-      finite.get-from_sorted handle_cmp left q (is_sorted-filter total same (counts living) pairs rising),
-      finite.get-from_sorted handle_cmp pairs q rising, find-filter total same (counts living) pairs q rising)
+  from_sorted_left = finite.same_map total same _ _ (λ q. rw (get_counted living (finite.from_sorted pairs) q, finite.get-from_sorted handle_cmp left q (is_sorted-filter total same (counts living) pairs rising), finite.get-from_sorted handle_cmp pairs q rising, find-filter total same (counts living) pairs q rising)
       (search rules))
 
   at_home : (k : ℕ) (d : Handle × ℕ) → k < length left → ((get_or left k d).1 < length living)
@@ -161,8 +159,7 @@ module _ (living : List LivingEntity) (pairs : List (Handle × ℕ)) (rising : T
       (p + 1) (length pairs) → IsFree living pairs p → IsPut living pairs (set pairs p (k, v)) k v
   put_over below above free = record {
     sorted = over_sorted;
-    placed = search (rules, get_at total same (set pairs p (k, v)) over_sorted k p (k, v), get_or-set_same, length-set,
-        free.inside, tied_itself total k);
+    placed = search (rules, get_at total same (set pairs p (k, v)) over_sorted k p (k, v), get_or-set_same, length-set, free.inside, tied_itself total k);
     kept = λ q i n at.
         let old = counted_gives living (finite.from_sorted pairs) q i at in
         finite.get-from_sorted handle_cmp _ q over_sorted

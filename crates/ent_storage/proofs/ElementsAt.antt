@@ -125,8 +125,7 @@ module _ {K X : Type 0} {R : K → K → Ordering} (total : IsTotalOrder R) (sam
   module _ (D : List (K × X)) (once : IsOnce D) (i : ℕ) (p : K) (u : X) (here : slice_get D i ≡ Some (p, u)) where
     -- its value is written over
     pub values_set : (v : X) → map.from_entries {R = R} (set D i (p, v)) ≡ map.insert (map.from_entries D) p v
-    values_set v = map.same_map total same _ _ (λ q. search (rules, map.get-from_entries, map.get-insert,
-        find_set D i p u v here (λ j w l at. omega (arith, once j i p w u at here)) q))
+    values_set v = map.same_map total same _ _ (λ q. search (rules, map.get-from_entries, map.get-insert, find_set D i p u v here (λ j w l at. omega (arith, once j i p w u at here)) q))
 
     -- it is taken out, and the last one moves to its position
     module _ (L : List (K × X)) (left_once : IsOnce L) (rest : IsFilled D i L) where

@@ -121,14 +121,12 @@ module _ {X : Type 0} where
   pub map-write : (slots : List (Slot X)) (h : Handle) (old value : X) → h.index < length slots → HasValue slots h old
       → map_of_slots (set slots h.index (Occupied h.generation value)) ≡ map.insert (map_of_slots slots) h value
   map-write slots h old value within has = map.same_map handle_cmp_total handle_cmp-IsAntisymmetric _ _ (λ q. grind
-      (arith, nat_tests, map.get-insert handle_cmp_total (map_of_slots slots) h value q, ties_apart q h,
-      alone slots h old has q, alone_set slots h value within q, set_elsewhere slots h (Occupied h.generation value) q))
+      (arith, nat_tests, map.get-insert handle_cmp_total (map_of_slots slots) h value q, ties_apart q h, alone slots h old has q, alone_set slots h value within q, set_elsewhere slots h (Occupied h.generation value) q))
 
   pub map-take : (slots : List (Slot X)) (h : Handle) (value : X) → h.index < length slots → HasValue slots h value
       → map_of_slots (set slots h.index Vacant) ≡ map.remove (map_of_slots slots) h
   map-take slots h value within has = map.same_map handle_cmp_total handle_cmp-IsAntisymmetric _ _ (λ q. grind
-      (arith, nat_tests, map.get-remove handle_cmp_total (map_of_slots slots) h q, ties_apart q h,
-      alone slots h value has q, set_here slots h Vacant within q, set_elsewhere slots h Vacant q))
+      (arith, nat_tests, map.get-remove handle_cmp_total (map_of_slots slots) h q, ties_apart q h, alone slots h value has q, set_here slots h Vacant within q, set_elsewhere slots h Vacant q))
 
   -- how many there are after a slot is set
   pub length-set_slot : (index : ℕ) (slots : List (Slot X)) (at : ℕ) (slot : Slot X) → at < length slots

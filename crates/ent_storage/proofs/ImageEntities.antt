@@ -173,7 +173,7 @@ module _ (a b : EntityMap) (hs : List Handle) (in_a : AreStored a hs) (in_b : Ar
       let listed = in_a.only h (ap (λ x. is_some x) is_a) in
       let births = same_Some _ _ (rw (is_a, is_b) at (alike h listed).birth) in
       let components = map.same_map component_cmp_total component_cmp-IsAntisymmetric e.components f.components
-          (λ id. rw (is_a, is_b) at (same_values_of h listed id)) in
+      (λ id. rw (is_a, is_b) at (same_values_of h listed id)) in
       λ i. Some (record { birth = births i; components = components i })
 
   pub same_all : a ≡ b

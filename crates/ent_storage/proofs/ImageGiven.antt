@@ -18,8 +18,7 @@ module _ (m : EntityMap) (h : Handle) (id : ComponentId) (v : ℤ) where
       h (with_one e) h refl
 
   pub given_rest : (q : Handle) → q ≢ h → map.get given q ≡ map.get m q
-  given_rest q other = grind (arith, common_steps, λ (e : Entity). given_is e, λ (e : Entity). get-insert_other
-      handle_cmp_total handle_cmp-IsAntisymmetric m h (with_one e) q other)
+  given_rest q other = grind (arith, common_steps, λ (e : Entity). given_is e, λ (e : Entity). get-insert_other handle_cmp_total handle_cmp-IsAntisymmetric m h (with_one e) q other)
 
   module _ (there : is_some (birth_of m h) ≡ true) where
     entity : (e : Entity) × (map.get m h ≡ Some e)

@@ -70,15 +70,15 @@ module _ {n : ℕ} {old : EntityMap} {bytes rest : List ℕ} (hs : List Handle) 
     pub read_more : (left : List ℕ) → rest ≡ entity_bytes n new h ++ left → IsStored new h
         → ((id : ComponentId) → n ≤ id.0 → value_of new h id ≡ None) → AreRead n new (take (i + 1) hs) bytes left
     read_more left first stored beyond = subst (λ xs. AreRead n new xs bytes left) (sym next) (record {
-          spelled = grind (arith, common_steps, all_alike, same_at, append_assoc, flat_map_more);
-          each = each_more IsStored (stored_alike old new) read.each stored;
-          beyond = search (rules, each_more);
-          only = λ g there. elim (same_or_apart handle_cmp_total handle_cmp-IsAntisymmetric g h) [
-            | inl same ↦ subst (Contains (before ++ h ∷ [])) (sym same) (Contains-push before h)
-            | inr other ↦ Contains-append_left before (h ∷ []) g
-                (read.only g (ap (λ o. is_some o) (sym (kept g other)) ∙ there))
-          ];
-        })
+      spelled = grind (arith, common_steps, all_alike, same_at, append_assoc, flat_map_more);
+      each = each_more IsStored (stored_alike old new) read.each stored;
+      beyond = search (rules, each_more);
+      only = λ g there. elim (same_or_apart handle_cmp_total handle_cmp-IsAntisymmetric g h) [
+        | inl same ↦ subst (Contains (before ++ h ∷ [])) (sym same) (Contains-push before h)
+        | inr other ↦ Contains-append_left before (h ∷ []) g
+            (read.only g (ap (λ o. is_some o) (sym (kept g other)) ∙ there))
+      ];
+    })
 
 -- the entities are the first of the bytes
 abbrev pub first_read : {n : ℕ} {s : EntityMap} {bytes rest : List ℕ} (hs : List Handle) (k : ℕ) → n ≤ 256

@@ -41,9 +41,9 @@ module _ (columns : List Column) (place : ℕ) where
     | inl e ↦ let is = ap (λ (n : ℕ). map.get (column_at columns n).values place) e in
         found_here _ u _ id e (λ none. find_of used id (inr (sym is ∙ none)) ∙ sym is ∙ none) ∙ is
     | inr far ↦ let rest = find_of used id (elim at [
-        | inl there ↦ inl (Contains-tail u used id.0 far there)
-        | inr none ↦ inr none
-      ]) in grind (arith, common_steps)
+      | inl there ↦ inl (Contains-tail u used id.0 far there)
+      | inr none ↦ inr none
+    ]) in grind (arith, common_steps)
   ]
 
   -- the law

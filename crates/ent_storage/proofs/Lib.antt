@@ -42,3 +42,4 @@ pub mod ImageValues
 pub mod Sparse
 mod Written
 pub mod Common
+pub mod Laws

@@ -30,10 +30,7 @@ module _ {X : Type 0} (R : X → X → Type 0) (asym : (a b : X) → R a b → �
   same_list (x ∷ xs) [] p q f g = let c = f x (0, omega arith, refl) in absurd (omega (arith, c.1))
   same_list (x ∷ xs) (y ∷ ys) p q f g =
       let same : x ≡ y = front x y xs ys p q (f x (0, omega arith, refl)) (g y (0, omega arith, refl)) in
-      search (
-        rules,
-        same_list xs ys (others x xs p) (others y ys q) (within x y xs ys same p f) (within y x ys xs (sym same) q g),
-      )
+      search (rules, same_list xs ys (others x xs p) (others y ys q) (within x y xs ys same p f) (within y x ys xs (sym same) q g))
 
 not_both : {K : Type 0} {C : K → K → Ordering} → IsTotalOrder C → (a b : K) → C a b ≡ Less → ¬ (C b a ≡ Less)
 not_both o a b r s = search (rules)

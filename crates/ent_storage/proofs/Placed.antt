@@ -31,8 +31,11 @@ pub record IsEntityAt (living : List LivingEntity) (s : Store) (h : Handle) (i :
   pub found : finite.get s.entities h ≡ Some (entity_of (get_or living i (some_entity h)))
 
 module _ (living : List LivingEntity) (index : FinMap handle_cmp ℕ) (spare : ℕ) (s : Store)
-    (indexed : IsIndexed living index) (view : record { entities = map_of living; places = handles_by_place living;
-    spare = spare } ≡ s) (h : Handle) where
+    (indexed : IsIndexed living index) (view : record {
+      entities = map_of living;
+      places = handles_by_place living;
+      spare = spare;
+    } ≡ s) (h : Handle) where
   pub placed_at : (i : ℕ) → slice_get s.places i ≡ Some h → finite.get index h ≡ Some i
   placed_at i at = search (rules, placed_from_place)
 
@@ -50,8 +53,7 @@ handles_set (x ∷ living) (suc i) entity is = search (rules, handles_set living
 -- a handle has a place if it is in the map
 pub placed_known : (living : List LivingEntity) (index : FinMap handle_cmp ℕ) → IsIndexed living index → (h : Handle)
     → is_some (finite.get index h) ≡ is_some (finite.get (map_of living) h)
-placed_known living index indexed h = grind (arith, common_steps, get_unplaced living index indexed h,
-    λ (i : ℕ). get_placed living index indexed h i (some_entity h))
+placed_known living index indexed h = grind (arith, common_steps, get_unplaced living index indexed h, λ (i : ℕ). get_placed living index indexed h i (some_entity h))
 
 -- the last one has moved into the place
 pub handles_without : (living left : List LivingEntity) (i : ℕ) (h : Handle) → i < length living

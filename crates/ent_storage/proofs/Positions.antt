@@ -34,6 +34,9 @@ module _ {K X : Type 0} {R : K → K → Ordering} (o : IsTotalOrder R) where
 
   -- a binary search by key ends at the key, or at the gap for it
   pub searched : (es : List (K × X)) (k : K) → T (is_sorted R es) → (r : Result ℕ ℕ) → IsSearchInRange r (length es)
-      → IsBinarySearchResult (λ e. R e.0 k) es r → record { found : IfOk r (IsAt R es k); absent : IfErr r
-      (IsGapFor R es k) }
+      → IsBinarySearchResult (λ e. R e.0 k) es r → record {
+        found : IfOk r (IsAt R es k);
+        absent : IfErr r
+            (IsGapFor R es k);
+      }
   searched es k h it l at = search (rules, searchable_from_sorted, turn, rising_at)

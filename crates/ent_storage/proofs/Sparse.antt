@@ -46,8 +46,7 @@ module _ {X : Type 0} where
   -- no more entries than slots
   pub fits : (D : List (Handle × X)) (S : List ℕ) → IsPositioned D S → Handle × X → length D ≤ length S
   fits D S is unused = few_apart (λ (e : Handle × X). e.0.index) D (length S)
-      (λ i j d l k e. omega (arith, one_slot D S is i j (get_or D i d).0 (get_or D j d).0 (get_or D i d).1
-      (get_or D j d).1 (slice_get-get_or D i d (omega arith)) (slice_get-get_or D j d k) e))
+      (λ i j d l k e. omega (arith, one_slot D S is i j (get_or D i d).0 (get_or D j d).0 (get_or D i d).1 (get_or D j d).1 (slice_get-get_or D i d (omega arith)) (slice_get-get_or D j d k) e))
       (λ k d l. slice_get_within S _ k (is.entry k _ _ (slice_get-get_or D k d l)))
 
   -- two lists with the same entries of a handle

@@ -10,8 +10,7 @@ module _ {T : Type 0} where
   -- the last of two writes counts
   pub insert_twice : (m : HandleValues T) (h : Handle) (v w : T) → map.insert (map.insert m h v) h w ≡ map.insert m h w
   insert_twice m h v w = map.same_map handle_cmp_total handle_cmp-IsAntisymmetric _ _
-      (λ q. grind (arith, nat_tests, map.get-insert handle_cmp_total (map.insert m h v) h w q,
-      map.get-insert handle_cmp_total m h v q, map.get-insert handle_cmp_total m h w q))
+      (λ q. grind (arith, nat_tests, map.get-insert handle_cmp_total (map.insert m h v) h w q, map.get-insert handle_cmp_total m h v q, map.get-insert handle_cmp_total m h w q))
 
   pub written_twice : (m : HandleMap T) (h : Handle) (v w : T) → with_written (with_written m h v) h w ≡ with_written m
       h w

@@ -9,7 +9,7 @@
 //!
 //! `handle_map` has a map from handles to values of any type, at most one for each slot, and
 //! `sparse_map` one for values that few handles have.
-#![tactic(auto)]
+#![tactic(auto, using(crate::proofs::Laws::laws))]
 
 mod bundle;
 mod columns;

@@ -1,5 +1,5 @@
-use Rattle.ent_overflow.proofs.Common.{rules, ◌≡◌, ◌∙◌, [], ◌∷◌, ◌++◌, ap, arith, length, length-append, All-push, after_meeting, Reserver, unused, Phase, Caller, IsOf}
-use Rattle.ent_overflow.proofs.Dealers.{IsUnused, of_block, unused_of_block, none_past, last_fresh, others_fresh, blocks_more}
+use Rattle.ent_overflow.proofs.Common.{◌≡◌, ◌∙◌, [], ◌∷◌, ◌++◌, ap, arith, length, length-append, All-push, after_meeting, Reserver, unused, Phase, Caller, IsOf}
+use Rattle.ent_overflow.proofs.Dealers.{IsUnused, of_block, unused_of_block, last_fresh, others_fresh, blocks_more}
 use Rattle.ent_overflow.proofs.opening.hand_out.Goals as goal
 
 pub meet-requires-clause-first : goal.meet-requires-clause-first
@@ -31,6 +31,3 @@ loop-part-preserved c =
       len = omega arith;
       room = omega arith;
     }
-
-pub returns-clause-nothing : goal.returns-clause-nothing
-returns-clause-nothing c = search (rules, none_past)

@@ -1,4 +1,4 @@
-use Rattle.ent_overflow.proofs.Common.{rules, ◌∙◌, ◌<◌, ◌^◌, sym, ap, subst, List, length-append, Block, dealt, length-from}
+use Rattle.ent_overflow.proofs.Common.{rules, ◌∙◌, ◌<◌, ◌^◌, sym, ap, subst, List, Block, dealt}
 use Rattle.ent_overflow.proofs.Dealers.{opened, all_fresh, others_fresh}
 use Rattle.ent_overflow.proofs.opening.open_with_overflow.Goals as goal
 
@@ -14,12 +14,6 @@ pub hand_out-requires-clause-fresh : goal.hand_out-requires-clause-fresh
 hand_out-requires-clause-fresh c = others_fresh _ _ _ _ c.in-Some.ensures.items
     (all_fresh _ _ c.in_ok-shared.ensures.own c.in_ok-shared.ensures.unused)
 
-pub hand_out-requires-clause-many : goal.hand_out-requires-clause-many
-hand_out-requires-clause-many c = search (rules, length-append, length-from)
-
-pub hand_out-requires-clause-room : goal.hand_out-requires-clause-room
-hand_out-requires-clause-room c = search (rules, length-from)
-
 pub new-requires-clause-phase : goal.new-requires-clause-phase
 new-requires-clause-phase c =
     let is = c.deref-2.ensures.value ∙ c.in-Ok.ensures.blocks in
@@ -28,9 +22,3 @@ new-requires-clause-phase c =
     (subst (λ (bs : List Block). dealt bs < 2 ^ 32) (sym c.deref-2.ensures.value) c.in-Ok.ensures.few) c.deal.ensures.of
     (c.dealt.ensures ∙ ap dealt (c.deref.ensures.value ∙ sym c.deref-2.ensures.value)) c.deal.ensures.dealt in
     search rules
-
-pub new-requires-clause-ends : goal.new-requires-clause-ends
-new-requires-clause-ends c = search (rules, length-from)
-
-pub new-requires-clause-reservers : goal.new-requires-clause-reservers
-new-requires-clause-reservers c = search (rules, length-from)

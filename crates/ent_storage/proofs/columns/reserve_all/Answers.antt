@@ -1,4 +1,4 @@
-use Rattle.ent_storage.proofs.Common.{common_steps, ℤ, get_or, ap, sym, ◌∙◌, arith, pos, ComponentId, Values, components_at}
+use Rattle.ent_storage.proofs.Common.{ℤ, get_or, ap, sym, ◌∙◌, arith, pos, ComponentId, Values, components_at}
 use Rattle.ent_storage.proofs.Missing.{missing_at, on_err}
 use Rattle.std.specs.FinMap as map
 use Rattle.ent_storage.proofs.ColumnsAtPlaces.{get_components}
@@ -13,6 +13,3 @@ returns-in_err-reserve-clause-growing c =
     ∙ c.in_err-reserve.ensures.growing in
     on_err _ (missing_at (components_at c.args.columns.now.items c.args.place) c.args.items.now c.loop-item.item-index
     (record { 0 = 0 }, pos 0) (omega arith) none)
-
-pub loop-item-preserved : goal.loop-item-preserved
-loop-item-preserved c = grind (arith, common_steps)

@@ -1,10 +1,6 @@
 use Rattle.ent_storage.proofs.Common.{rules, ◌≡◌, ◌<◌, ◌∙◌, sym, subst, length, get_or_default, Column, HasRoomFor, no_column, column_at}
 use Rattle.ent_storage.proofs.Copied.{room_kept}
-use Rattle.ent_storage.proofs.Missing.{on_err}
 use Rattle.ent_storage.proofs.columns.reserve_one_for.Goals as goal
-
-pub returns-in_err-put_in_use-clause-memory : goal.returns-in_err-put_in_use-clause-memory
-returns-in_err-put_in_use-clause-memory c = search (rules, on_err)
 
 pub returns-clause-kept : goal.returns-clause-kept
 returns-clause-kept c other column room =

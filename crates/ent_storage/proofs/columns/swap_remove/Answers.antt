@@ -1,12 +1,6 @@
-use Rattle.ent_storage.proofs.Common.{common_steps, rules, arith}
-use Rattle.ent_storage.proofs.InUse.{passed_all, passed_more}
+use Rattle.ent_storage.proofs.Common.{rules, arith}
+use Rattle.ent_storage.proofs.InUse.{passed_more}
 use Rattle.ent_storage.proofs.columns.swap_remove.Goals as goal
-
-pub returns-clause-moved : goal.returns-clause-moved
-returns-clause-moved c = search (rules, passed_all)
-
-pub returns-clause-in_use : goal.returns-clause-in_use
-returns-clause-in_use c = grind (arith, common_steps)
 
 pub loop-number-preserved : goal.loop-number-preserved
 loop-number-preserved c = record {

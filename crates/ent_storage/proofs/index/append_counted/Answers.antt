@@ -15,13 +15,7 @@ push_reserved-requires c =
     search (rules, c.has_key_at.ensures, c.if-has_key_at.true, c.pair-item.is) in
     let more = length-filter_more test source i c.pair-item.result inside
     ∙ ap (λ (b : Bool). length (filter test (take i source)) + cond b 1 0) counted in
-    omega (
-      arith,
-      more,
-      first_fit test source (i + 1),
-      left_fits c.args.living.now.entities source c.requires.sorted,
-      ap length c.loop-pair.invariant.items,
-    )
+    omega (arith, more, first_fit test source (i + 1), left_fits c.args.living.now.entities source c.requires.sorted, ap length c.loop-pair.invariant.items)
 
 -- all pairs were passed
 pub returns-clause-sorted : goal.returns-clause-sorted

@@ -1,6 +1,6 @@
-use Rattle.ent_storage.proofs.Common.{rules, Some, ap, sym, ◌∙◌, slice_get_within, get_or_from_slice_get, slice_get-get_or, same_Some}
+use Rattle.ent_storage.proofs.Common.{rules, Some, ap, sym, ◌∙◌, slice_get_within, get_or_from_slice_get, slice_get-get_or}
 use Rattle.ent_storage.proofs.Dense.{not_past}
-use Rattle.ent_storage.proofs.Sparse.{missing, had, is_handle, not_handle}
+use Rattle.ent_storage.proofs.Sparse.{missing, had, is_handle}
 use Rattle.ent_storage.proofs.sparse_map.find.Goals as goal
 
 pub returns-in_err-position : goal.returns-in_err-position
@@ -20,6 +20,3 @@ returns-then-eq g c =
     let look = c.in_ok-entry.ensures.lookup in
     let here = slice_get-get_or _ _ _ look.3.0 ∙ ap Some (sym (look.3.1 x)) in
     sym (had _ _ c.requires _ _ here _ (is_handle x.0 _ (search rules)))
-
-pub returns-else-eq : goal.returns-else-eq
-returns-else-eq g c = search (rules, missing, not_handle, slice_get-get_or, same_Some)

@@ -1,12 +1,9 @@
 use Rattle.ent_storage.proofs.Common.{rules, ◌≡◌, ◌≤◌, Some, refl, slice_get, length, arith, slice_get-get_or, slice_get_read, slice_get_within, same_Some}
 use Rattle.ent_storage.proofs.ElementsAt.{IsFilled, filled}
-use Rattle.ent_storage.proofs.Sparse.{IsStanding, standing, in_slots, in_positions, taken_values, refilled_positioned, popped_positioned}
+use Rattle.ent_storage.proofs.Sparse.{IsStanding, standing, in_positions, taken_values, refilled_positioned, popped_positioned}
 use Rattle.ent_storage.proofs.sparse_map.take.Given.{Over}
 use Rattle.ent_storage.proofs.sparse_map.take.Goals.{After-index-position, After-swap_remove-value, After-index-then-position-len, Else-position-len}
 use Rattle.ent_storage.proofs.sparse_map.take.Goals as goal
-
-pub index-position-requires : goal.index-position-requires
-index-position-requires g c = search (rules, in_slots)
 
 -- the entry of the handle is at the position
 here : (g : Over) (c : After-index-position g) → IsStanding c.args.entries.now.items c.args.handle
@@ -36,13 +33,7 @@ swap_remove-value-requires g c =
 pub index_mut-requires : goal.index_mut-requires
 index_mut-requires g c =
     let at = goal.at.index_mut-requires g c in
-    search (
-      rules,
-      in_positions,
-      here g at.After-index-position,
-      rest g at.After-swap_remove-value,
-      read g at.After-index-then-position-len,
-    )
+    search (rules, in_positions, here g at.After-index-position, rest g at.After-swap_remove-value, read g at.After-index-then-position-len)
 
 pub returns-then-position-len : goal.returns-then-position-len
 returns-then-position-len g c =
@@ -56,13 +47,7 @@ returns-then-position-len g c =
 pub returns-else-position-len-clause-positioned : goal.returns-else-position-len-clause-positioned
 returns-else-position-len-clause-positioned g c =
     let at = goal.at.returns-else-position-len-clause-positioned g c in
-    search (
-      rules,
-      popped_positioned,
-      here g at.After-index-position,
-      rest g at.After-swap_remove-value,
-      last g at.Else-position-len,
-    )
+    search (rules, popped_positioned, here g at.After-index-position, rest g at.After-swap_remove-value, last g at.Else-position-len)
 
 pub returns-else-position-len-clause-value : goal.returns-else-position-len-clause-value
 returns-else-position-len-clause-value g c =
@@ -72,11 +57,4 @@ returns-else-position-len-clause-value g c =
 pub returns-else-position-len-clause-values : goal.returns-else-position-len-clause-values
 returns-else-position-len-clause-values g c =
     let at = goal.at.returns-else-position-len-clause-values g c in
-    search (
-      rules,
-      taken_values,
-      popped_positioned,
-      here g at.After-index-position,
-      rest g at.After-swap_remove-value,
-      last g at.Else-position-len,
-    )
+    search (rules, taken_values, popped_positioned, here g at.After-index-position, rest g at.After-swap_remove-value, last g at.Else-position-len)

@@ -6,12 +6,6 @@ use Rattle.ent_blocks.proofs.Waiting.{waiting}
 use Rattle.ent_blocks.proofs.Given.{used-distinct, used-not_live, used-live}
 use Rattle.ent_blocks.proofs.blocks.Blocks.end_with.Goals as goal
 
-pub returns-in_default-clause-unused : goal.returns-in_default-clause-unused
-returns-in_default-clause-unused g c = search (rules, unused_accounted)
-
-pub returns-in_default-take_used-clause-unused : goal.returns-in_default-take_used-clause-unused
-returns-in_default-take_used-clause-unused g c = search (rules, unused_accounted)
-
 pub returns : goal.returns
 returns g c =
     let closes = closing c.self.inside.entities.allocator c.self.inside.parts.items (blocks_of c.args.reservers.items)

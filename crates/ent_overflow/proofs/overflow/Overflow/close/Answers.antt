@@ -75,13 +75,7 @@ new-requires c =
       sound = subst IsSound (sym start) lie.sound;
       flushed = ap (λ (s : Allocator). s.asked) start ∙ lie.flushed;
       laid = search (rules, ends_laid);
-      within = omega (
-        arith,
-        ap dealt ends,
-        ends_dealt c.self.inside.parts.items (blocks_of c.args.callers.items) lie.laid all n,
-        ap (λ (s : Allocator). length s.pool) start,
-        k.within,
-      );
+      within = omega (arith, ap dealt ends, ends_dealt c.self.inside.parts.items (blocks_of c.args.callers.items) lie.laid all n, ap (λ (s : Allocator). length s.pool) start, k.within);
     }
 
 pub returns-clause-start : goal.returns-clause-start

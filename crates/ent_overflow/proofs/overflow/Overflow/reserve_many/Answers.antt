@@ -1,12 +1,6 @@
 use Rattle.ent_overflow.proofs.Common.{refl, rules, Caller}
-use Rattle.ent_overflow.proofs.Going.{here, lies_within, lies_few, used_on, gone_past}
+use Rattle.ent_overflow.proofs.Going.{here, used_on}
 use Rattle.ent_overflow.proofs.overflow.Overflow.reserve_many.Goals as goal
-
-pub returns-then-n-left-clause-stays : goal.returns-then-n-left-clause-stays
-returns-then-n-left-clause-stays c = search (rules, here, gone_past)
-
-pub take_many-requires : goal.take_many-requires
-take_many-requires c = search (rules, here, lies_within, lies_few)
 
 pub returns-clause-stays : goal.returns-clause-stays
 returns-clause-stays c =

@@ -1,5 +1,5 @@
 use Rattle.ent_storage.proofs.Common.{rules, ◌≡◌, get_or, refl, sym, ap, ◌∙◌, arith, common_steps, HandleMap, value_under, generation_of, slot_at}
-use Rattle.ent_storage.proofs.Found.{later, no_later, few_values, put-map, put-before, put-counted}
+use Rattle.ent_storage.proofs.Found.{later, no_later, put-before, put-counted}
 use Rattle.ent_storage.proofs.handle_map.HandleMap.insert.Goals as goal
 
 pub returns-then-generation-standing-clause-later : goal.returns-then-generation-standing-clause-later
@@ -10,12 +10,6 @@ returns-then-generation-standing-clause-later g c =
     let is = later c.self.inside.slots.items _ c.args.handle values (omega (arith, stands)) in
     (λ _. (λ beyond. grind (arith, common_steps), is), λ _. refl)
 
-pub returns-in_default-clause-later : goal.returns-in_default-clause-later
-returns-in_default-clause-later g c = grind (arith, common_steps, no_later)
-
-pub overflow_add-self : goal.overflow_add-self
-overflow_add-self g c = search (rules, few_values)
-
 pub invariant_of-self-2 : goal.invariant_of-self-2
 invariant_of-self-2 g c =
     let all = c.make_slot.new.slots.items in
@@ -25,9 +19,6 @@ invariant_of-self-2 g c =
     c.replace-before.new.dest c.args.value c.index_of-index.ensures.value c.in-Ok.ensures.ok was
     (c.replace-before.ensures.after ∙ c.of.ensures) _ _ c.self.invariant c.index_of-index.ensures.in_range
     c.lacking.ensures
-
-pub returns-clause-ok : goal.returns-clause-ok
-returns-clause-ok g c = search (rules, put-map)
 
 pub returns-clause-before : goal.returns-clause-before
 returns-clause-before g c =
@@ -45,6 +36,3 @@ returns-clause-later g c =
     (slot_at c.self.inside.slots.items c.args.handle.index) = search rules in
     let none = no_later c.self.inside.slots.items _ c.args.handle values (omega (arith, stands)) in
     (λ e. absurd cc, λ is. absurd (none is.1))
-
-pub index_mut-requires : goal.index_mut-requires
-index_mut-requires g c = grind (arith, common_steps)

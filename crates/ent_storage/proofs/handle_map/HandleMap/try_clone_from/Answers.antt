@@ -1,6 +1,6 @@
 use Rattle.ent_storage.proofs.Common.{rules, ◌≡◌, []}
 use Rattle.ent_storage.proofs.Entries.{map_emptied}
-use Rattle.ent_storage.proofs.Clones.{cloned_keys, cloned_values, cloned_counted, length_from}
+use Rattle.ent_storage.proofs.Clones.{cloned_keys, cloned_counted, length_from}
 use Rattle.ent_storage.proofs.handle_map.HandleMap.try_clone_from.Goals as goal
 
 -- the new slots are clones of the source's
@@ -10,9 +10,6 @@ invariant_of-self-2 g c = cloned_counted g.T.Clone.is_clone c.source.inside.slot
 
 pub returns-clause-keys : goal.returns-clause-keys
 returns-clause-keys g c = search (rules, cloned_keys g.T.Clone.is_clone)
-
-pub returns-clause-clones : goal.returns-clause-clones
-returns-clause-clones g c = search (rules, cloned_values)
 
 pub returns-clause-slots : goal.returns-clause-slots
 returns-clause-slots g c =

@@ -1,13 +1,6 @@
-use Rattle.ent_storage.proofs.Common.{rules, ap, arith, common_steps, HandleMap}
-use Rattle.ent_storage.proofs.Entries.{map-write}
-use Rattle.ent_storage.proofs.Found.{found, made, got, counted-write, read_of}
+use Rattle.ent_storage.proofs.Common.{ap, HandleMap}
+use Rattle.ent_storage.proofs.Found.{found, counted-write, read_of}
 use Rattle.ent_storage.proofs.handle_map.HandleMap.value_mut.Goals as goal
-
-pub index_mut-requires : goal.index_mut-requires
-index_mut-requires g c = grind (arith, common_steps, found, made)
-
-pub value_mut-requires : goal.value_mut-requires
-value_mut-requires g c = search (rules, found, read_of)
 
 pub invariant_of-self-lent : goal.invariant_of-self-lent
 invariant_of-self-lent g c w =
@@ -15,6 +8,3 @@ invariant_of-self-lent g c w =
     let f = found slots _ c.args.handle (ap (λ (m : HandleMap g.row.T.Denot). m.values) c.self.view_is) c.requires in
     let is = read_of slots _ f.0 _ c.index_mut.result.now f.1 c.index.ensures c.index_mut.ensures.value in
     rw (c.index.ensures, is) (counted-write slots _ f.0 w _ f.1 c.self.invariant)
-
-pub returns : goal.returns
-returns g c = grind (arith, common_steps, found, read_of, map-write, made, got)

@@ -1,4 +1,4 @@
-use Rattle.ent_storage.proofs.Common.{common_steps, ℕ, ℤ, get_or, Some, ap, sym, ◌∙◌, arith, pos, Option, Birth, Handle, Resident, Living, born_at, option_map, slice_get-get_or, map_more, map_push}
+use Rattle.ent_storage.proofs.Common.{ℕ, ℤ, get_or, Some, ap, sym, ◌∙◌, arith, pos, Option, Birth, Handle, Resident, Living, born_at, option_map, slice_get-get_or, map_more, map_push}
 use Rattle.ent_storage.proofs.EntitiesOfResidents.{inside_from, born_get}
 use Rattle.ent_storage.proofs.living.Living.births_at.Goals as goal
 
@@ -24,6 +24,3 @@ loop-pair-preserved c =
     let more = map_more (λ (pair : ℕ × ℤ). born_at c.args.self.now.entities pair.0) pairs i (0, pos 0) (omega arith) in
     let push = map_push {X = Birth × Handle} {Y = Option (Birth × Handle)} Some c.loop-pair.births.items born in
     rw (c.in_ok-push.ensures.items, push, c.loop-pair.invariant, sym here) (sym more)
-
-pub returns-clause-ok : goal.returns-clause-ok
-returns-clause-ok c = grind (arith, common_steps)

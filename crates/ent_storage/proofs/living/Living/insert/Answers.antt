@@ -1,13 +1,10 @@
 use Rattle.ent_storage.proofs.Common.{rules, ◌<◌, get_or, ap, ◌∙◌, inr, arith, Components, with_items, missing, Values, Living, LivingEntity, change_at}
 use Rattle.std.specs.FinMap as finite
 use Rattle.ent_storage.proofs.ColumnsAtPlaces.{same_components}
-use Rattle.ent_storage.proofs.EntitiesOfResidents.{read_from, inside_from, same_from, changed_from, changed_within, written_back}
+use Rattle.ent_storage.proofs.EntitiesOfResidents.{read_from, inside_from, changed_from, changed_within, written_back}
 use Rattle.ent_storage.proofs.InUse.{in_use_changed}
 use Rattle.ent_storage.proofs.Missing.{on_err}
 use Rattle.ent_storage.proofs.living.Living.insert.Goals as goal
-
-pub returns-in_err-reserve_all-clause-err : goal.returns-in_err-reserve_all-clause-err
-returns-in_err-reserve_all-clause-err c = search (rules, on_err, same_from)
 
 pub returns-in_err-reserve_all-clause-growing : goal.returns-in_err-reserve_all-clause-growing
 returns-in_err-reserve_all-clause-growing c = on_err {P = (d : LivingEntity)

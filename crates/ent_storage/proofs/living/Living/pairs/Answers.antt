@@ -1,5 +1,4 @@
-use Rattle.ent_storage.proofs.Common.{rules, ◌≡◌, ℕ, List, length, slice_get, ap, sym, ◌∙◌, slice_get-get_or, none-some, ComponentId, Column, no_column, Resident, Living, LivingEntity, value_at, entities_from, AreColumnsOf, option_and_then}
-use Rattle.ent_storage.proofs.ColumnsAtPlaces.{taken_none}
+use Rattle.ent_storage.proofs.Common.{rules, ◌≡◌, ℕ, List, length, slice_get, ap, sym, ◌∙◌, ComponentId, Column, no_column, Resident, Living, LivingEntity, value_at, entities_from, AreColumnsOf, option_and_then}
 use Rattle.std.specs.FinMap as finite
 use Rattle.ent_storage.proofs.EntitiesOfResidents.{value_from}
 use Rattle.ent_storage.proofs.living.Living.pairs.Goals as goal
@@ -21,9 +20,3 @@ pub returns-in-Some-clause-all : goal.returns-in-Some-clause-all
 returns-in-Some-clause-all c place v is =
     let column = (rw c.deref.ensures.value at c.in-Some.ensures.lookup).3.1 no_column in
     search (rules, value_from, column)
-
-pub returns-in-Some-clause-once : goal.returns-in-Some-clause-once
-returns-in-Some-clause-once c i j d l k e = search (rules, slice_get-get_or)
-
-pub returns-in-None-clause-all : goal.returns-in-None-clause-all
-returns-in-None-clause-all c place v is = search (rules, none-some, taken_none, value_from)

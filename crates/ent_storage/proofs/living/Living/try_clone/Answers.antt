@@ -1,5 +1,5 @@
 use Rattle.ent_storage.proofs.Common.{rules, ◌≡◌, AllZip, IsCopy}
-use Rattle.ent_storage.proofs.Copies.{entities_copied, columns_copied, in_use_copied}
+use Rattle.ent_storage.proofs.Copies.{columns_copied, in_use_copied}
 use Rattle.ent_storage.proofs.living.Living.try_clone.Goals as goal
 
 pub invariant_of-result : goal.invariant_of-result
@@ -8,6 +8,3 @@ invariant_of-result c =
     let residents : c.extend_from_slice.new.self.items ≡ c.self.inside.residents.items = search rules in
     let used : c.extend_from_slice-2.new.self.items ≡ c.self.inside.used.items = search rules in
     rw (residents, used) (columns_copied _ _ copies _ c.self.invariant.0, in_use_copied _ _ copies _ c.self.invariant.1)
-
-pub returns-clause-entities : goal.returns-clause-entities
-returns-clause-entities c = search (rules, entities_copied)

@@ -1,13 +1,10 @@
 use Rattle.ent_storage.proofs.Common.{rules}
-use Rattle.ent_storage.proofs.Sparse.{some_slot, cloned_positioned, cloned, counted, on_err_never}
+use Rattle.ent_storage.proofs.Sparse.{some_slot, cloned_positioned, cloned}
 use Rattle.ent_storage.proofs.sparse_map.SparseMap.try_clone_from.Goals as goal
 
 pub returns-in_err-cloned-clause-memory : goal.returns-in_err-cloned-clause-memory
 returns-in_err-cloned-clause-memory g c =
     let some = some_slot _ _ c.source.invariant in search (rules, some, c.source.view_is)
-
-pub returns-in_err-cloned-clause-refused : goal.returns-in_err-cloned-clause-refused
-returns-in_err-cloned-clause-refused g c = search (rules, counted, on_err_never)
 
 -- the new entries are clones of the source's
 pub invariant_of-self-2 : goal.invariant_of-self-2

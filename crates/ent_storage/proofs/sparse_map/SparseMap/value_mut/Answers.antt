@@ -1,11 +1,8 @@
 use Rattle.ent_storage.proofs.Common.{rules, ◌≡◌, ap, slice_get_read, slice_get_within, same_Some, SparseMap}
-use Rattle.ent_storage.proofs.Sparse.{IsStanding, standing, in_slots, over_positioned, written_values}
+use Rattle.ent_storage.proofs.Sparse.{IsStanding, standing, over_positioned, written_values}
 use Rattle.ent_storage.proofs.sparse_map.SparseMap.value_mut.Given.{Over}
 use Rattle.ent_storage.proofs.sparse_map.SparseMap.value_mut.Goals.{After-index-2}
 use Rattle.ent_storage.proofs.sparse_map.SparseMap.value_mut.Goals as goal
-
-pub index-requires-2 : goal.index-requires-2
-index-requires-2 g c = search (rules, in_slots)
 
 -- the entry of the handle is at the position
 here : (g : Over) (c : After-index-2 g) → IsStanding c.self.inside.entries.items c.args.handle c.index-2.result.now

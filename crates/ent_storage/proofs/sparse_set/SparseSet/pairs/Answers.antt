@@ -1,4 +1,4 @@
-use Rattle.ent_storage.proofs.Common.{rules, ap, sym, ◌∙◌, Column, slice_get-get_or, get_or_from_slice_get, slice_get_within}
+use Rattle.ent_storage.proofs.Common.{rules, ap, sym, ◌∙◌, Column, slice_get-get_or}
 use Rattle.std.specs.FinMap as map
 use Rattle.ent_storage.proofs.Dense.{has, at, once}
 use Rattle.ent_storage.proofs.sparse_set.SparseSet.pairs.Goals as goal
@@ -8,9 +8,6 @@ returns-clause-has c p v h =
     let k = rw c.deref.ensures.value at h in
     ap (λ (m : Column). map.get m.values p) (sym c.self.view_is)
     ∙ has _ _ c.self.invariant k.0 p v (search (rules, slice_get-get_or))
-
-pub returns-clause-all : goal.returns-clause-all
-returns-clause-all c p v found = search (rules, at, slice_get_within, get_or_from_slice_get)
 
 pub returns-clause-once : goal.returns-clause-once
 returns-clause-once c j k p v w a b = once _ _ c.self.invariant j k p v w (rw c.deref.ensures.value at a)

@@ -1,12 +1,9 @@
 use Rattle.ent_storage.proofs.Common.{◌≡◌, ◌≤◌, ◌∙◌, ap, ℕ, List, length, get_or, slice_get, Some, arith, rules, nat_cmp, to_z-of_z, slice_get-get_or, Column, IsDense}
 use Rattle.std.specs.FinMap as map
 use Rattle.ent_storage.proofs.ElementsAt.{IsFilled, filled}
-use Rattle.ent_storage.proofs.Dense.{has, pair_here, removed_values, popped_dense, refilled_dense, in_sparse, removed_none}
+use Rattle.ent_storage.proofs.Dense.{has, pair_here, removed_values, popped_dense, refilled_dense, in_sparse}
 use Rattle.ent_storage.proofs.sparse_set.SparseSet.remove.Goals.{After-swap_remove-value, After-index, Else-position-len}
 use Rattle.ent_storage.proofs.sparse_set.SparseSet.remove.Goals as goal
-
-pub returns-in_err-position-clause-after : goal.returns-in_err-position-clause-after
-returns-in_err-position-clause-after c = search (rules, removed_none)
 
 -- a pair of this place stood at the position
 here : (c : After-swap_remove-value) → slice_get c.self.inside.dense.items c.in_ok-position.position

@@ -14,9 +14,6 @@ some c none = some_values _ _ c.source.invariant (λ zero. search
 its : (c : Then-not-is_empty) → Fits c.args.self.now c.args.source.now
 its c = fits c.args.self.now c.args.source.now c.requires (some c)
 
-pub overwrite-requires : goal.overwrite-requires
-overwrite-requires c = search (rules, some_values, fits)
-
 pub overwrite-requires-then-not-is_empty : goal.overwrite-requires-then-not-is_empty
 overwrite-requires-then-not-is_empty c =
     let fits = its (goal.at.overwrite-requires-then-not-is_empty c).Then-not-is_empty in search rules

@@ -32,9 +32,6 @@ moved c = grind (arith, common_steps)
 last : (c : Else-place-len) → length c.swap_remove.new.self.entities ≤ c.args.place
 last c = omega arith
 
-pub swap_remove-requires : goal.swap_remove-requires
-swap_remove-requires c = search (rules, at_place)
-
 pub handle-moved-requires : goal.handle-moved-requires
 handle-moved-requires c = omega arith
 

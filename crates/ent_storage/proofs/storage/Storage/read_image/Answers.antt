@@ -1,14 +1,8 @@
 use Rattle.ent_storage.proofs.Common.{rules, ◌≡◌, sym, ap, ◌∙◌, arith, length, subst, is_some, false, inl, inr, refl, false≢true, get_or_default, nil_from_length, length-take-le, common_steps, handle_cmp, EntityMap, IsNoEntity, HasFault}
 use Rattle.std.specs.FinMap as map
 use Rattle.ent_storage.specs.declared.image_fault.StorageImageFault.TheVariants.{Entity}
-use Rattle.ent_storage.proofs.ImageRead.{too_few, too_wide, damaged, read_more, places_more, first_read, all_read, all_first, are_stored, is_read, nothing_left, width_told, width_placed}
+use Rattle.ent_storage.proofs.ImageRead.{damaged, read_more, places_more, first_read, all_read, all_first, are_stored, is_read, nothing_left, width_told, width_placed}
 use Rattle.ent_storage.proofs.storage.Storage.read_image.Goals as goal
-
-pub returns-then-bytes-lt4-clause-refused : goal.returns-then-bytes-lt4-clause-refused
-returns-then-bytes-lt4-clause-refused c other m stored same = search (rules, too_few)
-
-pub returns-then-width-gt256-clause-refused : goal.returns-then-width-gt256-clause-refused
-returns-then-width-gt256-clause-refused c other m stored same = search (rules, too_wide)
 
 pub loop-handle-init : goal.loop-handle-init
 loop-handle-init c =
@@ -86,7 +80,8 @@ returns-in_default-clause-fault c other =
     let at : c.len-place.result ≡ i = c.len-place.ensures.places ∙ ap length loop.places
     ∙ length-take-le _ _ (omega arith) in
     subst (λ place. HasFault hs c.args.bytes.now (Entity place)) (sym at) (
-      lt, (
+      lt,
+      (
         first_read _ _ c.if-width-gt256.false loop.read,
         λ d. subst (IsNoEntity c.read_word-width.result.0 c.loop-handle.rest.now)
             (c.handle-item.is ∙ get_or_default _ _ _ d lt) none,

@@ -1,16 +1,13 @@
 use Rattle.ent_storage.proofs.Common.{rules, ◌≡◌, Some, ap, ◌∙◌, Store, with_birth, counted}
 use Rattle.std.specs.FinMap as map
-use Rattle.ent_storage.proofs.Placed.{placed_from_place, at_place}
-use Rattle.ent_storage.proofs.Reborn.{reborn_entities, reborn_handles, reborn_kept, length_reborn}
+use Rattle.ent_storage.proofs.Placed.{placed_from_place}
+use Rattle.ent_storage.proofs.Reborn.{reborn_entities, reborn_handles, reborn_kept}
 use Rattle.ent_storage.proofs.storage.Storage.set_birth_at.Goals.{After-self}
 use Rattle.ent_storage.proofs.storage.Storage.set_birth_at.Goals as goal
 
 placed : (c : After-self) → map.get (counted c.self.inside.living.entities c.self.inside.index.by_handle) c.args.handle
     ≡ Some c.args.place
 placed c = search (rules, placed_from_place)
-
-pub set_birth-requires : goal.set_birth-requires
-set_birth-requires c = search (rules, at_place)
 
 pub invariant_of-self : goal.invariant_of-self
 invariant_of-self c = rw (c.set_birth.ensures.entities, c.set_birth.ensures.room)
@@ -21,9 +18,6 @@ pub returns-clause-entities : goal.returns-clause-entities
 returns-clause-entities c = rw c.set_birth.ensures.entities
     (reborn_entities _ _ _ c.self.invariant _ _ (placed (goal.at.returns-clause-entities c).After-self) _)
     ∙ ap (λ (s : Store). with_birth s.entities c.args.handle c.args.birth) c.self.view_is
-
-pub returns-clause-spare : goal.returns-clause-spare
-returns-clause-spare c = search (rules, length_reborn)
 
 -- no handle is changed
 pub returns-clause-places : goal.returns-clause-places

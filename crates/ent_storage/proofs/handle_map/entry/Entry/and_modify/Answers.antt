@@ -1,5 +1,4 @@
-use Rattle.ent_storage.proofs.Common.{rules, refl, ap, ◌∙◌, MayWrite, entry_value}
-use Rattle.ent_storage.proofs.Written.{written_twice}
+use Rattle.ent_storage.proofs.Common.{refl, ap, ◌∙◌, MayWrite, entry_value}
 use Rattle.ent_storage.proofs.handle_map.entry.Entry.and_modify.Goals as goal
 
 pub returns-in-Occupied-clause-value : goal.returns-in-Occupied-clause-value
@@ -14,6 +13,3 @@ returns-in-Occupied-clause-value g c =
       after = refl;
     } in
     rw (old, (c.get_mut.ensures.written c.change.new.arg2).written) did
-
-pub returns-in-Occupied-clause-gives : goal.returns-in-Occupied-clause-gives
-returns-in-Occupied-clause-gives g c w m is = search (rules, written_twice)

@@ -1,5 +1,0 @@
-use Rattle.ent_storage.proofs.Common.{rules, none-some}
-use Rattle.ent_storage.proofs.handle_map.entry.Entry.or_insert_with.Goals as goal
-
-pub returns-in-Occupied : goal.returns-in-Occupied
-returns-in-Occupied g c = search (rules, none-some)

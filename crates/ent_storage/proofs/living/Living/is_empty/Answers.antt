@@ -1,6 +1,0 @@
-use Rattle.ent_storage.proofs.Common.{rules}
-use Rattle.ent_storage.proofs.EntitiesOfResidents.{length_from}
-use Rattle.ent_storage.proofs.living.Living.is_empty.Goals as goal
-
-pub returns : goal.returns
-returns c = search (rules, length_from)
