@@ -8,27 +8,4 @@ use Rattle.ent_blocks.proofs.Dealing.{blocks_more, closed_is, dealt-push, portio
 use Rattle.ent_blocks.proofs.Openings.{none_used}
 use Rattle.ent_blocks.proofs.Positions.{served_one}
 
-pub ruleset laws = (
-  common_steps,
-  All-push,
-  accounted_none,
-  accounted_other,
-  accounted_same,
-  all_accounted,
-  among_none,
-  among_other,
-  among_same,
-  append_assoc,
-  blocks_more,
-  closed_is,
-  dealt-push,
-  drop_more,
-  get_or_default,
-  length-map,
-  none_used,
-  one_left,
-  portions_within,
-  served_one,
-  take_all,
-  unused_accounted,
-)
+pub ruleset laws = (common_steps, All-push, accounted_none, accounted_other, accounted_same, all_accounted, among_none, among_other, among_same, append_assoc, blocks_more, closed_is, dealt-push, drop_more, get_or_default, length-map, none_used, one_left, portions_within, served_one, take_all, unused_accounted)

@@ -6,16 +6,4 @@ use Rattle.ent_blocks.proofs.Openings.{length-from}
 use Rattle.ent_overflow.proofs.Dealers.{none_past}
 use Rattle.ent_overflow.proofs.Going.{gone_past, here, lies_few, lies_within}
 
-pub ruleset laws = (
-  common_steps,
-  gone_past,
-  here,
-  length-append,
-  length-from,
-  lies_few,
-  lies_within,
-  none_past,
-  used-distinct,
-  used-live,
-  used-not_live,
-)
+pub ruleset laws = (common_steps, gone_past, here, length-append, length-from, lies_few, lies_within, none_past, used-distinct, used-live, used-not_live)

@@ -6,17 +6,4 @@ use Rattle.tracecheck.proofs.LinesRead.{without_return-other, without_return-ret
 use Rattle.tracecheck.proofs.OptionsGiven.{generations-given, slots-given}
 use Rattle.tracecheck.proofs.Taking.{HasTaken-call, HasTaken-none, agrees_in_all, differs_at_end}
 
-pub ruleset laws = (
-  common_steps,
-  HasTaken-call,
-  HasTaken-none,
-  agrees_in_all,
-  append_assoc,
-  differs_at_end,
-  generations-given,
-  rows_asked,
-  slots-given,
-  source-rows,
-  without_return-other,
-  without_return-return,
-)
+pub ruleset laws = (common_steps, HasTaken-call, HasTaken-none, agrees_in_all, append_assoc, differs_at_end, generations-given, rows_asked, slots-given, source-rows, without_return-other, without_return-return)
