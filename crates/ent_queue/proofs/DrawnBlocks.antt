@@ -1,5 +1,5 @@
 -- What commands draw from a block, one by one and together.
-use Rattle.ent_queue.proofs.Common.{rules, ◌≡◌, refl, sym, ap, ◌∙◌, subst, ℕ, ◌+◌, ◌-◌, List, [], ◌∷◌, ◌++◌, take, arith, append-nil, Result, Ok, Err, IfOk, IfErr, OnOk, OnErr, IsErrOf, Vec, Global, sum_by, common_steps, sum_by-append, sum_by-cons, Handle, Allocator, listed, listed_alone, as_reserve_error, Refusal, Space, Quota, QueueFault, Block, Phase, rest_of, after_use, Bundle, Command, Spawn, SpawnMany, Refused, queued, as_list, refused_by, IsDrawn, IsDrawnBy, AreDrawnBy, Draws, left_of, used_by, after_commands, Issuing, ExtendsInBlocks}
+use Rattle.ent_queue.proofs.Common.{rules, ◌≡◌, refl, ap, ℕ, ◌+◌, List, [], ◌∷◌, ◌++◌, take, arith, append-nil, Result, Ok, Err, IfOk, IfErr, OnOk, OnErr, IsErrOf, Vec, Global, sum_by, common_steps, sum_by-append, sum_by-cons, Handle, Allocator, listed, listed_alone, as_reserve_error, Refusal, Space, Quota, QueueFault, Block, Phase, after_use, Bundle, Command, Spawn, SpawnMany, queued, as_list, refused_by, IsDrawn, IsDrawnBy, AreDrawnBy, Draws, left_of, used_by, after_commands, Issuing, ExtendsInBlocks}
 use Rattle.ent_alloc.specs.declared.reserve_error.ReserveError.TheVariants as fault
 use Rattle.ent_blocks.specs.Blocks.{Reserver}
 
@@ -7,8 +7,7 @@ single : (made : ℕ) (x : Handle) → listed made (x ∷ []) ≡ x ∷ []
 single made x = grind (arith, common_steps)
 
 first_listed : (made : ℕ) (rest : List Handle) (h : Handle) → h ∷ [] ≡ listed made (take 1 rest) → h ∷ [] ≡ take 1 rest
-first_listed made [] h is = is
-first_listed made (x ∷ rest) h is = is ∙ single made x
+first_listed made it h is = search (rules, single)
 
 -- of commands one by one
 pub draws_nothing : (s : Allocator) (b : Block) → Draws s b [] b
@@ -37,11 +36,8 @@ after_first b c cs = search (rules, sum_by-cons, used_then)
 each_then : (s : Allocator) (b : Block) (cs ds : List Command) → AreDrawnBy s b cs
     → AreDrawnBy s (after_commands b cs) ds → AreDrawnBy s b (cs ++ ds)
 each_then s b [] ds first second = search (rules, draws_nothing)
-each_then s b (c ∷ cs) ds first second = (
-  first.0,
-  each_then s (after_use b (used_by c)) cs ds first.1
-      (subst (λ (b : Block). AreDrawnBy s b ds) (after_first b c cs) second),
-)
+each_then s b (c ∷ cs) ds first second =
+    (first.0, each_then s (after_use b (used_by c)) cs ds first.1 (rw (after_first b c cs) at second))
 
 -- the commands of two queues, one after the other
 pub draws_then : (s : Allocator) (a b c : Block) (cs ds : List Command) → Draws s a cs b → Draws s b ds c
@@ -68,8 +64,7 @@ nothing_added s old new before after queue same = search (rules, draws_nothing)
 pub still_added : {E : Type 0} (s : Allocator) (old new : List Command) (r : Reserver) (c : Command)
     (result : Result (Unit {0}) E) → IsDrawnBy s r.block c → used_by c ≡ 0 → OnOk result (new ≡ old ++ c ∷ [])
     → OnErr result (new ≡ old) → AddedInBlocks s old new r r
-still_added s old new r c (Ok it) is none ok err = search (rules, draws_still)
-still_added s old new r c (Err e) is none ok err = search (rules, nothing_added, append-nil)
+still_added s old new r c it is none ok err = search (rules, draws_still, nothing_added, append-nil)
 
 same_fault : (f g : QueueFault) → ◌≡◌ {A = Result (List Handle) QueueFault} (Err f) (Err g) → f ≡ g
 same_fault f g e = cc
@@ -91,13 +86,7 @@ module _ (phase : Phase) (old new : List Command) (before after : Reserver) wher
   added_refusal n (fault.Space wanted left) queue memory replied =
       let d = replied (Space wanted left) refl in
       let is = space_is n wanted (left_of before.block) left d.refused.0 in
-      record {
-        number = ap (λ (r : Reserver). r.number) d.unchanged;
-        added = Refused n (Space wanted left) ∷ [];
-        queue = queue;
-        draws = rw d.unchanged (draws_still start before.block (Refused n (Space wanted left))
-            (is.0, is.1, omega (arith, is.1, d.refused.1)) refl);
-      }
+      search (rules, draws_still, d, is)
   added_refusal n (fault.Quota left) queue memory replied =
       let d = replied (Quota left) refl in let no = d.refused.0 in absurd (cc)
   added_refusal n fault.Memory queue memory replied = search (rules, nothing_added)
@@ -107,9 +96,7 @@ module _ (phase : Phase) (old new : List Command) (before after : Reserver) wher
       → (IsErrOf result fault.Memory → after ≡ before) → ((reply : Result Handle Refusal) → result ≡ queued reply
       → IsDrawn phase before after 1 (listed_alone reply)) → AddedInBlocks start old new before after
   spawn_added items (Ok h) ok refused memory replied =
-      let d = replied (Ok h) refl in
-      added_served 1 (h ∷ []) (Spawn h items) d (first_listed start.made (rest_of start.pool before.block) h d.given)
-      refl ok
+      let d = replied (Ok h) refl in search (rules, added_served, first_listed, d)
   spawn_added items (Err f) ok refused memory replied = added_refusal 1 f refused (λ e. memory (ap Err e))
       (λ why e. replied (Err why) (ap Err (same_fault f (as_reserve_error why) e)))
 
@@ -118,8 +105,5 @@ module _ (phase : Phase) (old new : List Command) (before after : Reserver) wher
       → (IsErrOf result fault.Memory → after ≡ before) → ((reply : Result (List Handle) Refusal)
       → as_list result ≡ queued reply → IsDrawn phase before after n reply) → AddedInBlocks start old new before after
   many_added n items (Ok hs) ok refused memory replied =
-      let d = replied (Ok hs.items) refl in
-      added_served n hs.items (SpawnMany hs.items items) d
-      (subst (λ (k : ℕ). hs.items ≡ listed start.made (take k (rest_of start.pool before.block))) (sym d.number)
-      d.given) d.number ok
+      let d = replied (Ok hs.items) refl in search (rules, added_served, d.number, d.given)
   many_added n items (Err f) ok refused memory replied = search (rules, added_refusal)

@@ -1,5 +1,5 @@
 -- What bytes that begin with a command let be read, kind by kind.
-use Rattle.ent_queue.proofs.Common.{rules, ◌≡◌, ℕ, ◌+◌, ◌*◌, ◌<◌, ◌≤◌, List, ◌++◌, length, drop, length-drop, slice_index, refl, [], ◌∷◌, arith, sym, subst, All, flat_map, Handle, IsHandle, Bundle, IsBundle, Command, IsRefusal, IsCommand, Spawn, SpawnMany, Insert, Remove, Despawn, Refused, command_bytes, bytes_4, handle_bytes, bundle_bytes, refusal_bytes, number_2, number_4, unpacked_handle, unpacked_handles, unpacked_bundle, unpacked_refusal, after_first, BeginsWith}
+use Rattle.ent_queue.proofs.Common.{rules, ◌≡◌, ℕ, ◌+◌, ◌*◌, ◌<◌, ◌≤◌, List, ◌++◌, length, drop, length-drop, slice_index, refl, [], ◌∷◌, arith, All, flat_map, Handle, IsHandle, Bundle, IsBundle, Command, IsRefusal, IsCommand, Spawn, SpawnMany, Insert, Remove, Despawn, Refused, command_bytes, bytes_4, handle_bytes, bundle_bytes, refusal_bytes, number_2, number_4, unpacked_handle, unpacked_handles, unpacked_bundle, unpacked_refusal, after_first, BeginsWith}
 use Rattle.ent_queue.proofs.Parts.{BundleBegins}
 use Rattle.ent_queue.proofs.Queues.{WithBundle, with_bundle, with_handles, with_component, handle_alone, with_reason, after_first-bytes}
 
@@ -58,97 +58,75 @@ pub record Kinds (kind : ℕ) (parts rest : List ℕ) : Type 0 where
   pub despawn : kind ≡ 4 → OneHandle parts rest
   pub refused : 4 < kind → Reason parts rest
 
-kinds : (c : Command) (rest : List ℕ) → IsCommand c → Kinds (slice_index (command_bytes c ++ rest) 0)
-    (drop 1 (command_bytes c ++ rest)) rest
-kinds (Spawn h items) rest is =
+-- each kind has its own first byte
+abbrev Front : (List ℕ → List ℕ → Type 0) → (ℕ → Type 0) → Type 0
+Front Parts IsKind = (c : Command) (rest : List ℕ) → IsCommand c → IsKind (slice_index (command_bytes c ++ rest) 0)
+    → Parts (drop 1 (command_bytes c ++ rest)) rest
+
+front_spawn : Front HandleAndBundle (λ kind. kind ≡ 0)
+front_spawn (Spawn h items) rest is e =
     let parts = (handle_bytes h ++ bundle_bytes items) ++ rest in
-    record {
-      spawn = λ e. handle_and_bundle h items parts rest is.0 is.1 (with_bundle h items parts rest is.0 is.1 refl);
-      spawn_many = λ e. absurd (omega arith);
-      insert = λ e. absurd (omega arith);
-      remove = λ e. absurd (omega arith);
-      despawn = λ e. absurd (omega arith);
-      refused = λ e. absurd (omega arith);
-    }
-kinds (SpawnMany hs items) rest is =
+    handle_and_bundle h items parts rest is.0 is.1 (with_bundle h items parts rest is.0 is.1 refl)
+front_spawn _ rest is e = absurd (omega arith)
+
+front_spawn_many : Front HandlesAndBundle (λ kind. kind ≡ 1)
+front_spawn_many (SpawnMany hs items) rest is e =
     let parts = (bytes_4 (length hs) ++ (flat_map handle_bytes hs ++ bundle_bytes items)) ++ rest in
     let w = with_handles hs items parts rest is.0 is.1 is.2 refl in
-    let many : HandlesAndBundle parts rest = record {
+    record {
       header = omega (arith, w.length_is);
       long = omega (arith, w.length_is, w.count, length-drop 4 parts);
-      each = subst (λ n. All IsHandle (unpacked_handles n (drop 4 parts))) (sym w.count)
-          (subst (All IsHandle) (sym w.handles) is.1);
-      bundle = subst (λ n. BundleAt (drop (8 * n) (drop 4 parts)) rest) (sym w.count)
-          (bundle_at items (drop (8 * length hs) (drop 4 parts)) rest is.2 w.bundle);
-    } in
-    record {
-      spawn = λ e. absurd (omega arith);
-      spawn_many = λ e. many;
-      insert = λ e. absurd (omega arith);
-      remove = λ e. absurd (omega arith);
-      despawn = λ e. absurd (omega arith);
-      refused = λ e. absurd (omega arith);
+      each = rw (w.count, w.handles) is.1;
+      bundle = rw w.count (bundle_at items (drop (8 * length hs) (drop 4 parts)) rest is.2 w.bundle);
     }
-kinds (Insert h items) rest is =
+front_spawn_many _ rest is e = absurd (omega arith)
+
+front_insert : Front HandleAndBundle (λ kind. kind ≡ 2)
+front_insert (Insert h items) rest is e =
     let parts = (handle_bytes h ++ bundle_bytes items) ++ rest in
-    record {
-      spawn = λ e. absurd (omega arith);
-      spawn_many = λ e. absurd (omega arith);
-      insert = λ e. handle_and_bundle h items parts rest is.0 is.1 (with_bundle h items parts rest is.0 is.1 refl);
-      remove = λ e. absurd (omega arith);
-      despawn = λ e. absurd (omega arith);
-      refused = λ e. absurd (omega arith);
-    }
-kinds (Remove h id) rest is =
+    handle_and_bundle h items parts rest is.0 is.1 (with_bundle h items parts rest is.0 is.1 refl)
+front_insert _ rest is e = absurd (omega arith)
+
+front_remove : Front HandleAndComponent (λ kind. kind ≡ 3)
+front_remove (Remove h id) rest is e =
     let parts = (handle_bytes h ++ id.0 ∷ []) ++ rest in
     let w = with_component h id.0 parts rest is.0 refl in
-    let component : HandleAndComponent parts rest = record {
+    record {
       long = omega (arith, w.length_is);
-      is = subst IsHandle (sym w.handle) is.0;
+      is = rw w.handle is.0;
       more = omega (arith, w.length_is, length-drop 8 parts);
       rest_is = w.rest_is;
-    } in
-    record {
-      spawn = λ e. absurd (omega arith);
-      spawn_many = λ e. absurd (omega arith);
-      insert = λ e. absurd (omega arith);
-      remove = λ e. component;
-      despawn = λ e. absurd (omega arith);
-      refused = λ e. absurd (omega arith);
     }
-kinds (Despawn h) rest is =
-    let parts = handle_bytes h ++ rest in
-    let w = handle_alone h parts rest is refl in
-    record {
-      spawn = λ e. absurd (omega arith);
-      spawn_many = λ e. absurd (omega arith);
-      insert = λ e. absurd (omega arith);
-      remove = λ e. absurd (omega arith);
-      despawn = λ e. record {
-        long = omega (arith, w.length_is);
-        is = subst IsHandle (sym w.handle) is;
-        rest_is = w.rest_is;
-      };
-      refused = λ e. absurd (omega arith);
-    }
-kinds (Refused wanted why) rest is =
+front_remove _ rest is e = absurd (omega arith)
+
+front_despawn : Front OneHandle (λ kind. kind ≡ 4)
+front_despawn (Despawn h) rest is e =
+    let w = handle_alone h (handle_bytes h ++ rest) rest is refl in
+    record { long = omega (arith, w.length_is); is = rw w.handle is; rest_is = w.rest_is }
+front_despawn _ rest is e = absurd (omega arith)
+
+front_refused : Front Reason (λ kind. 4 < kind)
+front_refused (Refused wanted why) rest is e =
     let parts = (bytes_4 wanted ++ refusal_bytes why) ++ rest in
     let w = with_reason wanted why parts rest is.0 is.1 refl in
-    let reason : Reason parts rest = record {
+    record {
       header = omega (arith, w.length_is);
       long = omega (arith, w.length_is, length-drop 4 parts);
-      is = subst (λ n. IsRefusal n (unpacked_refusal n (drop 4 parts))) (sym w.wanted_is)
-          (subst (IsRefusal wanted) (sym w.why_is) is.1);
+      is = rw (w.wanted_is, w.why_is) is.1;
       rest_is = w.rest_is;
-    } in
-    record {
-      spawn = λ e. absurd (omega arith);
-      spawn_many = λ e. absurd (omega arith);
-      insert = λ e. absurd (omega arith);
-      remove = λ e. absurd (omega arith);
-      despawn = λ e. absurd (omega arith);
-      refused = λ e. reason;
     }
+front_refused _ rest is e = absurd (omega arith)
+
+kinds : (c : Command) (rest : List ℕ) → IsCommand c → Kinds (slice_index (command_bytes c ++ rest) 0)
+    (drop 1 (command_bytes c ++ rest)) rest
+kinds c rest is = record {
+  spawn = front_spawn c rest is;
+  spawn_many = front_spawn_many c rest is;
+  insert = front_insert c rest is;
+  remove = front_remove c rest is;
+  despawn = front_despawn c rest is;
+  refused = front_refused c rest is;
+}
 
 -- the same of any bytes that begin with a command
 pub begins_kinds : (bytes : List ℕ) → Begins bytes → Kinds (slice_index bytes 0) (drop 1 bytes) (after_first bytes)

@@ -1,5 +1,5 @@
 -- How a reserver's record gains what commands have asked of it.
-use Rattle.ent_queue.proofs.Common.{rules, ◌≡◌, refl, ℕ, ◌+◌, ◌-◌, ◌<◌, ◌≤◌, ℤ, List, [], ◌∷◌, ◌++◌, arith, ap, ◌∙◌, subst, append_assoc, Ok, Err, sym, inl, inr, common_steps, flat_map-append, sum_by, All-nil, All-cons, cases_lt, sum_by-append, sum_by-cons, Handle, Record, Refusal, Quota, Space, Shared, Reserver, after_reservation, reservation_at, Command, Refused, HasRange, SaysWanted, IsRefusal, stands_for, cost, FitsQuota, FitQuota, Gains, IsReturned, refused_by, as_reserve_error, map-append, Reservation}
+use Rattle.ent_queue.proofs.Common.{rules, ◌≡◌, refl, ℕ, ◌-◌, ◌<◌, ◌≤◌, ℤ, List, [], ◌∷◌, ◌++◌, arith, ◌∙◌, subst, append_assoc, Ok, Err, inl, inr, common_steps, flat_map-append, sum_by, All-nil, All-cons, cases_lt, sum_by-append, sum_by-cons, Handle, Record, Refusal, Quota, Space, Shared, Reserver, after_reservation, reservation_at, Command, Refused, HasRange, SaysWanted, IsRefusal, stands_for, cost, FitsQuota, FitQuota, Gains, IsReturned, refused_by, as_reserve_error, map-append}
 
 pub gains_nothing : (r : Record) → Gains r [] r
 gains_nothing r = grind (arith, common_steps)
@@ -17,9 +17,8 @@ gains_one r high n c enough one within = record {
   number = refl;
   reservations = reservation_at r high n ∷ [];
   entries = refl;
-  requests = sym (ap (λ rs. rs ++ []) one);
-  callers = All-cons (λ (k : Reservation). k.caller ≡ r.number) (reservation_at r high n) [] refl
-      (All-nil (λ (k : Reservation). k.caller ≡ r.number));
+  requests = search (rules, one);
+  callers = search (rules, All-cons, All-nil);
   left = search rules;
   within = (within, tt);
 }
@@ -59,20 +58,14 @@ module _ (shared : Shared) (before after : Reserver) (n : ℕ) where
   refused_gains (Space wanted left) replied = elim (cases_lt before.own.left n) [
     | inl short ↦ let no = (replied.quota short).0 in absurd (cc)
     | inr enough ↦ elim (cases_lt 0 n) [
-      | inl some ↦
-          let g = replied.gains some enough in
-          let asks : stands_for (Refused n (Space wanted left)) ≡ (n, (reservation_at before.own g.high n).reply)
-          ∷ [] = ap (λ r. (n, r) ∷ []) (sym g.recorded) in
-          subst (λ (r : Reserver). Gains before.own (Refused n (Space wanted left) ∷ []) r.own) (sym g.after)
-          (gains_one before.own g.high n (Refused n (Space wanted left)) enough asks enough)
+      | inl some ↦ let g = replied.gains some enough in search (rules, gains_one, g)
       | inr nothing ↦ let no = (replied.nothing (omega arith)).0 in absurd (cc)
     ]
   ]
   refused_gains (Quota left) replied = search (rules, cases_lt, gains_none)
 
 pub is_refusal : (n : ℕ) (why : Refusal) → SaysWanted n why → HasRange why → IsRefusal n why
-is_refusal n (Space wanted left) says range = (says, range)
-is_refusal n (Quota left) says range = range
+is_refusal n it says range = search rules
 
 pub refused_by_fault : (n : ℕ) (why : Refusal) → refused_by n (as_reserve_error why) ≡ Refused n why ∷ []
 refused_by_fault n it = search rules

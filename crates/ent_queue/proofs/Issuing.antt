@@ -1,5 +1,5 @@
 -- What a call of `Commands` adds.
-use Rattle.ent_queue.proofs.Common.{rules, ◌≡◌, ℕ, List, [], ◌∷◌, ◌++◌, length, Result, Ok, Err, IfOk, IfErr, OnOk, OnErr, IsErrOf, Vec, Global, ◌<◌, arith, refl, ap, sym, subst, ◌≤◌, common_steps, Handle, Memory, Record, Refusal, Shared, Reserver, listed_alone, QueueFault, Bundle, Command, Spawn, SpawnMany, Refused, Issued, IsReady, Extends, queue_of, reserver_of, shared_of, stands_for, FitsQuota, Gains, IsReturned, queued, as_list, refused_by, as_reserve_error, Space, Quota}
+use Rattle.ent_queue.proofs.Common.{rules, ◌≡◌, ℕ, List, [], ◌∷◌, ◌++◌, length, Result, Ok, Err, IfOk, IfErr, OnOk, OnErr, IsErrOf, Vec, Global, ◌<◌, arith, refl, ap, common_steps, Handle, Memory, Record, Refusal, Shared, Reserver, listed_alone, QueueFault, Bundle, Command, Spawn, SpawnMany, Issued, IsReady, Extends, queue_of, reserver_of, shared_of, stands_for, FitsQuota, Gains, IsReturned, queued, as_list, refused_by, as_reserve_error, Space, Quota}
 use Rattle.ent_alloc.specs.declared.reserve_error.ReserveError.TheVariants as fault
 use Rattle.ent_queue.proofs.Gaining.{gains_nothing, gains_none, served_gains, refused_gains}
 
@@ -34,28 +34,21 @@ module _ (shared : Shared) (before after : Reserver) (old new : List Command) wh
   added_refusal : (n : ℕ) (f : QueueFault) → new ≡ old ++ refused_by n f → (f ≡ fault.Memory → after ≡ before)
       → ((why : Refusal) → Err f ≡ queued {X = List Handle} (Err why) → IsReturned shared before after n (Err why))
       → Added old new before.own after.own
-  added_refusal n (fault.Space wanted left) queue memory replied = record {
-    added = Refused n (Space wanted left) ∷ [];
-    queue = queue;
-    gains = refused_gains shared before after n (Space wanted left) (replied (Space wanted left) refl);
-  }
-  added_refusal n (fault.Quota left) queue memory replied = record {
-    added = Refused n (Quota left) ∷ [];
-    queue = queue;
-    gains = refused_gains shared before after n (Quota left) (replied (Quota left) refl);
-  }
+  added_refusal n (fault.Space wanted left) queue memory replied =
+      let gains = refused_gains shared before after n (Space wanted left) (replied (Space wanted left) refl) in
+      search rules
+  added_refusal n (fault.Quota left) queue memory replied =
+      let gains = refused_gains shared before after n (Quota left) (replied (Quota left) refl) in search rules
   added_refusal n fault.Memory queue memory replied = search (rules, gains_nothing)
 
   pub added_spawn : (items : Bundle) (result : Result Handle QueueFault)
       → IfOk result (λ h. new ≡ old ++ Spawn h items ∷ []) → IfErr result (λ f. new ≡ old ++ refused_by 1 f)
       → (IsErrOf result fault.Memory → after ≡ before) → ((reply : Result Handle Refusal) → result ≡ queued reply
       → IsReturned shared before after 1 (listed_alone reply)) → Added old new before.own after.own
-  added_spawn items (Ok h) ok refused memory replied = record {
-    added = Spawn h items ∷ [];
-    queue = ok;
-    gains = served_gains shared before after 1 (h ∷ []) (Spawn h items) (replied (Ok h) refl) (λ some. refl)
-        (λ none. absurd (omega arith)) (λ enough. enough);
-  }
+  added_spawn items (Ok h) ok refused memory replied =
+      let gains = served_gains shared before after 1 (h ∷ []) (Spawn h items) (replied (Ok h) refl) (λ some. refl)
+      (λ none. absurd (omega arith)) (λ enough. enough) in
+      search rules
   added_spawn items (Err f) ok refused memory replied = added_refusal 1 f refused (λ e. memory (ap Err e))
       (λ why e. replied (Err why) (ap Err (same_fault f (as_reserve_error why) e)))
 
@@ -64,11 +57,6 @@ module _ (shared : Shared) (before after : Reserver) (old new : List Command) wh
       → (IsErrOf result fault.Memory → after ≡ before) → ((reply : Result (List Handle) Refusal)
       → as_list result ≡ queued reply → IsReturned shared before after n reply)
       → IfOk result (λ hs. length hs.items ≡ n) → Added old new before.own after.own
-  added_many n items (Ok hs) ok refused memory replied number = record {
-    added = SpawnMany hs.items items ∷ [];
-    queue = ok;
-    gains = served_gains shared before after n hs.items (SpawnMany hs.items items) (replied (Ok hs.items) refl)
-        (λ some. many_request hs.items items n number some) (λ none empty. ap (λ gs. stands_for (SpawnMany gs items))
-        empty) (λ enough. subst (λ k. k ≤ before.own.left) (sym number) enough);
-  }
+  added_many n items (Ok hs) ok refused memory replied number =
+      let d = replied (Ok hs.items) refl in search (rules, served_gains shared before after n hs.items, many_request, d)
   added_many n items (Err f) ok refused memory replied number = search (rules, added_refusal)

@@ -1,6 +1,5 @@
 pub mod Numbers
 pub mod Parts
-pub mod Chunks
 pub mod Queues
 pub mod Fronts
 pub mod Pushes

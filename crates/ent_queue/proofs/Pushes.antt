@@ -1,5 +1,5 @@
 -- A command at the end of a queue.
-use Rattle.ent_queue.proofs.Common.{rules, ◌≡◌, ℕ, ◌+◌, ◌≤◌, List, [], ◌∷◌, ◌++◌, length, arith, append-nil, length-append, Fits, Vec, ap, sym, ◌∙◌, common_steps, Fits-of_lt, flat_map, All, All-nil, All-push, Handle, Bundle, Command, SpawnMany, IsCommand, command_bytes, queue_bytes, bytes_4, handle_bytes, bundle_bytes, unpacked_commands, ArePacked}
+use Rattle.ent_queue.proofs.Common.{rules, ◌≡◌, ℕ, ◌+◌, ◌≤◌, List, [], ◌∷◌, ◌++◌, length, arith, append-nil, length-append, Fits, Vec, common_steps, Fits-of_lt, flat_map, All-nil, All-push, Handle, Bundle, Command, SpawnMany, IsCommand, command_bytes, queue_bytes, bytes_4, handle_bytes, bundle_bytes, unpacked_commands, ArePacked}
 use Rattle.std.proofs.Common.{w64}
 use Rattle.ent_queue.proofs.Queues.{unpacked_commands-bytes, are_packed, length_of_commands}
 
@@ -15,9 +15,8 @@ pub pushed : (count : ℕ) (bytes new : List ℕ) (c : Command) → ArePacked co
     → new ≡ bytes ++ command_bytes c → Pushed count bytes new c
 pushed count bytes new c packed is written =
     let cs = unpacked_commands count bytes in
-    let all : All IsCommand (cs ++ c ∷ []) = All-push IsCommand cs c packed.each is in
-    let whole : queue_bytes (cs ++ c ∷ []) ≡ new = queue_bytes-push cs c
-    ∙ ap (λ bs. bs ++ command_bytes c) (sym packed.bytes_are) ∙ sym written in
+    let all = All-push IsCommand cs c packed.each is in
+    let whole : queue_bytes (cs ++ c ∷ []) ≡ new = search (rules, queue_bytes-push) in
     search (rules, length-append, length_of_commands, are_packed, unpacked_commands-bytes)
 
 counted : (cs : List Command) → length cs ≤ length (queue_bytes cs)

@@ -1,5 +1,5 @@
 -- Commands as bytes, and back.
-use Rattle.ent_queue.proofs.Common.{◌≡◌, refl, ℕ, zero, suc, ◌+◌, ◌*◌, ◌^◌, ◌<◌, List, [], ◌∷◌, ◌++◌, length, drop, arith, ap, sym, ◌∙◌, append_assoc, length-append, slice_index, IsTrue, nat_eq, rules, subst, All, flat_map, All-head, All-tail, drop-append_seam, Handle, IsHandle, bits, Refusal, Bundle, IsBundle, Command, IsRefusal, IsCommand, Spawn, SpawnMany, Insert, Remove, Despawn, Refused, bytes_4, bytes_8, handle_bytes, bundle_bytes, refusal_bytes, command_bytes, queue_bytes, number_4, unpacked_handle, unpacked_handles, unpacked_refusal, unpacked_command, after_first, unpacked_commands, ArePacked, BeginsWith, number_8, unpacked_bundle, few_items, Space, Quota}
+use Rattle.ent_queue.proofs.Common.{◌≡◌, refl, ℕ, zero, suc, ◌+◌, ◌*◌, ◌^◌, ◌<◌, List, [], ◌∷◌, ◌++◌, length, drop, arith, ap, sym, ◌∙◌, append_assoc, length-append, slice_index, IsTrue, nat_eq, rules, All, flat_map, All-head, All-tail, drop-append_seam, Handle, IsHandle, Refusal, Bundle, IsBundle, Command, IsRefusal, IsCommand, Spawn, SpawnMany, Insert, Remove, Despawn, Refused, bytes_4, bytes_8, handle_bytes, bundle_bytes, refusal_bytes, command_bytes, queue_bytes, number_4, unpacked_handle, unpacked_handles, unpacked_refusal, unpacked_command, after_first, unpacked_commands, ArePacked, BeginsWith, number_8, few_items, Space, Quota}
 use Rattle.ent_queue.proofs.Numbers.{number_4-bytes, number_8-bytes, drop-bytes_4, drop-bytes_8, unpacked_handle-bytes, length-bytes_4, length-bytes_8}
 use Rattle.ent_queue.proofs.Parts.{length-handles, unpacked_handles-bytes, drop-handles, BundleBegins, bundle_begins}
 
@@ -13,14 +13,12 @@ pub record WithBundle (h : Handle) (items : Bundle) (parts rest : List ℕ) : Ty
 pub with_bundle : (h : Handle) (items : Bundle) (parts rest : List ℕ) → IsHandle h → IsBundle items
     → parts ≡ (handle_bytes h ++ bundle_bytes items) ++ rest → WithBundle h items parts rest
 with_bundle h items parts rest is bundle e =
-    let regroup : parts ≡ handle_bytes h ++ (bundle_bytes items ++ rest) = e
-    ∙ append_assoc (handle_bytes h) (bundle_bytes items) rest in
-    let after : drop 8 parts ≡ bundle_bytes items ++ rest = ap (drop 8) regroup
-    ∙ drop-bytes_8 (bits h) (bundle_bytes items ++ rest) in
+    let regroup : parts ≡ handle_bytes h ++ (bundle_bytes items ++ rest) = search (rules, append_assoc) in
     record {
       length_is = search (rules, length-append, length-bytes_8);
-      handle = ap unpacked_handle regroup ∙ unpacked_handle-bytes h (bundle_bytes items ++ rest) is;
-      bundle = bundle_begins items rest (drop 8 parts) bundle.each (omega (arith, few_items items bundle)) after;
+      handle = rw (regroup, unpacked_handle-bytes);
+      bundle = bundle_begins items rest (drop 8 parts) bundle.each (omega (arith, few_items items bundle))
+          (rw (regroup, drop-bytes_8));
     }
 
 pub record WithHandles (hs : List Handle) (items : Bundle) (parts rest : List ℕ) : Type 0 where
@@ -37,15 +35,13 @@ with_handles hs items parts rest few all bundle e =
     let regroup : parts ≡ bytes_4 (length hs) ++ (flat_map handle_bytes hs ++ more) = e
     ∙ append_assoc (bytes_4 (length hs)) (flat_map handle_bytes hs ++ bundle_bytes items) rest
     ∙ ap (λ bytes. bytes_4 (length hs) ++ bytes) (append_assoc (flat_map handle_bytes hs) (bundle_bytes items) rest) in
-    let handles : drop 4 parts ≡ flat_map handle_bytes hs ++ more = ap (drop 4) regroup
-    ∙ drop-bytes_4 (length hs) (flat_map handle_bytes hs ++ more) in
-    let after : drop (8 * length hs) (drop 4 parts) ≡ more = ap (drop (8 * length hs)) handles ∙ drop-handles hs more in
+    let handles : drop 4 parts ≡ flat_map handle_bytes hs ++ more = rw (regroup, drop-bytes_4) in
+    let after : drop (8 * length hs) (drop 4 parts) ≡ more = rw (handles, drop-handles) in
     record {
-      count = ap number_4 regroup ∙ number_4-bytes (length hs) (flat_map handle_bytes hs ++ more) few;
+      count = rw (regroup, number_4-bytes);
       length_is = search (rules, length-append, length-bytes_4, length-handles);
-      handles = ap (unpacked_handles (length hs)) handles ∙ unpacked_handles-bytes hs more all;
-      bundle = bundle_begins items rest (drop (8 * length hs) (drop 4 parts)) bundle.each
-          (omega (arith, few_items items bundle)) after;
+      handles = rw (handles, unpacked_handles-bytes);
+      bundle = bundle_begins items rest _ bundle.each (omega (arith, few_items items bundle)) after;
     }
 
 pub record WithComponent (h : Handle) (id : ℕ) (parts rest : List ℕ) : Type 0 where
@@ -90,43 +86,30 @@ pub with_reason : (wanted : ℕ) (why : Refusal) (parts rest : List ℕ) → wan
 with_reason wanted (Space same left) parts rest few is e =
     let p = reason_parts wanted 1 left parts rest few e in
     let read : number_8 (bytes_8 left ++ rest) ≡ left = number_8-bytes left rest (omega (arith, is.1)) in
-    record {
-      length_is = p.length_is;
-      wanted_is = p.wanted_is;
-      why_is = ap (unpacked_refusal wanted) p.after ∙ (λ i. Space (sym is.0 i) (read i));
-      rest_is = p.rest_is;
-    }
+    search (rules, p, read)
 with_reason wanted (Quota left) parts rest few is e =
     let p = reason_parts wanted 2 left parts rest few e in
-    let read : number_8 (bytes_8 left ++ rest) ≡ left = number_8-bytes left rest is in
-    record {
-      length_is = p.length_is;
-      wanted_is = p.wanted_is;
-      why_is = ap (unpacked_refusal wanted) p.after ∙ ap Quota read;
-      rest_is = p.rest_is;
-    }
+    search (rules, p, number_8-bytes)
 
 pub unpacked_command-bytes : (c : Command) (rest : List ℕ) → IsCommand c
     → unpacked_command (command_bytes c ++ rest) ≡ c
 unpacked_command-bytes (Spawn h items) rest is =
     let parts = with_bundle h items ((handle_bytes h ++ bundle_bytes items) ++ rest) rest is.0 is.1 refl in
-    λ i. Spawn (parts.handle i) (parts.bundle.items_are i)
+    search (rules, parts.handle, parts.bundle.items_are)
 unpacked_command-bytes (SpawnMany hs items) rest is =
     let bytes = (bytes_4 (length hs) ++ (flat_map handle_bytes hs ++ bundle_bytes items)) ++ rest in
     let parts = with_handles hs items bytes rest is.0 is.1 is.2 refl in
-    ap (λ n. SpawnMany (unpacked_handles n (drop 4 bytes)) (unpacked_bundle (drop (8 * n) (drop 4 bytes)))) parts.count
-    ∙ (λ i. SpawnMany (parts.handles i) (parts.bundle.items_are i))
+    rw parts.count (search (rules, parts.handles, parts.bundle.items_are))
 unpacked_command-bytes (Insert h items) rest is =
     let parts = with_bundle h items ((handle_bytes h ++ bundle_bytes items) ++ rest) rest is.0 is.1 refl in
-    λ i. Insert (parts.handle i) (parts.bundle.items_are i)
+    search (rules, parts.handle, parts.bundle.items_are)
 unpacked_command-bytes (Remove h id) rest is =
     let parts = with_component h id.0 ((handle_bytes h ++ id.0 ∷ []) ++ rest) rest is.0 refl in
-    λ i. Remove (parts.handle i) (record { 0 = parts.id_is i })
+    search (rules, parts.handle, parts.id_is)
 unpacked_command-bytes (Despawn h) rest is = ap Despawn (handle_alone h (handle_bytes h ++ rest) rest is refl).handle
 unpacked_command-bytes (Refused wanted why) rest is =
-    let bytes = (bytes_4 wanted ++ refusal_bytes why) ++ rest in
-    let parts = with_reason wanted why bytes rest is.0 is.1 refl in
-    ap (λ n. Refused n (unpacked_refusal n (drop 4 bytes))) parts.wanted_is ∙ ap (Refused wanted) parts.why_is
+    let parts = with_reason wanted why ((bytes_4 wanted ++ refusal_bytes why) ++ rest) rest is.0 is.1 refl in
+    search (rules, parts.wanted_is, parts.why_is)
 
 pub after_first-bytes : (c : Command) (rest : List ℕ) → IsCommand c → after_first (command_bytes c ++ rest) ≡ rest
 after_first-bytes c rest is = search (rules, unpacked_command-bytes, drop-append_seam)
@@ -137,10 +120,8 @@ unfolding unpacked_commands
 unpacked_commands-bytes [] all = refl
 unpacked_commands-bytes (c ∷ commands) all =
     let is = All-head IsCommand c commands all in
-    let first = unpacked_command-bytes c (queue_bytes commands) is in
-    let others = ap (unpacked_commands (length commands)) (after_first-bytes c (queue_bytes commands) is)
-    ∙ unpacked_commands-bytes commands (All-tail IsCommand c commands all) in
-    λ i. first i ∷ others i
+    rw (after_first-bytes c (queue_bytes commands) is, unpacked_command-bytes c (queue_bytes commands) is)
+    (ap (c ∷◌) (unpacked_commands-bytes commands (All-tail IsCommand c commands all)))
 
 pub are_packed : (commands : List Command) → All IsCommand commands → ArePacked (length commands) (queue_bytes commands)
 are_packed commands all = search (rules, unpacked_commands-bytes)
@@ -182,6 +163,5 @@ others_are_packed count left bytes e packed =
     let more = queue_bytes (unpacked_commands left (after_first bytes)) in
     record {
       bytes_are = ap after_first begins.bytes_are ∙ after_first-bytes (unpacked_command bytes) more begins.is;
-      each = All-tail IsCommand (unpacked_command bytes) (unpacked_commands left (after_first bytes))
-          (subst (All IsCommand) first packed.each);
+      each = All-tail IsCommand (unpacked_command bytes) _ (rw first at packed.each);
     }

@@ -1,9 +1,8 @@
 -- What enters the map after a flush is each handle that is born, with its birth.
-use Rattle.ent_world.proofs.Common.{or_left, or_right, common_steps, [], rules, ◌≡◌, refl, sym, ap, ◌∙◌, ℕ, ◌+◌, ◌≤◌, ◌^◌, Bool, true, false, cond, not, ◌&&◌, true≢false, List, ◌∷◌, ◌++◌, length, drop, eqb, Option, Some, None, is_some, is_none, unwrap_or, arith, eq_by_cmp, option_map_or, position_from, All-contains, Contains-permutation, any-filter_same, Birth, Handle, handle_cmp, handle_cmp_total, handle_cmp-IsAntisymmetric, Allocator, stands_in, born, after_flush, IsSound, same_handle, itself, Contains-from_stands_in, stands_in-from_Contains, live-after_flush, live-stays, born-IsPermutation, born-lives, born-apart, born-not_live, Entity, EntityMap, newborn, Command, AreLiving, no_system, listed_birth, unlisted, unlisted_birth, birth_in, with_born, first_birth, AreNew, is_unnamed, named_queues, numbered}
+use Rattle.ent_world.proofs.Common.{or_left, or_right, common_steps, [], rules, ◌≡◌, refl, ℕ, ◌+◌, ◌≤◌, ◌^◌, true, false, cond, not, ◌&&◌, true≢false, List, ◌∷◌, ◌++◌, length, drop, Option, Some, None, is_some, is_none, arith, eq_by_cmp, All-contains, Contains-permutation, any-filter_same, Birth, Handle, handle_cmp, handle_cmp_total, handle_cmp-IsAntisymmetric, Allocator, stands_in, born, after_flush, IsSound, same_handle, itself, Contains-from_stands_in, stands_in-from_Contains, live-after_flush, live-stays, born-IsPermutation, born-lives, born-apart, born-not_live, Entity, EntityMap, newborn, Command, AreLiving, no_system, listed_birth, unlisted, birth_in, with_born, first_birth, AreNew, is_unnamed, named_queues, numbered}
 use Rattle.std.specs.FinSet as set
 use Rattle.std.specs.FinMap as map
-use Rattle.ent_world.proofs.BirthsByQueues.{or_named, given, or_named-none, IsOfSystem, birth_by_index, listed_of_system, get-named_queues}
-use Rattle.ent_world.proofs.Numbered.{AreDistinct, distinct, filter_alike, some_index, no_index, or_numbered, or_numbered-none, waiting, get-numbered}
+use Rattle.ent_world.proofs.Numbered.{AreDistinct, distinct, filter_alike, some_position, waiting, get-numbered, or_named, given, listed_of_system, get-named_queues}
 
 -- All that are born, in one step.
 
@@ -78,58 +77,33 @@ module _ (m : EntityMap) (phase : ℕ) (queues : List (List Command)) (hs : List
   unfolding listed
   listed-get q = search (rules, get-named_queues, or_named, given, get-with_born)
 
-  listed-born : (q : Handle) → stands_in hs q ≡ true → map.get listed q ≡ or_named (Some bare) (By q)
-  listed-born q there = search (rules, listed-get, or_named, given)
-
   abbrev others : List Handle
   others = unlisted queues hs
 
   -- those that have no birth of a system are those that no queue lists
   others_are : waiting listed hs ≡ others
   others_are = filter_alike (is_unnamed listed) (λ h. is_none (listed_birth 0 0 queues h)) hs
-      (λ h there. ap (λ (o : Option Entity). option_map_or (λ e. eqb e.birth.system no_system) o false)
-      (listed-born h there) ∙ by_birth (By h) (listed_of_system phase 0 queues h (omega (arith, few)))
-      ∙ sym (listed_anyhow queues phase 0 0 h))
-    where
-      by_birth : (b : Option Birth) → IsOfSystem b
-          → option_map_or (λ (e : Entity). eqb e.birth.system no_system) (or_named (Some bare) b)
-          false ≡ not (is_some b)
-      by_birth it is = grind (arith, common_steps)
-
-  abbrev index : Handle → Option ℕ
-  index q = position_from (eq_by_cmp handle_cmp q) 0 others
+      (λ h there.
+      let system = listed_of_system phase 0 queues h (omega (arith, few)) in
+      grind (arith, common_steps, listed-get h, listed_anyhow queues phase 0 0 h))
 
   -- who is born and not listed stands among the others, and nobody else does
   among : (q : Handle) → stands_in others q ≡ (is_none (listed_birth 0 0 queues q) && stands_in hs q)
   among q = search (rules, any-filter_same, same_handle)
-
-  among_others : (q : Handle) (b : Option Birth) → stands_in hs q ≡ true → By q ≡ b
-      → stands_in others q ≡ not (is_some b)
-  among_others q b there is = search (rules, listed_anyhow, among)
-
-  not_among : (q : Handle) → stands_in hs q ≡ false → stands_in others q ≡ false
-  not_among q none = let at = among q in grind (arith, common_steps)
-
-  -- who is born has its birth by the queues
-  of_born : (q : Handle) → stands_in hs q ≡ true → (b : Option Birth) → By q ≡ b
-      → or_numbered (or_named (Some bare) b) (birth_by_index phase no_system (index q))
-      ≡ Some (newborn (unwrap_or b (unlisted_birth phase others q)))
-  of_born q there it is = grind (arith, common_steps, no_index, among_others, some_index)
 
   -- what enters, is named and is numbered is each with its birth
   pub births_given : numbered (first_birth phase no_system) hs (named_queues hs phase 0 queues all)
       ≡ with_born m (birth_in phase queues hs) hs
   unfolding listed
   births_given = map.same_map handle_cmp_total handle_cmp-IsAntisymmetric _ _
-      (λ q. get-numbered phase 0 hs listed q once ∙ ap (λ gs. or_numbered (map.get listed q)
-      (birth_by_index phase no_system (position_from (eq_by_cmp handle_cmp q) 0 gs))) others_are
-      ∙ by_test q (stands_in hs q) refl ∙ sym (get-with_born (birth_in phase queues hs) hs m q))
-    where
-      by_test : (q : Handle) (b : Bool) → stands_in hs q ≡ b
-          → or_numbered (map.get listed q) (birth_by_index phase no_system (index q))
-          ≡ cond b (Some (newborn (birth_in phase queues hs q))) (map.get m q)
-      by_test q true there = cc (listed-born q there, of_born q there (By q) refl)
-      by_test q false none = grind (arith, common_steps, no_index q 0 others (not_among q none), listed-get q, or_numbered-none, or_named-none)
+      (λ q. rw (get-numbered phase 0 hs listed q once, others_are, get-with_born) (grind (
+        arith,
+        common_steps,
+        listed-get q,
+        among q,
+        listed_anyhow queues phase 0 0 q,
+        some_position (eq_by_cmp handle_cmp q) 0 others,
+      )))
 
 -- the places of those that have entered at the end
 drop_all_before : (xs ys : List Handle) → drop (length xs) (xs ++ ys) ≡ ys

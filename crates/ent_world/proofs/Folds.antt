@@ -1,18 +1,19 @@
--- Commands in order: what was applied so far, one more, and where it stopped.
-use Rattle.ent_world.proofs.Common.{[], rules, ◌≡◌, refl, ℕ, ◌+◌, ◌<◌, List, ◌∷◌, ◌++◌, length, take, drop, arith, common_steps, take_more, drop_more, length-drop, Handle, Command, World, Applied, on_entity, on_each, after_command, after_commands, after_queues, first_part}
+-- Commands in order: what was applied so far, one more, where it stopped, and where it may take memory.
+use Rattle.ent_world.proofs.Common.{[], rules, ◌≡◌, refl, ℕ, ◌+◌, ◌<◌, List, ◌∷◌, ◌++◌, length, take, drop, arith, common_steps, take_more, drop_more, length-drop, Handle, Command, World, Applied, on_entity, on_each, after_command, after_commands, after_queues, first_part, true, slice_get, Some, zero, suc, max, nat_tests, slice_get-get_or, Bundle, insert_takes_memory, one_takes_memory, command_takes_memory, TakesMemoryIn}
 
 -- the next element of a list, of which the first ones are done
-pub next_below : {X : Type 0} (xs rest : List X) (k : ℕ) (x : X) → drop k xs ≡ x ∷ rest → k < length xs
-next_below xs rest k x left = grind (arith, common_steps)
+module _ {X : Type 0} (xs rest : List X) (k : ℕ) (x : X) (left : drop k xs ≡ x ∷ rest) where
+  pub next_below : k < length xs
+  next_below = grind (arith, common_steps)
 
-pub next_taken : {X : Type 0} (xs rest : List X) (k : ℕ) (x : X) → drop k xs ≡ x ∷ rest
-    → take (k + 1) xs ≡ take k xs ++ x ∷ []
-next_taken xs rest k x left =
-    let lt : k < length xs = next_below xs rest k x left in search (rules, drop_more xs k x lt, take_more xs k x lt, lt)
+  pub next_taken : take (k + 1) xs ≡ take k xs ++ x ∷ []
+  next_taken = search (rules, drop_more xs k x, take_more xs k x, next_below)
 
-pub next_left : {X : Type 0} (xs rest : List X) (k : ℕ) (x : X) → drop k xs ≡ x ∷ rest → rest ≡ drop (k + 1) xs
-next_left xs rest k x left =
-    let lt : k < length xs = next_below xs rest k x left in search (rules, drop_more xs k x lt, lt)
+  pub next_left : rest ≡ drop (k + 1) xs
+  next_left = search (rules, drop_more xs k x, next_below)
+
+  next_at : slice_get xs k ≡ Some x
+  next_at = search (rules, drop_more xs k x, slice_get-get_or xs k x, next_below)
 
 -- some are left before the end
 pub some_left : {X : Type 0} (xs : List X) (k : ℕ) → k < length xs → drop k xs ≡ [] → ⊥
@@ -45,3 +46,26 @@ pub after_queues-append : (system : ℕ) (xs ys : List (List Command)) (a : Appl
 after_queues-append system [] ys a = search (rules)
 after_queues-append system (x ∷ xs) ys a = search
     (rules, after_queues-append (system + 1) xs ys (after_commands system 0 x a))
+
+-- Where a command may take memory.
+
+at_takes_memory : (w : World) (items : Bundle) (hs : List Handle) (k : ℕ) → k < length hs → 1 < length items
+    → one_takes_memory w items (slice_get hs k) ≡ true
+at_takes_memory w items [] k lt some = absurd (omega arith)
+at_takes_memory w items (h ∷ hs) zero lt some = search (rules, nat_tests)
+at_takes_memory w items (h ∷ hs) (suc k) lt some = at_takes_memory w items hs k (omega arith) some
+
+-- to the first of the handles that are left
+pub stop_takes_memory : (w : World) (items : Bundle) (hs : List Handle) (k : ℕ) → (hs ≡ [] → ⊥) → k < max 1 (length hs)
+    → 1 < length items → one_takes_memory w items (slice_get hs k) ≡ true
+stop_takes_memory w items hs k some_handle lt some = grind (arith, common_steps, at_takes_memory)
+
+-- to the next of them
+pub next_takes_memory : (w : World) (items : Bundle) (hs rest : List Handle) (k : ℕ) (h : Handle) → drop k hs ≡ h ∷ rest
+    → insert_takes_memory w items h ≡ true → one_takes_memory w items (slice_get hs k) ≡ true
+next_takes_memory w items hs rest k h left takes = search (rules, next_at)
+
+-- at this command of a queue
+pub takes_memory_in : (w : World) (q rest : List Command) (k done : ℕ) (c : Command) → drop k q ≡ c ∷ rest
+    → command_takes_memory w done c ≡ true → TakesMemoryIn w k done q
+takes_memory_in w q rest k done c left takes = search (rules, next_at)

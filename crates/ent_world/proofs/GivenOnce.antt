@@ -1,6 +1,6 @@
 -- Over the frames of a run no handle is given twice: each frame keeps the list of all given handles
 -- free of repetitions.
-use Rattle.ent_world.proofs.Common.{[], rules, ◌≡◌, sym, ◌∙◌, subst, append-nil, ℕ, true, List, ◌∷◌, ◌++◌, Result, Ok, Err, All-nil, Handle, Limits, AreLimits, Space, Allocator, opening, after_take, reply_to, IsSound, IsLive, AreSpent, Call, IsLegal, after_history, handles_in, given_in, opening-sound, after_take-sound, after_flush-sound, after_free-sound, take-given, refused-given, flush-given, free-given, Command, World, AreLiving, lives_in, first_world, applied, after_births, sync}
+use Rattle.ent_world.proofs.Common.{[], rules, ◌≡◌, sym, ◌∙◌, append-nil, ℕ, true, List, ◌∷◌, ◌++◌, Result, Ok, Err, All-nil, Handle, Limits, AreLimits, Space, Allocator, opening, after_take, reply_to, IsSound, IsLive, AreSpent, Call, IsLegal, after_history, handles_in, given_in, opening-sound, after_take-sound, after_flush-sound, after_free-sound, take-given, refused-given, flush-given, free-given, Command, World, AreLiving, lives_in, first_world, applied, after_births, sync}
 use Rattle.std.proofs.Common.{append_assoc}
 use Rattle.ent_world.proofs.Living.{keys-empty, keys-remove, keys-components, living-history}
 use Rattle.ent_world.proofs.Born.{living-after}
@@ -17,12 +17,11 @@ call-given s n (Err space) given sound is once = search (rules, append-nil, refu
 -- a legal history gives what was never given
 pub history-given : (s : Allocator) (history : List Call) (given : List Handle) → IsSound s → IsLegal s history
     → AreSpent s given → AreSpent (after_history s history) (given ++ given_in history)
-history-given s [] given sound legal once = subst (AreSpent s) (sym (append-nil given)) once
-history-given s (call ∷ calls) given sound legal once = subst
-    (AreSpent (after_history (after_take s call.requested) calls))
-    (append_assoc given (handles_in call.reply) (given_in calls)) (history-given (after_take s call.requested) calls
-    (given ++ handles_in call.reply) (after_take-sound s call.requested sound) legal.2
-    (call-given s call.requested call.reply given sound legal.1 once))
+history-given s [] given sound legal once = search (rules, append-nil)
+history-given s (call ∷ calls) given sound legal once =
+    let more = call-given s call.requested call.reply given sound legal.1 once in
+    rw (← append_assoc) (history-given (after_take s call.requested) calls (given ++ handles_in call.reply)
+    (after_take-sound s call.requested sound) legal.2 more)
 
 -- a history keeps the allocator sound
 pub history-sound : (s : Allocator) (history : List Call) → IsSound s → IsSound (after_history s history)
@@ -57,14 +56,9 @@ record IsOnTheWay (given : List Handle) (w : World) : Type 0 where
 
 on_the_way-kept : (given : List Handle) → IsKept (IsOnTheWay given)
 on_the_way-kept given = record {
-  components = λ change h w there before. record {
-    flushed = flushed-kept.components change h w there before.flushed;
-    spent = before.spent;
-  };
-  despawn = λ h w there before. record {
-    flushed = flushed-kept.despawn h w there before.flushed;
-    spent = free-given w.allocator h given (alive w h before.flushed.living there) before.spent;
-  };
+  components = λ change h w there before. search (rules, flushed-kept.components change h w there before.flushed);
+  despawn = λ h w there before. search
+      (rules, flushed-kept.despawn h w there before.flushed, free-given w.allocator h given, alive w h);
 }
 
 -- ---- a sync
@@ -89,10 +83,7 @@ module _ (queues : List (List Command)) (w : World) (sound : IsSound w.allocator
 pub sync-given : (queues : List (List Command)) (w : World) (given : List Handle) → IsSound w.allocator
     → AreLiving w.allocator w.entities → AreSpent w.allocator given → AreSpent (sync queues w).world.allocator given
 sync-given queues w given sound living once = (after_queues-keeps (IsOnTheWay given) (on_the_way-kept given) 0 queues
-    (applied (after_births queues w) []) at_start).spent
-  where
-    at_start : IsOnTheWay given (after_births queues w)
-    at_start = search (rules, births-flushed, flush-given)
+    (applied (after_births queues w) []) (search (rules, births-flushed, flush-given))).spent
 
 -- ---- a frame: reservations, and the sync after them
 

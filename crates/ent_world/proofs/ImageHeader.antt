@@ -1,5 +1,5 @@
 -- What stands before the allocator's part of an image, byte by byte.
-use Rattle.ent_world.proofs.Common.{rules, ◌≡◌, ◌≢◌, refl, sym, ap, ◌∙◌, ℕ, ◌^◌, ◌<◌, List, ◌++◌, length, arith, length-append, append_assoc, word, long, length-word, length-long, same_words, same_longs, same_parts, magic, version, header_bytes, framed}
+use Rattle.ent_world.proofs.Common.{rules, ◌≡◌, ◌≢◌, refl, ap, ◌∙◌, ℕ, ◌^◌, ◌<◌, List, ◌++◌, length, length-append, append_assoc, word, long, length-word, length-long, same_words, same_longs, same_parts, magic, version, header_bytes, framed}
 
 -- the letters as a number
 abbrev pub letters : ℕ
@@ -62,5 +62,5 @@ short_letters bytes short rest is = search (rules, length-append)
 
 pub other_letters : (number : ℕ) (bytes left : List ℕ) → number < 2 ^ 64 → number ≢ letters
     → bytes ≡ long number ++ left → (rest : List ℕ) → bytes ≢ magic ++ rest
-other_letters number bytes left fits other found rest is = other (same_longs number letters left rest fits (omega arith)
-    (sym found ∙ is ∙ ap (λ ms. ms ++ rest) (sym letters_are))).0
+other_letters number bytes left fits other found rest is = search
+    (rules, same_longs number letters left rest, letters_are)

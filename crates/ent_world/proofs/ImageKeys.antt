@@ -1,5 +1,5 @@
 -- A list of handles that rises by slot, and has just those of a map, has the keys of the map.
-use Rattle.ent_world.proofs.Common.{[], rules, ◌≡◌, ◌≢◌, refl, sym, ap, subst, ◌∙◌, ℕ, suc, ◌<◌, Bool, T, ◌&&◌, List, ◌∷◌, map, length, get_or, arith, Contains, Option, is_some, IsTrue, AllPairs, true≢false, list_any, eq_by_cmp, is_lt, find, is_sorted, below_all, same_entries, is_some-find, Contains-from_any, Handle, handle_cmp, total, same, same_handle, Entity, EntityMap}
+use Rattle.ent_world.proofs.Common.{[], rules, ◌≡◌, ◌≢◌, refl, sym, ap, ◌∙◌, ℕ, suc, ◌<◌, Bool, T, ◌&&◌, List, ◌∷◌, map, length, get_or, arith, Contains, Option, is_some, IsTrue, AllPairs, true≢false, list_any, eq_by_cmp, is_lt, find, is_sorted, below_all, same_entries, is_some-find, Contains-from_any, Handle, handle_cmp, total, same, same_handle, Entity, EntityMap}
 use Rattle.std.specs.FinMap as maps
 use Rattle.std.specs.FinSet as sets
 
@@ -11,7 +11,7 @@ unmarked : (hs : List Handle) → map (λ e. e.0) (marks hs) ≡ hs
 unmarked [] = refl
 unmarked (h ∷ hs) = ap (h ∷◌) (unmarked hs)
 
-both : (a b : Bool) → T a → T b → T (a && b)
+pub both : (a b : Bool) → T a → T b → T (a && b)
 both b b2 p q = search rules
 
 -- ---- they are sorted
@@ -51,18 +51,17 @@ found q hs = is_some-find handle_cmp q (marks hs) ∙ ap (list_any (eq_by_cmp ha
 pub keys_are : (m : EntityMap) (hs : List Handle) → AllPairs (λ g h. g.index < h.index) hs
     → ((q : Handle) → maps.contains_key m q ≡ list_any (eq_by_cmp handle_cmp q) hs) → maps.keys m ≡ hs
 keys_are m hs rising members =
-    let marked = same_entries handle_cmp total same (marks (maps.keys m)) (marks hs)
-    (subst T (sym (sorted_marks (maps.entries m))) (maps.entries_sorted m)) (rising_sorted hs rising)
-    (λ q. one_mark (find handle_cmp q (marks (maps.keys m))) (find handle_cmp q (marks hs))
-    (found q (maps.keys m) ∙ sym (maps.contains_key-keys m q) ∙ members q ∙ sym (found q hs))) in
-    sym (unmarked (maps.keys m)) ∙ ap (map (λ e. e.0)) marked ∙ unmarked hs
+    let marked : marks (maps.keys m) ≡ marks hs = same_entries handle_cmp total same _ _
+    (rw sorted_marks (maps.entries_sorted m)) (rising_sorted hs rising)
+    (λ q. search (rules, one_mark, found, maps.contains_key-keys m q, members q)) in
+    cc (unmarked (maps.keys m), unmarked hs)
 
 -- the keys of the living ones, listed by rising slot
 pub living_keys : (m : EntityMap) (live : sets.FinSet handle_cmp) (hs : List Handle)
     → AllPairs (λ g h. g.index < h.index) hs → sets.from_list hs ≡ live
     → ((h : Handle) → maps.contains_key m h ≡ sets.contains live h) → maps.keys m ≡ hs
 living_keys m live hs rising lists living = keys_are m hs rising
-    (λ q. living q ∙ ap (λ s. sets.contains s q) (sym lists) ∙ sets.contains-from_list total hs q)
+    (λ q. cc (living q, sets.contains-from_list total hs q))
 
 -- who rises by slot is apart from the others
 pub rising_apart : (hs : List Handle) → AllPairs (λ g h. g.index < h.index) hs → AllPairs (λ g h. g ≢ h) hs

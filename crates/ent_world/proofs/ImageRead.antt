@@ -1,5 +1,5 @@
 -- What the bytes of an image tell, and the world that is read of them.
-use Rattle.ent_world.proofs.Common.{All-contains, [], rules, ◌≡◌, ◌≢◌, refl, sym, ap, ◌∙◌, ℕ, suc, ◌+◌, ◌*◌, ◌^◌, ◌<◌, ◌≤◌, Bool, true, false, List, ◌∷◌, ◌++◌, length, get_or, arith, None, is_some, AllPairs, All, Result, Ok, Err, IfErr, IfOk, IsErrAnd, ◌⊎◌, same_handle, Contains-from_stands_in, stands_in-from_Contains, common_steps, length-append, get_or_default, none-some, Handle, handle_cmp, total, same, Birth, stands_in, top, allocator_image, HasAllocatorImage, length-header_bytes, length-slots_bytes, few_wait, roster_slots, EntityMap, entities_bytes, AreStored, never_stored, entities_least, World, AreRows, with_rows, AreNew, allocator_of, living, header_bytes, framed, image, least, HasImage, AreFramed, WorldImageFault, Memory}
+use Rattle.ent_world.proofs.Common.{All-contains, [], rules, ◌≡◌, ◌≢◌, refl, sym, ap, ◌∙◌, ℕ, suc, ◌+◌, ◌*◌, ◌^◌, ◌<◌, ◌≤◌, Bool, true, false, List, ◌∷◌, length, get_or, arith, None, is_some, AllPairs, All, Result, Ok, Err, IfErr, IfOk, IsErrAnd, ◌⊎◌, same_handle, Contains-from_stands_in, stands_in-from_Contains, common_steps, length-append, get_or_default, none-some, Handle, handle_cmp, total, same, Birth, stands_in, top, allocator_image, HasAllocatorImage, length-header_bytes, length-slots_bytes, few_wait, roster_slots, EntityMap, entities_bytes, AreStored, never_stored, entities_least, World, AreRows, with_rows, AreNew, allocator_of, living, framed, image, least, HasImage, AreFramed, WorldImageFault, Memory}
 use Rattle.ent_world.proofs.PlacedRows.{rows_stand, rows-empty, rows-born}
 use Rattle.std.specs.FinMap as map
 use Rattle.std.specs.FinSet as set
@@ -10,12 +10,7 @@ use Rattle.ent_world.proofs.ImageKeys.{living_keys}
 -- ---- the allocator's part
 
 pub allocator_has : (w : World) → HasImage w → HasAllocatorImage (allocator_of w)
-allocator_has w has = record {
-  sound = has.world.sound;
-  rows_of_living = λ h dead. map.get-empty handle_cmp h;
-  rows = λ h row at. absurd (none-some row (sym (map.get-empty handle_cmp h) ∙ at));
-  asked = has.asked;
-}
+allocator_has w has = search (rules, has.world.sound, has.asked, none-some, map.get-empty)
 
 pub allocator_len : (e : Allocator) → length (allocator_image e) ≡ 40 + 12 * e.allocator.made
 allocator_len e = search (rules, length-header_bytes, length-slots_bytes, length-append)
@@ -32,10 +27,8 @@ pub record AreParts (w : World) (phase : ℕ) (part rest : List ℕ) : Type 0 wh
 
 pub told : (w : World) → HasImage w → (bytes : List ℕ) (phase : ℕ) (part rest : List ℕ) → phase < 2 ^ 64
     → length part < 2 ^ 64 → bytes ≡ framed phase part rest → image w ≡ bytes → AreParts w phase part rest
-told w has bytes phase part rest fits_p fits found is =
-    let parts = same_framed w.phase phase (allocator_image (allocator_of w)) (entities_bytes w.entities (living w)) part
-    rest has.phase fits_p (allocator_short (allocator_of w) (allocator_has w has)) fits (is ∙ found) in
-    record { phase_is = parts.0; part_is = parts.1.0; rest_is = parts.1.1 }
+told w has bytes phase part rest fits_p fits found is = search
+    (rules, same_framed, has.phase, allocator_short (allocator_of w) (allocator_has w has))
 
 -- ---- results
 
@@ -79,19 +72,14 @@ kept_by_image P bytes it exact w has is holds = search (rules, read_is)
 -- an image has a slot's bytes for each slot, and at least 16 for each entity
 pub bounded : (bytes : List ℕ) (result : Result World WorldImageFault) → IfOk result (λ w. image w ≡ bytes)
     → IfOk result HasImage → IfOk result (λ w. least w ≤ length bytes)
-bounded bytes (Ok w) found has =
-    let part = allocator_image (allocator_of w) in
-    let rest = entities_bytes w.entities (living w) in
-    let whole = length-append (header_bytes w.phase (length part)) (part ++ rest) in
-    omega (
-      arith,
-      ap length found,
-      whole,
-      length-header w.phase (length part),
-      length-append part rest,
-      allocator_len (allocator_of w),
-      entities_least w.entities (living w) has.stored,
-    )
+bounded bytes (Ok w) found has = grind (
+  arith,
+  common_steps,
+  length-append,
+  length-header,
+  allocator_len (allocator_of w),
+  entities_least w.entities (living w) has.stored,
+)
 bounded bytes (Err fault) found has = tt
 
 -- ---- the living handles
@@ -108,7 +96,8 @@ no_rows e has hs lists bare = map.same_map total same e.rows map.empty
   where
     none_at : (h : Handle) (b : Bool) → stands_in hs h ≡ b → map.get e.rows h ≡ None
     none_at h true is = All-contains (λ h. map.get e.rows h ≡ None) hs h bare (Contains-from_stands_in hs h is)
-    none_at h false is = has.rows_of_living h (λ alive. grind (arith, common_steps, set.contains-from_list total hs h, ap (λ s. set.contains s h) lists))
+    none_at h false is = has.rows_of_living h
+        (λ alive. grind (arith, common_steps, set.contains-from_list total hs h, ap (λ s. set.contains s h) lists))
 
 pub same_answer : (a b : Bool) → (a ≡ true → b ≡ true) → (b ≡ true → a ≡ true) → a ≡ b
 same_answer b b2 there back = grind (arith, common_steps)
@@ -155,17 +144,12 @@ pub rows_read : (m : EntityMap) (hs : List Handle) → AreStored m hs → AllPai
     → AreRows (with_rows map.empty 0 hs) hs m
 rows_read m hs stored rising =
     let born = rows-born nowhere hs map.empty [] map.empty rows-empty (new_ones hs rising) in
-    record {
-      at = born.at;
-      each = λ h. rows_stand (with_rows map.empty 0 hs) hs born.at h ∙ sym (members m hs stored h);
-    }
+    search (rules, born.at, rows_stand, members m hs stored)
 
 pub all_live : (live : set.FinSet handle_cmp) (hs : List Handle) → set.from_list hs ≡ live
     → All (λ h. set.contains live h ≡ true) hs
-all_live live hs lists k d lt =
-    let h = get_or hs k d in
-    ap (λ s. set.contains s h) (sym lists) ∙ set.contains-from_list total hs h
-    ∙ stands_in-from_Contains hs h (k, lt, get_or_default hs k h d lt)
+all_live live hs lists k d lt = search
+    (rules, set.contains-from_list total hs, stands_in-from_Contains hs (get_or hs k d), get_or_default)
 
 pub living_is : (m : EntityMap) (hs : List Handle) (live : set.FinSet handle_cmp) → AreStored m hs
     → AllPairs (λ g h. g.index < h.index) hs → set.from_list hs ≡ live → map.keys m ≡ hs
@@ -176,8 +160,8 @@ pub slots_made : (e : Allocator) → HasAllocatorImage e → (hs : List Handle) 
     → 0 < length hs + top e.allocator → 40 < length (allocator_image e)
 slots_made e has [] lists some = omega (arith, allocator_len e, few_wait e has, some)
 slots_made e has (h ∷ hs) lists some =
-    let made = (roster_slots e has).live_made h (all_live e.allocator.live (h ∷ hs) lists 0 h (omega arith)) in
-    omega (arith, allocator_len e, made)
+    let lives = all_live e.allocator.live (h ∷ hs) lists 0 h (omega arith) in
+    omega (arith, allocator_len e, (roster_slots e has).live_made h lives)
 
 -- what the bytes are framed by
 abbrev pub framed_by : (bytes : List ℕ) (phase : ℕ) (part rest : List ℕ) → phase < 2 ^ 64 → length part < 2 ^ 64

@@ -1,5 +1,5 @@
 -- The handle that is given next, and an entity that is made or taken back.
-use Rattle.ent_world.proofs.Common.{[], rules, ◌≡◌, refl, sym, ℕ, ◌<◌, true, false, true≢false, List, ◌∷◌, ◌++◌, length, slice_get, arith, suc, ℤ, ◌⊎◌, Some, None, IfSome, Result, Ok, Err, OnOk, OnErr, is_err, common_steps, cases_lt, none-some, same_Some, slice_get_past, Birth, Handle, handle_cmp_total, handle_cmp-IsAntisymmetric, Space, Allocator, listed_alone, reply_to, reply_from, pool_at, cursor, IsSound, same_handle, itself, reply-cursor, reply-not_live, with_items, missing, Entity, EntityMap, newborn, with_components, components_of, AreWithout, at_push_before, Bundle, spawned}
+use Rattle.ent_world.proofs.Common.{[], ap, ◌∙◌, ◌≢◌, handle_cmp, rules, ◌≡◌, refl, ℕ, ◌<◌, true, false, true≢false, List, ◌∷◌, ◌++◌, length, slice_get, arith, suc, ℤ, ◌⊎◌, Some, None, IfSome, Result, Ok, Err, OnOk, OnErr, is_err, common_steps, cases_lt, none-some, same_Some, slice_get_past, Birth, Handle, handle_cmp_total, handle_cmp-IsAntisymmetric, Space, Allocator, listed_alone, reply_to, reply_from, pool_at, cursor, IsSound, same_handle, itself, reply-cursor, reply-not_live, with_items, missing, Entity, EntityMap, newborn, with_components, components_of, AreWithout, at_push_before, Bundle, spawned}
 use Rattle.std.proofs.Common.{length-append}
 use Rattle.std.specs.FinSet as set
 use Rattle.std.specs.FinMap as map
@@ -14,6 +14,13 @@ on_err it test p = search (rules, true≢false)
 -- one of the two holds
 pub on_either : {X E P Q : Type 0} (r : Result X E) → OnOk r P → OnErr r Q → P ⊎ Q
 on_either it p q = search rules
+
+-- what is so anyhow is so after a refusal
+pub anyhow : {T E : Type 0} (r : Result T E) (P : Type 0) → P → OnErr r P
+anyhow it P so = search rules
+
+pub some_entity : (m : EntityMap) (len : ℕ) → len ≡ map.len m → len ≢ 0 → m ≢ map.empty
+some_entity m len is some none = some (is ∙ ap map.len none ∙ map.len-empty handle_cmp Entity)
 
 -- Of one handle.
 
@@ -39,14 +46,9 @@ reply_at_top s high reply sound at is = search (rules, reply-cursor s 1 sound)
 
 -- the second of two entities under one handle
 insert_twice : (m : EntityMap) (h : Handle) (e f : Entity) → map.insert (map.insert m h e) h f ≡ map.insert m h f
-insert_twice m h e f = map.same_map handle_cmp_total handle_cmp-IsAntisymmetric _ _
-    (λ q. grind (
-      arith,
-      common_steps,
-      map.get-insert handle_cmp_total (map.insert m h e) h f q,
-      map.get-insert handle_cmp_total m h e q,
-      map.get-insert handle_cmp_total m h f q,
-    ))
+insert_twice m h e f = map.same_map handle_cmp_total handle_cmp-IsAntisymmetric _ _ (λ q.
+    let get = map.get-insert {X = Entity} handle_cmp_total in
+    grind (arith, common_steps, get (map.insert m h e) h f q, get m h e q, get m h f q))
 
 pub get_inserted : (m : EntityMap) (h : Handle) (e : Entity) → map.get (map.insert m h e) h ≡ Some e
 get_inserted m h e = grind (arith, common_steps, map.get-insert handle_cmp_total m h e h, itself h)
@@ -64,20 +66,14 @@ made_whole m h birth items = search (rules, get_inserted, insert_twice)
 
 -- an entity that came and went
 pub taken_back : (m : EntityMap) (h : Handle) (e : Entity) → map.get m h ≡ None → map.remove (map.insert m h e) h ≡ m
-taken_back m h e none = map.same_map handle_cmp_total handle_cmp-IsAntisymmetric _ _
-    (λ q. grind (
-      arith,
-      common_steps,
-      map.get-remove handle_cmp_total (map.insert m h e) h q,
-      map.get-insert handle_cmp_total m h e q,
-      same_handle q h,
-    ))
+taken_back m h e none = map.same_map handle_cmp_total handle_cmp-IsAntisymmetric _ _ (λ q.
+    let get = map.get-remove handle_cmp_total (map.insert m h e) h q in
+    grind (arith, common_steps, map.get-insert handle_cmp_total m h e q, same_handle q h))
 
 same_lists : (xs ys : List Handle) → ((k : ℕ) → slice_get xs k ≡ slice_get ys k) → xs ≡ ys
 same_lists [] [] each = refl
-same_lists [] (y ∷ ys) each = absurd (none-some y (each 0))
-same_lists (x ∷ xs) [] each = absurd (none-some x (sym (each 0)))
 same_lists (x ∷ xs) (y ∷ ys) each = search (rules, same_Some x y (each 0), same_lists xs ys (λ k. each (suc k)))
+same_lists _ _ each = absurd (search (rules, none-some, each 0))
 
 -- a handle that came to the end of the places and went
 pub end_taken_back : (places left : List Handle) (h : Handle) → AreWithout (length places) (places ++ h ∷ []) left

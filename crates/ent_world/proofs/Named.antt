@@ -1,9 +1,8 @@
 -- One induction over queues, and so one file of more than 400 lines: queues do to a world what the
 -- same queues by births do to births alone. If the births told what the world was, they tell what
 -- it is afterwards, and the faults are the same.
-use Rattle.ent_world.proofs.Common.{[], arith, rules, ◌≡◌, refl, sym, ap, ◌∙◌, subst, ℕ, ◌+◌, Bool, true, false, cond, not, T, true≢false, List, ◌∷◌, ◌++◌, map, filter, All, Option, Some, None, is_some, option_map, common_steps, AllZip, option_map_or, eq_by_cmp, Ordering, IsTotalOrder, find, put, is_sorted, IsAntisymmetric, find-put, find-where_key, is_sorted-put, is_sorted-where_key, same_entries, eq_by_cmp_equiv, tells_apart, none-some, same_Some, All-head, All-tail, all_zipped_more, Birth, ComponentId, birth_cmp, birth_cmp_total, birth_cmp-IsAntisymmetric, component_cmp, component_cmp_total, component_cmp-IsAntisymmetric, Handle, handle_cmp, handle_cmp_total, same_handle, itself, Components, with_items, Entity, EntityMap, birth_of, with_components, Bundle, with_put, Command, Spawn, SpawnMany, Insert, Remove, Despawn, Refused, World, lives_in, Applied, on_entity, on_each, with_fault, after_insert, after_remove, after_despawn, after_command, after_commands, after_queues, BirthMap, BirthCommand, BirthFault, AppliedAlone, held_by, inserted, removed, despawned, on_birth, on_each_birth, after_birth_command, after_birth_commands, after_birth_queues, after_births, sync, AreNamed, AreNames, IsThere, IsNamedBy, AreNamedBy, IsSameFault, AreNamedAfter}
+use Rattle.ent_world.proofs.Common.{◌⊎◌, inl, inr, [], arith, rules, ◌≡◌, refl, ap, ◌∙◌, ℕ, ◌+◌, true, cond, not, T, true≢false, List, ◌∷◌, map, filter, All, Option, Some, None, is_some, option_map, common_steps, AllZip, eq_by_cmp, Ordering, IsTotalOrder, find, put, is_sorted, IsAntisymmetric, find-put, find-where_key, is_sorted-put, is_sorted-where_key, same_entries, eq_by_cmp_equiv, tells_apart, none-some, same_Some, All-head, All-tail, all_zipped_more, Birth, ComponentId, birth_cmp, birth_cmp_total, birth_cmp-IsAntisymmetric, component_cmp, component_cmp_total, component_cmp-IsAntisymmetric, Handle, handle_cmp, handle_cmp_total, same_handle, itself, Components, with_items, Entity, EntityMap, birth_of, with_components, Bundle, with_put, Command, Spawn, SpawnMany, Insert, Remove, Despawn, Refused, World, lives_in, Applied, on_entity, on_each, after_insert, after_remove, after_despawn, after_command, after_commands, after_queues, BirthMap, BirthCommand, AppliedAlone, held_by, inserted, removed, despawned, on_birth, on_each_birth, after_birth_command, after_birth_commands, after_birth_queues, AreNamed, AreNames, IsThere, IsNamedBy, AreNamedBy, IsSameFault, AreNamedAfter}
 use Rattle.std.specs.FinMap as finite
-use Rattle.ent_world.specs.declared.fault.FaultKind.TheVariants as kind
 
 -- ---- lists of entries in order
 
@@ -11,23 +10,15 @@ module _ {K X : Type 0} {R : K → K → Ordering} (o : IsTotalOrder R) (same : 
   -- a key that was filtered out is not found
   pub find-without : (k q : K) (es : List (K × X)) → find R q (filter (λ e. not (eq_by_cmp R e.0 k)) es)
       ≡ cond (eq_by_cmp R q k) None (find R q es)
-  find-without k q es = search (
-    rules,
-    find-where_key R (λ x. not (eq_by_cmp R x k)) q (λ x tied. ap (λ y. not (eq_by_cmp R y k))
-        (sym (same q x tied))) es,
-  )
+  find-without k q es = search
+      (rules, find-where_key R (λ x. not (eq_by_cmp R x k)) q (λ x tied. rw (same q x tied) refl) es)
 
   -- a map without a key has the entries without that key
   pub entries-remove : (m : finite.FinMap R X) (k : K) → finite.entries (finite.remove m k)
       ≡ filter (λ e. not (eq_by_cmp R e.0 k)) (finite.entries m)
   entries-remove m k = same_entries R o same _ _ (finite.entries_sorted (finite.remove m k))
       (is_sorted-where_key R (λ x. not (eq_by_cmp R x k)) (finite.entries m) (finite.entries_sorted m))
-      (λ q. cc (
-        finite.get-entries (finite.remove m k) q,
-        finite.get-remove o m k q,
-        finite.get-entries m q,
-        find-without k q (finite.entries m),
-      ))
+      (λ q. search (rules, finite.get-entries, finite.get-remove o m k, find-without k))
 
 -- the components of an entity and a bundle, after the same items
 entries-with_items : (held : Components) (items : Bundle) → finite.entries (with_items held items) ≡ with_put
@@ -88,16 +79,11 @@ module _ (start : EntityMap) (name : Handle → Birth) (distinct : AreDistinct n
     named = λ g e is. grind (arith, common_steps, gets g, same_handle g h, before.named g e, birth e);
     there = λ g there. grind
         (arith, common_steps, alike g h there (before.lived h here), finds (name g), gets g, before.there g there);
-    only = λ b some. only_by b (eq_by_cmp birth_cmp b (name h)) refl (ap is_some (sym (finds b)) ∙ some);
+    only = λ b some.
+        let either : (name h ≡ b) ⊎ (is_some (find birth_cmp b births) ≡ true) = grind
+        (arith, common_steps, finds b, tells_apart birth_cmp-IsAntisymmetric b (name h)) in
+        elim either [ | inl is ↦ (h, (before.lived h here, is)) | inr found ↦ before.only b found ];
   }
-    where
-      only_by : (b : Birth) (t : Bool) → eq_by_cmp birth_cmp b (name h) ≡ t
-          → is_some (cond (eq_by_cmp birth_cmp b (name h)) (told o) (find birth_cmp b births))
-          ≡ true → (g : Handle) × (IsThere start g × (name g ≡ b))
-      only_by b true tied some =
-          (h, (before.lived h here, sym (tells_apart birth_cmp-IsAntisymmetric b (name h) tied)))
-      only_by b false apart some = before.only b
-          (ap (λ t. is_some (cond t (told o) (find birth_cmp b births))) (sym apart) ∙ some)
 
   -- ---- one entity
 
@@ -111,16 +97,13 @@ module _ (start : EntityMap) (name : Handle → Birth) (distinct : AreDistinct n
       let found = entity_there m h here in
       let e : Entity = found.0 in
       let later : Entity = record e { components = change e.components } in
-      let with_e : with_components m h change ≡ finite.insert m h later = ap
-      (λ o. option_map_or (λ e. finite.insert m h (record e { components = change e.components })) o m) found.1 in
       let items : Bundle = alike_change (held_by births (name h)) in
       let items_are : items ≡ finite.entries later.components = grind (arith, common_steps) in
-      subst (λ n. AreTold start name n (put birth_cmp (name h) items births)) (sym with_e)
-      (changed h (Some later) m (finite.insert m h later) births (put birth_cmp (name h) items births) before here
-      (λ f is. before.named h e found.1 ∙ ap (λ x. x.birth) (same_Some later f is))
-      (λ g. finite.get-insert handle_cmp_total m h later g) (is_sorted-put birth_cmp birth_cmp_total (name h) items
-      births before.rising) (λ b. find-put birth_cmp birth_cmp_total b (name h) items births
-      ∙ ap (λ x. cond (eq_by_cmp birth_cmp b (name h)) (Some x) (find birth_cmp b births)) items_are))
+      rw found.1 (changed h (Some later) m (finite.insert m h later) births (put birth_cmp (name h) items births) before
+      here (λ f is. search (rules, before.named h e found.1, same_Some))
+      (finite.get-insert handle_cmp_total m h later)
+      (is_sorted-put birth_cmp birth_cmp_total (name h) items births before.rising)
+      (λ b. rw items_are (find-put birth_cmp birth_cmp_total b (name h) (finite.entries later.components) births)))
 
   -- ---- commands
 
@@ -159,19 +142,7 @@ module _ (start : EntityMap) (name : Handle → Birth) (distinct : AreDistinct n
       entity-told h a b here before =
           let same : is_some (find birth_cmp (name h) b.entities) ≡ lives_in a.world h = ap is_some (before.told.there h
           here) ∙ told_some (finite.get a.world.entities h) in
-          let fault : BirthFault = record { system = system; command = command } in
-          subst (λ t. AreAppliedTold (on_entity system command change h a)
-          (cond t (record b { entities = change_alone (name h) b.entities })
-          (record b { faults = b.faults ++ fault ∷ [] }))) (sym same) (by (lives_in a.world h) refl)
-        where
-          by : (t : Bool) → lives_in a.world h ≡ t
-              → AreAppliedTold (cond t (record a { world = change h a.world })
-              (with_fault system command (kind.NotAlive h) a))
-              (cond t (record b { entities = change_alone (name h) b.entities })
-              (record b {
-                faults = b.faults ++ record { system = system; command = command } ∷ [];
-              }))
-          by b lives = grind (arith, common_steps, all_zipped_more)
+          grind (arith, common_steps, all_zipped_more, same, is_told h a.world b.entities)
 
       -- each of the handles in turn
       each-told : (hs : List Handle) (a : Applied) (b : AppliedAlone) → All (IsThere start) hs → AreAppliedTold a b
@@ -186,34 +157,28 @@ module _ (start : EntityMap) (name : Handle → Birth) (distinct : AreDistinct n
     command-told : (c : Command) (d : BirthCommand) (a : Applied) (b : AppliedAlone) → IsNamedBy name start c d
         → AreAppliedTold a b → AreAppliedTold (after_command system command c a)
         (after_birth_command system command d b)
-    command-told (Spawn h items) d a b is before = rw is.1 (entity-told (after_insert items) (inserted items)
-        (insert-told items) h a b is.0 before)
-    command-told (SpawnMany hs items) d a b is before = rw is.1 (each-told (after_insert items) (inserted items)
-        (insert-told items) hs a b is.0 before)
-    command-told (Insert h items) d a b is before = rw is.1 (entity-told (after_insert items) (inserted items)
-        (insert-told items) h a b is.0 before)
-    command-told (Remove h id) d a b is before = rw is.1 (entity-told (after_remove id) (removed id) (remove-told id) h
-        a b is.0 before)
-    command-told (Despawn h) d a b is before = rw is.1 (entity-told after_despawn despawned gone-told h a b is.0 before)
+    command-told (Spawn h items) d a b is before = rw is.1 (search (rules, entity-told, insert-told))
+    command-told (SpawnMany hs items) d a b is before = rw is.1 (search (rules, each-told, insert-told))
+    command-told (Insert h items) d a b is before = rw is.1 (search (rules, entity-told, insert-told))
+    command-told (Remove h id) d a b is before = rw is.1 (search (rules, entity-told, remove-told))
+    command-told (Despawn h) d a b is before = rw is.1 (search (rules, entity-told, gone-told))
     command-told (Refused wanted why) d a b is before = absurd is
 
   -- the commands of a queue
   commands-told : (system command : ℕ) (q : List Command) (r : List BirthCommand) (a : Applied) (b : AppliedAlone)
       → AllZip (IsNamedBy name start) q r → AreAppliedTold a b → AreAppliedTold (after_commands system command q a)
       (after_birth_commands system command r b)
-  commands-told system command [] r a b are before = search rules
-  commands-told system command (c ∷ q) [] a b are before = absurd are
   commands-told system command (c ∷ q) (d ∷ r) a b are before = search
       (rules, command-told, commands-told system (command + 1) q r)
+  commands-told _ _ _ _ a b are before = search rules
 
   -- one queue after the other
   queues-told : (system : ℕ) (queues : List (List Command)) (births : List (List BirthCommand)) (a : Applied)
       (b : AppliedAlone) → AreNamedBy name start queues births → AreAppliedTold a b
       → AreAppliedTold (after_queues system queues a) (after_birth_queues system births b)
-  queues-told system [] births a b are before = search rules
-  queues-told system (q ∷ queues) [] a b are before = absurd are
   queues-told system (q ∷ queues) (r ∷ births) a b are before = search
       (rules, commands-told, queues-told (system + 1) queues births)
+  queues-told _ _ _ a b are before = search rules
 
 -- ---- from what is named, and back
 
@@ -238,10 +203,6 @@ pub names_apart : (name : Handle → Birth) (m : EntityMap) (births : BirthMap) 
 names_apart name m births named names g h g_there h_there same = search
     (rules, birth_by_name name m g names g_there, birth_by_name name m h names h_there)
 
-told_at_start : (name : Handle → Birth) (m : EntityMap) (births : BirthMap) → AreNamed m births → AreNames name m
-    → AreTold m name m births
-told_at_start name m births named names = grind (arith, common_steps)
-
 named_at_end : (start : EntityMap) (name : Handle → Birth) (m : EntityMap) (births : BirthMap) → AreDistinct name start
     → AreTold start name m births → AreNamed m births
 named_at_end start name m births distinct after = record {
@@ -261,17 +222,8 @@ pub queues-named : (name : Handle → Birth) (system : ℕ) (queues : List (List
     → AreNamedBy name a.world.entities queues births → AreNamedAfter name (after_queues system queues a)
     (after_birth_queues system births b)
 queues-named name system queues births a b before are =
-    let start : EntityMap = a.world.entities in
-    let distinct = names_apart name start b.entities before.entities before.names in
-    let after = queues-told start name distinct system queues births a b are (record {
-      told = told_at_start name start b.entities before.entities before.names;
-      faults = before.faults;
-    }) in
+    let distinct = names_apart name a.world.entities b.entities before.entities before.names in
+    let told : AreTold a.world.entities name a.world.entities b.entities = grind (arith, common_steps) in
+    let after = queues-told a.world.entities name distinct system queues births a b are
+    (record { told = told; faults = before.faults }) in
     search (rules, named_at_end)
-
--- the same of a sync, from its births on
-pub sync-named : (name : Handle → Birth) (queues : List (List Command)) (births : List (List BirthCommand)) (w : World)
-    (m : BirthMap) → AreNamed (after_births queues w).entities m → AreNames name (after_births queues w).entities
-    → AreNamedBy name (after_births queues w).entities queues births
-    → AreNamedAfter name (sync queues w) (after_birth_queues 0 births (record { entities = m; faults = [] }))
-sync-named name queues births w m named names are = search (rules, queues-named)

@@ -1,13 +1,94 @@
 -- The steps of one law, and so one file of more than 400 lines: a whole frame does to births alone
 -- what it does to the world, if its queues list just what was reserved. Each handle has one birth,
 -- by where it stands in a queue.
-use Rattle.ent_world.proofs.Common.{list_any-IsPermutation, common_steps, [], rules, ◌≡◌, refl, sym, ap, ◌∙◌, subst, ℕ, ◌+◌, ◌^◌, ◌<◌, ◌≤◌, Bool, true, cond, List, ◌∷◌, map, length, All, Some, None, is_some, arith, AllZip, list_any, position_from, eq_by_cmp, find, map-append, list_any-append, All-head, All-tail, none-some, Birth, birth_cmp, Handle, handle_cmp, handle_cmp_total, stands_in, born, same_handle, itself, born-IsPermutation, EntityMap, newborn, Command, World, IsWorld, listed_by, handles_listed, listed_birth, birth_in, after_births, sync, BirthMap, BirthCommand, births_of, births_in, entered_alone, frame_alone, AreNamed, AreNames, IsNamedBy, AreNamedBy, AreNamedAfter, AreBelow, AreListed, applied}
+use Rattle.ent_world.proofs.Common.{list_any-IsPermutation, common_steps, [], rules, ◌≡◌, refl, sym, ap, ◌∙◌, ℕ, ◌+◌, ◌^◌, ◌<◌, ◌≤◌, Bool, true, cond, List, ◌∷◌, map, length, All, Some, None, is_some, arith, AllZip, list_any, position_from, eq_by_cmp, find, map-append, list_any-append, All-head, All-tail, none-some, Birth, birth_cmp, Handle, handle_cmp, handle_cmp_total, stands_in, born, same_handle, itself, born-IsPermutation, EntityMap, newborn, Command, World, IsWorld, listed_by, handles_listed, listed_birth, birth_in, after_births, sync, BirthMap, BirthCommand, births_of, births_in, entered_alone, frame_alone, AreNamed, AreNames, IsNamedBy, AreNamedBy, AreNamedAfter, AreBelow, AreListed, applied, false, T, true≢false, ℤ, ◌⊎◌, option_map, or_right, put, is_sorted, find-put, is_sorted-put, eq_by_cmp_equiv, tells_apart, same_Some, ComponentId, birth_cmp_total, component_cmp, Entity, birth_of, Bundle, with_born}
 use Rattle.std.proofs.Common.{flat_map}
-use Rattle.std.specs.FinMap as finite
 use Rattle.ent_world.proofs.Kept.{IsKept, after_queues-keeps}
-use Rattle.ent_world.proofs.Named.{some_there, entity_there, entity_with, sync-named}
-use Rattle.ent_world.proofs.NamedBirths.{entered-named}
+use Rattle.ent_world.proofs.Numbered.{some_position}
+use Rattle.ent_world.proofs.Named.{some_there, entity_there, entity_with, queues-named}
 use Rattle.ent_world.proofs.Born.{get-with_born, no_entity, born-absent}
+use Rattle.std.specs.FinMap as finite
+
+-- ---- what enters
+
+find-entered : (b : Birth) (bs : List Birth) (m : BirthMap) → find birth_cmp b (entered_alone bs m) ≡ cond (list_any
+    (eq_by_cmp birth_cmp b) bs) (Some []) (find birth_cmp b m)
+find-entered b [] m = refl
+find-entered b (c ∷ bs) m = grind
+    (arith, common_steps, find-entered b bs (put birth_cmp c [] m), find-put birth_cmp birth_cmp_total b c [] m)
+
+rising-entered : (bs : List Birth) (m : BirthMap) → T (is_sorted birth_cmp m)
+    → T (is_sorted birth_cmp (entered_alone bs m))
+rising-entered [] m rising = rising
+rising-entered (b ∷ bs) m rising = rising-entered bs (put birth_cmp b [] m)
+    (is_sorted-put birth_cmp birth_cmp_total b [] m rising)
+
+no_items : (es : List (ComponentId × ℤ)) → length es ≡ 0 → es ≡ []
+no_items es none = grind (arith, common_steps)
+
+entries-empty : finite.entries (finite.empty {X = ℤ} {R = component_cmp}) ≡ []
+entries-empty = search
+    (rules, no_items, finite.len-entries (finite.empty {X = ℤ} {R = component_cmp}), finite.len-empty)
+
+-- ---- a list of handles, and of their births
+
+-- the handle in the list whose birth it is
+abbrev Owner : (Handle → Birth) → List Handle → Birth → Type 0
+Owner birth hs b = (h : Handle) × ((stands_in hs h ≡ true) × (birth h ≡ b))
+
+-- a birth that stands among them is that of one of them
+owner : (birth : Handle → Birth) (hs : List Handle) (b : Birth) → list_any (eq_by_cmp birth_cmp b) (map birth hs) ≡ true
+    → Owner birth hs b
+owner birth [] b there = absurd (true≢false (sym there))
+owner birth (h ∷ hs) b there = search (rules, itself, tells_apart, or_right, owner birth hs b)
+
+owned : (birth : Handle → Birth) (hs : List Handle) (h : Handle) → stands_in hs h ≡ true
+    → list_any (eq_by_cmp birth_cmp (birth h)) (map birth hs) ≡ true
+owned birth [] h there = absurd (true≢false (sym there))
+owned birth (g ∷ hs) h there = grind
+    (arith, common_steps, owned birth hs h, same_handle h g, (eq_by_cmp_equiv birth_cmp_total).refl (birth h))
+
+-- ---- a map, and births that tell it, after some have entered
+
+-- Handles that are not there enter with new births, each with its own.
+module _ (birth : Handle → Birth) (born listed : List Handle) (m : EntityMap) (births : BirthMap)
+    (named : AreNamed m births) (same : (h : Handle) → stands_in listed h ≡ stands_in born h)
+    (fresh : (h : Handle) → stands_in born h ≡ true → finite.get m h ≡ None)
+    (new : (h : Handle) → stands_in born h ≡ true → find birth_cmp (birth h) births ≡ None)
+    (own : (g h : Handle) → stands_in born g ≡ true → stands_in born h ≡ true → birth g ≡ birth h → g ≡ h) where
+  abbrev after : EntityMap
+  after = with_born m birth born
+
+  abbrev entered : BirthMap
+  entered = entered_alone (map birth listed) births
+
+  abbrev among : Birth → Bool
+  among b = list_any (eq_by_cmp birth_cmp b) (map birth listed)
+
+  found : (b : Birth) → find birth_cmp b entered ≡ cond (among b) (Some []) (find birth_cmp b births)
+  found b = find-entered b (map birth listed) births
+
+  -- an entity was born, or was there
+  abbrev IsBornOrOld : Handle → Entity → Type 0
+  IsBornOrOld h e = ((stands_in born h ≡ true) × (newborn (birth h) ≡ e)) ⊎ (finite.get m h ≡ Some e)
+
+  of_entity : (h : Handle) (e : Entity) → finite.get after h ≡ Some e → IsBornOrOld h e
+  of_entity h e is = grind (arith, common_steps, get-with_born, same_Some)
+
+  -- births that were there are not among the new ones
+  not_among : (b : Birth) (items : Bundle) → find birth_cmp b births ≡ Some items → among b ≡ false
+  not_among b items is = grind (arith, common_steps, owner, none-some)
+
+  birth_from : (h : Handle) (e : Entity) → finite.get m h ≡ Some e → birth_of m h ≡ Some e.birth
+  birth_from h e is = ap (λ o. option_map (λ e. e.birth) o) is
+
+  pub entered-named : AreNamed (with_born m birth born) (entered_alone (map birth listed) births)
+  entered-named = record {
+    rising = rising-entered (map birth listed) births named.rising;
+    there = λ h e is. search (rules, found, owned, entries-empty, not_among, of_entity h e is);
+    apart = λ g h b g_is h_is. search (rules, entity_with, birth_from, of_entity);
+    only = λ b items is. search (rules, found b, owner birth listed b, entity_with, get-with_born, none-some, same);
+  }
 
 -- ---- positions in a list
 
@@ -23,11 +104,6 @@ position_own : (g h : Handle) (i : ℕ) (hs : List Handle) (k : ℕ) → positio
 position_own g h i [] k g_is h_is = absurd (none-some k g_is)
 position_own g h i (x ∷ hs) k g_is h_is = grind
     (arith, common_steps, same_handle, position_bounds, position_own g h (i + 1) hs k)
-
--- who stands in a list has an index in it
-some_position : (t : Handle → Bool) (i : ℕ) (hs : List Handle) → is_some (position_from t i hs) ≡ list_any t hs
-some_position t i [] = refl
-some_position t i (h ∷ hs) = grind (arith, common_steps, some_position t (i + 1) hs)
 
 -- ---- the births of what queues list
 
@@ -79,10 +155,9 @@ queue_births name m (c ∷ q) r are = search (rules, command_births, map-append,
 pub queues_births : (name : Handle → Birth) (m : EntityMap) (queues : List (List Command))
     (births : List (List BirthCommand)) → AreNamedBy name m queues births
     → births_in births ≡ map name (flat_map handles_listed queues)
-queues_births name m [] births are = search rules
-queues_births name m (q ∷ queues) [] are = absurd are
 queues_births name m (q ∷ queues) (r ∷ births) are = search
     (rules, queue_births name m q r are.0, map-append, queues_births name m queues births are.1)
+queues_births name m _ _ are = search rules
 
 -- two ways to name the same handles
 map_alike : (f g : Handle → Birth) (hs : List Handle) → ((h : Handle) → stands_in hs h ≡ true → f h ≡ g h)
@@ -114,9 +189,7 @@ module _ (queues : List (List Command)) (w : World) (view : BirthMap) (is_world 
 
   -- who is born has the birth of its position
   placed : (h : Handle) → IsBorn h → (b : Birth) × ((listed_birth w.phase 0 queues h ≡ Some b) × (birth h ≡ b))
-  placed h there =
-      let one = some_there (listed_birth w.phase 0 queues h) (listed_some w.phase 0 queues h ∙ listed_born h ∙ there) in
-      (one.0, (one.1, birth_is h one.0 one.1))
+  placed h there = search (rules, some_there, listed_some w.phase 0 queues, listed_born, birth_is)
 
   was_not_there : (h : Handle) → IsBorn h → finite.get w.entities h ≡ None
   was_not_there h there = search (rules, no_entity, born-absent)
@@ -136,20 +209,17 @@ module _ (queues : List (List Command)) (w : World) (view : BirthMap) (is_world 
       (births : List (List BirthCommand)) (are : AreNamedBy name (after_births queues w).entities queues births) where
     named_birth : (h : Handle) → IsBorn h → birth h ≡ name h
     unfolding birth
-    named_birth h there = sym (names h (newborn (birth h)) (get-with_born birth (born w.allocator) w.entities h ∙ ap
-        (λ t. cond t (Some (newborn (birth h))) (finite.get w.entities h)) there))
+    named_birth h there = search (rules, names h (newborn (birth h)), get-with_born)
 
     -- the births of the queues by names are those with which the handles enter
     births_are : map birth (flat_map handles_listed queues) ≡ births_in births
-    births_are = map_alike birth name (flat_map handles_listed queues)
-        (λ h there. named_birth h (sym (listed_born h) ∙ there))
-        ∙ sym (queues_births name (after_births queues w).entities queues births are)
+    births_are = rw (queues_births name (after_births queues w).entities queues births are)
+        (map_alike birth name (flat_map handles_listed queues) (λ h there. search (rules, named_birth, listed_born)))
 
     -- Births that are those of a world tell what a frame does to it.
     pub frame-named : AreNamedAfter name (sync queues w) (frame_alone births view)
-    frame-named = sync-named name queues births w (entered_alone (births_in births) view)
-        (subst (λ bs. AreNamed (after_births queues w).entities (entered_alone bs view)) births_are births-named) names
-        are
+    frame-named = queues-named name 0 queues births (applied (after_births queues w) []) _
+        (record { entities = rw births_are at births-named; names = names; faults = tt }) are
 
 -- ---- the births stay below the number of the next phase
 
@@ -171,9 +241,5 @@ below-kept phase = record {
 pub sync-below : (queues : List (List Command)) (w : World) → AreBelow w.phase w.entities
     → AreBelow (w.phase + 1) (sync queues w).world.entities
 sync-below queues w below = after_queues-keeps (λ w'. AreBelow (w.phase + 1) w'.entities) (below-kept (w.phase + 1)) 0
-    queues (applied (after_births queues w) []) (λ h e is. grind (
-      arith,
-      common_steps,
-      get-with_born (birth_in w.phase queues (born w.allocator)) (born w.allocator) w.entities h,
-      listed_parts w.phase 0 queues h,
-    ))
+    queues (applied (after_births queues w) [])
+    (λ h e is. grind (arith, common_steps, get-with_born, listed_parts w.phase 0 queues h))

@@ -1,12 +1,10 @@
 -- The entities of a world in the order of births are those of the births that tell it, in order.
-use Rattle.ent_world.proofs.Common.{common_steps, [], arith, rules, ◌≡◌, refl, sym, ap, ◌∙◌, Bool, true, cond, ◌&&◌, T, true≢false, List, ◌∷◌, map, filter, All, AllPairs, Option, Some, None, is_some, option_map, unwrap_or, IsSomeAnd, IsTrue, or_right, eq_by_cmp, is_lt, Less, find, is_sorted, below_all, same_entries, tied_itself, eq_by_cmp_equiv, All-head, All-tail, All-contains_itself, tells_apart, Birth, birth_cmp, birth_cmp_total, birth_cmp-IsAntisymmetric, Handle, handle_cmp_total, stands_in, itself, same_handle, Contains-from_stands_in, stands_in-from_Contains, AllPairs-head, AllPairs-tail, is_sorted-filter, find-filter, passed, birth_order, ListsByBirth, Entity, EntityMap, Bundle, BirthMap, AreNamed, AreNames, IsThere}
+use Rattle.ent_world.proofs.Common.{common_steps, [], arith, rules, ◌≡◌, refl, sym, ap, ◌∙◌, Bool, true, T, true≢false, List, ◌∷◌, map, filter, All, AllPairs, Option, Some, None, is_some, option_map, unwrap_or, IsSomeAnd, IsTrue, or_right, is_lt, Less, find, is_sorted, below_all, same_entries, tied_itself, eq_by_cmp_equiv, All-head, All-tail, All-contains_itself, tells_apart, Birth, birth_cmp, birth_cmp_total, birth_cmp-IsAntisymmetric, Handle, handle_cmp_total, stands_in, itself, same_handle, Contains-from_stands_in, stands_in-from_Contains, AllPairs-head, AllPairs-tail, is_sorted-filter, find-filter, passed, birth_order, ListsByBirth, Entity, EntityMap, Bundle, BirthMap, AreNamed, AreNames, IsThere}
 use Rattle.std.specs.FinMap as finite
+use Rattle.ent_world.proofs.ImageKeys.{both}
 use Rattle.ent_world.proofs.Named.{entity_with, birth_by_name, names_apart}
 
 -- ---- handles in the order of births
-
-both : (a b : Bool) → T a → T b → T (a && b)
-both a b p q = search rules
 
 module _ (name : Handle → Birth) (m : EntityMap) (births : BirthMap) (named : AreNamed m births)
     (names : AreNames name m) where
@@ -39,27 +37,15 @@ module _ (name : Handle → Birth) (m : EntityMap) (births : BirthMap) (named : 
   sorted-names [] rising all = tt
   sorted-names (h ∷ hs) rising all =
       let tail = All-tail (IsThere m) h hs all in
-      both _ _
-      (search (
-        rules,
-        below-names h (All-head (IsThere m) h hs all) hs,
-        AllPairs-head (λ g h. birth_order m g h ≡ Less) h hs rising,
-        tail,
-      )) (sorted-names hs (AllPairs-tail (λ g h. birth_order m g h ≡ Less) h hs rising) tail)
+      let less = AllPairs-head (λ g h. birth_order m g h ≡ Less) h hs rising in
+      let rest = sorted-names hs (AllPairs-tail (λ g h. birth_order m g h ≡ Less) h hs rising) tail in
+      search (rules, both, below-names h, All-head, less, rest, tail)
 
   -- a birth that is found is the name of one of the handles
   found_name : (hs : List Handle) (q : Birth) (o : Option Bundle) → find birth_cmp q (map entry_of hs) ≡ o
       → is_some o ≡ true → (h : Handle) × ((stands_in hs h ≡ true) × ((name h ≡ q) × (o ≡ Some (items_of h))))
   found_name [] q o is some = absurd (true≢false (sym some ∙ ap is_some (sym is)))
-  found_name (h ∷ hs) q o is some = by (eq_by_cmp birth_cmp q (name h)) refl is (λ rest. found_name hs q o rest some)
-    where
-      by : (b : Bool) → eq_by_cmp birth_cmp q (name h) ≡ b
-          → cond b (Some (items_of h)) (find birth_cmp q (map entry_of hs)) ≡ o
-          → (find birth_cmp q (map entry_of hs) ≡ o
-          → (g : Handle) × ((stands_in hs g ≡ true) × ((name g ≡ q) × (o ≡ Some (items_of g)))))
-          → (g : Handle) × ((stands_in (h ∷ hs) g ≡ true)
-          × ((name g ≡ q) × (o ≡ Some (items_of g))))
-      by b tied here later = search (rules, itself, tells_apart birth_cmp-IsAntisymmetric, or_right)
+  found_name (h ∷ hs) q o is some = search (rules, itself, tells_apart, or_right, found_name hs q o)
 
   -- and the name of each of them is found
   name_found : (hs : List Handle) (h : Handle) → stands_in hs h ≡ true
@@ -91,27 +77,23 @@ module _ (name : Handle → Birth) (m : EntityMap) (births : BirthMap) (named : 
     none_kept q none None is = refl
     none_kept q none (Some items) is =
         let one = named.only q items is in
-        let old = entity_with m one.0 q one.1 in
         let h = one.0 in
-        let e = old.0 in
-        let told = named.there h e old.1.0 in
-        let same = names h e old.1.0 in
+        let old = entity_with m h q one.1 in
+        let told = named.there h old.0 old.1.0 in
+        let same = names h old.0 old.1.0 in
         let has = (lists.holds h).1 in
-        grind (arith, common_steps, alike e, name_found handles h, stands_in-from_Contains handles h)
+        grind (arith, common_steps, alike old.0, name_found handles h, stands_in-from_Contains handles h)
 
     found_alike : (q : Birth) → find birth_cmp q (map entry_of handles) ≡ kept q (find birth_cmp q births)
     found_alike q = by (find birth_cmp q (map entry_of handles)) refl
       where
-        by : (o : Option Bundle) → find birth_cmp q (map entry_of handles) ≡ o
-            → find birth_cmp q (map entry_of handles) ≡ kept q (find birth_cmp q births)
-        by None none = none ∙ sym (none_kept q none (find birth_cmp q births) refl)
+        by : (o : Option Bundle) → find birth_cmp q (map entry_of handles) ≡ o → o ≡ kept q (find birth_cmp q births)
+        by None none = search (rules, none_kept)
         by (Some v) is =
             let one = found_name handles q (Some v) is refl in
-            let old = entity_of passes (finite.get m one.0)
-            ((lists.holds one.0).0 (Contains-from_stands_in handles one.0 one.1.0)) in
-            let told = named.there one.0 old.0 old.1.0 in
-            let same = names one.0 old.0 old.1.0 in
-            grind (arith, common_steps, alike old.0)
+            let has = Contains-from_stands_in handles one.0 one.1.0 in
+            let old = entity_of passes (finite.get m one.0) ((lists.holds one.0).0 has) in
+            grind (arith, common_steps, named.there one.0 old.0, names one.0 old.0, alike old.0)
 
     pub listed-named : map entry_of handles ≡ filter (λ entry. test entry.1) births
     listed-named = same_entries birth_cmp birth_cmp_total birth_cmp-IsAntisymmetric _ _

@@ -1,28 +1,54 @@
 -- The rows of entities stay their places, after each change of the two, and there are as many places
 -- as handles live.
-use Rattle.ent_world.proofs.Common.{false_from_ne_true, cases_lt, common_steps, [], rules, ◌≡◌, ◌≢◌, refl, sym, ap, ◌∙◌, ℕ, suc, ◌+◌, ◌-◌, ◌<◌, ◌≤◌, ◌^◌, true, false, true≢false, ◌⊎◌, inl, inr, List, ◌∷◌, ◌++◌, length, slice_get, Option, Some, None, is_some, arith, append-nil, append_assoc, none-some, same_Some, slice_get_within, slice_get-get_or, Birth, Handle, handle_cmp, total, same, Allocator, stands_in, born, after_flush, IsSound, retired-rest, after_flush-sound, Components, Entity, EntityMap, newborn, with_components, AreWithout, at_push_before, at_push_end, at_pushed, same_number, same_or_apart, get-insert_same, get-insert_other, get-remove_same, get-remove_other, AreLiving, with_born, AreNew, first_birth, Rows, ArePlaces, AreRows, with_rows, with_moved}
+use Rattle.ent_world.proofs.Common.{false_from_ne_true, cases_lt, common_steps, [], rules, ◌≡◌, ◌≢◌, refl, sym, ap, ◌∙◌, ℕ, suc, ◌+◌, ◌-◌, ◌<◌, ◌≤◌, ◌^◌, true, false, true≢false, ◌⊎◌, inl, inr, List, ◌∷◌, ◌++◌, length, slice_get, Option, Some, None, is_some, arith, append-nil, append_assoc, none-some, same_Some, slice_get_within, slice_get-get_or, Birth, Handle, handle_cmp, total, same, Allocator, stands_in, born, after_flush, IsSound, retired-rest, after_flush-sound, Entity, EntityMap, newborn, AreWithout, at_push_before, at_push_end, at_pushed, same_number, same_or_apart, get-insert_same, get-insert_other, get-remove_same, get-remove_other, AreLiving, with_born, AreNew, first_birth, Rows, ArePlaces, AreRows, with_rows, with_moved, zero, drop, handle_cmp_total, same_handle, itself}
 use Rattle.std.proofs.Common.{length-append}
-use Rattle.std.specs.FinSet as set
-use Rattle.std.specs.FinMap as map
-use Rattle.ent_world.proofs.Living.{same_keys-components}
 use Rattle.ent_world.proofs.Born.{born-new, living-after}
 use Rattle.ent_world.proofs.Numbered.{AreDistinct}
-use Rattle.ent_world.proofs.Room.{new_later, stands_at, place_of}
+use Rattle.std.specs.FinSet as set
+use Rattle.std.specs.FinMap as map
+
+-- the others are new still
+pub new_later : (h : Handle) (e : Entity) (hs : List Handle) (m : EntityMap) → stands_in hs h ≡ false → AreNew hs m
+    → AreNew hs (map.insert m h e)
+new_later h e [] m none new = tt
+new_later h e (g ∷ hs) m none new = grind
+    (arith, common_steps, map.get-insert handle_cmp_total m h e g, same_handle g h, itself h, new_later h e hs m)
+
+-- The places from one on.
+
+slice_get-drop : (places : List Handle) (n i : ℕ) → slice_get (drop n places) i ≡ slice_get places (n + i)
+slice_get-drop places zero i = search rules
+slice_get-drop [] (suc n) i = refl
+slice_get-drop (x ∷ places) (suc n) i = search (rules, slice_get-drop places n i)
+
+pub stands_at : (places : List Handle) (i : ℕ) (h : Handle) → slice_get places i ≡ Some h → stands_in places h ≡ true
+stands_at [] i h is = absurd (none-some h is)
+stands_at (x ∷ places) zero h is = search (rules, same_Some, itself)
+stands_at (x ∷ places) (suc i) h is = search (rules, stands_at places i h is)
+
+pub place_of : (places : List Handle) (h : Handle) → stands_in places h ≡ true → (i : ℕ) × (slice_get places i ≡ Some h)
+place_of [] h none = absurd (true≢false (sym none))
+place_of (x ∷ places) h there =
+    let either : (x ≡ h) ⊎ (stands_in places h ≡ true) = grind (arith, common_steps, same_handle h x) in
+    elim either [ | inl is ↦ (0, ap Some is) | inr rest ↦ let one = place_of places h rest in (suc one.0, one.1) ]
+
+pub stands_from : (places : List Handle) (n i : ℕ) (h : Handle) → slice_get places i ≡ Some h → n ≤ i
+    → stands_in (drop n places) h ≡ true
+stands_from places n i h is after = search (rules, arith, stands_at (drop n places) (i - n), slice_get-drop)
+
+-- a handle that stands before, and at no other place
+pub stands_before : (places : List Handle) (n i : ℕ) (h : Handle) → ((k : ℕ) → slice_get places k ≡ Some h → Some i
+    ≡ Some k) → i < n → stands_in (drop n places) h ≡ false
+stands_before places n i h once before = search (rules, place_of, same_Some, slice_get-drop)
+
+-- a handle that stands at no place
+pub stands_nowhere : (places : List Handle) (n : ℕ) (h : Handle) → ((k : ℕ) → slice_get places k ≢ Some h)
+    → stands_in (drop n places) h ≡ false
+stands_nowhere places n h nowhere = search (rules, place_of, slice_get-drop)
 
 -- nobody
 pub rows-empty : AreRows map.empty [] map.empty
-rows-empty = record {
-  at =
-      λ h place.
-      (λ is. absurd (none-some place (sym (map.get-empty handle_cmp h) ∙ is)), λ is. absurd (none-some h is));
-  each = λ h. ap is_some (map.get-empty handle_cmp h) ∙ sym (ap is_some (map.get-empty handle_cmp h));
-}
-
--- other components of an entity
-pub rows-components : (rows : Rows) (places left : List Handle) (m n : EntityMap) (h : Handle)
-    (change : Components → Components) → AreRows rows places m → left ≡ places → n ≡ with_components m h change
-    → AreRows rows left n
-rows-components rows places left m n h change are stay changed = search (rules, same_keys-components)
+rows-empty = search (rules, none-some, map.get-empty)
 
 -- one entity more, at the next place
 module _ (rows : Rows) (places : List Handle) (m : EntityMap) (h : Handle) (e : Entity) (are : AreRows rows places m)
@@ -42,13 +68,9 @@ module _ (rows : Rows) (places : List Handle) (m : EntityMap) (h : Handle) (e : 
 
   pub rows-insert : AreRows with_one (places ++ h ∷ []) (map.insert m h e)
   rows-insert = record {
-    at =
-        λ g place. (
-          λ is. has_row g place is (same_or_apart total same g h),
-          λ is. stands g place is (cases_lt place (length places)),
-        );
-    each = λ g. let each = are.each g in grind
-        (arith, common_steps, map.get-insert total rows h (length places) g, map.get-insert total m h e g);
+    at = search (rules, has_row, stands, same_or_apart total same, cases_lt);
+    each = λ g. grind
+        (arith, common_steps, are.each g, map.get-insert total rows h (length places), map.get-insert total m h e);
   }
 
 -- all that are born, one after the other
@@ -59,8 +81,7 @@ rows-born birth [] rows places m are new = search (rules, append-nil)
 rows-born birth (h ∷ hs) rows places m are new =
     let e = newborn (birth h) in
     let one = rows-insert rows places m h e are new.0 in
-    let rest = rows-born birth hs (map.insert rows h (length places)) (places ++ h ∷ []) (map.insert m h e) one
-    (new_later h e hs m new.1 new.2) in
+    let rest = rows-born birth hs _ (places ++ h ∷ []) _ one (new_later h e hs m new.1 new.2) in
     search (rules, length-append, append_assoc)
 
 -- an entity is taken out, and the last one moves into its place
@@ -132,8 +153,7 @@ module _ (rows : Rows) (places left : List Handle) (m : EntityMap) (h : Handle) 
 
     each_moved : (g : Handle) → (g ≡ x) ⊎ (g ≢ x) → map.contains_key (map.insert gone x place) g
         ≡ map.contains_key gone g
-    each_moved g (inl e) = search (rules, get-insert_same, had_row)
-    each_moved g (inr n) = ap is_some (get-insert_other total same gone x place g n)
+    each_moved g which = search (rules, get-insert_same total same, get-insert_other total same, had_row)
 
     rows-moved : AreRows (map.insert gone x place) left (map.remove m h)
     rows-moved = search (rules, row_there, same_or_apart, there_row, same_number, each_moved, each_gone)
@@ -153,16 +173,13 @@ distinct_places : (xs : List Handle) → ((h : Handle) (i j : ℕ) → slice_get
     → i ≡ j) → AreDistinct xs
 distinct_places [] once = tt
 distinct_places (x ∷ xs) once = (
-  false_from_ne_true _ (λ there.
-      let other = place_of xs x there in let twice = once x 0 (suc other.0) refl other.1 in omega arith),
+  false_from_ne_true _ (λ there. let other = place_of xs x there in cc (once x 0 (suc other.0) refl other.1)),
   distinct_places xs (λ h i j first second. let next = once h (suc i) (suc j) first second in omega arith),
 )
 
 len_distinct : (xs : List Handle) → AreDistinct xs → set.len {R = handle_cmp} (set.from_list xs) ≡ length xs
 len_distinct [] once = set.len-empty handle_cmp
-len_distinct (x ∷ xs) once =
-    let rest = len_distinct xs once.1 in
-    grind (arith, common_steps, set.contains-from_list total xs x, set.len-insert total (set.from_list xs) x)
+len_distinct (x ∷ xs) once = search (rules, len_distinct xs, set.contains-from_list total, set.len-insert total)
 
 -- who has a row stands among the places
 pub rows_stand : (rows : Rows) (places : List Handle) → ArePlaces rows places → (h : Handle)
@@ -178,11 +195,8 @@ pub rows-count : (s : Allocator) (rows : Rows) (places : List Handle) (m : Entit
     → AreLiving s m → set.len s.live ≡ length places
 rows-count s rows places m are living =
     let listed : s.live ≡ set.from_list places = set.same_set total same _ _ (λ q.
-    let each = are.each q in
-    let lives = living q in
-    cc (rows_stand rows places are.at q, set.contains-from_list total places q)) in
-    ap (λ l. set.len l) listed ∙ len_distinct places (distinct_places places
-    (λ h i j first second. same_Some _ _ (sym ((are.at h i).1 first) ∙ (are.at h j).1 second)))
+    cc (are.each q, living q, rows_stand rows places are.at q, set.contains-from_list total places q)) in
+    rw listed (len_distinct places (distinct_places places (λ h i j. search (rules, same_Some, are.at h))))
 
 -- no more live than there are slots
 few_live : (s : Allocator) → IsSound s → set.len s.live < 2 ^ 32
@@ -192,9 +206,7 @@ few_live s sound = search (rules, retired-rest)
 pub born-fit : (s : Allocator) (rows : Rows) (places : List Handle) (m : EntityMap) → IsSound s → AreLiving s m
     → AreRows rows places m → length places + length (born s) < 2 ^ 32
 born-fit s rows places m sound living are =
-    let birth : Handle → Birth = λ _. first_birth 0 0 in
-    let after = rows-born birth (born s) rows places m are (born-new s m sound living) in
-    let count = rows-count (after_flush s) (with_rows rows (length places) (born s)) (places ++ born s)
-    (with_born m birth (born s)) after (living-after s m sound living birth) in
+    let after = rows-born (λ _. first_birth 0 0) (born s) rows places m are (born-new s m sound living) in
+    let count = rows-count (after_flush s) _ _ _ after (living-after s m sound living (λ _. first_birth 0 0)) in
     let few = few_live (after_flush s) (after_flush-sound s sound) in
     search (rules, length-append)

@@ -1,5 +1,5 @@
 -- How many slots wait after each step of an allocator, against the room that a storage has.
-use Rattle.ent_world.proofs.Common.{[], rules, ◌≡◌, sym, ap, ◌∙◌, ℕ, zero, suc, ◌+◌, ◌-◌, ◌≤◌, ◌<◌, true, false, List, ◌∷◌, ◌++◌, length, drop, filter, slice_get, arith, Some, All, common_steps, filter_passes, All-head, Handle, Allocator, available, top, is_old, fresh, after_flush, after_alloc, after_free, IsSound, Call, after_history, after_history-takes, top-after_takes, retired-rest, after_flush-sound, after_alloc-sound, length-available, made-after_flush}
+use Rattle.ent_world.proofs.Common.{[], rules, ◌≡◌, sym, ap, ◌∙◌, ℕ, ◌+◌, ◌-◌, ◌≤◌, ◌<◌, true, false, List, ◌∷◌, ◌++◌, length, drop, filter, slice_get, arith, Some, All, common_steps, filter_passes, All-head, Handle, Allocator, available, top, is_old, fresh, after_flush, after_alloc, after_free, IsSound, Call, after_history, after_history-takes, top-after_takes, retired-rest, after_flush-sound, after_alloc-sound, length-available, made-after_flush, ◌⊎◌, ◌^◌, min, sum_by, sum_by-cons, Blocks, dealt, blocks_from, lesser, dealt_from, Store, IsKeptInBlocks, AreRows, Rows, IsWorld}
 use Rattle.std.proofs.Common.{length-append}
 use Rattle.std.specs.FinSet as set
 
@@ -14,16 +14,13 @@ some_made s least sound waits = search (rules, retired-rest)
 -- a copy has as much room as the storage, or there is no slot that could wait
 pub room_copied : (s : Allocator) (made spare copy : ℕ) → IsSound s → made ≡ s.made → top s ≤ spare
     → (0 < made → spare ≤ copy) → top s ≤ copy
-room_copied s zero spare copy sound is room keeps = none_made s copy sound (sym is)
-room_copied s (suc made) spare copy sound is room keeps = search rules
+room_copied s made spare copy sound is room keeps = grind (arith, common_steps, none_made)
 
 -- a flush takes old handles first
 pub top-after_flush : (s : Allocator) → IsSound s → top (after_flush s) ≡ top s - length s.taken
 top-after_flush s sound =
-    let after = after_flush-sound s sound in
     let before = length-available s sound in
-    let left : length (s.aside ++ s.pool) ≡ top (after_flush s)
-    + (s.limits.slots - (after_flush s).made) = length-available (after_flush s) after in
+    let left = length-available (after_flush s) (after_flush-sound s sound) in
     grind (arith, common_steps, length-append s.taken (s.aside ++ s.pool), made-after_flush s sound)
 
 -- with room for all that are born, room is left for each slot that waits then
@@ -46,15 +43,10 @@ top-after_alloc s h rest sound flushed pool =
     let before = length-available s sound in
     let left = length-available (after_alloc s h) after in
     let most = after.made in
-    grind (
-      arith,
-      common_steps,
-      length-append,
-      none_waits s h rest (filter (is_old s.made) (available s)) all sound.order
-          (filter_passes (is_old s.made) (available s)),
-    )
+    let old = filter_passes (is_old s.made) (available s) in
+    grind (arith, common_steps, length-append, none_waits s h rest (filter (is_old s.made) (available s)))
 
-front : (pool : List Handle) (h : Handle) → slice_get pool 0 ≡ Some h → (rest : List Handle) × (pool ≡ h ∷ rest)
+pub front : (pool : List Handle) (h : Handle) → slice_get pool 0 ≡ Some h → (rest : List Handle) × (pool ≡ h ∷ rest)
 front [] h none = cc
 front (g ∷ rest) h first = let same : g ≡ h = cc in (rest, ap (λ x. x ∷ rest) same)
 
@@ -71,3 +63,34 @@ room-after_free s h spare left sound flushed lived room more = grind (arith, com
 -- reservations change nothing of it
 pub top-after_history : (s : Allocator) (history : List Call) → IsSound s → top (after_history s history) ≡ top s
 top-after_history s history sound = search (rules, after_history-takes, top-after_takes)
+
+-- The room that a world in blocks has for the slots that wait.
+
+dealt_wanted : (before left : ℕ) (sizes : List ℕ) → dealt (blocks_from before left sizes) ≤ sum_by (λ n. n) sizes
+dealt_wanted before left [] = omega arith
+dealt_wanted before left (n ∷ sizes) = grind
+    (arith, common_steps, sum_by-cons, dealt_wanted (before + lesser n left) (left - lesser n left) sizes)
+
+-- so much room is enough for all that is dealt
+pub enough : (left wanted : ℕ) (sizes : List ℕ) → left < 2 ^ 32 → (sum_by (λ n. n) sizes ≤ wanted) ⊎ (wanted ≡ 2 ^ 32
+    - 1) → dealt (blocks_from 0 left sizes) ≤ min wanted left
+enough left wanted sizes few some = grind (arith, common_steps, dealt_wanted 0 left sizes, dealt_from 0 left sizes)
+
+-- one size more
+pub one_more : (sum all more size : ℕ) → (sum ≤ all) ⊎ (all ≡ 2 ^ 32 - 1) → more ≡ min (all + size) (2 ^ 32 - 1)
+    → ((sum + size) ≤ more) ⊎ (more ≡ 2 ^ 32 - 1)
+one_more sum all more size some is = grind (arith, common_steps)
+
+-- sizes that want something are some
+pub some_wanted : (wanted : ℕ) (sizes : List ℕ) → wanted ≤ sum_by (λ n. n) sizes → 0 < wanted → 0 < length sizes
+some_wanted wanted sizes within some = grind (arith, common_steps)
+
+-- a world that is dealt in blocks, in a storage that has room for all that is dealt
+pub kept : (d : Blocks) (s : Allocator) (rows : Rows) (phase : ℕ) (before store : Store) (sizes : List ℕ) (wanted : ℕ)
+    → d.start ≡ s → d.rows ≡ rows → d.blocks ≡ blocks_from 0 (length s.pool) sizes
+    → IsWorld (record { allocator = s; phase = phase; entities = before.entities })
+    → AreRows rows before.places before.entities → top s ≤ before.spare → s.asked ≡ 0 → store.entities ≡ before.entities
+    → store.places ≡ before.places → before.spare ≤ store.spare → min wanted (length s.pool) ≤ store.spare
+    → length s.pool < 2 ^ 32 → (sum_by (λ n. n) sizes ≤ wanted) ⊎ (wanted ≡ 2 ^ 32 - 1) → IsKeptInBlocks d phase store
+kept d s rows phase before store sizes wanted start rows_are blocks world at room flushed entities places grows spare
+    few most = search (rules, enough)

@@ -1,5 +1,5 @@
 use Rattle.ent_world.proofs.Common.{true≢false, arith, common_steps, append_assoc, slice_get_read, drop_at}
-use Rattle.ent_world.proofs.Room.{new_later}
+use Rattle.ent_world.proofs.PlacedRows.{new_later}
 use Rattle.ent_world.proofs.births.enter_all.Goals as goal
 
 -- the next one enters, at the next place

@@ -1,5 +1,5 @@
 use Rattle.ent_world.proofs.Common.{rules, flat_map-cons}
-use Rattle.ent_world.proofs.BirthsByQueues.{named-append}
+use Rattle.ent_world.proofs.Numbered.{named-append}
 use Rattle.ent_world.proofs.births.name_queue.Goals as goal
 
 -- the next command's handles are named

@@ -1,4 +1,4 @@
-use Rattle.ent_world.proofs.Common.{true≢false, rules, sym, ap, ◌∙◌, inr, arith, common_steps, with_components, with_items}
+use Rattle.ent_world.proofs.Common.{true≢false, rules, sym, ◌∙◌, inr, arith, common_steps}
 use Rattle.ent_world.proofs.Making.{on_ok, on_err, made_whole, some_items, taken_back, end_taken_back}
 use Rattle.ent_world.proofs.spawning.make.Goals as goal
 
@@ -27,9 +27,6 @@ returns-clause-less c = search (rules, on_ok)
 
 pub returns-clause-ok : goal.returns-clause-ok
 returns-clause-ok c =
-    let m = c.args.storage.now.entities in
-    let h = c.args.handle in
     let made = on_ok c.born.result (sym c.is_err.ensures.value ∙ c.if-is_err.false) c.born.ensures.ok in
     let filled = on_ok c.insert_at.result (sym c.is_err-2.ensures.value ∙ c.if-is_err-2.false) c.insert_at.ensures.ok in
-    filled ∙ ap (λ n. with_components n h (λ held. with_items held c.args.items.now)) made
-    ∙ made_whole m h c.args.birth c.args.items.now
+    search (rules, made, filled, made_whole)

@@ -1,5 +1,5 @@
 use Rattle.ent_queue.proofs.Common.{rules, ap, map, ◌≡◌, drop, first_chunks, unpacked_item, number_2}
-use Rattle.ent_queue.proofs.Chunks.{chunks_of_front}
+use Rattle.ent_queue.proofs.Parts.{chunks_of_front}
 use Rattle.ent_queue.proofs.bundle_ref.BundleRef.read.Goals as goal
 
 chunks : (c : goal.After-items-2-1) → c.as_chunks.result.0.now ≡ first_chunks 9 (number_2 c.args.bytes.now) (drop 2

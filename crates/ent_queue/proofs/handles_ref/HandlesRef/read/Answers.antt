@@ -1,5 +1,5 @@
 use Rattle.ent_queue.proofs.Common.{rules, ap, map, ◌≡◌, first_chunks, unpacked_handle}
-use Rattle.ent_queue.proofs.Chunks.{chunks_of_front}
+use Rattle.ent_queue.proofs.Parts.{chunks_of_front}
 use Rattle.ent_queue.proofs.handles_ref.HandlesRef.read.Goals as goal
 
 chunks : (c : goal.After-handles-2-1) → c.as_chunks.result.0.now ≡ first_chunks 8 c.args.count c.args.bytes.now

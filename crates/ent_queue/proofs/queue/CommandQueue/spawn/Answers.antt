@@ -1,4 +1,4 @@
-use Rattle.ent_queue.proofs.Common.{rules, ◌++◌, ◌∷◌, [], ap, sym, ◌∙◌, Spawn, Refused, command_bytes, refused_by}
+use Rattle.ent_queue.proofs.Common.{rules, ◌++◌, ap, ◌∙◌, Spawn, Refused, command_bytes}
 use Rattle.ent_queue.proofs.Pushes.{Pushed, pushed, count_fits}
 use Rattle.ent_queue.proofs.Gaining.{is_refusal, refused_by_fault}
 use Rattle.ent_queue.proofs.queue.CommandQueue.spawn.Goals.{After-write_with_bundle, After-write_refused}
@@ -24,8 +24,7 @@ pub invariant_of-self-in-Ok : goal.invariant_of-self-in-Ok
 invariant_of-self-in-Ok g c = (served g (goal.at.invariant_of-self-in-Ok g c).After-write_with_bundle).packed
 
 pub returns-in-Ok-clause-ok : goal.returns-in-Ok-clause-ok
-returns-in-Ok-clause-ok g c = (served g (goal.at.returns-in-Ok-clause-ok g c).After-write_with_bundle).commands
-    ∙ ap (λ commands. commands ++ Spawn c.in-Ok.handle c.args.items.now ∷ []) c.self.view_is
+returns-in-Ok-clause-ok g c = search (rules, served g)
 
 -- and after a refusal
 refused : (g : given.Over) (c : After-write_refused g) → Pushed c.self.inside.count c.self.inside.bytes.items
@@ -41,6 +40,4 @@ pub invariant_of-self-in-Err : goal.invariant_of-self-in-Err
 invariant_of-self-in-Err g c = (refused g (goal.at.invariant_of-self-in-Err g c).After-write_refused).packed
 
 pub returns-in-Err-clause-refused : goal.returns-in-Err-clause-refused
-returns-in-Err-clause-refused g c = (refused g (goal.at.returns-in-Err-clause-refused g c).After-write_refused).commands
-    ∙ ap (λ commands. commands ++ Refused 1 c.in-Err.why ∷ []) c.self.view_is
-    ∙ ap (λ more. c.args.self.now ++ more) (sym (ap (refused_by 1) c.from.ensures ∙ refused_by_fault 1 c.in-Err.why))
+returns-in-Err-clause-refused g c = search (rules, refused g, refused_by_fault)

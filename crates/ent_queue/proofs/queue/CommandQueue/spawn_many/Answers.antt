@@ -1,4 +1,4 @@
-use Rattle.ent_queue.proofs.Common.{rules, ◌++◌, ◌∷◌, [], ap, sym, subst, ◌∙◌, length, ◌<◌, ◌^◌, SpawnMany, Refused, command_bytes, bundle_bytes, refused_by}
+use Rattle.ent_queue.proofs.Common.{rules, ◌++◌, ap, sym, subst, ◌∙◌, length, ◌<◌, ◌^◌, SpawnMany, Refused, command_bytes, bundle_bytes}
 use Rattle.ent_queue.proofs.Pushes.{Pushed, pushed, count_fits, many_written}
 use Rattle.ent_queue.proofs.Issuing.{queued_ok}
 use Rattle.ent_queue.proofs.Gaining.{is_refusal, refused_by_fault}
@@ -29,12 +29,7 @@ pub invariant_of-self-in-Ok : goal.invariant_of-self-in-Ok
 invariant_of-self-in-Ok g c = (served g (goal.at.invariant_of-self-in-Ok g c).After-write_bundle).packed
 
 pub returns-in-Ok-clause-ok : goal.returns-in-Ok-clause-ok
-returns-in-Ok-clause-ok g c =
-    let hs = c.in-Ok.given in
-    (served g (goal.at.returns-in-Ok-clause-ok g c).After-write_bundle).commands
-    ∙ ap (λ commands. commands ++ SpawnMany hs c.args.items.now ∷ []) c.self.view_is
-    ∙ ap (λ gs. c.args.self.now ++ SpawnMany gs c.args.items.now ∷ [])
-    (sym (c.write_many.ensures.handles ∙ ap (λ gs. gs ++ hs) c.in_ok-handles.ensures.items))
+returns-in-Ok-clause-ok g c = search (rules, served g)
 
 -- and after a refusal
 refused : (g : given.Over) (c : After-write_refused g) → Pushed c.self.inside.count c.self.inside.bytes.items
@@ -50,10 +45,7 @@ pub invariant_of-self-in-Err-1 : goal.invariant_of-self-in-Err-1
 invariant_of-self-in-Err-1 g c = (refused g (goal.at.invariant_of-self-in-Err-1 g c).After-write_refused).packed
 
 pub returns-in-Err-clause-refused : goal.returns-in-Err-clause-refused
-returns-in-Err-clause-refused g c = (refused g (goal.at.returns-in-Err-clause-refused g c).After-write_refused).commands
-    ∙ ap (λ commands. commands ++ Refused c.args.n c.in-Err.why ∷ []) c.self.view_is
-    ∙ ap (λ more. c.args.self.now ++ more) (sym (ap (refused_by c.args.n) c.from.ensures
-    ∙ refused_by_fault c.args.n c.in-Err.why))
+returns-in-Err-clause-refused g c = search (rules, refused g, refused_by_fault)
 
 pub returns-in-Ok-clause-replies : goal.returns-in-Ok-clause-replies
 returns-in-Ok-clause-replies g c reply e = search (rules, queued_ok)

@@ -1,4 +1,4 @@
-use Rattle.ent_world.proofs.Common.{records_of, history_of, World, IsWorld}
+use Rattle.ent_world.proofs.Common.{records_of, history_of, IsWorld}
 use Rattle.ent_world.proofs.SpareRoom.{top-after_history}
 use Rattle.ent_world.proofs.Worlds.{after_history-world}
 use Rattle.ent_world.proofs.open_world.OpenWorld.close.Goals.{After-close}
@@ -10,25 +10,16 @@ closed : (c : After-close) → IsWorld (record {
   phase = c.self.inside.phase;
   entities = c.self.inside.storage.entities;
 })
-closed c =
-    let w : World = record {
-      allocator = c.self.inside.shared.start;
-      phase = c.self.inside.phase;
-      entities = c.self.inside.storage.entities;
-    } in
-    rw c.close.ensures.after (after_history-world (history_of (records_of c.args.reservers.items)) w
-    c.self.invariant.world.world)
+closed c = rw c.close.ensures.after
+    (after_history-world (history_of (records_of c.args.reservers.items)) _ c.self.invariant.world.world)
 
 pub invariant_of-result : goal.invariant_of-result
-invariant_of-result c = record {
-  world = closed (goal.at.invariant_of-result c).After-close;
-  rows = rw c.close.ensures.rows c.self.invariant.rows;
-  room = rw (
-    c.close.ensures.after,
-    top-after_history c.self.inside.shared.start
-        (history_of (records_of c.args.reservers.items)) c.self.invariant.world.world.sound,
-  ) c.self.invariant.room;
-}
+invariant_of-result c =
+    let sound = c.self.invariant.world.world.sound in record {
+      world = closed (goal.at.invariant_of-result c).After-close;
+      rows = rw c.close.ensures.rows c.self.invariant.rows;
+      room = rw (c.close.ensures.after, top-after_history) c.self.invariant.room;
+    }
 
 pub returns-clause-world : goal.returns-clause-world
 returns-clause-world c = closed (goal.at.returns-clause-world c).After-close

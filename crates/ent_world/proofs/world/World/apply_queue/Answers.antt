@@ -1,7 +1,6 @@
 use Rattle.ent_world.proofs.Common.{rules, sym, ◌∙◌, err_from_is_err_and}
-use Rattle.ent_world.proofs.Folds.{next_left, some_left}
+use Rattle.ent_world.proofs.Folds.{next_left, some_left, takes_memory_in}
 use Rattle.ent_world.proofs.Left.{commands_left-skip, commands_left-step, commands_cut-step}
-use Rattle.ent_world.proofs.TakesMemory.{takes_memory_in}
 use Rattle.ent_world.proofs.world.World.apply_queue.Goals as goal
 
 pub unreachable-requires : goal.unreachable-requires

@@ -1,8 +1,7 @@
 use Rattle.ent_world.proofs.Common.{common_steps, arith, rules}
 use Rattle.ent_world.proofs.Making.{on_ok, on_err}
-use Rattle.ent_world.proofs.Folds.{next_left, some_left}
+use Rattle.ent_world.proofs.Folds.{next_left, some_left, stop_takes_memory, next_takes_memory}
 use Rattle.ent_world.proofs.Left.{each_left-next}
-use Rattle.ent_world.proofs.TakesMemory.{stop_takes_memory, next_takes_memory}
 use Rattle.ent_world.proofs.world.World.insert_each.Goals as goal
 
 pub unreachable-requires : goal.unreachable-requires

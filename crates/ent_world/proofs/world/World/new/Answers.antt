@@ -9,8 +9,7 @@ use Rattle.ent_world.proofs.world.World.new.Goals as goal
 begun : (c : After-new) → IsWorld (record {
   allocator = c.new-entities.result.allocator;
   phase = 0;
-  entities =
-      c.new.result.entities;
+  entities = c.new.result.entities;
 })
 begun c = search (rules, keys-empty)
 

@@ -1,4 +1,4 @@
-use Rattle.ent_world.proofs.Common.{rules, ◌≡◌, ◌+◌, ◌<◌, ◌∙◌, ap, sym, subst, arith, inl, Ok, List, AllPairs, ℕ, length, Handle, top, Entities, allocator_image, entities_bytes, AreStored, World, allocator_of, framed, image, HasImage, AreFramed, HaveAllocator, MayTakeMemory}
+use Rattle.ent_world.proofs.Common.{rules, ◌≡◌, ◌+◌, ◌<◌, ◌∙◌, ap, sym, arith, List, AllPairs, length, Handle, top, AreStored, World, allocator_of, image, HasImage, AreFramed, HaveAllocator, MayTakeMemory}
 use Rattle.std.specs.FinMap as map
 use Rattle.std.specs.FinSet as set
 use Rattle.ent_world.proofs.ImageRead.{allocator_has, AreParts, told, memory_from_not, read_is, refused_is, handed, listed, no_rows, stored_living, rows_read, all_live, living_is, handed_on, slots_made, framed_by}
@@ -14,24 +14,19 @@ told_of c w has is = search (rules, told)
 -- its allocator was read
 allocator_is : (c : In_ok-entities) (w : World) → HasImage w → AreParts w c.in_ok-phase.phase c.in_ok-phase.part.now
     c.in_ok-phase.rest.now → c.in_ok-entities.entities ≡ allocator_of w
-allocator_is c w has parts = read_is c.in_ok-entities.entities (allocator_of w)
-    (c.in_ok-entities.ensures.exact (allocator_of w) (allocator_has w has) parts.part_is)
+allocator_is c w has parts = search (rules, read_is, c.in_ok-entities.ensures.exact, allocator_has)
 
 pub returns-in_err-entities-clause-exact : goal.returns-in_err-entities-clause-exact
 returns-in_err-entities-clause-exact c w has is =
     let parts = told_of (goal.at.returns-in_err-entities-clause-exact c).In_ok-phase w has is in
-    handed c.from_residual-in_err-entities.result c.in_err-entities.field-0.0 c.from_residual-in_err-entities.ensures.1
-    (refused_is c.in_err-entities.field-0.0 (allocator_of w) (c.in_err-entities.ensures.exact (allocator_of w)
-    (allocator_has w has) parts.part_is)) w
+    let exact = c.in_err-entities.ensures.exact (allocator_of w) (allocator_has w has) parts.part_is in
+    search (rules, handed, refused_is)
 
 pub returns-in_err-handles-clause-exact : goal.returns-in_err-handles-clause-exact
 returns-in_err-handles-clause-exact c w has is =
     let at = goal.at.returns-in_err-handles-clause-exact c in
-    let parts = told_of at.In_ok-phase w has is in
-    let e = allocator_is at.In_ok-entities w has parts in
-    handed c.from_residual-in_err-handles.result c.in_err-handles.field-0.0 c.from_residual-in_err-handles.ensures.1
-    (memory_from_not c.in_err-handles.field-0.0 (λ other. c.in_err-handles.ensures.rows other
-    (ap (λ (x : Entities). x.rows) e))) w
+    let e = allocator_is at.In_ok-entities w has (told_of at.In_ok-phase w has is) in
+    search (rules, handed, memory_from_not, c.in_err-handles.ensures.rows)
 
 -- the handles that were listed
 lists : (c : In_ok-handles) → set.from_list c.in_ok-handles.handles.items ≡ c.in_ok-entities.entities.allocator.live
@@ -48,33 +43,29 @@ returns-in_err-storage-clause-exact c w has is =
     let at = goal.at.returns-in_err-storage-clause-exact c in
     let parts = told_of at.In_ok-phase w has is in
     let e = allocator_is at.In_ok-entities w has parts in
-    let same = listed w has c.in_ok-entities.entities e c.in_ok-handles.handles.items (rising at.In_ok-handles)
-    (lists at.In_ok-handles) ∙ sym c.deref.ensures.value in
-    handed c.from_residual-in_err-storage.result c.in_err-storage.field-0.0 c.from_residual-in_err-storage.ensures.1
-    (c.in_err-storage.ensures.refused w.entities (subst (AreStored w.entities) same has.stored)
-    (ap (entities_bytes w.entities) (sym same) ∙ parts.rest_is)) w
+    let same = listed w has _ e _ (rising at.In_ok-handles) (lists at.In_ok-handles) ∙ sym c.deref.ensures.value in
+    handed _ _ c.from_residual-in_err-storage.ensures.1
+    (c.in_err-storage.ensures.refused w.entities (rw same at has.stored) (rw same at parts.rest_is)) w
 
 pub set_rows-requires-clause-living : goal.set_rows-requires-clause-living
 set_rows-requires-clause-living c = search (rules, all_live, lists)
 
 -- what was read of the entities
 stored : (c : In_ok-storage) → AreStored c.in_ok-storage.storage.entities c.in_ok-handles.handles.items
-stored c = rw c.deref.ensures.value at c.in_ok-storage.ensures.stored
+stored c = search (rules, c.deref.ensures.value, c.in_ok-storage.ensures.stored)
 
 pub invariant_of-result : goal.invariant_of-result
 invariant_of-result c =
     let at = goal.at.invariant_of-result c in
-    let s = c.in_ok-storage.storage in
-    let hs = c.in_ok-handles.handles.items in
-    let places : s.places ≡ hs = c.in_ok-storage.ensures.places ∙ c.deref.ensures.value in
+    let entities = stored at.In_ok-storage in
+    let places = c.in_ok-storage.ensures.places ∙ c.deref.ensures.value in
     record {
       world = rw c.set_rows.ensures.allocator (record {
         sound = c.in_ok-entities.ensures.has_image.sound;
-        living = stored_living s.entities hs (stored at.In_ok-storage) c.in_ok-entities.entities.allocator.live
-            (lists at.In_ok-handles);
+        living = stored_living _ _ entities _ (lists at.In_ok-handles);
       });
       rows = rw (c.set_rows.ensures.rows, bare at.In_ok-handles, c.deref-2.ensures.value, places)
-          (rows_read s.entities hs (stored at.In_ok-storage) (rising at.In_ok-handles));
+          (rows_read _ _ entities (rising at.In_ok-handles));
       room = rw c.set_rows.ensures.allocator
           (omega (arith, c.in_ok-storage.ensures.room, c.top.ensures, c.len.ensures, ap length c.deref.ensures.value));
     }
@@ -82,35 +73,24 @@ invariant_of-result c =
 pub returns-clause-found : goal.returns-clause-found
 returns-clause-found c =
     let at = goal.at.returns-clause-found c in
-    let e = c.in_ok-entities.entities in
-    let m = c.in_ok-storage.storage.entities in
-    let hs = c.in_ok-handles.handles.items in
-    let keys = living_is m hs e.allocator.live (stored at.In_ok-storage) (rising at.In_ok-handles)
+    let keys = living_is c.in_ok-storage.storage.entities _ _ (stored at.In_ok-storage) (rising at.In_ok-handles)
     (lists at.In_ok-handles) in
-    let part = (λ i. allocator_image (record {
-      allocator = c.set_rows.ensures.allocator i;
-      rows = sym (bare at.In_ok-handles) i;
-    })) ∙ c.in_ok-entities.ensures.found in
-    let rest = ap (entities_bytes m) (keys ∙ sym c.deref.ensures.value) ∙ c.in_ok-storage.ensures.found in
-    (λ i. framed c.in_ok-phase.phase (part i) (rest i)) ∙ sym c.in_ok-phase.ensures.found
+    let none = bare at.In_ok-handles in
+    search (rules, keys, none)
 
 pub returns-clause-has_image : goal.returns-clause-has_image
 returns-clause-has_image c =
     let at = goal.at.returns-clause-has_image c in
     let e = c.in_ok-entities in
-    let m = c.in_ok-storage.storage.entities in
-    let hs = c.in_ok-handles.handles.items in
     let allocator = c.set_rows.ensures.allocator in
-    let stored = stored at.In_ok-storage in
+    let entities = stored at.In_ok-storage in
+    let lives = stored_living _ _ entities e.entities.allocator.live (lists at.In_ok-handles) in
+    let keys = living_is _ _ e.entities.allocator.live entities (rising at.In_ok-handles) (lists at.In_ok-handles) in
     record {
-      world = rw allocator (record {
-        sound = e.ensures.has_image.sound;
-        living = stored_living m hs stored e.entities.allocator.live (lists at.In_ok-handles);
-      });
+      world = rw allocator (record { sound = e.ensures.has_image.sound; living = lives });
       asked = rw allocator e.ensures.has_image.asked;
       phase = c.in_ok-phase.ensures.phase;
-      stored = rw (living_is m hs e.entities.allocator.live stored (rising at.In_ok-handles) (lists at.In_ok-handles))
-          stored;
+      stored = rw keys entities;
     }
 
 pub returns-clause-exact : goal.returns-clause-exact
@@ -118,11 +98,9 @@ returns-clause-exact c w has is =
     let at = goal.at.returns-clause-exact c in
     let parts = told_of at.In_ok-phase w has is in
     let e = allocator_is at.In_ok-entities w has parts in
-    let same = listed w has c.in_ok-entities.entities e c.in_ok-handles.handles.items (rising at.In_ok-handles)
-    (lists at.In_ok-handles) ∙ sym c.deref.ensures.value in
+    let same = listed w has _ e _ (rising at.In_ok-handles) (lists at.In_ok-handles) ∙ sym c.deref.ensures.value in
     let entities = c.in_ok-storage.ensures.exact w.entities (rw same at has.stored) (rw same at parts.rest_is) in
-    let allocator = c.set_rows.ensures.allocator ∙ ap (λ (x : Entities). x.allocator) e in
-    inl (λ i. Ok (record { allocator = allocator i; phase = sym parts.phase_is i; entities = entities i }))
+    search (rules, parts.phase_is, e, entities)
 
 -- ---- the first fault, and memory
 
@@ -139,20 +117,15 @@ returns-in_err-phase-clause-memory c = search (rules, handed_on)
 pub returns-in_err-entities-clause-fault : goal.returns-in_err-entities-clause-fault
 returns-in_err-entities-clause-fault c =
     let parts = parts_of (goal.at.returns-in_err-entities-clause-fault c).In_ok-phase in
-    handed_on c.from_residual-in_err-entities.result c.in_err-entities.field-0.0 _
-    c.from_residual-in_err-entities.ensures.1 (λ other.
-    let fault = c.in_err-entities.ensures.fault other in rw fault.named (parts, fault.first))
+    handed_on _ _ _ c.from_residual-in_err-entities.ensures.1
+    (λ other. let fault = c.in_err-entities.ensures.fault other in rw fault.named (parts, fault.first))
 
 pub returns-in_err-entities-clause-memory : goal.returns-in_err-entities-clause-memory
 returns-in_err-entities-clause-memory c =
-    let at = goal.at.returns-in_err-entities-clause-memory c in
-    handed_on c.from_residual-in_err-entities.result c.in_err-entities.field-0.0 _
-    c.from_residual-in_err-entities.ensures.1 (λ is. record {
-      parts = parts_of at.In_ok-phase;
-      faultless =
-          c.in_err-entities.ensures.memory is;
-      slots = c.in_err-entities.ensures.slots is;
-    })
+    let parts = parts_of (goal.at.returns-in_err-entities-clause-memory c).In_ok-phase in
+    let err = c.in_err-entities.ensures in
+    handed_on _ _ _ c.from_residual-in_err-entities.ensures.1
+    (λ is. record { parts = parts; faultless = err.memory is; slots = err.slots is })
 
 abbrev parts_in : (c : In_ok-entities) → AreFramed c.args.bytes.now
 parts_in c = framed_by c.args.bytes.now c.in_ok-phase.phase c.in_ok-phase.part.now c.in_ok-phase.rest.now
@@ -177,33 +150,29 @@ takes_memory : (c : In_ok-entities) (hs : List Handle) → set.from_list hs ≡ 
 takes_memory c hs lives some = record {
   parts = parts_in c;
   faultless = c.in_ok-entities.ensures.header;
-  slots = subst (λ (part : List ℕ). 40 < length part) c.in_ok-entities.ensures.found
-      (slots_made c.in_ok-entities.entities c.in_ok-entities.ensures.has_image hs lives some);
+  slots = rw (← c.in_ok-entities.ensures.found) (search (rules, slots_made));
 }
 
 pub returns-in_err-handles-clause-fault : goal.returns-in_err-handles-clause-fault
 returns-in_err-handles-clause-fault c =
     let read = read_of (goal.at.returns-in_err-handles-clause-fault c).In_ok-entities c.iter.result
     c.iter.ensures.rising c.iter.ensures.living in
-    handed_on c.from_residual-in_err-handles.result c.in_err-handles.field-0.0 _
-    c.from_residual-in_err-handles.ensures.1 (λ other.
-    let fault = c.in_err-handles.ensures.fault other in rw fault.named (read, fault.first))
+    handed_on _ _ _ c.from_residual-in_err-handles.ensures.1
+    (λ other. let fault = c.in_err-handles.ensures.fault other in rw fault.named (read, fault.first))
 
 pub returns-in_err-handles-clause-memory : goal.returns-in_err-handles-clause-memory
 returns-in_err-handles-clause-memory c =
-    let takes = takes_memory (goal.at.returns-in_err-handles-clause-memory c).In_ok-entities c.iter.result
-    c.iter.ensures.living in
-    handed_on c.from_residual-in_err-handles.result c.in_err-handles.field-0.0 _
-    c.from_residual-in_err-handles.ensures.1 (λ is. takes (omega (arith, c.in_err-handles.ensures.memory is)))
+    let takes = takes_memory (goal.at.returns-in_err-handles-clause-memory c).In_ok-entities _ c.iter.ensures.living in
+    handed_on _ _ _ c.from_residual-in_err-handles.ensures.1
+    (λ is. takes (omega (arith, c.in_err-handles.ensures.memory is)))
 
 pub returns-in_err-storage-clause-fault : goal.returns-in_err-storage-clause-fault
 returns-in_err-storage-clause-fault c =
     let at = goal.at.returns-in_err-storage-clause-fault c in
-    let read = read_of at.In_ok-entities c.in_ok-handles.handles.items (rising at.In_ok-handles)
-    (lists at.In_ok-handles) in
-    handed_on c.from_residual-in_err-storage.result c.in_err-storage.field-0.0 _
-    c.from_residual-in_err-storage.ensures.1 (λ other. let fault = c.in_err-storage.ensures.fault other in rw
-    fault.named (read, bare at.In_ok-handles, rw c.deref.ensures.value at fault.first))
+    let read = read_of at.In_ok-entities _ (rising at.In_ok-handles) (lists at.In_ok-handles) in
+    handed_on _ _ _ c.from_residual-in_err-storage.ensures.1 (λ other.
+    let fault = c.in_err-storage.ensures.fault other in
+    rw fault.named (read, bare at.In_ok-handles, rw c.deref.ensures.value at fault.first))
 
 pub returns-in_err-storage-clause-memory : goal.returns-in_err-storage-clause-memory
 returns-in_err-storage-clause-memory c =

@@ -1,4 +1,4 @@
-use Rattle.ent_world.proofs.Common.{arith, rules, ◌≡◌, ◌≤◌, sym, ap, subst, ◌∙◌, ℕ, List, is_some, Some, length, common_steps, Handle, top, AreWithout, at_pushed, World, IsWorld, spawned, AreRows}
+use Rattle.ent_world.proofs.Common.{same_Some, arith, rules, ◌≡◌, ◌≤◌, sym, ◌∙◌, length, common_steps, top, at_pushed, IsWorld, spawned, AreRows}
 use Rattle.std.specs.FinMap as map
 use Rattle.ent_world.proofs.Born.{no_entity}
 use Rattle.ent_world.proofs.Making.{get_inserted, taken_back, end_taken_back}
@@ -24,31 +24,17 @@ back : (c : After-despawn_at) → c.despawn_at.new.self.entities ≡ c.self.insi
 back c = search (rules, no_entity, taken_back)
 
 place_back : (c : After-despawn_at) → c.despawn_at.new.self.places ≡ c.self.inside.storage.places
-place_back c =
-    let next = c.len-row.ensures ∙ rows-count c.self.inside.entities.allocator _ _ _ c.self.invariant.rows
-    c.self.invariant.world.living in
-    end_taken_back c.self.inside.storage.places c.despawn_at.new.self.places c.in_ok-handle.handle
-    (subst (λ (p : ℕ × List Handle). AreWithout p.0 p.1 c.despawn_at.new.self.places)
-    (λ i. (next i, c.in_ok-make.ensures.placed i)) c.despawn_at.ensures.places)
+place_back c = search (rules, next_place, end_taken_back)
 
 pub invariant_of-self-in-Err : goal.invariant_of-self-in-Err
 invariant_of-self-in-Err c =
     let at = (goal.at.invariant_of-self-in-Err c).After-despawn_at in
-    record {
-      world = rw (back at, c.in-Err.ensures.err) c.self.invariant.world;
-      rows = rw (back at, place_back at, c.in-Err.ensures.err) c.self.invariant.rows;
-      room = rw c.in-Err.ensures.err (search rules);
-    }
+    rw (c.in-Err.ensures.err, back at, place_back at) (search (rules, c.self.invariant))
 
-pub returns-in-Err-clause-err : goal.returns-in-Err-clause-err
-returns-in-Err-clause-err c =
-    let gone = back (goal.at.returns-in-Err-clause-err c).After-despawn_at in
-    let same = c.in-Err.ensures.err in
-    (λ i. record { allocator = (same i).allocator; phase = c.self.inside.phase; entities = gone i }) ∙ c.self.view_is
-
-pub returns-in-Err-clause-world : goal.returns-in-Err-clause-world
-returns-in-Err-clause-world c = rw (back (goal.at.returns-in-Err-clause-world c).After-despawn_at, c.in-Err.ensures.err)
-    c.self.invariant.world
+pub returns-in-Err : goal.returns-in-Err
+returns-in-Err c =
+    let gone = back (goal.at.returns-in-Err c).After-despawn_at in
+    search (rules, gone, c.in-Err.ensures.err)
 
 -- the handle that the allocator gave is the one under which the entity was made
 grown : (c : In_default) → IsWorld (record {
@@ -57,46 +43,34 @@ grown : (c : In_default) → IsWorld (record {
   entities = c.make.new.storage.entities;
 })
 grown c =
-    let h = c.in_ok-handle.handle in
-    let w : World = record {
-      allocator = c.self.inside.entities.allocator;
-      phase = c.self.inside.phase;
-      entities = c.self.inside.storage.entities;
-    } in
-    let fronts : Some c.in_default.field-0 ≡ Some h = sym c.in_default.ensures.front ∙ c.in_ok-handle.ensures.front in
-    let same : c.in_default.field-0 ≡ h = cc in
-    rw (c.in_ok-make.ensures.ok, c.in_default.ensures.ok, same) (after_spawn-world c.args.birth c.items.result.now h w
-    c.self.invariant.world c.in_ok-handle.ensures.flushed c.in_ok-handle.ensures.front)
+    let same = same_Some _ _ (sym c.in_default.ensures.front ∙ c.in_ok-handle.ensures.front) in
+    rw (c.in_ok-make.ensures.ok, c.in_default.ensures.ok, same)
+    (after_spawn-world c.args.birth c.items.result.now c.in_ok-handle.handle _ c.self.invariant.world
+    c.in_ok-handle.ensures.flushed c.in_ok-handle.ensures.front)
 
 -- it lives
 pub set_row-requires : goal.set_row-requires
 set_row-requires c =
-    let m = c.self.inside.storage.entities in
-    let h = c.in_ok-handle.handle in
-    sym ((grown (goal.at.set_row-requires c).In_default).living h)
-    ∙ ap (λ n. map.contains_key n h) c.in_ok-make.ensures.ok
-    ∙ ap is_some (get_inserted m h (spawned c.args.birth c.items.result.now))
+    let lives = (grown (goal.at.set_row-requires c).In_default).living c.in_ok-handle.handle in
+    search (rules, lives, get_inserted)
 
 -- its row is the next place
 placed : (c : In_default) → AreRows (map.insert c.alloc.new.self.rows c.in_ok-handle.handle c.len-row.result)
     c.make.new.storage.places c.make.new.storage.entities
 placed c =
     let h = c.in_ok-handle.handle in
-    let next = c.len-row.ensures ∙ rows-count c.self.inside.entities.allocator _ _ _ c.self.invariant.rows
-    c.self.invariant.world.living in
+    let next = c.len-row.ensures ∙ rows-count c.self.inside.entities.allocator _ _ _
+    c.self.invariant.rows c.self.invariant.world.living in
     rw (c.alloc.ensures.rows, next, c.in_ok-make.ensures.placed, c.in_ok-make.ensures.ok)
-    (rows-insert c.self.inside.entities.rows c.self.inside.storage.places c.self.inside.storage.entities h
-    (spawned c.args.birth c.items.result.now) c.self.invariant.rows
+    (rows-insert _ _ _ h (spawned c.args.birth c.items.result.now) c.self.invariant.rows
     (c.self.invariant.world.living h ∙ c.in_ok-handle.ensures.new))
 
 -- as many more fit as slots wait
 left_room : (c : In_default) → top c.alloc.new.self.allocator ≤ c.make.new.storage.spare
 left_room c =
-    let h = c.in_ok-handle.handle in
-    let fronts : Some c.in_default.field-0 ≡ Some h = sym c.in_default.ensures.front ∙ c.in_ok-handle.ensures.front in
-    let same : c.in_default.field-0 ≡ h = cc in
-    rw (c.in_default.ensures.ok, same) (room-after_alloc c.self.inside.entities.allocator h c.self.inside.storage.spare
-    c.make.new.storage.spare c.self.invariant.world.sound c.in_ok-handle.ensures.flushed c.in_ok-handle.ensures.front
+    let same = same_Some _ _ (sym c.in_default.ensures.front ∙ c.in_ok-handle.ensures.front) in
+    rw (c.in_default.ensures.ok, same) (room-after_alloc c.self.inside.entities.allocator c.in_ok-handle.handle _ _
+    c.self.invariant.world.sound c.in_ok-handle.ensures.flushed c.in_ok-handle.ensures.front
     c.self.invariant.room c.in_ok-make.ensures.less)
 
 pub invariant_of-self-2 : goal.invariant_of-self-2

@@ -1,9 +1,5 @@
-use Rattle.ent_world.proofs.Common.{sym}
+use Rattle.ent_world.proofs.Common.{rules, sym}
 use Rattle.ent_world.proofs.world_in_blocks.WorldInBlocks.close_lost.Goals as goal
 
-pub returns-in-Err-clause-other_phase : goal.returns-in-Err-clause-other_phase
-returns-in-Err-clause-other_phase g c = rw (c.into_parts-blocks.ensures.error, sym c.self.view_is)
-    c.in-Err.ensures.other_phase
-
-pub returns-in-Err-clause-order : goal.returns-in-Err-clause-order
-returns-in-Err-clause-order g c = rw (c.into_parts-blocks.ensures.error, sym c.self.view_is) c.in-Err.ensures.order
+pub returns-in-Err : goal.returns-in-Err
+returns-in-Err g c = rw (c.into_parts-blocks.ensures.error, sym c.self.view_is) (search (rules, c.in-Err.ensures))
