@@ -1,5 +1,5 @@
 -- The names that proofs of this crate cite, of std, of the crates below and of its own specs. Declares nothing.
-pub use Rattle.std.proofs.Common.{Err, Fits, Global, IfErr, IfOk, IsErrOf, IsTrue, List, Ok, OnErr, OnOk, Result, Vec, [], ap, append-nil, append_assoc, arith, drop, inl, inr, length, length-append, length-drop, map, nat_eq, refl, rules, slice_index, subst, suc, suc-add, sym, take, vec_capacity, vec_len, zero, ℕ, ℤ, ◌*◌, ◌++◌, ◌+◌, ◌-◌, ◌<◌, ◌^◌, ◌∙◌, ◌∷◌, ◌≡◌, ◌≤◌}
+pub use Rattle.std.proofs.Common.{Err, Fits, Global, IfErr, IfOk, IsErrOf, IsTrue, List, Ok, OnErr, OnOk, Result, Vec, [], ap, append-nil, append_assoc, arith, drop, inl, inr, length, length-append, length-drop, map, nat_eq, refl, rules, slice_index, subst, suc, sym, take, vec_capacity, vec_len, zero, ℕ, ℤ, ◌*◌, ◌++◌, ◌+◌, ◌-◌, ◌<◌, ◌^◌, ◌∙◌, ◌∷◌, ◌≡◌, ◌≤◌}
 pub use Rattle.std.proofs.Math.Facts.{Fits-lt-pow, Fits-of_lt, Fits-of_z}
 pub use Rattle.std.proofs.Math.Seq.{drop-append_seam}
 pub use Rattle.std.proofs.lemmas.Bool.{cases_lt}
@@ -18,14 +18,13 @@ pub use Rattle.ent_alloc.specs.Sequential.{Allocator, listed, listed_alone}
 pub use Rattle.ent_alloc.specs.declared.refused.Refused.{Refused as Refusal}
 pub use Rattle.ent_alloc.specs.declared.refused.Refused.TheVariants.{Quota, Space}
 pub use Rattle.ent_alloc.specs.declared.reserve_error.ReserveError.{ReserveError as QueueFault}
-pub use Rattle.ent_blocks.specs.Blocks.{Block, Phase, after_use, rest_of}
+pub use Rattle.ent_blocks.specs.Blocks.{Block, Phase, after_use}
 pub use Rattle.ent_handle.specs.Handle.{Handle, IsHandle, bits}
 pub use Rattle.ent_handle.specs.declared.component.ComponentId.{ComponentId}
 pub use Rattle.ent_handle.specs.declared.memory.Memory.{Memory}
 pub use Rattle.ent_shared.specs.Phase.{Reserver, Shared}
 pub use Rattle.ent_shared.specs.Record.{after_reservation, reservation_at}
 pub use Rattle.ent_shared.specs.declared.record.Record.{Record}
-pub use Rattle.ent_shared.specs.declared.record.Reservation.{Reservation}
 pub use Rattle.ent_storage.proofs.Few.{few_items}
 pub use Rattle.ent_storage.specs.Bundle.{Bundle, IsBundle, IsItem}
 pub use Rattle.ent_queue.specs.Command.{Command, Despawn, HasRange, Insert, IsCommand, IsRefusal, Refused, Remove, SaysWanted, Spawn, SpawnMany}

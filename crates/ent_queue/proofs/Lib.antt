@@ -9,3 +9,4 @@ pub mod Extending
 pub mod DrawnBlocks
 pub mod ExtendingInBlocks
 pub mod Common
+pub mod Laws

@@ -1,5 +1,5 @@
 //! Queues of commands that systems write and a world applies.
-#![tactic(auto)]
+#![tactic(auto, using(crate::proofs::Laws::laws))]
 
 mod bundle;
 mod bundle_ref;

@@ -9,12 +9,7 @@ use Rattle.ent_world.proofs.Numbered.{AreDistinct, distinct, filter_alike, some_
 pub get-with_born : (birth : Handle → Birth) (hs : List Handle) (m : EntityMap) (q : Handle)
     → map.get (with_born m birth hs) q ≡ cond (stands_in hs q) (Some (newborn (birth q))) (map.get m q)
 get-with_born birth [] m q = refl
-get-with_born birth (h ∷ hs) m q = grind (
-  arith,
-  common_steps,
-  get-with_born birth hs (map.insert m h (newborn (birth h))) q,
-  map.get-insert handle_cmp_total m h (newborn (birth h)) q,
-)
+get-with_born birth (h ∷ hs) m q = grind (arith, common_steps, get-with_born birth hs (map.insert m h (newborn (birth h))) q, map.get-insert handle_cmp_total m h (newborn (birth h)) q)
 
 -- whether a queue lists a handle has nothing to do with phases and systems
 listed_anyhow : (queues : List (List Command)) (phase system other : ℕ) (h : Handle)
@@ -45,13 +40,7 @@ module _ (s : Allocator) (m : EntityMap) (sound : IsSound s) (living : AreLiving
   -- who lives and is not born was there
   lived-before : (h : Handle) → stands_in (born s) h ≡ false → set.contains (after_flush s).live h ≡ true
       → set.contains s.live h ≡ true
-  lived-before h none lives = grind (
-    arith,
-    common_steps,
-    live-after_flush s h,
-    stands_in-from_Contains (born s) h,
-    Contains-permutation s.taken (born s) h (born-IsPermutation s),
-  )
+  lived-before h none lives = grind (arith, common_steps, live-after_flush s h, stands_in-from_Contains (born s) h, Contains-permutation s.taken (born s) h (born-IsPermutation s))
 
   -- the map after a flush has those that live then
   pub living-after : (birth : Handle → Birth) → AreLiving (after_flush s) (with_born m birth (born s))
@@ -96,14 +85,7 @@ module _ (m : EntityMap) (phase : ℕ) (queues : List (List Command)) (hs : List
       ≡ with_born m (birth_in phase queues hs) hs
   unfolding listed
   births_given = map.same_map handle_cmp_total handle_cmp-IsAntisymmetric _ _
-      (λ q. rw (get-numbered phase 0 hs listed q once, others_are, get-with_born) (grind (
-        arith,
-        common_steps,
-        listed-get q,
-        among q,
-        listed_anyhow queues phase 0 0 q,
-        some_position (eq_by_cmp handle_cmp q) 0 others,
-      )))
+      (λ q. rw (get-numbered phase 0 hs listed q once, others_are, get-with_born) (grind (arith, common_steps, listed-get q, among q, listed_anyhow queues phase 0 0 q, some_position (eq_by_cmp handle_cmp q) 0 others)))
 
 -- the places of those that have entered at the end
 drop_all_before : (xs ys : List Handle) → drop (length xs) (xs ++ ys) ≡ ys

@@ -1,7 +1,7 @@
 -- The names that proofs of this crate cite, of std, of the crates below and of its own specs. Declares nothing.
-pub use Rattle.std.proofs.Common.{All, AllPairs, Bool, Contains, Err, IfErr, IfOk, IfSome, IsErrAnd, IsSomeAnd, IsTrue, List, None, Ok, OnErr, OnOk, Option, Result, Some, T, [], ap, append-nil, arith, cond, drop, eq-eqb, eqb, false, filter, get_or, inl, inr, is_err, is_none, is_some, length, map, min, not, option_map, refl, rules, slice_get, subst, suc, sym, take, true, true≢false, unwrap_or, vec_capacity, vec_len, zero, ℕ, ℤ, ◌&&◌, ◌*◌, ◌++◌, ◌+◌, ◌-◌, ◌<◌, ◌^◌, ◌||◌, ◌∙◌, ◌∷◌, ◌≡◌, ◌≢◌, ◌≤◌, ◌⊎◌}
+pub use Rattle.std.proofs.Common.{All, AllPairs, Bool, Contains, Err, IfErr, IfOk, IfSome, IsErrAnd, IsSomeAnd, IsTrue, List, None, Ok, OnErr, OnOk, Option, Result, Some, T, [], ap, append-nil, arith, cond, drop, eq-eqb, eqb, false, filter, get_or, inl, inr, is_err, is_none, is_some, length, map, min, not, option_map, refl, rules, slice_get, suc, sym, take, true, true≢false, unwrap_or, vec_capacity, vec_len, zero, ℕ, ℤ, ◌&&◌, ◌*◌, ◌++◌, ◌+◌, ◌-◌, ◌<◌, ◌^◌, ◌∙◌, ◌∷◌, ◌≡◌, ◌≢◌, ◌≤◌, ◌⊎◌}
 pub use Rattle.std.proofs.Math.ListN.{drop_of_length-le}
-pub use Rattle.std.proofs.lemmas.Bool.{cases_lt, false_from_ne_true, or_left, or_parts, or_right}
+pub use Rattle.std.proofs.lemmas.Bool.{cases_lt, false_from_ne_true, or_left, or_right}
 pub use Rattle.std.proofs.lemmas.Bool.Decides.{nat_tests}
 pub use Rattle.std.proofs.lemmas.Cmp.{eq_by_cmp_equiv, tied_itself}
 pub use Rattle.std.proofs.lemmas.Grind.{common_steps}
@@ -12,7 +12,7 @@ pub use Rattle.std.proofs.lemmas.List.Folds.{Any-from_list_any, list_any-append,
 pub use Rattle.std.proofs.lemmas.List.Sorted.{Contains-permutation, length_permutation, list_any-IsPermutation}
 pub use Rattle.std.proofs.lemmas.List.Sums.{sum_by-cons}
 pub use Rattle.std.proofs.lemmas.Map.Views.{Contains-from_any, any-filter_same, tells_apart}
-pub use Rattle.std.proofs.lemmas.Option.{none-some, same_Some, slice_get-get_or, slice_get_past, slice_get_read, slice_get_within}
+pub use Rattle.std.proofs.lemmas.Option.{none-some, same_Some, slice_get-get_or, slice_get_past, slice_get_within}
 pub use Rattle.std.proofs.lemmas.Result.{err_from_is_err_and}
 pub use Rattle.std.proofs.lemmas.Slice.Zip.{all_zipped_more}
 pub use Rattle.std.specs.Cmp.{IsTotalOrder}
@@ -21,9 +21,8 @@ pub use Rattle.std.specs.FinMap.Entries.{below_all, find-put, find-where_key, is
 pub use Rattle.std.specs.Int.{w64}
 pub use Rattle.std.specs.Int.RustNames.{FitsSigned}
 pub use Rattle.std.specs.List.{AllZip, flat_map, list_any, position_from, sum_by}
-pub use Rattle.std.specs.Option.{option_map_or}
 pub use Rattle.std.specs.Ordering.{eq_by_cmp, is_lt}
-pub use Rattle.std.specs.Prelude.{if◌then◌else◌, max}
+pub use Rattle.std.specs.Prelude.{max}
 pub use Rattle.std.specs.declared.cmp.Ordering.{Ordering}
 pub use Rattle.std.specs.declared.cmp.Ordering.TheVariants.{Less}
 pub use Rattle.ent_alloc.proofs.Flushes.{born-IsPermutation, born-apart, born-lives, born-not_live, live-after_flush, live-stays}
@@ -34,13 +33,12 @@ pub use Rattle.ent_alloc.proofs.ImageHeader.{length-header_bytes}
 pub use Rattle.ent_alloc.proofs.ImageOf.{few_wait, length-slots_bytes}
 pub use Rattle.ent_alloc.proofs.ImageSound.{roster_slots}
 pub use Rattle.ent_alloc.proofs.ListLaws.{AllPairs-head, AllPairs-tail, drop-append}
-pub use Rattle.ent_alloc.proofs.Listing.{drop_at}
 pub use Rattle.ent_alloc.proofs.PoolLaw.{live-after_takes, reply-cursor, top-after_takes}
 pub use Rattle.ent_alloc.proofs.Replies.{not_apart, reply-not_live}
 pub use Rattle.ent_alloc.proofs.Retired.{retired-rest}
 pub use Rattle.ent_alloc.proofs.Soundness.{after_alloc-sound, after_flush-sound, after_free-sound, after_take-sound, opening-sound}
 pub use Rattle.ent_alloc.proofs.Taken.{length-available, made-after_flush}
-pub use Rattle.ent_alloc.specs.Entities.{Entities, without_rows}
+pub use Rattle.ent_alloc.specs.Entities.{without_rows}
 pub use Rattle.ent_alloc.specs.History.{Call, IsLegal, after_history, given_in, handles_in}
 pub use Rattle.ent_alloc.specs.Image.{HasImage as HasAllocatorImage, image as allocator_image}
 pub use Rattle.ent_alloc.specs.Limits.{AreLimits, Limits}
@@ -71,7 +69,7 @@ pub use Rattle.ent_storage.specs.EntityMap.{AreBare, Entity, EntityMap, Store, b
 pub use Rattle.ent_storage.specs.Image.{AreStored, IsBirth, component, entities_bytes, entity_bytes, width_below, word}
 unfoldable pub use Rattle.ent_storage.specs.Image.{long, width}
 pub use Rattle.ent_storage.specs.Places.{AreWithout}
-pub use Rattle.ent_world.specs.BirthsAlone.{AppliedAlone, BirthCommand, BirthFault, BirthMap, after_birth_command, after_birth_commands, after_birth_queues, births_in, births_of, despawned, entered_alone, frame_alone, held_by, inserted, on_birth, on_each_birth, removed}
+pub use Rattle.ent_world.specs.BirthsAlone.{AppliedAlone, BirthCommand, BirthMap, after_birth_command, after_birth_commands, after_birth_queues, births_in, births_of, despawned, entered_alone, frame_alone, held_by, inserted, on_birth, on_each_birth, removed}
 pub use Rattle.ent_world.specs.Effects.{Applied, after_command, after_commands, after_despawn, after_insert, after_queues, after_remove, after_spawn, applied, on_each, on_entity, spawned, with_fault}
 pub use Rattle.ent_world.specs.Entering.{AreNew, birth_after, first_birth, is_unnamed, named, named_handles, named_queues, next_birth, numbered}
 pub use Rattle.ent_world.specs.FirstFault.{AreFramed, HaveAllocator, MayTakeMemory}
@@ -81,12 +79,11 @@ pub use Rattle.ent_world.specs.InBlocks.{IsKeptInBlocks}
 pub use Rattle.ent_world.specs.Memory.{TakesMemoryIn, command_takes_memory, insert_takes_memory, one_takes_memory}
 pub use Rattle.ent_world.specs.Named.{AreBelow, AreListed, AreNamed, AreNamedAfter, AreNamedBy, AreNames, IsNamedBy, IsSameFault, IsThere}
 pub use Rattle.ent_world.specs.Read.{IsRead}
-pub use Rattle.ent_world.specs.Rest.{HasStoppedSo, IsLater, IsLaterIn, after_left, after_left_queues, last_part, left_commands}
+pub use Rattle.ent_world.specs.Rest.{IsLater, IsLaterIn, after_left, after_left_queues, last_part, left_commands}
 pub use Rattle.ent_world.specs.Rows.{ArePlaces, AreRows, Rows, with_moved, with_rows}
-pub use Rattle.ent_world.specs.Sync.{after_births, at_ordinal, birth_in, cut, cut_commands, cut_queue, first_part, handles_listed, listed_birth, listed_by, next_phase, no_system, ordinal, ordinal_among, stops, sync, unlisted, unlisted_birth, with_born}
+pub use Rattle.ent_world.specs.Sync.{after_births, birth_in, cut, cut_commands, first_part, handles_listed, listed_birth, listed_by, no_system, ordinal, stops, sync, unlisted, with_born}
 pub use Rattle.ent_world.specs.World.{AreLiving, IsWorld, World, first_world, lives_in}
 pub use Rattle.ent_world.specs.declared.fault.Fault.{Fault}
 pub use Rattle.ent_world.specs.declared.fault.FaultKind.{FaultKind}
 pub use Rattle.ent_world.specs.declared.image_fault.WorldImageFault.{WorldImageFault}
 pub use Rattle.ent_world.specs.declared.image_fault.WorldImageFault.TheVariants.{Memory}
-pub use Rattle.ent_world.specs.declared.stop.Stop.{Stop}

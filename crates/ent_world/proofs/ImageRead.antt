@@ -72,14 +72,7 @@ kept_by_image P bytes it exact w has is holds = search (rules, read_is)
 -- an image has a slot's bytes for each slot, and at least 16 for each entity
 pub bounded : (bytes : List ℕ) (result : Result World WorldImageFault) → IfOk result (λ w. image w ≡ bytes)
     → IfOk result HasImage → IfOk result (λ w. least w ≤ length bytes)
-bounded bytes (Ok w) found has = grind (
-  arith,
-  common_steps,
-  length-append,
-  length-header,
-  allocator_len (allocator_of w),
-  entities_least w.entities (living w) has.stored,
-)
+bounded bytes (Ok w) found has = grind (arith, common_steps, length-append, length-header, allocator_len (allocator_of w), entities_least w.entities (living w) has.stored)
 bounded bytes (Err fault) found has = tt
 
 -- ---- the living handles
@@ -106,15 +99,7 @@ same_answer b b2 there back = grind (arith, common_steps)
 
 module _ (m : EntityMap) (hs : List Handle) (stored : AreStored m hs) where
   pub members : (h : Handle) → map.contains_key m h ≡ stands_in hs h
-  members h = grind (
-    arith,
-    common_steps,
-    stands_in-from_Contains hs h,
-    stored.only h,
-    never_stored m h,
-    stored.each h,
-    Contains-from_stands_in hs h,
-  )
+  members h = grind (arith, common_steps, stands_in-from_Contains hs h, stored.only h, never_stored m h, stored.each h, Contains-from_stands_in hs h)
 
   pub stored_living : (live : set.FinSet handle_cmp) → set.from_list hs ≡ live → (h : Handle)
       → map.contains_key m h ≡ set.contains live h

@@ -82,7 +82,7 @@ module _ (start : EntityMap) (name : Handle → Birth) (distinct : AreDistinct n
     only = λ b some.
         let either : (name h ≡ b) ⊎ (is_some (find birth_cmp b births) ≡ true) = grind
         (arith, common_steps, finds b, tells_apart birth_cmp-IsAntisymmetric b (name h)) in
-        elim either [ | inl is ↦ (h, (before.lived h here, is)) | inr found ↦ before.only b found ];
+        elim either [ inl is ↦ (h, (before.lived h here, is)) | inr found ↦ before.only b found ];
   }
 
   -- ---- one entity

@@ -110,13 +110,7 @@ position_own g h i (x ∷ hs) k g_is h_is = grind
 listed_some : (phase system : ℕ) (queues : List (List Command)) (h : Handle)
     → is_some (listed_birth phase system queues h) ≡ stands_in (flat_map handles_listed queues) h
 listed_some phase system [] h = refl
-listed_some phase system (q ∷ queues) h = grind (
-  arith,
-  common_steps,
-  some_position (eq_by_cmp handle_cmp h) 0 (handles_listed q),
-  listed_some phase (system + 1) queues h,
-  list_any-append (eq_by_cmp handle_cmp h) (handles_listed q) (flat_map handles_listed queues),
-)
+listed_some phase system (q ∷ queues) h = grind (arith, common_steps, some_position (eq_by_cmp handle_cmp h) 0 (handles_listed q), listed_some phase (system + 1) queues h, list_any-append (eq_by_cmp handle_cmp h) (handles_listed q) (flat_map handles_listed queues))
 
 -- the frame of such a birth, and a system that is not before the first of these
 listed_parts : (phase system : ℕ) (queues : List (List Command)) (h : Handle) (b : Birth)
@@ -129,17 +123,7 @@ listed_own : (phase system : ℕ) (queues : List (List Command)) (g h : Handle) 
     → All (λ q. length (handles_listed q) ≤ 2 ^ 32) queues → listed_birth phase system queues g ≡ Some b
     → listed_birth phase system queues h ≡ Some b → g ≡ h
 listed_own phase system [] g h b fits g_is h_is = absurd (none-some b g_is)
-listed_own phase system (q ∷ queues) g h b fits g_is h_is = grind (
-  arith,
-  common_steps,
-  position_bounds (eq_by_cmp handle_cmp g) 0 (handles_listed q),
-  position_bounds (eq_by_cmp handle_cmp h) 0 (handles_listed q),
-  position_own g h 0 (handles_listed q),
-  listed_parts phase (system + 1) queues g b,
-  listed_parts phase (system + 1) queues h b,
-  listed_own phase (system + 1) queues g h b (All-tail (λ q. length (handles_listed q) ≤ 2 ^ 32) q queues fits),
-  All-head (λ q. length (handles_listed q) ≤ 2 ^ 32) q queues fits,
-)
+listed_own phase system (q ∷ queues) g h b fits g_is h_is = grind (arith, common_steps, position_bounds (eq_by_cmp handle_cmp g) 0 (handles_listed q), position_bounds (eq_by_cmp handle_cmp h) 0 (handles_listed q), position_own g h 0 (handles_listed q), listed_parts phase (system + 1) queues g b, listed_parts phase (system + 1) queues h b, listed_own phase (system + 1) queues g h b (All-tail (λ q. length (handles_listed q) ≤ 2 ^ 32) q queues fits), All-head (λ q. length (handles_listed q) ≤ 2 ^ 32) q queues fits)
 
 -- ---- queues by names list the names of what the queues list
 
@@ -225,14 +209,7 @@ module _ (queues : List (List Command)) (w : World) (view : BirthMap) (is_world 
 
 below-kept : (phase : ℕ) → IsKept (λ w. AreBelow phase w.entities)
 below-kept phase = record {
-  components = λ change h w there before g e is. grind (
-    arith,
-    common_steps,
-    entity_there w.entities h there,
-    finite.get-insert handle_cmp_total w.entities h,
-    before h,
-    before g e,
-  );
+  components = λ change h w there before g e is. grind (arith, common_steps, entity_there w.entities h there, finite.get-insert handle_cmp_total w.entities h, before h, before g e);
   despawn = λ h w there before g e is. grind
       (arith, common_steps, finite.get-remove handle_cmp_total w.entities h g, before g e);
 }

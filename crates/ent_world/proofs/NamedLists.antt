@@ -17,15 +17,7 @@ module _ (name : Handle → Birth) (m : EntityMap) (births : BirthMap) (named : 
 
   name_less : (g h : Handle) → IsThere m g → IsThere m h → birth_order m g h ≡ Less
       → T (is_lt (birth_cmp (name g) (name h)))
-  name_less g h g_there h_there less = grind (
-    arith,
-    common_steps,
-    birth_by_name name m g names g_there,
-    birth_by_name name m h names h_there,
-    names_apart name m births named names g h g_there h_there,
-    birth_cmp-IsAntisymmetric (name g) (name h),
-    tied_itself handle_cmp_total h,
-  )
+  name_less g h g_there h_there less = grind (arith, common_steps, birth_by_name name m g names g_there, birth_by_name name m h names h_there, names_apart name m births named names g h g_there h_there, birth_cmp-IsAntisymmetric (name g) (name h), tied_itself handle_cmp_total h)
 
   below-names : (h : Handle) → IsThere m h → (hs : List Handle) → All (λ g. birth_order m h g ≡ Less) hs
       → All (IsThere m) hs → T (below_all birth_cmp (name h) (map entry_of hs))

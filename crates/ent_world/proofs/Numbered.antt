@@ -85,13 +85,7 @@ pub get-named_handles : (born : List Handle) (phase system index : ℕ) (hs : Li
     ≡ or_named (map.get m q) (given (stands_in born q) (birth_by_index phase system
     (position_from (eq_by_cmp handle_cmp q) index hs)))
 get-named_handles born phase system index [] m q is = search (rules, given-none, or_named-none)
-get-named_handles born phase system index (h ∷ hs) m q is = grind (
-  arith,
-  common_steps,
-  next-birth_at phase system index,
-  get-named_handles born phase system (index + 1) hs (named born h (birth_at phase system index) m) q is,
-  get-named born h (birth_at phase system index) m q,
-)
+get-named_handles born phase system index (h ∷ hs) m q is = grind (arith, common_steps, next-birth_at phase system index, get-named_handles born phase system (index + 1) hs (named born h (birth_at phase system index) m) q is, get-named born h (birth_at phase system index) m q)
 
 -- The handles that queues list.
 

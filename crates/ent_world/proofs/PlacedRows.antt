@@ -30,7 +30,7 @@ pub place_of : (places : List Handle) (h : Handle) → stands_in places h ≡ tr
 place_of [] h none = absurd (true≢false (sym none))
 place_of (x ∷ places) h there =
     let either : (x ≡ h) ⊎ (stands_in places h ≡ true) = grind (arith, common_steps, same_handle h x) in
-    elim either [ | inl is ↦ (0, ap Some is) | inr rest ↦ let one = place_of places h rest in (suc one.0, one.1) ]
+    elim either [ inl is ↦ (0, ap Some is) | inr rest ↦ let one = place_of places h rest in (suc one.0, one.1) ]
 
 pub stands_from : (places : List Handle) (n i : ℕ) (h : Handle) → slice_get places i ≡ Some h → n ≤ i
     → stands_in (drop n places) h ≡ true

@@ -1,6 +1,6 @@
 //! Worlds: who is alive and what each entity is made of, and the sync point at which the commands
 //! of all systems take effect.
-#![tactic(auto)]
+#![tactic(auto, using(crate::proofs::Laws::laws))]
 
 mod applying;
 mod births;

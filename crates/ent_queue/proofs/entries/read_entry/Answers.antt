@@ -51,23 +51,13 @@ read-handles-requires c =
 pub read-bundle-requires-in-1 : goal.read-bundle-requires-in-1
 read-bundle-requires-in-1 c =
     let f = spawn_many (goal.at.read-bundle-requires-in-1 c).In-1 in
-    rw (
-      c.read-handles.ensures.rest,
-      c.read_u32-count.ensures.value,
-      c.read_u32-count.ensures.rest,
-      c.read_u8-kind.ensures.rest,
-    ) (record { header = f.bundle.header; items = f.bundle.items; is = f.bundle.is })
+    rw (c.read-handles.ensures.rest, c.read_u32-count.ensures.value, c.read_u32-count.ensures.rest, c.read_u8-kind.ensures.rest) (record { header = f.bundle.header; items = f.bundle.items; is = f.bundle.is })
 
 pub returns-in-1-clause-rest : goal.returns-in-1-clause-rest
 returns-in-1-clause-rest c =
     let f = spawn_many (goal.at.returns-in-1-clause-rest c).In-1 in
     c.read-bundle-in-1.ensures.rest
-    ∙ rw (
-      c.read-handles.ensures.rest,
-      c.read_u32-count.ensures.value,
-      c.read_u32-count.ensures.rest,
-      c.read_u8-kind.ensures.rest,
-    ) f.bundle.rest_is
+    ∙ rw (c.read-handles.ensures.rest, c.read_u32-count.ensures.value, c.read_u32-count.ensures.rest, c.read_u8-kind.ensures.rest) f.bundle.rest_is
 
 pub read_handle-handle-requires-in-2 : goal.read_handle-handle-requires-in-2
 read_handle-handle-requires-in-2 c = search (rules, insert)

@@ -1,6 +1,6 @@
 use Rattle.ent_world.proofs.Common.{rules, sym, ◌∙◌, drop}
 use Rattle.ent_world.proofs.Numbered.{named_now, named_before, keeps_name}
-use Rattle.ent_world.proofs.PlacedRows.{stands_from, stands_before, stands_nowhere}
+use Rattle.ent_world.proofs.PlacedRows.{stands_from, stands_before}
 use Rattle.ent_world.proofs.births.name.Goals.{else-before-place-via-then-before-place+else-birth_at, else-before-place-via-else-before-place}
 use Rattle.ent_world.proofs.births.name.Goals as goal
 
@@ -21,7 +21,3 @@ returns-else-before-place-clause-named c = elim c.else-before-place.branch [
       (stands_before c.args.storage.now.places c.args.before c.in-Some.place c.args.handle
       (λ k is. sym c.in-Some.is ∙ c.place_of.ensures ∙ (c.requires c.args.handle k).1 is) w.if-before-place.false))
 ]
-
--- it has no place
-pub returns-in_default-clause-named : goal.returns-in_default-clause-named
-returns-in_default-clause-named c = search (rules, named_before, stands_nowhere)

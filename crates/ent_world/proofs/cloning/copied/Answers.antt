@@ -1,10 +1,6 @@
 use Rattle.ent_world.proofs.Common.{rules}
-use Rattle.ent_world.proofs.Making.{anyhow, some_entity}
 use Rattle.std.specs.FinMap as map
 use Rattle.ent_world.proofs.cloning.copied.Goals as goal
 
 pub returns-then-entities-eq0-clause-entities : goal.returns-then-entities-eq0-clause-entities
 returns-then-entities-eq0-clause-entities c = search (rules, map.empty_of_len)
-
-pub returns-clause-memory : goal.returns-clause-memory
-returns-clause-memory c = search (rules, anyhow, some_entity)

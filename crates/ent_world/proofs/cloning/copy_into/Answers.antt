@@ -1,5 +1,4 @@
 use Rattle.ent_world.proofs.Common.{rules, ◌≡◌, Result, OnErr, none-some, EntityMap, AreBare}
-use Rattle.ent_world.proofs.Making.{anyhow, some_entity}
 use Rattle.std.specs.FinMap as map
 use Rattle.ent_world.proofs.cloning.copy_into.Goals as goal
 
@@ -16,6 +15,3 @@ returns-then-entities-eq0-clause-entities c = search
 
 pub returns-then-entities-eq0-clause-memory : goal.returns-then-entities-eq0-clause-memory
 returns-then-entities-eq0-clause-memory c = search (rules, never, no_entities_bare)
-
-pub returns-else-slots-eq0-clause-memory : goal.returns-else-slots-eq0-clause-memory
-returns-else-slots-eq0-clause-memory c = search (rules, anyhow, some_entity)

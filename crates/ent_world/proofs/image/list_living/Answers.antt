@@ -13,6 +13,3 @@ loop-handle-preserved c =
     let bare : map.get c.args.entities.now.rows c.in-Some.handle ≡ None = grind
     (arith, common_steps, c.row.ensures.value, c.is_some.ensures, c.if-is_some.false) in
     search (rules, append_assoc, All-cons IsBare, All-append IsBare, bare)
-
-pub returns-then-is_some-clause-fault : goal.returns-then-is_some-clause-fault
-returns-then-is_some-clause-fault c other = search rules

@@ -1,12 +1,6 @@
-use Rattle.ent_world.proofs.Common.{rules, ◌++◌, arith, take-append-drop, word}
-use Rattle.ent_world.proofs.ImageHeader.{header_is, too_short, other_magic, other_version, part_missing, begins, short_letters, other_letters}
+use Rattle.ent_world.proofs.Common.{rules, ◌++◌, arith, word}
+use Rattle.ent_world.proofs.ImageHeader.{header_is, too_short, other_version, part_missing, begins}
 use Rattle.ent_world.proofs.image.read_header.Goals as goal
-
-pub returns-then-bytes-lt8 : goal.returns-then-bytes-lt8
-returns-then-bytes-lt8 c = search (rules, too_short, short_letters)
-
-pub returns-then-magic-ne-MAGIC-clause-refused : goal.returns-then-magic-ne-MAGIC-clause-refused
-returns-then-magic-ne-MAGIC-clause-refused c phase part rest fits_p fits is = search (rules, other_magic)
 
 pub returns-then-bytes-lt-HEADER : goal.returns-then-bytes-lt-HEADER
 returns-then-bytes-lt-HEADER c =
@@ -23,13 +17,7 @@ returns-then-rest-len-clause-refused c phase part rest fits_p fits is = part_mis
     c.read_long-len.result.0 c.args.bytes.now c.read_long-len.result.1.now (search rules) (search rules)
     (omega (arith, c.if-rest-len.true)) (cc) phase part rest fits_p fits is
 
-pub returns-clause-found : goal.returns-clause-found
-returns-clause-found c = search (rules, header_is, take-append-drop)
-
 -- ---- the first fault
-
-pub returns-then-magic-ne-MAGIC-clause-fault : goal.returns-then-magic-ne-MAGIC-clause-fault
-returns-then-magic-ne-MAGIC-clause-fault c = search (rules, other_letters)
 
 pub returns-then-version-ne-VERSION-clause-fault : goal.returns-then-version-ne-VERSION-clause-fault
 returns-then-version-ne-VERSION-clause-fault c =

@@ -1,9 +1,6 @@
 use Rattle.ent_queue.proofs.Common.{rules, ◌≡◌, suc, ◌-◌, ◌∷◌, arith, command_of, unpacked_commands}
-use Rattle.ent_queue.proofs.Queues.{no_commands, first_of_commands, some_command_begins, others_are_packed}
+use Rattle.ent_queue.proofs.Queues.{first_of_commands, some_command_begins}
 use Rattle.ent_queue.proofs.entries.EntriesIterator.next.Goals as goal
-
-pub returns-then-self-eq0-clause-steps : goal.returns-then-self-eq0-clause-steps
-returns-then-self-eq0-clause-steps c = search (rules, no_commands)
 
 pub read_entry-entry-requires : goal.read_entry-entry-requires
 read_entry-entry-requires c =
@@ -12,9 +9,6 @@ read_entry-entry-requires c =
       _,
       some_command_begins c.self.inside.left (c.self.inside.left - 1) c.self.inside.bytes.now some c.self.invariant,
     )
-
-pub invariant_of-self : goal.invariant_of-self
-invariant_of-self c = search (rules, others_are_packed)
 
 -- the commands before and after
 abbrev Steps : goal.After-rest-2-1 → Type 0

@@ -1,10 +1,7 @@
 use Rattle.ent_queue.proofs.Common.{rules, ◌++◌, ◌∷◌, [], ap, ◌∙◌, Remove, command_bytes}
-use Rattle.ent_queue.proofs.Pushes.{Pushed, pushed, count_fits}
+use Rattle.ent_queue.proofs.Pushes.{Pushed, pushed}
 use Rattle.ent_queue.proofs.queue.CommandQueue.remove.Goals.{After-write_remove}
 use Rattle.ent_queue.proofs.queue.CommandQueue.remove.Goals as goal
-
-pub overflow_add-self : goal.overflow_add-self
-overflow_add-self c = search (rules, count_fits)
 
 -- the bytes after the command
 after : (c : After-write_remove) → Pushed c.self.inside.count c.self.inside.bytes.items c.write_remove.new.bytes.items

@@ -1,15 +1,9 @@
 use Rattle.ent_queue.proofs.Common.{rules, ◌++◌, ap, ◌∙◌, Spawn, Refused, command_bytes}
-use Rattle.ent_queue.proofs.Pushes.{Pushed, pushed, count_fits}
+use Rattle.ent_queue.proofs.Pushes.{Pushed, pushed}
 use Rattle.ent_queue.proofs.Gaining.{is_refusal, refused_by_fault}
 use Rattle.ent_queue.proofs.queue.CommandQueue.spawn.Goals.{After-write_with_bundle, After-write_refused}
 use Rattle.ent_queue.proofs.queue.CommandQueue.spawn.Given as given
 use Rattle.ent_queue.proofs.queue.CommandQueue.spawn.Goals as goal
-
-pub overflow_add-self : goal.overflow_add-self
-overflow_add-self g c = search (rules, count_fits)
-
-pub overflow_add-self-in-Err : goal.overflow_add-self-in-Err
-overflow_add-self-in-Err g c = search (rules, count_fits)
 
 -- the bytes after the spawn
 served : (g : given.Over) (c : After-write_with_bundle g) → Pushed c.self.inside.count c.self.inside.bytes.items

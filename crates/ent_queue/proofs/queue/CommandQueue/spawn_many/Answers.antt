@@ -1,16 +1,9 @@
 use Rattle.ent_queue.proofs.Common.{rules, ◌++◌, ap, sym, subst, ◌∙◌, length, ◌<◌, ◌^◌, SpawnMany, Refused, command_bytes, bundle_bytes}
-use Rattle.ent_queue.proofs.Pushes.{Pushed, pushed, count_fits, many_written}
-use Rattle.ent_queue.proofs.Issuing.{queued_ok}
+use Rattle.ent_queue.proofs.Pushes.{Pushed, pushed, many_written}
 use Rattle.ent_queue.proofs.Gaining.{is_refusal, refused_by_fault}
 use Rattle.ent_queue.proofs.queue.CommandQueue.spawn_many.Goals.{After-write_bundle, After-write_refused}
 use Rattle.ent_queue.proofs.queue.CommandQueue.spawn_many.Given as given
 use Rattle.ent_queue.proofs.queue.CommandQueue.spawn_many.Goals as goal
-
-pub overflow_add-self : goal.overflow_add-self
-overflow_add-self g c = search (rules, count_fits)
-
-pub overflow_add-self-in-Err : goal.overflow_add-self-in-Err
-overflow_add-self-in-Err g c = search (rules, count_fits)
 
 -- the bytes after the spawn
 served : (g : given.Over) (c : After-write_bundle g) → Pushed c.self.inside.count c.self.inside.bytes.items
@@ -46,6 +39,3 @@ invariant_of-self-in-Err-1 g c = (refused g (goal.at.invariant_of-self-in-Err-1 
 
 pub returns-in-Err-clause-refused : goal.returns-in-Err-clause-refused
 returns-in-Err-clause-refused g c = search (rules, refused g, refused_by_fault)
-
-pub returns-in-Ok-clause-replies : goal.returns-in-Ok-clause-replies
-returns-in-Ok-clause-replies g c reply e = search (rules, queued_ok)

@@ -1,4 +1,4 @@
-use Rattle.ent_world.proofs.Common.{slice_get-get_or, rules, ◌≡◌, ◌+◌, ◌∷◌, drop, arith, err_from_is_err_and, drop_more, applied}
+use Rattle.ent_world.proofs.Common.{rules, ◌≡◌, ◌+◌, ◌∷◌, drop, arith, err_from_is_err_and, drop_more, applied}
 use Rattle.ent_world.proofs.Left.{queues_left-step, queues_cut-step}
 use Rattle.ent_world.proofs.world.World.apply_queues.Goals as goal
 
@@ -8,9 +8,6 @@ returns-in_err-apply_queue-clause-err c =
     let left : drop c.loop-system.system c.args.queues.now ≡ c.index-queues-system.result
     ∷ drop (c.loop-system.system + 1) c.args.queues.now = search (rules, drop_more) in
     search (rules, err_from_is_err_and, queues_cut-step, left)
-
-pub returns-in_err-apply_queue-clause-memory : goal.returns-in_err-apply_queue-clause-memory
-returns-in_err-apply_queue-clause-memory c = search (rules, err_from_is_err_and, slice_get-get_or)
 
 -- one queue more
 pub loop-system-preserved : goal.loop-system-preserved

@@ -108,12 +108,6 @@ abbrev parts_of : (c : In_ok-phase) → AreFramed c.args.bytes.now
 parts_of c = framed_by c.args.bytes.now c.in_ok-phase.phase c.in_ok-phase.part.now c.in_ok-phase.rest.now
     c.in_ok-phase.ensures.phase c.in_ok-phase.ensures.fits c.in_ok-phase.ensures.found
 
-pub returns-in_err-phase-clause-fault : goal.returns-in_err-phase-clause-fault
-returns-in_err-phase-clause-fault c = search (rules, handed_on)
-
-pub returns-in_err-phase-clause-memory : goal.returns-in_err-phase-clause-memory
-returns-in_err-phase-clause-memory c = search (rules, handed_on)
-
 pub returns-in_err-entities-clause-fault : goal.returns-in_err-entities-clause-fault
 returns-in_err-entities-clause-fault c =
     let parts = parts_of (goal.at.returns-in_err-entities-clause-fault c).In_ok-phase in

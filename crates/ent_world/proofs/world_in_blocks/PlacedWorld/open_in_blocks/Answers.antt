@@ -1,11 +1,7 @@
-use Rattle.ent_world.proofs.Common.{rules, ◌≡◌, ◌<◌, ◌≤◌, length, arith, ◌^◌, min, common_steps}
-use Rattle.ent_world.proofs.SpareRoom.{kept, some_wanted}
+use Rattle.ent_world.proofs.Common.{◌≡◌, ◌<◌, ◌≤◌, length, arith, ◌^◌, min, common_steps}
+use Rattle.ent_world.proofs.SpareRoom.{kept}
 use Rattle.ent_world.proofs.world_in_blocks.PlacedWorld.open_in_blocks.Goals.{else-not-needs_flush-via-then-not-needs_flush+else-is_err, else-not-needs_flush-via-else-not-needs_flush}
 use Rattle.ent_world.proofs.world_in_blocks.PlacedWorld.open_in_blocks.Goals as goal
-
--- room is lacking only where some is wanted
-pub returns-then-is_err-clause-memory : goal.returns-then-is_err-clause-memory
-returns-then-is_err-clause-memory g c _ = search (rules, some_wanted)
 
 pub invariant_of-result : goal.invariant_of-result
 invariant_of-result g c =
