@@ -17,13 +17,13 @@ pub use Rattle.ent_log.specs.Spawning.{returned}
 pub use Rattle.ent_log.specs.declared.entry.Entry.{Entry}
 pub use Rattle.ent_log.specs.declared.entry.Entry.TheVariants.{Spawn}
 pub use Rattle.ent_queue.specs.Command.{Command}
-pub use Rattle.ent_queue.specs.Drawing.{AreDrawnBy, after_commands}
+pub use Rattle.ent_queue.specs.Drawing.{after_commands}
 pub use Rattle.ent_runner.proofs.EachOutput.{HoldsAt, each_done, each_either}
 pub use Rattle.ent_runner.proofs.Lists.{at_within, get_mapped, mapped_at}
 pub use Rattle.ent_runner.specs.Crew.{AreBrokenOff, AreDone}
-pub use Rattle.ent_runner.specs.Frame.{queue_at}
+pub use Rattle.ent_runner.specs.Frame.{SystemMayHaveIssued, SystemMayIssue}
 pub use Rattle.ent_world.specs.OpenWorld.{View}
 pub use Rattle.ent_block_runner.specs.Drawing.{DrawsOne, Source}
 pub use Rattle.ent_block_runner.specs.Filling.{Draws, Extends, Filling}
 pub use Rattle.ent_block_runner.specs.Queues.{HaveIssued, HaveStopped, IssuesAt, blocks_after_queues}
-pub use Rattle.ent_block_runner.specs.Running.{AreReady, FillsAt, HaveFilled, IsBrokenOff, blocks_after, log_at}
+pub use Rattle.ent_block_runner.specs.Running.{AreReady, FillsAt, HaveFilled, IsBrokenOff, SystemMayHaveLogged, SystemMayLog, blocks_after}

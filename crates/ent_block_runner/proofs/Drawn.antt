@@ -1,5 +1,5 @@
 -- What a call on a system's log draws from its block.
-use Rattle.ent_block_runner.proofs.Common.{rules, ◌≡◌, refl, sym, ap, ◌∙◌, ℕ, List, [], ◌∷◌, ◌++◌, take, append-nil, arith, Result, Ok, Err, IfOk, OnOk, OnErr, IsErrOf, common_steps, Handle, reply_from, listed, Refused, ReserveError, Block, Entry, Spawn, spawned_in, returned, Source, DrawsOne, Draws, Filling, Extends}
+use Rattle.ent_block_runner.proofs.Common.{rules, ◌≡◌, refl, sym, ◌∙◌, ℕ, List, [], ◌∷◌, ◌++◌, take, append-nil, arith, Result, Ok, Err, IfOk, OnOk, OnErr, IsErrOf, common_steps, Handle, reply_from, listed, Refused, ReserveError, Block, Entry, Spawn, spawned_in, returned, Source, DrawsOne, Draws, Filling, Extends}
 use Rattle.ent_alloc.specs.declared.refused.Refused.TheVariants as refused
 use Rattle.ent_alloc.specs.declared.reserve_error.ReserveError.TheVariants as failed
 use Rattle.ent_log.specs.declared.entry.Entry.TheVariants.{Command}
@@ -31,20 +31,7 @@ module _ {C : Type 0} where
   -- entries that draw nothing
   extends_still : (before after : Filling C) (added : List (Entry C)) → spawned_in added ≡ []
       → after.source ≡ before.source → after.log ≡ before.log ++ added → Extends before after
-  extends_still before after added none same log =
-      let pool = before.source.phase.phase.start.pool in
-      let b = before.source.reserver.block in
-      let nothing = draws_nothing pool b in
-      record {
-        phase = ap (λ (s : Source). s.phase) same;
-        number = ap (λ (s : Source). s.reserver.number) same;
-        added = added;
-        log = log;
-        draws = rw (ap (λ (s : Source). s.reserver.block) same) (record {
-          given = rw none nothing.given;
-          used = rw none nothing.used;
-        });
-      }
+  extends_still before after added none same log = search (rules, draws_nothing, none, same)
 
   pub extends_push : {A E : Type 0} (before after : Filling C) (command : C) (result : Result A E)
       → after.source ≡ before.source → OnOk result (after.log ≡ before.log ++ Command command ∷ [])
@@ -53,21 +40,11 @@ module _ {C : Type 0} where
   extends_push before after command (Err e) same ok err = extends_still before after [] refl same
       (err ∙ sym (append-nil before.log))
 
-  extends_given : (before after : Filling C) (h : Handle) → DrawsOne before.source (Ok h) after.source
-      → after.log ≡ before.log ++ Spawn h ∷ [] → Extends before after
-  extends_given before after h d log = record {
-    phase = ap (λ (s : Source). s.phase) d.used;
-    number = ap (λ (s : Source). s.reserver.number) d.used;
-    added = Spawn h ∷ [];
-    log = log;
-    draws = record { given = sym d.given; used = ap (λ (s : Source). s.reserver.block) d.used };
-  }
-
   pub extends_spawn : (before after : Filling C) (result : Result Handle ReserveError)
       → IfOk result (λ h. after.log ≡ before.log ++ Spawn h ∷ []) → OnErr result (after.log ≡ before.log)
       → ((reply : Result Handle Refused) → result ≡ returned reply → DrawsOne before.source reply after.source)
       → OnErr result (after.source ≡ before.source) → Extends before after
-  extends_spawn before after (Ok h) ok err replies still = extends_given before after h (replies (Ok h) refl) ok
+  extends_spawn before after (Ok h) ok err replies still = search (rules, replies (Ok h) refl)
   extends_spawn before after (Err e) ok err replies still = extends_still before after [] refl still
       (err ∙ sym (append-nil before.log))
 

@@ -1,4 +1,5 @@
 pub mod Drawn
+pub mod FromBlocks
 pub mod Filled
 pub mod FilledQueues
 pub mod Whole

@@ -24,16 +24,14 @@ among_all (r ∷ before) = (λ i. if same_unused r i then are_among (map unused 
 
 length_used : (before : List Block) (queues : List (List Command)) → length (blocks_after_queues before queues) ≡ length
     before
-length_used [] queues = refl
-length_used (r ∷ before) [] = refl
 length_used (r ∷ before) (queue ∷ queues) = ap suc (length_used before queues)
+length_used _ _ = refl
 
 -- which blocks they are does not depend on how many were used
 pub unused_used : (before : List Block) (queues : List (List Command)) → map unused (blocks_after_queues before queues)
     ≡ map unused before
-unused_used [] queues = refl
-unused_used (r ∷ before) [] = refl
 unused_used (r ∷ before) (queue ∷ queues) = ap (λ bs. unused r ∷ bs) (unused_used before queues)
+unused_used _ _ = refl
 
 only_memory : (e : EndError) → (e ≡ unended.OtherPhase → ⊥) → (e ≡ unended.Order → ⊥) → ((n : ℕ) → IsMissing n e → ⊥)
     → e ≡ unended.Memory

@@ -1,14 +1,11 @@
 -- The names that proofs of this crate cite, of std, of the crates below and of its own specs. Declares nothing.
-pub use Rattle.std.proofs.Common.{Bool, Err, List, None, Ok, Result, Some, [], ap, append-nil, append_assoc, arith, drop, false, get_or, inl, inr, length, map, refl, rules, subst, suc, sym, take, true, zero, ℕ, ⊎_elim, ◌++◌, ◌+◌, ◌-◌, ◌<◌, ◌∙◌, ◌∷◌, ◌≡◌, ◌⊎◌}
+pub use Rattle.std.proofs.Common.{Bool, Err, List, None, Ok, Result, Some, [], ap, append-nil, append_assoc, arith, drop, false, get_or, inl, inr, length, refl, rules, subst, sym, take, true, ℕ, ◌++◌, ◌<◌, ◌∙◌, ◌∷◌, ◌≡◌}
 pub use Rattle.std.proofs.lemmas.Bool.{cases_lt}
-pub use Rattle.std.proofs.lemmas.Fn.{FoldsTo-push}
 pub use Rattle.std.proofs.lemmas.Grind.{common_steps}
-pub use Rattle.std.proofs.lemmas.List.{get_or_push, length-append, length-map, length-replicate, map-append}
-pub use Rattle.std.proofs.lemmas.List.Elements.{All-append, All-cons, All-head, All-map, All-nil, All-tail, Contains-get_or}
-pub use Rattle.std.proofs.lemmas.List.FromFn.{get_or-range_with_len, length-range_with_len}
-pub use Rattle.std.proofs.lemmas.List.Quantifiers.{all_pairs_push}
+pub use Rattle.std.proofs.lemmas.List.{length-map, length-replicate, map-append}
+pub use Rattle.std.proofs.lemmas.List.Elements.{All-append, All-cons, All-head, All-nil, All-tail, Contains-get_or}
 pub use Rattle.std.proofs.lemmas.List.Sorted.{All-permutation, IsPermutation-sym}
-pub use Rattle.std.proofs.lemmas.Option.{get_or_from_slice_get, slice_get-get_or, slice_get_within}
+pub use Rattle.std.proofs.lemmas.Option.{get_or_from_slice_get, slice_get_within}
 pub use Rattle.std.specs.List.{All, AllPairs, flat_map, range_with_len}
 pub use Rattle.std.specs.List.Sorted.{IsPermutation}
 pub use Rattle.std.specs.Prelude.{IfOk, IsErrOf, IsTrue, OnErr, OnOk, filter, if◌then◌else◌, replicate, slice_get, ◌==◌}
@@ -26,18 +23,18 @@ pub use Rattle.ent_log.specs.Logs.{entries_of, first_unreserved, is_reserved, sp
 pub use Rattle.ent_log.specs.Spawning.{returned}
 pub use Rattle.ent_log.specs.declared.entry.Entry.{Entry}
 pub use Rattle.ent_log.specs.declared.entry.Entry.TheVariants.{Command, Spawn}
+pub use Rattle.ent_runner.proofs.Adding.{added_at, all_either, each_may, ended_by, ours, own_mapped, stopped_last}
 pub use Rattle.ent_runner.proofs.Conducting.{none_weaker, written_back}
+pub use Rattle.ent_runner.proofs.EachOutput.{everywhere}
 pub use Rattle.ent_runner.proofs.Lending.{broken_off_seen, done_seen}
-pub use Rattle.ent_runner.proofs.Lists.{all_flat, all_from_each, at_within, each_of_all, filter_map_is}
+pub use Rattle.ent_runner.proofs.Lists.{all_from_each, each_of_all, filter_map_is}
 pub use Rattle.ent_runner.proofs.NoSystems.{all_rise, is_none, no_jobs, none_once}
-pub use Rattle.ent_runner.specs.Crew.{AreBrokenOff, AreDone, DidAll, DidUntil, DoesAt}
-pub use Rattle.ent_shared.proofs.Sorting.{all_sorted}
-pub use Rattle.ent_shared.specs.Order.{Respects, as_call, handles_given, handles_of, history_of, own_of_all, reservations_by, reservations_of}
+pub use Rattle.ent_runner.specs.Crew.{AreBrokenOff, AreDone, DidAll, OfEach}
+pub use Rattle.ent_shared.specs.Order.{Respects, as_call, handles_given, handles_of, history_of, reservations_of}
 pub use Rattle.ent_shared.specs.Phase.{Reserver, Shared, records_of}
-pub use Rattle.ent_shared.specs.Record.{opened, own_reservations, reservation_at}
+pub use Rattle.ent_shared.specs.Record.{reservation_at}
 unfoldable pub use Rattle.ent_shared.specs.Record.{opened_records}
 pub use Rattle.ent_shared.specs.declared.record.Record.{Record}
-pub use Rattle.ent_shared.specs.declared.record.RecordEntry.TheVariants.{Own}
 pub use Rattle.ent_shared.specs.declared.record.Reservation.{Reservation}
 pub use Rattle.ent_log_runner.specs.Lending.{RepliesOne, ReservesOne}
 pub use Rattle.ent_log_runner.specs.Logging.{Extends, Filled, HasGained, IsReady, LogGains}

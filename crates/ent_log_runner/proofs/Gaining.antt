@@ -31,18 +31,15 @@ module _ {C : Type 0} where
         let one = reservation_at before.own g.high 1 in
         rw g.after (record {
           gained = record { number = refl; reservations = one ∷ []; entries = refl };
-          callers =
-              All-cons (λ (c : Reservation). c.caller ≡ before.own.number) one [] refl (no_callers before.own);
-          given = rw
-              g.after at given;
+          callers = All-cons (λ (c : Reservation). c.caller ≡ before.own.number) one [] refl (no_callers before.own);
+          given = rw g.after at given;
         })
     | inr none ↦
         let same = (r.quota (omega arith)).1 in
         rw same (record {
           gained = gained_nothing before.own;
           callers = no_callers before.own;
-          given = rw same at
-              given;
+          given = rw same at given;
         })
   ]
 
@@ -51,18 +48,12 @@ module _ {C : Type 0} where
       → spawned_in added ≡ [] → Extends before (record before { log = new })
   extends_added before new added ready log none =
       let r = before.reserver.now.own in
-      record {
-        same = refl;
-        shared = refl;
-        ready = ready;
-        added = added;
-        log = log;
-        gains = record {
-          gained = gained_nothing r;
-          callers = no_callers r;
-          given = sym (append-nil (handles_given r)) ∙ ap (λ hs. handles_given r ++ hs) (sym none);
-        };
-      }
+      let gains : LogGains r added r = record {
+        gained = gained_nothing r;
+        callers = no_callers r;
+        given = rw none (sym (append-nil (handles_given r)));
+      } in
+      search (rules, gains)
 
   pub extends_push : {A E : Type 0} (before : Filled C) (new : List (Entry C)) (command : C) → IsReady before
       → (result : Result A E) → OnOk result (new ≡ before.log ++ Command command ∷ []) → OnErr result (new ≡ before.log)
@@ -111,15 +102,14 @@ module _ {C : Type 0} (before after : Filled C) (lent left : Lent) (lent_is : le
   extends_spawn (Err (failed.Quota rest)) ok err replies memory = extends_refused (refused.Quota rest) err
       (replies (Err (refused.Quota rest)) refl)
   extends_spawn (Err failed.Memory) ok err replies memory =
-      let same : after.reserver.now ≡ before.reserver.now = left_is ∙ (ap (λ (l : Lent). l.reserver.now) (memory refl)
-      ∙ lent_is) in
+      let same : left ≡ lent = memory refl in
       record {
         same = name;
         shared = kept;
-        ready = still (ap (λ (l : Lent). l.shared.now) (memory refl));
+        ready = still (ap (λ (l : Lent). l.shared.now) same);
         added = [];
         log = err ∙ sym (append-nil before.log);
-        gains = gains_same before.reserver.now after.reserver.now same;
+        gains = gains_same before.reserver.now after.reserver.now (search (rules, same));
       }
 
 -- a spawn keeps the reserver that was lent

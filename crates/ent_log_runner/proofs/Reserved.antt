@@ -1,7 +1,6 @@
 -- The handles of all spawns are reserved in the allocator after the run.
-use Rattle.ent_log_runner.proofs.Common.{rules, ◌≡◌, ℕ, ◌<◌, List, [], ◌∷◌, refl, ap, ◌∙◌, sym, subst, arith, get_or, Bool, true, false, None, filter, ◌==◌, if◌then◌else◌, IsTrue, All, common_steps, slice_get_within, All-nil, All-cons, All-head, All-tail, All-append, Contains-get_or, All-permutation, IsPermutation-sym, Handle, Allocator, state_of, stands_in, IsSound, IsLive, given_in-taken, given_in-not_live, after_history-takes, live-after_takes, stands_in-from_Contains, Call, given_in, handles_in, after_history, requests_of, All-left, All-right, Entry, spawned_in, entries_of, first_unreserved, is_reserved, all_from_each, HaveRun, log_at, entries_by}
+use Rattle.ent_log_runner.proofs.Common.{rules, ◌≡◌, ℕ, ◌<◌, List, [], ◌∷◌, refl, ap, ◌∙◌, sym, subst, arith, get_or, Bool, true, false, None, filter, ◌==◌, if◌then◌else◌, IsTrue, All, common_steps, slice_get_within, All-nil, All-cons, All-head, All-tail, All-append, Contains-get_or, All-permutation, IsPermutation-sym, Handle, Allocator, state_of, stands_in, IsSound, IsLive, given_in-taken, given_in-not_live, after_history-takes, live-after_takes, stands_in-from_Contains, Call, given_in, handles_in, after_history, requests_of, All-left, All-right, Entry, spawned_in, entries_of, first_unreserved, is_reserved, all_from_each, HaveRun, log_at, entries_by, everywhere, get_or_from_slice_get}
 use Rattle.ent_log_runner.proofs.Gaining.{spawned_both}
-use Rattle.ent_log_runner.proofs.Logged.{everywhere, log_is}
 
 module _ (P : Handle → Type 0) where
   kept : (call : Call) (more : List Call) (b : Bool) → All P (handles_in call.reply) → All P (given_in more)
@@ -11,9 +10,7 @@ module _ (P : Handle → Type 0) where
 
   given_kept : (p : Call → Bool) (history : List Call) → All P (given_in history) → All P (given_in (filter p history))
   given_kept p [] all = all
-  given_kept p (call ∷ history) all = kept call (filter p history) (p call)
-      (All-left P (handles_in call.reply) (given_in history) all)
-      (given_kept p history (All-right P (handles_in call.reply) (given_in history) all))
+  given_kept p (call ∷ history) all = search (rules, kept, All-left, All-right, given_kept p history)
 
 module _ {C : Type 0} (start after : Allocator) (workers count : ℕ) (logs : List (List (Entry C)))
     (run : HaveRun workers count start logs after) (Q : Handle → Type 0) (all : All Q (given_in run.history)) where
@@ -23,14 +20,12 @@ module _ {C : Type 0} (start after : Allocator) (workers count : ℕ) (logs : Li
   in_entries : (mine : List ℕ) → All Q (spawned_in (entries_by logs mine)) → All In mine
   in_entries [] each = All-nil In
   in_entries (n ∷ mine) each =
-      let both = subst (All Q) (spawned_both (log_at logs n) (entries_by logs mine)) each in
-      let left = spawned_in (log_at logs n) in
-      let right = spawned_in (entries_by logs mine) in
-      All-cons In n mine (All-left Q left right both) (in_entries mine (All-right Q left right both))
+      let both = rw (spawned_both (log_at logs n) (entries_by logs mine)) at each in
+      All-cons In n mine (All-left Q _ _ both) (in_entries mine (All-right Q (spawned_in (log_at logs n)) _ both))
 
   in_log : (n : ℕ) → n < count → In n
   in_log = everywhere In count run.ran run.once (λ k mine at. in_entries mine
-      (subst (All Q) (run.given k mine at) (given_kept Q (λ (call : Call). call.caller == k) run.history all)))
+      (rw (run.given k mine at) at (given_kept Q (λ (call : Call). call.caller == k) run.history all)))
 
   flat : (ls : List (List (Entry C))) → All (λ log. All Q (spawned_in log)) ls → All Q (spawned_in (entries_of ls))
   flat [] each = All-nil Q
@@ -40,7 +35,7 @@ module _ {C : Type 0} (start after : Allocator) (workers count : ℕ) (logs : Li
 
   pub in_all : All Q (spawned_in (entries_of logs))
   in_all = flat logs (all_from_each (λ log. All Q (spawned_in log)) logs
-      (λ k log at. subst (λ l. All Q (spawned_in l)) (log_is logs k log at)
+      (λ k log at. rw (get_or_from_slice_get logs k log [] at) at
       (in_log k (omega (arith, slice_get_within logs k log at, run.each_log)))))
 
 abbrev IsReserved : Allocator → Handle → Type 0
@@ -57,7 +52,7 @@ reserved_here : (s : Allocator) (h : Handle) → IsTrue (stands_in s.taken h) �
 reserved_here s h taken not_live = grind (arith, common_steps)
 
 stand_there : (hs : List Handle) → All (λ h. IsTrue (stands_in hs h)) hs
-stand_there hs k d within = stands_in-from_Contains hs (get_or hs k d) (Contains-get_or hs k d within)
+stand_there hs = search (rules, stands_in-from_Contains, Contains-get_or)
 
 pub reserved_all : {C : Type 0} (start after : Allocator) (workers count : ℕ) (logs : List (List (Entry C)))
     → HaveRun workers count start logs after → IsSound start → start.asked ≡ 0

@@ -1,6 +1,5 @@
 -- A frame of one worker: its reservations stand in the order of the systems.
-use Rattle.ent_runner.proofs.Common.{rules, ◌≡◌, ℕ, suc, ◌+◌, ◌<◌, ◌≤◌, List, [], ◌∷◌, ◌++◌, length, map, get_or, refl, ap, sym, ◌∙◌, arith, subst, Some, eq-eqb, append-nil, append_assoc, Option, Vec, Global, slice_get, All, AllPairs, flat_map, range_with_len, IsPermutation, get_or-append_seam, length-append, length-range_with_len, All-permutation, IsPermutation-sym, length_permutation, Handle, born, Call, Command, World, sync, OpenWorld, View, world_at_start, Fault, IsFrame, Ends, EndsInOrder, commands_of, requests_by, first_call, calls_in_order}
-use Rattle.ent_runner.proofs.Lost.{ClosedAgain}
+use Rattle.ent_runner.proofs.Common.{rules, ◌≡◌, ℕ, suc, ◌+◌, ◌<◌, ◌≤◌, List, [], ◌∷◌, ◌++◌, length, map, get_or, refl, ap, sym, ◌∙◌, arith, Some, eq-eqb, append-nil, append_assoc, slice_get, All, AllPairs, flat_map, range_with_len, IsPermutation, get_or-append_seam, length-append, length-range_with_len, All-permutation, IsPermutation-sym, length_permutation, Handle, Call, Command, World, View, Fault, IsFrame, Ends, EndsInOrder, commands_of, requests_by, first_call, calls_in_order}
 use Rattle.ent_runner.proofs.Lists.{at_within, all_below}
 
 -- numbers that rise and fill a range are the range
@@ -11,8 +10,8 @@ rising_from a (x ∷ xs) rises least below =
     let above : All (λ n. x < n) xs = λ k d within. rises 0 (suc k) d (omega arith) (omega arith) in
     let low : a ≤ x = least 0 x (omega arith) in
     let rest = rising_from (a + 1) xs (λ i j d less within. rises (suc i) (suc j) d (omega arith) (omega arith))
-    (λ k d within.
-    let l = above k d within in omega arith) (λ k d within. let l = below (suc k) d (omega arith) in omega arith) in
+        (λ k d within.
+        let l = above k d within in omega arith) (λ k d within. let l = below (suc k) d (omega arith) in omega arith) in
     let here : x ≡ a = first xs x a low above (below 0 x (omega arith)) rest in
     (λ i. here i ∷ rest i)
   where
@@ -47,39 +46,25 @@ module _ {S : Type 0} (may : S → View → List Command → Type 0) (systems : 
       let only = at_within frame.ran 0 (omega (arith, frame.each_worker)) in
       let mine : List ℕ = only.0 in
       let work = frame.work 0 mine only.1 in
-      let single = alone frame.ran mine (frame.each_worker ∙ one) only.1 in
       let range : List ℕ = range_with_len 0 (length systems) in
-      let same : IsPermutation mine range = subst (λ ns. IsPermutation ns range)
-      (ap (flat_map (λ mine. mine)) single ∙ append-nil mine) frame.once in
-      let long : length mine ≡ length systems = sym (length_permutation mine range same)
-      ∙ length-range_with_len 0 (length systems) in
+      let same : IsPermutation mine range = rw (alone frame.ran mine (frame.each_worker ∙ one) only.1, append-nil mine)
+      at frame.once in
+      let long = length_permutation mine range same in
+      let count = length-range_with_len 0 (length systems) in
       let below = All-permutation (λ n. n < length systems) range mine (IsPermutation-sym mine range same)
       (all_below (length systems)) in
       let whole = rising_from 0 mine work.rising (λ k d within. omega arith) (λ k d within.
-      let b = below k d within in omega arith) in
-      let commands : commands_of queues mine ≡ flat_map (λ queue. queue) queues = ap (commands_of queues)
-      (whole ∙ ap (range_with_len 0) (long ∙ sym frame.count)) ∙ queues_in_order queues [] queues 0 refl refl in
-      let callers : All (λ (call : Call). call.caller < 1) history = subst
-      (λ w. All (λ (call : Call). call.caller < w) history) one frame.callers in
-      search (rules, calls_back history callers, work.calls, commands)
+          let b = below k d within in omega arith) in
+      let commands = queues_in_order queues [] queues 0 refl refl in
+      let lengths : length mine ≡ length queues = omega (arith, frame.count) in
+      let callers = rw one at frame.callers in
+      search (rules, calls_back history callers, work.calls, commands, whole, lengths)
     where
       alone : (ran : List (List ℕ)) (mine : List ℕ) → length ran ≡ 1 → slice_get ran 0 ≡ Some mine
           → ran ≡ mine ∷ []
-      alone [] mine e at = absurd (omega arith)
       alone (x ∷ []) mine e at = cc
-      alone (x ∷ y ∷ ran) mine e at = absurd (omega arith)
+      alone _ _ e _ = absurd (omega arith)
 
   pub ends_in_order : (workers : ℕ) (after : World) (births : List Handle) (faults : List Fault) → workers ≡ 1
       → Ends may systems workers before queues after births faults → EndsInOrder before queues after births faults
   ends_in_order workers after births faults one ends = search (rules, in_order workers ends.history one ends.frame)
-
--- the sync of the queues of a frame ends it
-pub ends : {S : Type 0} (may leave : S → View → List Command → Type 0) (systems : List S) (workers : ℕ) (before : World)
-    (world : OpenWorld) (closed after : World) (got : Option (Vec (List Command) Global))
-    (queues : Vec (List Command) Global) (seen : List (List Command)) (births : List Handle) (faults : List Fault)
-    → ClosedAgain may leave systems world closed got → got ≡ Some queues → world_at_start world ≡ before
-    → world.shared.count ≡ workers → seen ≡ queues.items → after ≡ (sync seen closed).world
-    → births ≡ born closed.allocator → faults ≡ (sync seen closed).faults → Ends may systems workers before queues.items
-    after births faults
-ends may leave systems workers before world closed after got queues seen births faults r some same count shown ok
-    born_are faults_are = search (rules)

@@ -39,10 +39,10 @@ module _ {O : Type 0} where
       let sums : (n : ℕ) → times n (d ∷ done) ≡ is_of n d + times n done = λ n. sum_by-cons (is_of n) d done in
       let alone : times d.number done ≡ 0 = grind (arith, common_steps, times_here) in
       let put = length-set by_number d.number (Some d.output) in
-      All-cons (λ (f : Done O). get_or (outputs_put done next) f.number e ≡ Some f.output) d done
-      (put_other d.number e done next alone ∙ get_or-set_same by_number d.number (Some d.output) e
-      (inside 0 d (omega arith))) (all_put e done next (λ k f within. rw put (inside (suc k) f (omega arith)))
-      (λ n. omega (arith, sums n, once n)))
+      let rest = all_put e done next (λ k f within. rw put (inside (suc k) f (omega arith)))
+      (λ n. omega (arith, sums n, once n)) in
+      let first = inside 0 d (omega arith) in
+      search (rules, All-cons, put_other, alone, get_or-set_same, rest)
 
   -- one more output is put at its number
   pub put_on : (rest new : List (Done O)) (d : Done O) (by_number next all : List (Option O)) → rest ≡ d ∷ new

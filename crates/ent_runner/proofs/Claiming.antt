@@ -1,5 +1,5 @@
 -- A claimer after a claim: it stays of its claims.
-use Rattle.ent_runner.proofs.Common.{rules, ◌≡◌, ℕ, suc, ◌+◌, ◌<◌, ◌≤◌, List, [], ◌∷◌, ◌++◌, length, sym, subst, arith, lt-ltb, All, AllPairs, All-push, all_pairs_push, TableId, ClaimRecord, after_claim, claims_of, Claims, Claimer, IsClaimerOf}
+use Rattle.ent_runner.proofs.Common.{rules, ◌≡◌, ℕ, suc, ◌+◌, ◌<◌, ◌≤◌, List, [], ◌∷◌, ◌++◌, length, arith, lt-ltb, All, AllPairs, All-push, all_pairs_push, TableId, ClaimRecord, after_claim, claims_of, Claims, Claimer, IsClaimerOf}
 
 -- numbers from low on that rise and are below n are no more than there are
 rising_from : (low n : ℕ) (xs : List ℕ) → low ≤ n → All (λ x. low ≤ x) xs → AllPairs (λ x y. x < y) xs
@@ -31,5 +31,4 @@ claimed_on claims views after was now old n view of same is within above =
     let limit : old.own.numbers ≡ claims.numbers = of.numbers in
     let own : claims_of after ≡ record old.own { claims = old.own.claims ++ n ∷ [] } = search (rules, lt-ltb) in
     let word : now ≡ old.word = search rules in
-    subst (IsClaimerOf claims) (sym (λ i. record { word = word i; own = own i }))
-    (of_claimed claims old n of within (subst (λ (c : Claimer). All (λ m. m < n) c.own.claims) view above))
+    rw (own, word) (of_claimed claims old n of within (search (rules, view)))

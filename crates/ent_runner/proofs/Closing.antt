@@ -1,4 +1,5 @@
 -- What all claimers together have claimed.
+use Rattle.ent_runner.proofs.Lists.{each_of_all, get_mapped}
 use Rattle.ent_runner.proofs.Common.{common_steps, rules, ◌≡◌, ℕ, zero, suc, ◌<◌, ◌≤◌, List, [], ◌∷◌, length, map, sym, refl, ap, ◌∙◌, arith, ⊎_elim, none-some, cases_lt, true, slice_get, sum_by, All, range_with_len, All-head, length-map, fold-map, sum_by-cons, sum_by-flat_map, ClaimRecord, weigh_claims, IsClaimKept, AreClaimsClosed, Claimer, IsClaimedBy, AreFirst, Some}
 use Rattle.std.proofs.Common.{flat_map, IsPermutation}
 use Rattle.ent_runner.specs.Claims.{HaveEnded}
@@ -43,8 +44,8 @@ holder n [] some = absurd (omega arith)
 holder n (x ∷ cs) some =
     let sums = sum_by-cons (λ (y : Claimer). sum_by (is n) y.own.claims) x cs in
     ⊎_elim (λ (here : 0 < sum_by (is n) x.own.claims). (0, (x, refl, inside n x.own.claims (omega arith))))
-    (λ (none : sum_by (is n) x.own.claims ≤ 0). let rest = holder n cs (omega arith) in (suc rest.0, rest.1))
-    (cases_lt 0 (sum_by (is n) x.own.claims))
+        (λ (none : sum_by (is n) x.own.claims ≤ 0). let rest = holder n cs (omega arith) in (suc rest.0, rest.1))
+        (cases_lt 0 (sum_by (is n) x.own.claims))
 
 -- one that has ended found all numbers claimed
 all_claimed : (numbers claimed : ℕ) (cs : List Claimer) → 0 < length cs
@@ -54,10 +55,10 @@ all_claimed numbers claimed (c ∷ cs) some each ended = search (rules, All-head
 
 one_ended : (numbers claimed : ℕ) (cs : List Claimer) → All (IsClaimKept numbers claimed) (records_of cs)
     → (k : ℕ) (c : Claimer) → slice_get cs k ≡ Some c → c.own.ended ≡ true → claimed ≡ numbers
-one_ended numbers claimed [] each k c at ended = absurd (none-some c at)
-one_ended numbers claimed (x ∷ cs) each zero c at ended = search (rules, All-head, claimed)
-one_ended numbers claimed (x ∷ cs) each (suc k) c at ended = one_ended numbers claimed cs
-    (λ i d lt. each (suc i) d (omega arith)) k c at ended
+one_ended numbers claimed cs each k c at ended =
+    let kept = each_of_all (IsClaimKept numbers claimed) (records_of cs) k c.own each
+    (get_mapped (λ (c : Claimer). c.own) cs k c at) in
+    kept.ends ended
 
 module _ (numbers workers : ℕ) (cs : List Claimer) (all : length cs ≡ workers)
     (closed : AreClaimsClosed numbers workers (records_of cs)) where

@@ -1,5 +1,5 @@
 -- What the workers of a crew have done together, once all of them are back.
-use Rattle.ent_runner.proofs.Common.{common_steps, rules, ◌≡◌, ℕ, ◌<◌, ◌≤◌, List, [], ◌∷◌, ◌++◌, length, map, get_or, refl, ap, sym, ◌∙◌, arith, subst, Option, Some, None, false, Bool, take, drop, inl, inr, ⊎_elim, ◌⊎◌, Vec, Global, reverse, slice_get, replicate, IsSome, IfSome, IfNone, Any, vec_capacity, All, AllPairs, flat_map, range_with_len, IsPermutation, cases_lt, slice_get_within, get_or_from_slice_get, slice_get-get_or, none-some, length-map, length-append, take-append-le, take_all, length-replicate, map-append, length-reverse, flat_map-map, All-permutation, IsPermutation-reverse, length_permutation, length-range_with_len, All-head, All-map, All-left, Claims, Claimer, AreFirst, IsClaimerOf, outputs_put, AreDone, AreBrokenOff, DidAll, DidUntil, Done, Worker, HasWorked, HaveAllWorked, HaveDoneFirst, HasClaimed, IsUnused, IsRoomForOne, IsNewWorker, IsLostFor, numbers_of, all_done, HasStoppedAt, IsRoom}
+use Rattle.ent_runner.proofs.Common.{common_steps, rules, ◌≡◌, ℕ, ◌<◌, ◌≤◌, List, [], ◌∷◌, ◌++◌, length, map, get_or, refl, ap, sym, ◌∙◌, arith, Option, Some, None, false, Bool, take, drop, inl, inr, ◌⊎◌, Vec, Global, reverse, slice_get, replicate, IsSome, IfSome, IfNone, Any, vec_capacity, All, AllPairs, flat_map, range_with_len, IsPermutation, cases_lt, slice_get_within, get_or_from_slice_get, slice_get-get_or, length-map, length-append, take-append-le, take_all, length-replicate, map-append, length-reverse, flat_map-map, All-permutation, IsPermutation-reverse, length_permutation, length-range_with_len, All-map, All-left, Claims, Claimer, AreFirst, IsClaimerOf, outputs_put, AreDone, AreBrokenOff, DidAll, DidUntil, Done, Worker, HasWorked, HaveAllWorked, HaveDoneFirst, HasClaimed, IsUnused, IsRoomForOne, IsNewWorker, IsLostFor, numbers_of, all_done, IsRoom, All-right}
 use Rattle.std.proofs.Common.{true}
 use Rattle.ent_runner.proofs.Lists.{of_mapped, each_of_all, mapped_at, same_flat, get_mapped, map_flat, at_within, flat_all}
 use Rattle.ent_runner.proofs.ByNumber.{length_put}
@@ -25,12 +25,11 @@ module _ {O : Type 0} where
       → All (λ (w : Worker O). IsRoomForOne w.done) team → All (λ (w : Worker O). IsClaimerOf claims w.claimer
       × IsNewWorker w) team
   all_ready claims team fresh claimers theirs unused empty =
-      let moved = IsPermutation-reverse fresh in
-      let one = of_mapped (IsClaimerOf claims) (λ (w : Worker O). w.claimer) team
-      (rw claimers (All-permutation (IsClaimerOf claims) fresh (reverse fresh) moved theirs)) in
-      let two = of_mapped IsUnused (λ (w : Worker O). w.claimer) team
-      (rw claimers (All-permutation IsUnused fresh (reverse fresh) moved unused)) in
-      search rules
+      let both = All-permutation (λ c. IsClaimerOf claims c × IsUnused c) fresh (reverse fresh)
+      (IsPermutation-reverse fresh) (λ k d within. (theirs k d within, unused k d within)) in
+      let one = of_mapped (λ c. IsClaimerOf claims c × IsUnused c) (λ (w : Worker O). w.claimer) team
+      (rw claimers both) in
+      search (rules, one)
 
   -- A crew is made: its claims are open, its workers are ready, and there is room for all outputs.
   pub room_of : (claims seen : Claims) (jobs workers : ℕ) (team : List (Worker O)) (fresh : List Claimer)
@@ -41,20 +40,13 @@ module _ {O : Type 0} where
       → by_number ≡ replicate jobs None → outputs.items ≡ [] → jobs ≤ vec_capacity outputs
       → IsRoom seen team claimers by_number outputs
   room_of claims seen jobs workers team fresh claimers by_number outputs same numbers many some count own unused theirs
-      empty none fits without outputs_none outputs_fit = rw (sym same)
-      (record {
-        some = omega (arith, many, some);
-        count = omega
-            (arith, length-map team (λ (w : Worker O). w.claimer), ap length theirs, length-reverse fresh, count, many);
-        each = all_ready claims team fresh theirs own unused empty;
-        claimers_empty = none;
-        claimers_fit = omega
-            (arith, count, many, fits);
-        by_number_empty = without ∙ ap (λ n. replicate n None) (sym numbers);
-        outputs_empty =
-            outputs_none;
-        outputs_fit = omega (arith, numbers, outputs_fit);
-      })
+      empty none fits without outputs_none outputs_fit =
+      let long = length-map team (λ (w : Worker O). w.claimer) in
+      let reversed = length-reverse fresh in
+      let teams = ap length theirs in
+      let each = all_ready claims team fresh theirs own unused empty in
+      let length_is : length team ≡ claims.workers = omega arith in
+      rw (sym same) (search (rules, each, length_is, numbers, many))
 
   abbrev claimers_of : List (Worker O) → List Claimer
   claimers_of team = map (λ (w : Worker O). w.claimer) team
@@ -62,8 +54,7 @@ module _ {O : Type 0} where
   -- What is known of workers that have claimed.
   module _ (claims : Claims) (team : List (Worker O)) (each : All (HasClaimed claims) team) where
     pub claimers_own : All (IsClaimerOf claims) (map (λ (w : Worker O). w.claimer) team)
-    claimers_own = All-map (IsClaimerOf claims) (λ (w : Worker O). w.claimer) team
-        (λ k d within. (each k d within).claimer)
+    claimers_own = All-map (IsClaimerOf claims) _ team (λ k d within. (each k d within).claimer)
 
     -- the jobs that they did are those that they claimed
     pub did_claims : numbers_of (all_done team) ≡ flat_map (λ (c : Claimer). c.own.claims) (claimers_of team)
@@ -77,54 +68,44 @@ module _ {O : Type 0} where
         (rw has.claimed has.claimer.below)
 
   -- A worker did a job, if some are left: else it had found none left.
-  busy_one : (claims : Claims) (w : Worker O) → HasClaimed claims w → (claimers : List Claimer) (k : ℕ)
-      → slice_get claimers k ≡ Some w.claimer → (first : AreFirst claims.numbers claimers) → (stopped : Bool)
-      → w.stopped ≡ stopped → first.count < claims.numbers → 0 < length w.done.items
-  busy_one claims w has claimers k at first true is less = has.some is
-  busy_one claims w has claimers k at first false is less = search rules
-
   busy_all : (claims : Claims) (team : List (Worker O)) → All (HasClaimed claims) team → (claimers : List Claimer)
       → claimers ≡ map (λ (w : Worker O). w.claimer) team → (first : AreFirst claims.numbers claimers)
       → first.count < claims.numbers → All (λ (w : Worker O). 0 < length w.done.items) team
   busy_all claims team each claimers theirs first less k d within =
-      let w = get_or team k d in
-      let at = get_mapped (λ (w : Worker O). w.claimer) team k w (slice_get-get_or team k d within) in
-      search (rules, busy_one)
+      let has = each k d within in
+      let at = get_mapped (λ (w : Worker O). w.claimer) team k _ (slice_get-get_or team k d within) in
+      let ended = first.whole k (get_or team k d).claimer (rw theirs at) in
+      grind (arith, common_steps, has.some, has.through, ended)
 
   -- So some were done, if there are any.
-  some_by : (claims : Claims) (w : Worker O) (team : List (Worker O)) → HasClaimed claims w → (claimers : List Claimer)
-      → claimers ≡ map (λ (v : Worker O). v.claimer) (w ∷ team) → (first : AreFirst claims.numbers claimers)
-      → 0 < length w.done.items → 0 < first.count
-  some_by claims w team has claimers theirs first some =
-      let whole = length_permutation _ _ first.once in
-      let long = length-range_with_len 0 first.count in
-      let own = length-map w.done.items (λ (d : Done O). d.number) in
-      let same = ap length has.claimed in
-      let parts = length-append w.claimer.own.claims (flat_map (λ (c : Claimer). c.own.claims)
-      (map (λ (v : Worker O). v.claimer) team)) in
-      let all = ap (λ cs. length (flat_map (λ (c : Claimer). c.own.claims) cs)) theirs in
-      omega (arith, whole, long, own, same, parts, all, some)
-
-  some_ran : (claims : Claims) (team : List (Worker O)) → All (HasClaimed claims) team → 0 < length team
-      → (claimers : List Claimer) → claimers ≡ map (λ (w : Worker O). w.claimer) team
-      → (first : AreFirst claims.numbers claimers) → 0 < claims.numbers → 0 < first.count
-  some_ran claims [] each many claimers theirs first less = absurd (omega arith)
-  some_ran claims (w ∷ team) each many claimers theirs first less = ⊎_elim
-      (λ (left : first.count < claims.numbers). some_by claims w team (All-head (HasClaimed claims) w team each)
-      claimers theirs first (All-head (λ (w : Worker O). 0 < length w.done.items) w team
-      (busy_all claims (w ∷ team) each claimers theirs first left))) (λ (all : claims.numbers ≤ first.count). omega
-      (arith, less)) (cases_lt first.count claims.numbers)
+  some_ran : (numbers count : ℕ) (team : List (Worker O)) → 0 < length team
+      → IsPermutation (numbers_of (all_done team)) (range_with_len 0 count)
+      → (count < numbers → All (λ (w : Worker O). 0 < length w.done.items) team) → 0 < numbers → 0 < count
+  some_ran numbers count [] many once busy less = absurd (omega arith)
+  some_ran numbers count (w ∷ team) many once busy less =
+      let whole = length_permutation _ _ once in
+      let long = length-range_with_len 0 count in
+      let own = length-map (all_done (w ∷ team)) (λ (d : Done O). d.number) in
+      let parts = length-append w.done.items (all_done team) in
+      elim (cases_lt count numbers) [
+        | inl left ↦ let here = busy left 0 w (omega arith) in omega arith
+        | inr all ↦ omega arith
+      ]
 
   pub first_closed : (claims : Claims) (team : List (Worker O)) → All (HasClaimed claims) team
       → (claimers : List Claimer) → claimers ≡ map (λ (w : Worker O). w.claimer) team → 0 < length team
       → AreFirst claims.numbers claimers → HaveDoneFirst claims.numbers team
-  first_closed claims team each claimers theirs many first = record {
-    count = first.count;
-    within = first.within;
-    some = some_ran claims team each many claimers theirs first;
-    once = rw (did_claims claims team each, sym theirs) first.once;
-    busy = busy_all claims team each claimers theirs first;
-  }
+  first_closed claims team each claimers theirs many first =
+      let once : IsPermutation (numbers_of (all_done team)) (range_with_len 0 first.count) = rw
+      (did_claims claims team each, sym theirs) first.once in
+      let busy = busy_all claims team each claimers theirs first in
+      record {
+        count = first.count;
+        within = first.within;
+        some = some_ran claims.numbers first.count team many once busy;
+        once = once;
+        busy = busy;
+      }
 
   abbrev no_output : Option O
   no_output = None
@@ -135,15 +116,17 @@ module _ {O : Type 0} where
   module _ (numbers : ℕ) (team : List (Worker O)) (first : HaveDoneFirst numbers team) where
     -- if each job has an output, all were done
     pub all_ran : (outputs : List O) → map Some outputs ≡ by_number numbers team → first.count ≡ numbers
-    all_ran outputs each = ⊎_elim
-        (λ (less : first.count < numbers). let lacks : get_or (by_number numbers team) first.count no_output
-        ≡ no_output = left_out first.count (all_done team) first.once numbers first.count no_output (omega arith)
-        less in let long = length-map outputs Some in let put = length_put (all_done team)
-        (replicate numbers None) in let many = length-replicate numbers no_output in let there = at_within outputs
-        first.count (omega (arith, long, put, many, ap length each, less)) in let some = get_or_from_slice_get
-        (map Some outputs) first.count (Some there.0) no_output (get_mapped Some outputs first.count there.0
-        there.1) in absurd (none-some there.0 (sym lacks ∙ (ap (λ all. get_or all first.count no_output) (sym each)
-        ∙ some)))) (λ (all : numbers ≤ first.count). omega (arith, first.within)) (cases_lt first.count numbers)
+    all_ran outputs each = elim (cases_lt first.count numbers) [
+      | inl less ↦
+          let put = length_put (all_done team) (replicate numbers None) in
+          let many = length-replicate numbers no_output in
+          let there = slice_get-get_or (by_number numbers team) first.count no_output (omega arith)
+          ∙ ap Some (left_out first.count (all_done team) first.once numbers first.count no_output (omega arith)
+          less) in
+          let some = mapped_at Some outputs first.count no_output (rw each there) in
+          absurd (cc)
+      | inr all ↦ omega (arith, first.within)
+    ]
 
     -- if one lacks it, some are left
     pub some_left : Any (λ (output : Option O). output ≡ None) (by_number numbers team)
@@ -152,23 +135,14 @@ module _ {O : Type 0} where
         let whole = length_permutation _ _ first.once in
         let long = length-range_with_len 0 first.count in
         let own = length-map (all_done team) (λ (d : Done O). d.number) in
-        ⊎_elim (λ (less : first.count < numbers). omega (arith, whole, long, own, less))
-        (λ (all : numbers ≤ first.count). let same : first.count ≡ numbers = omega (arith, first.within) in let has :
-        IsSome (get_or (by_number numbers team) k output) = (rw same at (full first.count (all_done team) first.once)) k
-        output within in let gone : IsSome no_output = subst IsSome (at ∙ none) has in absurd (cc))
-        (cases_lt first.count numbers)
-
-  pub claimers_are : (old new : List (Worker O)) → old ≡ new
-      → map (λ (w : Worker O). w.claimer) old ≡ map (λ (w : Worker O). w.claimer) new
-  claimers_are old new same = ap (map (λ (w : Worker O). w.claimer)) same
-
-  pub any_stopped : (old new : List (Worker O)) → old ≡ new → Any (λ (w : Worker O). w.stopped ≡ true) old
-      → Any (λ (w : Worker O). w.stopped ≡ true) new
-  any_stopped old new same any = subst (Any (λ (w : Worker O). w.stopped ≡ true)) same any
-
-  pub none_stopped : (old new : List (Worker O)) → old ≡ new → All (λ (w : Worker O). w.stopped ≡ false) old
-      → All (λ (w : Worker O). w.stopped ≡ false) new
-  none_stopped old new same all = subst (All (λ (w : Worker O). w.stopped ≡ false)) same all
+        elim (cases_lt first.count numbers) [
+          | inl less ↦ omega arith
+          | inr all ↦
+              let same : first.count ≡ numbers = omega (arith, first.within) in
+              let has = (rw same at (full first.count (all_done team) first.once)) k output within in
+              let gone : IsSome no_output = rw (at, none) at has in
+              absurd (cc)
+        ]
 
   -- the outputs by number after all were put in, as they are written back
   pub outputs_back : (count n : ℕ) (done : List (Done O)) (start new : List (Option O)) → start ≡ replicate count None
@@ -182,37 +156,20 @@ module _ {O : Type 0} where
       team) where
     worked_at : (k : ℕ) (w : Worker O) (a b : L) → slice_get team k ≡ Some w → slice_get before k ≡ Some a
         → slice_get after k ≡ Some b → HasWorked may leave may_have claims a b w
-    worked_at k w a b at_w at_a at_b = rw (
-      sym (get_or_from_slice_get before k a a at_a),
-      sym (get_or_from_slice_get after k b b at_b),
-      sym (get_or_from_slice_get team k w w at_w),
-    ) (worked.each k a b w (slice_get_within before k a at_a))
+    worked_at k w a b at_w at_a at_b = search (rules, get_or_from_slice_get, worked.each k a b w, slice_get_within)
 
     pub stay : All may_have after
     stay k d within =
-        let less : k < length before = omega (arith, worked.lent) in
-        let a = at_within before k less in
-        let w = at_within team k (omega (arith, worked.count)) in
+        let a = at_within before k (omega (arith, worked.lent)) in
+        let w = at_within team k (omega (arith, worked.count, worked.lent)) in
         (worked_at k w.0 a.0 (get_or after k d) w.1 a.1 (slice_get-get_or after k d within)).lent
 
     pub all_claimed : All (HasClaimed claims) team
     all_claimed k d within =
-        let less : k < length before = omega (arith, worked.count) in
-        let a = at_within before k less in
-        let b = at_within after k (omega (arith, worked.lent)) in
-        has_claimed (get_or team k d) a.0 b.0 (worked_at k (get_or team k d) a.0 b.0 (slice_get-get_or team k d within)
-        a.1 b.1)
-      where
-        has_claimed : (w : Worker O) (a b : L) → HasWorked may leave may_have claims a b w
-            → HasClaimed claims w
-        has_claimed w a b has = record {
-          claimer = has.claimer;
-          claimed = has.claimed;
-          through = has.through;
-          some = λ stopped.
-              let s = has.stopped stopped in
-              omega (arith, ap length s.done_are, length-append s.earlier (s.last ∷ []));
-        }
+        let a = at_within before k (omega (arith, worked.count)) in
+        let b = at_within after k (omega (arith, worked.lent, worked.count)) in
+        let has = worked_at k (get_or team k d) a.0 b.0 (slice_get-get_or team k d within) a.1 b.1 in
+        search (rules, has, length-append)
 
     abbrev ran : List (List ℕ)
     ran = map (λ (w : Worker O). numbers_of w.done.items) team
@@ -232,44 +189,31 @@ module _ {O : Type 0} where
         (all_done team)) where
       own_at : (k : ℕ) (w : Worker O) → slice_get team k ≡ Some w → All (λ (d : Done O). slice_get outputs d.number
           ≡ Some d.output) w.done.items
-      own_at k w at_w = each_of_all (λ (w : Worker O). All (λ (d : Done O). slice_get outputs d.number ≡ Some d.output)
-          w.done.items) team k w (flat_all (λ (d : Done O). slice_get outputs d.number ≡ Some d.output)
-          (λ (w : Worker O). w.done.items) team at) at_w
-
-      -- a worker that has ended, and one whose last job stopped
-      until : (a b : L) (w : Worker O) → All (λ (d : Done O). slice_get outputs d.number ≡ Some d.output) w.done.items
-          → HasStoppedAt may leave a w.done.items b → DidUntil may leave outputs a (numbers_of w.done.items) b
-      until a b w own s =
-          let whole = rw s.done_are at own in
-          let last : slice_get outputs s.last.number ≡ Some s.last.output = each_of_all
-          (λ (d : Done O). slice_get outputs d.number ≡ Some d.output) (s.earlier ++ s.last ∷ []) (length s.earlier)
-          s.last whole (seam s.earlier s.last) in
-          record {
-            earlier = numbers_of s.earlier;
-            last = s.last.number;
-            numbers_are = ap numbers_of s.done_are ∙ map-append (λ (d : Done O). d.number) s.earlier (s.last ∷ []);
-            between = s.between;
-            ended = kept_all may outputs a s.earlier s.between (front s.earlier s.last whole) s.ended;
-            stopped = (s.last.output, last, s.stopped);
-          }
-        where
-          seam : (xs : List (Done O)) (x : Done O) → slice_get (xs ++ x ∷ []) (length xs) ≡ Some x
-          seam [] x = refl
-          seam (y ∷ xs) x = seam xs x
-
-          front : (xs : List (Done O)) (x : Done O) → All (λ (d : Done O). slice_get outputs d.number ≡ Some d.output)
-              (xs ++ x ∷ []) → All (λ (d : Done O). slice_get outputs d.number ≡ Some d.output) xs
-          front xs x all = All-left (λ (d : Done O). slice_get outputs d.number ≡ Some d.output) xs (x ∷ []) all
+      own_at k w at_w =
+          let At : Done O → Type 0 = λ (d : Done O). slice_get outputs d.number ≡ Some d.output in
+          each_of_all (λ (w : Worker O). All At w.done.items) team k w (flat_all At (λ (w : Worker O). w.done.items)
+          team at) at_w
 
       ended_by : (k : ℕ) (w : Worker O) (a b : L) → slice_get team k ≡ Some w → slice_get before k ≡ Some a
           → slice_get after k ≡ Some b → w.stopped ≡ false → DidAll may outputs a (numbers_of w.done.items) b
       ended_by k w a b at_w at_a at_b going = kept_all may outputs a w.done.items b (own_at k w at_w)
           ((worked_at k w a b at_w at_a at_b).ended going)
 
+      -- one whose last job stopped
       stopped_by : (k : ℕ) (w : Worker O) (a b : L) → slice_get team k ≡ Some w → slice_get before k ≡ Some a
           → slice_get after k ≡ Some b → w.stopped ≡ true → DidUntil may leave outputs a (numbers_of w.done.items) b
-      stopped_by k w a b at_w at_a at_b stopped = until a b w (own_at k w at_w)
-          ((worked_at k w a b at_w at_a at_b).stopped stopped)
+      stopped_by k w a b at_w at_a at_b stopped =
+          let At : Done O → Type 0 = λ (d : Done O). slice_get outputs d.number ≡ Some d.output in
+          let s = (worked_at k w a b at_w at_a at_b).stopped stopped in
+          let whole = rw s.done_are at (own_at k w at_w) in
+          record {
+            earlier = numbers_of s.earlier;
+            last = s.last.number;
+            numbers_are = ap numbers_of s.done_are ∙ map-append (λ (d : Done O). d.number) s.earlier (s.last ∷ []);
+            between = s.between;
+            ended = kept_all may outputs a s.earlier s.between (All-left At s.earlier (s.last ∷ []) whole) s.ended;
+            stopped = (s.last.output, All-right At s.earlier (s.last ∷ []) whole 0 s.last (omega arith), s.stopped);
+          }
 
       either_by : (k : ℕ) (w : Worker O) (a b : L) → slice_get team k ≡ Some w → slice_get before k ≡ Some a
           → slice_get after k ≡ Some b → (stopped : Bool) → w.stopped ≡ stopped
@@ -315,9 +259,7 @@ module _ {O : Type 0} where
               mine at_mine in rw (sym w.2) (either_by outputs at k w.0 a b w.1 at_a at_b w.0.stopped refl);
           why = why first outputs at lost;
           busy = λ less. All-map (λ mine. 0 < length mine) (λ (w : Worker O). numbers_of w.done.items) team
-              (λ k d within.
-              let some = first.busy less k d within in
-              omega (arith, some, length-map (get_or team k d).done.items (λ (d : Done O). d.number)));
+              (λ k d within. let some = first.busy less k d within in search (rules, length-map));
         }
       where
         why : (first : HaveDoneFirst claims.numbers team) (outputs : List O)
@@ -329,24 +271,15 @@ module _ {O : Type 0} where
             × DidUntil may leave outputs a mine b) ⊎ (first.count < claims.numbers)
         why first outputs at (inl (k, w, within, at_k, stopped)) =
             let at_w = slice_get-get_or team k w within ∙ ap Some at_k in
-            let less : k < length before = omega (arith, worked.count) in
-            let a = at_within before k less in
-            let b = at_within after k (omega (arith, worked.lent)) in
-            inl (
-              k,
-              numbers_of w.done.items,
-              a.0,
-              b.0,
-              get_mapped (λ (w : Worker O). numbers_of w.done.items) team k w at_w,
-              a.1,
-              b.1,
-              stopped_by outputs at k w a.0 b.0 at_w a.1 b.1 stopped,
-            )
+            let a = at_within before k (omega (arith, worked.count)) in
+            let b = at_within after k (omega (arith, worked.lent, worked.count)) in
+            let mine = get_mapped (λ (w : Worker O). numbers_of w.done.items) team k w at_w in
+            inl (k, _, a.0, b.0, mine, a.1, b.1, stopped_by outputs at k w a.0 b.0 at_w a.1 b.1 stopped)
         why first outputs at (inr less) =
             let whole = length_permutation _ _ first.once in
             let many = length-range_with_len 0 first.count in
             let own = length-map (all_done team) (λ (d : Done O). d.number) in
-            inr (omega (arith, whole, many, own, less))
+            inr (omega arith)
 
     -- what comes of these outputs, by number, where they are collected
     module _ (first : HaveDoneFirst claims.numbers team) (got : Option (Vec O Global)) (was : List (Option O))

@@ -43,7 +43,5 @@ weigh_same xs (y ∷ ys) same =
     let sums = sum_by-cons (is y) y ys in
     let one = is_same y y refl in
     let at = inside y xs (omega arith) in
-    let rest : (f : ℕ → ℕ) → sum_by f (remove xs at.0) ≡ sum_by f ys = λ f. grind
-    (arith, common_steps, sum_by_popped, sum_by-cons) in
-    IsPermutation-trans _ _ _ (IsPermutation-remove xs at.0 y at.1 (sym at.2))
-    (IsPermutation-cons y _ _ (weigh_same (remove xs at.0) ys rest))
+    let rest = weigh_same (remove xs at.0) ys (λ f. grind (arith, common_steps, sum_by_popped, sum_by-cons)) in
+    IsPermutation-trans _ _ _ (IsPermutation-remove xs at.0 y at.1 (sym at.2)) (IsPermutation-cons y _ _ rest)

@@ -7,6 +7,7 @@ pub mod ByNumber
 pub mod Outputs
 pub mod Lists
 pub mod Issuing
+pub mod Adding
 pub mod Framed
 pub mod Lost
 pub mod Alone

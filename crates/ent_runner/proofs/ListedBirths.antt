@@ -1,7 +1,7 @@
 -- The births of a frame: the system whose queue lists a handle, and its ordinal there, are its
 -- birth in this phase. So births follow from the queues, whatever handles the workers were given.
 -- It speaks of the definitions alone.
-use Rattle.ent_runner.proofs.Common.{rules, ◌≡◌, ◌≢◌, ℕ, zero, suc, ◌+◌, ◌^◌, ◌<◌, ◌≤◌, List, [], ◌∷◌, ◌++◌, length, refl, ap, sym, ◌∙◌, arith, inl, inr, eq-eqb, ne_eqb, false, not, Some, None, get_or, common_steps, ◌==◌, filter, All, AllPairs, Contains, flat_map, cases_eq, slice_get_within, slice_get-get_or, length-append, All-nil, All-cons, All-append, All-contains, AllPairs-filter, Contains-permutation, IsPermutation-sym, length_permutation, Handle, available, born, stands_in, IsSound, IsLive, Call, AreGivenOnce, after_history, given_in, filter_all, AllPairs-tail, AllPairs-left, AllPairs-right, Contains-from_stands_in, stands_in-from_Contains, born-IsPermutation, given_in-not_live, Command, World, AreLiving, View, handles_listed, ordinal, listed_birth, birth_in, after_births, no_index, get-with_born, no_entity, history-sound, IsFrame, queue_at, reserved_by}
+use Rattle.ent_runner.proofs.Common.{rules, ◌≡◌, ◌≢◌, ℕ, zero, suc, ◌+◌, ◌^◌, ◌<◌, ◌≤◌, List, [], ◌∷◌, ◌++◌, length, refl, ap, arith, inl, inr, eq-eqb, ne_eqb, false, not, Some, None, common_steps, ◌==◌, filter, All, AllPairs, Contains, flat_map, cases_eq, slice_get_within, slice_get-get_or, length-append, All-nil, All-cons, All-append, All-contains, AllPairs-filter, Contains-permutation, IsPermutation-sym, length_permutation, Handle, available, born, stands_in, IsSound, IsLive, Call, AreGivenOnce, after_history, filter_all, AllPairs-tail, AllPairs-left, AllPairs-right, Contains-from_stands_in, stands_in-from_Contains, born-IsPermutation, given_in-not_live, Command, World, AreLiving, View, handles_listed, ordinal, listed_birth, birth_in, after_births, no_index, get-with_born, no_entity, history-sound, IsFrame, queue_at, reserved_by}
 use Rattle.std.proofs.Common.{IsPermutation}
 use Rattle.std.specs.FinMap as map
 use Rattle.ent_runner.proofs.ListedOnce.{Differ, Lists, contains_listed, not_in_both, position_is, listed-IsPermutation, listed-distinct, listed-born}
@@ -29,9 +29,8 @@ module _ {X : Type 0} (f : X → ℕ) where
   one_less n [] apart = omega arith
   one_less n (x ∷ xs) apart = elim (cases_eq (f x) n) [
     | inl e ↦
-        let same : others n xs ≡ xs = filter_all (λ x. not (f x == n)) xs
-        (λ k d l. rw (ne_eqb (f (get_or xs k d)) n (λ is. apart 0 (suc k) d (omega arith) (omega arith)
-        (e ∙ sym is)))) in
+        let same = filter_all (λ x. not (f x == n)) xs (λ k d l.
+            let other = apart 0 (suc k) d (omega arith) (omega arith) in search (rules, ne_eqb)) in
         rw (eq-eqb (f x) n e) (omega (arith, ap length same))
     | inr ne ↦ rw (ne_eqb (f x) n ne) (omega (arith, one_less n xs (AllPairs-tail HaveTwo x xs apart)))
   ]
@@ -78,14 +77,8 @@ listed_birth_is phase system (q ∷ qs) (suc n) k h once at =
     let none = no_index h 0 (handles_listed q) (not_there (handles_listed q) h
     (λ here. not_in_both (handles_listed q) (flat_map handles_listed qs) h once here (contains_listed qs n k h at)
     refl)) in
-    let next : (system + 1) + n ≡ system + suc n = omega arith in
-    rw none (listed_birth_is phase (system + 1) qs n k h (AllPairs-right Differ (handles_listed q)
-    (flat_map handles_listed qs) once) at ∙ (λ i. Some (record {
-      frame = phase;
-      system = next i;
-      ordinal = ordinal
-          k;
-    })))
+    rw none (search (rules, listed_birth_is phase (system + 1) qs n k h (AllPairs-right Differ (handles_listed q)
+    (flat_map handles_listed qs) once) at))
 
 module _ {S : Type 0} (may : S → View → List Command → Type 0) (systems : List S) (workers : ℕ) (before : World)
     (queues : List (List Command)) (history : List Call) (frame : IsFrame may systems workers before queues history)
@@ -109,12 +102,9 @@ module _ {S : Type 0} (may : S → View → List Command → Type 0) (systems : 
       let all = few_below (λ (h : Handle). h.index) after.limits.slots (available after) kept.apart
       (λ k d within. (kept.within k d within).index) in
       let two = length_permutation after.taken handles (born-IsPermutation after) in
-      omega (
-        arith,
-        kept.limits.slots,
-        length_permutation _ handles listed_are_born,
-        length-append after.taken (after.aside ++ after.pool),
-      )
+      let three = length_permutation _ handles listed_are_born in
+      let four = length-append after.taken (after.aside ++ after.pool) in
+      omega (arith, kept.limits.slots)
 
   -- A handle that a system lists after k others has this phase, this system and k as its birth.
   pub listed-birth : (system k : ℕ) (h : Handle) → Lists queues system k h
@@ -140,9 +130,8 @@ module _ {S : Type 0} (may : S → View → List Command → Type 0) (systems : 
   unfolding handles
   listed-enters system k h at =
       let birth = listed-birth system k h at in
-      let there = stands_in-from_Contains handles h (Contains-permutation _ handles h listed_are_born
-      (contains_listed queues system k h at)) in
-      search (rules, get-with_born, birth, there)
+      search
+      (rules, get-with_born, birth, stands_in-from_Contains, Contains-permutation, listed_are_born, contains_listed)
 
   -- Who is not listed is as before.
   pub unlisted-stays : (h : Handle) → ¬ (IsListed queues h)
@@ -154,8 +143,8 @@ module _ {S : Type 0} (may : S → View → List Command → Type 0) (systems : 
   pub listed-new : AreLiving before.allocator before.entities → (system k : ℕ) (h : Handle) → Lists queues system k h
       → map.get before.entities h ≡ None
   listed-new living system k h at =
-      let dead = All-contains (λ x. ¬ (IsLive before.allocator x)) (given_in history) h
-      (given_in-not_live before.allocator history sound frame.legal)
-      (Contains-permutation (flat_map handles_listed queues) (given_in history) h
-      (listed-IsPermutation may systems workers before queues history frame) (contains_listed queues system k h at)) in
+      let there = Contains-permutation _ _ h (listed-IsPermutation may systems workers before queues history frame)
+      (contains_listed queues system k h at) in
+      let dead = All-contains (λ x. ¬ (IsLive before.allocator x)) _ h (given_in-not_live before.allocator history sound
+      frame.legal) there in
       search (rules, no_entity, living h, dead)

@@ -1,14 +1,14 @@
 -- The handles that the queues of a frame list are those that its history gave. After this law
 -- neither the workers nor the history count. It speaks of the definitions alone.
-use Rattle.ent_runner.proofs.Common.{rules, ◌≡◌, ℕ, zero, suc, ◌+◌, ◌<◌, ◌≤◌, List, [], ◌∷◌, ◌++◌, length, map, refl, ap, sym, ◌∙◌, arith, subst, Some, Bool, cond, eq-eqb, ne_eqb, append-nil, append_assoc, inl, inr, Result, get_or, swap, set, ◌≢◌, common_steps, ◌==◌, filter, slice_get, All, Contains, flat_map, range_with_len, position_from, eq_by_cmp, IsPermutation, cases_eq, get_or_from_slice_get, slice_get_within, swap_is, Contains-append_left, Contains-append_right, IsPermutation-refl, IsPermutation-sym, IsPermutation-trans, IsPermutation-keeps, IsPermutation-append_left, IsPermutation-append_right, IsPermutation-append_comm, Handle, handle_cmp, Space, born, IsSound, Call, handles_in, given_in, AreGivenOnce, after_history, AllPairs-head, AllPairs-tail, AllPairs-across, AllPairs-IsPermutation, itself, born-IsPermutation, given_in-distinct, given_in-taken, Command, stands_for, World, View, handles_listed, IsFrame, queue_at}
+use Rattle.ent_runner.proofs.Common.{flat_map-map, rules, ◌≡◌, ℕ, zero, suc, ◌+◌, ◌<◌, ◌≤◌, List, [], ◌∷◌, ◌++◌, length, map, refl, ap, sym, ◌∙◌, arith, Some, Bool, cond, eq-eqb, ne_eqb, append-nil, append_assoc, inl, inr, Result, get_or, swap, set, ◌≢◌, common_steps, ◌==◌, filter, slice_get, All, Contains, flat_map, range_with_len, position_from, eq_by_cmp, IsPermutation, cases_eq, get_or_from_slice_get, slice_get_within, swap_is, Contains-append_left, Contains-append_right, IsPermutation-refl, IsPermutation-sym, IsPermutation-trans, IsPermutation-keeps, IsPermutation-append_left, IsPermutation-append_right, IsPermutation-append_comm, Handle, handle_cmp, Space, born, IsSound, Call, handles_in, given_in, AreGivenOnce, after_history, AllPairs-head, AllPairs-tail, AllPairs-across, AllPairs-IsPermutation, itself, born-IsPermutation, given_in-distinct, given_in-taken, Command, stands_for, World, View, handles_listed, IsFrame, queue_at}
 use Rattle.ent_runner.proofs.Lists.{each_of_all}
 
 -- ---- lists in another order
 
 -- two lists in front of a third change places
 flipped : {X : Type 0} (xs ys zs : List X) → IsPermutation (xs ++ (ys ++ zs)) (ys ++ (xs ++ zs))
-flipped xs ys zs = rw (sym (append_assoc xs ys zs), sym (append_assoc ys xs zs))
-    (IsPermutation-append_left zs (xs ++ ys) (ys ++ xs) (IsPermutation-append_comm xs ys))
+flipped xs ys zs = search
+    (rules, append_assoc, IsPermutation-append_left zs (xs ++ ys) (ys ++ xs), IsPermutation-append_comm)
 
 module _ {X Y : Type 0} (f : X → List Y) where
   -- an element is put instead of another one
@@ -45,9 +45,9 @@ flat_by_number : {X Y : Type 0} (f : ℕ → List Y) (g : X → List Y) (a : ℕ
     → flat_map f (range_with_len a (length xs)) ≡ flat_map g xs
 flat_by_number f g a [] each = refl
 flat_by_number f g a (x ∷ xs) each =
-    let here : f a ≡ g x = ap f (omega arith) ∙ each 0 x refl in
+    let here = each 0 x refl in
     let rest = flat_by_number f g (a + 1) xs (λ k y at. ap f (omega arith) ∙ each (suc k) y at) in
-    λ i. here i ++ rest i
+    grind (arith, common_steps)
 
 -- ---- the calls of a history, caller by caller
 
@@ -91,15 +91,13 @@ by_callers : (workers : ℕ) (history : List Call) → All (λ (call : Call). ca
 unfolding with_call given_to
 by_callers workers [] callers = rw (none_given (range_with_len 0 workers)) (IsPermutation-refl [])
 by_callers workers (call ∷ history) callers =
-    let handles : List Handle = handles_in call.reply in
-    let numbers : List ℕ = range_with_len 0 workers in
     let rest = by_callers workers history (λ k d within. callers (suc k) d (omega arith)) in
     let less : call.caller < workers = callers 0 call (omega arith) in
-    let whole : flat_map (with_call call.caller handles (given_to history)) numbers
-    ≡ flat_map (given_to (call ∷ history)) numbers = λ i. flat_map
-    (λ k. by_test (call.caller == k) (filter (λ (c : Call). c.caller == k) history) i) numbers in
-    rw (sym whole) (IsPermutation-trans _ _ _ (IsPermutation-append_right handles _ _ rest)
-    (one_gets call.caller 0 workers handles (given_to history) (omega arith) (omega arith)))
+    let whole : flat_map (with_call call.caller (handles_in call.reply) (given_to history)) (range_with_len 0 workers)
+    ≡ flat_map (given_to (call ∷ history)) (range_with_len 0 workers) = λ i. flat_map
+    (λ k. by_test (call.caller == k) (filter (λ (c : Call). c.caller == k) history) i) (range_with_len 0 workers) in
+    rw (sym whole) (IsPermutation-trans _ _ _ (IsPermutation-append_right (handles_in call.reply) _ _ rest)
+    (one_gets call.caller 0 workers (handles_in call.reply) (given_to history) (omega arith) (omega arith)))
   where
     by_test : (b : Bool) (others : List Call)
         → cond b (handles_in call.reply ++ given_in others) (given_in others)
@@ -116,8 +114,7 @@ replies_are commands = search (rules, flat_flat, append-nil)
 
 given_replies : (calls : List Call) → given_in calls ≡ flat_map replied
     (map (λ (call : Call). (call.requested, call.reply)) calls)
-given_replies [] = refl
-given_replies (call ∷ calls) = ap (λ l. handles_in call.reply ++ l) (given_replies calls)
+given_replies calls = search (rules, flat_map-map)
 
 -- ---- where a handle stands
 
@@ -137,8 +134,7 @@ pub contains_listed : (queues : List (List Command)) (system k : ℕ) (h : Handl
     → Contains (flat_map handles_listed queues) h
 contains_listed [] system k h at = absurd (cc)
 contains_listed (q ∷ qs) zero k h at = search (rules, Contains-append_left, contains_at)
-contains_listed (q ∷ qs) (suc system) k h at = Contains-append_right (handles_listed q) (flat_map handles_listed qs) h
-    (contains_listed qs system k h at)
+contains_listed (q ∷ qs) (suc system) k h at = search (rules, Contains-append_right, contains_listed qs system)
 
 -- what stands in the first of two lists does not stand in the second
 pub not_in_both : (xs ys : List Handle) (h : Handle) → AreGivenOnce (xs ++ ys) → Contains xs h → Contains ys h → h ≢ h
@@ -172,21 +168,13 @@ module _ {S : Type 0} (may : S → View → List Command → Type 0) (systems : 
   unfolding listed_at
   listed-IsPermutation =
       let ran : List ℕ = flat_map (λ mine. mine) frame.ran in
-      let numbers : List ℕ = range_with_len 0 (length systems) in
-      let by_system : flat_map listed_at numbers ≡ flat_map handles_listed queues = ap
-      (λ n. flat_map listed_at (range_with_len 0 n)) (sym frame.count)
-      ∙ flat_by_number listed_at handles_listed 0 queues (λ k q at. ap listed_at (omega arith)
-      ∙ ap handles_listed (get_or_from_slice_get queues k q [] at)) in
-      let by_worker : flat_map (given_to history) (range_with_len 0 workers)
-      ≡ flat_map listed_at ran = ap (λ n. flat_map (given_to history) (range_with_len 0 n)) (sym frame.each_worker)
-      ∙ (flat_by_number (given_to history) (flat_map listed_at) 0 frame.ran
-      (λ k mine at. ap (given_to history) (omega arith) ∙ given_listed k mine at)
-      ∙ sym (flat_flat listed_at (λ mine. mine) frame.ran)) in
-      subst (λ l. IsPermutation l (given_in history)) by_system
-      (IsPermutation-sym (given_in history) (flat_map listed_at numbers)
-      (IsPermutation-trans (given_in history) (flat_map listed_at ran) (flat_map listed_at numbers)
-      (subst (IsPermutation (given_in history)) by_worker (by_callers workers history frame.callers))
-      (flat_moved listed_at ran numbers frame.once)))
+      let by_system = flat_by_number listed_at handles_listed 0 queues (λ k q at. ap handles_listed
+      (ap (queue_at queues) (omega arith) ∙ get_or_from_slice_get queues k q [] at)) in
+      let by_worker = flat_by_number (given_to history) (flat_map listed_at) 0 frame.ran (λ k mine at.
+      ap (given_to history) (omega arith) ∙ given_listed k mine at) in
+      rw (sym by_system, frame.count) (IsPermutation-sym _ _ (IsPermutation-trans _ _ _
+      (rw (sym frame.each_worker, by_worker, sym (flat_flat listed_at (λ mine. mine) frame.ran)) at
+      (by_callers workers history frame.callers)) (flat_moved listed_at ran _ frame.once)))
 
   module _ (sound : IsSound before.allocator) where
     -- No handle is listed twice, by one queue or by two.

@@ -1,5 +1,5 @@
 -- Lists of lists, and the numbers of a range.
-use Rattle.ent_runner.proofs.Common.{rules, ◌≡◌, ◌≢◌, ℕ, zero, suc, ◌+◌, ◌<◌, ◌≤◌, List, [], ◌∷◌, ◌++◌, length, map, refl, ap, arith, subst, Some, Bool, cond, ◌⊎◌, eq-eqb, ne_eqb, ◌∙◌, common_steps, ◌==◌, filter, slice_get, All, sum_by, flat_map, range_with_len, cases_eq, All-nil, All-cons, All-head, All-tail, All-append, sum_by-cons, All-left, All-right, slice_get-get_or, get_or_from_slice_get, slice_get_within, slice_get-map, option_map, get_or-map, length-map}
+use Rattle.ent_runner.proofs.Common.{rules, ◌≡◌, ◌≢◌, ℕ, zero, suc, ◌+◌, ◌<◌, ◌≤◌, List, [], ◌∷◌, ◌++◌, length, map, refl, ap, arith, Some, Bool, cond, ◌⊎◌, eq-eqb, ne_eqb, ◌∙◌, common_steps, ◌==◌, filter, slice_get, All, sum_by, flat_map, range_with_len, cases_eq, All-nil, All-cons, All-head, All-tail, All-append, sum_by-cons, All-left, All-right, slice_get-get_or, get_or_from_slice_get, slice_get_within, slice_get-map, option_map, get_or-map, length-map}
 
 -- what holds of each element at its index holds of all
 pub all_from_each : {X : Type 0} (P : X → Type 0) (xs : List X) → ((k : ℕ) (x : X) → slice_get xs k ≡ Some x → P x)
@@ -7,8 +7,7 @@ pub all_from_each : {X : Type 0} (P : X → Type 0) (xs : List X) → ((k : ℕ)
 all_from_each P xs each k d within = search (rules, slice_get-get_or)
 
 pub of_mapped : {X Y : Type 0} (P : Y → Type 0) (f : X → Y) (xs : List X) → All P (map f xs) → All (λ x. P (f x)) xs
-of_mapped P f xs all k d within = subst P (get_or-map f xs k d (f d) within)
-    (all k (f d) (omega (arith, length-map xs f)))
+of_mapped P f xs all k d within = search (rules, get_or-map f xs k d (f d), length-map)
 
 pub each_of_all : {X : Type 0} (P : X → Type 0) (xs : List X) (k : ℕ) (x : X) → All P xs → slice_get xs k ≡ Some x → P x
 each_of_all P xs k x all at = search (rules, get_or_from_slice_get, slice_get_within)

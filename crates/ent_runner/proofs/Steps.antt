@@ -1,5 +1,5 @@
 -- Each step keeps the rule over the claim word and the records.
-use Rattle.ent_runner.proofs.Common.{common_steps, rules, ◌≡◌, ℕ, zero, suc, ◌+◌, ◌%◌, ◌^◌, ◌<◌, ◌≤◌, List, [], ◌∷◌, ◌++◌, length, set, get_or, sym, refl, ap, ◌∙◌, arith, ⊎_elim, lt-ltb, le-ltb, mod-eq_of_lt, true, sum_by, All, range_with_len, cases_lt, All-nil, All-set, All-replicate, sum_by-replicate, all_pairs_push, sum_by-cons, sum_by_push, sum_by-le-sum_by, some, get_elem?, State, Me, keeps, Allows, opening, GoesByRecords, all_one, sum_at, all_at, whole_weighs, sum_regrouped, length-regrouped, all_regrouped, ClaimRecord, nothing_claimed, after_claim, weigh_claims, ended_in, IsClaimKept, AreClaimsRuled, AfterClaim, ClaimTells, AreClaimsClosed, false, cond}
+use Rattle.ent_runner.proofs.Common.{inl, inr, common_steps, rules, ◌≡◌, ℕ, zero, suc, ◌+◌, ◌%◌, ◌^◌, ◌<◌, ◌≤◌, List, [], ◌∷◌, ◌++◌, length, set, get_or, sym, refl, ap, ◌∙◌, arith, lt-ltb, le-ltb, mod-eq_of_lt, true, sum_by, All, range_with_len, cases_lt, All-nil, All-set, All-replicate, sum_by-replicate, all_pairs_push, sum_by-cons, sum_by_push, sum_by-le-sum_by, some, get_elem?, State, Me, keeps, Allows, opening, GoesByRecords, all_one, sum_at, all_at, whole_weighs, sum_regrouped, length-regrouped, all_regrouped, ClaimRecord, nothing_claimed, after_claim, weigh_claims, ended_in, IsClaimKept, AreClaimsRuled, AfterClaim, ClaimTells, AreClaimsClosed, false, cond}
 use Rattle.std.proofs.Common.{replicate}
 
 range_last : (a n j : ℕ) → a + n ≡ j → range_with_len a (suc n) ≡ range_with_len a n ++ j ∷ []
@@ -82,24 +82,9 @@ module _ (numbers workers : ℕ) where
       let ended = sum_at ended_in s.views id (r ∷ []) w at in
       let changed = sum_at length s.views id (r ∷ []) w at in
       let nought : ended_in (r ∷ []) ≡ 0 = search rules in
-      record {
-        few_numbers = k.few_numbers;
-        few_workers = k.few_workers;
-        word = k.word + 1;
-        words = now;
-        claimed = k.claimed;
-        within = k.within;
-        counts = omega (arith, k.counts);
-        none_early = λ left. absurd (omega arith);
-        partition = λ f. omega (arith, sum_at (weigh_claims f) s.views id (r ∷ []) w at, k.partition f);
-        records = omega (arith, k.records);
-        each = All-set K s.views id w (all_one (IsClaimKept numbers k.claimed) (with_end r) (record {
-          numbers_is = mine.numbers_is;
-          below = mine.below;
-          rises = mine.rises;
-          ends = λ _. all;
-        })) k.each;
-      }
+      let each = All-set K s.views id w (all_one (IsClaimKept numbers k.claimed) (with_end r)
+      (search (rules, mine, all))) k.each in
+      search (rules, sum_at, each)
 
   pub claims : (slots id : ℕ) (r : ClaimRecord) → r.ended ≡ false
       → Allows Rule slots id (r ∷ [], []) 0 (λ word. (word + 1) % 2 ^ 64) (ClaimTells (r ∷ [], []))
@@ -110,22 +95,17 @@ module _ (numbers workers : ℕ) where
       let now : set s.words 0 ((get_or s.words 0 0 + 1) % 2 ^ 64) ≡ (word + 1)
       ∷ [] = search (rules, mod-eq_of_lt, k.words) in
       let w : ClaimRecord = after_claim r word in
-      let mine : IsClaimKept numbers k.claimed r = all_at (All (IsClaimKept numbers k.claimed)) s.views id (r ∷ []) at
-      k.each 0 r (omega arith) in
+      let mine = all_at (All (IsClaimKept numbers k.claimed)) s.views id (r ∷ []) at k.each 0 r (omega arith) in
       let limit : r.numbers ≡ numbers = mine.numbers_is in
       let told : AfterClaim r (get_or s.words 0 0) (w ∷ []) = rw found (record {
         above = λ i d lt. omega (arith, mine.below i d lt, k.counts);
         after = refl;
       }) in
-      let ruled : Rule (record s {
-        words = set s.words 0 ((get_or s.words 0 0 + 1) % 2 ^ 64);
-        views = set s.views id
-            (w ∷ []);
-      }) = ⊎_elim (λ (below : word < numbers).
-      let is : w ≡ with_claim r k.claimed = search (rules, lt-ltb) in rw is (after_number s k id r _ at below now))
-      (λ (above : numbers ≤ word).
-      let is : w ≡ with_end r = search (rules, le-ltb) in rw is (after_end s k id r _ at going above now))
-      (cases_lt word numbers) in
+      let ruled : Rule (record s { words = set s.words 0 ((get_or s.words 0 0 + 1) % 2 ^ 64); views = set s.views id
+          (w ∷ []) }) = elim (cases_lt word numbers) [
+        | inl below ↦ search (rules, lt-ltb, after_number s k id r _ at below now)
+        | inr above ↦ search (rules, le-ltb, after_end s k id r _ at going above now)
+      ] in
       (w ∷ [], keeps, tt, ruled, (refl, λ x is _. search (rules, told)))
 
   pub claims_at : (slots id : ℕ) (me : Me (Unit {0}) (List ClaimRecord)) (r : ClaimRecord) (n : ℕ) → me.0 ≡ r ∷ []

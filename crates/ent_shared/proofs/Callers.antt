@@ -44,6 +44,5 @@ pub one_of_number : (number : ℕ) (g : Record → ℕ) (rs : List Record) (r : 
     → count_by (λ (x : Record). x.number == number) rs ≤ 1 → Contains rs r → r.number ≡ number
     → sum_by (of_number number g) rs ≡ g r
 one_of_number number g [] r few inside is = absurd (omega arith)
-one_of_number number g (x ∷ rs) r few inside is =
-    let rest = one_of_number number g rs r in
-    grind (arith, common_steps, sum_by-cons, contains_cases, none_of_number, rest, counted)
+one_of_number number g (x ∷ rs) r few inside is = grind
+    (arith, common_steps, sum_by-cons, contains_cases, none_of_number, one_of_number number g rs r, counted)

@@ -1,6 +1,6 @@
 -- The handles of a list differ if each is there at most once. So the handles of some reservers differ if
 -- those of all do.
-use Rattle.ent_shared.proofs.Common.{rules, arith, ◌≡◌, ◌≢◌, ℕ, ◌≤◌, List, [], ◌∷◌, refl, AllPairs, ◌⊎◌, sym, subst, cond, sum_by, common_steps, nat_tests, All-tail, All-head, All-contains_itself, AllPairs-cons, sum_by-append, sum_by-cons, Handle, handle_eq, handles_in, AllPairs-head, AllPairs-tail, Reservation, Record, own_reservations, weigh, own_of_all, handles_of}
+use Rattle.ent_shared.proofs.Common.{rules, arith, ◌≡◌, ◌≢◌, ℕ, ◌≤◌, List, [], ◌∷◌, refl, AllPairs, ◌⊎◌, sym, cond, sum_by, common_steps, nat_tests, All-tail, All-head, All-contains_itself, AllPairs-cons, sum_by-append, sum_by-cons, Handle, handle_eq, handles_in, AllPairs-head, AllPairs-tail, Reservation, Record, own_reservations, weigh, own_of_all, handles_of}
 use Rattle.std.proofs.Common.{All, Contains}
 use Rattle.ent_shared.proofs.Sorting.{contains_cases}
 use Rattle.ent_shared.proofs.Weighing.{sum_by-flat_map}
@@ -49,7 +49,7 @@ once (g ∷ gs) differ h =
 differ_if_once : (gs : List Handle) → ((h : Handle) → sum_by (is_one h) gs ≤ 1) → Differ gs
 differ_if_once [] few = λ i j d lt within. absurd (omega arith)
 differ_if_once (g ∷ gs) few = AllPairs-cons (λ g h. g ≢ h) g gs (λ i d lt same.
-    let there = counted g gs (subst (Contains gs) (sym same) (All-contains_itself gs i d lt)) in
+    let there = counted g gs (rw (sym same) at (All-contains_itself gs i d lt)) in
     grind (arith, common_steps, sum_by-cons, one_itself g, few g))
     (differ_if_once gs (λ h. grind (arith, common_steps, sum_by-cons, few h)))
 

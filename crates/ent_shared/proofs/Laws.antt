@@ -1,5 +1,5 @@
 -- What crates above need to know of records: what they were given, one by one and all together.
-use Rattle.ent_shared.proofs.Common.{arith, rules, ◌≡◌, ◌≢◌, List, [], ◌∷◌, ◌++◌, refl, sym, AllPairs, common_steps, flat_map, IsPermutation-refl, IsPermutation-sym, IsPermutation-trans, IsPermutation-append_right, Handle, AllPairs-IsPermutation, Reservation, Record, insert_reservation, by_falling_high, own_of_all, history_of, handles_of, handles_given}
+use Rattle.ent_shared.proofs.Common.{arith, rules, ◌≡◌, ◌≢◌, List, [], ◌∷◌, ◌++◌, refl, sym, AllPairs, common_steps, flat_map, IsPermutation-refl, IsPermutation-sym, IsPermutation-trans, IsPermutation-append_right, AllPairs-IsPermutation, Reservation, Record, insert_reservation, by_falling_high, own_of_all, history_of, handles_of, handles_given}
 use Rattle.std.proofs.Common.{IsPermutation}
 use Rattle.ent_shared.proofs.Regrouping.{turned}
 use Rattle.ent_alloc.specs.History as history
@@ -14,10 +14,8 @@ given_inserted : (c : Reservation) (cs : List Reservation) → IsPermutation (ha
     (insert_reservation c cs))
 given_inserted c [] = IsPermutation-refl (handles_of (c ∷ []))
 given_inserted c (d ∷ ds) =
-    let y : List Handle = history.handles_in d.reply in
-    let turn = turned (history.handles_in c.reply) y (handles_of ds) in
-    let rest = IsPermutation-append_right y (handles_of (c ∷ ds)) (handles_of (insert_reservation c ds))
-    (given_inserted c ds) in
+    let turn = turned (history.handles_in c.reply) (history.handles_in d.reply) (handles_of ds) in
+    let rest = IsPermutation-append_right (history.handles_in d.reply) _ _ (given_inserted c ds) in
     search (rules, IsPermutation-refl, IsPermutation-trans, turn, rest)
 
 given_sorted : (cs : List Reservation) → IsPermutation (handles_of cs) (handles_of (by_falling_high cs))

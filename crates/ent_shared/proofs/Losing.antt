@@ -1,5 +1,5 @@
 -- The end of a phase where some reservers are lost: the front of the pool counts as reserved.
-use Rattle.ent_shared.proofs.Common.{cases_eq, rules, ◌≡◌, ℕ, ◌+◌, ◌-◌, ◌*◌, ◌^◌, ◌<◌, ◌≤◌, ℤ, pos, ◌+ℤ◌, ◌-ℤ◌, ◌≤ℤ◌, get_or, List, [], ◌∷◌, length, take, drop, sym, ap, subst, ◌∙◌, arith, AllPairs, ◌⊎◌, ◌≢◌, neg_ℤ, zero-add, refl, map, Ok, Err, common_steps, Result, Bool, true, false, cond, nat_le, sum_by, drop-take, take-take, take_all, drop_all, length-take, take-append-drop, All-head, All-tail, All-nil, All-append, All-take, All-drop, All-contains, All-contains_itself, All-permutation, int_max, ints, Handle, Space, Entities, quota, Allocator, available, cursor, top, asked_at, pool_at, listed, settled, IsSound, IsLive, length-available, flushed-laid_out, asked_at-is, listed-IsPermutation, not_apart, given_in-distinct, Reservation, Record, Opening, low, own_reservations, requested_by, after_loss, Follow, HasItsReply, IsStart, IsClosed, history_of, handles_of, as_call, own_of_all}
+use Rattle.ent_shared.proofs.Common.{cases_eq, rules, ◌≡◌, ℕ, ◌+◌, ◌-◌, ◌*◌, ◌^◌, ◌<◌, ◌≤◌, ℤ, pos, ◌+ℤ◌, ◌-ℤ◌, ◌≤ℤ◌, get_or, List, [], ◌∷◌, length, take, drop, sym, ap, ◌∙◌, arith, AllPairs, ◌⊎◌, ◌≢◌, neg_ℤ, zero-add, refl, map, Ok, Err, common_steps, true, false, cond, nat_le, sum_by, drop-take, take-take, take_all, drop_all, length-take, take-append-drop, All-head, All-tail, All-nil, All-append, All-take, All-drop, All-contains, All-contains_itself, All-permutation, int_max, ints, Handle, Entities, quota, Allocator, available, cursor, top, asked_at, pool_at, listed, settled, IsSound, IsLive, length-available, flushed-laid_out, asked_at-is, listed-IsPermutation, not_apart, given_in-distinct, Reservation, Record, Opening, low, own_reservations, requested_by, after_loss, Follow, HasItsReply, IsStart, IsClosed, history_of, handles_of, as_call, own_of_all}
 use Rattle.std.proofs.Common.{All, Contains}
 use mir.Syntax.{w64}
 use mir.Val.{to_z, of_z}
@@ -14,10 +14,9 @@ use Rattle.ent_shared.proofs.Settling.{IsLater, legal_from}
 front_contains : (xs : List Handle) (k n asked : ℕ) → k + n ≤ asked
     → All (Contains (take asked xs)) (take n (drop k xs))
 front_contains xs k n asked le =
-    let P : Handle → Type 0 = Contains (take asked xs) in
-    let all = All-take P (k + n) (take asked xs) (All-contains_itself (take asked xs)) in
-    let some = All-drop P k (take (k + n) (take asked xs)) all in
-    rw (sym (drop-take k n xs), sym (take-take (k + n) asked xs le)) some
+    let front : List Handle = take asked xs in
+    rw (sym (drop-take k n xs), sym (take-take (k + n) asked xs le)) (All-drop (Contains front) k (take (k + n) front)
+    (All-take (Contains front) (k + n) front (All-contains_itself front)))
 
 -- the handles of a call are in the front that reaches as far
 reservation_contains : (start : Allocator) (c : Reservation) (asked : ℕ) → HasItsReply start c
@@ -25,13 +24,12 @@ reservation_contains : (start : Allocator) (c : Reservation) (asked : ℕ) → H
     (history.handles_in c.reply)
 reservation_contains start c asked replied le =
     let pool : List Handle = pool_at start c.high in
-    let given : List Handle = listed start.made (take c.requested pool) in
     let P : Handle → Type 0 = Contains (take asked (available start)) in
-    let all = All-permutation P (take c.requested pool) given (listed-IsPermutation start.made (take c.requested pool))
+    let all = All-permutation P _ _ (listed-IsPermutation start.made (take c.requested pool))
     (front_contains (available start) (asked_at (top start) c.high) c.requested asked le) in
-    let goal : Bool → Type 0 = λ b. All P (history.handles_in (cond {A = Result (List Handle) Space} b (Ok given)
-    (Err (record { wanted = c.requested; left = length pool })))) in
-    rw replied (elim (nat_le c.requested (length pool)) as goal [ true ↦ all | false ↦ All-nil P ])
+    rw replied (elim (nat_le c.requested (length pool)) as (λ b. All P (history.handles_in (cond b
+    (Ok (listed start.made (take c.requested pool))) (Err (record { wanted = c.requested; left = length pool })))))
+    [ true ↦ all | false ↦ All-nil P ])
 
 reservations_contain : (start : Allocator) (asked : ℕ) (cs : List Reservation) → All (HasItsReply start) cs
     → All (λ (c : Reservation). asked_at (top start) c.high + c.requested ≤ asked) cs
@@ -128,7 +126,7 @@ module _ (start : Allocator) (sound : IsSound start) (flushed : start.asked ≡ 
         distinct =
             let itself : IsLater start start = record { sound = sound; available_is = refl; made_is = refl } in
             some_differ records k.log k.some (given_in-distinct start (map as_call k.log) sound
-            (legal_from start start k.log at itself k.follow k.replied));
+                (legal_from start start k.log at itself k.follow k.replied));
       }
 
 pub lost : (entities : Entities) (start : Allocator) (n count room : ℕ) (key : Opening) (records : List Record)
@@ -143,13 +141,12 @@ lost entities start n count room key records at floor roomed begins sound few ke
     let here : Allocator = entities.allocator in
     let small = begins.top in
     let flushed = begins.flushed in
-    let k : IsClosed here n records at = subst (λ (o : Opening). IsClosed o.entities.allocator o.count records at)
-    key_is closed in
+    let k : IsClosed here n records at = rw key_is at closed in
     let least = cursor_least here n records at k sound flushed few in
     let greatest = cursor_greatest here n records at k sound flushed in
     let at_word : to_z w64 (of_z w64 at) ≡ at = omega (arith, ints) in
     let end_word : to_z w64 (of_z w64 (pos 0 -ℤ to_z w64 (of_z w64 roomed)))
     ≡ neg_ℤ (pos (here.limits.slots - here.made)) = omega (arith, ints) in
-    let max_is = floor_is ∙ (λ i. int_max (at_word i) (end_word i)) in
+    let max_is = rw (at_word, end_word) at floor_is in
     let floor_word : to_z w64 (of_z w64 floor) ≡ floor = grind (arith, ints) in
     search (rules, lost_at)

@@ -1,5 +1,5 @@
 -- What a reservation and a meeting add to a record.
-use Rattle.ent_shared.proofs.Common.{rules, ◌≡◌, ℕ, ◌+◌, ◌≤◌, ℤ, pos, ◌-ℤ◌, ◌≤ℤ◌, List, [], ◌∷◌, ◌++◌, length, sym, refl, ap, subst, ◌∙◌, arith, append-nil, add-zero, common_steps, nat_le, cond, Bool, true, false, All, Contains, int_min, All-head, All-tail, All-nil, All-cons, All-append, All-weaker, Contains-append_left, Contains-push, sum_by-cons, sum_by-append, ints, int_min_is, Allocator, cursor, pool_at, All-left, All-right, Reservation, RecordEntry, Own, Met, Record, quota, low, reservations_in, own_reservations, known_reservations, requested_by, reservation_at, after_reservation, after_meeting, floor_after, floor_of, InOrder, IsKept}
+use Rattle.ent_shared.proofs.Common.{rules, ◌≡◌, ℕ, ◌+◌, ◌≤◌, ℤ, pos, ◌-ℤ◌, ◌≤ℤ◌, List, [], ◌∷◌, ◌++◌, length, sym, refl, ap, subst, ◌∙◌, arith, append-nil, add-zero, common_steps, nat_le, cond, Bool, true, false, All, Contains, int_min, All-head, All-tail, All-nil, All-cons, All-append, All-weaker, Contains-append_left, Contains-push, sum_by-cons, sum_by-append, ints, Allocator, cursor, pool_at, All-left, All-right, Reservation, RecordEntry, Own, Met, Record, quota, low, reservations_in, own_reservations, known_reservations, requested_by, reservation_at, after_reservation, after_meeting, floor_after, floor_of, InOrder, IsKept}
 use Rattle.ent_shared.proofs.Weighing.{all_one}
 
 pub own-made : (es : List RecordEntry) (c : Reservation) → own_reservations (es ++ Own c ∷ []) ≡ own_reservations es
@@ -39,9 +39,8 @@ quota-met r met adds_up = ap (λ (k : ℕ). r.left + k) (requested-met r met) �
 pub all_own : (P : Reservation → Type 0) (es : List RecordEntry) → All P (known_reservations es)
     → All P (own_reservations es)
 all_own P [] all = All-nil P
-all_own P (Own c ∷ es) all = All-cons P c (own_reservations es) (All-head P c (known_reservations es) all)
-    (all_own P es (All-tail P c (known_reservations es) all))
-all_own P (Met cs ∷ es) all = all_own P es (All-right P cs (known_reservations es) all)
+all_own P (Own c ∷ es) all = search (rules, All-cons, All-head, All-tail, all_own P es)
+all_own P (Met cs ∷ es) all = search (rules, All-right, all_own P es)
 
 -- a reservation after all others
 pub order-made : (es : List RecordEntry) (c : Reservation) → InOrder es
@@ -75,10 +74,9 @@ pub floor-made : (start : Allocator) (cs : List Reservation) (c : Reservation)
     (floor_of start cs)
 floor-made start [] c below top = search (rules, ints)
 floor-made start (d ∷ cs) c below top =
-    let P : Reservation → Type 0 = λ (e : Reservation). low c ≤ℤ low e in
-    let rest = floor-made start cs c (All-tail P d cs below) top in
-    ap (int_min (floor_after start d)) rest ∙ lower_first (floor_after start d) (low c) (floor_of start cs)
-    (nat_le c.requested (length (pool_at start c.high))) (least_after start (low c) d (All-head P d cs below) top)
+    let rest = floor-made start cs c (All-tail (λ (e : Reservation). low c ≤ℤ low e) d cs below) top in
+    let first = below 0 d (omega arith) in
+    search (rules, lower_first, least_after, rest, first)
 
 -- a record stays kept while the cursor goes down and the log grows
 pub kept_on : (start : Allocator) (at now : ℤ) (log more : List Reservation) (r : Record) → now ≤ℤ at
@@ -91,7 +89,6 @@ pub kept_reserved : (start : Allocator) (at : ℤ) (log : List Reservation) (n :
 kept_reserved start at log n r within top k =
     let c : Reservation = reservation_at r at n in
     let es : List RecordEntry = r.entries in
-    let own : List Reservation = own_reservations es in
     let mark = k.marks.mark in
     let P : Reservation → Type 0 = λ (d : Reservation). at ≤ℤ low d in
     let below : All P (known_reservations es) = All-weaker (λ (d : Reservation). r.mark ≤ℤ low d) P
@@ -99,61 +96,46 @@ kept_reserved start at log n r within top k =
     let Q : Reservation → Type 0 = λ (d : Reservation). (at -ℤ pos n) ≤ℤ low d in
     let lower : All Q (known_reservations es) = All-weaker P Q (λ d h. omega (arith, ints)) (known_reservations es)
     below in
+    let K : Reservation → Type 0 = Contains (log ++ c ∷ []) in
     record {
       start_is = k.start_is;
       caller = grind (arith, common_steps, own-made, All-append, all_one);
       quota = record {
         quota = quota-reserved r at n within k.quota.quota;
-        floor = rw (own-made es c, floor-made start own c (all_own Q es lower) (omega (arith, ints)))
-            (rw (k.start_is, k.quota.floor) refl);
+        floor = rw (own-made es c, floor-made start (own_reservations es) c (all_own Q es lower) (omega (arith, ints)),
+            k.start_is, k.quota.floor) refl;
       };
       marks = record {
         mark = omega (arith, ints);
-        below = subst (All Q) (sym (known-more es (Own c))) (All-append Q (known_reservations es) (c ∷ []) lower
-            (all_one Q c (omega (arith, ints))));
+        below = rw (known-more es (Own c)) (All-append Q _ _ lower (all_one Q c (omega (arith, ints))));
         order = order-made es c k.marks.order below;
-        known = subst (All (Contains (log ++ c ∷ []))) (sym (known-more es (Own c)))
-            (All-append (Contains (log ++ c ∷ [])) (known_reservations es) (c ∷ [])
-            (All-weaker (Contains log) (Contains (log ++ c ∷ [])) (λ d h. Contains-append_left log (c ∷ []) d h)
-            (known_reservations es) k.marks.known) (all_one (Contains (log ++ c ∷ [])) c (Contains-push log c)));
+        known = rw (known-more es (Own c)) (All-append K _ _ (All-weaker (Contains log) K
+            (λ d h. Contains-append_left log (c ∷ []) d h) _ k.marks.known) (all_one K c (Contains-push log c)));
       };
     }
-
-pub kept_met : (start : Allocator) (at : ℤ) (log : List Reservation) (r met : Record) → IsKept start at log r
-    → IsKept start at log met → IsKept start at log (after_meeting r met)
-kept_met start at log r met k m =
-    let es : List RecordEntry = r.entries in
-    let cs : List Reservation = known_reservations met.entries in
-    let here = k.marks.mark in
-    let there = m.marks.mark in
-    let lesser = int_min_is r.mark met.mark in
-    let P : Reservation → Type 0 = λ (d : Reservation). int_min r.mark met.mark ≤ℤ low d in
-    record {
-      start_is = k.start_is;
-      caller = search (rules, own-met);
-      quota = record { quota = quota-met r met k.quota.quota; floor = rw (own-met es cs) k.quota.floor };
-      marks = record {
-        mark = grind (arith, ints);
-        below = subst (All P) (sym (known-more es (Met cs)))
-            (All-append P (known_reservations es) cs (All-weaker (λ (d : Reservation). r.mark ≤ℤ low d) P
-            (λ d h. grind (arith, ints)) (known_reservations es) k.marks.below)
-            (All-weaker (λ (d : Reservation). met.mark ≤ℤ low d) P (λ d h. grind (arith, ints)) cs m.marks.below));
-        order = order-met es cs k.marks.order;
-        known = subst (All (Contains log)) (sym (known-more es (Met cs)))
-            (All-append (Contains log) (known_reservations es) cs k.marks.known m.marks.known);
-      };
-    }
-
-pub met_below : (r met : Record) → All (λ (c : Reservation). met.mark ≤ℤ low c) (known_reservations met.entries)
-    → All (λ (c : Reservation). (after_meeting r met).mark ≤ℤ low c) (known_reservations met.entries)
-met_below r met theirs = grind (arith, common_steps)
 
 pub below_meeting : (r met : Record) → All (λ (c : Reservation). r.mark ≤ℤ low c) (known_reservations r.entries)
     → All (λ (c : Reservation). met.mark ≤ℤ low c) (known_reservations met.entries)
     → All (λ (c : Reservation). (after_meeting r met).mark ≤ℤ low c) (known_reservations (after_meeting r met).entries)
 below_meeting r met mine theirs =
     let P : Reservation → Type 0 = λ (d : Reservation). int_min r.mark met.mark ≤ℤ low d in
-    subst (All P) (sym (known-more r.entries (Met (known_reservations met.entries))))
-    (All-append P (known_reservations r.entries) (known_reservations met.entries)
-    (All-weaker (λ (d : Reservation). r.mark ≤ℤ low d) P (λ d h. grind (arith, ints)) (known_reservations r.entries)
-    mine) (met_below r met theirs))
+    rw (known-more r.entries (Met (known_reservations met.entries))) (All-append P _ _ (λ i d lt.
+            let h = mine i d lt in grind (arith, ints)) (λ i d lt. let h = theirs i d lt in grind (arith, ints)))
+
+pub kept_met : (start : Allocator) (at : ℤ) (log : List Reservation) (r met : Record) → IsKept start at log r
+    → IsKept start at log met → IsKept start at log (after_meeting r met)
+kept_met start at log r met k m =
+    let here = k.marks.mark in
+    let there = m.marks.mark in
+    let cs : List Reservation = known_reservations met.entries in
+    record {
+      start_is = k.start_is;
+      caller = search (rules, own-met);
+      quota = record { quota = quota-met r met k.quota.quota; floor = rw (own-met r.entries cs) k.quota.floor };
+      marks = record {
+        mark = grind (arith, ints);
+        below = below_meeting r met k.marks.below m.marks.below;
+        order = order-met r.entries cs k.marks.order;
+        known = rw (known-more r.entries (Met cs)) (All-append (Contains log) _ cs k.marks.known m.marks.known);
+      };
+    }

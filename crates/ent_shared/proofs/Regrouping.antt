@@ -1,5 +1,5 @@
 -- Seats that share out the same records in two ways: what the records weigh and what holds of each.
-use Rattle.ent_shared.proofs.Common.{common_steps, rules, arith, ◌≡◌, ℕ, zero, suc, List, [], ◌∷◌, ◌++◌, length, set, sym, subst, ◌∙◌, append_assoc, append-nil, IsPermutation, sum_by, All, Contains, set_comm, flat_map-append, length-flat_map, All-nil, All-cons, All-weaker, All-contains, All-contains_itself, Contains-append_left, Contains-append_right, IsPermutation-refl, IsPermutation-sym, IsPermutation-trans, IsPermutation-append, IsPermutation-append_comm, sum_by-IsPermutation, All-permutation, length_permutation, some, some-ne-none, get_elem?, set_else, set_again, records_in}
+use Rattle.ent_shared.proofs.Common.{All-left, All-right, common_steps, rules, arith, ◌≡◌, ℕ, zero, suc, List, [], ◌∷◌, ◌++◌, length, set, sym, subst, ◌∙◌, append_assoc, append-nil, IsPermutation, sum_by, All, set_comm, flat_map-append, length-flat_map, All-nil, All-cons, IsPermutation-refl, IsPermutation-sym, IsPermutation-trans, IsPermutation-append, IsPermutation-append_comm, sum_by-IsPermutation, All-permutation, length_permutation, some, some-ne-none, get_elem?, set_else, set_again, records_in}
 use Rattle.ent_shared.proofs.Weighing.{sum_by-flat_map, All-flat_map}
 
 module _ {R : Type 0} where
@@ -13,12 +13,8 @@ module _ {R : Type 0} where
 
   all_out : (P : R → Type 0) (views : List (List R)) → All P (records_in views) → All (All P) views
   all_out P [] all = All-nil (All P)
-  all_out P (v ∷ views) all =
-      let rest : List R = records_in views in
-      All-cons (All P) v views (All-weaker (Contains v) P (λ r h. All-contains P (v ++ rest) r all
-      (Contains-append_left v rest r h)) v (All-contains_itself v))
-      (all_out P views (All-weaker (Contains rest) P (λ r h. All-contains P (v ++ rest) r all
-      (Contains-append_right v rest r h)) rest (All-contains_itself rest)))
+  all_out P (v ∷ views) all = All-cons (All P) v views (All-left P v (records_in views) all)
+      (all_out P views (All-right P v (records_in views) all))
 
   module _ (before after : List (List R)) (same : IsPermutation (records_in before) (records_in after)) where
     pub sum_regrouped : (f : R → ℕ) → sum_by (λ (v : List R). sum_by f v) after
@@ -33,20 +29,16 @@ module _ {R : Type 0} where
 
   -- three lists of which the first two change places
   pub turned : (xs ys zs : List R) → IsPermutation (xs ++ (ys ++ zs)) (ys ++ (xs ++ zs))
-  turned xs ys zs = subst (λ (p : List R × List R). IsPermutation p.0 p.1)
-      (λ i. (append_assoc xs ys zs i, append_assoc ys xs zs i))
-      (search (rules, IsPermutation-append, IsPermutation-append_comm, IsPermutation-refl))
+  turned xs ys zs = rw (sym (append_assoc xs ys zs), sym (append_assoc ys xs zs)) (IsPermutation-append _ _ zs zs
+      (IsPermutation-append_comm xs ys) (IsPermutation-refl zs))
 
   -- the records of one seat, and then those of the others
   set_first : (views : List (List R)) (id : ℕ) (v w : List R) → get_elem? views id ≡ some v
       → IsPermutation (records_in (set views id w)) (w ++ records_in (set views id []))
   set_first [] id v w at = absurd (some-ne-none v (sym at))
   set_first (x ∷ views) zero v w at = IsPermutation-refl (w ++ records_in views)
-  set_first (x ∷ views) (suc id) v w at =
-      let others : List R = records_in (set views id []) in
-      IsPermutation-trans (x ++ records_in (set views id w)) (x ++ (w ++ others)) (w ++ (x ++ others))
-      (IsPermutation-append x x (records_in (set views id w)) (w ++ others) (IsPermutation-refl x)
-      (set_first views id v w at)) (turned x w others)
+  set_first (x ∷ views) (suc id) v w at = IsPermutation-trans _ _ _ (IsPermutation-append x x _ _ (IsPermutation-refl x)
+      (set_first views id v w at)) (turned x w _)
 
   seat_first : (views : List (List R)) (id : ℕ) (v : List R) → get_elem? views id ≡ some v
       → IsPermutation (records_in views) (v ++ records_in (set views id []))
@@ -58,14 +50,11 @@ module _ {R : Type 0} where
       (records_in (set views id left ++ right ∷ []))
   same_split views id v left right at parts =
       let others : List R = records_in (set views id []) in
-      let first : IsPermutation (records_in views) ((left ++ right) ++ others) = search
-      (rules, IsPermutation-trans, seat_first, IsPermutation-append, IsPermutation-refl) in
-      let second : IsPermutation ((left ++ right) ++ others) (right ++ (left ++ others)) = subst
-      (λ (l : List R). IsPermutation l (right ++ (left ++ others))) (sym (append_assoc left right others))
-      (turned left right others) in
-      let third : IsPermutation (right ++ (left ++ others)) ((left ++ others) ++ right) = IsPermutation-append_comm
-      right (left ++ others) in
-      let fourth : IsPermutation ((left ++ others) ++ right) (records_in (set views id left) ++ right) = search
+      let first : IsPermutation (records_in views) (left ++ (right ++ others)) = rw
+      (sym (append_assoc left right others))
+      (search (rules, IsPermutation-trans, seat_first, IsPermutation-append, IsPermutation-refl)) in
+      let second = IsPermutation-trans _ _ _ (turned left right others) (IsPermutation-append_comm right _) in
+      let third : IsPermutation ((left ++ others) ++ right) (records_in (set views id left) ++ right) = search
       (rules, IsPermutation-append, IsPermutation-sym, set_first, IsPermutation-refl) in
       search (rules, append-nil, flat_map-append, IsPermutation-trans)
 

@@ -1,6 +1,6 @@
 -- Calls that lead from the top down to the cursor are a legal history, and two numbers tell the
 -- allocator after it.
-use Rattle.ent_shared.proofs.Common.{rules, ◌≡◌, ℕ, ◌+◌, ◌<◌, ◌≤◌, ⊎_elim, ℤ, pos, ◌-ℤ◌, ◌≤ℤ◌, List, [], ◌∷◌, ◌++◌, length, map, take, refl, sym, ap, subst, ◌∙◌, arith, le-leb, length-append, common_steps, Bool, true, false, cond, nat_le, All, flat_map, int_min, cases_lt, lt-leb, length-take-le, All-head, All-tail, ints, Handle, Allocator, available, cursor, top, pool_at, reply_from, after_take, IsSound, after_take-sound, available-after_take, after_take-served, after_take-refused, length-pool, made-after_take, cursor-after_take, pool_at-cursor, length-taken, Reservation, Record, low, own_reservations, Follow, HasItsReply, floor_after, floor_of, least_floor, IsKept, insert_reservation, by_falling_high, as_call}
+use Rattle.ent_shared.proofs.Common.{rules, ◌≡◌, ℕ, ◌+◌, ◌<◌, ◌≤◌, ⊎_elim, ℤ, pos, ◌-ℤ◌, ◌≤ℤ◌, List, [], ◌∷◌, ◌++◌, length, map, take, refl, sym, ap, subst, ◌∙◌, arith, le-leb, length-append, common_steps, Bool, true, false, cond, nat_le, All, flat_map, int_min, cases_lt, lt-leb, length-take-le, All-head, All-tail, ints, Handle, Allocator, available, cursor, top, pool_at, after_take, IsSound, after_take-sound, available-after_take, after_take-served, after_take-refused, length-pool, made-after_take, cursor-after_take, pool_at-cursor, length-taken, Reservation, Record, low, own_reservations, Follow, HasItsReply, floor_after, floor_of, least_floor, IsKept, insert_reservation, by_falling_high, as_call}
 use Rattle.ent_alloc.specs.History as history
 
 -- the same things to give, and the same slots made
@@ -31,12 +31,10 @@ pub legal_from : (start s : Allocator) (cs : List Reservation) (end : ℤ) → I
     → All (HasItsReply start) cs → history.IsLegal s (map as_call cs)
 legal_from start s [] end l f replied = tt
 legal_from start s (c ∷ cs) end l f replied =
-    let here : c.reply ≡ reply_from start.made (pool_at start c.high) c.requested = search (rules, All-head) in (
-      f.1,
-      here ∙ (λ i. reply_from (sym l.made_is i) (pool_there start s c l f.0 i) c.requested),
-      legal_from start (after_take s c.requested) cs end (later_take start s c.requested l)
-          (follow_on s c cs end l.sound f.0 f.2) (All-tail (HasItsReply start) c cs replied),
-    )
+    let here = replied 0 c (omega arith) in
+    let rest = legal_from start (after_take s c.requested) cs end (later_take start s c.requested l)
+    (follow_on s c cs end l.sound f.0 f.2) (All-tail (HasItsReply start) c cs replied) in
+    search (rules, here, l.made_is, pool_there start s c l f.0, rest)
 
 -- the lesser of two that is known
 pub min_right : (a b : ℤ) → b ≤ℤ a → int_min a b ≡ b
@@ -71,27 +69,27 @@ taken_floor start s (c ∷ cs) end flushed l f =
     let goal : ℤ → Type 0 = λ z. int_min a (int_min z (floor_of start cs))
     ≡ pos (top start) -ℤ pos (length (history.after_history t (map as_call cs)).taken) in
     ⊎_elim (λ (short : length s.pool < n). let test : nat_le n (length (pool_at start c.high))
-    ≡ false = ap (λ (hs : List Handle). nat_le n (length hs)) pool
-    ∙ lt-leb n (length s.pool) short in let same : length t.taken
-    ≡ length s.taken = ap (λ (x : Allocator). length x.taken) (after_take-refused s n short) in let at_top : a
-    ≤ℤ cursor start = omega (arith, ints) in let begins : int_min a (int_min (cursor start) (floor_of start cs))
-    ≡ int_min a (floor_of start cs) = sym (min_assoc a (cursor start) (floor_of start cs))
-    ∙ ap (λ (z : ℤ). int_min z (floor_of start cs)) (min_left a (cursor start) at_top) in subst goal
-    (sym (ap (λ (b : Bool). cond b (low c) (cursor start)) test))
-    (begins ∙ (ap (λ (k : ℕ). int_min (pos (top start) -ℤ pos k) (floor_of start cs)) (sym same) ∙ rest)))
-    (λ (enough : n ≤ length s.pool). let test : nat_le n (length (pool_at start c.high))
-    ≡ true = ap (λ (hs : List Handle). nat_le n (length hs)) pool
-    ∙ le-leb n (length s.pool) enough in let left = length-pool s l.sound in let taken : length s.taken
-    ≡ s.asked = length-taken s l.sound (omega arith) in let joined : length t.taken
-    ≡ length (s.taken ++ take n s.pool) = ap (λ (x : Allocator). length x.taken)
-    (after_take-served s n enough) in let more : length (s.taken ++ take n s.pool) ≡ length s.taken
-    + length (take n s.pool) = length-append s.taken (take n s.pool) in let long : length (take n s.pool)
-    ≡ n = length-take-le n s.pool enough in let here : low c ≡ pos (top start) -ℤ pos (length t.taken) =
-    omega (arith, ints) in let down : low c ≤ℤ a = omega (arith, ints) in let begins : int_min a
-    (int_min (low c) (floor_of start cs)) ≡ int_min (low c) (floor_of start cs) = sym
-    (min_assoc a (low c) (floor_of start cs)) ∙ ap (λ (z : ℤ). int_min z (floor_of start cs))
-    (min_right a (low c) down) in subst goal (sym (ap (λ (b : Bool). cond b (low c) (cursor start)) test))
-    (begins ∙ (ap (λ (z : ℤ). int_min z (floor_of start cs)) here ∙ rest))) (cases_lt (length s.pool) n)
+            ≡ false = ap (λ (hs : List Handle). nat_le n (length hs)) pool
+            ∙ lt-leb n (length s.pool) short in let same : length t.taken
+            ≡ length s.taken = ap (λ (x : Allocator). length x.taken) (after_take-refused s n short) in let at_top : a
+            ≤ℤ cursor start = omega (arith, ints) in let begins : int_min a (int_min (cursor start) (floor_of start cs))
+            ≡ int_min a (floor_of start cs) = sym (min_assoc a (cursor start) (floor_of start cs))
+            ∙ ap (λ (z : ℤ). int_min z (floor_of start cs)) (min_left a (cursor start) at_top) in subst goal
+            (sym (ap (λ (b : Bool). cond b (low c) (cursor start)) test))
+            (begins ∙ (ap (λ (k : ℕ). int_min (pos (top start) -ℤ pos k) (floor_of start cs)) (sym same) ∙ rest)))
+        (λ (enough : n ≤ length s.pool). let test : nat_le n (length (pool_at start c.high))
+                ≡ true = ap (λ (hs : List Handle). nat_le n (length hs)) pool
+                ∙ le-leb n (length s.pool) enough in let left = length-pool s l.sound in let taken : length s.taken
+                ≡ s.asked = length-taken s l.sound (omega arith) in let joined : length t.taken
+                ≡ length (s.taken ++ take n s.pool) = ap (λ (x : Allocator). length x.taken)
+                (after_take-served s n enough) in let more : length (s.taken ++ take n s.pool) ≡ length s.taken
+                + length (take n s.pool) = length-append s.taken (take n s.pool) in let long : length (take n s.pool)
+                ≡ n = length-take-le n s.pool enough in let here : low c ≡ pos (top start) -ℤ pos (length t.taken) =
+                omega (arith, ints) in let down : low c ≤ℤ a = omega (arith, ints) in let begins : int_min a
+                (int_min (low c) (floor_of start cs)) ≡ int_min (low c) (floor_of start cs) = sym
+                (min_assoc a (low c) (floor_of start cs)) ∙ ap (λ (z : ℤ). int_min z (floor_of start cs))
+                (min_right a (low c) down) in subst goal (sym (ap (λ (b : Bool). cond b (low c) (cursor start)) test))
+                (begins ∙ (ap (λ (z : ℤ). int_min z (floor_of start cs)) here ∙ rest))) (cases_lt (length s.pool) n)
 
 -- the floor of a list does not depend on its order
 floor-append : (start : Allocator) (xs ys : List Reservation) → floor_of start (xs ++ ys) ≡ int_min (floor_of start xs)

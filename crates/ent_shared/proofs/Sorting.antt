@@ -24,7 +24,7 @@ FallsStrictly (c ∷ cs) = Above c cs × FallsStrictly cs
 inserted : (c : Reservation) (cs : List Reservation) → IsPermutation (c ∷ cs) (insert_reservation c cs)
 inserted c [] = IsPermutation-refl (c ∷ [])
 inserted c (d ∷ ds) =
-    let rest = IsPermutation-cons d (c ∷ ds) (insert_reservation c ds) (inserted c ds) in
+    let rest = IsPermutation-cons d (c ∷ ds) _ (inserted c ds) in
     let swapped = IsPermutation-middle (d ∷ []) c ds in
     grind (arith, common_steps, IsPermutation-refl, IsPermutation-trans, IsPermutation-sym)
 

@@ -75,10 +75,8 @@ module _ (start : Allocator) (count : ℕ) where
   pub reserves_at : (slots id : ℕ) (me : Me (Unit {0}) (List Record)) (r : Record) (n m : ℕ) → me.0 ≡ r ∷ [] → me.1 ≡ []
       → m ≡ n → 0 < n → n ≤ r.left → Allows Rule slots id me 0 (λ word. (word + (2 ^ 64 - m)) % 2 ^ 64)
       (ReserveTells m me)
-  reserves_at slots id me r n m view bare same some_request within =
-      let A : Me (Unit {0}) (List Record) × ℕ → Type 0 = λ p. Allows Rule slots id p.0 0
-      (λ word. (word + (2 ^ 64 - p.1)) % 2 ^ 64) (ReserveTells p.1 p.0) in
-      subst A (λ i. ((sym view i, sym bare i), sym same i)) (search (rules, reserves))
+  reserves_at slots id me r n m view bare same some_request within = rw (view, bare, same)
+      (reserves slots id r n some_request within)
 
   -- the rule goes by the records, and not by which seat has which
   pub goes_by_records : GoesByRecords Rule

@@ -9,13 +9,13 @@ use Rattle.ent_log_runner.proofs.running.run_logs.Goals as goal
 -- the reservers are written back
 back : (g : given.Over) (c : After-work-logs g) → take c.in-Ok-share.made.1.len
     (c.work-logs.new.lent ++ drop (length c.work-logs.new.lent) c.in-Ok-share.made.1.items) ≡ c.work-logs.new.lent
-back g c = written_back c.in-Ok-share.made.1.len c.in-Ok-share.made.1.items c.work-logs.new.lent
-    c.in-Ok-share.made.1.ok.0 (c.work-logs.ensures.count ∙ ap length c.deref_mut.ensures.value)
+back g c = written_back _ _ _ c.in-Ok-share.made.1.ok.0
+    (c.work-logs.ensures.count ∙ ap length c.deref_mut.ensures.value)
 
 back_end : (g : given.Over) (c : After-close g) → take c.in-Ok-share.made.1.len
     (c.work-logs.new.lent ++ drop (length c.work-logs.new.lent) c.in-Ok-share.made.1.items) ≡ c.work-logs.new.lent
-back_end g c = written_back c.in-Ok-share.made.1.len c.in-Ok-share.made.1.items c.work-logs.new.lent
-    c.in-Ok-share.made.1.ok.0 (c.work-logs.ensures.count ∙ ap length c.deref_mut.ensures.value)
+back_end g c = written_back _ _ _ c.in-Ok-share.made.1.ok.0
+    (c.work-logs.ensures.count ∙ ap length c.deref_mut.ensures.value)
 
 -- the allocator that was shared is the one before
 same : (g : given.Over) (c : After-close g) → c.in-Ok-share.made.0.start ≡ c.args.entities.now.allocator

@@ -1,5 +1,5 @@
 use Rattle.ent_runner.proofs.Common.{rules, ◌≡◌, ◌∙◌, ◌++◌, ap, length, take, drop, length-map, Reserver, records_of, opened_records, world_at_start}
-use Rattle.ent_runner.proofs.Alone.{ends_in_order, ends}
+use Rattle.ent_runner.proofs.Alone.{ends_in_order}
 use Rattle.ent_runner.proofs.Conducting.{written_back, none_weaker, some_weaker}
 use Rattle.ent_runner.proofs.Framed.{Issues}
 use Rattle.ent_runner.proofs.Lending.{done_seen, broken_off_seen}
@@ -16,13 +16,13 @@ same g c = search rules
 -- the reservers are written back
 back : (g : given.Over) (c : After-work-queues g) → take c.in-Ok-open.made.1.len
     (c.work-queues.new.lent ++ drop (length c.work-queues.new.lent) c.in-Ok-open.made.1.items) ≡ c.work-queues.new.lent
-back g c = written_back c.in-Ok-open.made.1.len c.in-Ok-open.made.1.items c.work-queues.new.lent
-    c.in-Ok-open.made.1.ok.0 (c.work-queues.ensures.count ∙ ap length c.deref_mut.ensures.value)
+back g c = written_back _ _ _ c.in-Ok-open.made.1.ok.0
+    (c.work-queues.ensures.count ∙ ap length c.deref_mut.ensures.value)
 
 back_end : (g : given.Over) (c : After-close g) → take c.in-Ok-open.made.1.len
     (c.work-queues.new.lent ++ drop (length c.work-queues.new.lent) c.in-Ok-open.made.1.items) ≡ c.work-queues.new.lent
-back_end g c = written_back c.in-Ok-open.made.1.len c.in-Ok-open.made.1.items c.work-queues.new.lent
-    c.in-Ok-open.made.1.ok.0 (c.work-queues.ensures.count ∙ ap length c.deref_mut.ensures.value)
+back_end g c = written_back _ _ _ c.in-Ok-open.made.1.ok.0
+    (c.work-queues.ensures.count ∙ ap length c.deref_mut.ensures.value)
 
 opened : (g : given.Over) (c : After-close g) → records_of c.deref_mut.result.now
     ≡ opened_records c.in-Ok-open.made.0.shared.start 0 c.in-Ok-open.made.0.shared.count
@@ -56,24 +56,13 @@ close-requires-clause-own g c = rw (back g (goal.at.close-requires-clause-own g 
 
 pub returns-in-Ok-apply-clause-ok : goal.returns-in-Ok-apply-clause-ok
 returns-in-Ok-apply-clause-ok g c =
-    let a = c.in-Ok-apply.ensures in
-    ends g.S.System.may_issue g.S.System.may_leave c.args.systems.now c.args.workers c.args.world.now
-    c.in-Ok-open.made.0 c.close.result c.apply.new.self c.work-queues.result c.in-Some.queues c.deref.result.now
-    c.in-Ok-apply.sync.born.items c.in-Ok-apply.sync.faults.items
-    (closed g (goal.at.returns-in-Ok-apply-clause-ok g c).After-close) c.in-Some.is
-    (same g (goal.at.returns-in-Ok-apply-clause-ok g c).In-Ok-open) c.in-Ok-open.ensures.shared.1 c.deref.ensures.value
-    a.ok a.born a.faults
+    let known = closed g (goal.at.returns-in-Ok-apply-clause-ok g c).After-close in
+    let opened_is = same g (goal.at.returns-in-Ok-apply-clause-ok g c).In-Ok-open in
+    search (rules, known, opened_is)
 
 pub returns-in-Ok-apply-clause-alone : goal.returns-in-Ok-apply-clause-alone
-returns-in-Ok-apply-clause-alone g c one =
-    let a = c.in-Ok-apply.ensures in
-    ends_in_order g.S.System.may_issue c.args.systems.now _ _ c.args.workers _ _ _ one
-    (ends g.S.System.may_issue g.S.System.may_leave c.args.systems.now c.args.workers c.args.world.now
-    c.in-Ok-open.made.0 c.close.result c.apply.new.self c.work-queues.result c.in-Some.queues c.deref.result.now
-    c.in-Ok-apply.sync.born.items c.in-Ok-apply.sync.faults.items
-    (closed g (goal.at.returns-in-Ok-apply-clause-alone g c).After-close) c.in-Some.is
-    (same g (goal.at.returns-in-Ok-apply-clause-alone g c).In-Ok-open) c.in-Ok-open.ensures.shared.1
-    c.deref.ensures.value a.ok a.born a.faults)
+returns-in-Ok-apply-clause-alone g c one = ends_in_order g.S.System.may_issue c.args.systems.now _ _ c.args.workers _ _
+    _ one (returns-in-Ok-apply-clause-ok g c)
 
 pub returns-in-Err-apply-clause-stopped : goal.returns-in-Err-apply-clause-stopped
 returns-in-Err-apply-clause-stopped g c =
@@ -100,8 +89,5 @@ returns-then-is_empty-clause-ok g c =
     w.world w.born w.faults
 
 pub returns-then-is_empty-clause-alone : goal.returns-then-is_empty-clause-alone
-returns-then-is_empty-clause-alone g c one =
-    let w = c.without_systems.ensures in
-    ends_in_order g.S.System.may_issue c.args.systems.now _ _ c.args.workers _ _ _ one
-    (ends_none g.S.System.may_issue c.args.systems.now c.args.workers c.args.world.now _ _ _ _ (search rules) w.queues
-    w.world w.born w.faults)
+returns-then-is_empty-clause-alone g c one = ends_in_order g.S.System.may_issue c.args.systems.now _ _ c.args.workers _
+    _ _ one (returns-then-is_empty-clause-ok g c)

@@ -1,6 +1,6 @@
 use Rattle.ent_runner.proofs.Common.{◌≡◌, ◌∙◌, ap, length, arith, take, drop, ◌++◌, inl, length-replicate, Crew, HaveDoneFirst, HasClaimed, all_done}
 use Rattle.std.proofs.Common.{All}
-use Rattle.ent_runner.proofs.Conducting.{written_back, outputs_back, all_claimed, numbers_below, claimers_own, first_closed, stay, are_broken_off, done_of, lost_of, some_jobs, any_stopped, none_stopped, claimers_are}
+use Rattle.ent_runner.proofs.Conducting.{written_back, outputs_back, all_claimed, numbers_below, claimers_own, first_closed, stay, are_broken_off, done_of, lost_of, some_jobs}
 use Rattle.ent_runner.proofs.crew.Crew.work.Given as given
 use Rattle.ent_runner.proofs.crew.Crew.work.Goals.{After-run_all, After-close}
 use Rattle.ent_runner.proofs.crew.Crew.work.Goals as goal
@@ -11,14 +11,7 @@ jobs_end g c = cc (ap (λ (k : Crew). k.jobs) c.self.view_is)
 -- the workers are written back
 team : (g : given.Over) (c : After-run_all g) → take c.self.inside.workers.len
     (c.run_all.new.workers ++ drop (length c.run_all.new.workers) c.self.inside.workers.items) ≡ c.run_all.new.workers
-team g c = written_back c.self.inside.workers.len c.self.inside.workers.items
-    c.run_all.new.workers c.self.inside.workers.ok.0 (omega (
-      arith,
-      c.run_all.ensures.count,
-      c.requires.workers,
-      ap (λ (k : Crew). k.workers) c.self.view_is,
-      c.self.invariant.count,
-    ))
+team g c = written_back _ _ _ c.self.inside.workers.ok.0 (omega (arith, ap (λ (k : Crew). k.workers) c.self.view_is))
 
 -- what each of them has claimed
 claimed : (g : given.Over) (c : After-run_all g) → All (HasClaimed c.self.inside.claims) c.run_all.new.workers
@@ -27,28 +20,16 @@ claimed g c = all_claimed _ _ _ _ _ _ _ c.run_all.ensures
 -- the same at the end
 team_end : (g : given.Over) (c : After-close g) → take c.self.inside.workers.len
     (c.run_all.new.workers ++ drop (length c.run_all.new.workers) c.self.inside.workers.items) ≡ c.run_all.new.workers
-team_end g c = written_back c.self.inside.workers.len c.self.inside.workers.items
-    c.run_all.new.workers c.self.inside.workers.ok.0 (omega (
-      arith,
-      c.run_all.ensures.count,
-      c.requires.workers,
-      ap (λ (k : Crew). k.workers) c.self.view_is,
-      c.self.invariant.count,
-    ))
+team_end g c = written_back _ _ _ c.self.inside.workers.ok.0
+    (omega (arith, ap (λ (k : Crew). k.workers) c.self.view_is))
 
 claimed_end : (g : given.Over) (c : After-close g) → All (HasClaimed c.self.inside.claims) c.run_all.new.workers
 claimed_end g c = all_claimed _ _ _ _ _ _ _ c.run_all.ensures
 
 first : (g : given.Over) (c : After-close g) → HaveDoneFirst c.self.inside.claims.numbers c.run_all.new.workers
 first g c = first_closed c.self.inside.claims c.run_all.new.workers (claimed_end g c) c.disband.new.claimers.items
-    (c.disband.ensures.claimers ∙ claimers_are _ _ (team_end g c))
-    (omega (
-      arith,
-      c.run_all.ensures.count,
-      c.requires.workers,
-      ap (λ (k : Crew). k.workers) c.self.view_is,
-      c.self.invariant.some,
-    )) c.close.ensures.first
+    (rw (team_end g c) at c.disband.ensures.claimers) (omega (arith, ap (λ (k : Crew). k.workers) c.self.view_is))
+    c.close.ensures.first
 
 pub disband-requires-clause-inside : goal.disband-requires-clause-inside
 disband-requires-clause-inside g c =
@@ -72,15 +53,13 @@ pub returns-then-stopped-clause-broken_off : goal.returns-then-stopped-clause-br
 returns-then-stopped-clause-broken_off g c =
     let b = (goal.at.returns-then-stopped-clause-broken_off g c).After-close in
     rw (jobs_end g b) (are_broken_off _ _ _ _ _ _ _ c.run_all.ensures (first g b)
-    (inl (any_stopped _ _ (c.deref.ensures.value ∙ team_end g b)
-    (c.some_stopped-stopped.ensures.some c.if-stopped.true))))
+    (inl (rw (c.deref.ensures.value, team_end g b) at (c.some_stopped-stopped.ensures.some c.if-stopped.true))))
 
 pub returns-then-stopped-clause-some : goal.returns-then-stopped-clause-some
 returns-then-stopped-clause-some g c =
     let b = (goal.at.returns-then-stopped-clause-some g c).After-close in
     rw (jobs_end g b) (some_jobs _ _ _ _ _ _ _ c.run_all.ensures
-    (inl (any_stopped _ _ (c.deref.ensures.value ∙ team_end g b)
-    (c.some_stopped-stopped.ensures.some c.if-stopped.true))))
+    (inl (rw (c.deref.ensures.value, team_end g b) at (c.some_stopped-stopped.ensures.some c.if-stopped.true))))
 
 pub returns-clause-done : goal.returns-clause-done
 returns-clause-done g c =
@@ -88,7 +67,7 @@ returns-clause-done g c =
     rw (jobs_end g b) (done_of _ _ _ _ _ _ _ c.run_all.ensures (first g b) c.collect.result _
     (outputs_back _ _ (all_done c.run_all.new.workers) _ _ c.self.invariant.by_number_empty c.self.inside.by_number.ok.0
     (rw (c.deref_mut-2.ensures.value, team_end g b) at c.disband.ensures.by_number))
-    (none_stopped _ _ (c.deref.ensures.value ∙ team_end g b) (c.some_stopped-stopped.ensures.going c.if-stopped.false))
+    (rw (c.deref.ensures.value, team_end g b) at (c.some_stopped-stopped.ensures.going c.if-stopped.false))
     c.collect.ensures.all)
 
 pub returns-clause-broken_off : goal.returns-clause-broken_off

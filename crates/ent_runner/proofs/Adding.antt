@@ -1,0 +1,118 @@
+-- Jobs whose outputs are lists, each of which adds to the record of its worker's reserver: what workers have added that
+-- did such jobs, and what is known of the history of their reservers.
+use Rattle.ent_runner.proofs.Common.{All, get_or, subst, slice_get, [], zero, suc, common_steps, List, Some, ap, arith, inl, inr, length, map, refl, rules, sym, ℕ, ◌++◌, ◌+◌, ◌-◌, ◌<◌, ◌∙◌, ◌∷◌, ◌≡◌, ◌⊎◌, get_or_push, length-append, All-map, all_pairs_push, get_or_from_slice_get, slice_get-get_or, slice_get_within, AllPairs, flat_map, range_with_len, IsPermutation, Call, Allocator, all_sorted, as_call, history_of, own_of_all, reservations_of, opened, own_reservations, opened_records, Record, Own, Reservation, DidAll, DidUntil, OfEach}
+use Rattle.ent_runner.proofs.Lists.{at_within, all_flat}
+use Rattle.ent_runner.proofs.EachOutput.{did_either, held, each_held}
+
+-- the reservations of a record that was opened, and has met nobody
+pub own_mapped : (rs : List Reservation) → own_reservations (map Own rs) ≡ rs
+own_mapped [] = refl
+own_mapped (r ∷ rs) = ap (λ more. r ∷ more) (own_mapped rs)
+
+opened_get : (start : Allocator) (number count k : ℕ) → k < count → slice_get (opened_records start number count) k
+    ≡ Some (opened start (number + k))
+unfolding opened_records
+opened_get start number zero k less = absurd (omega arith)
+opened_get start number (suc count) zero less = ap (λ n. Some (opened start n)) (omega arith)
+opened_get start number (suc count) (suc k) less = opened_get start (number + 1) count k (omega arith)
+    ∙ ap (λ n. Some (opened start n)) (omega arith)
+
+last_pushed : {X : Type 0} (xs : List X) (y : X) → slice_get (xs ++ y ∷ []) (length (xs ++ y ∷ []) - 1) ≡ Some y
+last_pushed xs y =
+    let long = length-append xs (y ∷ []) in
+    slice_get-get_or (xs ++ y ∷ []) _ y (omega arith) ∙ ap Some (get_or_push xs y y _ (omega arith))
+
+module _ {E : Type 0} (Adds : Record → List E → Record → Type 0) where
+  -- a job that adds its output, which is as it may be
+  abbrev pub Does : (ℕ → List E → Type 0) → ℕ → Record → List E → Record → Type 0
+  Does P n before output after = Adds before output after × P n output
+
+  module _ (P Q : ℕ → List E → Type 0) (outputs : List (List E)) where
+    abbrev Either : ℕ → List E → Type 0
+    Either n output = P n output ⊎ Q n output
+
+    pub all_either : (a : Record) (mine : List ℕ) (b : Record) → DidAll (Does P) outputs a mine b ⊎ DidUntil (Does P)
+        (Does Q) outputs a mine b → DidAll (Does Either) outputs a mine b
+    all_either = did_either (Does P) (Does Q) (Does Either) (λ n a o b it. (it.0, inl it.1))
+        (λ n a o b it. (it.0, inr it.1)) outputs
+
+    -- A worker did a job after another one only if that one had ended.
+    in_turn : (a : Record) (mine : List ℕ) (b : Record) → DidAll (Does P) outputs a mine b
+        ⊎ DidUntil (Does P) (Does Q) outputs a mine b → AllPairs
+        (λ earlier later. P earlier (get_or outputs earlier [])) mine
+    in_turn a mine b (inl did) =
+        let all = held (Does P) P (λ n a o b it. it.1) outputs [] a mine b did in
+        λ i j d less within. all i d (omega (arith, less, within))
+    in_turn a mine b (inr did) =
+        let all = held (Does P) P (λ n a o b it. it.1) outputs [] a did.earlier did.between did.ended in
+        grind (arith, common_steps, all_pairs_push)
+
+    module _ (ran : List (List ℕ)) (before after : List Record) where
+      pub ended_by : length after ≡ length before → length ran ≡ length before
+          → OfEach ran before after (λ mine a b. DidAll (Does P) outputs a mine b
+          ⊎ DidUntil (Does P) (Does Q) outputs a mine b) → (k : ℕ) (mine : List ℕ) → slice_get ran k ≡ Some mine
+          → AllPairs (λ earlier later. P earlier (get_or outputs earlier [])) mine
+      ended_by same teams did k mine at =
+          let less = slice_get_within ran k mine at in
+          let a = at_within before k (omega (arith, teams)) in
+          let b = at_within after k (omega (arith, teams, same)) in
+          in_turn a.0 mine b.0 (did k mine a.0 b.0 at a.1 b.1)
+
+      -- the last job of a worker stopped
+      pub stopped_last : (Rest : Type 0) → ((worker : ℕ) × (mine : List ℕ) × (a : Record) × (b : Record)
+          × (slice_get ran worker ≡ Some mine) × (slice_get before worker ≡ Some a) × (slice_get after worker ≡ Some b)
+          × DidUntil (Does P) (Does Q) outputs a mine b) ⊎ Rest → ((worker : ℕ) × (mine : List ℕ) × (last : ℕ)
+          × (slice_get ran worker ≡ Some mine) × (slice_get mine (length mine - 1) ≡ Some last)
+          × Q last (get_or outputs last [])) ⊎ Rest
+      stopped_last Rest (inl s) =
+          let d = s.7 in
+          inl (
+            s.0,
+            s.1,
+            d.last,
+            s.4,
+            rw d.numbers_are (last_pushed d.earlier d.last),
+            rw (get_or_from_slice_get outputs d.last d.stopped.0 [] d.stopped.1) d.stopped.2.1,
+          )
+      stopped_last Rest (inr rest) = inr rest
+
+  module _ (nothing : (a : Record) → Adds a [] a) (joined : (a b c : Record) (xs ys : List E) → Adds a xs b
+      → Adds b ys c → Adds a (xs ++ ys) c) (P : ℕ → List E → Type 0) (outputs : List (List E)) where
+    -- what a worker has added with all its jobs
+    added : (a : Record) (mine : List ℕ) (b : Record) → DidAll (Does P) outputs a mine b
+        → Adds a (flat_map (λ n. get_or outputs n []) mine) b
+    added a [] b same = subst (Adds a []) same (nothing a)
+    added a (n ∷ mine) b (j, (o, at, does), rest) = joined a j b _ _
+        (rw (get_or_from_slice_get outputs n o [] at) does.0) (added j mine b rest)
+
+    module _ (start : Allocator) (workers : ℕ) (opens records : List Record)
+        (opened_are : opens ≡ opened_records start 0 workers) (many : length opens ≡ workers)
+        (long : length records ≡ workers) (ran : List (List ℕ)) (teams : length ran ≡ length opens)
+        (did : OfEach ran opens records (λ mine a b. DidAll (Does P) outputs a mine b)) where
+      pub added_at : (k : ℕ) (mine : List ℕ) → slice_get ran k ≡ Some mine → (r : Record)
+          × (slice_get records k ≡ Some r) × Adds (opened start k) (flat_map (λ n. get_or outputs n []) mine) r
+      added_at k mine at =
+          let less = slice_get_within ran k mine at in
+          let r = at_within records k (omega (arith, teams, many, long)) in
+          let inside : k < workers = omega (arith, less, teams, many) in
+          let first : slice_get opens k ≡ Some (opened start k) = search (rules, opened_get) in
+          (r.0, r.1, added (opened start k) mine r.0 (did k mine (opened start k) r.0 at first r.1))
+
+      -- the history has no calls of others
+      pub ours : ((k : ℕ) (xs : List E) (r : Record) → Adds (opened start k) xs r
+          → All (λ (c : Reservation). c.caller ≡ k) (own_reservations r.entries))
+          → All (λ (call : Call). call.caller < workers) (history_of records)
+      ours own = All-map (λ (call : Call). call.caller < workers) as_call (reservations_of records)
+          (all_sorted (λ (c : Reservation). c.caller < workers) (own_of_all records)
+              (all_flat (λ (c : Reservation). c.caller < workers) (λ (r : Record). own_reservations r.entries) records
+                  (λ k d within.
+                  let mine = at_within ran k (omega (arith, teams, many, long)) in
+                  let r = added_at k mine.0 mine.1 in
+                  rw (get_or_from_slice_get records k r.0 d r.1) (λ i e inner.
+                      let same = own k _ r.0 r.2 i e inner in omega (arith, long)))))
+
+      -- each output is as it may be
+      pub each_may : (jobs : ℕ) → IsPermutation (flat_map (λ mine. mine) ran) (range_with_len 0 jobs) → (n : ℕ)
+          → n < jobs → P n (get_or outputs n [])
+      each_may jobs once = each_held (Does P) P (λ n a o b it. it.1) outputs [] jobs opens records ran teams
+          (long ∙ sym many) once did
