@@ -44,9 +44,12 @@ module _ {E : Type 0} where
       filled_at n less =
           let one = at_within all n less in
           let fills = each n less one.0 one.1 in
-          rw (filled_is all n one.0 one.1) (fills.0, λ block at.
-              let r = mapped_at (λ (r : Reserver). r.block) reservers n block at in
-              (one.0.1.block, rw r.2 at (fills.2 r.0 r.1)))
+          rw (filled_is all n one.0 one.1) (
+            fills.0,
+            λ block at.
+                let r = mapped_at (λ (r : Reserver). r.block) reservers n block at in
+                (one.0.1.block, rw r.2 at (fills.2 r.0 r.1)),
+          )
 
       pub of_phase : All (λ (r : Reserver). r.number ≡ phase.number) (reservers_of all)
       of_phase = All-map (λ (r : Reserver). r.number ≡ phase.number) (λ (one : List E × Reserver). one.1) all

@@ -3,10 +3,10 @@ pub use Rattle.std.proofs.Common.{AllPairs, Err, List, Ok, [], add-mul, add-zero
 pub use Rattle.std.proofs.lemmas.Bool.{cases_eq, cases_lt, lt-leb}
 pub use Rattle.std.proofs.lemmas.Bool.Decides.{nat_tests}
 pub use Rattle.std.proofs.lemmas.Grind.{common_steps}
-pub use Rattle.std.proofs.lemmas.Int.{by_lt_z, int_min_is, ints, to_z-of_z}
+pub use Rattle.std.proofs.lemmas.Int.{by_lt_z, ints, to_z-of_z}
 pub use Rattle.std.proofs.lemmas.List.{drop-take, drop_all, get_or_default, length-map, length-take, length-take-le, map-append, nil_from_length, set_comm, take-append-drop, take-take, take_all}
 pub use Rattle.std.proofs.lemmas.List.Concat.{flat_map-append, length-flat_map}
-pub use Rattle.std.proofs.lemmas.List.Elements.{All-append, All-cons, All-contains, All-contains_itself, All-drop, All-filter, All-head, All-nil, All-set, All-tail, All-take, All-weaker, Contains-append_left, Contains-append_right, Contains-push}
+pub use Rattle.std.proofs.lemmas.List.Elements.{All-append, All-cons, All-contains, All-contains_itself, All-drop, All-filter, All-head, All-nil, All-set, All-tail, All-take, All-weaker, Contains-append_left, Contains-push}
 pub use Rattle.std.proofs.lemmas.List.Folds.{fold-map}
 pub use Rattle.std.proofs.lemmas.List.Kept.{AllPairs-cons}
 pub use Rattle.std.proofs.lemmas.List.Sorted.{All-permutation, IsPermutation-append, IsPermutation-append_comm, IsPermutation-append_right, IsPermutation-cons, IsPermutation-middle, IsPermutation-refl, IsPermutation-sym, IsPermutation-trans, length_permutation, sum_by-IsPermutation}

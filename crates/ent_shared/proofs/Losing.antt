@@ -126,7 +126,7 @@ module _ (start : Allocator) (sound : IsSound start) (flushed : start.asked ≡ 
         distinct =
             let itself : IsLater start start = record { sound = sound; available_is = refl; made_is = refl } in
             some_differ records k.log k.some (given_in-distinct start (map as_call k.log) sound
-                (legal_from start start k.log at itself k.follow k.replied));
+            (legal_from start start k.log at itself k.follow k.replied));
       }
 
 pub lost : (entities : Entities) (start : Allocator) (n count room : ℕ) (key : Opening) (records : List Record)

@@ -102,8 +102,7 @@ kept_reserved start at log n r within top k =
       caller = grind (arith, common_steps, own-made, All-append, all_one);
       quota = record {
         quota = quota-reserved r at n within k.quota.quota;
-        floor = rw (own-made es c, floor-made start (own_reservations es) c (all_own Q es lower) (omega (arith, ints)),
-            k.start_is, k.quota.floor) refl;
+        floor = rw (own-made es c, floor-made start (own_reservations es) c (all_own Q es lower) (omega (arith, ints)), k.start_is, k.quota.floor) refl;
       };
       marks = record {
         mark = omega (arith, ints);
@@ -120,7 +119,7 @@ pub below_meeting : (r met : Record) → All (λ (c : Reservation). r.mark ≤�
 below_meeting r met mine theirs =
     let P : Reservation → Type 0 = λ (d : Reservation). int_min r.mark met.mark ≤ℤ low d in
     rw (known-more r.entries (Met (known_reservations met.entries))) (All-append P _ _ (λ i d lt.
-            let h = mine i d lt in grind (arith, ints)) (λ i d lt. let h = theirs i d lt in grind (arith, ints)))
+    let h = mine i d lt in grind (arith, ints)) (λ i d lt. let h = theirs i d lt in grind (arith, ints)))
 
 pub kept_met : (start : Allocator) (at : ℤ) (log : List Reservation) (r met : Record) → IsKept start at log r
     → IsKept start at log met → IsKept start at log (after_meeting r met)

@@ -69,27 +69,27 @@ taken_floor start s (c ∷ cs) end flushed l f =
     let goal : ℤ → Type 0 = λ z. int_min a (int_min z (floor_of start cs))
     ≡ pos (top start) -ℤ pos (length (history.after_history t (map as_call cs)).taken) in
     ⊎_elim (λ (short : length s.pool < n). let test : nat_le n (length (pool_at start c.high))
-            ≡ false = ap (λ (hs : List Handle). nat_le n (length hs)) pool
-            ∙ lt-leb n (length s.pool) short in let same : length t.taken
-            ≡ length s.taken = ap (λ (x : Allocator). length x.taken) (after_take-refused s n short) in let at_top : a
-            ≤ℤ cursor start = omega (arith, ints) in let begins : int_min a (int_min (cursor start) (floor_of start cs))
-            ≡ int_min a (floor_of start cs) = sym (min_assoc a (cursor start) (floor_of start cs))
-            ∙ ap (λ (z : ℤ). int_min z (floor_of start cs)) (min_left a (cursor start) at_top) in subst goal
-            (sym (ap (λ (b : Bool). cond b (low c) (cursor start)) test))
-            (begins ∙ (ap (λ (k : ℕ). int_min (pos (top start) -ℤ pos k) (floor_of start cs)) (sym same) ∙ rest)))
-        (λ (enough : n ≤ length s.pool). let test : nat_le n (length (pool_at start c.high))
-                ≡ true = ap (λ (hs : List Handle). nat_le n (length hs)) pool
-                ∙ le-leb n (length s.pool) enough in let left = length-pool s l.sound in let taken : length s.taken
-                ≡ s.asked = length-taken s l.sound (omega arith) in let joined : length t.taken
-                ≡ length (s.taken ++ take n s.pool) = ap (λ (x : Allocator). length x.taken)
-                (after_take-served s n enough) in let more : length (s.taken ++ take n s.pool) ≡ length s.taken
-                + length (take n s.pool) = length-append s.taken (take n s.pool) in let long : length (take n s.pool)
-                ≡ n = length-take-le n s.pool enough in let here : low c ≡ pos (top start) -ℤ pos (length t.taken) =
-                omega (arith, ints) in let down : low c ≤ℤ a = omega (arith, ints) in let begins : int_min a
-                (int_min (low c) (floor_of start cs)) ≡ int_min (low c) (floor_of start cs) = sym
-                (min_assoc a (low c) (floor_of start cs)) ∙ ap (λ (z : ℤ). int_min z (floor_of start cs))
-                (min_right a (low c) down) in subst goal (sym (ap (λ (b : Bool). cond b (low c) (cursor start)) test))
-                (begins ∙ (ap (λ (z : ℤ). int_min z (floor_of start cs)) here ∙ rest))) (cases_lt (length s.pool) n)
+    ≡ false = ap (λ (hs : List Handle). nat_le n (length hs)) pool
+    ∙ lt-leb n (length s.pool) short in let same : length t.taken
+    ≡ length s.taken = ap (λ (x : Allocator). length x.taken) (after_take-refused s n short) in let at_top : a
+    ≤ℤ cursor start = omega (arith, ints) in let begins : int_min a (int_min (cursor start) (floor_of start cs))
+    ≡ int_min a (floor_of start cs) = sym (min_assoc a (cursor start) (floor_of start cs))
+    ∙ ap (λ (z : ℤ). int_min z (floor_of start cs)) (min_left a (cursor start) at_top) in subst goal
+    (sym (ap (λ (b : Bool). cond b (low c) (cursor start)) test))
+    (begins ∙ (ap (λ (k : ℕ). int_min (pos (top start) -ℤ pos k) (floor_of start cs)) (sym same) ∙ rest)))
+    (λ (enough : n ≤ length s.pool). let test : nat_le n (length (pool_at start c.high))
+    ≡ true = ap (λ (hs : List Handle). nat_le n (length hs)) pool
+    ∙ le-leb n (length s.pool) enough in let left = length-pool s l.sound in let taken : length s.taken
+    ≡ s.asked = length-taken s l.sound (omega arith) in let joined : length t.taken
+    ≡ length (s.taken ++ take n s.pool) = ap (λ (x : Allocator). length x.taken)
+    (after_take-served s n enough) in let more : length (s.taken ++ take n s.pool) ≡ length s.taken
+    + length (take n s.pool) = length-append s.taken (take n s.pool) in let long : length (take n s.pool)
+    ≡ n = length-take-le n s.pool enough in let here : low c ≡ pos (top start) -ℤ pos (length t.taken) =
+    omega (arith, ints) in let down : low c ≤ℤ a = omega (arith, ints) in let begins : int_min a
+    (int_min (low c) (floor_of start cs)) ≡ int_min (low c) (floor_of start cs) = sym
+    (min_assoc a (low c) (floor_of start cs)) ∙ ap (λ (z : ℤ). int_min z (floor_of start cs))
+    (min_right a (low c) down) in subst goal (sym (ap (λ (b : Bool). cond b (low c) (cursor start)) test))
+    (begins ∙ (ap (λ (z : ℤ). int_min z (floor_of start cs)) here ∙ rest))) (cases_lt (length s.pool) n)
 
 -- the floor of a list does not depend on its order
 floor-append : (start : Allocator) (xs ys : List Reservation) → floor_of start (xs ++ ys) ≡ int_min (floor_of start xs)

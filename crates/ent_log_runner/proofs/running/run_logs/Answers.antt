@@ -41,11 +41,7 @@ returns-clause-ok g c =
     (length-map c.work-logs.new.lent own ∙ (w.count ∙ many g a)) legal (rw (back_end g a) at e.respects)
     (rw (back_end g a, same g a) at e.after) g.S.LogSystem.may_log g.S.LogSystem.may_leave c.args.systems.now
     c.in-Some.logs.items
-    (search (
-      rules,
-      done_seen own (Logs g.S.LogSystem.may_log c.args.systems.now) (Logs g.S.LogSystem.may_leave c.args.systems.now) _
-          c.deref_mut.result.now c.in-Some.logs.items c.work-logs.new.lent done,
-    ))
+    (search (rules, done_seen own (Logs g.S.LogSystem.may_log c.args.systems.now) (Logs g.S.LogSystem.may_leave c.args.systems.now) _ c.deref_mut.result.now c.in-Some.logs.items c.work-logs.new.lent done))
 
 pub returns-in_default-logs-clause-lost : goal.returns-in_default-logs-clause-lost
 returns-in_default-logs-clause-lost g c lost =
@@ -58,11 +54,7 @@ returns-in_default-logs-clause-lost g c lost =
     (records_of c.work-logs.new.lent) (opened g a) (length-map c.deref_mut.result.now own ∙ many g a)
     (length-map c.work-logs.new.lent own ∙ (w.count ∙ many g a)) legal (rw (back_end g a) at e.respects)
     (rw (back_end g a, same g a) at e.after) g.S.LogSystem.may_log g.S.LogSystem.may_leave c.args.systems.now
-    (search (
-      rules,
-      none_weaker c.work-logs.result (broken_off_seen own (Logs g.S.LogSystem.may_log c.args.systems.now)
-          (Logs g.S.LogSystem.may_leave c.args.systems.now) _ c.deref_mut.result.now c.work-logs.new.lent) w.broken_off,
-    ))
+    (search (rules, none_weaker c.work-logs.result (broken_off_seen own (Logs g.S.LogSystem.may_log c.args.systems.now) (Logs g.S.LogSystem.may_leave c.args.systems.now) _ c.deref_mut.result.now c.work-logs.new.lent) w.broken_off))
 
 pub returns-clause-reserved : goal.returns-clause-reserved
 returns-clause-reserved g c =
