@@ -1,13 +1,13 @@
 -- The names that proofs of this crate cite, of std, of the crates below and of its own specs. Declares nothing.
-pub use Rattle.std.proofs.Common.{All, AllPairs, Bool, Contains, Err, IsPermutation, List, None, Ok, Option, Result, Some, [], ap, arith, cond, drop, eq-eqb, eqb, false, filter, get_or, if◌then◌else◌, inl, inr, length, map, max, min, nat_lt, ne_eqb, not, of_z, pos, refl, replicate, rules, set, slice_get, subst, suc, suc-mul, sym, take, to_z, true, true≢false, vec_capacity, vec_len, w64, zero, ℕ, ℤ, ◌&&◌, ◌*◌, ◌++◌, ◌+ℤ◌, ◌+◌, ◌-ℤ◌, ◌-◌, ◌<◌, ◌^◌, ◌∙◌, ◌∷◌, ◌≡◌, ◌≢◌, ◌≤ℤ◌, ◌≤◌, ◌⊎◌}
+pub use Rattle.std.proofs.Common.{All, AllPairs, Bool, Contains, Err, IsPermutation, List, None, Ok, Option, Result, Some, [], ap, arith, cond, drop, eq-eqb, eqb, false, filter, get_or, if◌then◌else◌, inl, inr, length, map, max, min, nat_lt, ne_eqb, not, of_z, pos, refl, replicate, rules, set, slice_get, subst, suc, sym, take, to_z, true, true≢false, vec_capacity, vec_len, w64, zero, ℕ, ℤ, ◌&&◌, ◌*◌, ◌++◌, ◌+ℤ◌, ◌+◌, ◌-ℤ◌, ◌-◌, ◌<◌, ◌^◌, ◌∙◌, ◌∷◌, ◌≡◌, ◌≢◌, ◌≤ℤ◌, ◌≤◌, ◌⊎◌}
 pub use Rattle.std.proofs.Math.ListN.{get_or-eq_default}
 pub use Rattle.std.proofs.Math.Numerals.{add-one}
 pub use Rattle.std.proofs.Math.Seq.{drop-cons}
-pub use Rattle.std.proofs.lemmas.Bool.{and_from, and_parts, cases_Bool, cases_eq, cases_lt, cond-false, cond-true, cond_both, eqb-true, false≢true, le-ltb, lt-ltb}
+pub use Rattle.std.proofs.lemmas.Bool.{and_from, and_parts, cases_Bool, cases_eq, cases_lt, cond-false, cond-true, cond_both, eqb-true, le-ltb, lt-ltb}
 pub use Rattle.std.proofs.lemmas.Bool.Decides.{nat_tests}
 pub use Rattle.std.proofs.lemmas.Grind.{common_steps, get_or-set_at}
 pub use Rattle.std.proofs.lemmas.Int.{ints}
-pub use Rattle.std.proofs.lemmas.List.{append-nil, append_assoc, drop-drop, drop-set-lt, drop_all, get_or-drop, get_or-set_other, get_or-take, length-append, length-drop, length-take, nil_from_length, reverse-append, reverse-reverse, take-append-drop, take_all, take_more}
+pub use Rattle.std.proofs.lemmas.List.{append-nil, append_assoc, drop-drop, drop-set-lt, drop_all, get_or-drop, get_or-set_other, get_or-take, length-append, length-drop, length-take, nil_from_length, reverse-append, take-append-drop, take_all, take_more}
 pub use Rattle.std.proofs.lemmas.List.Edits.{map_over_more}
 pub use Rattle.std.proofs.lemmas.List.Elements.{All-cons, All-filter, All-from_recursion, All-head, All-nil, All-tail, filter-append, recursion_from_All}
 pub use Rattle.std.proofs.lemmas.List.Folds.{flat_map-map}
@@ -16,9 +16,9 @@ pub use Rattle.std.proofs.lemmas.List.Kept.{IsNonDecreasingBy-filter}
 pub use Rattle.std.proofs.lemmas.List.Splits.{join_with_byte-slice_split, length-slice_split, slice_split_at, slice_split_none}
 pub use Rattle.std.proofs.lemmas.List.Sums.{AllPass-from_list_all, sum_by-cons, sum_by_push}
 pub use Rattle.std.proofs.lemmas.Map.{lookup-set_value}
-pub use Rattle.std.proofs.lemmas.Option.{get_or_from_slice_get, none-some, same_Some, slice_get_read, slice_get_within}
+pub use Rattle.std.proofs.lemmas.Option.{get_or_from_slice_get, none-some, same_Some, slice_get_within}
 pub use Rattle.std.proofs.lemmas.Result.{err_from_is_err_and}
-pub use Rattle.std.proofs.lemmas.Slice.Eq.{bytes_eq-Decides, slice_eq-Decides}
+pub use Rattle.std.proofs.lemmas.Slice.Eq.{slice_eq-Decides}
 pub use Rattle.std.specs.BTreeMap.{BTreeMap, is_at}
 pub use Rattle.std.specs.Bool.{Decides}
 pub use Rattle.std.specs.Char.{is_ascii_digit}
@@ -41,12 +41,12 @@ pub use Rattle.ent_alloc.proofs.Meaning.{allocator_is}
 pub use Rattle.ent_alloc.proofs.PoolLaw.{after_take-none, asked-after_take, cursor-after_take, made-after_take, pool_at-cursor, reply-cursor, reply-none, top-after_take}
 pub use Rattle.ent_alloc.proofs.Replies.{listed-IsPermutation, reply-refused, reply-served}
 pub use Rattle.ent_alloc.proofs.RequestLaws.{requested-given}
-pub use Rattle.ent_alloc.proofs.Soundness.{after_alloc-sound, after_flush-sound, after_free-sound, after_take-sound, next-later}
+pub use Rattle.ent_alloc.proofs.Soundness.{after_alloc-sound, after_flush-sound, after_free-sound, after_take-sound}
 pub use Rattle.ent_alloc.proofs.Taken.{after_take-refused, available-after_take}
 pub use Rattle.ent_alloc.specs.History.{AreGivenOnce, IsLegal, after_history, handles_in}
 pub use Rattle.ent_alloc.specs.Limits.{Limits}
 unfoldable pub use Rattle.ent_alloc.specs.Limits.{quota}
-pub use Rattle.ent_alloc.specs.Sequential.{Allocator, after_alloc, after_flush, after_free, after_take, asked_at, available, born, cursor, is_old, listed, next, opening, pool_at, reply_from, reply_to, stands_in, top}
+pub use Rattle.ent_alloc.specs.Sequential.{Allocator, after_alloc, after_flush, after_free, after_take, asked_at, available, born, cursor, listed, next, opening, pool_at, reply_from, reply_to, stands_in, top}
 pub use Rattle.ent_alloc.specs.Sound.{IsLive, IsSound}
 pub use Rattle.ent_alloc.specs.declared.space.Space.{Space}
 pub use Rattle.ent_alloc.specs.declared.span.Span.{Span}
@@ -54,7 +54,7 @@ pub use Rattle.ent_alloc.specs.declared.state.State.{State}
 pub use Rattle.ent_handle.proofs.Decimals.{decimal_is_decimal, number_found, number_of-decimal, plain_from_decimal}
 pub use Rattle.ent_handle.proofs.HandleTexts.{handle_found, handle_of_text}
 pub use Rattle.ent_handle.specs.Handle.{Handle, IsHandle}
-pub use Rattle.ent_handle.specs.Text.{handle_of, handle_text, number_of}
+pub use Rattle.ent_handle.specs.Text.{handle_of, handle_text}
 pub use Rattle.ent_handle.specs.declared.text.TextFault.{TextFault}
 pub use native.Mathlib.Decide.{ℕ_discrete}
 pub use Rattle.ent_replay.specs.Checker.{AgreesWith, AllFollow, AreKeyed, AreSteady, Checked, ComesAfter, Differs, Follows, HasNoOrder, IfReserve, IsChecking, IsKeyed, IsLatest, IsSettled, KeyOf, NoneFollows, OnDiffers, Reaches, ReachesAll, Shows, keys_after, opened, raised, requested_in, reservations_of, reserve_lines}
@@ -62,21 +62,20 @@ pub use Rattle.ent_replay.specs.Held.{all_held, held, held_by}
 unfoldable pub use Rattle.ent_replay.specs.Held.{joined}
 pub use Rattle.ent_replay.specs.Histories.{IsAtRest, Phase, StandInHistory, TellsReply, given_by, given_by_all, last_of, new_phase, phase_after, reservations, reserved_by_call, reserved_by_request}
 pub use Rattle.ent_replay.specs.Lineup.{FitsAt, IsFirstAt, IsLineup, KeepsCallers, NamesOne, NoneFits, all_of, is_of, lines_of, reached}
-pub use Rattle.ent_replay.specs.Logs.{Log, emptied, new_logs}
+pub use Rattle.ent_replay.specs.Logs.{emptied, new_logs}
 pub use Rattle.ent_replay.specs.Machine.{AreConsistent, HasPassed, Makes, awaited, machine_state, map_values, open_call_of, unasked}
 pub use Rattle.ent_replay.specs.OutcomeText.{handles_text, spaced}
-pub use Rattle.ent_replay.specs.Recording.{Compares, Finishes, Takes, TakesAll, lines_in, lines_in_all, numbered, numbered_after, one_more}
-pub use Rattle.ent_replay.specs.Schedule.{MachineState, OpenCall, Reply, Returned, after_event, after_events, alloc_front, answer_open, answer_with, begin_with, callers, event_takes_memory, is_busy, left_of, on_alloc, on_answer, on_begin, on_event, on_flush, on_free, on_step, outcome_of, outcomes_of, refuse, reported, say, spent_by, step_open, step_with}
+pub use Rattle.ent_replay.specs.Recording.{Compares, Finishes, Takes, TakesAll, lines_in_all, numbered, numbered_after, one_more}
+pub use Rattle.ent_replay.specs.Schedule.{MachineState, OpenCall, Reply, Returned, after_event, after_events, alloc_front, answer_open, answer_with, begin_with, callers, event_takes_memory, is_busy, left_of, on_alloc, on_answer, on_begin, on_event, on_flush, on_free, on_step, outcome_of, outcomes_of, refuse, reported, say, step_open, step_with}
 pub use Rattle.ent_replay.specs.ScheduleText.{AreEvents, ExplainsFault, IsEvent, Spells, event_of, event_text, events_of, goes_on, handle_word, none, number_word, one, or_cause, schedule_of, schedule_text, two, without_empty_end, words_of, ◌>>=◌}
 unfoldable pub use Rattle.ent_replay.specs.ScheduleText.{begin_of, event_with}
 pub use Rattle.ent_replay.specs.Table.{by_place, one_if_some, values_in}
 pub use Rattle.ent_replay.specs.Text.{Word, and_then, before_comment, count_in, handles_told, is_blank, number_told, words_in}
 unfoldable pub use Rattle.ent_replay.specs.Totals.{sum_below}
-pub use Rattle.ent_replay.specs.Trace.{Agrees, AreAnswered, Fits, FitsReserved, IsAlone, IsOrderOf, MayPass, after_front, after_line, after_lines, reserve_reply}
+pub use Rattle.ent_replay.specs.Trace.{Agrees, AreAnswered, Fits, FitsReserved, IsAlone, IsOrderOf, MayPass, after_front, after_line, after_lines}
 pub use Rattle.ent_replay.specs.declared.event.Event.{Event}
 pub use Rattle.ent_replay.specs.declared.event.Event.TheVariants.{Alloc, Answer, Begin, Flush, Free, Step}
 pub use Rattle.ent_replay.specs.declared.fault.ReplayFault.{ReplayFault}
-pub use Rattle.ent_replay.specs.declared.machine.Machine.TheInside.{Inside}
 pub use Rattle.ent_replay.specs.declared.outcome.Outcome.{Outcome}
 pub use Rattle.ent_replay.specs.declared.read_fault.Cause.{Cause}
 pub use Rattle.ent_replay.specs.declared.read_fault.ReadFault.{ReadFault}

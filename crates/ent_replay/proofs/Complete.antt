@@ -1,5 +1,5 @@
 -- If any order of a run is answered so, the sorted one is.
-use Rattle.ent_replay.proofs.Common.{rules, ◌≡◌, ℕ, zero, suc, ◌+◌, ◌^◌, ◌<◌, ◌≤◌, List, [], ◌∷◌, ◌++◌, length, filter, Err, refl, sym, ap, ◌∙◌, arith, inl, inr, ◌⊎◌, common_steps, AllByRecursion, cases_lt, All-filter, All-from_recursion, Handle, Allocator, available, after_take, IsSound, reply-refused, asked-after_take, after_take-sound, available-after_take, after_take-refused, ReserveReply, Placed, FitsReserved, KeyOf, AreKeyed, raised}
+use Rattle.ent_replay.proofs.Common.{none, emptied, rules, ◌≡◌, ℕ, zero, suc, ◌+◌, ◌^◌, ◌<◌, ◌≤◌, List, [], ◌∷◌, ◌++◌, length, filter, Err, refl, sym, ap, ◌∙◌, arith, inl, inr, ◌⊎◌, common_steps, AllByRecursion, cases_lt, All-filter, All-from_recursion, Handle, Allocator, available, after_take, IsSound, reply-refused, asked-after_take, after_take-sound, available-after_take, after_take-refused, ReserveReply, Placed, FitsReserved, KeyOf, AreKeyed, raised}
 use Rattle.ent_replay.specs.declared.trace.reply.ReserveReply.TheVariants as reserve
 use Rattle.ent_replay.proofs.Lists.{no_middle, split, all_at, all_without, all_weaker, itself_or}
 use Rattle.ent_replay.proofs.Sorted.{tie, tie_from, IsRising, TieAlike, whole, least, begins, nothing_left, alike_rest}
@@ -103,18 +103,11 @@ module _ (given : List Handle) where
       let lowest : h.key ≤ c.key = all_at (λ (p : Placed). h.key ≤ p.key) before after c least_here in
       let alike_here = alike_rest h sorted sp.before sp.after sp.none (rw (← sp.is) alike) in
       let floor = low c.reservation.caller in
-      let floor_asked = floor.0 in
-      let floor_small = floor.1 in
-      let least_own = head.least in
       let h_key = all_at (HasKey given) sp.before sp.after h (rw (← sp.is) (has_keys given f run keyed)) in
-      let h_least = h_key.least in
       elim (cases_lt (length s.pool) n) [
         | inr enough ↦
             let place = served_key given s sound is n head.own c.reservation.reply some.0 enough answered.0
             head.key_of in
-            let from = place.from in
-            let below = place.below in
-            let small = place.small in
             let key_own : c.key ≤ head.own = elim head.either [ inl own ↦ omega arith | inr old ↦ omega arith ] in
             let asked = asked-after_take s n in
             let t_sound = after_take-sound s n sound in
@@ -126,14 +119,10 @@ module _ (given : List Handle) where
               | inl above ↦ absurd (omega arith)
               | inr p ↦
                   let same_rest : sp.before ++ sp.after ≡ before ++ after = λ i. p.before_is i ++ p.after_is i in
-                  let asks_same : asks h ≡ asks c = ap asks p.is in
-                  let rest_sum : total sorted ≡ total order = omega arith in
                   let rest = sorted_is order sorted (before ++ after) (after_take s n) (raised f c) t_sound t_is
                   (low_next f s c low (omega arith) (omega arith)) rest_keyed more some.1 answered.1 up.1
-                  (rw (← same_rest) alike_here) rest_sum in (
-                    rw p.is (answered.0, rest.0),
-                    rest.1 ∙ ap (λ (y : Placed). after_run (after_take s (asks y)) sorted) (sym p.is),
-                  )
+                  (rw (← same_rest) alike_here) (omega (arith, ap asks p.is)) in
+                  search (rules, p.is, answered.0, rest)
             ]
         | inl short ↦
             let left = length s.pool in
@@ -147,10 +136,8 @@ module _ (given : List Handle) where
             let ends : left < asks h → FitsLeft left h → AllByRecursion FindsNone sorted
             → Answers s (h ∷ sorted) × (after_run s (c ∷ order) ≡ after_run s (h ∷ sorted)) =
             λ h_short h_fits none. let other = refused_run s h sorted h_short h_fits none in let same : s.asked
-            + (n + total order) ≡ s.asked + (asks h + total sorted) = omega arith in (
-              other.0,
-              ordered.1 ∙ (λ i. record s { aside = s.aside ++ s.pool; pool = []; asked = same i }) ∙ sym other.1,
-            ) in
+            + (n + total order) ≡ s.asked + (asks h + total sorted) = omega arith in search
+            (rules, other, ordered, same) in
             elim (later_or_first given n left c.reservation.reply fits) [
               | inl c_later ↦
                   let c_none : FindsNone c = record { some = some.0; fits = c_later } in
@@ -171,8 +158,7 @@ module _ (given : List Handle) where
                         absurd (omega arith)
                     | inr p ↦
                         let same_rest : sp.before ++ sp.after ≡ before ++ after = λ i. p.before_is i ++ p.after_is i in
-                        let asks_same : asks h ≡ asks c = ap asks p.is in
-                        ends (omega arith) (rw p.is fits) (all_alike FindsNone sorted (before ++ after)
+                        ends (omega (arith, ap asks p.is)) (rw p.is fits) (all_alike FindsNone sorted (before ++ after)
                         (rw (← same_rest) alike_here) rest_none)
                   ]
             ]

@@ -1,7 +1,6 @@
 -- The kinds of event, by what they do to a machine: no handle is given twice in a run, and its reservations
 -- are a legal history, of which each answer tells a reply.
-use Rattle.ent_replay.proofs.Common.{none, rules, ◌≡◌, refl, ℕ, ◌+◌, ◌<◌, Bool, true, false, cond, nat_lt, List, [], ◌∷◌, Option, Some, None, Result, Ok, Err, arith, nat_cmp, FinMap, empty_of_len, cond_both, nat_tests, Handle, cursor, after_take, after_alloc, after_free, after_flush, next, born, reply_to, IsLive, Event, Outcome, ReplayFault, MachineState, OpenCall, Reply, Returned, is_busy, on_event, alloc_front, begin_with, step_with, step_open, answer_with, say, answer_open, spent_by, left_of, callers, reported, refuse, reserved_by_request, reserved_by_call, reservations, given_by, ◌≢◌, sym, ap, subst, ◌∙◌, zero, suc, ◌++◌, AllPairs, IsPermutation, inl, inr, get-empty, cases_lt, IsPermutation-refl, IsPermutation-sym, IsPermutation-trans, IsPermutation-append_left, IsPermutation-append_right, IsPermutation-append_comm, Allocator, IsSound, handles_in, AreGivenOnce, All-right, AllPairs-left, AllPairs-right, requested-given, alloc-given, free-given, flush-given, given-IsPermutation, after_take-sound, after_alloc-sound, after_free-sound, after_flush-sound, outcome_of, after_event, outcomes_of, joined, held_by, held, all_held, given_by_all, cond-false, ◌⊎◌, ◌==◌, same_Some, none-some, IsLegal, after_history, asked-after_take, after_take-none, reply-none, Phase, phase_after, last_of, TellsReply, StandInHistory, IsAtRest, new_phase, append-nil, append_assoc}
-use Rattle.std.specs.FinSet as set
+use Rattle.ent_replay.proofs.Common.{none, Alloc, Free, Flush, Begin, Step, Answer, rules, ◌≡◌, refl, ℕ, ◌+◌, ◌<◌, Bool, true, false, cond, nat_lt, List, [], ◌∷◌, Option, Some, None, Result, Ok, Err, arith, nat_cmp, FinMap, empty_of_len, cond_both, nat_tests, Handle, cursor, after_take, after_alloc, after_free, after_flush, next, born, reply_to, IsLive, Event, Outcome, ReplayFault, MachineState, OpenCall, Reply, Returned, is_busy, on_event, alloc_front, begin_with, step_with, step_open, answer_with, say, answer_open, callers, reported, refuse, reserved_by_request, reserved_by_call, reservations, given_by, ◌≢◌, sym, ap, subst, ◌∙◌, zero, suc, ◌++◌, AllPairs, IsPermutation, inl, inr, get-empty, cases_lt, IsPermutation-refl, IsPermutation-sym, IsPermutation-trans, IsPermutation-append_left, IsPermutation-append_right, IsPermutation-append_comm, Allocator, IsSound, handles_in, AreGivenOnce, All-right, AllPairs-left, AllPairs-right, requested-given, alloc-given, free-given, flush-given, given-IsPermutation, after_take-sound, after_alloc-sound, after_free-sound, after_flush-sound, outcome_of, after_event, outcomes_of, joined, held_by, held, all_held, given_by_all, cond-false, ◌⊎◌, ◌==◌, same_Some, none-some, IsLegal, after_history, asked-after_take, after_take-none, reply-none, Phase, phase_after, last_of, TellsReply, StandInHistory, IsAtRest, new_phase, append-nil, append_assoc}
 use Rattle.std.specs.FinMap as finite
 use Rattle.ent_replay.specs.declared.event.Event.TheVariants as event
 use Rattle.ent_replay.specs.declared.outcome.Outcome.TheVariants as outcome
@@ -70,9 +69,8 @@ module _ (s : MachineState) where
       → Move s e (cond (is_busy s) (refuse s fault.Busy) (cond (nat_lt 0 s.allocator.asked) (say s outcome.NeedsFlush)
       x)) []
   exclusive e x other rest = cond_both (is_busy s) _ _ (λ y. Move s e y []) (λ busy. faulty e fault.Busy)
-      (λ quiet. cond_both (nat_lt 0 s.allocator.asked) _ _ (λ y. Move s e y [])
-      (λ asked. stays (Ok outcome.NeedsFlush) refl (λ told caller at. absurd (other caller at)))
-      (λ flushed. rest (closed quiet) (grind (arith, nat_tests))))
+      (λ quiet. cond_both _ _ _ (λ y. Move s e y []) (λ asked. stays (Ok outcome.NeedsFlush) refl
+      (λ told caller at. absurd (other caller at))) (λ flushed. rest (closed quiet) (grind (arith, nat_tests))))
 
   alloc_move : (pool : List Handle) → s.allocator.pool ≡ pool → s.calls ≡ finite.empty → s.allocator.asked ≡ 0
       → Move s event.Alloc (alloc_front s pool) []
@@ -92,28 +90,23 @@ module _ (s : MachineState) where
 -- each event is one of them
 pub move : (s : MachineState) (e : Event) → Move s e (on_event s e) (reservations s e)
 move s event.Alloc = search (rules, exclusive, alloc_move)
-move s (event.Free h) = exclusive s (event.Free h) _ (λ caller at. absurd cc)
-    (λ none flushed. cond_both (set.contains s.allocator.live h) _ _ (λ y. Move s (event.Free h) y [])
-    (λ lives. frees h none flushed lives) (λ gone. stays (Ok outcome.NotAlive) refl (λ told caller at. absurd cc)))
+move s (event.Free h) = exclusive s _ _ (λ caller at. absurd cc)
+    (λ none flushed. cond_both _ _ _ (λ y. Move s (event.Free h) y []) (λ lives. frees h none flushed lives)
+    (λ gone. stays _ refl (λ told caller at. absurd cc)))
 move s event.Flush = cond_both (is_busy s) _ _ (λ y. Move s event.Flush y []) (λ busy. faulty s event.Flush fault.Busy)
     (λ quiet. flushes (closed s quiet))
 move s (event.Begin caller n) =
     let Begun : Returned → Type 0 = λ y. Move s (event.Begin caller n) y [] in
-    cond_both (nat_lt caller callers) _ _ Begun (λ is. at_option (λ o. Begun (begin_with s caller n o))
-    (finite.get s.calls caller) (λ none. cond_both (nat_lt (left_of s caller) n) _ _ Begun
-    (λ short. faulty s (event.Begin caller n) (fault.Quota (left_of s caller)))
-    (λ enough. begins caller n (finite.insert s.spent caller (spent_by s caller + n)) (grind (arith, nat_tests)) none))
-    (λ call some. faulty s (event.Begin caller n) fault.AlreadyOpen))
-    (λ above. faulty s (event.Begin caller n) fault.Caller)
+    cond_both _ _ _ Begun (λ is. at_option (λ o. Begun (begin_with s caller n o)) _
+    (λ none. cond_both _ _ _ Begun (λ short. faulty s _ _) (λ enough. begins caller n _ (grind (arith, nat_tests))
+    none)) (λ call some. faulty s _ fault.AlreadyOpen)) (λ above. faulty s _ fault.Caller)
 move s (event.Step caller) = step_move s caller (nat_lt caller callers) refl
 move s (event.Answer caller) =
     let Answered : Returned → Type 0 = λ y. Move s (event.Answer caller) y [] in
-    cond_both (nat_lt caller callers) _ _ Answered (λ is. at_option (λ o. Answered (answer_open s caller o))
-    (finite.get s.calls caller) (λ none. faulty s (event.Answer caller) fault.NotOpen)
-    (λ call some. at_option (λ o. Answered (answer_with s caller o)) call.reply
-    (λ waits. faulty s (event.Answer caller) fault.NotStepped)
-    (λ reply stepped. answers caller call reply (grind (arith, nat_tests)) some stepped)))
-    (λ above. faulty s (event.Answer caller) fault.Caller)
+    cond_both _ _ _ Answered (λ is. at_option (λ o. Answered (answer_open s caller o)) _
+    (λ none. faulty s _ fault.NotOpen) (λ call some. at_option (λ o. Answered (answer_with s caller o)) call.reply
+    (λ waits. faulty s _ fault.NotStepped) (λ reply stepped. answers caller call reply (grind (arith, nat_tests)) some
+    stepped))) (λ above. faulty s _ fault.Caller)
 
 -- ---- lists of all callers, one after the other
 
@@ -144,15 +137,12 @@ joined-more f g c (suc n) lt none alike = elim (cases_lt c n) [
   | inl below ↦
       let rest = joined-more f g c n below none alike in
       let last : f n ≡ g n = alike n (λ same. absurd (omega arith)) in
-      IsPermutation-trans ((joined f n ++ f n) ++ g c) ((joined f n ++ g c) ++ f n) (joined g n ++ g n)
-      (swapped (joined f n) (f n) (g c)) (rw (← last) (IsPermutation-append_left (f n) (joined f n ++ g c)
-      (joined g n) rest))
+      IsPermutation-trans _ _ _ (swapped (joined f n) (f n) (g c))
+      (rw (← last) (IsPermutation-append_left (f n) (joined f n ++ g c) (joined g n) rest))
   | inr past ↦
       let here : c ≡ n = omega arith in
       let rest = joined-alike f g n (λ q below. alike q (λ same. absurd (omega arith))) in
-      let nothing : f n ≡ [] = ap f (sym here) ∙ none in
-      same_order ((joined f n ++ f n) ++ g c) (joined g n ++ g n)
-      (λ i. (ap (joined f n ++◌) nothing ∙ append-nil (joined f n) ∙ rest) i ++ g (here i))
+      same_order _ _ (cc (here, none, append-nil (joined f n), rest))
 ]
 
 -- ---- the handles that are kept for open calls
@@ -187,11 +177,8 @@ given-next : (s : MachineState) (given : List Handle) {e : Event} {x : Returned}
 given-next s given h (stays r gives tells) = rw (gives, append-nil) h
 given-next s given h (allocates x rest none flushed pool) =
     let nothing = all_held-none s.calls none in
-    record {
-      sound = after_alloc-sound s.allocator x rest h.sound flushed pool;
-      once = rw (nothing, append-nil) (alloc-given s.allocator x rest given h.sound flushed pool
-          (rw (nothing, append-nil) at h.once));
-    }
+    let once = alloc-given s.allocator x rest given h.sound flushed pool (rw (nothing, append-nil) at h.once) in
+    search (rules, nothing, append-nil, after_alloc-sound, once)
 given-next s given h (frees x none flushed lives) = search (rules, after_free-sound, append-nil, free-given)
 given-next s given h (flushes none) = search (rules, after_flush-sound, append-nil, flush-given)
 given-next s given h (begins caller n costs below none) =
@@ -199,9 +186,8 @@ given-next s given h (begins caller n costs below none) =
     let kept = all_held-inserted s.calls caller below new (ap held none) in
     record {
       sound = h.sound;
-      once = rw append-nil (given-IsPermutation s.allocator (given ++ all_held s.calls)
-          (given ++ all_held (finite.insert s.calls caller new)) (IsPermutation-append_right given (all_held s.calls)
-          (all_held (finite.insert s.calls caller new)) (rw append-nil at kept)) h.once);
+      once = rw append-nil (given-IsPermutation s.allocator _ _
+          (IsPermutation-append_right given _ _ (rw append-nil at kept)) h.once);
     }
 given-next s given h (steps caller call below some waits) =
     let n = call.requested in
@@ -210,11 +196,9 @@ given-next s given h (steps caller call below some waits) =
     let kept = all_held-inserted s.calls caller below new (ap held some ∙ ap held_by waits) in
     record {
       sound = after_take-sound s.allocator n h.sound;
-      once = rw append-nil (given-IsPermutation (after_take s.allocator n) ((given ++ all_held s.calls) ++ hs)
-          (given ++ all_held (finite.insert s.calls caller new))
-          (rw append_assoc (IsPermutation-append_right given (all_held s.calls ++ hs)
-          (all_held (finite.insert s.calls caller new)) kept))
-          (requested-given s.allocator n (given ++ all_held s.calls) h.sound h.once));
+      once = rw append-nil (given-IsPermutation _ _ _ (rw append_assoc
+          (IsPermutation-append_right given (all_held s.calls ++ hs) (all_held (finite.insert s.calls caller new))
+          kept)) (requested-given s.allocator n (given ++ all_held s.calls) h.sound h.once));
     }
 given-next s given h (answers caller call reply below some stepped) =
     let left = all_held (finite.remove s.calls caller) in
@@ -223,27 +207,24 @@ given-next s given h (answers caller call reply below some stepped) =
     (all_held-removed s.calls caller below) in
     record {
       sound = h.sound;
-      once = rw given_by-reported (given-IsPermutation s.allocator (given ++ all_held s.calls) ((given ++ hs) ++ left)
-          (rw append_assoc (IsPermutation-append_right given (all_held s.calls) (hs ++ left)
-          (IsPermutation-sym (hs ++ left) (all_held s.calls) (IsPermutation-trans (hs ++ left) (left ++ hs)
-          (all_held s.calls) (IsPermutation-append_comm hs left) kept)))) h.once);
+      once = rw given_by-reported (given-IsPermutation s.allocator _ _
+          (rw append_assoc (IsPermutation-append_right given _ _
+          (IsPermutation-sym _ _ (IsPermutation-trans (hs ++ left) (left ++ hs) (all_held s.calls)
+          (IsPermutation-append_comm hs left) kept)))) h.once);
     }
 
 -- ---- the handles that are kept for open calls, after one event
 
 -- where a list was given once, its second part was
 given-right : (s : Allocator) (xs ys : List Handle) → spent.AreSpent s (xs ++ ys) → spent.AreSpent s ys
-given-right s xs ys h = record {
-  distinct = AllPairs-right (λ g h. g ≢ h) xs ys h.distinct;
-  spent = All-right (spent.IsSpent s) xs ys h.spent;
-}
+given-right s xs ys h = search
+    (rules, AllPairs-right (λ g h. g ≢ h) xs ys h.distinct, All-right (spent.IsSpent s) xs ys h.spent)
 
 pub all_held-next : (s : MachineState) (e : Event) {r : Result Outcome ReplayFault} {t : MachineState}
     → on_event s e ≡ (r, t) → IsSound s.allocator → spent.AreSpent s.allocator (all_held s.calls)
     → spent.AreSpent t.allocator (all_held t.calls)
-all_held-next s e is sound once =
-    let h = given-next s [] (record { sound = sound; once = once }) (move s e) in
-    subst (λ (p : Returned). spent.AreSpent p.1.allocator (all_held p.1.calls)) is (search (rules, given-right))
+all_held-next s e is sound once = subst (λ (p : Returned). spent.AreSpent p.1.allocator (all_held p.1.calls)) is
+    (search (rules, given-right, given-next s [] (record { sound = sound; once = once }) (move s e)))
 
 -- ---- whole runs
 
@@ -321,8 +302,7 @@ module _ (p : Phase) (s : MachineState) (h : IsFollowed p s) where
     reached = h.reached;
     rest = λ zero_asked. on_inserted (Told (λ q. RequestedNone)) s.calls caller (λ q call _. h.rest zero_asked q call)
         new none;
-    open_calls = on_inserted (Told (IsOfHistory p.calls)) s.calls caller (λ q call _. h.open_calls q call) new
-        (λ r told. inl (none r told));
+    open_calls = on_inserted _ s.calls caller (λ q call _. h.open_calls q call) new (λ r told. inl (none r told));
   }
 
   -- a step of some request, as the request is
@@ -344,19 +324,9 @@ module _ (p : Phase) (s : MachineState) (h : IsFollowed p s) where
         legal = IsLegal-append p.start p.calls (made ∷ []) h.legal (rw h.reached (omega arith, refl, tt));
         reached = simp (after_history-append, h.reached);
         rest = λ zero_asked. absurd (omega arith);
-        open_calls = on_inserted (Told (IsOfHistory (p.calls ++ made ∷ []))) s.calls caller (λ q call other at r told.
-            elim (h.open_calls q call at r told) [
-              | inl nothing ↦ inl nothing
-              | inr found ↦ inr
-                  (found.0, last_of-append_other q p.calls made (λ same. other (sym same)) ∙ found.1, found.2, found.3)
-            ])
-            (record { requested = suc n; reply = Some (reply_to s.allocator (suc n)) })
-            (λ r told. inr (
-              made,
-              last_of-append caller p.calls made refl,
-              refl,
-              sym (same_Some (reply_to s.allocator (suc n)) r told),
-            ));
+        open_calls = on_inserted (Told (IsOfHistory (p.calls ++ made ∷ []))) s.calls caller
+            (λ q call other at r told. search (rules, last_of-append_other, h.open_calls q call at r told)) _
+            (λ r told. search (rules, last_of-append caller p.calls made refl, same_Some _ r told));
       }
 
   -- the phase goes on, or nothing is asked for and no call is open
@@ -380,32 +350,16 @@ module _ (p : Phase) (s : MachineState) (h : IsFollowed p s) where
   pub followed-next : (e : Event) → IsFollowed (phase_after p s e) (after_event s e)
   followed-next e = cond_both ((after_event s e).allocator.asked == 0) _ _ (λ q. IsFollowed q (after_event s e)) (λ is.
       let zero_asked : (after_event s e).allocator.asked ≡ 0 = grind (arith, nat_tests) in
-      let quiet : NothingTold (after_event s e) = elim (goes_on (move s e)) [
-        | inl f ↦ f.rest zero_asked
-        | inr still ↦ still.1
-      ] in
-      record {
-        legal = tt;
-        reached = refl;
-        rest = λ _. quiet;
-        open_calls = λ q call at r told. inl
-            (quiet q call at r told);
-      })
-      (λ is. elim (goes_on (move s e)) [ inl f ↦ f | inr still ↦ absurd (grind (arith, nat_tests, still.0)) ])
+      let quiet : NothingTold (after_event s e) = search (rules, zero_asked, goes_on (move s e)) in
+      search (rules, quiet)) (λ is. search (rules, nat_tests, goes_on (move s e)))
 
 -- ---- what an answer tells
 
 tells : (p : Phase) (s : MachineState) {e : Event} {x : Returned} {m : List Call} → IsFollowed p s → Move s e x m
     → TellsReply s p.calls e x.0
 tells p s h (stays {e = event.Answer caller} (Ok told) gives none) = absurd (none told caller refl refl)
-tells p s h (answers caller call reply below some stepped) = (
-  call,
-  some,
-  elim (h.open_calls caller call some reply stepped) [
-    | inl nothing ↦ inl (nothing.0, ap reported nothing.1)
-    | inr found ↦ inr (found.0, found.1, found.2, ap reported found.3)
-  ],
-)
+tells p s h (answers caller call reply below some stepped) = search
+    (rules, some, h.open_calls caller call some reply stepped)
 tells p s h _ = tt
 
 -- ---- whole runs

@@ -1,6 +1,6 @@
 -- Reservations one after the other: those for nothing can be left out, of those that follow a refusal none
 -- is served, and what the key of one tells of where it comes.
-use Rattle.ent_replay.proofs.Common.{none, rules, ◌≡◌, ℕ, ◌+◌, ◌<◌, Bool, true, false, nat_lt, List, [], ◌∷◌, length, filter, Ok, Err, refl, ap, ◌∙◌, arith, inl, inr, ◌⊎◌, common_steps, AllByRecursion, lt-ltb, Allocator, after_take, reply_to, reply-none, after_take-none, after_take-refused, Placed, AreAnswered, FitsReserved, after_lines, ◌≢◌, ◌-◌, ◌^◌, ◌≤◌, ◌++◌, take, drop, get_or, slice_get, Some, sym, true≢false, Contains, eq-eqb, ne_eqb, cases_lt, get_or-take, get_or-drop, length-take, length-drop, Contains-permutation, IsPermutation-sym, length_permutation, get_or_from_slice_get, slice_get_within, Handle, available, listed, stands_in, IsSound, reply-served, reply-refused, listed-IsPermutation, stands_in-from_Contains, asked-after_take, after_take-sound, available-after_take, ReserveReply, KeyOf, IsKeyed, AreKeyed, raised, append-nil}
+use Rattle.ent_replay.proofs.Common.{rules, ◌≡◌, ℕ, ◌+◌, ◌<◌, Bool, true, false, nat_lt, List, [], ◌∷◌, length, filter, Ok, Err, refl, ap, ◌∙◌, arith, inl, inr, ◌⊎◌, common_steps, AllByRecursion, lt-ltb, Allocator, after_take, reply_to, reply-none, after_take-none, after_take-refused, Placed, AreAnswered, FitsReserved, after_lines, ◌≢◌, ◌-◌, ◌^◌, ◌≤◌, ◌++◌, take, drop, get_or, slice_get, Some, sym, true≢false, Contains, eq-eqb, ne_eqb, cases_lt, get_or-take, get_or-drop, length-take, length-drop, Contains-permutation, IsPermutation-sym, length_permutation, get_or_from_slice_get, slice_get_within, Handle, available, listed, stands_in, IsSound, reply-served, reply-refused, listed-IsPermutation, stands_in-from_Contains, asked-after_take, after_take-sound, available-after_take, ReserveReply, KeyOf, IsKeyed, AreKeyed, raised, append-nil}
 use Rattle.ent_replay.specs.declared.trace.reply.ReserveReply.TheVariants as reserve
 use Rattle.ent_replay.proofs.Sorted.{lines}
 
@@ -114,20 +114,15 @@ module _ (given : List Handle) (s : Allocator) (sound : IsSound s) (is : availab
       × ((slice_get given own ≡ Some h) ⊎ (stands_in given h ≡ false)) → InPlace
   in_place h has key =
       let i = has.0 in
-      let at = has.2 in
       let short : i < n = omega (arith, length-take n s.pool) in
       let inside : i < length s.pool = omega (arith, length-take n s.pool) in
       let pool_is : s.pool ≡ drop s.asked given = cc (sound.pool, is) in
       let long : length s.pool ≡ length given - s.asked = simp (pool_is, length-drop) in
       let there : s.asked + i < length given = omega arith in
       let found : get_or given (s.asked + i) h ≡ h = search (rules, get_or-drop, get_or-take) in
-      let small = key.0 in
       let apart = rw is at sound.apart in
       elim key.1 [
-        | inl own_at ↦
-            let own_in = slice_get_within given own h own_at in
-            let own_is = get_or_from_slice_get given own h h own_at in
-            search rules
+        | inl own_at ↦ search (rules, slice_get_within given own h own_at, get_or_from_slice_get given own h h own_at)
         | inr nowhere ↦ absurd (true≢false (sym (stands_in-from_Contains given h (s.asked + i, there, found))
             ∙ nowhere))
       ]
@@ -176,8 +171,7 @@ module _ (given : List Handle) (after : List Placed) (c : Placed) where
   pub keyed_without : (before : List Placed) (f : ℕ → ℕ) → AllByRecursion (IsOfOther c) before
       → AreKeyed given f (before ++ c ∷ after) → AreKeyed given (raised f c) (before ++ after)
   keyed_without [] f others keyed = keyed.1
-  keyed_without (b ∷ before) f others keyed = search
-      (rules, raised_other, keyed_without before (raised f b) others.1 keyed.1)
+  keyed_without (b ∷ before) f others keyed = search (rules, raised_other, keyed_without before _ others.1 keyed.1)
 
 -- each has its own key or a greater one
 pub record HasKey (given : List Handle) (p : Placed) : Type 0 where
@@ -200,11 +194,7 @@ later_keys given (p ∷ run) s k sound is low few some keys answered =
     let n = asks p in
     let key = keys.0 in
     let here : k ≤ p.key = elim (cases_lt (length s.pool) n) [
-      | inl short ↦ omega (
-        arith,
-        refused_key given n key.own (length s.pool) p.reservation.reply key.small
-            (rw (← reply-refused s n short) answered.0) key.key_of,
-      )
+      | inl short ↦ omega (arith, refused_key given n key.own (length s.pool) p.reservation.reply key.small (rw (← reply-refused s n short) answered.0) key.key_of)
       | inr enough ↦ omega
           (arith, served_key given s sound is n key.own p.reservation.reply some.0 enough answered.0 key.key_of)
     ] in

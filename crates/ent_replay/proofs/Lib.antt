@@ -20,3 +20,4 @@ pub mod WordParts
 pub mod Common
 pub mod MachineEvents
 pub mod Histories
+pub mod Laws

@@ -1,6 +1,6 @@
 -- Orders of the lines of a run as orders of its reservations with their keys, without those for nothing,
 -- and with those of each caller in the same order.
-use Rattle.ent_replay.proofs.Common.{one, IsNonDecreasingBy, IsNonDecreasingBy-filter, recursion_from_All, All-filter, All-from_recursion, rules, ◌≡◌, ℕ, ◌+◌, ◌<◌, Bool, List, [], ◌∷◌, ◌++◌, filter, Ok, refl, sym, ap, subst, ◌∙◌, arith, inl, inr, AllByRecursion, cases_eq, cases_Bool, filter-append, sum_by-cons, Handle, Allocator, available, IsSound, Call, ReserveReply, Placed, MayPass, IsOrderOf, FitsReserved, AreAnswered, after_lines, KeyOf, AreKeyed, raised, reservations_of, requested_in, common_steps, ◌≢◌, true, false, eq-eqb, ne_eqb, KeepsCallers, is_of}
+use Rattle.ent_replay.proofs.Common.{none, IsNonDecreasingBy, IsNonDecreasingBy-filter, recursion_from_All, All-filter, All-from_recursion, rules, ◌≡◌, ℕ, ◌+◌, ◌<◌, Bool, List, [], ◌∷◌, ◌++◌, filter, Ok, refl, sym, ap, subst, ◌∙◌, arith, inl, inr, AllByRecursion, cases_eq, cases_Bool, filter-append, sum_by-cons, Handle, Allocator, available, IsSound, Call, ReserveReply, Placed, MayPass, IsOrderOf, FitsReserved, AreAnswered, after_lines, KeyOf, AreKeyed, raised, reservations_of, requested_in, common_steps, ◌≢◌, true, false, eq-eqb, ne_eqb, KeepsCallers, is_of}
 use Rattle.ent_replay.specs.declared.trace.call.Call.TheVariants as line
 use Rattle.ent_replay.proofs.Sorted.{lines, lines_append, tie, key, rising, TieAlike}
 use Rattle.ent_replay.proofs.Legal.{asks, asks_some, some_or_none, kept, left_out, total, FitsNothing, Answers-some, after-some, nothing-fits, Answers-from_some, IsOfOther, raised_own, raised_other}
@@ -84,9 +84,7 @@ pub order_filtered : (order run : List Placed) → IsPlacedOrder run order
 order_filtered [] run none = ap (filter asks_some) none
 order_filtered (p ∷ order) run (before, after, parts, others, more) =
     let rest = order_filtered order (before ++ after) more in
-    let joined = filter-append asks_some before after in
-    let split_here = ap (filter asks_some) parts ∙ filter-append asks_some before (p ∷ after) in
-    search (rules, some_or_none, asks, asks_some, kept, all_filtered, left_out)
+    search (rules, rest, parts, filter-append, some_or_none, asks, asks_some, kept, all_filtered, left_out)
 
 nothing_key : (given : List Handle) (n own : ℕ) (reply : ReserveReply) → FitsReserved reply (Ok [])
     → KeyOf given n reply own → own ≡ 0
@@ -141,22 +139,14 @@ sorted_run s sorted run order sound keyed up alike sum is answered =
     let fits_run = all_unordered FitsNothing run l.placed l.is_order fits_order in
     let fits_sorted = all_alike FitsNothing sorted run alike fits_run in
     let some = filter asks_some in
-    let sums : total (some sorted) ≡ total (some l.placed) = cc (
-      total_filtered sorted,
-      total_is sorted,
-      sum,
-      total_is run,
-      total_ordered l.placed run l.is_order,
-      total_filtered l.placed,
-    ) in
+    let sums : total (some sorted) ≡ total (some l.placed) = search
+    (rules, total_filtered, total_is sorted, total_is run, sum, total_ordered l.placed run l.is_order) in
     let ends = sorted_is (available s) (some l.placed) (some sorted) (some run) s (λ _. 0) sound refl
     (λ q. (omega arith, omega arith)) (keyed_filtered (available s) (λ _. 0) run keyed fits_run)
     (order_filtered l.placed run l.is_order) (some_filtered l.placed) (Answers-some l.placed s order_yes)
     (rising (some sorted) (IsNonDecreasingBy-filter key asks_some sorted up))
-    (alike_filtered asks_some sorted run alike) sums in (
-      Answers-from_some sorted s fits_sorted ends.0,
-      ap (after_lines s) l.is ∙ after-some l.placed s ∙ ends.1 ∙ sym (after-some sorted s),
-    )
+    (alike_filtered asks_some sorted run alike) sums in
+    search (rules, Answers-from_some sorted s fits_sorted ends.0, l.is, ends.1, after-some)
 
 -- ---- which caller
 

@@ -1,11 +1,10 @@
 -- What is placed of a run, and what is left: one pass over what is left, what stops it, and which one a
 -- difference names.
-use Rattle.ent_replay.proofs.Common.{add-one, rules, ◌≡◌, ℕ, suc, ◌+◌, ◌-◌, ◌<◌, ◌≤◌, ℤ, pos, ◌+ℤ◌, ◌-ℤ◌, ◌≤ℤ◌, List, [], ◌∷◌, ◌++◌, length, take, drop, slice_get, Some, arith, ints, drop-drop, append_assoc, length-append, Handle, Allocator, top, cursor, asked_at, pool_at, IsSound, pool_at-cursor, ◌^◌, get_or, common_steps, drop-cons, drop_all, sum_by-cons, after_take, asked-after_take, Placed, after_lines, reservations_of, requested_in, ◌≢◌, filter, None, refl, cases_eq, take_more, take-append-drop, length-take, filter-append, nat_cmp, IsFirstAt, is_of, sym, ap, ◌∙◌, inl, inr, ◌⊎◌, nil_from_length, available, reply_from, reply_to, cursor-after_take, made-after_take, reply-cursor, top-after_take, after_take-sound, available-after_take, Lineup, AreAnswered, FitsReserved, reserve_reply, FitsAt, IsLineup, KeepsCallers, NoneFits, all_of, lines_of, NamesOne, reached, Difference, append-nil}
+use Rattle.ent_replay.proofs.Common.{add-one, rules, ◌≡◌, ℕ, suc, ◌+◌, ◌-◌, ◌<◌, ◌≤◌, ℤ, pos, ◌+ℤ◌, ◌-ℤ◌, ◌≤ℤ◌, List, [], ◌∷◌, ◌++◌, length, take, drop, slice_get, Some, arith, ints, drop-drop, append_assoc, length-append, Handle, Allocator, top, cursor, asked_at, pool_at, IsSound, ◌^◌, get_or, common_steps, drop-cons, sum_by-cons, after_take, asked-after_take, Placed, after_lines, reservations_of, requested_in, ◌≢◌, filter, None, refl, cases_eq, take_more, take-append-drop, length-take, filter-append, nat_cmp, IsFirstAt, is_of, sym, inl, inr, ◌⊎◌, available, reply_from, reply_to, cursor-after_take, made-after_take, reply-cursor, top-after_take, after_take-sound, available-after_take, Lineup, AreAnswered, FitsReserved, FitsAt, IsLineup, KeepsCallers, NoneFits, all_of, lines_of, reached, append-nil}
 use Rattle.std.specs.FinMap as finite
-use Rattle.ent_replay.specs.declared.trace.call.Call.TheVariants as line
 use Rattle.ent_replay.proofs.Sorted.{lines, lines_append}
 use Rattle.ent_replay.proofs.Maps.{get-inserted, get-insert_other, nothing_in}
-use Rattle.ent_replay.proofs.Lifted.{other, total_append, total_is, keeps-again, keeps-forward, own}
+use Rattle.ent_replay.proofs.Lifted.{other, total_append, total_is, keeps-forward, own}
 use Rattle.ent_replay.proofs.Legal.{asks, total}
 use Rattle.ent_replay.proofs.Orders.{AreAnswered-append, answered_back}
 use Rattle.ent_replay.proofs.Lists.{parted, no_middle}
@@ -30,10 +29,6 @@ module _ (s : Allocator) (start next : ℤ) (front : List Handle) (listed : List
       let left : 8 - length front ≡ suc (7 - length front) = omega arith in
       search (rules, length-append, append_assoc, pool_below, ints)
 
--- at the cursor it is the front of the pool
-pub front_here : (s : Allocator) (at : ℤ) → IsSound s → at ≡ cursor s → take 8 (pool_at s at) ≡ take 8 s.pool
-front_here s at sound is = simp (is, pool_at-cursor)
-
 -- those before an index were made
 pub record Made (old s : Allocator) (run : List Placed) (i : ℕ) : Type 0 where
   pub after : after_lines s (lines (drop i run)) ≡ after_lines old (lines run)
@@ -48,9 +43,6 @@ module _ (old s : Allocator) (run : List Placed) (i : ℕ) where
       → t ≡ after_take s p.reservation.requested → Made old t run (i + 1)
   Made-next made p within is t after = grind (arith, common_steps, lines, drop-cons, sum_by-cons, asked-after_take)
 
-  pub Made-last : Made old s run i → length run ≤ i → s ≡ after_lines old (lines run)
-  Made-last made past = search (rules, drop_all, lines)
-
 -- a caller that was not seen has none among the first ones
 abbrev pub AreSeen : finite.FinMap nat_cmp ℕ → List Placed → ℕ → Type 0
 AreSeen seen rest index = (q : ℕ) → finite.get seen q ≡ None → filter (is_of q) (take index rest) ≡ []
@@ -60,11 +52,9 @@ module _ (seen : finite.FinMap nat_cmp ℕ) (rest : List Placed) (index : ℕ) (
   more : take (index + 1) rest ≡ take index rest ++ p ∷ []
   more = cc (take_more rest index p within, at)
 
-  others : (q : ℕ) → q ≢ p.reservation.caller → finite.get seen q ≡ None → filter (is_of q) (take (index + 1) rest) ≡ []
+  pub others : (q : ℕ) → q ≢ p.reservation.caller → finite.get seen q ≡ None
+      → filter (is_of q) (take (index + 1) rest) ≡ []
   others q apart is = search (rules, more, filter-append, other, append-nil)
-
-  pub AreSeen-next : (key : ℕ) → AreSeen (finite.insert seen p.reservation.caller key) rest (index + 1)
-  AreSeen-next key q is = search (rules, cases_eq, get-inserted, others, get-insert_other)
 
   pub IsFirstAt-unseen : finite.get seen p.reservation.caller ≡ None → IsFirstAt rest index
   IsFirstAt-unseen none = record {
@@ -113,16 +103,14 @@ after-append (x ∷ xs) ys s = after-append xs ys (after_take s (asks x))
 
 -- the position stands for the state
 module _ (s : Allocator) (run : List Placed) (at : ℤ) (sound : IsSound s) (at_is : at ≡ cursor (after s run)) where
-  here : IsAfter s (after s run) run
+  pub here : IsAfter s (after s run) run
   here = is_after run s sound
 
   pub pools : pool_at s at ≡ pool_at (after s run) at
   pools = λ i. drop (asked_at (sym here.top_is i) at) (sym here.available_is i)
 
   pub reply-here : (n : ℕ) → reply_from s.made (pool_at s at) n ≡ reply_to (after s run) n
-  reply-here n = (λ i. reply_from (sym here.made_is i) (pools i) n)
-      ∙ ap (λ x. reply_from (after s run).made (pool_at (after s run) x) n) at_is
-      ∙ reply-cursor (after s run) n here.sound
+  reply-here n = cc (pools, here.made_is, at_is, reply-cursor (after s run) n here.sound)
 
   pub at-passed : at ≤ℤ pos (top s)
   at-passed = let e = here.top_is in omega (arith, ints)
@@ -207,11 +195,8 @@ module _ {s : Allocator} {start : Lineup} {placed left all : List Placed} {at : 
     pub Passing-lower : pos (top s) ≤ℤ ((at -ℤ pos (asks p)) +ℤ pos (2 ^ 50))
     Passing-lower =
         let a : s.asked + total (placed ++ (left ++ p ∷ rest)) ≤ 2 ^ 50 = rw (← parts) few in
-        search (
-          rules,
-          total_append,
-          at-least s (placed ++ p ∷ []) (at -ℤ pos (asks p)) begun.sound (at-next s placed at begun.sound h.at_is p),
-        )
+        at-least s (placed ++ p ∷ []) _ begun.sound (at-next s placed at begun.sound h.at_is p)
+        (search (rules, total_append))
 
     fits_here : FitsReserved p.reservation.reply (reply_from s.made (pool_at s at) (asks p)) ≡ FitsAt (after s placed) p
     fits_here = cc (reply-here s placed at begun.sound h.at_is (asks p))
@@ -241,9 +226,6 @@ module _ {s : Allocator} {start : Lineup} {all : List Placed} {blocked : finite.
   pub over_lined : IsLineup s l
   over_lined = search (rules, few, total_is, total, over)
 
-  pub over_keeps : KeepsCallers (all_of start) (all_of l)
-  over_keeps = rw (← over) h.keeps
-
   pub over_stuck : length l.rest.items ≡ length start.rest.items → NoneFits (reached s l) l.rest.items
   over_stuck same = search (rules, length-append)
 
@@ -261,16 +243,6 @@ pub record Settling (s : Allocator) (start l : Lineup) (before : ℕ) : Type 0 w
   pub whole : AreAnswered s (lines_of (all_of start))
       → ((l ≡ start) × (before ≡ length l.rest.items + 1)) ⊎ (l.rest.items ≡ [])
 
-pub Settling-start : (s : Allocator) (l : Lineup) → IsLineup s l → Settling s l l (length l.rest.items + 1)
-Settling-start s l h = search rules
-
-module _ (s : Allocator) (start l next : Lineup) (before : ℕ) (h : Settling s start l before) where
-  pub Settling-next : IsLineup s next → KeepsCallers (all_of l) (all_of next)
-      → length next.rest.items ≤ length l.rest.items → (length next.rest.items ≡ length l.rest.items
-      → NoneFits (reached s next) next.rest.items) → (AreAnswered s (lines_of (all_of l)) → next.rest.items ≡ [])
-      → Settling s start next (length l.rest.items)
-  Settling-next lined keeps fewer stuck whole = search (rules, keeps-again, nil_from_length)
-
 -- the position of a lineup is one that its allocator counts
 module _ (s : Allocator) (l : Lineup) (h : IsLineup s l) where
   pub lined-least : pos (top s) ≤ℤ (l.at +ℤ pos (2 ^ 50))
@@ -280,16 +252,5 @@ module _ (s : Allocator) (l : Lineup) (h : IsLineup s l) where
   pub lined-passed : l.at ≤ℤ pos (top s)
   lined-passed = at-passed s l.placed.items l.at h.sound h.at_is
 
-at_middle : (before after : List Placed) (p x : Placed) → get_or (before ++ p ∷ after) (length before) x ≡ p
+pub at_middle : (before after : List Placed) (p x : Placed) → get_or (before ++ p ∷ after) (length before) x ≡ p
 at_middle before after p x = grind (arith, common_steps)
-
-pub names_one : (s : Allocator) (l : Lineup) (rest : List Placed) (index : ℕ) (x : Placed) (d : Difference)
-    → IsLineup s l → NoneFits (reached s l) l.rest.items → rest ≡ l.rest.items → IsFirstAt rest index
-    → x ≡ get_or l.rest.items index x → d.number ≡ x.reservation.number → d.told ≡ line.Reserve x.reservation
-    → d.expected ≡ line.Reserve (record x.reservation {
-      reply = reserve_reply
-          (reply_from s.made (pool_at s l.at) x.reservation.requested);
-    }) → d.front ≡ take 8 (pool_at s l.at)
-    → d.cursor ≡ l.at → NamesOne s l d
-names_one s l rest index x d h none same f at number told expected front cursor_is = search
-    (rules, at_middle, here, reply-here, pools, pool_at-cursor, is_after)

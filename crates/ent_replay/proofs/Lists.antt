@@ -96,11 +96,10 @@ module _ {X : Type 0} where
   pub parted : (front rest before after : List X) (x l : X) → front ++ x ∷ rest ≡ before ++ l ∷ after
       → InFront front rest before after x l ⊎ (Itself front rest before after x l ⊎ Behind front rest before after x l)
   parted [] rest [] after x l e = search rules
-  parted [] rest (b ∷ before) after x l e = search rules
-  parted (f ∷ front) rest [] after x l e = search rules
   parted (f ∷ front) rest (b ∷ before) after x l e =
       let others : front ++ x ∷ rest ≡ before ++ l ∷ after = cc in
       grind (arith, common_steps, parted front rest before after x l others)
+  parted _ rest _ after x l e = search rules
 
   -- an element is the one that is taken out, or it is among the others
   pub itself_or : (P : X → Type 0) (front rest before after : List X) (x l : X)

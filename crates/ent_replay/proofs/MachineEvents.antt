@@ -1,5 +1,5 @@
 -- What events do to the fields of a `Machine`, and that they keep them in order.
-use Rattle.ent_replay.proofs.Common.{common_steps, none, cond-true, cond-false, All-nil, rules, ◌≡◌, ◌≢◌, sym, ap, ◌∙◌, ℕ, ◌+◌, ◌^◌, ◌<◌, ◌≤◌, true, false, [], length, slice_get, Some, Ok, Err, arith, inl, inr, unwrap_or, nat_cmp, FinMap, get-empty, len-empty, empty_of_len, nat_tests, length_permutation, Handle, quota, Allocator, top, next, born, after_alloc, after_free, after_flush, IsSound, born-IsPermutation, after_alloc-sound, after_free-sound, after_flush-sound, next-later, StoredCall, OpenCall, is_busy, on_alloc, on_free, on_flush, alloc_front, event_takes_memory, callers, sum_below, all_held, map_values, open_call_of, machine_state, awaited, AreConsistent, cases_eq, get-remove, pos, ◌-ℤ◌, nat_lt, Option, None, ints, option_map, same_Some, none-some, ℕ_discrete, Span, cursor, reply_from, reply_to, pool_at, after_take, available-after_take, after_take-sound, made-after_take, asked-after_take, top-after_take, cursor-after_take, reply-cursor, on_begin, on_step, on_answer, left_of, reported, MachineState, unasked, HasPassed}
+use Rattle.ent_replay.proofs.Common.{none, Step, cond-true, cond-false, All-nil, rules, ◌≡◌, sym, ap, ◌∙◌, ℕ, ◌+◌, ◌^◌, ◌<◌, ◌≤◌, true, false, slice_get, Some, Ok, Err, arith, inl, inr, unwrap_or, nat_cmp, FinMap, get-empty, len-empty, empty_of_len, nat_tests, Handle, quota, Allocator, next, born, after_alloc, after_free, after_flush, IsSound, after_alloc-sound, after_free-sound, after_flush-sound, StoredCall, OpenCall, is_busy, on_alloc, on_free, on_flush, alloc_front, event_takes_memory, callers, sum_below, all_held, map_values, open_call_of, machine_state, awaited, AreConsistent, cases_eq, get-remove, pos, ◌-ℤ◌, nat_lt, Option, None, ints, option_map, same_Some, none-some, ℕ_discrete, Span, cursor, reply_from, reply_to, pool_at, after_take, available-after_take, after_take-sound, made-after_take, asked-after_take, top-after_take, cursor-after_take, reply-cursor, on_begin, on_step, on_answer, left_of, reported, MachineState, unasked, HasPassed}
 use Rattle.std.specs.FinSet as set
 use Rattle.std.specs.FinMap as finite
 use Rattle.ent_alloc.specs.Spent as given
@@ -40,14 +40,8 @@ module _ (s : Allocator) (spent : FinMap nat_cmp ℕ) (calls : FinMap nat_cmp St
 
   pub quiet_played : AreConsistent s spent calls → calls ≡ finite.empty → (t : Allocator) → IsSound t
       → t.asked ≡ s.asked → AreConsistent t spent calls
-  quiet_played h none t sound same = record {
-    sound = sound;
-    quota = h.quota;
-    asked = omega arith;
-    requests = h.requests;
-    spans = search (rules, nothing_in);
-    once = quiet_once none t;
-  }
+  quiet_played h none t sound same =
+      let once = quiet_once none t in search (rules, once, nothing_in, h.quota, h.requests)
 
   -- what was asked for, and what is still to be, is within what a span can have
   pub asked-bound : AreConsistent s spent calls → s.asked + sum_below (λ q. awaited (finite.get calls q)) callers
@@ -70,20 +64,12 @@ module _ (s : Allocator) (spent : FinMap nat_cmp ℕ) (calls : FinMap nat_cmp St
     pub alloc-needs_flush : 0 < s.asked → on_alloc here ≡ (Ok outcome.NeedsFlush, here)
     alloc-needs_flush some = search (rules, quiet none, nat_tests)
 
-    alloc-flushed : ¬ (0 < s.asked) → on_alloc here ≡ alloc_front here s.pool
+    pub alloc-flushed : ¬ (0 < s.asked) → on_alloc here ≡ alloc_front here s.pool
     alloc-flushed rest = search (rules, quiet none, nat_tests)
-
-    pub alloc-space : s.asked ≡ 0 → s.pool ≡ [] → on_alloc here ≡ (Ok (outcome.Space 1 0), here)
-    alloc-space rest empty = search (rules, alloc-flushed)
 
     pub alloc-given : (h : Handle) → ¬ (0 < s.asked) → slice_get s.pool 0 ≡ Some h
         → on_alloc here ≡ (Ok (outcome.Handle h), machine_state (after_alloc s h) spent calls)
     alloc-given h rest first = search (rules, alloc-flushed, front, map_values-empty)
-
-    -- if no old slot waits, the front of the pool makes a slot
-    pub alloc-takes_memory : IsSound s → ¬ (0 < s.asked) → ¬ (s.pool ≡ []) → top s ≡ 0
-        → event_takes_memory here (on_alloc here).0 ≡ true
-    alloc-takes_memory sound rest some none_old = search (rules, alloc-flushed rest)
 
     pub alloc-consistent : (h : Handle) → AreConsistent s spent calls → ¬ (0 < s.asked) → slice_get s.pool 0 ≡ Some h
         → AreConsistent (after_alloc s h) spent calls
@@ -101,11 +87,6 @@ module _ (s : Allocator) (spent : FinMap nat_cmp ℕ) (calls : FinMap nat_cmp St
         → on_free here h ≡ (Ok (outcome.Freed h (next s.limits h)), machine_state (after_free s h) spent calls)
     free-freed h rest lives = search (rules, cond-false, quiet, nat_tests, cond-true, map_values-empty)
 
-    -- to free what lives takes memory, unless its slot is retired
-    pub free-takes_memory : (h : Handle) → ¬ (0 < s.asked) → ¬ (set.contains s.live h ≡ false)
-        → h.generation ≢ s.limits.generations → event_takes_memory here (on_free here h).0 ≡ true
-    free-takes_memory h rest lives before = search (rules, free-freed, next-later)
-
     pub free-consistent : (h : Handle) → AreConsistent s spent calls → ¬ (0 < s.asked) → set.contains s.live h ≡ true
         → AreConsistent (after_free s h) spent calls
     free-consistent h played rest lives =
@@ -114,19 +95,10 @@ module _ (s : Allocator) (spent : FinMap nat_cmp ℕ) (calls : FinMap nat_cmp St
     pub flush-flushed : on_flush here ≡ (Ok (outcome.Born (born s)), machine_state (after_flush s) finite.empty calls)
     flush-flushed = search (rules, cond-false, quiet, map_values-empty)
 
-    -- to bring handles to life takes memory
-    pub flush-takes_memory : 0 < length s.taken → event_takes_memory here (on_flush here).0 ≡ true
-    flush-takes_memory some = search (rules, length_permutation, born-IsPermutation, flush-flushed)
-
     pub flush-consistent : AreConsistent s spent calls → AreConsistent (after_flush s) finite.empty calls
-    flush-consistent played = record {
-      sound = after_flush-sound s played.sound;
-      quota = search (rules, get-empty);
-      asked = search (rules, sum_below-none, get-empty);
-      requests = played.requests;
-      spans = λ q call span is _. absurd (nothing_in calls none q call is);
-      once = quiet_once none (after_flush s);
-    }
+    flush-consistent played =
+        let once = quiet_once none (after_flush s) in
+        search (rules, once, after_flush-sound, get-empty, sum_below-none, nothing_in, played.requests)
 
   -- ---- events of a call
 
@@ -237,14 +209,10 @@ module _ (s : Allocator) (spent : FinMap nat_cmp ℕ) (calls : FinMap nat_cmp St
             omega (arith, asked-after_take);
         requests = search (rules, on_inserted (λ q (c : StoredCall). c.requested < 2 ^ 32), h.requests);
         spans = λ q other_call span at. on_inserted (λ q c. c.span ≡ Some span
-            → HasPassed (after_take s call.requested) c.requested span) calls caller (λ q c _ at passed.
-            let old = h.spans q c span at passed in
-            let tops = top-after_take s call.requested h.sound in
-            record { least = old.least; high = rw tops old.high; low = old.low })
-            (stepped s call) (λ passed.
-            let at_span : record { high = cursor s; low = cursor s -ℤ pos call.requested }
-            ≡ span = same_Some _ span passed in
-            search (rules, asked-bound, top-after_take, ints)) q other_call at;
+            → HasPassed (after_take s call.requested) c.requested span) calls caller
+            (λ q c _ at passed. search (rules, h.spans q c span at passed, top-after_take s call.requested h.sound))
+            (stepped s call) (λ passed. search (rules, same_Some _ span passed, asked-bound, top-after_take, ints)) q
+            other_call at;
         once = all_held-next here (event.Step caller) (step-taken h.sound waits) h.sound h.once;
       }
 

@@ -34,22 +34,12 @@ get-of_tree m q = get-from_entries nat_cmp_total m.entries q ∙ find-lookup q m
 pub maps_alike : {X : Type 0} (m n : FinMap nat_cmp X) → ((q : ℕ) → finite.get m q ≡ finite.get n q) → m ≡ n
 maps_alike m n alike = same_map nat_cmp_total nat_cmp-IsAntisymmetric m n alike
 
-pub of_tree-insert : {X : Type 0} (m n : BTreeMap ℕ X) (k : ℕ) (v : X) → tree.Updates nat_cmp m n k (Some v)
-    → of_tree n ≡ finite.insert (of_tree m) k v
-of_tree-insert m n k v updates = search (rules, maps_alike, get-of_tree, updates.0, get-insert, eq_by_cmp_equiv)
-
-pub of_tree-remove : {X : Type 0} (m n : BTreeMap ℕ X) (k : ℕ) → tree.Updates nat_cmp m n k None
-    → of_tree n ≡ finite.remove (of_tree m) k
-of_tree-remove m n k updates = search (rules, maps_alike, get-of_tree, updates.0, get-remove, eq_by_cmp_equiv)
-
 -- to write over the value of a key that is there
 pub from_entries-set : {X : Type 0} (es : List (ℕ × X)) (k : ℕ) (w : X) → IsSome (lookup (is_at (nat_cmp k)) es)
     → finite.from_entries {R = nat_cmp} (set_value (is_at (nat_cmp k)) es w)
     ≡ finite.insert (finite.from_entries es) k w
-from_entries-set es k w there = maps_alike (finite.from_entries (set_value (is_at (nat_cmp k)) es w))
-    (finite.insert (finite.from_entries es) k w) (λ q. get-from_entries nat_cmp_total
-    (set_value (is_at (nat_cmp k)) es w) q ∙ find-lookup q (set_value (is_at (nat_cmp k)) es w)
-    ∙ lookup-set_value {eq = eq_by_cmp nat_cmp} (eq_by_cmp_equiv nat_cmp_total) (is_at (nat_cmp k))
+from_entries-set es k w there = maps_alike _ _ (λ q. get-from_entries nat_cmp_total _ q ∙ find-lookup q _
+    ∙ lookup-set_value {eq = eq_by_cmp nat_cmp} (eq_by_cmp_equiv nat_cmp_total) _
     (λ x y tied. ap (λ j. eq_by_cmp nat_cmp j y) (search (rules, nat_tests))) q w es there
     ∙ (λ i. cond ((eq_by_cmp_equiv nat_cmp_total).symm k q i) (Some w)
     (sym (get-from_entries nat_cmp_total es q ∙ find-lookup q es) i))
@@ -103,9 +93,6 @@ pub map_values-empty : {X Y : Type 0} (f : X → Y) → map_values f finite.empt
 map_values-empty f = search (rules, maps_alike, get-map_values, get-empty)
 
 -- ---- emptiness
-
-something : {X : Type 0} (x : X) → Some x ≢ None
-something x is = search (rules)
 
 pub from_entries-empty : {X : Type 0} (es : List (ℕ × X)) → finite.from_entries {R = nat_cmp} es ≡ finite.empty
     → es ≡ []

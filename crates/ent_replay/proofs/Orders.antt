@@ -1,5 +1,5 @@
 -- Orders that lines may have come in: of a front and a rest, and what they are answered.
-use Rattle.ent_replay.proofs.Common.{none, arith, rules, ◌≡◌, ℕ, List, [], ◌∷◌, ◌++◌, refl, ap, length, sym, ◌∙◌, inl, inr, common_steps, append_assoc, append-nil, length-append, Allocator, Call, Reservation, Fits, AreAnswered, after_line, after_lines, IsAlone, IsOrderOf, Checked, reserve_lines, AgreesWith, IsSettled, Follows, Reaches, Differs, IfReserve, Shows, HasNoOrder, NoneFollows, Difference}
+use Rattle.ent_replay.proofs.Common.{arith, rules, ◌≡◌, ℕ, List, [], ◌∷◌, ◌++◌, refl, ap, length, sym, inl, inr, common_steps, append_assoc, append-nil, length-append, Allocator, Call, Reservation, Fits, AreAnswered, after_line, after_lines, IsAlone, IsOrderOf, Checked, reserve_lines, AgreesWith, IsSettled, Follows, Reaches, Differs, IfReserve, Shows, HasNoOrder, NoneFollows, Difference}
 use Rattle.ent_replay.specs.declared.trace.call.Call.TheVariants as line
 use Rattle.ent_replay.proofs.Lists.{parts, parted, all_reserve, all_at}
 use Rattle.ent_replay.proofs.Requested.{reserves-ordered}
@@ -87,11 +87,8 @@ Shows-more c n l d alone shows = record {
   differs = shows.differs;
   blamed = shows.blamed;
   stuck = λ x more is. let p = parts (reserve_lines c.run) [] l (shows.placed ++ x ∷ more) (all_reserve c.run) alone
-      is in let own = rw append-nil at shows.is_order in elim
-      (parted shows.placed more p.first p.second x l p.is) [
-        | inl inside ↦ absurd (not_in_run c.run (shows.placed ++ shows.next ∷ shows.left) p.first
-            (inside.more ++ shows.next ∷ shows.left) l own (ap (λ (ls : List Call). ls ++ shows.next ∷ shows.left)
-            inside.front_is ∙ append_assoc p.first (l ∷ inside.more) (shows.next ∷ shows.left)) alone)
+      is in let own = rw append-nil at shows.is_order in elim (parted shows.placed more p.first p.second x l p.is) [
+        | inl inside ↦ absurd (grind (arith, common_steps, not_in_run, append_assoc, own))
         | inr (inl itself) ↦
             let a = length-ordered p.first (reserve_lines c.run) p.first_is in
             let b = length-ordered (shows.placed ++ shows.next ∷ shows.left) (reserve_lines c.run) own in

@@ -1,5 +1,5 @@
 -- What a checker takes, one call after the other, and what its answers say of all its calls together.
-use Rattle.ent_replay.proofs.Common.{next, rules, Result, IfOk, IfErr, OnOk, Difference, CheckError, OnDiffers, ◌≡◌, ℕ, ◌+◌, ◌<◌, ◌≤◌, List, [], ◌∷◌, ◌++◌, map, length, get_or, set, take, drop, refl, reverse, add-one, append-nil, drop-set-lt, drop_all, reverse-append, reverse-reverse, take_all, Call, Checker, Reservation, reserve_lines, Log, emptied, new_logs, Takes, TakesAll, lines_in, lines_in_all, drop-cons, Ok, Err, ap, subst, ◌∙◌, inl, inr, ◌⊎◌, IsOk, Limits, opening, AgreesWith, AllFollow, Checked, opened, Agrees, Compares, Finishes, numbered, numbered_after, one_more, OnErr}
+use Rattle.ent_replay.proofs.Common.{rules, Result, IfOk, IfErr, OnOk, Difference, CheckError, OnDiffers, ◌≡◌, ◌+◌, List, [], ◌∷◌, ◌++◌, refl, reverse, append-nil, reverse-append, Call, Checker, Reservation, reserve_lines, Takes, TakesAll, Ok, Err, ap, subst, ◌∙◌, inl, inr, ◌⊎◌, IsOk, Limits, opening, AgreesWith, AllFollow, Checked, opened, Agrees, Compares, Finishes, numbered, numbered_after, one_more, OnErr}
 use Rattle.ent_replay.specs.declared.trace.call.Call.TheVariants as line
 use Rattle.ent_replay.specs.declared.trace.check_error.CheckError.TheVariants as error
 
@@ -21,11 +21,6 @@ TakesAll-append [] second old middle new same more = rw (← same) more
 TakesAll-append (l ∷ first) second old middle new (next, takes, others) more =
     (next, takes, TakesAll-append first second next middle new others more)
 
--- one more call after these
-pub TakesAll-push : (lines : List Call) (l : Call) (old middle new : Checker) → TakesAll old lines middle
-    → Takes middle l new → TakesAll old (lines ++ l ∷ []) new
-TakesAll-push lines l old middle new all takes = search (rules, TakesAll-append)
-
 -- All calls were taken from the old state on, if those that are left are taken from this one on.
 abbrev pub Leads : Checker → List Call → Checker → List Call → Type 0
 Leads old all now left = (final : Checker) → TakesAll now left final → TakesAll old all final
@@ -38,34 +33,12 @@ Leads-all old now all leads = leads now refl
 reverse-push : (rs : List Reservation) (r : Reservation) → reverse (rs ++ r ∷ []) ≡ r ∷ reverse rs
 reverse-push rs r = reverse-append rs (r ∷ [])
 
-pub Leads-reversed : (c : Checker) (rs turned : List Reservation) → turned ≡ reverse rs
-    → Leads c (reserve_lines rs) c (reserve_lines (reverse turned))
-Leads-reversed c rs turned is = search (rules, reverse-reverse)
-
 pub Leads-popped : (old now next : Checker) (all : List Call) (before after : List Reservation) (r : Reservation)
     → before ≡ after ++ r ∷ [] → Leads old all now (reserve_lines (reverse before)) → Takes now (line.Reserve r) next
     → Leads old all next (reserve_lines (reverse after))
 Leads-popped old now next all before after r is leads takes final more = search (rules, reverse-push)
 
 -- ---- logs
-
-pub Leads-joined : (old now next : Checker) (all : List Call) (logs : List Log) (i : ℕ) (log changed : Log)
-    → i < length logs → log ≡ get_or logs i log → Leads old all now (lines_in_all (drop i logs))
-    → TakesAll now (lines_in log) next → Leads old all next (lines_in_all (drop (i + 1) (set logs i changed)))
-Leads-joined old now next all logs i log changed within here leads takes final more = search
-    (rules, drop-set-lt, add-one, drop-cons, TakesAll-append)
-
-pub new_logs-next : (n : ℕ) (logs : List Log) → logs ≡ new_logs n → logs ++ record { caller = n; reservations = [] }
-    ∷ [] ≡ new_logs (n + 1)
-new_logs-next n logs is = cc (is, add-one n)
-
-pub Leads-end : (old now : Checker) (all : List Call) (logs : List Log) (i : ℕ) → length logs ≤ i
-    → Leads old all now (lines_in_all (drop i logs)) → TakesAll old all now
-Leads-end old now all logs i over leads = search (rules, Leads-all, drop_all)
-
-pub emptied-end : (logs now : List Log) (i : ℕ) → length logs ≤ i → now ≡ map emptied (take i logs) ++ drop i logs
-    → now ≡ map emptied logs
-emptied-end logs now i over is = search (rules, take_all, drop_all, append-nil)
 
 ok_or_err : {X E : Type 0} (r : Result X E) → ((x : X) × (r ≡ Ok x)) ⊎ ((e : E) × (r ≡ Err e))
 ok_or_err (Ok x) = inl (x, refl)
@@ -105,13 +78,11 @@ taken-differs (l ∷ lines) old new c d is new_is (next, takes, more) rest agree
     let here = rw (← counted old next l c is takes) at agrees in
     elim (ok_or_err next.comparer) [
       | inl ok ↦ taken-differs lines next new ok.0 d ok.1 new_is more rest
-          ((compared old next l c (Ok ok.0) is ok.1 takes).follows.complete (numbered_after next.calls lines ++ rest)
-          here)
+          ((compared old next l c (Ok ok.0) is ok.1 takes).follows.complete _ here)
       | inr bad ↦
           let same = ap (λ (x : Checker). x.comparer) (stopped-all lines next new bad.0 bad.1 more) in
           let named : bad.0 ≡ error.Differs d = cc in
-          (rw named at (compared old next l c (Err bad.0) is bad.1 takes).none)
-          (numbered_after next.calls lines ++ rest) here
+          (rw named at (compared old next l c (Err bad.0) is bad.1 takes).none) _ here
     ]
 
 -- ---- from the first call on
@@ -123,8 +94,7 @@ pub finished-agrees : {A : Type 0} (limits : Limits) (start : Checker) (lines : 
 finished-agrees limits start lines answer opens (taken, all, closes, stopped) ok = elim (ok_or_err taken.comparer) [
   | inl c ↦
       let closed = rw c.1 at closes in
-      rw append-nil at ((all_follow lines start taken (opened limits) c.0 opens c.1 all).sound []
-      (search (rules, closed.agrees)))
+      rw append-nil at ((all_follow lines start taken _ c.0 opens c.1 all).sound [] (search (rules, closed.agrees)))
   | inr e ↦ let same : answer ≡ Err e.0 = rw e.1 at stopped in let failed = rw same at ok in absurd cc
 ]
 
@@ -140,6 +110,5 @@ finished-differs limits start lines answer d opens (taken, all, closes, stopped)
       | inr e ↦
           let kept : answer ≡ Err e.0 = rw e.1 at stopped in
           let same : e.0 ≡ error.Differs d = cc in
-          taken-differs lines start taken (opened limits) d opens (e.1 ∙ ap (λ (x : CheckError). Err x) same) all []
-          whole
+          taken-differs lines start taken _ d opens (e.1 ∙ ap (λ (x : CheckError). Err x) same) all [] whole
     ]

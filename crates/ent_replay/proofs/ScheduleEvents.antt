@@ -1,5 +1,5 @@
 -- An event is read from its own text and from no other.
-use Rattle.ent_replay.proofs.Common.{cases_Bool, rules, ◌≡◌, ℕ, ◌^◌, ◌<◌, Bool, true, false, not, cond, eqb, List, [], ◌∷◌, ◌++◌, All, Result, Ok, refl, sym, arith, common_steps, codes, is_ascii_digit, decimal, join_with_byte, list_all, slice_split, bytes_eq, and_parts, and_from, slice_split_none, slice_split_at, AllPass-from_list_all, Handle, IsHandle, number_of, handle_of, handle_text, TextFault, plain_from_decimal, decimal_is_decimal, number_found, number_of-decimal, handle_found, handle_of_text, Event, Alloc, Free, Flush, Begin, Step, Answer, Cause, ◌>>=◌, event_text, IsEvent, words_of, or_cause, number_word, handle_word, none, one, two, begin_of, event_with, event_of, append_assoc}
+use Rattle.ent_replay.proofs.Common.{cases_Bool, rules, ◌≡◌, ℕ, ◌^◌, ◌<◌, Bool, true, false, not, cond, eqb, List, [], ◌∷◌, ◌++◌, All, Result, Ok, refl, sym, arith, common_steps, codes, is_ascii_digit, decimal, join_with_byte, list_all, slice_split, bytes_eq, and_parts, and_from, slice_split_none, slice_split_at, AllPass-from_list_all, Handle, IsHandle, handle_of, handle_text, TextFault, plain_from_decimal, decimal_is_decimal, number_found, number_of-decimal, handle_found, handle_of_text, Event, Alloc, Free, Flush, Begin, Step, Answer, Cause, ◌>>=◌, event_text, IsEvent, words_of, or_cause, number_word, handle_word, none, one, two, begin_of, event_with, event_of, append_assoc}
 use Rattle.ent_replay.specs.declared.read_fault.Cause.TheVariants as cause
 
 -- ---- steps that did not fail
@@ -22,8 +22,7 @@ two_ok more pair h = search (rules, ok_is)
 
 number_ok : (word : List ℕ) (n : ℕ) → number_word word ≡ Ok n → (n < 2 ^ 32) × (word ≡ decimal n)
 number_ok word n e =
-    let f = or_cause_ok cause.Number (number_of word) n e in
-    (grind (arith, common_steps), number_found word (Ok n) (sym f))
+    let f = or_cause_ok cause.Number _ n e in (grind (arith, common_steps), number_found word (Ok n) (sym f))
 
 handle_ok : (word : List ℕ) (h : Handle) → handle_word word ≡ Ok h → IsHandle h × (word ≡ handle_text h)
 handle_ok word h e = handle_found word (Ok h) (sym (or_cause_ok cause.Handle (handle_of word) h e))
@@ -43,8 +42,7 @@ digits_lack : (separator : ℕ) (ds : List ℕ) → is_ascii_digit separator ≡
     → lacks separator ds ≡ true
 digits_lack separator [] h d = refl
 digits_lack separator (c ∷ cs) h d =
-    let p = and_parts (is_ascii_digit c) (list_all is_ascii_digit cs) d in
-    grind (arith, common_steps, digits_lack separator cs h p.1)
+    let p = and_parts _ _ d in grind (arith, common_steps, digits_lack separator cs h p.1)
 
 decimal_lacks : (separator n : ℕ) → is_ascii_digit separator ≡ false → n < 2 ^ 64 → lacks separator (decimal n) ≡ true
 decimal_lacks separator n h small = search (rules, digits_lack, plain_from_decimal, decimal_is_decimal)
@@ -98,14 +96,12 @@ module _ (word : List ℕ) (others : List (List ℕ)) (e : Event) where
   begin_found : word ≡ codes "begin" → begin_of others ≡ Ok e → IsRead (word ∷ others) e
   unfolding begin_of
   begin_found is h =
-      let a = bind_ok (two others)
-      (λ pair. number_word pair.0 >>= λ caller. number_word pair.1 >>= λ n. Ok (Begin caller n)) e h in
-      let b = bind_ok (number_word a.0.0) (λ caller. number_word a.0.1 >>= λ n. Ok (Begin caller n)) e a.2 in
-      let c = bind_ok (number_word a.0.1) (λ n. Ok (Begin b.0 n)) e b.2 in
+      let a = bind_ok (two others) (λ pair. number_word pair.0 >>= λ caller. number_word pair.1 >>= λ n. Ok _) e h in
+      let b = bind_ok _ (λ caller. number_word a.0.1 >>= λ n. Ok _) e a.2 in
+      let c = bind_ok _ (λ n. Ok _) e b.2 in
       let p = number_ok a.0.0 b.0 b.1 in
       let q = number_ok a.0.1 c.0 c.1 in
-      rw (← ok_is (Begin b.0 c.0) e c.2)
-      ((p.0, q.0), simp (two_ok others a.0 a.1, is, p.1, q.1, append_assoc))
+      rw (← ok_is _ e c.2) ((p.0, q.0), simp (two_ok others a.0 a.1, is, p.1, q.1, append_assoc))
 
   -- one test of the first word
   tested : (keyword : List ℕ) (x y : Result Event Cause) → cond (bytes_eq word keyword) x y ≡ Ok e
@@ -115,11 +111,10 @@ module _ (word : List ℕ) (others : List (List ℕ)) (e : Event) where
 
   found : event_of (word ∷ others) ≡ Ok e → IsRead (word ∷ others) e
   unfolding event_with
-  found h = tested (codes "alloc") _ _ h (alone_found Alloc tt) (λ h1. tested (codes "flush") _ _ h1
-      (alone_found Flush tt) (λ h2. tested (codes "free") _ _ h2 free_found (λ h3. tested (codes "begin") _ _ h3
-      begin_found (λ h4. tested (codes "step") _ _ h4 (caller_found (λ n. Step n) (codes "step") (λ n small. small)
-      (λ n. refl)) (λ h5. tested (codes "answer") _ _ h5 (caller_found (λ n. Answer n) (codes "answer")
-      (λ n small. small) (λ n. refl)) (λ unknown. absurd cc))))))
+  found h = tested _ _ _ h (alone_found Alloc tt) (λ h1. tested _ _ _ h1 (alone_found Flush tt)
+      (λ h2. tested _ _ _ h2 free_found (λ h3. tested _ _ _ h3 begin_found
+      (λ h4. tested _ _ _ h4 (caller_found (λ n. Step n) _ (λ n small. small) (λ n. refl))
+      (λ h5. tested _ _ _ h5 (caller_found (λ n. Answer n) _ (λ n small. small) (λ n. refl)) (λ unknown. absurd cc))))))
 
 pub event_found : (words : List (List ℕ)) (e : Event) → event_of words ≡ Ok e → IsRead words e
 event_found [] e h = absurd cc
@@ -133,11 +128,7 @@ event_again Alloc is = refl
 event_again (Free h) is = rw (split_lacking 32 (handle_text h) (handle_lacks 32 h refl refl is), handle_again h is) refl
 event_again Flush is = refl
 event_again (Begin caller n) is =
-    let words : words_of (event_text (Begin caller n)) ≡ codes "begin" ∷ decimal caller ∷ decimal n ∷ [] = cc (
-      append_assoc (decimal caller) (codes " ") (decimal n),
-      split_at_lacking 32 (decimal caller) (decimal n) refl (decimal_lacks 32 caller refl (omega (arith, is.0))),
-      split_lacking 32 (decimal n) (decimal_lacks 32 n refl (omega (arith, is.1))),
-    ) in
+    let words : words_of (event_text (Begin caller n)) ≡ codes "begin" ∷ decimal caller ∷ decimal n ∷ [] = cc (append_assoc (decimal caller) (codes " ") (decimal n), split_at_lacking 32 (decimal caller) (decimal n) refl (decimal_lacks 32 caller refl (omega (arith, is.0))), split_lacking 32 (decimal n) (decimal_lacks 32 n refl (omega (arith, is.1)))) in
     search (rules, number_of-decimal)
 event_again (Step caller) is = rw
     (split_lacking 32 (decimal caller) (decimal_lacks 32 caller refl (omega (arith, is))), number_again caller is) refl

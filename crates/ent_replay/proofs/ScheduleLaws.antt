@@ -1,6 +1,6 @@
 -- What is read is spelled so, what is spelled so is read, and a refused text has events up to the
 -- line that is named; reading line after line, as a loop does.
-use Rattle.ent_replay.proofs.Common.{next, rules, ◌≡◌, ℕ, ◌+◌, List, ◌∷◌, ◌++◌, length, Result, Ok, Err, append-nil, nil_from_length, Event, Cause, ReadFault, Line, words_of, event_of, events_of, ◌<◌, ◌⊎◌, Bool, eqb, [], map, refl, sym, ap, ◌∙◌, inl, inr, arith, common_steps, flat_map, join_with_byte, slice_split, onto_first, cases_Bool, flat_map-map, join_with_byte-slice_split, event_text, AreEvents, schedule_text, Spells, without_empty_end, goes_on, schedule_of, ExplainsFault, append_assoc}
+use Rattle.ent_replay.proofs.Common.{rules, ◌≡◌, ℕ, ◌+◌, List, ◌∷◌, ◌++◌, length, Result, Ok, Err, append-nil, nil_from_length, Event, Cause, ReadFault, Line, words_of, event_of, events_of, ◌<◌, ◌⊎◌, Bool, eqb, [], map, refl, sym, ap, ◌∙◌, inl, inr, arith, common_steps, flat_map, join_with_byte, slice_split, onto_first, cases_Bool, flat_map-map, join_with_byte-slice_split, event_text, AreEvents, schedule_text, Spells, without_empty_end, goes_on, schedule_of, ExplainsFault, append_assoc}
 use Rattle.ent_replay.specs.ScheduleText.{lines_of}
 use Rattle.ent_replay.proofs.ScheduleEvents.{split_at_lacking, event_lacks, event_found, event_again}
 use Rattle.ent_replay.proofs.ScheduleWords.{parts_nonempty, without_empty_end-cons}
@@ -146,8 +146,7 @@ split_ended : (text : List ℕ) → slice_split is_end (text ++ 10 ∷ []) ≡ s
 split_ended [] = refl
 split_ended (x ∷ xs) = elim (cases_Bool (is_end x)) [
   | inl same ↦ rw same (ap (λ (ps : List (List ℕ)). [] ∷ ps) (split_ended xs))
-  | inr other ↦ rw other (ap (onto_first x) (split_ended xs) ∙ onto_first-append x (slice_split is_end xs) ([] ∷ [])
-      (parts_nonempty 10 xs))
+  | inr other ↦ rw other (ap (onto_first x) (split_ended xs) ∙ onto_first-append x _ _ (parts_nonempty 10 xs))
 ]
 
 without_empty_end-ended : (parts : List (List ℕ)) → without_empty_end (parts ++ [] ∷ []) ≡ parts

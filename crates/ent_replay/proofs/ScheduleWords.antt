@@ -7,17 +7,18 @@ use Rattle.ent_replay.specs.ScheduleText.{lines_of}
 abbrev pub IsWithout : ℕ → List ℕ → Type 0
 IsWithout separator bytes = All (λ byte. byte ≢ separator) bytes
 
-fails : (separator : ℕ) (bytes : List ℕ) → IsWithout separator bytes → All (λ byte. eqb byte separator ≡ false) bytes
-fails separator bytes h k d lt = ne_eqb _ separator (h k d lt)
+pub fails_at : (separator : ℕ) (bytes : List ℕ)
+    → IsWithout separator bytes → All (λ byte. eqb byte separator ≡ false) bytes
+fails_at separator bytes h k d lt = ne_eqb _ separator (h k d lt)
 
 pub parts_whole : (separator : ℕ) (bytes : List ℕ) → IsWithout separator bytes
     → slice_split (λ byte. eqb byte separator) bytes ≡ bytes ∷ []
-parts_whole separator bytes h = search (rules, slice_split_none, fails)
+parts_whole separator bytes h = search (rules, slice_split_none, fails_at)
 
 pub parts_first : (separator : ℕ) (bytes first others : List ℕ) → bytes ≡ first ++ separator ∷ others
     → IsWithout separator first → slice_split (λ byte. eqb byte separator) bytes ≡ first
     ∷ slice_split (λ byte. eqb byte separator) others
-parts_first separator bytes first others e h = search (rules, slice_split_at, fails, eq-eqb)
+parts_first separator bytes first others e h = search (rules, slice_split_at, fails_at, eq-eqb)
 
 -- there is always a part
 
@@ -30,7 +31,7 @@ pub without_empty_end-cons : (part : List ℕ) (parts : List (List ℕ)) → 0 <
     → without_empty_end (part ∷ parts) ≡ part ∷ without_empty_end parts
 without_empty_end-cons part more long = search rules
 
-not_empty : (n : ℕ) → 0 < n → eqb n 0 ≡ false
+pub not_empty : (n : ℕ) → 0 < n → eqb n 0 ≡ false
 not_empty n long = ne_eqb n 0 (λ e. absurd (omega (arith, e)))
 
 pub lines_whole : (text : List ℕ) → 0 < length text → IsWithout 10 text → lines_of text ≡ text ∷ []

@@ -1,6 +1,6 @@
 -- The sorted run is lined up: all of it is placed, or no order of the run is answered so. If no caller's
 -- first reservation that is left fits, no line that may come next does.
-use Rattle.ent_replay.proofs.Common.{common_steps, IsNonDecreasingBy, arith, ◌≡◌, ℕ, List, [], ◌∷◌, ◌++◌, filter, length, refl, sym, subst, append-nil, filter-append, Allocator, Difference, Call, Lineup, Placed, Fits, IsOrderOf, HasNoOrder, Shows, reservations_of, IsLineup, KeepsCallers, NamesOne, NoneFits, all_of, is_of, lines_of, reached, rules, ◌≢◌, ◌≤◌, available, AreAnswered, after_lines, AreKeyed, AreSteady, IsSettled, requested_in}
+use Rattle.ent_replay.proofs.Common.{none, next, common_steps, IsNonDecreasingBy, arith, ◌≡◌, ℕ, List, [], ◌∷◌, ◌++◌, filter, length, refl, sym, subst, append-nil, filter-append, Allocator, Difference, Call, Lineup, Placed, Fits, IsOrderOf, HasNoOrder, Shows, reservations_of, IsLineup, KeepsCallers, NamesOne, NoneFits, all_of, is_of, lines_of, reached, rules, ◌≢◌, ◌≤◌, available, AreAnswered, after_lines, AreKeyed, AreSteady, IsSettled, requested_in}
 use Rattle.ent_replay.specs.declared.trace.call.Call.TheVariants as line
 use Rattle.ent_replay.proofs.Lists.{split, none_kept, all_left}
 use Rattle.ent_replay.proofs.Lifted.{lifted, unmapped, keeps-IsOrderOf, keeps-forward, kept_own, order-keeps, others_of, sorted_run, keeps-again}
@@ -30,17 +30,11 @@ module _ (s : Allocator) (run : List Placed) (l : Lineup) (keeps : KeepsCallers 
       let q = u.placed.reservation.caller in
       let order = order-keeps up.placed run up.is_order in
       let whole : filter (is_of q) u.first ++ u.placed ∷ filter (is_of q) u.rest ≡ filter (is_of q) l.placed.items
-      ++ filter (is_of q) l.rest.items = cc (
-        kept_own u.placed q u.rest refl,
-        filter-append (is_of q) u.first (u.placed ∷ u.rest),
-        u.is,
-        order q,
-        keeps q,
-        filter-append (is_of q) l.placed.items l.rest.items,
-      ) in
+      ++ filter (is_of q) l.rest.items = search
+      (rules, kept_own u.placed q u.rest refl, filter-append, u.is, order q, keeps q) in
       let here : u.placed ∷ filter (is_of q) u.rest ≡ filter (is_of q) l.rest.items = cancelled
-      (filter (is_of q) u.first) (filter (is_of q) l.placed.items) (u.placed ∷ filter (is_of q) u.rest)
-      (filter (is_of q) l.rest.items) (alike q u.first l.placed.items u.before_is) whole in
+      (filter (is_of q) u.first) (filter (is_of q) l.placed.items) _ _ (alike q u.first l.placed.items u.before_is)
+      whole in
       let at = split (is_of q) u.placed (filter (is_of q) u.rest) l.rest.items (sym here) in
       none at.before u.placed at.after at.is (none_kept (is_of q) at.before at.none)
       (subst (Fits (reached s l)) (sym u.placed_is) fits)
@@ -55,8 +49,7 @@ module _ (s : Allocator) (run : List Placed) (l : Lineup) (keeps : KeepsCallers 
         placed = lines_of l.placed.items;
         next = line.Reserve names.named.reservation;
         left = lines_of (names.before ++ names.after);
-        is_order = rw append-nil (rw (← lines_append l.placed.items (names.named ∷ (names.before ++ names.after)))
-            (keeps-IsOrderOf (l.placed.items ++ names.named ∷ (names.before ++ names.after)) run forward));
+        is_order = search (rules, append-nil, lines_append, keeps-IsOrderOf _ run forward);
         answered = lined.answered;
         differs = names.differs n;
         stuck = λ next left is. stuck none next left (rw (← append-nil (lines_of run)) is);

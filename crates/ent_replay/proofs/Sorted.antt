@@ -1,6 +1,6 @@
 -- A sorted run is in an order that its reservations may have come in: a stable sort by keys that don't
 -- fall along a caller keeps each caller's order, and along a caller the keys of a run don't fall.
-use Rattle.ent_replay.proofs.Common.{none, rules, ◌≡◌, ℕ, suc, ◌≤◌, Bool, true, false, not, ◌&&◌, cond, nat_lt, List, [], ◌∷◌, ◌++◌, filter, All, refl, arith, true≢false, common_steps, AllByRecursion, ties, IsNonDecreasingBy, nat_cmp, is_lt, le-ltb, All-head, All-tail, All-cons, All-filter, All-from_recursion, recursion_from_All, Call, Placed, MayPass, reservations_of, reserve_lines, ComesAfter, AreSteady, sum_by_push, ◌+◌, ◌^◌, unwrap_or, cases_eq, requested_in, IsLatest, IsChecking, IsKeyed, AreKeyed, keys_after, raised, Handle, Allocator, available, eq-eqb, ne_eqb}
+use Rattle.ent_replay.proofs.Common.{rules, ◌≡◌, ℕ, suc, ◌≤◌, Bool, true, false, not, ◌&&◌, cond, nat_lt, List, [], ◌∷◌, ◌++◌, filter, All, refl, arith, true≢false, common_steps, AllByRecursion, ties, IsNonDecreasingBy, nat_cmp, is_lt, le-ltb, All-head, All-tail, All-cons, All-filter, All-from_recursion, recursion_from_All, Call, Placed, MayPass, reservations_of, reserve_lines, ComesAfter, AreSteady, sum_by_push, ◌+◌, ◌^◌, unwrap_or, cases_eq, requested_in, IsLatest, IsChecking, IsKeyed, AreKeyed, keys_after, raised, Handle, Allocator, available, eq-eqb, ne_eqb}
 use Rattle.std.specs.FinMap as finite
 use Rattle.ent_replay.specs.declared.trace.call.Call.TheVariants as line
 use Rattle.ent_replay.proofs.Lists.{all_at, all_without, all_weaker, none_kept, kept_forward, kept_rest, all_push}
@@ -48,10 +48,8 @@ module _ (Q : Placed → Type 0) where
 
   pub whole : (run : List Placed) → ((x : Placed) → All Q (filter (tie x) run)) → AllByRecursion Q run
   whole [] each = tt
-  whole (d ∷ run) each = (
-    All-head Q d (filter (tie d) run) ((rw (tie_from d d refl) at (each d))),
-    whole run (λ x. rest_of d x run (tie x d) (each x)),
-  )
+  whole (d ∷ run) each =
+      (All-head Q d _ ((rw (tie_from d d refl) at (each d))), whole run (λ x. rest_of d x run _ (each x)))
 
 -- the second list has what ties with any one in the same order
 abbrev pub TieAlike : List Placed → List Placed → Type 0
@@ -69,8 +67,7 @@ least h sorted run up alike =
 pub steady_before : (before after : List Placed) (h : Placed) → AreSteady (before ++ h ∷ after)
     → AllByRecursion (λ (b : Placed). ComesAfter b h) before
 steady_before [] after h steady = tt
-steady_before (b ∷ before) after h steady =
-    (all_at (ComesAfter b) before after h steady.0, steady_before before after h steady.1)
+steady_before (b ∷ before) after h steady = (all_at _ before after h steady.0, steady_before before after h steady.1)
 
 pub steady_without : (before after : List Placed) (h : Placed) → AreSteady (before ++ h ∷ after)
     → AreSteady (before ++ after)
@@ -137,17 +134,7 @@ module _ (latest : finite.FinMap nat_cmp ℕ) (p : Placed) (greatest : unwrap_or
       → wanted + p.reservation.requested ≤ 2 ^ 50 → IsKeyed (available s)
       (unwrap_or (finite.get latest p.reservation.caller) 0) p → IsChecking s (wanted + p.reservation.requested) (run
       ++ p ∷ []) now
-  IsChecking-push s wanted run is few keyed = search (
-    rules,
-    requested-push,
-    steady_push,
-    all_push,
-    all_weaker (IsLatest latest) (IsLatest now) latest_kept,
-    keyed_push,
-    last_push,
-    after_push,
-    get-inserted,
-  )
+  IsChecking-push s wanted run is few keyed = search (rules, requested-push, steady_push, all_push, all_weaker (IsLatest latest) (IsLatest now) latest_kept, keyed_push, last_push, after_push, get-inserted)
 
 -- an empty map keeps nothing
 pub empty_keeps : (latest : finite.FinMap nat_cmp ℕ) → latest ≡ finite.empty → (q : ℕ)

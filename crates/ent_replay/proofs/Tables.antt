@@ -1,5 +1,5 @@
 -- Tables with a place for each number: what the map of their values has, and how many there are.
-use Rattle.ent_replay.proofs.Common.{none, common_steps, get_or-set_at, ◌≡◌, refl, sym, ap, ◌∙◌, ℕ, zero, suc, ◌+◌, ◌<◌, ◌≤◌, List, [], ◌∷◌, ◌++◌, length, get_or, set, take, replicate, Option, Some, None, rules, arith, get_or-eq_default, cases_eq, get_or-set_other, take_all, sum_by-cons, nat_cmp, nat_cmp_total, find, get-from_entries, get-empty, by_place, one_if_some, values_in, IsSome}
+use Rattle.ent_replay.proofs.Common.{common_steps, get_or-set_at, ◌≡◌, refl, sym, ap, ◌∙◌, ℕ, zero, suc, ◌+◌, ◌<◌, ◌≤◌, List, [], ◌∷◌, ◌++◌, length, get_or, set, replicate, Option, Some, None, rules, arith, get_or-eq_default, cases_eq, get_or-set_other, sum_by-cons, nat_cmp, nat_cmp_total, find, get-from_entries, get-empty, by_place, one_if_some, values_in, IsSome}
 use Rattle.std.specs.FinMap as finite
 use Rattle.ent_replay.specs.Table.{numbered}
 use Rattle.ent_replay.proofs.Maps.{maps_alike, itself, apart, get-inserted, get-insert_other, get-removed, get-remove_other}
@@ -26,6 +26,10 @@ pub get_by_place : {X : Type 0} (places : List (Option X)) (q : ℕ) → finite.
     None
 get_by_place places q = get-from_entries nat_cmp_total (numbered 0 places) q ∙ find_numbered 0 places q q (omega arith)
 
+pub get_past : {X : Type 0} (places : List (Option X)) (q : ℕ) → length places ≤ q
+    → finite.get (by_place places) q ≡ None
+get_past places q past = simp (get_by_place, get_or-eq_default)
+
 -- ---- one place is written
 
 pub by_place-set : {X : Type 0} (places : List (Option X)) (k : ℕ) (v : X) → k < length places
@@ -45,13 +49,9 @@ by_place-past places k past = search
 
 -- ---- places without values are added
 
-get_or-padded : {X : Type 0} (places : List (Option X)) (n q : ℕ)
+pub get_or-padded : {X : Type 0} (places : List (Option X)) (n q : ℕ)
     → get_or (places ++ replicate n None) q None ≡ get_or places q None
 get_or-padded places n q = grind (arith, common_steps)
-
-pub by_place-resized : {X : Type 0} (places : List (Option X)) (n m : ℕ) → length places ≤ n
-    → by_place (take n places ++ replicate m None) ≡ by_place places
-by_place-resized places n m fits = search (rules, take_all, maps_alike, get_by_place, get_or-padded)
 
 -- ---- how many there are
 
@@ -70,7 +70,7 @@ values_below (None ∷ places) (suc k) lt none = omega (arith, values_below plac
 values_below (Some x ∷ places) (suc k) lt none = omega
     (arith, sum_by-cons one_if_some (Some x) places, values_below places k (omega (arith, lt)) none)
 
-none_in : {X : Type 0} (places : List (Option X)) (q : ℕ) → values_in places ≡ 0 → get_or places q None ≡ None
+pub none_in : {X : Type 0} (places : List (Option X)) (q : ℕ) → values_in places ≡ 0 → get_or places q None ≡ None
 none_in (None ∷ places) (suc q) is = none_in places q is
 none_in (Some x ∷ places) q is = grind (arith, common_steps, sum_by-cons)
 none_in _ q is = refl
@@ -79,9 +79,6 @@ count_none : {X : Type 0} (places : List (Option X)) → ((q : ℕ) → get_or p
 count_none (None ∷ places) each = count_none places (λ q. each (suc q))
 count_none (Some x ∷ places) each = absurd (let no : Some x ≡ None = each zero in cc)
 count_none _ each = refl
-
-pub empty_from_count : {X : Type 0} (places : List (Option X)) → values_in places ≡ 0 → by_place places ≡ finite.empty
-empty_from_count places is = search (rules, maps_alike, get_by_place, none_in, get-empty)
 
 pub count_from_empty : {X : Type 0} (places : List (Option X)) → by_place places ≡ finite.empty → values_in places ≡ 0
 count_from_empty places is = count_none places (λ q. sym (get_by_place places q) ∙ ap (λ m. finite.get m q) is

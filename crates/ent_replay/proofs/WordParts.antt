@@ -1,8 +1,8 @@
 -- Words: what stands before a comment, blanks that part words, the front of a text's words, and a decimal
 -- in brackets.
-use Rattle.ent_replay.proofs.Common.{none, next, rules, ◌≡◌, ◌≢◌, ℕ, ◌<◌, Bool, true, false, not, eqb, List, [], ◌∷◌, ◌++◌, length, take, All, refl, ◌∙◌, arith, common_steps, before_first, append-nil, slice_split_none, slice_split_at, is_blank, words_in, before_comment, filter, ne_eqb, All-head, All-tail, Result, Err, ap, inl, inr, slice_split, cases_Bool, cond-false, nil_from_length, Word, count_in, number_told}
+use Rattle.ent_replay.proofs.Common.{rules, ◌≡◌, ◌≢◌, ℕ, ◌<◌, Bool, true, false, not, eqb, List, [], ◌∷◌, ◌++◌, length, take, All, refl, ◌∙◌, arith, common_steps, before_first, append-nil, slice_split_none, slice_split_at, is_blank, words_in, before_comment, filter, All-head, All-tail, Result, Err, ap, inl, inr, slice_split, cases_Bool, cond-false, nil_from_length, Word, count_in, number_told}
 use Rattle.ent_replay.specs.declared.trace.read_fault.Cause.TheVariants as cause
-use Rattle.ent_replay.proofs.ScheduleWords.{parts_whole, parts_first, parts_nonempty}
+use Rattle.ent_replay.proofs.ScheduleWords.{parts_whole, parts_first, parts_nonempty, fails_at, not_empty}
 use Rattle.ent_replay.specs.declared.trace.read_fault.Cause.{Cause}
 
 -- ---- what stands before the first element that passes
@@ -20,13 +20,6 @@ pub before_first_none : (p : ℕ → Bool) (xs : List ℕ) → All (λ x. p x �
 before_first_none p [] none = refl
 before_first_none p (x ∷ xs) none = search
     (rules, cut, All-head, before_first_none p xs (All-tail (λ x. p x ≡ false) x xs none))
-
-fails_at : (y : ℕ) (xs : List ℕ) → All (λ x. x ≢ y) xs → All (λ x. eqb x y ≡ false) xs
-fails_at y xs none k d lt = ne_eqb _ y (none k d lt)
-
-pub comment_cut : (line text comment : List ℕ) → line ≡ text ++ 35 ∷ comment → All (λ x. x ≢ 35) text
-    → before_comment line ≡ text
-comment_cut line text comment e none = search (rules, before_first_at, fails_at)
 
 pub no_comment : (line : List ℕ) → All (λ x. x ≢ 35) line → before_comment line ≡ line
 no_comment line none = search (rules, before_first_none, fails_at)
@@ -47,28 +40,19 @@ words_in-blanks [] ys all = refl
 words_in-blanks (x ∷ xs) ys all = search
     (rules, words_in-blank, All-head, words_in-blanks xs ys (All-tail (λ x. is_blank x ≡ true) x xs all))
 
-not_empty : (n : ℕ) → 0 < n → eqb n 0 ≡ false
-not_empty n long = ne_eqb n 0 (λ e. absurd (omega (arith, e)))
-
 kept : (word : List ℕ) (parts : List (List ℕ)) → 0 < length word → filter (λ w. not (eqb (length w) 0)) (word ∷ parts)
     ≡ word ∷ filter (λ w. not (eqb (length w) 0)) parts
 kept word parts long = rw (not_empty (length word) long) refl
 
-word_first : (word rest : List ℕ) → AreNoBlank word → AreBlank (take 1 rest) → 0 < length word
+pub word_first : (word rest : List ℕ) → AreNoBlank word → AreBlank (take 1 rest) → 0 < length word
     → words_in (word ++ rest) ≡ word ∷ words_in rest
 word_first word [] all next long = search (rules, append-nil, slice_split_none, kept)
 word_first word (y ∷ ys) all next long = search (rules, slice_split_at, kept, words_in-blank, next 0 y)
 
 -- a text that begins with no blank has a word at its front
-word_long : (word rest : List ℕ) → AreNoBlank (take 1 (word ++ rest)) → AreBlank (take 1 rest)
+pub word_long : (word rest : List ℕ) → AreNoBlank (take 1 (word ++ rest)) → AreBlank (take 1 rest)
     → 0 < length (word ++ rest) → 0 < length word
 word_long word ys first next long = grind (arith, common_steps)
-
-pub first_word_found : (text front middle word rest : List ℕ) → text ≡ front ++ middle → middle ≡ word ++ rest
-    → AreBlank front → AreNoBlank (take 1 middle) → 0 < length middle → AreNoBlank word → AreBlank (take 1 rest)
-    → words_in text ≡ word ∷ words_in rest
-first_word_found text front middle word rest whole parts blanks first long all next = search
-    (rules, word_long, words_in-blanks, word_first)
 
 abbrev parts : List ℕ → List Word
 parts text = slice_split (λ byte. eqb byte 41) text

@@ -1,6 +1,6 @@
 //! Schedules of allocator events: their text, the machine that applies them, and the lines that
 //! report their outcomes. And recorded traces of an allocator, checked against the proved one.
-#![tactic(auto)]
+#![tactic(auto, using(crate::proofs::Laws::laws))]
 
 mod by_caller;
 mod caller_table;

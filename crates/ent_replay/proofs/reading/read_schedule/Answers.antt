@@ -1,19 +1,12 @@
 use Rattle.ent_replay.proofs.Common.{rules, sym, vec_len, eqb-true, schedule_of}
-use Rattle.ent_replay.proofs.ScheduleLaws.{stops, ends, schedule_found, schedule_again, schedule_refused}
+use Rattle.ent_replay.proofs.ScheduleLaws.{stops, ends, schedule_found, schedule_refused}
 use Rattle.ent_replay.proofs.reading.read_schedule.Goals as goal
 
 pub returns-clause-found : goal.returns-clause-found
 returns-clause-found c =
-    let text = c.args.text.now in
-    let e = ends c.loop-rest.events.items (vec_len c.loop-rest.events) c.loop-rest.rest.now (schedule_of text)
+    let e = ends c.loop-rest.events.items (vec_len c.loop-rest.events) c.loop-rest.rest.now _
     (eqb-true _ _ (sym c.loop-rest-test.ensures)) c.loop-rest.invariant in
-    schedule_found text c.loop-rest.events.items e
-
-pub returns-clause-only : goal.returns-clause-only
-returns-clause-only c = search (rules, ends, eqb-true, schedule_again)
-
-pub returns-in-Err-clause-only : goal.returns-in-Err-clause-only
-returns-in-Err-clause-only c = search (rules, stops, schedule_again)
+    search (rules, e, schedule_found)
 
 pub returns-in-Err-clause-refused : goal.returns-in-Err-clause-refused
 returns-in-Err-clause-refused c =

@@ -17,4 +17,4 @@ returns-in_err-append-clause-full c =
 pub returns-in_err-write_text-clause-full : goal.returns-in_err-write_text-clause-full
 returns-in_err-write_text-clause-full c =
     let p = err_from_is_err_and c.from_residual-in_err-write_text.result c.from_residual-in_err-write_text.ensures.1 in
-    grind (arith, common_steps, fits, length-append)
+    grind (arith, common_steps, spaced_fits, length-append)

@@ -1,38 +1,27 @@
 use Rattle.ent_replay.proofs.Common.{rules, ◌≡◌, refl, sym, ap, ◌∙◌, Ok, arith, common_steps, ints, reply_from, pool_at, on_answer, reported, machine_state, Outcome}
 use Rattle.std.specs.FinMap as finite
-use Rattle.ent_replay.proofs.MachineAnswers.{done, faulty, refused}
-use Rattle.ent_replay.proofs.MachineEvents.{answer-not_open, answer-not_stepped, answer-answered, answer-consistent}
+use Rattle.ent_replay.proofs.MachineAnswers.{done, refused}
+use Rattle.ent_replay.proofs.MachineEvents.{answer-answered, answer-consistent}
 use Rattle.ent_replay.proofs.machine.Machine.answer.Goals as goal
 use Rattle.ent_replay.proofs.machine.Machine.answer.Goals.{After-reply, After-remove}
-
-pub returns-in_default : goal.returns-in_default
-returns-in_default c = search (rules, faulty, answer-not_open)
-
-pub returns-in_default-span : goal.returns-in_default-span
-returns-in_default-span c = search (rules, faulty, answer-not_stepped)
 
 pub reply-requires : goal.reply-requires
 reply-requires c =
     let at = sym c.get.ensures ∙ c.in-Some.is in
-    search (
-      rules,
-      ints,
-      c.self.invariant.spans c.args.caller c.in-Some.call c.in-Some-span.span at c.in-Some-span.is,
-      c.self.invariant.requests c.args.caller c.in-Some.call at,
-    )
+    search (rules, ints, c.self.invariant.spans c.args.caller c.in-Some.call c.in-Some-span.span at c.in-Some-span.is, c.self.invariant.requests c.args.caller c.in-Some.call at)
 
 -- the reply is what the positions tell that the call passed
 told : (c : After-reply) → c.reply.result ≡ reply_from c.self.inside.entities.allocator.made
     (pool_at c.self.inside.entities.allocator c.in-Some-span.span.high) c.in-Some.call.requested
-told c = c.reply.ensures c.in-Some.call.requested (c.self.invariant.spans c.args.caller c.in-Some.call
-    c.in-Some-span.span (sym c.get.ensures ∙ c.in-Some.is) c.in-Some-span.is).low
+told c = c.reply.ensures _ (c.self.invariant.spans c.args.caller _ _ (sym c.get.ensures ∙ c.in-Some.is)
+    c.in-Some-span.is).low
 
 pub returns-in-Err-listed : goal.returns-in-Err-listed
 returns-in-Err-listed c =
     let e = c.self.inside in
     let at = (goal.at.returns-in-Err-listed c).After-reply in
-    let reports = answer-answered e.entities.allocator e.spent e.calls c.args.caller (omega arith) c.in-Some.call
-    (sym c.get.ensures ∙ c.in-Some.is) c.in-Some-span.span c.in-Some-span.is in
+    let reports = answer-answered e.entities.allocator e.spent _ _ (omega arith) _ (sym c.get.ensures ∙ c.in-Some.is) _
+    c.in-Some-span.is in
     refused (λ v. on_answer v c.args.caller) c.self.view_is refl (sym c.self.view_is)
     (search (rules, reports, told, c.in-Ok.is, c.in-Err-listed.ensures.memory, at))
 
@@ -46,22 +35,20 @@ calls_are c same = search (rules)
 
 pub invariant_of-self : goal.invariant_of-self
 invariant_of-self c =
-    let e = c.self.inside in
     let at = (goal.at.invariant_of-self c).After-remove in
     let same = unchanged at in
-    rw (calls_are at same, same) (answer-consistent e.entities.allocator e.spent e.calls c.args.caller (omega arith)
-    c.in-Some.call (sym c.get.ensures ∙ c.in-Some.is) c.in-Some-span.span c.in-Some-span.is c.self.invariant)
+    rw (calls_are at same, same) (answer-consistent _ _ _ _ (omega arith) _ (sym c.get.ensures ∙ c.in-Some.is) _
+    c.in-Some-span.is c.self.invariant)
 
 pub returns : goal.returns
 returns c =
     let e = c.self.inside in
-    let s = e.entities.allocator in
     let at = goal.at.returns c in
     let says = told at.After-reply in
     let same = unchanged at.After-remove in
-    let outcome_is : c.match-reply.outcome ≡ reported (reply_from s.made (pool_at s c.in-Some-span.span.high)
-    c.in-Some.call.requested) = search (rules, c.match-reply.branch) in
+    let outcome_is : c.match-reply.outcome ≡ reported (reply_from e.entities.allocator.made
+    (pool_at e.entities.allocator c.in-Some-span.span.high) c.in-Some.call.requested) = search
+    (rules, c.match-reply.branch) in
     done (λ v. on_answer v c.args.caller) c.self.view_is (ap (λ (o : Outcome). Ok o) outcome_is)
     (λ i. machine_state (same i).entities.allocator (same i).spent (calls_are at.After-remove same i))
-    (answer-answered s e.spent e.calls c.args.caller (omega arith) c.in-Some.call (sym c.get.ensures ∙ c.in-Some.is)
-    c.in-Some-span.span c.in-Some-span.is)
+    (answer-answered _ _ _ _ (omega arith) _ (sym c.get.ensures ∙ c.in-Some.is) _ c.in-Some-span.is)

@@ -1,21 +1,12 @@
-use Rattle.ent_replay.proofs.Common.{rules, ◌≡◌, ◌≢◌, ◌+◌, ◌++◌, ◌∷◌, [], Err, take, take_more, take_all, slice_get_read}
-use Rattle.ent_replay.proofs.Histories.{linear, given_once}
+use Rattle.ent_replay.proofs.Common.{rules, ◌≡◌, ◌≢◌, ◌+◌, ◌++◌, ◌∷◌, [], Err, take, take_more, take_all}
+use Rattle.ent_replay.proofs.Histories.{given_once}
 use Rattle.ent_replay.specs.declared.fault.ReplayFault.TheVariants as fault
 use Rattle.ent_replay.proofs.Maps.{no_test}
 use Rattle.ent_replay.proofs.Schedules.{after_events-append, outcomes_of-append}
 use Rattle.ent_replay.proofs.machine.Machine.run.Goals as goal
 
-pub returns-then-is_out_of_memory-clause-grows : goal.returns-then-is_out_of_memory-clause-grows
-returns-then-is_out_of_memory-clause-grows c = search (rules, slice_get_read)
-
 pub returns-clause-outcomes : goal.returns-clause-outcomes
 returns-clause-outcomes c = search (rules, take_all)
-
-pub returns-clause-state : goal.returns-clause-state
-returns-clause-state c = search (rules, take_all)
-
-pub returns-clause-history : goal.returns-clause-history
-returns-clause-history c = λ rest. rw (returns-clause-outcomes c) (linear c.args.self.now c.args.events.now rest)
 
 pub returns-clause-given_once : goal.returns-clause-given_once
 returns-clause-given_once c = rw (returns-clause-outcomes c, ← c.self.view_is)

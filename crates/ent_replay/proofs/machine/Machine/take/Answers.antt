@@ -1,22 +1,15 @@
 use Rattle.ent_replay.proofs.Common.{rules, ◌≡◌, sym, ◌∙◌, arith, ints}
 use Rattle.std.specs.FinMap as finite
-use Rattle.ent_replay.proofs.MachineAnswers.{done, faulty, some_of, none_of}
-use Rattle.ent_replay.proofs.MachineEvents.{stepped, awaited-bound, step-not_open, step-stepped, step-taken, step-consistent}
+use Rattle.ent_replay.proofs.MachineAnswers.{done, none_of}
+use Rattle.ent_replay.proofs.MachineEvents.{stepped, awaited-bound, step-taken, step-consistent}
 use Rattle.ent_replay.proofs.machine.Machine.take.Goals as goal
 use Rattle.ent_replay.proofs.machine.Machine.take.Goals.{After-replace}
-
-pub returns-in_default : goal.returns-in_default
-returns-in_default c = search (rules, faulty, step-not_open)
-
-pub returns-then-is_some : goal.returns-then-is_some
-returns-then-is_some c = search (rules, some_of, faulty, step-stepped)
 
 pub lower-span-requires : goal.lower-span-requires
 lower-span-requires c =
     let e = c.self.inside in
-    let s = e.entities.allocator in
     let waits = none_of c.in-Some.call.span c.if-is_some.ensures in
-    let bound = awaited-bound s e.spent e.calls c.args.caller (omega arith) c.self.invariant c.in-Some.call
+    let bound = awaited-bound e.entities.allocator e.spent e.calls c.args.caller (omega arith) c.self.invariant _
     (sym c.get.ensures ∙ c.in-Some.is) in
     search (rules, c.in-Some.call.requested, c.in-Some.call.span)
 

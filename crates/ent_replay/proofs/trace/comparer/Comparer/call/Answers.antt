@@ -1,10 +1,6 @@
-use Rattle.ent_replay.proofs.Common.{ap, ◌∙◌, rules, ints, Checked}
-use Rattle.ent_replay.proofs.Lineups.{front_here}
+use Rattle.ent_replay.proofs.Common.{ap, ◌∙◌, Checked}
 use Rattle.ent_replay.proofs.Sorted.{IsChecking-called}
 use Rattle.ent_replay.proofs.trace.comparer.Comparer.call.Goals as goal
-
-pub returns-in-Some-clause-differs : goal.returns-in-Some-clause-differs
-returns-in-Some-clause-differs c = search (rules, ints, front_here)
 
 pub invariant_of-result : goal.invariant_of-result
 invariant_of-result c = IsChecking-called c.self.inside.entities.allocator c.answered.new.entities.allocator
