@@ -18,9 +18,7 @@ opened_get start number (suc count) (suc k) less = opened_get start (number + 1)
     ∙ ap (λ n. Some (opened start n)) (omega arith)
 
 last_pushed : {X : Type 0} (xs : List X) (y : X) → slice_get (xs ++ y ∷ []) (length (xs ++ y ∷ []) - 1) ≡ Some y
-last_pushed xs y =
-    let long = length-append xs (y ∷ []) in
-    slice_get-get_or (xs ++ y ∷ []) _ y (omega arith) ∙ ap Some (get_or_push xs y y _ (omega arith))
+last_pushed xs y = search (rules, arith, length-append xs (y ∷ []), slice_get-get_or (xs ++ y ∷ []) (length xs) y, get_or_push xs y y)
 
 module _ {E : Type 0} (Adds : Record → List E → Record → Type 0) where
   -- a job that adds its output, which is as it may be
@@ -40,12 +38,8 @@ module _ {E : Type 0} (Adds : Record → List E → Record → Type 0) where
     in_turn : (a : Record) (mine : List ℕ) (b : Record) → DidAll (Does P) outputs a mine b
         ⊎ DidUntil (Does P) (Does Q) outputs a mine b → AllPairs
         (λ earlier later. P earlier (get_or outputs earlier [])) mine
-    in_turn a mine b (inl did) =
-        let all = held (Does P) P (λ n a o b it. it.1) outputs [] a mine b did in
-        λ i j d less within. all i d (omega (arith, less, within))
-    in_turn a mine b (inr did) =
-        let all = held (Does P) P (λ n a o b it. it.1) outputs [] a did.earlier did.between did.ended in
-        grind (arith, common_steps, all_pairs_push)
+    in_turn a mine b (inl did) = search (rules, held (Does P) P (λ n a o b it. it.1) outputs [] a mine b did)
+    in_turn a mine b (inr did) = grind (arith, common_steps, all_pairs_push, held (Does P) P (λ n a o b it. it.1) outputs [] a did.earlier did.between did.ended)
 
     module _ (ran : List (List ℕ)) (before after : List Record) where
       pub ended_by : length after ≡ length before → length ran ≡ length before
@@ -53,9 +47,8 @@ module _ {E : Type 0} (Adds : Record → List E → Record → Type 0) where
           ⊎ DidUntil (Does P) (Does Q) outputs a mine b) → (k : ℕ) (mine : List ℕ) → slice_get ran k ≡ Some mine
           → AllPairs (λ earlier later. P earlier (get_or outputs earlier [])) mine
       ended_by same teams did k mine at =
-          let less = slice_get_within ran k mine at in
-          let a = at_within before k (omega (arith, teams)) in
-          let b = at_within after k (omega (arith, teams, same)) in
+          let a = at_within before k (search (rules, slice_get_within ran k mine at)) in
+          let b = at_within after k (search (rules, slice_get_within ran k mine at)) in
           in_turn a.0 mine b.0 (did k mine a.0 b.0 at a.1 b.1)
 
       -- the last job of a worker stopped
@@ -64,16 +57,7 @@ module _ {E : Type 0} (Adds : Record → List E → Record → Type 0) where
           × DidUntil (Does P) (Does Q) outputs a mine b) ⊎ Rest → ((worker : ℕ) × (mine : List ℕ) × (last : ℕ)
           × (slice_get ran worker ≡ Some mine) × (slice_get mine (length mine - 1) ≡ Some last)
           × Q last (get_or outputs last [])) ⊎ Rest
-      stopped_last Rest (inl s) =
-          let d = s.7 in
-          inl (
-            s.0,
-            s.1,
-            d.last,
-            s.4,
-            rw d.numbers_are (last_pushed d.earlier d.last),
-            rw (get_or_from_slice_get outputs d.last d.stopped.0 [] d.stopped.1) d.stopped.2.1,
-          )
+      stopped_last Rest (inl (worker, mine, a, b, at, at_a, at_b, d)) = search (rules, d.numbers_are, last_pushed d.earlier d.last, get_or_from_slice_get outputs d.last d.stopped.0 [] d.stopped.1, d.stopped.2.1)
       stopped_last Rest (inr rest) = inr rest
 
   module _ (nothing : (a : Record) → Adds a [] a) (joined : (a b c : Record) (xs ys : List E) → Adds a xs b
@@ -92,11 +76,8 @@ module _ {E : Type 0} (Adds : Record → List E → Record → Type 0) where
       pub added_at : (k : ℕ) (mine : List ℕ) → slice_get ran k ≡ Some mine → (r : Record)
           × (slice_get records k ≡ Some r) × Adds (opened start k) (flat_map (λ n. get_or outputs n []) mine) r
       added_at k mine at =
-          let less = slice_get_within ran k mine at in
-          let r = at_within records k (omega (arith, teams, many, long)) in
-          let inside : k < workers = omega (arith, less, teams, many) in
-          let first : slice_get opens k ≡ Some (opened start k) = search (rules, opened_get) in
-          (r.0, r.1, added (opened start k) mine r.0 (did k mine (opened start k) r.0 at first r.1))
+          let r = at_within records k (search (rules, slice_get_within ran k mine at)) in
+          (r.0, r.1, added (opened start k) mine r.0 (did k mine (opened start k) r.0 at (search (rules, opened_get, slice_get_within ran k mine at)) r.1))
 
       -- the history has no calls of others
       pub ours : ((k : ℕ) (xs : List E) (r : Record) → Adds (opened start k) xs r
@@ -104,12 +85,11 @@ module _ {E : Type 0} (Adds : Record → List E → Record → Type 0) where
           → All (λ (call : Call). call.caller < workers) (history_of records)
       ours own = All-map (λ (call : Call). call.caller < workers) as_call (reservations_of records)
           (all_sorted (λ (c : Reservation). c.caller < workers) (own_of_all records)
-              (all_flat (λ (c : Reservation). c.caller < workers) (λ (r : Record). own_reservations r.entries) records
-                  (λ k d within.
-                  let mine = at_within ran k (omega (arith, teams, many, long)) in
-                  let r = added_at k mine.0 mine.1 in
-                  rw (get_or_from_slice_get records k r.0 d r.1) (λ i e inner.
-                      let same = own k _ r.0 r.2 i e inner in omega (arith, long)))))
+          (all_flat (λ (c : Reservation). c.caller < workers) (λ (r : Record). own_reservations r.entries) records
+          (λ k d within i e inner.
+          let mine = at_within ran k (omega (arith, teams, many, long)) in
+          let r = added_at k mine.0 mine.1 in
+          search (rules, get_or_from_slice_get records k r.0 d r.1, own k _ r.0 r.2 i e))))
 
       -- each output is as it may be
       pub each_may : (jobs : ℕ) → IsPermutation (flat_map (λ mine. mine) ran) (range_with_len 0 jobs) → (n : ℕ)

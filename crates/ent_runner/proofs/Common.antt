@@ -68,7 +68,7 @@ pub use Rattle.ent_runner.specs.Collecting.{outputs_put}
 pub use Rattle.ent_runner.specs.Crew.{AreBrokenOff, AreDone, Crew, DidAll, DidUntil, DoesAt, OfEach}
 pub use Rattle.ent_runner.specs.Frame.{Ends, EndsInOrder, IsBrokenOff, IsFrame, IsLost, IsWork, StopsAt, SystemMayHaveIssued, SystemMayIssue, calls_in_order, commands_of, first_call, queue_at, requests_by, reserved_by, view_of}
 pub use Rattle.ent_runner.specs.Record.{after_claim, claims_of, nothing_claimed}
-pub use Rattle.ent_runner.specs.Rule.{AfterClaim, AreClaimsClosed, AreClaimsRuled, ClaimTells, IsClaimKept, ended_in, weigh_claims}
+pub use Rattle.ent_runner.specs.Rule.{AfterClaim, AreClaimsClosed, AreClaimsRuled, ClaimTells, IsClaimKept, ended_in}
 pub use Rattle.ent_runner.specs.Worker.{HasClaimed, HasStoppedAt, HasWorked, HaveAllWorked, HaveDoneFirst, HaveEnded, IsLostFor, IsNewWorker, IsRoom, IsRoomForOne, IsUnused, all_done, numbers_of}
 pub use Rattle.ent_runner.specs.declared.record.ClaimRecord.{ClaimRecord, ClaimRecord as Claimed}
 pub use Rattle.ent_runner.specs.declared.worker.Done.{Done}

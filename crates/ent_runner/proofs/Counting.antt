@@ -1,6 +1,5 @@
 -- Lists of numbers that weigh the same, however each number is weighed.
-use Rattle.ent_runner.proofs.Common.{common_steps, rules, ◌≡◌, ℕ, zero, suc, ◌+◌, ◌<◌, ◌≤◌, List, [], ◌∷◌, sym, refl, ap, arith, eq-eqb, ne_eqb, remove, cond, Bool, ◌==◌, sum_by, Contains, range_with_len, sum_by-cons, IsPermutation-refl, IsPermutation-trans, IsPermutation-cons, IsPermutation-remove, sum_by_popped, dite, ℕ_discrete}
-use Rattle.std.proofs.Common.{IsPermutation}
+use Rattle.ent_runner.proofs.Common.{IsPermutation, common_steps, rules, ◌≡◌, ℕ, zero, suc, ◌+◌, ◌<◌, ◌≤◌, List, [], ◌∷◌, sym, refl, ap, arith, eq-eqb, ne_eqb, remove, cond, Bool, ◌==◌, sum_by, Contains, range_with_len, sum_by-cons, IsPermutation-refl, IsPermutation-trans, IsPermutation-cons, IsPermutation-remove, sum_by_popped, dite, ℕ_discrete}
 
 -- 1 for the number itself
 abbrev pub is : ℕ → ℕ → ℕ
@@ -20,18 +19,15 @@ found_in n (x ∷ xs) (suc k, within, at) = search (rules, sum_by-cons, found_in
 pub inside : (n : ℕ) (xs : List ℕ) → 1 ≤ sum_by (is n) xs → Contains xs n
 inside n [] some = absurd (omega arith)
 inside n (x ∷ xs) some = dite (ℕ_discrete x n) (λ same. (0, omega arith, same)) (λ other.
-    let sums = sum_by-cons (is n) x xs in
-    let rest = inside n xs (omega (arith, is_other n x other)) in
-    (suc rest.0, omega (arith, rest.1), rest.2))
+    let rest = inside n xs (search (rules, sum_by-cons, is_other n x other)) in (suc rest.0, omega (arith, rest.1), rest.2))
 
 -- how often a number stands among those from low on
 pub in_range : (n low many : ℕ) → (sum_by (is n) (range_with_len low many) ≤ 1)
-    × (n < low → sum_by (is n) (range_with_len low many) ≡ 0) × (low ≤ n → n < low + many → 1 ≤ sum_by (is n)
-    (range_with_len low many))
-in_range n low zero = (omega arith, λ _. refl, λ le lt. absurd (omega arith))
-in_range n low (suc many) =
-    let rest = in_range n (low + 1) many in
-    grind (arith, common_steps, sum_by-cons, dite, ℕ_discrete, is_same, is_other)
+    × (n < low → sum_by (is n) (range_with_len low many) ≡ 0)
+    × (low ≤ n → n < low + many → 1 ≤ sum_by (is n) (range_with_len low many))
+    × (low + many ≤ n → sum_by (is n) (range_with_len low many) ≡ 0)
+in_range n low zero = (omega arith, λ _. refl, λ le lt. absurd (omega arith), λ _. refl)
+in_range n low (suc many) = grind (arith, common_steps, in_range n (low + 1) many, sum_by-cons, dite, ℕ_discrete, is_same, is_other)
 
 nothing_in : (xs : List ℕ) → sum_by (λ (_ : ℕ). 1) xs ≡ 0 → xs ≡ []
 nothing_in [] e = refl
@@ -40,8 +36,6 @@ nothing_in (x ∷ xs) e = grind (arith, common_steps, sum_by-cons)
 pub weigh_same : (xs ys : List ℕ) → ((f : ℕ → ℕ) → sum_by f xs ≡ sum_by f ys) → IsPermutation xs ys
 weigh_same xs [] same = rw (nothing_in xs (same (λ (_ : ℕ). 1))) (IsPermutation-refl [])
 weigh_same xs (y ∷ ys) same =
-    let sums = sum_by-cons (is y) y ys in
-    let one = is_same y y refl in
-    let at = inside y xs (omega arith) in
+    let at = inside y xs (grind (arith, common_steps, same (is y), sum_by-cons (is y) y ys, is_same y y refl)) in
     let rest = weigh_same (remove xs at.0) ys (λ f. grind (arith, common_steps, sum_by_popped, sum_by-cons)) in
     IsPermutation-trans _ _ _ (IsPermutation-remove xs at.0 y at.1 (sym at.2)) (IsPermutation-cons y _ _ rest)

@@ -20,11 +20,7 @@ module _ {O : Type 0} where
       → old ≡ w ∷ rest → yielded ++ old ≡ workers → next ≡ outputs_put w.done.items by_number
       → All (λ (w : Worker O). All (λ (d : Done O). d.number < length by_number) w.done.items) old
       → Disbanded workers yielded rest w by_number next
-  disbanded_on workers yielded old rest w by_number next front all put inside = record {
-    all = search (rules, append_assoc);
-    outputs_are = search (rules, put_both);
-    inside = rw (put, length_put) (All-rest (Inside by_number) w rest old front inside);
-  }
+  disbanded_on workers yielded old rest w by_number next front all put inside = search (rules, append_assoc, put_both, length_put, All-rest (Inside by_number) w rest old front inside)
 
   -- its outputs have numbers of jobs
   pub inside_first : (old rest : List (Worker O)) (w : Worker O) (by_number : List (Option O)) → old ≡ w ∷ rest

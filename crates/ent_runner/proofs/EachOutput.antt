@@ -1,16 +1,12 @@
 -- What a relation says of the output of a job alone holds of each output.
-use Rattle.ent_runner.proofs.Common.{All, get_or, subst, slice_get, [], List, Some, arith, inl, inr, length, ℕ, ◌+◌, ◌<◌, ◌∙◌, ◌∷◌, ◌≡◌, ◌⊎◌, FoldsTo-push, All-cons, All-nil, get_or-range_with_len, length-range_with_len, All-permutation, get_or_from_slice_get, slice_get_within, flat_map, range_with_len, IsPermutation, AreBrokenOff, AreDone, DidAll, DidUntil, DoesAt, OfEach}
+use Rattle.ent_runner.proofs.Common.{rules, All, get_or, slice_get, [], List, Some, inl, inr, length, ℕ, ◌<◌, ◌∷◌, ◌≡◌, ◌⊎◌, FoldsTo-push, All-cons, All-nil, get_or-range_with_len, length-range_with_len, All-permutation, get_or_from_slice_get, slice_get_within, flat_map, range_with_len, IsPermutation, AreBrokenOff, AreDone, DidAll, DidUntil, DoesAt, OfEach}
 use Rattle.ent_runner.proofs.Lists.{at_within, all_flat, all_from_each}
 
 -- what holds of the jobs of each worker, holds of each job
 pub everywhere : (P : ℕ → Type 0) (total : ℕ) (ran : List (List ℕ))
     → IsPermutation (flat_map (λ mine. mine) ran) (range_with_len 0 total)
     → ((k : ℕ) (mine : List ℕ) → slice_get ran k ≡ Some mine → All P mine) → (n : ℕ) → n < total → P n
-everywhere P total ran once each n less =
-    let all = all_flat P (λ mine. mine) ran (all_from_each (λ mine. All P mine) ran each) in
-    let there = All-permutation P (flat_map (λ mine. mine) ran) (range_with_len 0 total) once all in
-    let same : 0 + n ≡ n = omega arith in
-    subst P (get_or-range_with_len 0 total n 0 less ∙ same) (there n 0 (omega (arith, length-range_with_len 0 total)))
+everywhere P total ran once each n less = search (rules, all_flat P (λ mine. mine) ran (all_from_each (λ mine. All P mine) ran each), All-permutation P (flat_map (λ mine. mine) ran) (range_with_len 0 total) once, get_or-range_with_len 0 total n 0, length-range_with_len 0 total)
 
 -- it holds of the output of this job
 abbrev pub HoldsAt : {O : Type 0} → (ℕ → O → Type 0) → List O → ℕ → Type 0
@@ -28,18 +24,14 @@ module _ {O L : Type 0} where
     pub did_either : (a : L) (mine : List ℕ) (b : L) → DidAll may outputs a mine b ⊎ DidUntil may leave outputs a mine b
         → DidAll either outputs a mine b
     did_either a mine b (inl did) = all_ended a mine b did
-    did_either a mine b (inr did) =
-        let last = did.stopped in
-        rw did.numbers_are (FoldsTo-push (DoesAt either outputs) a did.earlier did.between did.last b
-        (all_ended a did.earlier did.between did.ended) (last.0, last.1, stopped did.last did.between last.0 b last.2))
+    did_either a mine b (inr did) = search (rules, did.numbers_are, FoldsTo-push (DoesAt either outputs) a did.earlier did.between did.last b (all_ended a did.earlier did.between did.ended), did.stopped, stopped did.last did.between)
 
   -- what a job ensures of its number and its output
   module _ (may : ℕ → L → O → L → Type 0) (P : ℕ → O → Type 0) (holds : (n : ℕ) (a : L) (o : O) (b : L) → may n a o b
       → P n o) (outputs : List O) (d : O) where
     pub held : (a : L) (mine : List ℕ) (b : L) → DidAll may outputs a mine b → All (λ n. P n (get_or outputs n d)) mine
     held a [] b did = All-nil (λ n. P n (get_or outputs n d))
-    held a (n ∷ mine) b (j, (o, at, does), rest) = All-cons (λ n. P n (get_or outputs n d)) n mine
-        (rw (get_or_from_slice_get outputs n o d at) (holds n a o j does)) (held j mine b rest)
+    held a (n ∷ mine) b (j, (o, at, does), rest) = search (rules, All-cons, get_or_from_slice_get outputs n o d at, holds n a o j does, held j mine b rest)
 
     pub each_held : (jobs : ℕ) (before after : List L) (ran : List (List ℕ)) → length ran ≡ length before
         → length after ≡ length before → IsPermutation (flat_map (λ mine. mine) ran) (range_with_len 0 jobs)
@@ -47,9 +39,8 @@ module _ {O L : Type 0} where
         → P n (get_or outputs n d)
     each_held jobs before after ran teams same once did = everywhere (λ n. P n (get_or outputs n d)) jobs ran once
         (λ k mine at.
-        let less = slice_get_within ran k mine at in
-        let a = at_within before k (omega (arith, teams)) in
-        let b = at_within after k (omega (arith, teams, same)) in
+        let a = at_within before k (search (rules, slice_get_within ran k mine at)) in
+        let b = at_within after k (search (rules, slice_get_within ran k mine at)) in
         held a.0 mine b.0 (did k mine a.0 b.0 at a.1 b.1))
 
   abbrev Alone : (ℕ → O → Type 0) → ℕ → L → O → L → Type 0
@@ -58,18 +49,9 @@ module _ {O L : Type 0} where
   pub each_done : (P : ℕ → O → Type 0) (jobs : ℕ) (before : List L) (outputs : List O) (after : List L)
       → length after ≡ length before → AreDone (Alone P) jobs before outputs after → (n : ℕ) → n < jobs
       → HoldsAt P outputs n
-  each_done P jobs before outputs after same done n less output at = rw
-      (get_or_from_slice_get outputs n output output at) at (each_held (Alone P) P (λ n a o b it. it) outputs output
-      jobs before after done.ran done.each_worker same done.once done.did n less)
+  each_done P jobs before outputs after same done n less output at = search (rules, get_or_from_slice_get outputs n output output at, each_held (Alone P) P (λ n a o b it. it) outputs output jobs before after done.ran done.each_worker same done.once done.did n less)
 
   pub each_either : (P Q : ℕ → O → Type 0) (jobs : ℕ) (before after : List L) → length after ≡ length before
       → (done : AreBrokenOff (Alone P) (Alone Q) jobs before after) → (n : ℕ) → n < done.count
       → HoldsAt (λ m output. P m output ⊎ Q m output) done.outputs n
-  each_either P Q jobs before after same done n less output at =
-      let Either : ℕ → O → Type 0 = λ m o. P m o ⊎ Q m o in
-      let did : OfEach done.ran before after (λ mine a b. DidAll (Alone Either) done.outputs a mine b) =
-      λ k mine a b at_mine at_a at_b. did_either (Alone P) (Alone Q) (Alone Either) (λ n a o b it. inl it)
-      (λ n a o b it. inr it) done.outputs a mine b (done.did k mine a b at_mine at_a at_b) in
-      rw (get_or_from_slice_get done.outputs n output output at) at (each_held (Alone Either) Either
-      (λ n a o b it. it) done.outputs output done.count before after done.ran done.each_worker same done.once did n
-      less)
+  each_either P Q jobs before after same done n less output at = search (rules, get_or_from_slice_get done.outputs n output output at, each_held (Alone (λ m o. P m o ⊎ Q m o)) (λ m o. P m o ⊎ Q m o) (λ n a o b it. it) done.outputs output done.count before after done.ran done.each_worker same done.once (λ k mine a b m x y. did_either (Alone P) (Alone Q) (Alone (λ m o. P m o ⊎ Q m o)) (λ n a o b it. inl it) (λ n a o b it. inr it) done.outputs a mine b (done.did k mine a b m x y)) n less)

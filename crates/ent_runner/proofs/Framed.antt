@@ -1,5 +1,5 @@
 -- What a crew did whose jobs are the systems of a frame, and the history of its reservers, are a frame.
-use Rattle.ent_runner.proofs.Common.{All, slice_get, List, Some, length, map, rules, ℕ, ◌<◌, ◌∙◌, ◌≡◌, slice_get_within, AllPairs, flat_map, range_with_len, IsPermutation, Call, IsLegal, gains_nothing, gains_then, Command, Gains, Respects, history_of, reservations_by, reservations_of, own_reservations, opened_records, Record, Reservation, View, World, some, AreBrokenOff, AreDone, DidAll, OfEach, IsBrokenOff, IsFrame, IsWork, SystemMayHaveIssued, SystemMayIssue, queue_at, requests_by, view_of, sym}
+use Rattle.ent_runner.proofs.Common.{All, slice_get, List, Some, length, map, rules, ℕ, ◌<◌, ◌∙◌, ◌≡◌, slice_get_within, AllPairs, flat_map, range_with_len, IsPermutation, Call, IsLegal, gains_nothing, gains_then, Command, Gains, Respects, history_of, reservations_by, reservations_of, opened_records, Record, Reservation, View, World, some, AreBrokenOff, AreDone, DidAll, OfEach, IsBrokenOff, IsFrame, IsWork, SystemMayHaveIssued, SystemMayIssue, queue_at, requests_by, view_of, sym}
 use Rattle.ent_runner.proofs.Lists.{each_of_all, filter_map_is, map_map_is}
 use Rattle.ent_runner.proofs.Adding.{own_mapped, all_either, ended_by, stopped_last, added_at, ours, each_may}
 
@@ -27,12 +27,7 @@ module _ (before : World) (workers : ℕ) (opens records : List Record)
         let r = added_at Gains gains_nothing gains_then P queues before.allocator workers opens records opened_are many
         long ran teams did k mine at in
         let own = each_of_all (Respects (reservations_of records)) records k r.0 respects r.1 in
-        let are : own_reservations r.0.entries ≡ r.2.reservations = rw r.2.entries (own_mapped r.2.reservations) in
-        record {
-          rising = each_of_all (AllPairs (λ m n. m < n)) ran k mine rising at;
-          calls = by_caller k records ∙ cc (own.own, r.2.number, are, r.2.requests);
-          within = r.2.within;
-        }
+        search (rules, each_of_all (AllPairs (λ m n. m < n)) ran k mine rising at, by_caller k records, own.own, own_mapped r.2.reservations, r.2)
 
     callers : All (λ (call : Call). call.caller < workers) (history_of records)
     callers = ours Gains gains_nothing gains_then P queues before.allocator workers opens records opened_are many long
@@ -49,42 +44,20 @@ module _ (before : World) (workers : ℕ) (opens records : List Record)
 
     pub frame_is : (queues : List (List Command)) → AreDone (Issues may systems (view_of before)) (length systems) opens
         queues records → IsFrame may systems workers before queues (history_of records)
-    frame_is queues done = record {
-      legal = legal;
-      callers = callers May queues done.ran done.each_worker done.did;
-      ran = done.ran;
-      each_worker = done.each_worker ∙ many;
-      once = done.once;
-      work = worked May queues done.ran done.each_worker done.did done.rising;
-      count = done.count;
-      each_system = λ n system at. each_issues May queues done.ran done.each_worker done.did (length systems) done.once
-          n (slice_get_within systems n system at) system at;
-    }
+    frame_is queues done = search (rules, legal, callers May queues done.ran done.each_worker done.did, done, many, worked May queues done.ran done.each_worker done.did done.rising, each_issues May queues done.ran done.each_worker done.did (length systems) done.once, slice_get_within)
 
     pub broken_off : (leave : S → View → List Command → Type 0) → AreBrokenOff (Issues may systems (view_of before))
         (Issues leave systems (view_of before)) (length systems) opens records
         → IsBrokenOff may leave systems workers before (history_of records)
     broken_off leave done =
-        let queues : List (List Command) = done.outputs in
         let Leave : ℕ → List Command → Type 0 = λ n queue. SystemMayIssue leave systems (view_of before) n queue in
         let Left : ℕ → List Command → Type 0 = SystemMayHaveIssued may leave systems (view_of before) in
         let did : OfEach done.ran opens records (λ mine a b. DidAll (λ n before queue after. Gains before queue after
-        × Left n queue) queues a mine b) = λ k mine a b at at_a at_b. all_either Gains May Leave queues a mine b
+        × Left n queue) done.outputs a mine b) = λ k mine a b at at_a at_b. all_either Gains May Leave done.outputs a mine b
         (done.did k mine a b at at_a at_b) in
-        record {
-          legal = legal;
-          callers = callers Left queues done.ran done.each_worker did;
-          ran = done.ran;
-          each_worker = done.each_worker ∙ many;
-          count = done.count;
-          within = done.within;
-          some = done.some;
-          once = done.once;
-          queues = queues;
-          each_queue = done.each_output;
-          each_system = each_issues Left queues done.ran done.each_worker did done.count done.once;
-          work = worked Left queues done.ran done.each_worker did done.rising;
-          ended = ended_by Gains May Leave queues done.ran opens records (long ∙ sym many) done.each_worker done.did;
-          why = stopped_last Gains May Leave queues done.ran opens records (done.count < length systems) done.why;
-          busy = done.busy;
-        }
+        let own = callers Left done.outputs done.ran done.each_worker did in
+        let each = each_issues Left done.outputs done.ran done.each_worker did done.count done.once in
+        let work = worked Left done.outputs done.ran done.each_worker did done.rising in
+        let ended = ended_by Gains May Leave done.outputs done.ran opens records (long ∙ sym many) done.each_worker done.did in
+        let why = stopped_last Gains May Leave done.outputs done.ran opens records (done.count < length systems) done.why in
+        search (rules, legal, many, own, each, work, ended, why, done.within, done.some, done.once, done.each_output, done.busy, done.each_worker)

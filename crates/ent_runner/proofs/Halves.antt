@@ -1,5 +1,5 @@
 -- Two parts of the workers have worked, so all of them have.
-use Rattle.ent_runner.proofs.Common.{inl, inr, rules, ◌≡◌, ◌-◌, ℕ, List, ◌++◌, length, arith, sym, cases_lt, length-append, get_or_append_left, get_or-append_right, Claims, Worker, HaveAllWorked}
+use Rattle.ent_runner.proofs.Common.{rules, ◌≡◌, ◌-◌, ℕ, List, ◌++◌, length, arith, sym, cases_lt, length-append, get_or_append_left, get_or-append_right, Claims, Worker, HaveAllWorked}
 
 module _ {O L : Type 0} (may leave : ℕ → L → O → L → Type 0) (may_have : L → Type 0) (claims : Claims) where
   abbrev HaveDone : List L → List L → List (Worker O) → Type 0
@@ -14,12 +14,7 @@ module _ {O L : Type 0} (may leave : ℕ → L → O → L → Type 0) (may_have
       record {
         count = omega (arith, one.count, other.count);
         lent = omega (arith, one.lent, other.lent);
-        each = λ k d e f less. elim (cases_lt k (length first)) [
-          | inl here ↦ search (rules, get_or_append_left, one.each k d e f here, one.lent, one.count)
-          | inr there ↦
-              let later = other.each (k - length first) d e f (omega arith) in
-              search (rules, get_or-append_right, later, one.lent, one.count)
-        ];
+        each = λ k d e f less. search (rules, cases_lt k (length first), get_or_append_left, get_or-append_right, one.each k d e f, other.each (k - length first) d e f, one.lent, one.count);
       }
 
   pub both_worked : (first first' second second' before : List L) (front back : List (Worker O))

@@ -27,32 +27,17 @@ module _ {O L K : Type 0} (f : L → K) (may leave : ℕ → K → O → K → T
 
   pub broken_off_seen : (jobs : ℕ) (before after : List L) → AreBrokenOff (Of may) (Of leave) jobs before after
       → AreBrokenOff may leave jobs (map f before) (map f after)
-  broken_off_seen jobs before after done =
-      let outputs : List O = done.outputs in
-      record {
-        ran = done.ran;
-        each_worker = done.each_worker ∙ sym (length-map before f);
-        count = done.count;
-        within = done.within;
-        some = done.some;
-        once = done.once;
-        rising = done.rising;
-        outputs = outputs;
-        each_output = done.each_output;
-        did = of_each f (λ mine a b. DidAll (Of may) outputs a mine b
-            ⊎ DidUntil (Of may) (Of leave) outputs a mine b) (λ mine a b. DidAll may outputs a mine b
-            ⊎ DidUntil may leave outputs a mine b) done.ran before after
-            (λ mine a b. ⊎_elim (λ did. inl (did_seen outputs mine a b did))
-            (λ did. inr (until_seen outputs mine a b did))) done.did;
-        why = ⊎_elim (λ s. inl (
-          s.0,
-          s.1,
-          f s.2,
-          f s.3,
-          s.4,
-          get_mapped f before s.0 s.2 s.5,
-          get_mapped f after s.0 s.3 s.6,
-          until_seen outputs s.1 s.2 s.3 s.7,
-        )) inr done.why;
-        busy = done.busy;
-      }
+  broken_off_seen jobs before after done = record {
+    ran = done.ran;
+    each_worker = done.each_worker ∙ sym (length-map before f);
+    count = done.count;
+    within = done.within;
+    some = done.some;
+    once = done.once;
+    rising = done.rising;
+    outputs = done.outputs;
+    each_output = done.each_output;
+    did = λ worker mine a b at at_a at_b. search (rules, done.did worker mine, mapped_at, did_seen done.outputs mine, until_seen done.outputs mine);
+    why = ⊎_elim (λ s. inl (search (rules, s, get_mapped f before s.0 s.2 s.5, get_mapped f after s.0 s.3 s.6, until_seen done.outputs s.1 s.2 s.3 s.7))) inr done.why;
+    busy = done.busy;
+  }

@@ -17,8 +17,7 @@ module _ {X Y : Type 0} (f : X → List Y) where
   flat_put x [] k within = absurd (omega arith)
   flat_put x (y ∷ xs) zero within = flipped (f x) (f y) (flat_map f xs)
   flat_put x (y ∷ xs) (suc k) within = IsPermutation-trans _ _ _ (flipped (f x) (f y) _)
-      (IsPermutation-trans _ _ _ (IsPermutation-append_right (f y) _ _ (flat_put x xs k (omega arith)))
-      (flipped (f y) _ _))
+      (IsPermutation-trans _ _ _ (search (rules, IsPermutation-append_right, flat_put x xs k)) (flipped (f y) _ _))
 
   flat_swap : (xs : List X) (i j : ℕ) → i < length xs → j < length xs
       → IsPermutation (flat_map f xs) (flat_map f (swap xs i j))
@@ -44,10 +43,7 @@ flat_by_number : {X Y : Type 0} (f : ℕ → List Y) (g : X → List Y) (a : ℕ
     → ((k : ℕ) (x : X) → slice_get xs k ≡ Some x → f (a + k) ≡ g x)
     → flat_map f (range_with_len a (length xs)) ≡ flat_map g xs
 flat_by_number f g a [] each = refl
-flat_by_number f g a (x ∷ xs) each =
-    let here = each 0 x refl in
-    let rest = flat_by_number f g (a + 1) xs (λ k y at. ap f (omega arith) ∙ each (suc k) y at) in
-    grind (arith, common_steps)
+flat_by_number f g a (x ∷ xs) each = grind (arith, common_steps, each 0 x refl, flat_by_number f g (a + 1) xs (λ k y at. ap f (omega arith) ∙ each (suc k) y at))
 
 -- ---- the calls of a history, caller by caller
 
@@ -68,10 +64,8 @@ one_gets : (c a many : ℕ) (handles : List Handle) (given : ℕ → List Handle
 unfolding with_call
 one_gets c a zero handles given from below = absurd (omega arith)
 one_gets c a (suc many) handles given from below = elim (cases_eq c a) [
-  | inl e ↦ rw (eq-eqb c a e, append_assoc, sym (none_below c (a + 1) many handles given (omega arith)))
-      (IsPermutation-refl _)
-  | inr ne ↦ rw (ne_eqb c a ne) (IsPermutation-trans _ _ _ (flipped handles (given a) _)
-      (IsPermutation-append_right (given a) _ _ (one_gets c (a + 1) many handles given (omega arith) (omega arith))))
+  | inl e ↦ rw (eq-eqb c a e, append_assoc, sym (none_below c (a + 1) many handles given (omega arith))) (IsPermutation-refl _)
+  | inr ne ↦ rw (ne_eqb c a ne) (IsPermutation-trans _ _ _ (flipped handles (given a) _) (search (rules, IsPermutation-append_right, one_gets c (a + 1) many handles given)))
 ]
 
 -- what a history gave to one caller
@@ -126,14 +120,11 @@ Differ g h = g ≢ h
 abbrev pub Lists : List (List Command) → ℕ → ℕ → Handle → Type 0
 Lists queues system k h = slice_get (handles_listed (queue_at queues system)) k ≡ Some h
 
-contains_at : (hs : List Handle) (k : ℕ) (h : Handle) → slice_get hs k ≡ Some h → Contains hs h
-contains_at hs k h at = search (rules, slice_get_within, get_or_from_slice_get)
-
 -- it stands among those that the queues list
 pub contains_listed : (queues : List (List Command)) (system k : ℕ) (h : Handle) → Lists queues system k h
     → Contains (flat_map handles_listed queues) h
 contains_listed [] system k h at = absurd (cc)
-contains_listed (q ∷ qs) zero k h at = search (rules, Contains-append_left, contains_at)
+contains_listed (q ∷ qs) zero k h at = search (rules, Contains-append_left, slice_get_within, get_or_from_slice_get)
 contains_listed (q ∷ qs) (suc system) k h at = search (rules, Contains-append_right, contains_listed qs system)
 
 -- what stands in the first of two lists does not stand in the second
@@ -145,9 +136,7 @@ pub position_is : (hs : List Handle) (index k : ℕ) (h : Handle) → AreGivenOn
     → position_from (eq_by_cmp handle_cmp h) index hs ≡ Some (index + k)
 position_is [] index k h once at = absurd (cc)
 position_is (x ∷ hs) index zero h once at = search (rules, itself)
-position_is (x ∷ hs) index (suc k) h once at =
-    let apart : x ≢ h = each_of_all (Differ x) hs k h (AllPairs-head Differ x hs once) at in
-    search (rules, position_is hs (index + 1) k h (AllPairs-tail Differ x hs once), apart)
+position_is (x ∷ hs) index (suc k) h once at = search (rules, position_is hs (index + 1) k h (AllPairs-tail Differ x hs once), each_of_all (Differ x) hs k h (AllPairs-head Differ x hs once))
 
 -- ---- the law
 
@@ -167,24 +156,18 @@ module _ {S : Type 0} (may : S → View → List Command → Type 0) (systems : 
   pub listed-IsPermutation : IsPermutation (flat_map handles_listed queues) (given_in history)
   unfolding listed_at
   listed-IsPermutation =
-      let ran : List ℕ = flat_map (λ mine. mine) frame.ran in
-      let by_system = flat_by_number listed_at handles_listed 0 queues (λ k q at. ap handles_listed
-      (ap (queue_at queues) (omega arith) ∙ get_or_from_slice_get queues k q [] at)) in
-      let by_worker = flat_by_number (given_to history) (flat_map listed_at) 0 frame.ran (λ k mine at.
-      ap (given_to history) (omega arith) ∙ given_listed k mine at) in
+      let by_system = flat_by_number listed_at handles_listed 0 queues (search (rules, get_or_from_slice_get)) in
+      let by_worker = flat_by_number (given_to history) (flat_map listed_at) 0 frame.ran (search (rules, given_listed)) in
       rw (sym by_system, frame.count) (IsPermutation-sym _ _ (IsPermutation-trans _ _ _
       (rw (sym frame.each_worker, by_worker, sym (flat_flat listed_at (λ mine. mine) frame.ran)) at
-      (by_callers workers history frame.callers)) (flat_moved listed_at ran _ frame.once)))
+      (by_callers workers history frame.callers)) (flat_moved listed_at _ _ frame.once)))
 
   module _ (sound : IsSound before.allocator) where
     -- No handle is listed twice, by one queue or by two.
     pub listed-distinct : AreGivenOnce (flat_map handles_listed queues)
-    listed-distinct = AllPairs-IsPermutation Differ (λ g h apart same. apart (sym same)) _ _
-        (IsPermutation-sym _ _ listed-IsPermutation) (given_in-distinct before.allocator history sound frame.legal)
+    listed-distinct = AllPairs-IsPermutation Differ (search rules) _ _ (IsPermutation-sym _ _ listed-IsPermutation) (search (rules, given_in-distinct))
 
     module _ (flushed : before.allocator.asked ≡ 0) where
       -- The handles that the queues list are those that are born in the sync of the frame.
       pub listed-born : IsPermutation (flat_map handles_listed queues) (born (after_history before.allocator history))
-      listed-born = IsPermutation-trans _ _ _ listed-IsPermutation
-          (IsPermutation-trans _ _ _ (given_in-taken before.allocator history sound frame.legal flushed)
-          (born-IsPermutation (after_history before.allocator history)))
+      listed-born = IsPermutation-trans _ _ _ listed-IsPermutation (search (rules, IsPermutation-trans, given_in-taken before.allocator history sound frame.legal flushed, born-IsPermutation))

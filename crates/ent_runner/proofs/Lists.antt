@@ -1,5 +1,5 @@
 -- Lists of lists, and the numbers of a range.
-use Rattle.ent_runner.proofs.Common.{rules, ◌≡◌, ◌≢◌, ℕ, zero, suc, ◌+◌, ◌<◌, ◌≤◌, List, [], ◌∷◌, ◌++◌, length, map, refl, ap, arith, Some, Bool, cond, ◌⊎◌, eq-eqb, ne_eqb, ◌∙◌, common_steps, ◌==◌, filter, slice_get, All, sum_by, flat_map, range_with_len, cases_eq, All-nil, All-cons, All-head, All-tail, All-append, sum_by-cons, All-left, All-right, slice_get-get_or, get_or_from_slice_get, slice_get_within, slice_get-map, option_map, get_or-map, length-map}
+use Rattle.ent_runner.proofs.Common.{rules, ◌≡◌, ℕ, zero, suc, ◌+◌, ◌<◌, List, [], ◌∷◌, length, map, refl, ap, arith, Some, Bool, ◌∙◌, common_steps, filter, slice_get, All, sum_by, flat_map, range_with_len, All-nil, All-cons, All-head, All-tail, All-append, All-left, All-right, slice_get-get_or, get_or_from_slice_get, slice_get_within, slice_get-map, option_map, get_or-map, length-map}
 
 -- what holds of each element at its index holds of all
 pub all_from_each : {X : Type 0} (P : X → Type 0) (xs : List X) → ((k : ℕ) (x : X) → slice_get xs k ≡ Some x → P x)
@@ -15,22 +15,17 @@ each_of_all P xs k x all at = search (rules, get_or_from_slice_get, slice_get_wi
 pub all_flat : {X Y : Type 0} (P : Y → Type 0) (f : X → List Y) (xs : List X) → All (λ x. All P (f x)) xs
     → All P (flat_map f xs)
 all_flat P f [] all = All-nil P
-all_flat P f (x ∷ xs) all = All-append P (f x) (flat_map f xs) (All-head (λ x. All P (f x)) x xs all)
-    (all_flat P f xs (All-tail (λ x. All P (f x)) x xs all))
+all_flat P f (x ∷ xs) all = search (rules, All-append, All-head (λ x. All P (f x)) x xs all, all_flat P f xs (All-tail (λ x. All P (f x)) x xs all))
 
 pub flat_all : {X Y : Type 0} (P : Y → Type 0) (f : X → List Y) (xs : List X) → All P (flat_map f xs)
     → All (λ x. All P (f x)) xs
 flat_all P f [] all = All-nil (λ x. All P (f x))
-flat_all P f (x ∷ xs) all = All-cons (λ x. All P (f x)) x xs (All-left P (f x) (flat_map f xs) all)
-    (flat_all P f xs (All-right P (f x) (flat_map f xs) all))
+flat_all P f (x ∷ xs) all = search (rules, All-cons, All-left P (f x) (flat_map f xs) all, flat_all P f xs (All-right P (f x) (flat_map f xs) all))
 
 pub same_flat : {X Y : Type 0} (f g : X → List Y) (xs : List X) → All (λ x. f x ≡ g x) xs
     → flat_map f xs ≡ flat_map g xs
 same_flat f g [] all = refl
-same_flat f g (x ∷ xs) all =
-    let here = All-head (λ x. f x ≡ g x) x xs all in
-    let rest = same_flat f g xs (All-tail (λ x. f x ≡ g x) x xs all) in
-    (λ i. here i ++ rest i)
+same_flat f g (x ∷ xs) all = search (rules, All-head (λ x. f x ≡ g x) x xs all, same_flat f g xs (All-tail (λ x. f x ≡ g x) x xs all))
 
 pub map_flat : {X Y Z : Type 0} (g : Y → Z) (f : X → List Y) (xs : List X)
     → map g (flat_map f xs) ≡ flat_map (λ x. map g (f x)) xs
@@ -65,38 +60,6 @@ pub at_within : {X : Type 0} (xs : List X) (k : ℕ) → k < length xs → (x : 
 at_within [] k within = absurd (omega arith)
 at_within (x ∷ xs) zero within = (x, refl)
 at_within (x ∷ xs) (suc k) within = at_within xs k (omega arith)
-
--- a number of a range is there once
-abbrev pub is_number : ℕ → ℕ → ℕ
-is_number n k = cond (k == n) 1 0
-
-number_here : (n k : ℕ) → k ≡ n → is_number n k ≡ 1
-number_here n k e = ap (λ b. cond b 1 0) (eq-eqb k n e)
-
-number_away : (n k : ℕ) → k ≢ n → is_number n k ≡ 0
-number_away n k ne = ap (λ b. cond b 1 0) (ne_eqb k n ne)
-
-pub below_range : (n a many : ℕ) → n < a → sum_by (is_number n) (range_with_len a many) ≡ 0
-below_range n a zero less = refl
-below_range n a (suc many) less = search (rules, sum_by-cons, number_away, below_range n (a + 1) many (omega arith))
-
-pub above_range : (n a many : ℕ) → a + many ≤ n → sum_by (is_number n) (range_with_len a many) ≡ 0
-above_range n a zero past = refl
-above_range n a (suc many) past = search (rules, sum_by-cons, number_away, above_range n (a + 1) many (omega arith))
-
--- the first number of a range is this one, and no later one is, or it is another
-range_step : (n a many : ℕ) → ((a ≡ n) × (sum_by (is_number n) (range_with_len a (suc many)) ≡ 1))
-    ⊎ ((a ≢ n) × (sum_by (is_number n) (range_with_len a (suc many)) ≡ sum_by (is_number n) (range_with_len (a + 1)
-    many)))
-range_step n a many = grind (arith, common_steps, sum_by-cons, cases_eq, number_here, below_range, number_away)
-
-pub once_in_range : (n a many : ℕ) → sum_by (is_number n) (range_with_len a many) ≤ 1
-once_in_range n a zero = omega arith
-once_in_range n a (suc many) = search (rules, range_step, once_in_range n (a + 1) many)
-
-pub some_in_range : (n a many : ℕ) → a ≤ n → n < a + many → sum_by (is_number n) (range_with_len a many) ≡ 1
-some_in_range n a zero from below = absurd (omega arith)
-some_in_range n a (suc many) from below = search (rules, range_step n a many, some_in_range n (a + 1) many)
 
 all_in_range : (a many : ℕ) → All (λ n. n < a + many) (range_with_len a many)
 all_in_range a zero = All-nil (λ n. n < a + zero)

@@ -1,26 +1,11 @@
 -- What a frame leaves if no queue was applied.
-use Rattle.ent_runner.proofs.Common.{rules, ◌≡◌, ℕ, Option, Vec, Global, List, drop, ap, ◌∙◌, subst, length, All, IfSome, IfNone, drop_of_length-le, Allocator, available, IsSound, Call, IsLegal, after_history, after_takes-sound, available-after_takes, limits-after_takes, live-after_takes, made-after_takes, length-taken, after_history-takes, Record, opened_records, history_of, reservations_of, Respects, Command, World, OpenWorld, View, world_at_start, AreDone, AreBrokenOff, IsFrame, IsLost, IsBrokenOff, reserved_by, view_of, None}
+use Rattle.ent_runner.proofs.Common.{rules, ◌≡◌, ℕ, Option, Vec, Global, List, ap, ◌∙◌, length, All, IfSome, IfNone, drop_of_length-le, IsSound, Call, IsLegal, after_history, after_takes-sound, available-after_takes, limits-after_takes, live-after_takes, made-after_takes, length-taken, after_history-takes, Record, opened_records, history_of, reservations_of, Respects, Command, World, OpenWorld, View, world_at_start, AreDone, AreBrokenOff, IsFrame, IsLost, IsBrokenOff, reserved_by, view_of, None}
 use Rattle.ent_runner.proofs.Conducting.{none_weaker, some_weaker}
 use Rattle.ent_runner.proofs.Framed.{Issues, frame_is, broken_off}
 
--- a flushed allocator has all that there is to give in its pool
-flushed_pool : (s : Allocator) → IsSound s → s.asked ≡ 0 → s.pool ≡ available s
-flushed_pool s sound flushed = sound.pool ∙ ap (λ n. drop n (available s)) flushed
-
 pub is_lost : (before w : World) (history : List Call) → IsSound before.allocator → before.allocator.asked ≡ 0
     → w ≡ reserved_by history before → IsLost before w
-is_lost before w history sound flushed changed = search (
-  rules,
-  after_history-takes,
-  after_takes-sound,
-  available-after_takes,
-  flushed_pool,
-  limits-after_takes,
-  live-after_takes,
-  made-after_takes,
-  length-taken,
-  drop_of_length-le,
-)
+is_lost before w history sound flushed changed = search (rules, after_history-takes, after_takes-sound, available-after_takes, sound.pool, limits-after_takes, live-after_takes, made-after_takes, length-taken, drop_of_length-le)
 
 -- What is known of a world that was opened and closed again, and of the queues, if there are any.
 abbrev pub ClosedAgain : {S : Type 0} → (S → View → List Command → Type 0) → (S → View → List Command → Type 0) → List S
@@ -55,10 +40,9 @@ module _ {S : Type 0} (may leave : S → View → List Command → Type 0) (syst
     changed = closed.2 ∙ ap (reserved_by closed.0) same
 
     pub lost_again : IsSound world.shared.start → before.allocator.asked ≡ 0 → IsLost before after
-    lost_again sound flushed = is_lost before after closed.0 (subst IsSound (ap (λ (w : World). w.allocator) same)
-        sound) flushed changed
+    lost_again sound flushed = search (rules, is_lost before after closed.0, changed)
 
     pub broken_again : (workers : ℕ) → world.shared.count ≡ workers → got ≡ None
         → (history : List Call) × IsBrokenOff may leave systems workers before history
         × (after ≡ reserved_by history before)
-    broken_again workers count none = (closed.0, search rules, changed)
+    broken_again workers count none = search (rules, closed, changed)

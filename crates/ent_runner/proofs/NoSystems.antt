@@ -1,6 +1,5 @@
 -- Workers who have nothing to do, and a frame without systems.
-use Rattle.ent_runner.proofs.Common.{common_steps, rules, ◌≡◌, ℕ, zero, suc, ◌<◌, List, [], ◌∷◌, length, refl, arith, Result, Some, replicate, slice_get, IsErrOf, IsOk, All, AllPairs, flat_map, IsPermutation, length-replicate, All-nil, All-replicate, IsPermutation-refl, flushed-laid_out, born, Call, Handle, Command, World, IsWorld, View, sync, IsStop, IfStopped, Fault, SyncFault, SyncReport, IsFrame, Ends}
-use Rattle.std.proofs.Common.{Ok, Err}
+use Rattle.ent_runner.proofs.Common.{Ok, Err, common_steps, rules, ◌≡◌, ℕ, zero, suc, ◌<◌, List, [], ◌∷◌, length, refl, arith, Result, Some, replicate, slice_get, IsErrOf, IsOk, All, AllPairs, flat_map, IsPermutation, length-replicate, All-nil, All-replicate, IsPermutation-refl, flushed-laid_out, born, Handle, Command, World, IsWorld, View, sync, IsStop, IfStopped, Fault, SyncFault, SyncReport, IsFrame, Ends}
 use Rattle.ent_world.specs.declared.fault.SyncFault.TheVariants as stop
 use Rattle.ent_runner.proofs.Lists.{each_of_all}
 
@@ -23,29 +22,18 @@ all_rise workers = grind (arith, common_steps, All-replicate, none_rise)
 
 pub is_none : (workers worker : ℕ) (mine : List ℕ) → slice_get (replicate workers no_jobs) worker ≡ Some mine
     → mine ≡ no_jobs
-is_none workers worker mine at = each_of_all (λ (mine : List ℕ). mine ≡ no_jobs) (replicate workers no_jobs) worker mine
-    (All-replicate (λ (mine : List ℕ). mine ≡ no_jobs) workers no_jobs refl) at
+is_none workers worker mine at = search (rules, each_of_all (λ (mine : List ℕ). mine ≡ no_jobs) (replicate workers no_jobs) worker mine, All-replicate (λ (mine : List ℕ). mine ≡ no_jobs) workers no_jobs)
 
 no_frame : {S : Type 0} (may : S → View → List Command → Type 0) (workers : ℕ) (before : World)
     → IsFrame may [] workers before [] []
-no_frame may workers before = record {
-  legal = tt;
-  callers = All-nil (λ (call : Call). call.caller < workers);
-  ran = replicate workers no_jobs;
-  each_worker = length-replicate workers no_jobs;
-  once = none_once workers;
-  work = search (rules, is_none, none_rise);
-  count = refl;
-  each_system = λ n system at. absurd (cc);
-}
+no_frame may workers before = search (rules, All-nil, length-replicate workers no_jobs, none_once workers, is_none, none_rise)
 
 pub ends_none : {S : Type 0} (may : S → View → List Command → Type 0) (systems : List S) (workers : ℕ) (before : World)
     (queues : List (List Command)) (after : World) (births : List Handle) (faults : List Fault) → length systems ≡ 0
     → queues ≡ [] → after ≡ (sync [] before).world → births ≡ born before.allocator → faults ≡ (sync [] before).faults
     → Ends may systems workers before queues after births faults
 ends_none may [] workers before queues after births faults none no_queues world came fault = search (rules, no_frame)
-ends_none may (system ∷ systems) workers before queues after births faults none no_queues world came fault = absurd
-    (omega arith)
+ends_none may (_ ∷ _) workers before queues after births faults none no_queues world came fault = absurd (omega arith)
 
 -- a sync point of nothing asks for no memory
 pub applies_none : (result : Result SyncReport SyncFault) (before after : World) → before.allocator.asked ≡ 0
@@ -53,7 +41,5 @@ pub applies_none : (result : Result SyncReport SyncFault) (before after : World)
     before.allocator.taken) → IfStopped result (λ system command done _. IsStop system command done []) → IsOk result
 applies_none (Ok report) before after flushed world kept taken stops = refl
 applies_none (Err stop.FlushMemory) before after flushed world kept taken stops = search (rules, flushed-laid_out)
-applies_none (Err (stop.Memory zero command done so_far)) before after flushed world kept taken stops = absurd
-    (omega arith)
-applies_none (Err (stop.Memory (suc system) command done so_far)) before after flushed world kept taken stops = absurd
-    (omega arith)
+applies_none (Err (stop.Memory zero _ _ _)) before after flushed world kept taken stops = absurd (omega arith)
+applies_none (Err (stop.Memory (suc _) _ _ _)) before after flushed world kept taken stops = absurd (omega arith)

@@ -1,6 +1,5 @@
 -- The claimers of a number of workers, as they are made one by one.
-use Rattle.ent_runner.proofs.Common.{common_steps, rules, ◌≡◌, ℕ, ◌+◌, ◌-◌, ◌<◌, List, [], ◌∷◌, ◌++◌, take, drop, ap, ◌∙◌, arith, All, All-push, TableId, Me, ClaimRecord, nothing_claimed, claims_of, Claims, Claimer, IsClaimerOf, IsClaimerSeated, false}
-use Rattle.std.proofs.Common.{replicate}
+use Rattle.ent_runner.proofs.Common.{replicate, common_steps, rules, ◌≡◌, ℕ, ◌+◌, ◌-◌, ◌<◌, List, [], ◌∷◌, ◌++◌, take, drop, arith, All, All-push, TableId, Me, ClaimRecord, nothing_claimed, claims_of, Claims, Claimer, IsClaimerOf, IsClaimerSeated, false}
 
 abbrev pub IsUnused : Claimer → Type 0
 IsUnused c = (c.own.claims ≡ []) × (c.own.ended ≡ false)
@@ -25,15 +24,11 @@ module _ (numbers workers many : ℕ) (word seat : TableId) (made : List Claimer
   next_is : me.0 ≡ nothing_claimed numbers ∷ replicate (workers - (many + 1)) (nothing_claimed numbers)
   next_is = search (rules, opened-first)
 
-  one_is : (views : List (List ClaimRecord)) → views ≡ take 1 me.0 ∷ [] → views ≡ (nothing_claimed numbers ∷ []) ∷ []
-  one_is views is = is ∙ ap (λ (rs : List ClaimRecord). take 1 rs ∷ []) next_is
-
   pub next_seated : (views : List (List ClaimRecord)) → views ≡ take 1 me.0 ∷ [] → IsClaimerSeated views false
-  next_seated views is = search (rules, one_is)
+  next_seated views is = search (rules, next_is)
 
   pub opened_more : (later : TableId) (after : Me (Unit {0}) (List ClaimRecord)) (c : Claimer) → later ≡ seat
       → after ≡ (drop 1 me.0, []) → (views : List (List ClaimRecord)) → views ≡ take 1 me.0 ∷ []
       → c ≡ record { word = seat; own = claims_of views } → (now : List Claimer) → now ≡ made ++ c ∷ []
       → AreOpened numbers workers (many + 1) word now later after
-  opened_more later after c same left views is c_is now now_is = grind
-      (arith, common_steps, one_is, next_is, All-push, of_opened)
+  opened_more later after c same left views is c_is now now_is = grind (arith, common_steps, next_is, All-push, of_opened)

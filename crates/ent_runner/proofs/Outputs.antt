@@ -1,7 +1,8 @@
 -- The outputs of jobs that were done once each: each is there at its number.
-use Rattle.ent_runner.proofs.Common.{rules, ◌≡◌, ℕ, suc, ◌<◌, ◌≤◌, List, [], ◌∷◌, length, map, get_or, refl, ap, sym, ◌∙◌, arith, Option, Some, None, inl, inr, ne_eqb, slice_get, replicate, IsSome, All, sum_by, range_with_len, IsPermutation, cases_eq, slice_get-get_or, length-replicate, length-map, get_or-replicate, All-head, All-tail, sum_by-cons, sum_by-IsPermutation, All-permutation, IsPermutation-sym, Done, outputs_put, DidAll, numbers_of, HaveEnded}
-use Rattle.ent_runner.proofs.ByNumber.{is_of, times, all_put, length_put, put_other}
-use Rattle.ent_runner.proofs.Lists.{each_of_all, sum_map, mapped_at, of_mapped, is_number, once_in_range, some_in_range, all_below, above_range}
+use Rattle.ent_runner.proofs.Common.{rules, ◌≡◌, ℕ, suc, ◌<◌, ◌≤◌, List, [], ◌∷◌, length, map, get_or, refl, ap, arith, Option, Some, None, inl, inr, ne_eqb, slice_get, replicate, IsSome, All, sum_by, range_with_len, IsPermutation, cases_eq, slice_get-get_or, length-replicate, length-map, get_or-replicate, All-head, All-tail, sum_by-cons, sum_by-IsPermutation, All-permutation, IsPermutation-sym, Done, outputs_put, DidAll, numbers_of, HaveEnded}
+use Rattle.ent_runner.proofs.ByNumber.{times, all_put, length_put, put_other}
+use Rattle.ent_runner.proofs.Lists.{each_of_all, sum_map, mapped_at, of_mapped, all_below}
+use Rattle.ent_runner.proofs.Counting.{is, in_range}
 
 module _ {O : Type 0} where
   -- an element that is there so often is somewhere
@@ -10,67 +11,47 @@ module _ {O : Type 0} where
   found n [] some = absurd (omega arith)
   found n (d ∷ done) some = elim (cases_eq d.number n) [
     | inl e ↦ (0, d, refl, e)
-    | inr ne ↦
-        let sums = sum_by-cons (is_of n) d done in
-        let away : is_of n d ≡ 0 = rw (ne_eqb d.number n ne) in
-        let rest = found n done (omega arith) in
-        (suc rest.0, rest.1, rest.2, rest.3)
+    | inr ne ↦ let rest = found n done (search (rules, ne_eqb, sum_by-cons)) in (suc rest.0, rest.1, rest.2, rest.3)
   ]
 
   abbrev none : Option O
   none = None
 
   module _ (count : ℕ) (done : List (Done O)) (once : IsPermutation (numbers_of done) (range_with_len 0 count)) where
-    pub counts : (n : ℕ) → times n done ≡ sum_by (is_number n) (range_with_len 0 count)
-    counts n = sym (sum_map (is_number n) (λ (d : Done O). d.number) done)
-        ∙ sym (sum_by-IsPermutation (is_number n) _ _ once)
+    pub counts : (n : ℕ) → times n done ≡ sum_by (is n) (range_with_len 0 count)
+    counts n = search (rules, sum_map (is n) (λ (d : Done O). d.number) done, sum_by-IsPermutation (is n) _ _ once)
 
     pub inside : All (λ (d : Done O). d.number < count) done
-    inside = of_mapped (λ n. n < count) (λ (d : Done O). d.number) done
-        (All-permutation (λ n. n < count) _ _ (IsPermutation-sym _ _ once) (all_below count))
+    inside = search (rules, of_mapped (λ n. n < count) (λ (d : Done O). d.number) done, All-permutation (λ n. n < count) (range_with_len 0 count) (numbers_of done), IsPermutation-sym, all_below)
 
     -- each output is there at its number
     pub stand : (e : Option O) → All (λ (d : Done O). get_or (outputs_put done (replicate count None)) d.number e
         ≡ Some d.output) done
-    stand e = search (rules, length-replicate, inside, all_put, counts, once_in_range)
+    stand e = search (rules, length-replicate, inside, all_put, counts, λ (n : ℕ). (in_range n 0 count).0)
 
     -- and each job has one
     pub found_at : (n : ℕ) → n < count → (k : ℕ) × (d : Done O) × (slice_get done k ≡ Some d) × (d.number ≡ n)
-    found_at n less = search (rules, found, counts, some_in_range)
+    found_at n less = search (rules, found, counts, in_range n 0 count)
 
     pub full : All IsSome (outputs_put done (replicate count None))
-    full n e within =
-        let there = found_at n (omega (arith, length_put done (replicate count none), length-replicate count none)) in
-        let d : Done O = there.1 in
-        rw (
-          sym there.3,
-          each_of_all (λ (d : Done O). get_or (outputs_put done (replicate count none)) d.number e ≡ Some d.output) done
-              there.0 d (stand e) there.2,
-        )
+    full n e within = search (rules, arith, found_at n, length_put done (replicate count none), length-replicate count none, each_of_all (λ (d : Done O). get_or (outputs_put done (replicate count none)) d.number e ≡ Some d.output) done, stand e)
 
     -- one that was not done has none
     pub left_out : (numbers n : ℕ) (e : Option O) → count ≤ n → n < numbers
         → get_or (outputs_put done (replicate numbers None)) n e ≡ None
-    left_out numbers n e past less = search (rules, put_other, counts, above_range, get_or-replicate)
+    left_out numbers n e past less = search (rules, put_other, counts, in_range n 0 count, get_or-replicate)
 
     module _ (outputs : List O) (whole : map Some outputs ≡ outputs_put done (replicate count None)) where
       pub long : length outputs ≡ count
       long = search (rules, length-map, length_put, length-replicate)
 
       pub outputs_at : All (λ (d : Done O). slice_get outputs d.number ≡ Some d.output) done
-      outputs_at k e within =
-          let d = get_or done k e in
-          let less : d.number < length (map Some outputs) = omega
-          (arith, inside k e within, long, length-map outputs Some) in
-          let at = slice_get-get_or (map Some outputs) d.number None less
-          ∙ ap Some (ap (λ all. get_or all d.number None) whole ∙ stand None k e within) in
-          let there = mapped_at Some outputs d.number (Some d.output) at in
-          search (rules, there.1, there.2)
+      outputs_at k e within = search (rules, arith, mapped_at Some outputs (get_or done k e).number (Some (get_or done k e).output), slice_get-get_or (map Some outputs) (get_or done k e).number None, inside k e within, long, length-map outputs Some, stand None k e within)
 
   -- what is there for all
   pub unwrapped : (os : List (Option O)) → All IsSome os → (xs : List O) × (map Some xs ≡ os)
   unwrapped [] all = ([], refl)
-  unwrapped (None ∷ os) all = let none = All-head IsSome None os all in absurd (cc)
+  unwrapped (None ∷ os) all = absurd (let none = All-head IsSome None os all in cc)
   unwrapped (Some x ∷ os) all =
       let rest = unwrapped os (All-tail IsSome (Some x) os all) in (x ∷ rest.0, ap (λ ys. Some x ∷ ys) rest.1)
 
@@ -79,6 +60,4 @@ module _ {O : Type 0} where
     pub kept_all : (a : L) (done : List (Done O)) (b : L) → All (λ (d : Done O). slice_get outputs d.number ≡ Some
         d.output) done → HaveEnded may a done b → DidAll may outputs a (numbers_of done) b
     kept_all a [] b at ended = ended
-    kept_all a (d ∷ done) b at ended =
-        let P : Done O → Type 0 = λ (d : Done O). slice_get outputs d.number ≡ Some d.output in
-        (ended.0, (d.output, All-head P d done at, ended.1), kept_all ended.0 done b (All-tail P d done at) ended.2)
+    kept_all a (d ∷ done) b at ended = search (rules, ended, kept_all ended.0 done b, All-head (λ (d : Done O). slice_get outputs d.number ≡ Some d.output) d done at, All-tail (λ (d : Done O). slice_get outputs d.number ≡ Some d.output) d done at)

@@ -1,18 +1,9 @@
 -- Each step keeps the rule over the claim word and the records.
-use Rattle.ent_runner.proofs.Common.{inl, inr, common_steps, rules, ◌≡◌, ℕ, zero, suc, ◌+◌, ◌%◌, ◌^◌, ◌<◌, ◌≤◌, List, [], ◌∷◌, ◌++◌, length, set, get_or, sym, refl, ap, ◌∙◌, arith, lt-ltb, le-ltb, mod-eq_of_lt, true, sum_by, All, range_with_len, cases_lt, All-nil, All-set, All-replicate, sum_by-replicate, all_pairs_push, sum_by-cons, sum_by_push, sum_by-le-sum_by, some, get_elem?, State, Me, keeps, Allows, opening, GoesByRecords, all_one, sum_at, all_at, whole_weighs, sum_regrouped, length-regrouped, all_regrouped, ClaimRecord, nothing_claimed, after_claim, weigh_claims, ended_in, IsClaimKept, AreClaimsRuled, AfterClaim, ClaimTells, AreClaimsClosed, false, cond}
-use Rattle.std.proofs.Common.{replicate}
+use Rattle.ent_runner.proofs.Common.{replicate, common_steps, rules, ◌≡◌, ℕ, zero, suc, ◌+◌, ◌%◌, ◌^◌, ◌<◌, ◌≤◌, List, [], ◌∷◌, ◌++◌, length, set, get_or, sym, refl, ap, ◌∙◌, arith, lt-ltb, le-ltb, mod-eq_of_lt, true, sum_by, All, range_with_len, cases_lt, All-nil, All-set, All-replicate, sum_by-replicate, all_pairs_push, sum_by-cons, sum_by_push, sum_by-le-sum_by, some, get_elem?, State, Me, keeps, Allows, opening, GoesByRecords, all_one, sum_at, all_at, whole_weighs, sum_regrouped, length-regrouped, all_regrouped, ClaimRecord, nothing_claimed, after_claim, ended_in, IsClaimKept, AreClaimsRuled, AfterClaim, ClaimTells, AreClaimsClosed, false, cond}
 
 range_last : (a n j : ℕ) → a + n ≡ j → range_with_len a (suc n) ≡ range_with_len a n ++ j ∷ []
 range_last a zero j e = ap (λ (k : ℕ). k ∷ []) (omega arith)
 range_last a (suc n) j e = ap (λ (ns : List ℕ). a ∷ ns) (range_last (a + 1) n j (omega arith))
-
--- the numbers below one more
-range_more : (n : ℕ) → range_with_len 0 (n + 1) ≡ range_with_len 0 n ++ n ∷ []
-range_more n = search (rules, range_last)
-
--- what a record weighs after one more claim
-weigh_claims-one : (f : ℕ → ℕ) (r : ClaimRecord) → weigh_claims f (r ∷ []) ≡ sum_by f r.claims
-weigh_claims-one f r = search rules
 
 ended-le : (v : List ClaimRecord) → ended_in v ≤ length v
 ended-le [] = omega arith
@@ -31,9 +22,6 @@ module _ (numbers workers : ℕ) where
   abbrev Rule : St → Type 0
   Rule = AreClaimsRuled numbers workers
 
-  word_small : (s : St) (k : Rule s) → k.word ≤ 2 ^ 16 + 64
-  word_small s k = search (rules, sum_by-le-sum_by, ended-le)
-
   -- a record that stays as it was, while another one claims
   kept_on : (claimed : ℕ) (r : ClaimRecord) → claimed < numbers → IsClaimKept numbers claimed r
       → IsClaimKept numbers (claimed + 1) r
@@ -47,66 +35,42 @@ module _ (numbers workers : ℕ) where
       → get_elem? s.views id ≡ some (r ∷ []) → k.word < numbers → words ≡ (k.word + 1) ∷ []
       → Rule (record s { words = words; views = set s.views id (with_claim r k.claimed ∷ []) })
   after_number s k id r words at below now =
-      let is : k.word ≡ k.claimed = search rules in
-      let left : k.claimed < numbers = omega arith in
+      let left : k.claimed < numbers = search rules in
+      let mine = all_at (All (IsClaimKept numbers k.claimed)) s.views id (r ∷ []) at k.each 0 r (omega arith) in
       let w : List ClaimRecord = with_claim r k.claimed ∷ [] in
-      let mine : IsClaimKept numbers k.claimed r = all_at (All (IsClaimKept numbers k.claimed)) s.views id (r ∷ []) at
-      k.each 0 r (omega arith) in
-      let ended = sum_at ended_in s.views id (r ∷ []) w at in
-      let changed = sum_at length s.views id (r ∷ []) w at in
-      let none = k.none_early left in
-      record {
-        few_numbers = k.few_numbers;
-        few_workers = k.few_workers;
-        word = k.word + 1;
-        words = now;
-        claimed = k.claimed + 1;
-        within = omega arith;
-        counts = omega (arith, k.counts);
-        none_early = λ _. omega arith;
-        partition = search (rules, sum_at, weigh_claims-one, sum_by_push, range_more);
-        records = omega (arith, k.records);
-        each = All-set (All (IsClaimKept numbers (k.claimed + 1))) s.views id w
-            (all_one (IsClaimKept numbers (k.claimed + 1)) (with_claim r k.claimed) (kept_claim k.claimed r left mine))
-            (λ i d lt j e l. kept_on k.claimed _ left (k.each i d lt j e l));
-      }
+      let counts : k.word + 1 ≡ (k.claimed + 1) + sum_by ended_in (set s.views id w) = search (rules, sum_at ended_in s.views id (r ∷ []) w at, k.counts) in
+      let each = All-set (All (IsClaimKept numbers (k.claimed + 1))) s.views id w
+      (all_one (IsClaimKept numbers (k.claimed + 1)) (with_claim r k.claimed) (kept_claim k.claimed r left mine))
+      (λ i d lt j e l. kept_on k.claimed _ left (k.each i d lt j e l)) in
+      search (rules, each, now, counts, k.none_early left, sum_at length s.views id (r ∷ []) w at, k.records, sum_at, sum_by_push, range_last 0 k.claimed k.claimed)
 
   after_end : (s : St) (k : Rule s) (id : ℕ) (r : ClaimRecord) (words : List ℕ) → get_elem? s.views id ≡ some (r ∷ [])
       → r.ended ≡ false → numbers ≤ k.word → words ≡ (k.word + 1) ∷ []
       → Rule (record s { words = words; views = set s.views id (with_end r ∷ []) })
   after_end s k id r words at going above now =
-      let all : k.claimed ≡ numbers = search rules in
       let w : List ClaimRecord = with_end r ∷ [] in
       let K : List ClaimRecord → Type 0 = All (IsClaimKept numbers k.claimed) in
       let mine : IsClaimKept numbers k.claimed r = all_at K s.views id (r ∷ []) at k.each 0 r (omega arith) in
-      let ended = sum_at ended_in s.views id (r ∷ []) w at in
-      let changed = sum_at length s.views id (r ∷ []) w at in
-      let nought : ended_in (r ∷ []) ≡ 0 = search rules in
       let each = All-set K s.views id w (all_one (IsClaimKept numbers k.claimed) (with_end r)
-      (search (rules, mine, all))) k.each in
-      search (rules, sum_at, each)
+      (search (rules, mine))) k.each in
+      search (rules, arith, sum_at ended_in s.views id (r ∷ []) w at, sum_at length s.views id (r ∷ []) w at, sum_at, each)
 
   pub claims : (slots id : ℕ) (r : ClaimRecord) → r.ended ≡ false
       → Allows Rule slots id (r ∷ [], []) 0 (λ word. (word + 1) % 2 ^ 64) (ClaimTells (r ∷ [], []))
   claims slots id r going s k _ at _ =
       let word : ℕ = k.word in
       let found : get_or s.words 0 0 ≡ word = search (rules, k.words) in
-      let small = word_small s k in
+      let small : k.word ≤ 2 ^ 16 + 64 = search (rules, sum_by-le-sum_by, ended-le) in
       let now : set s.words 0 ((get_or s.words 0 0 + 1) % 2 ^ 64) ≡ (word + 1)
       ∷ [] = search (rules, mod-eq_of_lt, k.words) in
-      let w : ClaimRecord = after_claim r word in
       let mine = all_at (All (IsClaimKept numbers k.claimed)) s.views id (r ∷ []) at k.each 0 r (omega arith) in
-      let limit : r.numbers ≡ numbers = mine.numbers_is in
-      let told : AfterClaim r (get_or s.words 0 0) (w ∷ []) = rw found (record {
-        above = λ i d lt. omega (arith, mine.below i d lt, k.counts);
-        after = refl;
-      }) in
-      let ruled : Rule (record s { words = set s.words 0 ((get_or s.words 0 0 + 1) % 2 ^ 64); views = set s.views id
-          (w ∷ []) }) = elim (cases_lt word numbers) [
-        | inl below ↦ search (rules, lt-ltb, after_number s k id r _ at below now)
-        | inr above ↦ search (rules, le-ltb, after_end s k id r _ at going above now)
-      ] in
-      (w ∷ [], keeps, tt, ruled, (refl, λ x is _. search (rules, told)))
+      let told : AfterClaim r (get_or s.words 0 0) (after_claim r word ∷ []) = search (rules, found, mine.below, k.counts) in
+      let ruled : Rule (record s {
+        words = set s.words 0 ((get_or s.words 0 0 + 1) % 2 ^ 64);
+        views = set s.views id
+            (after_claim r word ∷ []);
+      }) = search (rules, mine.numbers_is, cases_lt word numbers, lt-ltb, le-ltb, after_number s k id r (set s.words 0 ((get_or s.words 0 0 + 1) % 2 ^ 64)) at, after_end s k id r (set s.words 0 ((get_or s.words 0 0 + 1) % 2 ^ 64)) at going, now) in
+      (after_claim r word ∷ [], keeps, tt, ruled, (refl, λ x is _. search (rules, told)))
 
   pub claims_at : (slots id : ℕ) (me : Me (Unit {0}) (List ClaimRecord)) (r : ClaimRecord) (n : ℕ) → me.0 ≡ r ∷ []
       → me.1 ≡ [] → n ≡ 1 → r.ended ≡ false → Allows Rule slots id me 0 (λ word. (word + n) % 2 ^ 64) (ClaimTells me)
@@ -114,37 +78,18 @@ module _ (numbers workers : ℕ) where
 
   -- the rule goes by the records, and not by which seat has which
   pub goes_by_records : GoesByRecords Rule
-  goes_by_records s views same k =
-      let ended = sum_regrouped s.views views same (λ (r : ClaimRecord). cond {A = ℕ} r.ended 1 0) in
-      record {
-        few_numbers = k.few_numbers;
-        few_workers = k.few_workers;
-        word = k.word;
-        words = k.words;
-        claimed = k.claimed;
-        within = k.within;
-        counts = rw ended k.counts;
-        none_early = λ early. ended ∙ k.none_early early;
-        partition = λ f. sum_regrouped s.views views same (λ (r : ClaimRecord). sum_by f r.claims) ∙ k.partition f;
-        records = length-regrouped s.views views same ∙ k.records;
-        each = all_regrouped s.views views same (IsClaimKept numbers k.claimed) k.each;
-      }
+  goes_by_records s views same k = search (rules, sum_regrouped s.views views same (λ (r : ClaimRecord). cond {A = ℕ} r.ended 1 0), λ (f : ℕ → ℕ). sum_regrouped s.views views same (λ (r : ClaimRecord). sum_by f r.claims) ∙ k.partition f, length-regrouped s.views views same, all_regrouped s.views views same (IsClaimKept numbers k.claimed) k.each, k)
 
   -- before the first step
-  kept-opened : IsClaimKept numbers 0 (nothing_claimed numbers)
-  kept-opened = search (rules, All-nil)
-
   pub begins : numbers ≤ 2 ^ 16 → workers ≤ 64 → Rule (opening (0 ∷ []) []
       (replicate workers (nothing_claimed numbers)))
-  begins few_numbers few_workers = grind (arith, common_steps, sum_by-replicate, all_one, All-replicate, kept-opened)
+  begins few_numbers few_workers = grind (arith, common_steps, sum_by-replicate, all_one, All-replicate, All-nil)
 
   -- after the last step
   pub ends : (s : St) (k : Rule s) (id : ℕ) (v : List ClaimRecord) → get_elem? s.views id ≡ some v
       → AreClaimsClosed numbers workers v
-  ends s k id v there = record {
-    claimed = k.claimed;
-    within = k.within;
-    each = all_at (All (IsClaimKept numbers k.claimed)) s.views id v there k.each;
-    all = λ whole f. sym (whole_weighs (λ (r : ClaimRecord). sum_by f r.claims) s.views id v there
-        (k.records ∙ sym whole)) ∙ k.partition f;
-  }
+  ends s k id v there =
+      let each = all_at (All (IsClaimKept numbers k.claimed)) s.views id v there k.each in
+      let all = λ (whole : length v ≡ workers) (f : ℕ → ℕ). sym (whole_weighs (λ (r : ClaimRecord). sum_by f r.claims)
+      s.views id v there (k.records ∙ sym whole)) ∙ k.partition f in
+      search (rules, each, all, k.within)

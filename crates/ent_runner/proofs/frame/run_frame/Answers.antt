@@ -55,20 +55,13 @@ close-requires-clause-own g c = rw (back g (goal.at.close-requires-clause-own g 
     (rw c.shared.ensures at c.work-queues.ensures.lent)
 
 pub returns-in-Ok-apply-clause-ok : goal.returns-in-Ok-apply-clause-ok
-returns-in-Ok-apply-clause-ok g c =
-    let known = closed g (goal.at.returns-in-Ok-apply-clause-ok g c).After-close in
-    let opened_is = same g (goal.at.returns-in-Ok-apply-clause-ok g c).In-Ok-open in
-    search (rules, known, opened_is)
+returns-in-Ok-apply-clause-ok g c = search (rules, closed g (goal.at.returns-in-Ok-apply-clause-ok g c).After-close, same g (goal.at.returns-in-Ok-apply-clause-ok g c).In-Ok-open)
 
 pub returns-in-Ok-apply-clause-alone : goal.returns-in-Ok-apply-clause-alone
-returns-in-Ok-apply-clause-alone g c one = ends_in_order g.S.System.may_issue c.args.systems.now _ _ c.args.workers _ _
-    _ one (returns-in-Ok-apply-clause-ok g c)
+returns-in-Ok-apply-clause-alone g c one = ends_in_order _ _ _ _ _ _ _ _ one (returns-in-Ok-apply-clause-ok g c)
 
 pub returns-in-Err-apply-clause-stopped : goal.returns-in-Err-apply-clause-stopped
-returns-in-Err-apply-clause-stopped g c =
-    let known = closed g (goal.at.returns-in-Err-apply-clause-stopped g c).After-close in
-    let opened_is = same g (goal.at.returns-in-Err-apply-clause-stopped g c).In-Ok-open in
-    search (rules, known, opened_is)
+returns-in-Err-apply-clause-stopped g c = search (rules, closed g (goal.at.returns-in-Err-apply-clause-stopped g c).After-close, same g (goal.at.returns-in-Err-apply-clause-stopped g c).In-Ok-open)
 
 pub returns-in_default-queues-clause-still : goal.returns-in_default-queues-clause-still
 returns-in_default-queues-clause-still g c lost = lost_again g.S.System.may_issue g.S.System.may_leave _ _ _
@@ -89,5 +82,4 @@ returns-then-is_empty-clause-ok g c =
     w.world w.born w.faults
 
 pub returns-then-is_empty-clause-alone : goal.returns-then-is_empty-clause-alone
-returns-then-is_empty-clause-alone g c one = ends_in_order g.S.System.may_issue c.args.systems.now _ _ c.args.workers _
-    _ _ one (returns-then-is_empty-clause-ok g c)
+returns-then-is_empty-clause-alone g c one = ends_in_order _ _ _ _ _ _ _ _ one (returns-then-is_empty-clause-ok g c)

@@ -1,4 +1,4 @@
-use Rattle.ent_runner.proofs.Common.{◌<◌, sym, ◌∙◌, rules, AreClaimsClosed, items_all}
+use Rattle.ent_runner.proofs.Common.{sym, ◌∙◌, rules, AreClaimsClosed, items_all}
 use Rattle.ent_runner.proofs.Steps.{goes_by_records}
 use Rattle.ent_runner.proofs.Closing.{records_of, first, apart, claimed, once}
 use Rattle.ent_runner.proofs.claims.Claims.close.Goals as goal
@@ -19,9 +19,6 @@ closed c =
     let key = c.self.invariant.key_is in
     search (rules, all, key)
 
-some : (c : goal.After-close) → 0 < c.args.self.workers
-some c = search rules
-
 pub returns-clause-first : goal.returns-clause-first
 returns-clause-first c = first _ _ c.args.claimers.items c.requires.all (closed c)
 
@@ -29,7 +26,7 @@ pub returns-clause-apart : goal.returns-clause-apart
 returns-clause-apart c = apart _ _ c.args.claimers.items c.requires.all (closed c)
 
 pub returns-clause-claimed : goal.returns-clause-claimed
-returns-clause-claimed c = claimed _ _ c.args.claimers.items c.requires.all (closed c) (some c)
+returns-clause-claimed c = claimed _ _ c.args.claimers.items c.requires.all (closed c) (search rules)
 
 pub returns-clause-once : goal.returns-clause-once
-returns-clause-once c = once _ _ c.args.claimers.items c.requires.all (closed c) (some c)
+returns-clause-once c = once _ _ c.args.claimers.items c.requires.all (closed c) (search rules)
