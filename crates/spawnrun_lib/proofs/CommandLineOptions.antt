@@ -37,8 +37,7 @@ optional_from : (option : Text) (most : ℕ) (rows : List Row) → HasValue (fil
 optional_from option most rows value = search (rules, accepts-Accepts)
 
 blocks_from : (rows : List Row) → MayHaveValue blocks_rule rows → MayHaveBlocks rows
-blocks_from rows (inl none) = inl none
-blocks_from rows (inr value) = search (rules, optional_from)
+blocks_from rows it = search (rules, optional_from)
 
 show_from : (rows : List Row) → HasValue show_rule rows → HasShow rows
 show_from rows value = search rules
@@ -115,6 +114,4 @@ number_gives text r = ParsesUnsigned 32 10 text r × ExplainsUnsignedError 10 te
 pub blocks_read : (found : Found) (r : Option ℕ) → MayHaveBlocks (rows_of found)
     → (one_text found (codes "blocks") ≡ None → r ≡ None) → ((text : Text) → one_text found (codes "blocks") ≡ Some text
     → ReadsOne number_gives text r) → (option_number (codes "blocks") (rows_of found) ≡ r) × IfSome r (λ size. 0 < size)
-blocks_read found r (inl absent) none reads = search (rules, one_text-rows)
-blocks_read found r (inr number) none reads = search
-    (rules, number_read 32 (codes "blocks") most_handles found r (lit< tt) number reads)
+blocks_read found r it none reads = search (rules, one_text-rows, number_read 32 (codes "blocks") most_handles found r (lit< tt))

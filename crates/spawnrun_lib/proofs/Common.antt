@@ -2,11 +2,11 @@
 pub use Rattle.std.proofs.Common.{All, Bool, Bor, Contains, Equal, Err, Global, Greater, IfSome, IsOk, IsSomeAnd, IsTrue, IsUtf8, Less, List, MatchOption, None, Ok, OnErr, OnOk, Option, Ordering, Result, Some, String, T, [], ap, append-nil, append_assoc, arith, bytes_eq, chars, codes, cond, drop, encode_utf8, false, filter, find, fold, get_or, if◌then◌else◌, inl, inr, is_none, is_some, le-leb, length, length-drop, lit<, map, min, nat_lt, not, option_map, pos, refl, rules, set, slice_get, slice_index, string_bytes, subst, suc, sym, take, true, true≢false, unwrap_or, vec_capacity, vec_len, zero, ℕ, ℤ, ◌%◌, ◌&&◌, ◌++◌, ◌+◌, ◌-◌, ◌/◌, ◌<◌, ◌==◌, ◌^◌, ◌||◌, ◌∙◌, ◌∷◌, ◌≡◌, ◌≢◌, ◌≤◌, ◌⊎◌}
 pub use Rattle.std.proofs.Math.Dec.{eqb-suc-suc, eqb-suc-zero, eqb-zero-suc}
 pub use Rattle.std.proofs.Math.Nat.{min-eq_left}
-pub use Rattle.std.proofs.lemmas.Bool.{and_parts, cases_lt, cond-false, cond-true, false≢true, iff_false, le-ltb, lt-ltb}
+pub use Rattle.std.proofs.lemmas.Bool.{and_parts, cases_lt, cond-false, cond-true, false≢true, le-ltb, lt-ltb}
 pub use Rattle.std.proofs.lemmas.Bool.Decides.{nat_tests}
 pub use Rattle.std.proofs.lemmas.Fmt.{decimal_by_steps}
-pub use Rattle.std.proofs.lemmas.Grind.{common_steps, flat_map-append, take_at_read}
-pub use Rattle.std.proofs.lemmas.List.{drop_all, drop_more, ext_get_or, get_or_default, length-append, length-map, length-take, length-take-le, map-append, map-set, nil_from_length, take-append-drop, take-append-le, take_all, take_more}
+pub use Rattle.std.proofs.lemmas.Grind.{common_steps, flat_map-append}
+pub use Rattle.std.proofs.lemmas.List.{drop_more, ext_get_or, get_or_default, length-append, length-map, length-take, length-take-le, map-append, nil_from_length, take-append-drop, take-append-le, take_all, take_more}
 pub use Rattle.std.proofs.lemmas.List.Elements.{All-append, All-cons, All-contains_itself, All-filter, All-head, All-map, All-nil, All-push, All-tail, All-take, All-weaker}
 pub use Rattle.std.proofs.lemmas.List.FromFn.{get_or-range_with_len, length-range_with_len}
 pub use Rattle.std.proofs.lemmas.List.Sorted.{All-permutation, Contains-permutation, IsPartitionPoint-from_clause, IsPermutation-sym, IsPermutation-trans, length_permutation, sum_by-IsPermutation}
@@ -37,35 +37,32 @@ pub use Rattle.std.specs.declared.num.ParseIntError.{ParseIntError}
 unfoldable pub use Rattle.clap.proofs.OnLiterals.{clap_on_literals}
 pub use Rattle.clap.proofs.ValueTestLemmas.{accepts-Accepts}
 pub use Rattle.clap.proofs.WalkLemmas.{find-map, first_value-rows, list_any-map, one_text-rows}
-pub use Rattle.clap.specs.Faults.{action_fault, check_fault, default_fault, entered_fault, flag_word_fault, level_fault, long_fault, option_fault, react_fault, set_fault, settle_fault, short_fault, step_fault, turn_fault, use_fault}
+pub use Rattle.clap.specs.Faults.{action_fault, check_fault, entered_fault, flag_word_fault, level_fault, long_fault, option_fault, react_fault, set_fault, settle_fault, short_fault, step_fault, turn_fault, use_fault}
 unfoldable pub use Rattle.clap.specs.Faults.{defaults_fault, flags_fault, walk_fault}
 pub use Rattle.clap.specs.Kinds.{Kinds, or_else, range_kinds}
 pub use Rattle.clap.specs.Simple.{entered, filled, help_rule, label_of, new_shape, rows_at}
-pub use Rattle.clap.specs.Takes.{action_passes, built_takes, count_passes, default_passes, entered_passes, is_given, is_valid, level_passes, long_passes, option_passes, react_passes, settle_passes, short_passes, step_passes, turn_passes, value_passes, values_pass}
+pub use Rattle.clap.specs.Takes.{action_passes, built_takes, count_passes, default_passes, entered_passes, is_given, is_valid, level_passes, long_passes, option_passes, react_passes, settle_passes, short_passes, step_passes, value_passes, values_pass}
 unfoldable pub use Rattle.clap.specs.Takes.{flags_pass, walk_passes}
 pub use Rattle.clap.specs.Values.{is_request, same_text}
-pub use Rattle.clap.specs.Walk.{Held, Names, Outcome, Step, Waiting, Walk, action_of, after_flag, after_step, answers_to, arg_by_id, at_row, default_rows, finished, has_row, long_met, long_or_other, nothing_held, option_met, reacted, reading_by, rows_after, settled, short_met, short_or_plain, stop_after, subcommand_met, texts, used, used_as, used_by_id, values_or_missing, walk, walked_from, with_default, without, word_met}
+pub use Rattle.clap.specs.Walk.{Held, Names, Outcome, Step, Waiting, Walk, action_of, answers_to, arg_by_id, at_row, finished, has_row, long_met, long_or_other, nothing_held, option_met, reacted, reading_by, rows_after, settled, short_met, stop_after, texts, used, used_as, used_by_id, values_or_missing, walk, walked_from, with_default, without, word_met}
 unfoldable pub use Rattle.clap.specs.Walk.{bundle_met, walked}
-pub use Rattle.clap.specs.Words.{AddsArg, AddsSubcommand, App, HasKind, HasMatchesOf, ReadsOne, Row, Rule, Shape, Text, app_of, built, fault_of, first_of, first_value, found_of, is_simple, is_simple_and_free, kind_of, one_of, one_text, read_as, rows_of, rule_of, subcommand_name_of, subcommand_of, subcommand_rows_of, takes, with_rule, with_subcommand}
+pub use Rattle.clap.specs.Words.{AddsArg, App, HasKind, HasMatchesOf, ReadsOne, Row, Rule, Shape, Text, app_of, built, fault_of, first_of, first_value, found_of, is_simple, is_simple_and_free, kind_of, one_of, one_text, read_as, rows_of, rule_of, subcommand_name_of, subcommand_of, subcommand_rows_of, takes, with_rule}
 pub use Rattle.clap.specs.declared.builder.Arg.{Arg}
 pub use Rattle.clap.specs.declared.builder.ArgAction.{ArgAction}
 pub use Rattle.clap.specs.declared.builder.ArgAction.TheVariants.{Set}
-pub use Rattle.clap.specs.declared.builder.Command.TheViews.{out-Command as fields_of}
 pub use Rattle.clap.specs.declared.builder.value_parser.ValueParser.{ValueParser}
 pub use Rattle.clap.specs.declared.error.ErrorKind.{ErrorKind}
 pub use Rattle.clap.specs.declared.parser.ArgMatches.{ArgMatches}
 pub use Rattle.clap.specs.declared.parser.matches.Found.{Found}
 pub use Rattle.clap.specs.declared.parser.matches.ValueSource.{ValueSource}
-pub use Rattle.clap.specs.declared.parser.matches.ValueSource.TheVariants.{DefaultValue}
-pub use Rattle.serde_json.specs.Data.{Data, Items}
+pub use Rattle.serde_json.specs.Data.{Data}
 pub use Rattle.serde_json.specs.Find.{as_str}
 pub use Rattle.serde_json.specs.Read.{read}
-pub use Rattle.serde_json.specs.View.{items_view, view}
+pub use Rattle.serde_json.specs.View.{view}
 pub use Rattle.serde_json.specs.declared.value.Value.{Value}
 pub use Rattle.cli.proofs.Faults.{found_fault, only_memory}
 pub use Rattle.cli.proofs.Numbers.{number_read}
 pub use Rattle.cli.specs.Options.{HasNumber, generations_option, number_option, option_number, slots_option}
-pub use Rattle.devices.specs.declared.input.InputFault.{InputFault}
 pub use Rattle.ent_alloc.proofs.FreshHandles.{length-fresh}
 pub use Rattle.ent_alloc.proofs.HandleSets.{Contains-from_stands_in, same_handle, stands_in-from_Contains}
 pub use Rattle.ent_alloc.proofs.Histories.{given_in-taken}
@@ -100,12 +97,11 @@ pub use Rattle.ent_runner.proofs.ListedBirths.{listed-enters, listed-few, listed
 pub use Rattle.ent_runner.proofs.ListedOnce.{Lists, listed-IsPermutation, listed-born}
 pub use Rattle.ent_runner.proofs.Lists.{all_below, all_flat, all_from_each, at_within, flat_all, map_map_is, sum_map}
 pub use Rattle.ent_runner.specs.Frame.{Ends, IsFrame, commands_of, first_call, queue_at, reserved_by, view_of}
-pub use Rattle.ent_script.proofs.Texts.{json_none}
-pub use Rattle.ent_script.proofs.Values.{length_of_views, list_of-items_view, pair_view}
-pub use Rattle.ent_script.specs.Json.{list_of, whole}
+pub use Rattle.ent_script.proofs.Values.{pair_view}
+pub use Rattle.ent_script.specs.Json.{whole}
 pub use Rattle.ent_script.specs.Names.{as_name}
 pub use Rattle.ent_script.specs.Ranges.{AllFrom, IsFrameOf, IsScript}
-pub use Rattle.ent_script.specs.Reading.{ReadsAs, json_of, script_of_text}
+pub use Rattle.ent_script.specs.Reading.{json_of, script_of_text}
 pub use Rattle.ent_script.specs.Script.{Script}
 pub use Rattle.ent_script.specs.declared.ReadFault.{ReadFault}
 pub use Rattle.ent_script.specs.declared.operation.Operation.{Operation}
@@ -124,7 +120,7 @@ pub use Rattle.ent_world.proofs.NamedFrames.{frame-named, queues_births, sync-be
 pub use Rattle.ent_world.proofs.NamedLists.{listed-named}
 pub use Rattle.ent_world.proofs.Worlds.{after_births-world, after_history-world}
 pub use Rattle.ent_world.specs.BirthsAlone.{BirthCommand, BirthFault, BirthMap, frame_alone}
-pub use Rattle.ent_world.specs.Effects.{Applied, after_command, after_commands, after_queues, applied, on_each, on_entity, with_fault}
+pub use Rattle.ent_world.specs.Effects.{Applied, after_command, after_commands, after_queues, on_each, on_entity, with_fault}
 pub use Rattle.ent_world.specs.Named.{AreBelow, AreListed, AreNamed, AreNamedBy, AreNames, IsNamedBy, IsSameFault, IsThere}
 pub use Rattle.ent_world.specs.OpenWorld.{View}
 pub use Rattle.ent_world.specs.Sync.{after_births, handles_listed, listed_by, sync}
@@ -140,8 +136,8 @@ pub use Rattle.spawnrun_lib.specs.FrameText.{fault_line, frame_line, frame_text,
 pub use Rattle.spawnrun_lib.specs.Given.{handles_in_run}
 pub use Rattle.spawnrun_lib.specs.IssuedAlone.{AreGranted, BirthBindings, IsGranted, IsNoHandle, NamesNoHandle, NeedsNoHandle, births_from, births_meant, issued_alone, queues_alone, with_binding}
 pub use Rattle.spawnrun_lib.specs.Issuing.{Bindings, IsOfBirth, IsSpawn, IsSpawnMany, IsTargeted, Issues, IssuesAll, MayIssue, MayStop, OnEach, Stops, StopsAmong, StopsOnEach, bound, names_after, unbound}
-pub use Rattle.spawnrun_lib.specs.Parts.{HasIssued, HasIssuedOn, HasStopped, HasStoppedAmong, HasStoppedOn, command_on, names_of}
-pub use Rattle.spawnrun_lib.specs.Place.{IsPlaceOf, Place, Shows, bad_name, is_among, is_listed, is_text, key_but, key_char, long, place_of, quoted, twice, unwhole_in}
+pub use Rattle.spawnrun_lib.specs.Parts.{HasIssued, HasIssuedOn, HasStopped, HasStoppedOn, command_on, names_of}
+pub use Rattle.spawnrun_lib.specs.Place.{IsPlaceOf, Place, Shows, bad_name, is_among, is_listed, is_text, key_but, key_char, quoted, twice, unwhole_in}
 pub use Rattle.spawnrun_lib.specs.Replay.{outcome_lines}
 pub use Rattle.spawnrun_lib.specs.Report.{AreExecutions, Execution, IsReport, IsReportOf, born_in, frames_text, last_world, synced}
 pub use Rattle.spawnrun_lib.specs.ReportInBlocks.{AreQueues, IsTextFrom, IsTextInBlocks, blocks_of_frame, reserved_in, sizes_of}

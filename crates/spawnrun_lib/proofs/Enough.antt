@@ -2,7 +2,7 @@
 -- frame begins with at least as many handles to give as are still requested: a call takes what it
 -- requests, and a sync point takes nothing away.
 use Rattle.spawnrun_lib.proofs.OneCourse.{below_each}
-use Rattle.spawnrun_lib.proofs.Common.{rules, ◌≡◌, refl, subst, arith, ℕ, ◌+◌, ◌-◌, ◌≤◌, le-leb, List, [], ◌∷◌, length, length-drop, Some, Result, ◌==◌, slice_get, IsOk, sum_by, flat_map, range_with_len, length-append, All-nil, All-cons, All-head, All-map, All-filter, All-permutation, sum_by-cons, get_or_from_slice_get, slice_get_within, Handle, Space, AreLimits, quota, Allocator, after_take, reply_to, Call, IsLegal, after_history, length-fresh, All-left, All-right, after_take-served, Command, Refused, stands_for, cost, FitsQuota, FitQuota, applied, sync, after_births, World, first_world, after_queues-keeps, IsFrame, queue_at, commands_of, reserved_by, view_of, all_from_each, all_flat, flat_all, Script, Operation, IsGranted, AreGranted, MayIssue, Execution, AreExecutions, synced, requested_by_operation, HasEnoughSlots, All}
+use Rattle.spawnrun_lib.proofs.Common.{rules, ◌≡◌, subst, arith, ℕ, ◌+◌, ◌-◌, ◌≤◌, le-leb, List, [], ◌∷◌, length, length-drop, Some, Result, ◌==◌, slice_get, IsOk, sum_by, flat_map, range_with_len, length-append, All-nil, All-cons, All-head, All-map, All-filter, All-permutation, sum_by-cons, get_or_from_slice_get, slice_get_within, Handle, Space, AreLimits, quota, Allocator, after_take, Call, IsLegal, after_history, length-fresh, All-left, All-right, after_take-served, Command, Refused, stands_for, cost, FitsQuota, FitQuota, sync, World, first_world, after_queues-keeps, IsFrame, queue_at, commands_of, reserved_by, view_of, all_from_each, all_flat, flat_all, Script, Operation, IsGranted, AreGranted, MayIssue, Execution, AreExecutions, synced, requested_by_operation, HasEnoughSlots, All}
 use Rattle.ent_alloc.specs.declared.refused.Refused.TheVariants as refusal
 use Rattle.spawnrun_lib.proofs.NoRefusal.{WereGranted}
 use Rattle.spawnrun_lib.proofs.Requested.{requested, requested_in, wanted_by, wanted_in, cost-wanted, queues-wanted, worker-wanted, history-wanted}
@@ -17,13 +17,9 @@ all_served : (s : Allocator) (history : List Call) → IsLegal s history → req
     → All IsServed history × (length (after_history s history).pool + requested_in history ≡ length s.pool)
 all_served s [] legal enough = (All-nil IsServed, omega arith)
 all_served s (call ∷ calls) legal enough =
-    let n : ℕ = call.requested in
     let sums = sum_by-cons requested call calls in
-    let within : n ≤ length s.pool = omega arith in
-    let served : IsOk (reply_to s n) = rw (le-leb _ _ within) refl in
-    let fewer : length (after_take s n).pool ≡ length s.pool - n = rw (after_take-served s n within) (length-drop n
-    s.pool) in
-    search (rules, All-cons, served, all_served (after_take s n) calls legal.2 (omega arith))
+    let within : call.requested ≤ length s.pool = omega arith in
+    search (rules, arith, All-cons, le-leb, after_take-served, length-drop, all_served (after_take s call.requested) calls legal.2)
 
 -- ---- the commands of a worker
 
@@ -56,9 +52,7 @@ abbrev HasLeft : ℕ → World → Type 0
 HasLeft n w = n ≤ length w.allocator.pool
 
 sync-left : (n : ℕ) (queues : List (List Command)) (w : World) → HasLeft n w → HasLeft n (sync queues w).world
-sync-left n queues w left =
-    let both = length-append w.allocator.aside w.allocator.pool in
-    after_queues-keeps (HasLeft n) (search rules) 0 queues (applied (after_births queues w) []) (omega arith)
+sync-left n queues w left = search (rules, length-append, after_queues-keeps (HasLeft n))
 
 -- ---- a frame
 
@@ -96,10 +90,10 @@ module _ (systems : List (List Operation)) (workers : ℕ) (w : World) (queues :
       (all_flat IsGrantedAt (λ mine. mine) frame.ran (all_from_each (λ mine. All IsGrantedAt mine) frame.ran
       worker-granted)) in
       all_from_each (All IsGranted) queues (λ k q at.
-          let within = slice_get_within queues k q at in
-          let count = frame.count in
-          subst (All IsGranted) (get_or_from_slice_get queues k q [] at) (below_each IsGrantedAt (length systems) all k
-              (omega arith)))
+      let within = slice_get_within queues k q at in
+      let count = frame.count in
+      subst (All IsGranted) (get_or_from_slice_get queues k q [] at) (below_each IsGrantedAt (length systems) all k
+      (omega arith)))
 
   -- what its systems have not requested is left for the frames after it
   frame-left : (n : ℕ) → requested_by_systems systems + n ≤ length w.allocator.pool
@@ -122,12 +116,7 @@ more_granted workers w (systems ∷ frames) (e ∷ executions) went enough small
     let fits : requested_by_systems systems ≤ quota = omega arith in
     let left = frame-left systems workers w e.queues e.history went.0 here fits (sum_by requested_by_systems frames)
     (omega arith) in
-    search (
-      rules,
-      All-cons,
-      frame-granted systems workers w e.queues e.history went.0 here fits,
-      more_granted workers (synced w e).world frames executions went.1 left (omega arith),
-    )
+    search (rules, All-cons, frame-granted systems workers w e.queues e.history went.0 here fits, more_granted workers (synced w e).world frames executions went.1 left (omega arith))
 more_granted workers w _ _ went enough small = absurd went
 
 -- In the first world each slot has a handle to give, and a worker's quota is more than all slots.

@@ -37,5 +37,4 @@ pub next_name : (list : List Value) (n : ℕ) (v : Value) (text : List ℕ) (tes
     → v ≡ get_or list n v → as_name (view v) ≡ Some text → list_any (λ v. is_text text (view v)) (take n list) ≡ test
     → bad_name (map view (take n list)) (map view (drop n list))
     ≡ cond test (twice text) (bad_name (map view (take (n + 1) list)) (map view (drop (n + 1) list)))
-next_name list n v text test inside is named listed = grind
-    (arith, common_steps, drop_more, take_more, map-append, listed_lent)
+next_name list n v text test inside is named listed = grind (arith, common_steps, drop_more, take_more, map-append, listed_lent)

@@ -1,6 +1,6 @@
 -- A frame of scripted systems does to births alone what it does to the world, on every number of
 -- workers, if no request was refused and the systems name no handles.
-use Rattle.spawnrun_lib.proofs.Common.{entity_there, rules, ◌≡◌, refl, sym, ap, ◌∙◌, subst, ℕ, suc, ◌+◌, ◌^◌, ◌<◌, ◌≤◌, List, [], ◌∷◌, map, length, All, Some, is_some, unwrap_or, arith, min-eq_left, length-append, length-map, All-nil, All-cons, All-head, All-tail, All-weaker, All-contains_itself, IsPermutation-sym, IsPermutation-trans, length_permutation, none-some, Birth, ComponentId, component_cmp, Handle, born, Call, after_history, given_in-taken, ListsWith, Entity, EntityMap, birth_of, Command, BirthMap, applied, AreNamed, AreNames, AreNamedBy, AreBelow, AreListed, IsThere, sync, after_births, handles_listed, World, IsWorld, IsFlushed, flushed-kept, after_queues-keeps, frame-named, queues_births, sync-below, listed-named, after_births-world, after_history-world, IsFrame, queue_at, reserved_by, view_of, listed-few, listed-enters, listed-new, unlisted-stays, Lists, listed-IsPermutation, listed-born, map_map_is, Operation, IsOfBirth, MayIssue, births_meant, queues_alone, NamesNoHandle, IsGranted, AreGranted, IsFrameAlone, queues_by_births, slice_get, flat_map}
+use Rattle.spawnrun_lib.proofs.Common.{entity_there, rules, ◌≡◌, refl, sym, ap, ◌∙◌, ℕ, suc, ◌+◌, ◌^◌, ◌<◌, ◌≤◌, List, [], ◌∷◌, map, length, All, Some, is_some, unwrap_or, arith, min-eq_left, length-append, length-map, All-nil, All-cons, All-head, All-tail, All-weaker, All-contains_itself, IsPermutation-sym, IsPermutation-trans, length_permutation, none-some, Birth, ComponentId, component_cmp, Handle, born, Call, after_history, given_in-taken, ListsWith, Entity, EntityMap, birth_of, Command, BirthMap, AreNamed, AreNames, AreNamedBy, AreBelow, AreListed, IsThere, sync, after_births, handles_listed, World, IsWorld, IsFlushed, flushed-kept, after_queues-keeps, frame-named, queues_births, sync-below, listed-named, after_births-world, after_history-world, IsFrame, queue_at, reserved_by, view_of, listed-few, listed-enters, listed-new, unlisted-stays, Lists, listed-IsPermutation, listed-born, map_map_is, Operation, IsOfBirth, MayIssue, births_meant, queues_alone, NamesNoHandle, IsGranted, AreGranted, IsFrameAlone, queues_by_births, slice_get, flat_map}
 use Rattle.std.specs.FinMap as finite
 use Rattle.std.specs.FinMap.{find}
 use Rattle.ent_script.specs.declared.target.Target.TheVariants as target
@@ -51,25 +51,21 @@ module _ (systems : List (List Operation)) (workers : ℕ) (w : World) (queues :
   old_there : (h : Handle) → IsThere w.entities h → IsThere all_born h
   old_there h there = search (rules, entity_there, stays)
 
+  abbrev HasBirth : ℕ → ℕ → Handle → Type 0
+  HasBirth system k h = IsThere all_born h × (name h ≡ record { frame = w.phase; system = system; ordinal = k })
+
   -- a handle that a queue lists is there, with the birth of its position
-  placed : (system k : ℕ) (h : Handle) → Lists queues system k h
-      → IsThere all_born h × (name h ≡ record { frame = w.phase; system = system; ordinal = k })
+  placed : (system k : ℕ) (h : Handle) → Lists queues system k h → HasBirth system k h
   placed system k h at =
       let there = listed-enters _ _ _ _ _ _ frame is_world.sound flushed system k h at in
       (ap is_some there, names h _ there)
 
-  in_order : (system k : ℕ) (hs : List Handle) → ((j : ℕ) (h : Handle) → slice_get hs j ≡ Some h
-      → IsThere all_born h × (name h ≡ record { frame = w.phase; system = system; ordinal = k + j }))
-      → AreInOrder name all_born w.phase system k hs
+  in_order : (system k : ℕ) (hs : List Handle) → ((j n : ℕ) (h : Handle) → n ≡ k + j → slice_get hs j ≡ Some h
+      → HasBirth system n h) → AreInOrder name all_born w.phase system k hs
   in_order system k [] at = tt
   in_order system k (h ∷ hs) at =
-      let same : k + 0 ≡ k = omega arith in
-      let first = rw same at (at 0 h refl) in
-      (first.0, first.1, in_order system (k + 1) hs (λ j g is. subst (λ n. IsThere all_born g × (name g ≡ record {
-        frame = w.phase;
-        system = system;
-        ordinal = n;
-      })) (omega arith) (at (suc j) g is)))
+      let first = at 0 k h (omega arith) refl in
+      (first.0, first.1, in_order system (k + 1) hs (λ j n g is. at (suc j) n g (omega (arith, is))))
 
   -- the entities of an `each`, in the order of births
   each_named : (id : ComponentId) (hs : List Handle) → ListsWith id w.entities hs
@@ -89,25 +85,23 @@ module _ (systems : List (List Operation)) (workers : ℕ) (w : World) (queues :
   -- each system's queue, from a system on
   all_named : (system : ℕ) (qs : List (List Command)) (ss : List (List Operation)) → length qs ≡ length ss
       → All NamesNoHandle ss → All (All IsGranted) qs → ((n : ℕ) (ops : List Operation) → slice_get ss n ≡ Some ops
-      → MayIssue ops (view_of w) (queue_at qs n)) → ((n k : ℕ) (h : Handle) → Lists qs n k h
-      → IsThere all_born h × (name h ≡ record { frame = w.phase; system = system + n; ordinal = k }))
-      → AreNamedBy name all_born qs (queues_alone w.phase system view ss)
+      → MayIssue ops (view_of w) (queue_at qs n)) → ((n k number : ℕ) (h : Handle) → number ≡ system + n
+      → Lists qs n k h → HasBirth number k h) → AreNamedBy name all_born qs (queues_alone w.phase system view ss)
   all_named system [] [] same free granted may at = tt
-  all_named system (q ∷ qs) (ops ∷ ss) same free granted may at =
-      let here : system + 0 ≡ system = omega arith in (
-        queue-alone name all_born w.phase system (view_of w) view each_named birth_named ops q
-            (in_order system 0 (handles_listed q) (λ j h is. let own : j ≡ 0
-            + j = omega arith in rw here at (rw own at (at 0 j h is)))) (All-head (All IsGranted) q qs granted)
-            (All-head NamesNoHandle ops ss free) (may 0 ops refl),
-        all_named (system + 1) qs ss (omega arith) (All-tail NamesNoHandle ops ss free)
-            (All-tail (All IsGranted) q qs granted) (λ n. may (suc n))
-            (λ n k h is. let next : system + suc n ≡ (system + 1) + n = omega arith in rw next at (at (suc n) k h is)),
-      )
+  all_named system (q ∷ qs) (ops ∷ ss) same free granted may at = (
+    queue-alone name all_born w.phase system (view_of w) view each_named birth_named ops q
+        (in_order system 0 (handles_listed q) (λ j n h is. let own : n ≡ j = omega (arith, is) in
+        rw own (at 0 j system h (omega arith)))) (All-head (All IsGranted) q qs granted)
+        (All-head NamesNoHandle ops ss free) (may 0 ops refl),
+    all_named (system + 1) qs ss (omega arith) (All-tail NamesNoHandle ops ss free)
+        (All-tail (All IsGranted) q qs granted) (λ n. may (suc n))
+        (λ n k number h is. at (suc n) k number h (omega (arith, is))),
+  )
   all_named system _ _ same free granted may at = absurd (omega arith)
 
   are_named : AreNamedBy name all_born queues (queues_by_births w view systems)
-  are_named = all_named 0 queues systems frame.count free granted frame.each_system (λ n k h is.
-      let same : 0 + n ≡ n = omega arith in rw same (placed n k h is))
+  are_named = all_named 0 queues systems frame.count free granted frame.each_system
+      (λ n k number h is. let same : number ≡ n = omega (arith, is) in rw same (placed n k h))
 
   -- the queues list just what is reserved, each handle once
   are_listed : AreListed queues reserved.allocator
@@ -126,14 +120,12 @@ module _ (systems : List (List Operation)) (workers : ℕ) (w : World) (queues :
       search (rules, after_queues-keeps, IsFlushed, flushed-kept)
 
   next_number : (sync queues reserved).world.phase ≡ w.phase + 1
-  next_number = after_queues-keeps (λ w'. w'.phase ≡ w.phase + 1) (search rules) 0 queues
-      (applied (after_births queues reserved) []) (min-eq_left (omega arith))
+  next_number = search (rules, after_queues-keeps (λ w'. w'.phase ≡ w.phase + 1), min-eq_left)
 
   pub frame-alone : IsFrameAlone w queues history systems view
   frame-alone = record {
     name = name;
-    after = frame-named queues reserved view is_reserved named below are_listed name names
-        (queues_by_births w view systems) are_named;
+    after = search (rules, frame-named, is_reserved, are_listed, name, names, are_named);
     born_are = length_permutation (flat_map handles_listed queues) (born (after_history w.allocator history))
         (listed-born MayIssue systems workers w queues history frame is_world.sound flushed)
         ∙ sym (length-map (flat_map handles_listed queues) name)

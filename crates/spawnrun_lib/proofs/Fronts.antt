@@ -1,6 +1,6 @@
 -- Fronts of texts: of a text that is appended to, of one in printable ASCII, and of one of which
 -- only the first parts are looked at.
-use Rattle.spawnrun_lib.proofs.Common.{common_steps, flat_map-append, take_at_read, rules, ◌≡◌, ℕ, suc, ◌+◌, ◌≤◌, ◌<◌, true, List, [], ◌∷◌, ◌++◌, length, take, sym, ap, subst, ◌∙◌, arith, codes, append_assoc, inl, inr, slice_index, cut_to, floor_char_boundary, is_char_start, cond-true, cond-false, cases_lt, nat_tests, take-append-le, length-take-le, take_all, All-append, All-take, All-cons, All-nil, ArePrintable, IsPrintable, front, append-nil, length-append, flat_map}
+use Rattle.spawnrun_lib.proofs.Common.{common_steps, flat_map-append, rules, ◌≡◌, ℕ, suc, ◌+◌, ◌≤◌, ◌<◌, true, List, [], ◌∷◌, ◌++◌, length, take, sym, ap, subst, ◌∙◌, arith, codes, append_assoc, inl, inr, slice_index, cut_to, floor_char_boundary, is_char_start, cond-true, cond-false, cases_lt, nat_tests, take-append-le, length-take-le, take_all, All-append, All-take, All-cons, All-nil, ArePrintable, IsPrintable, front, append-nil, length-append, flat_map}
 
 pub front-short : (text : List ℕ) → length text ≤ 60 → front text ≡ text
 unfolding front
@@ -89,20 +89,3 @@ length-parts part some (x ∷ xs) = search (rules, length-append, length-parts p
 pub front-of_parts : (part : ℕ → List ℕ) → ((x : ℕ) → 0 < length (part x)) → (xs ys : List ℕ) → 60 < length xs
     → front (flat_map part (xs ++ ys)) ≡ front (flat_map part xs)
 front-of_parts part some xs ys long = search (rules, flat_map-append, front-past, length-parts)
-
--- one more part
-pub front-next : (part : ℕ → List ℕ) (xs : List ℕ) (i : ℕ) (shown next : List ℕ) → i < length xs
-    → shown ≡ front (flat_map part (take i xs)) → next ≡ front (shown ++ part (slice_index xs i))
-    → next ≡ front (flat_map part (take (i + 1) xs))
-front-next part xs i shown next within so_far more = search
-    (rules, front-more, append-nil, flat_map-append, take_at_read)
-
--- the same after a text that stood before
-pub front-after : (old : List ℕ) (part : ℕ → List ℕ) (xs : List ℕ) (i : ℕ) (shown next : List ℕ) → i < length xs
-    → shown ≡ front (old ++ flat_map part (take i xs)) → next ≡ front (shown ++ part (slice_index xs i))
-    → next ≡ front (old ++ flat_map part (take (i + 1) xs))
-front-after old part xs i shown next within so_far more = search
-    (rules, go_on, append-nil, flat_map-append, take_at_read)
-
-pub front-nothing : (old : List ℕ) → length old ≤ 60 → old ≡ front (old ++ [])
-front-nothing old short = sym (ap front (append-nil old) ∙ front-short old short)

@@ -28,3 +28,4 @@ pub mod CommandLineOptions
 mod Commands
 pub mod TaskOfWords
 pub mod Common
+pub mod Laws

@@ -1,5 +1,5 @@
 -- A run whose first frames are done goes on by one frame, and ends in a report.
-use Rattle.spawnrun_lib.proofs.Common.{rules, ◌≡◌, refl, subst, ℕ, ◌+◌, ◌≤◌, List, [], ◌∷◌, ◌++◌, length, arith, append_assoc, append-nil, length-append, All-head, All-tail, Handle, Command, World, Fault, IsFrame, Ends, Operation, MayIssue, Show, frame_text, Execution, AreExecutions, synced, born_in, last_world, frames_text, AreFew, HaveGone}
+use Rattle.spawnrun_lib.proofs.Common.{rules, ◌≡◌, refl, subst, ℕ, ◌+◌, ◌≤◌, List, [], ◌∷◌, ◌++◌, length, arith, append_assoc, append-nil, length-append, All-tail, Handle, Command, World, Fault, IsFrame, Ends, Operation, MayIssue, Show, frame_text, Execution, AreExecutions, synced, born_in, last_world, frames_text, AreFew, HaveGone}
 
 -- ---- one frame more
 
@@ -23,8 +23,7 @@ text_on : (workers : ℕ) (show : Show) (number : ℕ) (w : World) (frames : Lis
     ++ frame_text show (number + length frames) (born_in (last_world w executions) e)
     (synced (last_world w executions) e).faults
 text_on workers show number w [] [] e went = search (rules, append-nil)
-text_on workers show number w (s ∷ frames) (x ∷ executions) e went = search
-    (rules, append_assoc, text_on workers show (number + 1) (synced w x).world frames executions e went.1)
+text_on workers show number w (s ∷ frames) (x ∷ executions) e went = search (rules, append_assoc, text_on workers show (number + 1) (synced w x).world frames executions e went.1)
 text_on workers show number w _ _ e went = absurd went
 
 module _ (workers : ℕ) (show : Show) (first now after : World) (frames : List (List (List Operation)))
@@ -54,9 +53,6 @@ module _ (gone old rest : List (List (List Operation))) (systems : List (List Op
 
   pub one_more : (number : ℕ) → number ≡ length gone → number + 1 ≡ length (gone ++ systems ∷ [])
   one_more number is = search (rules, length-append, is)
-
-  pub next_is_few : AreFew old → length systems ≤ 256
-  next_is_few few = search (rules, All-head)
 
   pub others_are_few : AreFew old → AreFew rest
   others_are_few few = All-tail (λ systems. length systems ≤ 256) systems rest (subst AreFew front few)

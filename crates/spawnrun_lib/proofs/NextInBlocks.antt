@@ -1,5 +1,5 @@
 -- A run in blocks whose first frames are done goes on by one frame, and ends in the text of the script.
-use Rattle.spawnrun_lib.proofs.Common.{rules, ◌≡◌, ℕ, ◌+◌, List, [], ◌∷◌, ◌++◌, length, append_assoc, append-nil, subst, sym, length-append, Handle, Command, World, first_world, Fault, Script, Operation, EndsInBlocks, HaveGoneInBlocks, frame_text, IsTextFrom, IsTextInBlocks, sizes_of, IsWorldText, Show}
+use Rattle.spawnrun_lib.proofs.Common.{rules, ◌≡◌, ℕ, ◌+◌, List, [], ◌∷◌, ◌++◌, length, append_assoc, append-nil, length-append, Handle, Command, World, first_world, Fault, Script, Operation, EndsInBlocks, HaveGoneInBlocks, frame_text, IsTextFrom, IsTextInBlocks, sizes_of, IsWorldText, Show}
 
 module _ (names : List (List ℕ)) (size : ℕ) (show : Show) (first : World) where
   pub has_begun_in_blocks : HaveGoneInBlocks names size show first first [] []
@@ -11,8 +11,7 @@ module _ (names : List (List ℕ)) (size : ℕ) (show : Show) (first : World) wh
       → EndsInBlocks (sizes_of size systems) systems now queues after came faults
       → HaveGoneInBlocks names size show first after (gone ++ systems ∷ [])
       (text ++ frame_text show (length gone) came faults)
-  has_gone_on_in_blocks now after gone systems text queues came faults run ends = search
-      (rules, length-append, append_assoc)
+  has_gone_on_in_blocks now after gone systems text queues came faults run ends = search (rules, length-append, append_assoc)
 
   pub whole_in_blocks : (now : World) (frames : List (List (List Operation))) (text others : List ℕ)
       → HaveGoneInBlocks names size show first now frames text → IsWorldText names show now.entities others
@@ -26,8 +25,4 @@ pub text_in_blocks : (script : Script) (size : ℕ) (show : Show) (first now : W
     → first ≡ first_world script.limits → frames ≡ script.frames → names ≡ script.components
     → IsWorldText names show now.entities others → all ≡ text ++ others → IsTextInBlocks script size show all
 text_in_blocks script size show first now frames names text others all run first_is frames_are names_are is all_is =
-    let whole = whole_in_blocks names size show first now frames text others (run names) is in
-    let parts : IsTextFrom script.components size show 0 (first_world script.limits) script.frames (text ++ others) = rw
-    (first_is, frames_are, names_are) at whole in
-    subst (λ text. IsTextFrom script.components size show 0 (first_world script.limits) script.frames text) (sym all_is)
-    parts
+    let whole = (run names).rest [] others is in search (rules, append-nil)

@@ -30,26 +30,19 @@ module _ (system command : ℕ) where
     before_each (h ∷ hs) a none = before_one h a (before_each hs (on_entity system command change h a) none)
 
   before_command : (c : Command) (a : Applied) → AreNone (after_command system command c a) → AreNone a × IsGranted c
-  before_command (Refused wanted (refusal.Space same left)) a none = search
-      (rules, before_fault (kind.Space same left) a none)
+  before_command (Refused wanted (refusal.Space same left)) a none = search (rules, before_fault (kind.Space same left) a none)
   before_command (Refused wanted (refusal.Quota left)) a none = search (rules, before_fault (kind.Quota left) a none)
   before_command _ a none = (search (before_one, before_each), tt)
 
 before_commands : (system command : ℕ) (q : List Command) (a : Applied) → AreNone (after_commands system command q a)
     → AreNone a × All IsGranted q
 before_commands system command [] a none = (none, All-nil IsGranted)
-before_commands system command (c ∷ q) a none = search (
-  rules,
-  All-cons,
-  before_command system command c a,
-  before_commands system (command + 1) q (after_command system command c a) none,
-)
+before_commands system command (c ∷ q) a none = search (rules, All-cons, before_command system command c a, before_commands system (command + 1) q (after_command system command c a) none)
 
 before_queues : (system : ℕ) (queues : List (List Command)) (a : Applied) → AreNone (after_queues system queues a)
     → AreNone a × AreGranted queues
 before_queues system [] a none = (none, All-nil (All IsGranted))
-before_queues system (q ∷ queues) a none = search
-    (rules, before_commands, All-cons, before_queues (system + 1) queues (after_commands system 0 q a) none)
+before_queues system (q ∷ queues) a none = search (rules, before_commands, All-cons, before_queues (system + 1) queues (after_commands system 0 q a) none)
 
 pub sync-granted : (queues : List (List Command)) (w : World) → All IsNoRefusal (sync queues w).faults
     → AreGranted queues

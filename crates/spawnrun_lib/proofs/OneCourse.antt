@@ -1,6 +1,6 @@
 -- A frame of scripted systems on one worker has one course: its queues and its history follow from
 -- the systems and the world.
-use Rattle.spawnrun_lib.proofs.Common.{rules, ◌≡◌, refl, sym, ◌∙◌, arith, append-nil, ℕ, ◌<◌, ℤ, List, [], ◌∷◌, ◌++◌, length, Some, Ok, Result, common_steps, if◌then◌else◌, nat_lt, slice_get, AllPairs, flat_map, range_with_len, IsPermutation, cond-true, cond-false, lt-ltb, le-ltb, ext_get_or, All-nil, All-cons, All-head, All-tail, length-range_with_len, get_or-range_with_len, All-permutation, IsPermutation-sym, ComponentId, Birth, Handle, OutOfSpace, quota, Allocator, reply_to, Call, reply-none, Quota, one_list_with, Command, Spawn, SpawnMany, Refused, World, View, IsFrame, view_of, queue_at, commands_of, at_within, all_below, calls_back, Operation, Target, Bindings, unbound, names_after, IsOfBirth, IsTargeted, OnEach, IsSpawn, IsSpawnMany, Issues, IssuesAll, MayIssue, All, Contains-permutation, same_list, ◌-◌, map, flat_map-append, map-append, after_take, IsLegal, after_history, stands_for, cost, FitQuota, first_call, first_world, Script, Show, Execution, AreExecutions, synced, last_world, frames_text, IsReport, Err}
+use Rattle.spawnrun_lib.proofs.Common.{rules, ◌≡◌, refl, sym, ◌∙◌, arith, append-nil, ℕ, ◌<◌, ℤ, List, [], ◌∷◌, ◌++◌, length, Some, Ok, Result, common_steps, if◌then◌else◌, nat_lt, slice_get, AllPairs, flat_map, range_with_len, IsPermutation, cond-true, cond-false, lt-ltb, le-ltb, ext_get_or, All-nil, All-cons, All-head, All-tail, length-range_with_len, get_or-range_with_len, All-permutation, IsPermutation-sym, ComponentId, Birth, Handle, OutOfSpace, quota, Allocator, reply_to, Call, reply-none, Quota, one_list_with, Command, Spawn, SpawnMany, Refused, World, View, IsFrame, view_of, queue_at, commands_of, at_within, all_below, calls_back, Operation, Target, Bindings, unbound, names_after, IsOfBirth, IsTargeted, OnEach, IsSpawn, IsSpawnMany, Issues, IssuesAll, MayIssue, All, Contains-permutation, same_list, ◌-◌, map, flat_map-append, map-append, after_take, IsLegal, after_history, stands_for, cost, FitQuota, first_call, first_world, Script, Show, Execution, AreExecutions, synced, last_world, IsReport, Err}
 use Rattle.ent_alloc.specs.declared.refused.Refused.TheVariants.{Space}
 use Rattle.ent_script.specs.declared.operation.Operation.TheVariants as operation
 use Rattle.ent_script.specs.declared.target.Target.TheVariants as target
@@ -46,9 +46,9 @@ served_rest s left cs ds served = search (rules, legal_parts, flat_map-append, m
 
 pub one_rising : (ms ns all : List ℕ) → AllPairs (λ m n. m < n) ms → AllPairs (λ m n. m < n) ns → IsPermutation ms all
     → IsPermutation ns all → ms ≡ ns
-one_rising ms ns all a b p q = same_list (λ m n. m < n) (λ m n less greater. absurd (omega (arith, less, greater))) ms
-    ns a b (λ n c. Contains-permutation all ns n (IsPermutation-sym ns all q) (Contains-permutation ms all n p c))
-    (search (rules, Contains-permutation, IsPermutation-sym))
+one_rising ms ns all a b p q =
+    same_list (λ m n. m < n) (λ m n less greater. absurd (omega (arith, less, greater))) ms ns a b
+    (search (rules, Contains-permutation, IsPermutation-sym)) (search (rules, Contains-permutation, IsPermutation-sym))
 
 -- ---- one operation
 
@@ -106,16 +106,10 @@ same_operation view names _ s left cs ds a b p q = same_on_each view names _ _ c
 same_queue : (view : View) (names : Bindings) (ops : List Operation) (s : Allocator) (left : ℕ) (cs ds : List Command)
     → IssuesAll view names ops cs → IssuesAll view names ops ds → IsServed s left cs → IsServed s left ds → cs ≡ ds
 same_queue view names [] s left cs ds a b p q = a ∙ sym b
-same_queue view names (op ∷ ops) s left cs ds (first, rest, cs_are, may, others) (first', rest', ds_are, may', others')
-    p q =
-    let served = rw cs_are at p in
-    let served' = rw ds_are at q in
-    let same : first ≡ first' = same_operation view names op s left first first' may may'
-    (served_first s left first rest served) (served_first s left first' rest' served') in
-    let after = rw (← same) at (served_rest s left first' rest' served') in
-    let tails : rest ≡ rest' = same_queue view (names_after names op first) ops (state_after s first)
-    (left_after left first) rest rest' others (rw (← same) at others') (served_rest s left first rest served) after in
-    cs_are ∙ (λ i. same i ++ tails i) ∙ sym ds_are
+same_queue view names (op ∷ ops) s left cs ds (first, rest, cs_are, may, others) (first', rest', ds_are, may', others') p q =
+    let later = same_queue view (names_after names op first) ops (state_after s first) (left_after left first) rest
+    rest' others in
+    search (rules, same_operation view names op s left first first', served_first, served_rest, later)
 
 -- ---- one worker
 
@@ -137,8 +131,7 @@ is_alone : (systems : List (List Operation)) (w : World) (queues : List (List Co
     → IsFrame MayIssue systems 1 w queues history → IsAlone (length systems) w queues history
 is_alone systems w queues history frame =
     let only = only_one frame.ran frame.each_worker in
-    let work = frame.work 0 only.0 only.1 in
-    search (rules, calls_of, calls_back)
+    search (rules, calls_of, calls_back, frame.work 0 only.0 only.1)
 
 -- each system has a queue that it may issue
 abbrev MayIssueEach : View → List (List Operation) → List (List Command) → Type 0
@@ -153,15 +146,9 @@ same_queues : (view : View) (systems : List (List Operation)) (q r : List (List 
 same_queues view systems q r [] s left below may may' served served' = search (rules, All-nil)
 same_queues view systems q r (n ∷ ns) s left below may may' served served' =
     let system = at_within systems n (All-head (λ n. n < length systems) n ns below) in
-    let here = served_first s left (queue_at q n) (commands_of q ns) served in
-    let here' = served_first s left (queue_at r n) (commands_of r ns) served' in
-    let same : queue_at q n ≡ queue_at r n = same_queue view unbound system.0 s left (queue_at q n) (queue_at r n)
-    (may n system.0 system.1) (may' n system.0 system.1) here here' in
-    let after = rw (← same) at (served_rest s left (queue_at r n) (commands_of r ns) served') in
-    All-cons (λ n. queue_at q n ≡ queue_at r n) n ns same
-    (same_queues view systems q r ns (state_after s (queue_at q n)) (left_after left (queue_at q n))
-    (All-tail (λ n. n < length systems) n ns below) may may' (served_rest s left (queue_at q n) (commands_of q ns)
-    served) after)
+    let here = same_queue view unbound system.0 s left _ _ (may n system.0 system.1) (may' n system.0 system.1) in
+    let later = same_queues view systems q r ns (state_after s (queue_at q n)) (left_after left (queue_at q n)) in
+    search (rules, All-tail, All-cons, here, later, may, may', served_first, served_rest)
 
 -- ---- one course
 
@@ -184,17 +171,14 @@ one_course systems w q r h k first second =
     let queues : q ≡ r = ext_get_or [] q r (first.count ∙ sym second.count)
     (λ n less. below_each (λ n. queue_at q n ≡ queue_at r n) (length systems) at n
     (omega (arith, less, first.count))) in
-    (queues, a.calls ∙ (λ i. calls_of (commands_of (queues i) (mine i))) ∙ sym b.calls)
+    search rules
 
 -- ---- one report
 
 same_executions : (w : World) (frames : List (List (List Operation))) (es fs : List Execution)
     → AreExecutions 1 w frames es → AreExecutions 1 w frames fs → es ≡ fs
 same_executions w [] [] [] a b = refl
-same_executions w (systems ∷ frames) (e ∷ es) (f ∷ fs) a b =
-    let same = one_course systems w e.queues f.queues e.history f.history a.0 b.0 in
-    let here : e ≡ f = (λ i. record { queues = same.0 i; history = same.1 i }) in
-    search (rules, same_executions (synced w e).world frames es fs a.1 (rw (← here) at b.1))
+same_executions w (systems ∷ frames) (e ∷ es) (f ∷ fs) a b = grind (arith, common_steps, one_course systems w e.queues f.queues e.history f.history a.0 b.0, same_executions (synced w e).world frames es fs a.1)
 same_executions w _ _ _ a b = search rules
 
 pub one_report : (script : Script) (show : Show) (text other : List ℕ) → IsReport script 1 show text
@@ -204,4 +188,4 @@ one_report script show text other a b =
     let same = same_executions first script.frames a.0 b.0 a.1.frames b.1.frames in
     let one = one_text script.components show (last_world first a.0).entities a.1.world_text b.1.world_text a.1.world
     (rw (← same) at b.1.world) in
-    a.1.is ∙ (λ i. frames_text show 0 first (same i) ++ one i) ∙ sym b.1.is
+    search rules

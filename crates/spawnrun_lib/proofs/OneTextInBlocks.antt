@@ -12,31 +12,21 @@ few_parts : (made : ℕ) (hs : List Handle) → length (filter (is_old made) hs)
 few_parts made [] = omega arith
 few_parts made (h ∷ hs) = grind (arith, common_steps, few_parts made hs)
 
-few_listed : (made : ℕ) (hs : List Handle) → length (listed made hs) ≤ length hs
-few_listed made hs = grind (arith, common_steps, few_parts made hs, length-append)
-
-few_taken : {X : Type 0} (n : ℕ) (xs : List X) → length (take n xs) ≤ length xs
-few_taken n xs = grind (arith, common_steps)
-
-few_left : (pool : List Handle) (b : Block) → length (rest_of pool b) ≤ left_of b
-few_left pool b = grind (arith, common_steps)
-
 -- a block that is used up gives no handle
 none_left : (pool : List Handle) (b : Block) (h : Handle) → h ∷ [] ≡ take 1 (rest_of pool b) → left_of b < 1 → ⊥
-none_left pool b h is none = grind (arith, common_steps, few_taken, few_left)
+none_left pool b h is none = grind (arith, common_steps)
 
 -- and one with too few gives none of them
 too_few : (s : Allocator) (b : Block) (hs : List Handle) → hs ≡ listed s.made (take (length hs) (rest_of s.pool b))
     → left_of b < length hs → ⊥
-too_few s b hs is less = grind (arith, common_steps, few_listed, few_taken, few_left)
+too_few s b hs is less = grind (arith, common_steps, few_parts, length-append)
 
 -- ---- one operation
 
 same_operation : (view : View) (names : Bindings) (op : Operation) (s : Allocator) (b : Block) (cs ds : List Command)
     → Issues view names op cs → Issues view names op ds → AreDrawnBy s b cs → AreDrawnBy s b ds → cs ≡ ds
 same_operation view names (operation.Spawn bundle binds) s b cs ds is is' drawn drawn' = search (rules, none_left)
-same_operation view names (operation.SpawnMany count bundle binds) s b cs ds is is' drawn drawn' = search
-    (rules, too_few)
+same_operation view names (operation.SpawnMany count bundle binds) s b cs ds is is' drawn drawn' = search (rules, too_few)
 same_operation view names _ s b cs ds is is' drawn drawn' = same_on_each view names _ _ cs ds is is'
 
 -- ---- one system
@@ -78,15 +68,13 @@ same_queues : (size : ℕ) (w : World) (systems : List (List Operation)) (q r : 
     → AreQueues size w systems q → AreQueues size w systems r → q ≡ r
 same_queues size w systems q r a b =
     let blocks = blocks_of_frame size w systems in
-    let many : length blocks ≡ length systems = count_from 0 (length w.allocator.pool) (sizes_of size systems)
-    ∙ count_sizes size systems in
+    let many : length blocks ≡ length systems = search (rules, count_from, count_sizes) in
     ext_get_or [] q r (a.each_queue ∙ sym b.each_queue) (λ n less.
-        let within : n < length systems = omega (arith, less, a.each_queue) in
-        let system = at_within systems n within in
-        let block = at_within blocks n (omega (arith, within, many)) in
-        same_queue (view_of w) unbound system.0 w.allocator block.0 (queue_at q n) (queue_at r n)
-            (a.each_system n system.0 system.1) (b.each_system n system.0 system.1) (a.draws n block.0 block.1)
-            (b.draws n block.0 block.1))
+    let system = at_within systems n (omega (arith, less, a.each_queue)) in
+    let block = at_within blocks n (omega (arith, less, a.each_queue, many)) in
+    same_queue (view_of w) unbound system.0 w.allocator block.0 (queue_at q n) (queue_at r n)
+    (a.each_system n system.0 system.1) (b.each_system n system.0 system.1) (a.draws n block.0 block.1)
+    (b.draws n block.0 block.1))
 
 -- ---- one text
 

@@ -1,6 +1,6 @@
 -- One induction over clap's walk, and so one file of more than 400 lines: where clap's parse of a
 -- command of options doesn't fail, each option has one value, which it accepts.
-use Rattle.spawnrun_lib.proofs.Common.{common_steps, rules, ◌≡◌, ◌⊎◌, ℕ, Bool, true, false, List, [], ◌∷◌, ◌++◌, length, cond, zero, suc, refl, inl, inr, arith, append-nil, Option, Some, None, IfSome, fold, find, AllByRecursion, option_map_or, bytes_eq-Decides, Row, Rule, Shape, Text, first_of, one_of, read_as, Kinds, or_else, range_kinds, is_request, value_passes, nothing_held, long_or_other, Held, Outcome, Step, Waiting, Walk, action_of, after_step, arg_by_id, at_row, bundle_met, default_rows, has_row, long_met, option_met, reacted, reading_by, rows_after, settled, short_met, subcommand_met, used, used_as, used_by_id, values_or_missing, walked, with_default, without, set_fault, flag_word_fault, flags_fault, level_fault, long_fault, option_fault, react_fault, settle_fault, short_fault, turn_fault, use_fault, walk_fault, Set, ErrorKind, ValueSource, DefaultValue, ◌==◌}
+use Rattle.spawnrun_lib.proofs.Common.{common_steps, rules, ◌≡◌, ◌⊎◌, ℕ, Bool, true, false, List, [], ◌∷◌, ◌++◌, length, cond, zero, suc, refl, arith, append-nil, Option, Some, None, IfSome, fold, find, AllByRecursion, option_map_or, bytes_eq-Decides, Row, Rule, Shape, Text, first_of, one_of, read_as, Kinds, or_else, range_kinds, is_request, value_passes, nothing_held, long_or_other, Held, Outcome, Waiting, Walk, action_of, arg_by_id, at_row, bundle_met, has_row, long_met, option_met, reacted, reading_by, rows_after, settled, short_met, used, used_as, used_by_id, values_or_missing, walked, with_default, without, set_fault, flag_word_fault, flags_fault, level_fault, long_fault, option_fault, react_fault, settle_fault, short_fault, turn_fault, use_fault, walk_fault, Set, ErrorKind, ValueSource, ◌==◌}
 
 -- ---- kinds of errors
 
@@ -28,9 +28,6 @@ new_row a text source = record {
   source = Some source;
   reading = reading_by a;
 }
-
-without-absent : (a : Rule) (rows : List Row) → has_row a.id rows ≡ false → without a.id rows ≡ rows
-without-absent a rows absent = search (rules, at_row-absent, append-nil)
 
 -- ---- the arguments of a command
 
@@ -80,16 +77,11 @@ module _ (c : List Rule) where
   Good-append [] ys good more = more
   Good-append (x ∷ xs) ys good more = (good.0, Good-append xs ys good.1 more)
 
-  new_row-good : (a : Rule) → arg_by_id c a.id ≡ Some a → (text : Text) (source : ValueSource)
-      → value_passes a text ≡ true → IsGood (new_row a text source)
-  new_row-good a own text source passes = search rules
-
   -- a use that doesn't fail adds a good row
   set-good : (a : Rule) → arg_by_id c a.id ≡ Some a → (values : List Text) (rows : List Row) → Good rows
       → or_else (range_kinds 1 1 (length values)) (set_fault false a (values_or_missing a values) rows) ≡ []
       → Good (used_as Set a.id (reading_by a) (values_or_missing a values) rows)
-  set-good a own (text ∷ []) rows good e = search
-      (rules, none_of, passed, without-absent, Good-append, new_row-good, at_row-absent)
+  set-good a own (text ∷ []) rows good e = search (rules, none_of, passed, Good-append, at_row-absent, append-nil)
   set-good a own _ rows good e = search rules
 
   used_by_id-good : (found : Option Rule) → IfSome found Fits → (values : List Text) (rows : List Row) → Good rows
@@ -125,8 +117,7 @@ module _ (c : List Rule) where
     short-good : (o : Option Rule) → IfSome o Fits → (rest : Text) (h : Held) (fault : Held → Kinds)
         (met : Held → Held × Outcome) → GoesOn fault met → Good h.rows → short_fault c false o rest h fault ≡ []
         → Good (short_met c o rest h met).0.rows
-    short-good it rest h fault met goes_on good e = grind
-        (arith, common_steps, option-good, none_of, reacted-good, goes_on)
+    short-good it rest h fault met goes_on good e = grind (arith, common_steps, option-good, none_of, reacted-good, goes_on)
 
     bundle-good : (k : ℕ) (flags : Text) (skip : ℕ) (so_far : Outcome) (h : Held) → Good h.rows
         → flags_fault c false k flags skip h ≡ [] → Good (bundle_met c k flags skip so_far h).0.rows
@@ -143,33 +134,10 @@ module _ (c : List Rule) where
     no_positional i [] fits = refl
     no_positional i (x ∷ xs) fits = search (rules, no_positional i xs fits.1)
 
-    -- a command with no subcommand meets none
-    no_subcommand : (waiting : Waiting) (word : Text) → subcommand_met [] waiting word ≡ None
-    no_subcommand it word = search rules
-
-    stepped-rows : (word : Text) (w : Walk) (h : Held) (step : Step) → (after_step c word w h step).held.rows ≡ h.rows
-    stepped-rows word w h it = search (rules, no_positional)
-
     -- ---- defaults
 
-    -- an option that wasn't used gets the row of its default, and others none
-    default_row-added : (a : Rule) (default : HasDefault a) (rows : List Row) → has_row a.id rows ≡ false
-        → default_rows a.id (reading_by a) a.defaults rows ≡ rows ++ new_row a default.0 DefaultValue ∷ []
-    default_row-added a default rows is = search (rules, default.1, at_row-absent)
-
-    adds_none : (a : Rule) → a.defaults ≡ [] → (rows : List Row) → default_rows a.id (reading_by a) a.defaults rows
-        ≡ rows
-    adds_none a none rows = search rules
-
     default-good : (a : Rule) → Fits a → (rows : List Row) → Good rows → Good (with_default rows a)
-    default-good a fits rows good = go (has_row a.id rows) refl fits.default
-      where
-        go : (has : Bool) → has_row a.id rows ≡ has → (a.defaults ≡ []) ⊎ HasDefault a
-            → Good (cond has rows (default_rows a.id (reading_by a) a.defaults rows))
-        go true is it = good
-        go false is (inl none) = search (rules, adds_none a none rows)
-        go false is (inr default) = rw (default_row-added a default rows is)
-            (Good-append rows _ good (new_row-good a fits.own _ _ default.2, tt))
+    default-good a fits rows good = search (rules, at_row-absent, Good-append, fits.own, fits.default)
 
     defaults-good : (xs : List Rule) → AllByRecursion Fits xs → (rows : List Row) → Good rows
         → Good (fold with_default rows xs)
@@ -185,25 +153,15 @@ module _ (c : List Rule) where
     has_row-last a text source [] = search (rules, bytes_eq-Decides)
     has_row-last a text source (x ∷ xs) = search (rules, has_row-last a text source xs)
 
-    -- an option that wasn't used gets its default
-    default-added : (a : Rule) → HasDefault a → (rows : List Row) → has_row a.id (with_default rows a) ≡ true
-    default-added a default rows = grind (arith, common_steps, default_row-added a default rows, has_row-last)
-
-    default-keeps : (a : Rule) → (a.defaults ≡ []) ⊎ HasDefault a → (id : Text) (rows : List Row)
-        → has_row id rows ≡ true → has_row id (with_default rows a) ≡ true
-    default-keeps a (inl none) id rows e = search (rules, adds_none a none rows)
-    default-keeps a (inr default) id rows e = grind
-        (arith, common_steps, default_row-added a default rows, has_row-append)
-
     defaults-keep : (xs : List Rule) → AllByRecursion Fits xs → (id : Text) (rows : List Row) → has_row id rows ≡ true
         → has_row id (fold with_default rows xs) ≡ true
     defaults-keep [] fits id rows e = e
-    defaults-keep (x ∷ xs) fits id rows e = search (rules, defaults-keep xs, default-keeps)
+    defaults-keep (x ∷ xs) fits id rows e = search (rules, defaults-keep xs, at_row-absent, has_row-append)
 
     defaults-add : (xs : List Rule) → AllByRecursion Fits xs → (a : Rule) → HasDefault a → Among a xs
         → (rows : List Row) → has_row a.id (fold with_default rows xs) ≡ true
     defaults-add [] fits a default among rows = absurd among
-    defaults-add (x ∷ xs) fits a default among rows = search (rules, defaults-add xs, defaults-keep, default-added)
+    defaults-add (x ∷ xs) fits a default among rows = search (rules, defaults-add xs, defaults-keep, at_row-absent, has_row-last, default.1)
 
     -- ---- the walk, and what the rows give
 
@@ -216,9 +174,6 @@ module _ (c : List Rule) where
     none-found id [] e = refl
     none-found id (r ∷ rs) e = search (rules, none-found id rs)
 
-    value-or_none : (a : Rule) → arg_by_id c a.id ≡ Some a → (rows : List Row) → Good rows → MayHaveValue a rows
-    value-or_none a own rows good = search (rules, value-found, none-found)
-
     module _ (t : Shape) where
       abbrev s : Shape
       s = record t { rules = c; args_override_self = false }
@@ -226,7 +181,7 @@ module _ (c : List Rule) where
       turn-good : (w : Walk) (word : Text) → Good w.held.rows → turn_fault s [] w word ≡ []
           → Good (walked c [] w word).held.rows
       unfolding walked
-      turn-good w word good e = search (rules, none_of, no_subcommand, stepped-rows, flag_word-good)
+      turn-good w word good e = search (rules, none_of, flag_word-good, no_positional)
 
       walk-good : (words : List Text) (w : Walk) → Good w.held.rows → walk_fault s [] w words ≡ []
           → Good (fold (walked c []) w words).held.rows
@@ -238,8 +193,7 @@ module _ (c : List Rule) where
           (own : arg_by_id c a.id ≡ Some a) where
         -- each option of a parse that doesn't fail has one value, which it accepts
         pub option-has_value : HasDefault a → Among a c → HasValue a (rows_after c [] words)
-        option-has_value default among = search
-            (rules, value-found, defaults-add, walk-good, none_of, settle-good, defaults-good)
+        option-has_value default among = search (rules, value-found, defaults-add, walk-good, none_of, settle-good, defaults-good)
 
         -- and one without a default has one at most
         pub optional-has_value : MayHaveValue a (rows_after c [] words)

@@ -1,5 +1,5 @@
 -- Pieces of a text that is shown, from nothing on.
-use Rattle.spawnrun_lib.proofs.Common.{rules, ◌≡◌, ℕ, ◌^◌, ◌<◌, true, ◌++◌, [], List, ◌∙◌, decimal, list_all, ArePrintable, front, is_printable, plain, Option, IfSome, common_steps, ◌+◌, ◌∷◌, arith, refl, and_parts, cond-true, nat_tests, All-nil, All-cons, All-append, All-head, All-tail, All-weaker, chars-IsAscii, IsAscii-from_all, decimal_by_steps, IsPrintable, char_text, flat_map}
+use Rattle.spawnrun_lib.proofs.Common.{rules, ◌≡◌, ℕ, ◌^◌, ◌<◌, true, ◌++◌, [], List, decimal, list_all, ArePrintable, front, is_printable, plain, Option, IfSome, common_steps, ◌+◌, ◌∷◌, arith, refl, and_parts, cond-true, nat_tests, All-nil, All-cons, All-append, All-head, All-tail, All-weaker, chars-IsAscii, IsAscii-from_all, decimal_by_steps, IsPrintable, char_text, flat_map}
 use Rattle.spawnrun_lib.proofs.Fronts.{go_on}
 
 printable_from_test : (code : ℕ) → is_printable code ≡ true → IsPrintable code
@@ -18,7 +18,7 @@ pub both : (a b : List ℕ) → ArePrintable a → ArePrintable b → ArePrintab
 both a b = All-append IsPrintable a b
 
 pub three : (a b c : List ℕ) → ArePrintable a → ArePrintable b → ArePrintable c → ArePrintable (a ++ b ++ c)
-three a b c first second third = both (a ++ b) c (both a b first second) third
+three a b c first second third = search (rules, both)
 
 single : (text : List ℕ) → ArePrintable text → flat_map char_text text ≡ text
 single [] h = refl
@@ -37,7 +37,7 @@ more_text old new text h e = search (rules, front, plain_same)
 
 pub two_pieces : (old mid new first second : List ℕ) → mid ≡ front (old ++ first) → new ≡ front (mid ++ second)
     → new ≡ front (old ++ (first ++ second))
-two_pieces old mid new first second a b = b ∙ go_on old mid first second a
+two_pieces old mid new first second a b = search (rules, go_on)
 
 pub if_some : {X : Type 0} (o : Option X) (P Q : X → Type 0) → ((x : X) → P x → Q x) → IfSome o P → IfSome o Q
 if_some it P Q f h = search rules

@@ -1,6 +1,6 @@
 -- What a system issues by births is its queue with births in the place of handles, if no request of
 -- it was refused and it names no handle.
-use Rattle.spawnrun_lib.proofs.Common.{rules, ◌≡◌, refl, sym, ap, subst, ℕ, ◌+◌, arith, ℤ, List, [], ◌∷◌, ◌++◌, map, length, All, bound, OnEach, Bindings, names_after, IsTargeted, IsSpawn, IsSpawnMany, IsOfBirth, IssuesAll, AllZip, range_with_len, All-nil, All-cons, All-head, All-tail, Birth, ComponentId, Handle, All-left, All-right, ListsWith, EntityMap, Command, Spawn, SpawnMany, BirthMap, BirthCommand, IsThere, IsNamedBy, View, listed_by, handles_listed, Operation, Target, BirthBindings, births_from, with_binding, births_meant, issued_alone, IsNoHandle, NeedsNoHandle, IsGranted}
+use Rattle.spawnrun_lib.proofs.Common.{rules, ◌≡◌, refl, ap, ℕ, ◌+◌, arith, ℤ, List, [], ◌∷◌, ◌++◌, map, length, All, bound, OnEach, Bindings, names_after, IsTargeted, IsSpawn, IsSpawnMany, IsOfBirth, IssuesAll, AllZip, range_with_len, All-nil, All-cons, All-head, All-tail, Birth, ComponentId, Handle, All-left, All-right, ListsWith, EntityMap, Command, Spawn, SpawnMany, BirthMap, BirthCommand, IsThere, IsNamedBy, View, listed_by, handles_listed, Operation, Target, BirthBindings, births_from, with_binding, births_meant, issued_alone, IsNoHandle, NeedsNoHandle, IsGranted}
 use Rattle.ent_world.specs.BirthsAlone as alone
 use Rattle.ent_script.specs.declared.operation.Operation.TheVariants as operation
 use Rattle.ent_script.specs.declared.target.Target.TheVariants as target
@@ -35,8 +35,7 @@ module _ (name : Handle → Birth) (m : EntityMap) where
       → ((h : Handle) → IsThere m h → IsNamedBy name m (command h) (by_birth (name h))) → (hs : List Handle)
       → All (IsThere m) hs → AllZip (IsNamedBy name m) (map command hs) (map by_birth (map name hs))
   named_each command by_birth same [] there = tt
-  named_each command by_birth same (h ∷ hs) there = search
-      (rules, All-head, All-tail, same, named_each command by_birth same hs)
+  named_each command by_birth same (h ∷ hs) there = search (rules, All-head, All-tail, same, named_each command by_birth same hs)
 
   -- ---- what names stand for
 
@@ -58,26 +57,14 @@ module _ (name : Handle → Birth) (m : EntityMap) where
         IsThere m h × (name h ≡ record { frame = phase; system = system; ordinal = k })
         × AreInOrder (k + 1) hs
 
-    order_first : (k : ℕ) (xs ys : List Handle) → AreInOrder k (xs ++ ys) → AreInOrder k xs
-    order_first k [] ys order = tt
-    order_first k (x ∷ xs) ys order = (order.0, order.1, order_first (k + 1) xs ys order.2)
-
-    order_rest : (k : ℕ) (xs ys : List Handle) → AreInOrder k (xs ++ ys) → AreInOrder (k + length xs) ys
-    order_rest k [] ys order = search rules
-    order_rest k (x ∷ xs) ys order = search (rules, order_rest (k + 1) xs ys order.2)
-
-    order_there : (k : ℕ) (hs : List Handle) → AreInOrder k hs → All (IsThere m) hs
-    order_there k [] order = All-nil (IsThere m)
-    order_there k (h ∷ hs) order = search (rules, All-cons, order_there (k + 1) hs order.2)
-
-    births_on : (k i : ℕ) (hs : List Handle) → AreInOrder (k + i) hs
-        → map name hs ≡ map (λ j. birth_at (k + j)) (range_with_len i (length hs))
-    births_on k i [] order = refl
-    births_on k i (h ∷ hs) order = search
-        (rules, births_on k (i + 1) hs (subst (λ n. AreInOrder n hs) (omega arith) order.2))
-
-    births_are : (k : ℕ) (hs : List Handle) → AreInOrder k hs → births_from (birth_at k) (length hs) ≡ map name hs
-    births_are k hs order = sym (births_on k 0 hs (subst (λ n. AreInOrder n hs) (omega arith) order))
+    -- in order, handles are there, with the births from that ordinal on, and those after them go on
+    in_turn : (k i at : ℕ) → at ≡ k + i → (xs ys : List Handle) → AreInOrder at (xs ++ ys) → All (IsThere m) xs
+        × (map (λ j. birth_at (k + j)) (range_with_len i (length xs)) ≡ map name xs) × AreInOrder (at + length xs) ys
+    in_turn k i at is [] ys order = (All-nil (IsThere m), refl, search rules)
+    in_turn k i at is (x ∷ xs) ys order =
+        let rest = in_turn k (i + 1) (at + 1) (omega arith) xs ys order.2 in
+        let first = rw is at order.1 in
+        (All-cons (IsThere m) x xs order.0 rest.0, search rules, search rules)
 
     -- ---- one system
 
@@ -120,29 +107,24 @@ module _ (name : Handle → Birth) (m : EntityMap) where
           let op : Operation = operation.Spawn bundle binds in
           let all = rw is at granted in
           let one = spawn_is bundle first may (All-left IsGranted first rest all) in
-          let here = rw (is, one.1) at order in
-          let bs = births_are k (one.0 ∷ []) (here.0, here.1, tt) in
-          let there = order_there k (one.0 ∷ []) (here.0, here.1, tt) in
+          let (there, bs, on) = in_turn k 0 k (omega arith) (one.0 ∷ []) (handles_listed rest)
+          (rw (is, one.1) at order) in
           let after = issued-named ops (k + 1) (names_after names op (Spawn one.0 bundle ∷ []))
-          (with_binding binds (births_from (birth_at k) 1) bound) rest (search rules) here.2
-          (All-right IsGranted first rest all) (All-tail NeedsNoHandle op ops free) (rw one.1 at others) in
-          rw (is, one.1) ((here.0, ap (λ b. alone.Spawn b bundle) bs), after)
+          (with_binding binds (births_from (birth_at k) 1) bound) rest (search rules) on (All-right IsGranted first rest all)
+          (All-tail NeedsNoHandle op ops free) (rw one.1 at others) in
+          rw (is, one.1) ((All-head (IsThere m) one.0 [] there, ap (λ b. alone.Spawn b bundle) bs), after)
       issued-named (operation.SpawnMany count bundle binds ∷ ops) k names bound queue stand order granted free
           (first, rest, is, may, others) =
           let op : Operation = operation.SpawnMany count bundle binds in
           let all = rw is at granted in
-          let one = many_is count bundle first may (All-left IsGranted first rest all) in
-          let hs = one.0 in
-          let here = rw (is, one.1.0) at order in
-          let there = order_there k hs (order_first k hs (handles_listed rest) here) in
-          let bs = rw one.1.1 at (births_are k hs (order_first k hs (handles_listed rest) here)) in
+          let (hs, are) = many_is count bundle first may (All-left IsGranted first rest all) in
+          let (there, births, on) = in_turn k 0 k (omega arith) hs (handles_listed rest) (rw (is, are.0) at order) in
+          let bs : births_from (birth_at k) count ≡ map name hs = rw are.1 at births in
           let after = issued-named ops (k + count) (names_after names op (SpawnMany hs bundle ∷ []))
-          (with_binding binds (births_from (birth_at k) count) bound) rest (search rules)
-          (rw one.1.1 at (order_rest k hs (handles_listed rest) here)) (All-right IsGranted first rest all)
-          (All-tail NeedsNoHandle op ops free) (rw one.1.0 at others) in
-          rw (is, one.1.0) ((there, ap (λ b. alone.Spawn b bundle) bs), after)
-      issued-named (_ ∷ ops) k names bound queue stand order granted free (first, rest, is, may, others) = search
-          (rules, change_named, All-head, All-tail, issued-named ops k names bound rest stand)
+          (with_binding binds (births_from (birth_at k) count) bound) rest (search rules) (rw are.1 at on)
+          (All-right IsGranted first rest all) (All-tail NeedsNoHandle op ops free) (rw are.0 at others) in
+          rw (is, are.0) ((there, ap (λ b. alone.Spawn b bundle) bs), after)
+      issued-named (_ ∷ ops) k names bound queue stand order granted free (first, rest, is, may, others) = search (rules, change_named, All-head, All-tail, issued-named ops k names bound rest stand)
 
       -- With no names bound at first, the queue by names is what the operations issue by births.
       pub queue-alone : (ops : List Operation) (queue : List Command) → AreInOrder 0 (handles_listed queue)

@@ -23,8 +23,7 @@ sum_by_number : {X : Type 0} (f : ℕ → ℕ) (g : X → ℕ) (a : ℕ) (xs : L
     → ((k : ℕ) (x : X) → slice_get xs k ≡ Some x → f (a + k) ≤ g x) → sum_by f (range_with_len a (length xs)) ≤ sum_by g
     xs
 sum_by_number f g a [] each = omega arith
-sum_by_number f g a (x ∷ xs) each = grind
-    (arith, common_steps, each 0 x refl, sum_by_number f g (a + 1) xs (λ k y at. grind (arith, each (suc k) y at)))
+sum_by_number f g a (x ∷ xs) each = grind (arith, common_steps, each 0 x refl, sum_by_number f g (a + 1) xs (λ k y at. grind (arith, each (suc k) y at)))
 
 -- ---- the calls of a history, caller by caller
 
@@ -90,8 +89,7 @@ operations-wanted : (view : View) (names : Bindings) (ops : List Operation) (que
     → IssuesAll view names ops queue → wanted_in queue ≡ sum_by requested_by_operation ops
 operations-wanted view names [] queue is = ap wanted_in is
 operations-wanted view names (op ∷ ops) queue (first, rest, is, may, others) =
-    let later = operations-wanted view (names_after names op first) ops rest others in
-    grind (arith, common_steps, sum_by-append, sum_by-cons, later, none_wanted)
+    grind (arith, common_steps, sum_by-append, sum_by-cons, none_wanted, operations-wanted view (names_after names op first) ops rest others)
 
 -- The queues of the systems want what their operations request.
 pub queues-wanted : (view : View) (systems : List (List Operation)) (queues : List (List Command))
@@ -99,9 +97,7 @@ pub queues-wanted : (view : View) (systems : List (List Operation)) (queues : Li
     → MayIssue ops view (queue_at queues n)) → sum_by wanted_in queues ≡ sum_by (sum_by requested_by_operation) systems
 queues-wanted view [] [] same may = refl
 queues-wanted view (ops ∷ systems) (q ∷ queues) same may =
-    let here = operations-wanted view (λ n. []) ops q (may 0 ops refl) in
-    let rest = queues-wanted view systems queues (omega arith) (λ n. may (suc n)) in
-    search (rules, sum_by-cons)
+    search (rules, sum_by-cons, operations-wanted, may 0 ops refl, queues-wanted view systems queues (omega arith) (λ n. may (suc n)))
 queues-wanted view _ _ same may = absurd (omega arith)
 
 -- ---- a frame
@@ -117,12 +113,7 @@ module _ {S : Type 0} (may : S → View → List Command → Type 0) (systems : 
 
   -- the systems of all workers are those of all queues
   of_workers : sum_by (sum_by wanted_at) frame.ran ≤ sum_by wanted_in queues
-  of_workers =
-      let flat = sum_flat wanted_at (λ mine. mine) frame.ran in
-      let moved = sum_by-IsPermutation wanted_at _ _ frame.once in
-      let by_queue = sum_by_number wanted_at wanted_in 0 queues (search (rules, get_or_from_slice_get)) in
-      let count = ap (λ n. sum_by wanted_at (range_with_len 0 n)) frame.count in
-      omega arith
+  of_workers = search (rules, arith, sum_flat wanted_at (λ mine. mine) frame.ran, sum_by-IsPermutation wanted_at _ _ frame.once, sum_by_number wanted_at wanted_in 0 queues, get_or_from_slice_get, frame.count)
 
   -- The queues that a worker has filled want no more than all queues.
   pub worker-wanted : (worker : ℕ) (mine : List ℕ) → slice_get frame.ran worker ≡ Some mine
@@ -143,6 +134,4 @@ module _ {S : Type 0} (may : S → View → List Command → Type 0) (systems : 
 
   -- All calls together request no more than all queues want.
   pub history-wanted : requested_in history ≤ sum_by wanted_in queues
-  history-wanted =
-      let callers = by_callers workers history frame.callers in
-      search (rules, sum_by_number, worker-requested, of_workers)
+  history-wanted = search (rules, by_callers workers history frame.callers, sum_by_number, worker-requested, of_workers)

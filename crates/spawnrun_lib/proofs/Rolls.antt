@@ -1,14 +1,11 @@
 -- A birth that is looked up in the list of all entities.
-use Rattle.spawnrun_lib.proofs.Common.{rules, ◌≡◌, ◌≢◌, ◌⊎◌, inl, inr, ℕ, ◌<◌, ◌≤◌, true, false, List, length, get_or, Option, Some, sym, ap, ◌∙◌, arith, Contains, Ordering, Less, Equal, Greater, eq_by_cmp, is_lt, option_cmp, option_eq, IsTotalOrder, tied_itself, options_total, IsPartitionedBy, cases_lt, false≢true, get_or_default, Birth, birth_cmp, birth_cmp_total, birth_cmp-IsAntisymmetric, Handle, handle_cmp, handle_cmp_total, birth_order, ListsAll, EntityMap, birth_of, same_birth, View, is_before, IsFirstFrom}
+use Rattle.spawnrun_lib.proofs.Common.{rules, ◌≡◌, ◌≢◌, ◌⊎◌, inl, inr, ℕ, ◌<◌, ◌≤◌, true, false, List, length, get_or, Option, Some, ap, ◌∙◌, arith, Contains, Ordering, Less, Equal, Greater, eq_by_cmp, is_lt, option_cmp, option_eq, IsTotalOrder, tied_itself, options_total, IsPartitionedBy, cases_lt, false≢true, get_or_default, Birth, birth_cmp, birth_cmp_total, birth_cmp-IsAntisymmetric, Handle, handle_cmp, handle_cmp_total, birth_order, ListsAll, EntityMap, birth_of, same_birth, View, is_before, IsFirstFrom}
 
 abbrev key_cmp : Option Birth → Option Birth → Ordering
 key_cmp = option_cmp birth_cmp
 
 key_total : IsTotalOrder key_cmp
 key_total = options_total birth_cmp_total
-
-same_key : (o : Option Birth) (birth : Birth) → key_cmp o (Some birth) ≡ Equal → o ≡ Some birth
-same_key it birth e = search (rules, birth_cmp-IsAntisymmetric)
 
 -- two births that are tested
 pub same_if_equal : (o : Option Birth) (birth : Birth) → option_eq (eq_by_cmp birth_cmp) o (Some birth) ≡ true
@@ -72,16 +69,9 @@ module _ (view : View) (birth : Birth) where
         pub least_here : birth_of m h ≡ Some birth → (g : Handle) → birth_of m g ≡ Some birth → handle_cmp h g ≢ Greater
         least_here own g is greater =
             let itself = tied_itself handle_cmp_total h in
-            let key : key_cmp (Some birth) (Some birth) ≡ Equal = tied_itself birth_cmp_total birth in
             elim (after g is) [ inl same ↦ absurd cc | inr less ↦ search (rules, in_order h g less) ]
 
         pub none_here : birth_of m h ≢ Some birth → (g : Handle) → birth_of m g ≢ Some birth
         none_here other g is =
             let not = rw here at (first.1 index h (omega arith) within) in
-            elim (after g is) [
-              | inl same ↦ other cc
-              | inr less ↦ elim (rw is at (in_order h g less)) [
-                | inl earlier ↦ absurd (false≢true (sym not ∙ ap is_lt earlier))
-                | inr tie ↦ other (same_key (birth_of m h) birth tie.0)
-              ]
-            ]
+            search (rules, after g is, in_order, false≢true, birth_cmp-IsAntisymmetric)

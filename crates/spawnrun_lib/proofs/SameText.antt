@@ -31,8 +31,7 @@ nobody h e is = search (rules, none-some, finite.get-empty)
 pub same_if_granted : (script : Script) (workers : ℕ) (executions : List Execution) (text : List ℕ) → IsScript script
     → IsReportOf script workers Births executions text → IsWithoutHandles script
     → All (λ e. AreGranted e.queues) executions → text ≡ text_alone script
-same_if_granted script workers executions text ranges report free granted = search
-    (rules, first_world-sound, first_world-living, text_alike, told, nobody, finite.get-empty, none-some)
+same_if_granted script workers executions text ranges report free granted = search (rules, first_world-sound, first_world-living, text_alike, told, nobody, finite.get-empty, none-some)
 
 pub same_text : (script : Script) (workers : ℕ) (text : List ℕ) → IsScript script → IsReport script workers Births text
     → IsWithoutHandles script → TellsNoRefusal text → text ≡ text_alone script
@@ -40,5 +39,4 @@ same_text script workers text ranges (executions, report) free none = search (ru
 
 pub enough_text : (script : Script) (workers : ℕ) (text : List ℕ) → IsScript script
     → IsReport script workers Births text → IsWithoutHandles script → HasEnoughSlots script → text ≡ text_alone script
-enough_text script workers text ranges (executions, report) free enough = search
-    (rules, same_if_granted, granted_if_enough)
+enough_text script workers text ranges (executions, report) free enough = search (rules, same_if_granted, granted_if_enough)

@@ -33,5 +33,4 @@ has_gone_on view ops i op start before after lists lists_after within is run ste
 
 pub has_ended : (view : View) (ops : List Operation) (i : ℕ) (names : Bindings) (start now : List Command)
     → drop i ops ≡ [] → HasRun view ops i names start now → start ≡ [] → MayIssue ops view now
-has_ended view ops i names start now none run empty = grind
-    (arith, common_steps, append-nil run.added, run.added, run.queue, run.rest)
+has_ended view ops i names start now none run empty = grind (arith, common_steps, append-nil run.added, run.added, run.queue, run.rest)

@@ -1,17 +1,11 @@
 -- Commands for the handles of a target.
-use Rattle.spawnrun_lib.proofs.Common.{rules, ◌≡◌, List, ◌++◌, map, Result, OnOk, OnErr, Handle, Memory, Command, View, Operation, Target, Bindings, IsTargeted, StopsOnEach, Stops, names_of, HasIssuedOn, HasStoppedAmong, HasStoppedOn, HasStopped}
+use Rattle.spawnrun_lib.proofs.Common.{rules, ◌≡◌, List, ◌++◌, map, Result, OnOk, OnErr, Handle, Memory, Command, View, Operation, Target, Bindings, IsTargeted, StopsOnEach, Stops, names_of, HasIssuedOn, HasStoppedOn, HasStopped}
 use Rattle.ent_script.specs.declared.target.Target.TheVariants as target
 
 pub issued_on : (view : View) (names : Bindings) (on : Target) (command : Handle → Command)
     (before after : List Command) (hs : List Handle) (result : Result (Unit {0}) Memory) → IsTargeted view names on hs
     → OnOk result (after ≡ before ++ map command hs) → OnOk result (HasIssuedOn view names on command before after)
 issued_on view names on command before after hs it targeted queue = search rules
-
-pub stopped_on : (view : View) (names : Bindings) (on : Target) (command : Handle → Command)
-    (before after : List Command) (hs : List Handle) (result : Result (Unit {0}) Memory) → IsTargeted view names on hs
-    → OnErr result (HasStoppedAmong hs command before after) → OnErr result (HasStoppedOn view names on command before
-    after)
-stopped_on view names on command before after hs it targeted stopped = search rules
 
 -- what holds anyway holds of an error
 pub on_error : (result : Result (Unit {0}) Memory) (P : Type 0) → P → OnErr result P

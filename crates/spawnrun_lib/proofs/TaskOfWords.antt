@@ -1,5 +1,5 @@
 -- From the program's words to its task: the subcommand that clap finds, and the faults.
-use Rattle.spawnrun_lib.proofs.Common.{rules, ◌≡◌, ◌∙◌, true, false, List, [], IfSome, refl, sym, ap, subst, codes, Option, Some, None, option_map, slice_index_or, HasMatchesOf, is_simple, Row, Shape, Text, built, fault_of, is_simple_and_free, subcommand_of, rows_of, subcommand_rows_of, App, found_of, takes, subcommand_name_of, ArgMatches, new_shape, entered, nothing_held, stop_after, texts, entered_fault, clap_on_literals, built_takes, entered_passes, HasNumber, AsksFor, HasRun, HasShow, MayHaveBlocks, program, program_of, references_to, shown, Task, Bor}
+use Rattle.spawnrun_lib.proofs.Common.{rules, ◌≡◌, ◌∙◌, true, false, List, [], IfSome, refl, sym, ap, codes, Option, Some, None, option_map, slice_index_or, HasMatchesOf, is_simple, Row, Shape, Text, built, fault_of, is_simple_and_free, subcommand_of, rows_of, subcommand_rows_of, App, found_of, takes, subcommand_name_of, ArgMatches, new_shape, entered, nothing_held, stop_after, texts, entered_fault, clap_on_literals, built_takes, entered_passes, HasNumber, AsksFor, HasRun, HasShow, MayHaveBlocks, program, program_of, references_to, shown, Task, Bor}
 use Rattle.clap.specs.Simple.{names_of}
 use Rattle.spawnrun_lib.proofs.MovedNames.{level_fault-moved, level_passes-moved, rows_after-moved}
 use Rattle.spawnrun_lib.proofs.CommandLineOptions.{replay_shape, IsAsked, IsAsked-no_fault}
@@ -24,8 +24,7 @@ entered_fault-moved : (names : TextRefs) (stop : Option (Text × List Text))
     → entered_fault (built (program_of (references_to (texts names.now)))) stop
     ≡ entered_fault (built (program_of names)) stop
 entered_fault-moved names None = refl
-entered_fault-moved names (Some p) = search
-    (rules, level_fault-moved (run_shape_of names) [] nothing_held p.1 false [], replay_shape)
+entered_fault-moved names (Some p) = search (rules, level_fault-moved (run_shape_of names) [] nothing_held p.1 false [], replay_shape)
 
 fault_of-moved : (names : TextRefs) (words : List Text) → fault_of (program_of (references_to (texts names.now))) words
     ≡ fault_of (program_of names) words
@@ -35,8 +34,7 @@ entered_passes-moved : (names : TextRefs) (stop : Option (Text × List Text))
     → entered_passes (built (program_of (references_to (texts names.now)))) stop
     ≡ entered_passes (built (program_of names)) stop
 entered_passes-moved names None = refl
-entered_passes-moved names (Some p) = search
-    (rules, level_passes-moved (run_shape_of names) [] nothing_held p.1 false, replay_shape)
+entered_passes-moved names (Some p) = search (rules, level_passes-moved (run_shape_of names) [] nothing_held p.1 false, replay_shape)
 
 built_takes-moved : (names : TextRefs) (words : List Text)
     → built_takes (built (program_of (references_to (texts names.now)))) nothing_held words
@@ -78,7 +76,7 @@ program_of-IsProgram names same = record {
 }
 
 pub IsProgram-names : (app : App) (names : TextRefs) → app ≡ program_of names → texts names.now ≡ shown → IsProgram app
-IsProgram-names app names is same = subst IsProgram (sym is) (program_of-IsProgram names same)
+IsProgram-names app names is same = search (rules, program_of-IsProgram)
 
 -- what a parse by the program's command met
 pub record MeetsTask (words : List Text) (m : ArgMatches) : Type 0 where

@@ -21,7 +21,7 @@ module _ {K X : Type 0} (R : K → K → Ordering) where
   keys_apart : (es : List (K × X)) → T (is_sorted R es) → IsDistinct (eq_by_cmp R) (map (λ e. e.0) es)
   unfolding IsDistinct
   keys_apart [] sorted = tt
-  keys_apart (e ∷ es) sorted = (below_apart e.0 es (first _ _ sorted), keys_apart es (second _ _ sorted))
+  keys_apart (e ∷ es) sorted = search (rules, below_apart, first, second, keys_apart es)
 
 module _ (m : EntityMap) (handles : List Handle) (lists : ListsAll m handles) where
   some_entity : (o : Option Entity) → is_some o ≡ true → IsSomeAnd o (λ e. IsTrue true)
@@ -60,8 +60,7 @@ module _ (components : List (List ℕ)) (name : Handle → Birth) (m : EntityMap
   lines_alike : (handles : List Handle) → All (IsThere m) handles → flat_map (line_in components Births m) handles
       ≡ flat_map (birth_line components) (map entry_of handles)
   lines_alike [] all = refl
-  lines_alike (h ∷ handles) all = search
-      (rules, All-head, All-tail, lines_alike handles (All-tail (IsThere m) h handles all), entity_there, append-nil)
+  lines_alike (h ∷ handles) all = search (rules, All-head, All-tail, lines_alike handles (All-tail (IsThere m) h handles all), entity_there, append-nil)
 
   world_alike : (text : List ℕ) → IsWorldText components Births m text → text ≡ flat_map (birth_line components) births
       ++ alive_line (length births)

@@ -7,7 +7,7 @@
 //! `main` is one call of `start`, which hands the arguments and the standard streams to `execute`.
 //! All that happens from then on has a contract, over any devices, so that tests can use devices in
 //! memory.
-#![tactic(auto)]
+#![tactic(auto, using(crate::proofs::Laws::laws))]
 
 mod bindings;
 mod bytes;

@@ -4,15 +4,8 @@ use Rattle.spawnrun_lib.proofs.roll.of_birth.Goals as goal
 
 pub returns-then-eq-clause-found : goal.returns-then-eq-clause-found
 returns-then-eq-clause-found c =
-    let h = c.in_ok-first.field-0.now in
-    let at = c.in_ok-first.ensures.lookup in
     let tests : c.eq.result ≡ option_eq (eq_by_cmp birth_cmp) c.birth.result (Some c.args.birth) = search rules in
-    let own : birth_of c.args.view.now.entities h ≡ Some c.args.birth = sym c.birth.ensures
-    ∙ same_if_equal c.birth.result c.args.birth (sym tests ∙ c.if-eq.true) in (
-      own,
-      least_here c.args.view.now c.args.birth c.args.handles.now c.requires c.first_from.result c.first_from.ensures h
-          at.3.0 (sym at.1) own,
-    )
+    search (rules, same_if_equal, least_here)
 
 pub returns-else-eq-clause-none : goal.returns-else-eq-clause-none
 returns-else-eq-clause-none c =

@@ -5,28 +5,21 @@ use Rattle.spawnrun_lib.proofs.schedule.line_of.Goals as goal
 abbrev nth : ℕ → List ℕ → List ℕ
 nth n text = slice_index_or (lines_of text) n []
 
-get_later : (n : ℕ) (line : List ℕ) (lines : List (List ℕ)) → 0 < n
-    → slice_index_or (line ∷ lines) n [] ≡ slice_index_or lines (n - 1) []
-get_later n line lines some = search rules
-
 nth_first : (text line others : List ℕ) → text ≡ line ++ 10 ∷ others → IsWithout 10 line → nth 0 text ≡ line
 nth_first text line others e h = search (rules, lines_first text line others e h)
 
 nth_later : (n : ℕ) (text line others : List ℕ) → 0 < n → text ≡ line ++ 10 ∷ others → IsWithout 10 line
     → nth n text ≡ nth (n - 1) others
-nth_later n text line others some e h = search (rules, lines_first, get_later)
+nth_later n text line others some e h = search (rules, lines_first)
 
 nth_only : (text : List ℕ) → IsWithout 10 text → nth 0 text ≡ text
 nth_only text h = search (rules, cases_lt, lines_whole, nil_from_length)
-
-nth_of_none : (n : ℕ) → nth n [] ≡ []
-nth_of_none n = search rules
 
 none_left : (n : ℕ) → slice_index_or {A = List ℕ} [] n [] ≡ []
 none_left n = search rules
 
 nth_past : (n : ℕ) (text : List ℕ) → 0 < n → IsWithout 10 text → nth n text ≡ []
-nth_past n text past h = search (rules, cases_lt, lines_whole, get_later, nil_from_length)
+nth_past n text past h = search (rules, cases_lt, lines_whole, nil_from_length)
 
 pub returns-in_default : goal.returns-in_default
 returns-in_default c = search (rules, nth_past)

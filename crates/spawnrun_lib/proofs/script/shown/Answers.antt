@@ -1,4 +1,4 @@
-use Rattle.spawnrun_lib.proofs.Common.{rules, ◌≡◌, List, ℕ, subst, sym, MatchOption, inline_text, iff_false, Data, view, ReadFault, Place, IsPlaceOf, Shows, place_of, front, plain, json_none, Option, Some, IsUtf8, cond-true, is_utf8-from_IsUtf8, read, json_of}
+use Rattle.spawnrun_lib.proofs.Common.{rules, ◌≡◌, List, ℕ, MatchOption, Data, view, ReadFault, Place, IsPlaceOf, Shows, front, plain, Option, Some, IsUtf8, cond-true, is_utf8-from_IsUtf8, read, json_of}
 use Rattle.spawnrun_lib.proofs.Pieces.{if_some}
 use Rattle.spawnrun_lib.proofs.script.shown.Goals as goal
 
@@ -11,10 +11,5 @@ ShowsOf e shown o = MatchOption o ((words : List ℕ) × (shown ≡ front (plain
 
 pub returns-in-Ok-clause-shows : goal.returns-in-Ok-clause-shows
 returns-in-Ok-clause-shows c =
-    let ok = c.in-Ok.ensures.ok in
-    let json = json_some c.args.text.now (view c.in-Ok.script) ok.0 ok.1 in
-    if_some c.shown.result _ _ (λ shown h. subst (ShowsOf c.args.fault (inline_text shown)) (sym json)
-    (place_of c.part.result, c.part.ensures, h)) c.shown.ensures.text
-
-pub returns-in-Err-clause-shows : goal.returns-in-Err-clause-shows
-returns-in-Err-clause-shows c = search (rules, json_none, iff_false)
+    let json = json_some c.args.text.now (view c.in-Ok.script) c.in-Ok.ensures.ok.0 c.in-Ok.ensures.ok.1 in
+    search (rules, if_some, json)

@@ -1,9 +1,6 @@
 use Rattle.spawnrun_lib.proofs.Common.{rules}
-use Rattle.spawnrun_lib.proofs.NextFrame.{goes_on, has_gone_on, next_is_few, one_more, others_are_few}
+use Rattle.spawnrun_lib.proofs.NextFrame.{goes_on, has_gone_on, one_more, others_are_few}
 use Rattle.spawnrun_lib.proofs.script_run.run_frames.Goals as goal
-
-pub run-requires-clause-systems : goal.run-requires-clause-systems
-run-requires-clause-systems g c = search (rules, next_is_few)
 
 pub loop-current-preserved : goal.loop-current-preserved
 loop-current-preserved g c =

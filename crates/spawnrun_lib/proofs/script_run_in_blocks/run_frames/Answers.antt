@@ -1,10 +1,7 @@
 use Rattle.spawnrun_lib.proofs.Common.{common_steps, rules, arith, ◌≡◌}
 use Rattle.spawnrun_lib.proofs.NextFrame.{goes_on, one_more}
-use Rattle.spawnrun_lib.proofs.NextInBlocks.{has_begun_in_blocks, has_gone_on_in_blocks}
+use Rattle.spawnrun_lib.proofs.NextInBlocks.{has_gone_on_in_blocks}
 use Rattle.spawnrun_lib.proofs.script_run_in_blocks.run_frames.Goals as goal
-
-pub loop-current-init : goal.loop-current-init
-loop-current-init g c = search (rules, has_begun_in_blocks)
 
 pub loop-current-preserved : goal.loop-current-preserved
 loop-current-preserved g c =
@@ -19,12 +16,7 @@ loop-current-preserved g c =
     record {
       all = goes_on gone old rest x front c.args.frames.items i.all;
       counted = search (rules, one_more gone old rest x front c.loop-current.number i.counted);
-      run = λ names. search (
-        rules,
-        i.counted,
-        has_gone_on_in_blocks names c.args.size c.args.show
-            c.args.world c.loop-current.world _ gone x c.loop-current.text.items went.0 _ _ (i.run names) ends,
-      );
+      run = λ names. search (rules, i.counted, has_gone_on_in_blocks names c.args.size c.args.show c.args.world c.loop-current.world _ gone x c.loop-current.text.items went.0 _ _ (i.run names) ends);
     }
 
 pub returns : goal.returns

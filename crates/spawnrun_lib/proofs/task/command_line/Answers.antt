@@ -11,8 +11,7 @@ named : (g : given.Over) (c : After-unwrap g) → MeetsTask (map g.S.AsStr.text 
 named g c =
     let words : List (List ℕ) = map g.S.AsStr.text c.args.words.now in
     let met : MeetsTask words c.in_ok-matches.matches = MeetsTask-parse _ words _
-    (IsProgram-names _ _ c.in_ok-program.ensures refl) c.in_ok-matches.ensures.kinds c.in_ok-matches.ensures.matches in
-    (
+    (IsProgram-names _ _ c.in_ok-program.ensures refl) c.in_ok-matches.ensures.kinds c.in_ok-matches.ensures.matches in (
       met,
       λ text. subcommand_met-named words _ met _ _ _ text c.subcommand.ensures.name c.subcommand.ensures.rows
           c.unwrap.ensures,

@@ -1,4 +1,4 @@
-use Rattle.spawnrun_lib.proofs.Common.{rules, ap, arith, Err, InputFault, ◌≡◌, ◌≤◌, ◌<◌, List, [], ℕ, Option, length, IfSome, size_wants, Product, Accepts, IsProductOf, Refusal, Refuses, fails, input_limit, is_too_long, size_line}
+use Rattle.spawnrun_lib.proofs.Common.{rules, arith, ◌≡◌, ◌≤◌, ◌<◌, List, [], ℕ, Option, length, IfSome, size_wants, Product, Accepts, IsProductOf, Refusal, Refuses, fails, input_limit, is_too_long, size_line}
 use Rattle.spawnrun_lib.proofs.work.product_of.Goals as goal
 
 module _ (Gives : List ℕ → List ℕ → Type 0) (Fails : List ℕ → Refusal → Type 0) where
@@ -22,6 +22,4 @@ returns-in-Ok-clause-gives g c = made_of_read (g.W.Work.gives c.args.work) (g.W.
     (omega (arith, c.in-Ok.bytes.ok.0, c.in-Ok.ensures.within)) c.in_ok-make-in-Ok.ensures
 
 pub returns-in-Err-TooLong-clause-gives : goal.returns-in-Err-TooLong-clause-gives
-returns-in-Err-TooLong-clause-gives g c = refused_too_long (g.W.Work.gives c.args.work) (g.W.Work.fails c.args.work)
-    (g.I.Source.remaining c.args.input.now) _ (c.in-Err-TooLong.ensures.too_long
-    (ap (λ (fault : InputFault). Err fault) c.in-Err-TooLong.field-0-is)) c.in_ok-too_long-in-Err-TooLong.ensures
+returns-in-Err-TooLong-clause-gives g c = search (rules, refused_too_long (g.W.Work.gives c.args.work) (g.W.Work.fails c.args.work))

@@ -14,20 +14,12 @@ returns-in-Twice-clause-text c = rw c.in-Twice.is (record { text = quoted c.in-T
 
 pub returns-in-Long-clause-text : goal.returns-in-Long-clause-text
 returns-in-Long-clause-text c =
-    let nothing = inline_text c.new-nothing.result in
-    let number = inline_text c.with_text-shown-in-Long.result in
-    let new = inline_text c.with_text-in-Long.result in
-    let count = c.in-Long.count in
+    let number = more_text _ _ _ (decimal-printable c.in-Long.count (search rules))
+    (rw c.format.ensures.text at c.with_text-shown-in-Long.ensures.text) in
     rw c.in-Long.is (record {
-      text = decimal count ++ codes " elements";
+      text = decimal c.in-Long.count ++ codes " elements";
       spells = refl;
-      is = from_nothing nothing (decimal count ++ codes " elements") new
-          c.new-nothing.ensures.text
-          (two_pieces nothing number new (decimal count) (codes " elements")
-          (more_text nothing number (decimal count) (decimal-printable count (search rules))
-          (rw c.format.ensures.text at c.with_text-shown-in-Long.ensures.text))
-          (more_text number new (codes " elements") (passes (codes " elements") refl)
-          c.with_text-in-Long.ensures.text));
+      is = search (rules, from_nothing, two_pieces, more_text, number, passes);
     })
 
 pub returns-in-Member-clause-text : goal.returns-in-Member-clause-text
