@@ -2,6 +2,9 @@ use Rattle.ent_blocks.proofs.Common.{rules, ◌≡◌, sym, ap, ◌∙◌, ◌+�
 use Rattle.ent_blocks.proofs.Positions.{served_many, served, pool_there, length-rest, length-listed}
 use Rattle.ent_blocks.proofs.taking.take_many.Goals as goal
 
+pub reply-requires : goal.reply-requires
+reply-requires c = search rules
+
 pub unreachable-requires : goal.unreachable-requires
 unreachable-requires c =
     let s = c.args.entities.now.allocator in
