@@ -1,5 +1,6 @@
 -- Reading the elements of an array one after another, of at most so many.
-use Rattle.ent_script.proofs.Common.{le-leb, rules, ◌≡◌, ℕ, ◌+◌, ◌-◌, ◌<◌, ◌≤◌, List, [], ◌∷◌, ◌++◌, length, Some, None, Result, Ok, Err, false, cond, ok_or, lt-leb, append-nil, nat_le, Token, Parse, after_end_array, items, Data, Items, of_json, of_items, converted, list_of, ◌>>=◌, numbered, ReadsList, Streams, StreamsList, FaultOfArray, ran_out, ReadFault, Memory, Vec}
+use Rattle.ent_script.proofs.Common.{le-leb, rules, ◌≡◌, ℕ, ◌+◌, ◌-◌, ◌<◌, ◌≤◌, List, [], ◌∷◌, ◌++◌, length, Some, None, Result, Ok, Err, false, cond, ok_or, lt-leb, append-nil, nat_le, Token, Parse, after_end_array, items, Data, Items, of_json, of_items, converted, list_of, ◌>>=◌, numbered, ReadsList, Streams, StreamsList, FaultOfArray, ran_out, ReadFault, Memory}
+use Rattle.std.specs.Global.{Vec}
 use Rattle.json.specs.Json as json
 use Rattle.ent_script.proofs.Numbering.{onto, onto_one}
 use Rattle.ent_script.proofs.Finding.{next_item, last_item}

@@ -60,20 +60,14 @@ cut_members-returns-in_err-member-clause-json t c refused = search (rules, membe
 pub cut_members-members-preserved : goal.cut_members-members-preserved
 cut_members-members-preserved t c =
     let l = c.members in
-    let k = c.in-Some.name.now in
     let done = c.in_ok-member.ensures in
-    let named : read_key l.reader ≡ Some (Some k, c.next_key.new.self) = grind arith in
-    let less = read_key-shorter l.reader (Some k) c.next_key.new.self named in
-    let lesser = done.shorter in (
+    let named : read_key l.reader ≡ Some (Some c.in-Some.name.now, c.next_key.new.self) = grind arith in
+    let less = read_key-shorter _ _ _ named in
+    let on = l.invariant.2.1 ∙ member_read _ _ _ _ _ _ _ _ (omega (arith, l.invariant.1, less)) named done.ok.1 in (
       l.invariant.0 - 1,
-      omega (arith, l.invariant.1),
-      (
-        put k done.ok.0 l.invariant.2.0,
-        l.invariant.2.1 ∙ member_read (value c.args.depth) l.invariant.2.0 l.invariant.0 k l.reader c.next_key.new.self
-            c.read_cut.new.reader done.ok.0 (omega (arith, l.invariant.1)) named done.ok.1,
-        search (rules, members_view-insert_entry, cut_members-put),
-      ),
-      omega (arith, l.invariant.3),
+      omega (arith, l.invariant.1, less, done.shorter),
+      (put _ done.ok.0 l.invariant.2.0, on, search (rules, members_view-insert_entry, cut_members-put)),
+      omega (arith, l.invariant.3, less, done.shorter),
     )
 
 pub cut_members-returns-clause-ok : goal.cut_members-returns-clause-ok
@@ -81,18 +75,15 @@ cut_members-returns-clause-ok t c = search (rules, members_end)
 
 pub read_cut-returns-then-levels-eq0-clause-ok : goal.read_cut-returns-then-levels-eq0-clause-ok
 read_cut-returns-then-levels-eq0-clause-ok t c =
-    let d = passed_nested c.args.depth (token_of c.in_ok-token.token) Token.begin_object c.args.reader.now
-    c.next.new.self c.pass_rest-then-levels-eq0.new.reader (grind arith) (ap token_of c.in-BeginObject.is)
+    let d = passed_nested _ _ _ _ _ _ (grind arith) (ap token_of c.in-BeginObject.is)
     c.in_ok-pass_rest-in-BeginObject.ensures.value in
-    let ms = opened_object c.args.depth c.next.new.self c.pass_rest-then-levels-eq0.new.reader d.0 d.2 in
+    let ms = opened_object _ _ _ d.0 d.2 in
     let none : c.args.levels ≡ 0 = omega arith in
     (d.0, d.1, search (rules, view-Object, none, ms))
 
 pub read_cut-returns-in_ok-pass_rest-in-BeginArray-clause-ok :
     goal.read_cut-returns-in_ok-pass_rest-in-BeginArray-clause-ok
 read_cut-returns-in_ok-pass_rest-in-BeginArray-clause-ok t c =
-    let d = passed_nested c.args.depth (token_of c.in_ok-token.token) Token.begin_array c.args.reader.now
-    c.next.new.self c.pass_rest.new.reader (grind arith) (ap token_of c.in-BeginArray.is)
+    let d = passed_nested _ _ _ _ _ _ (grind arith) (ap token_of c.in-BeginArray.is)
     c.in_ok-pass_rest-in-BeginArray.ensures.value in
-    let ds = opened_array c.args.depth c.next.new.self c.pass_rest.new.reader d.0 d.2 in
-    (d.0, d.1, search (rules, view-Array, ds))
+    (d.0, d.1, search (rules, view-Array, opened_array, d))

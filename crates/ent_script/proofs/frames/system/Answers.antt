@@ -1,16 +1,11 @@
-use Rattle.ent_script.proofs.Common.{arith, system_of}
+use Rattle.ent_script.proofs.Common.{rules, arith, system_of}
 use Rattle.ent_script.proofs.Openings.{array_begun, no_array_begun}
 use Rattle.ent_script.proofs.frames.system.Goals as goal
 
 pub returns-then-not-branch-clause-value : goal.returns-then-not-branch-clause-value
 unfolding system_of
-returns-then-not-branch-clause-value c d rest e =
-    let is = no_array_begun c.args.depth c.in_ok-begins_array.field-0 c.begins_array.new.reader d rest
-    (c.in_ok-begins_array.ensures.value d rest e) (grind arith) in
-    (rw is.0, is.1)
+returns-then-not-branch-clause-value c d rest e = search
+    (rules, no_array_begun, c.in_ok-begins_array.ensures.value d rest e)
 
 pub returns-clause-value : goal.returns-clause-value
-returns-clause-value c d rest e =
-    let is = array_begun c.args.depth c.in_ok-begins_array.field-0 c.begins_array.new.reader d rest
-    (c.in_ok-begins_array.ensures.value d rest e) (grind arith) in
-    rw is.1 (c.operations.ensures.value _ is.0 rest is.2)
+returns-clause-value c d rest e = search (rules, array_begun, c.in_ok-begins_array.ensures.value d rest e)

@@ -4,8 +4,7 @@ use Rattle.ent_script.proofs.kind.is_despawn.Goals as goal
 
 pub returns-then-is_some : goal.returns-then-is_some
 unfolding is_despawn
-returns-then-is_some c ms at = one_there (codes "despawn") (codes "despawn" ∷ []) ms c.args.fields.now.despawn
-    c.args.fields.now.kinds.despawn at.despawn at.kinds.despawn (sym c.if-is_some.ensures)
+returns-then-is_some c ms at = one_there _ _ ms _ _ at.despawn at.kinds.despawn (sym c.if-is_some.ensures)
 
 pub returns-else-is_some : goal.returns-else-is_some
 unfolding is_despawn

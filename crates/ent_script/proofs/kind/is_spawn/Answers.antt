@@ -4,8 +4,7 @@ use Rattle.ent_script.proofs.kind.is_spawn.Goals as goal
 
 pub returns-then-is_some : goal.returns-then-is_some
 unfolding is_spawn
-returns-then-is_some c ms at = one_there (codes "spawn") (codes "spawn" ∷ codes "as" ∷ []) ms c.args.fields.now.spawn
-    c.args.fields.now.kinds.spawn at.spawn at.kinds.spawn (sym c.if-is_some.ensures)
+returns-then-is_some c ms at = one_there _ _ ms _ _ at.spawn at.kinds.spawn (sym c.if-is_some.ensures)
 
 pub returns-else-is_some : goal.returns-else-is_some
 unfolding is_spawn

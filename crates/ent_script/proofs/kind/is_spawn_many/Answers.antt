@@ -4,12 +4,9 @@ use Rattle.ent_script.proofs.kind.is_spawn_many.Goals as goal
 
 pub returns-then-is_some : goal.returns-then-is_some
 unfolding is_spawn_many
-returns-then-is_some c ms at = one_there (codes "spawn_many") (codes "spawn_many" ∷ codes "with" ∷ codes "as" ∷ []) ms
-    c.args.fields.now.spawn_many c.args.fields.now.kinds.spawn_many at.spawn_many at.kinds.spawn_many
-    (sym c.if-is_some.ensures)
+returns-then-is_some c ms at = one_there _ _ ms _ _ at.spawn_many at.kinds.spawn_many (sym c.if-is_some.ensures)
 
 pub returns-else-is_some : goal.returns-else-is_some
 unfolding is_spawn_many
-returns-else-is_some c ms at = c.if-is_some.false ∙ one_absent (codes "spawn_many")
-    (codes "spawn_many" ∷ codes "with" ∷ codes "as" ∷ []) ms c.args.fields.now.spawn_many
-    c.args.fields.now.kinds.spawn_many at.spawn_many at.kinds.spawn_many (sym c.if-is_some.ensures)
+returns-else-is_some c ms at = c.if-is_some.false ∙ one_absent _ _ ms _ _ at.spawn_many at.kinds.spawn_many
+    (sym c.if-is_some.ensures)

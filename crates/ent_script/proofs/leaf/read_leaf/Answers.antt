@@ -26,16 +26,12 @@ returns-in-EndObject-clause-refused c = search (rules, value_is)
 
 pub returns-in_ok-pass_rest-in-BeginArray-clause-ok : goal.returns-in_ok-pass_rest-in-BeginArray-clause-ok
 returns-in_ok-pass_rest-in-BeginArray-clause-ok c =
-    let d = passed_nested c.args.depth (token_of c.in_ok-token.token) Token.begin_array c.args.reader.now
-    c.next.new.self c.pass_rest.new.reader (grind arith) (ap token_of c.in-BeginArray.is)
+    let d = passed_nested _ _ _ _ _ _ (grind arith) (ap token_of c.in-BeginArray.is)
     c.in_ok-pass_rest-in-BeginArray.ensures.value in
-    let ds = opened_array c.args.depth c.next.new.self c.pass_rest.new.reader d.0 d.2 in
-    (d.0, d.1, search (rules, ds))
+    (d.0, d.1, search (rules, opened_array, d))
 
 pub returns-in_ok-pass_rest-in-BeginObject-clause-ok : goal.returns-in_ok-pass_rest-in-BeginObject-clause-ok
 returns-in_ok-pass_rest-in-BeginObject-clause-ok c =
-    let d = passed_nested c.args.depth (token_of c.in_ok-token.token) Token.begin_object c.args.reader.now
-    c.next.new.self c.pass_rest-in-BeginObject.new.reader (grind arith) (ap token_of c.in-BeginObject.is)
+    let d = passed_nested _ _ _ _ _ _ (grind arith) (ap token_of c.in-BeginObject.is)
     c.in_ok-pass_rest-in-BeginObject.ensures.value in
-    let ms = opened_object c.args.depth c.next.new.self c.pass_rest-in-BeginObject.new.reader d.0 d.2 in
-    (d.0, d.1, search (rules, ms))
+    (d.0, d.1, search (rules, opened_object, d))

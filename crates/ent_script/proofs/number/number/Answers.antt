@@ -3,11 +3,7 @@ use Rattle.ent_script.proofs.number.number.Goals as goal
 
 pub returns-then-has_minus : goal.returns-then-has_minus
 unfolding number_of
-returns-then-has_minus c =
-    let s = c.as_bytes-bytes.result.now in
-    let parts : c.scan.result ≡ scan (drop 1 s) = c.scan.ensures.parts
-    ∙ ap scan (take_all _ (drop 1 s) (omega (arith, length-drop 1 s))) in
-    search (rules, parts)
+returns-then-has_minus c = search (rules, scan, drop, take_all, length-drop)
 
 pub returns-else-has_minus : goal.returns-else-has_minus
 unfolding number_of

@@ -15,20 +15,14 @@ returns-in_err-leaf-clause-json c refused = search (rules, member_refused)
 pub members-preserved : goal.members-preserved
 members-preserved c =
     let l = c.members in
-    let k = c.in-Some.name.now in
     let done = c.in_ok-leaf.ensures in
-    let named : read_key l.reader ≡ Some (Some k, c.next_key.new.self) = grind arith in
-    let less = read_key-shorter l.reader (Some k) c.next_key.new.self named in
-    let lesser = done.shorter in (
+    let named : read_key l.reader ≡ Some (Some c.in-Some.name.now, c.next_key.new.self) = grind arith in
+    let less = read_key-shorter _ _ _ named in
+    let on = l.invariant.2.1 ∙ member_read _ _ _ _ _ _ _ _ (omega (arith, l.invariant.1, less)) named done.ok.1 in (
       l.invariant.0 - 1,
-      omega (arith, l.invariant.1),
-      (
-        put k done.ok.0 l.invariant.2.0,
-        l.invariant.2.1 ∙ member_read (value c.args.depth) l.invariant.2.0 l.invariant.0 k l.reader c.next_key.new.self
-            c.read_leaf.new.reader done.ok.0 (omega (arith, l.invariant.1)) named done.ok.1,
-        search (rules, cut_members-put),
-      ),
-      omega (arith, l.invariant.3),
+      omega (arith, l.invariant.1, less, done.shorter),
+      (put _ done.ok.0 l.invariant.2.0, on, search (rules, cut_members-put)),
+      omega (arith, l.invariant.3, less, done.shorter),
     )
 
 pub returns-clause-ok : goal.returns-clause-ok

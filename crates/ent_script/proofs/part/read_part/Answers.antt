@@ -40,8 +40,7 @@ returns-in_ok-read_object-in-BeginObject-clause-ok c =
 
 pub returns-in_ok-pass_rest-in-BeginArray-clause-ok : goal.returns-in_ok-pass_rest-in-BeginArray-clause-ok
 returns-in_ok-pass_rest-in-BeginArray-clause-ok c =
-    let d = passed_nested c.args.depth (token_of c.in_ok-token.token) Token.begin_array c.args.reader.now
-    c.next.new.self c.pass_rest.new.reader (grind arith) (ap token_of c.in-BeginArray.is)
+    let d = passed_nested _ _ _ _ _ _ (grind arith) (ap token_of c.in-BeginArray.is)
     c.in_ok-pass_rest-in-BeginArray.ensures.value in
-    let ds = opened_array c.args.depth c.next.new.self c.pass_rest.new.reader d.0 d.2 in
+    let ds = opened_array _ _ _ d.0 d.2 in
     (d.0, d.1, search (rules, ds))

@@ -20,8 +20,7 @@ loop-value-preserved c =
     record {
       few = rw added (omega (arith, length-append names (t ∷ []), c.loop-value.invariant.few));
       names = rw (on, ← c.loop-value.invariant.names, facts.0) c.in_ok-add.ensures.ok;
-      rest = rw added (goes_on f vs i v names t (numbered f 0 (map view vs)) c.loop-value-test.true c.value-item.is
-          means c.loop-value.invariant.rest);
+      rest = rw added (goes_on f vs i v _ t _ c.loop-value-test.true c.value-item.is means c.loop-value.invariant.rest);
     }
 
 pub returns-in_err-text-clause-names : goal.returns-in_err-text-clause-names
@@ -33,6 +32,5 @@ returns-in_err-text-clause-names c =
     let names = c.loop-value.names in
     let found : new_name names (view v) ≡ None = search rules in
     let means : f i (view v) ≡ Err script_cause.Components = search rules in
-    let e = stops f vs i v names script_cause.Components (numbered f 0 (map view vs)) c.loop-value-test.true
-    c.value-item.is means c.loop-value.invariant.rest in
+    let e = stops f vs i v _ _ _ c.loop-value-test.true c.value-item.is means c.loop-value.invariant.rest in
     search (rules, e)

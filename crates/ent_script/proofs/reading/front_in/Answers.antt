@@ -13,16 +13,7 @@ meant : (text : List ℕ) (was : Data) (v : Value) → read text ≡ Some was �
 meant text was v is seen = ap headed is ∙ ap (in_script {A = Heading}) (sym seen)
 
 pub returns-in_err-heading-clause-front : goal.returns-in_err-heading-clause-front
-returns-in_err-heading-clause-front c =
-    let was = c.in_ok-top.ensures.ok in
-    let is = whole c.next.result (λ t. token_of t) c.args.text.now was.0 c.read_top.new.reader c.next.new.self
-    (grind arith) c.next.ensures.value (rw (← c.in_ok-reader.ensures.ok) was.1) in
-    search (rules, meant c.args.text.now was.0 c.in_ok-top.top.value is was.2)
+returns-in_err-heading-clause-front c = search (rules, whole, token_of, meant)
 
 pub returns-clause-front : goal.returns-clause-front
-returns-clause-front c =
-    let was = c.in_ok-top.ensures.ok in
-    let is = whole c.next.result (λ t. token_of t) c.args.text.now was.0 c.read_top.new.reader c.next.new.self
-    (grind arith) c.next.ensures.value (rw (← c.in_ok-reader.ensures.ok) was.1) in
-    let same = was.2 in
-    (was.0, is, record { heading = search (rules, same); components = was.3 })
+returns-clause-front c = search (rules, whole, token_of)

@@ -11,7 +11,7 @@ Part d = get (codes "components") d
 same_names : (c : After-deref) (d : Data) → IsFront c.args.front d
     → in_script (numbered (component_at (map view c.deref.result.now)) 0 (map view c.deref.result.now))
     ≡ in_script (component_names (Part d))
-same_names c d is = let found = is.components in search (rules, names_meant, found)
+same_names c d is = search (rules, names_meant)
 
 pub returns-in_err-values : goal.returns-in_err-values
 returns-in_err-values c d e said =

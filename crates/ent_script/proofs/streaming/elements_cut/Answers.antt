@@ -46,8 +46,7 @@ returns-clause-value c n ds rest e = grind (arith, common_steps, last_item, leng
 
 pub returns-clause-passes : goal.returns-clause-passes
 returns-clause-passes c n h =
-    let l = c.elements in
-    goes_over (value c.args.depth) _ l.reader c.take_end_array.new.self (l.invariant.same n h) (grind arith)
+    let l = c.elements in goes_over (value _) _ l.reader c.take_end_array.new.self (l.invariant.same n h) (grind arith)
 
 pub returns-in_err-read_cut-clause-passes : goal.returns-in_err-read_cut-clause-passes
 returns-in_err-read_cut-clause-passes c n h =
@@ -68,11 +67,4 @@ returns-then-len-most-clause-passes c n h =
     at.2 ∙ rw (← going.1) (c.in_ok-passes_at_most.ensures.passes at.0 (rw going.1 at.1))
 
 pub returns-in_err-passes_at_most-clause-passes : goal.returns-in_err-passes_at_most-clause-passes
-returns-in_err-passes_at_most-clause-passes c n h =
-    let l = c.elements in
-    let going : (after_end_array l.reader ≡ None) × (c.take_end_array.new.self ≡ l.reader) = grind arith in
-    let at = l.invariant.same n h in
-    let refused = c.in_err-passes_at_most.ensures.passes at.0 (rw going.1 at.1) in
-    let none : left (converted of_items (items (value c.args.depth) n c.args.reader.now)) ≡ None = at.2
-    ∙ rw (← going.1) refused in
-    search (rules, none)
+returns-in_err-passes_at_most-clause-passes c n h = search (rules, after_end_array, left, converted, of_items, items, value)

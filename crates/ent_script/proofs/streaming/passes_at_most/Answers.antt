@@ -49,11 +49,8 @@ pub returns-in_err-pass_value-clause-passes : goal.returns-in_err-pass_value-cla
 returns-in_err-pass_value-clause-passes c n h =
     let l = c.loop-reader in
     let going : (after_end_array l.reader ≡ None) × (c.take_end_array.new.self ≡ l.reader) = grind arith in
-    let stuck = goes_stuck (value c.args.depth) _ l.reader [] (l.invariant.same n h) going.0
-    (rw (← going.1) c.in_err-pass_value.ensures.value) in
+    let stuck = goes_stuck _ _ _ [] (l.invariant.same n h) going.0 (rw (← going.1) c.in_err-pass_value.ensures.value) in
     search (rules, stuck)
 
 pub returns-clause-passes : goal.returns-clause-passes
-returns-clause-passes c n h =
-    let l = c.loop-reader in
-    goes_over (value c.args.depth) _ l.reader c.take_end_array.new.self (l.invariant.same n h) (grind arith)
+returns-clause-passes c n h = goes_over (value c.args.depth) _ _ _ (c.loop-reader.invariant.same n h) (grind arith)

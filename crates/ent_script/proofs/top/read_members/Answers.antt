@@ -17,15 +17,7 @@ pub returns-in_err-member-clause-json : goal.returns-in_err-member-clause-json
 returns-in_err-member-clause-json c refused = search (rules, member_refused)
 
 pub returns-in_err-components-clause-json : goal.returns-in_err-components-clause-json
-returns-in_err-components-clause-json c refused =
-    let l = c.members in
-    let k = c.in-Some.name.now in
-    let named : read_key l.reader ≡ Some (Some k, c.next_key.new.self) = grind arith in
-    let is : c.in_err-components.field-0.0 ≡ Json = grind (arith, common_steps, refused) in
-    let none = passes_json (Option (Vec Value Global)) c.in_err-components.field-0.0 c.read_elements.new.reader _
-    c.in_err-components.ensures.passes is in
-    l.invariant.2.1 ∙ member_refused (value c.args.depth) l.invariant.2.0 l.invariant.0 k l.reader c.next_key.new.self
-    named (left_none _ none)
+returns-in_err-components-clause-json c refused = search (rules, read_key, passes_json, member_refused, value, left_none)
 
 pub members-preserved-then-eq : goal.members-preserved-then-eq
 members-preserved-then-eq c =
@@ -33,19 +25,18 @@ members-preserved-then-eq c =
     let k = c.in-Some.name.now in
     let done = c.in_ok-components.ensures in
     let named : read_key l.reader ≡ Some (Some k, c.next_key.new.self) = grind arith in
-    let less = read_key-shorter l.reader (Some k) c.next_key.new.self named in
+    let less = read_key-shorter _ _ _ named in
     let lesser = done.shorter in
     let here = sym c.if-eq.ensures in
-    let was = read_there (converted of_json (value c.args.depth c.next_key.new.self)) c.read_elements.new.reader
-    done.passes done.value in (
+    let was = read_there _ _ done.passes done.value in
+    (
       l.invariant.0 - 1,
       omega (arith, l.invariant.1, less, lesser),
       (
-        put k was.0 l.invariant.2.0,
-        l.invariant.2.1 ∙ member_read (value c.args.depth) l.invariant.2.0 l.invariant.0 k l.reader c.next_key.new.self
-            c.read_elements.new.reader was.0 (omega (arith, l.invariant.1, less)) named was.1,
+        put k _ _,
+        l.invariant.2.1 ∙ member_read _ _ _ k _ _ _ _ (omega (arith, l.invariant.1, less)) named was.1,
         search (rules, members_view-insert_entry, heads-put, the_lemmas, here),
-        rw (found_here (codes "components") k was.0 l.invariant.2.0 here) was.2.0,
+        rw (found_here _ k _ _ here) was.2.0,
       ),
       done.few,
     )
@@ -56,28 +47,18 @@ members-preserved c =
     let k = c.in-Some.name.now in
     let done = c.in_ok-member.ensures in
     let named : read_key l.reader ≡ Some (Some k, c.next_key.new.self) = grind arith in
-    let less = read_key-shorter l.reader (Some k) c.next_key.new.self named in
-    let lesser = done.shorter in
+    let less = read_key-shorter _ _ _ named in
     let other = sym c.if-eq.ensures in (
       l.invariant.0 - 1,
-      omega (arith, l.invariant.1, less, lesser),
+      omega (arith, l.invariant.1, less, done.shorter),
       (
-        put k done.ok.0 l.invariant.2.0,
-        l.invariant.2.1 ∙ member_read (value c.args.depth) l.invariant.2.0 l.invariant.0 k l.reader c.next_key.new.self
-            c.read_cut.new.reader done.ok.0 (omega (arith, l.invariant.1, less)) named done.ok.1,
+        put k _ _,
+        l.invariant.2.1 ∙ member_read _ _ _ k _ _ _ _ (omega (arith, l.invariant.1, less)) named done.ok.1,
         search (rules, members_view-insert_entry, heads-put, other),
-        rw (found_before (codes "components") k done.ok.0 l.invariant.2.0 other) l.invariant.2.3,
+        rw (found_before _ k _ _ other) l.invariant.2.3,
       ),
       l.invariant.3,
     )
 
 pub returns-clause-ok : goal.returns-clause-ok
-returns-clause-ok c =
-    let l = c.members in
-    let over : read_key l.reader ≡ Some (None, c.next_key.new.self) = grind arith in (
-      l.invariant.2.0,
-      l.invariant.2.1 ∙ ap (converted (λ ms. of_members ms l.invariant.2.0))
-          (members_end (value c.args.depth) l.invariant.0 l.reader c.next_key.new.self l.invariant.1 over),
-      view-Object l.found ∙ ap object l.invariant.2.2,
-      l.invariant.2.3,
-    )
+returns-clause-ok c = search (rules, read_key, converted, of_members, members_end, value, view-Object, object)

@@ -25,12 +25,10 @@ returns-in-BeginObject-clause-ok c =
     ))
 
 pub returns-in-BeginObject-clause-json : goal.returns-in-BeginObject-clause-json
-returns-in-BeginObject-clause-json c refused =
-    let none = c.read_members.ensures.json refused in search (rules, none, value-begin_object, converted-object)
+returns-in-BeginObject-clause-json c refused = search (rules, value-begin_object, converted-object)
 
 pub returns-clause-ok : goal.returns-clause-ok
 returns-clause-ok c =
-    let d = passed_nested c.args.depth (token_of c.in_ok-token.token) (token_of c.in_ok-token.token) c.args.reader.now
-    c.next.new.self c.pass_rest.new.reader (grind arith) refl c.in_ok-pass_rest.ensures.value in
+    let d = passed_nested _ _ _ _ _ _ (grind arith) refl c.in_ok-pass_rest.ensures.value in
     let other : as_object d.0 ≡ None = search (rules, no_object_at, d) in
-    (d.0, d.1, search (rules, the_lemmas, no_heading d.0 other), rw (no_member d.0 (codes "components") other) refl)
+    (d.0, d.1, search (rules, the_lemmas, no_heading d.0 other), rw (no_member d.0 _ other) refl)
