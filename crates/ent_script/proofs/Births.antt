@@ -46,12 +46,7 @@ pub birth_of_split : (before : ℕ) (text frame others system ordinal : List ℕ
     → others ≡ system ++ 46 ∷ ordinal → IsWithoutDot frame → IsWithoutDot system
     → birth_of before text ≡ birth_of_parts before (frame ∷ system ∷ ordinal ∷ [])
 unfolding birth_of
-birth_of_split before text frame others system ordinal e e' f s = rw (
-  e,
-  slice_split_at is_dot frame 46 others (fails frame f) refl,
-  e',
-  slice_split_at is_dot system 46 ordinal (fails system s) refl,
-)
+birth_of_split before text frame others system ordinal e e' f s = rw (e, slice_split_at is_dot frame 46 others (fails frame f) refl, e', slice_split_at is_dot system 46 ordinal (fails system s) refl)
     (elim (cases_Bool (is_decimal ordinal)) [
       | inl is ↦ rw (slice_split_none is_dot ordinal (fails ordinal (decimal_without_dot ordinal is))) refl
       | inr lacks ↦ one_part before frame system ordinal _ refl lacks ∙ sym (ordinal_refused before frame system ordinal

@@ -22,3 +22,4 @@ pub mod Headings
 pub mod PartRanges
 pub mod Ranges
 pub mod Common
+pub mod Laws

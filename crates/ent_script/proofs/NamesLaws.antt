@@ -43,13 +43,7 @@ pub numbers_added : (names : List (Bor (List ℕ))) (numbers after : BTreeMap (B
     (n : ℕ) → n ≡ length names → HaveNumbers names numbers → get_by (λ k. slice_cmp nat_cmp name.now k.now) numbers
     ≡ None → Updates (λ x y. slice_cmp nat_cmp x.now y.now) numbers after name (Some n)
     → HaveNumbers (names ++ name ∷ []) after
-numbers_added names numbers after name n count old none updates = λ text. rw (
-  btree_map_updates_str name.now numbers after (Some n) updates text,
-  old text,
-  count,
-  length_now names,
-  map_now names name,
-) (at_end text name.now _ (sym (old name.now) ∙ none))
+numbers_added names numbers after name n count old none updates = λ text. rw (btree_map_updates_str name.now numbers after (Some n) updates text, old text, count, length_now names, map_now names name) (at_end text name.now _ (sym (old name.now) ∙ none))
 
 pub none_of : (found : Option ℕ) (b : Bool) → b ≡ is_some found → b ≡ false → found ≡ None
 none_of it b e h = search (rules, true≢false)

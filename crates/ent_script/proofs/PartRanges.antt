@@ -121,12 +121,7 @@ module _ (components bound : List (List â„•)) (format : Format) (frame most : â„
   unfolding of_kind
   of_kind_in d kinds.Spawn = search
       (rules, bundle_in components (get (codes "spawn") d), binding_in bound most few_bound (get (codes "as") d))
-  of_kind_in d kinds.SpawnMany = search (
-    rules,
-    count_in (get (codes "spawn_many") d),
-    with_in components (get (codes "with") d),
-    binding_in bound most few_bound (get (codes "as") d),
-  )
+  of_kind_in d kinds.SpawnMany = search (rules, count_in (get (codes "spawn_many") d), with_in components (get (codes "with") d), binding_in bound most few_bound (get (codes "as") d))
   of_kind_in d kinds.Insert = search
       (rules, bundle_in components (get (codes "insert") d), target_in (get (codes "on") d))
   of_kind_in d kinds.Remove = search

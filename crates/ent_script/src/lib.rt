@@ -1,5 +1,5 @@
 //! Scripts of frames, systems and operations: their types, and how they are read from JSON.
-#![tactic(auto)]
+#![tactic(auto, using(crate::proofs::Laws::laws))]
 
 mod at;
 mod birth;

@@ -1,17 +1,11 @@
-use Rattle.ent_script.proofs.Common.{rules, ◌≡◌, ◌-◌, Some, None, arith, common_steps, read_key-shorter, read_key, value, no_members, put, data_of}
+use Rattle.ent_script.proofs.Common.{◌≡◌, ◌-◌, Some, arith, read_key-shorter, read_key, value, put, data_of}
 use Rattle.ent_script.proofs.Finding.{next_member, last_member, no_key}
 use Rattle.ent_script.proofs.Operations.{cut_read}
 use Rattle.ent_script.proofs.fields.read_fields.Goals as goal
 
-pub members-init : goal.members-init
-members-init c = search (rules, no_members)
-
 pub returns-in_err-key-clause-value : goal.returns-in_err-key-clause-value
 returns-in_err-key-clause-value c n ms rest e =
     let at = c.members.invariant.found n ms rest e in no_key _ _ _ _ _ ms c.in_err-key.ensures.value at.2
-
-pub returns-in_err-part-clause-value : goal.returns-in_err-part-clause-value
-returns-in_err-part-clause-value c n ms rest e = search (rules, read_key, next_member, value)
 
 pub members-preserved : goal.members-preserved
 members-preserved c =

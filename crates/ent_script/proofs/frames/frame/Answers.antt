@@ -1,4 +1,4 @@
-use Rattle.ent_script.proofs.Common.{rules, arith, frame_of}
+use Rattle.ent_script.proofs.Common.{rules, frame_of}
 use Rattle.ent_script.proofs.Openings.{array_begun, no_array_begun}
 use Rattle.ent_script.proofs.frames.frame.Goals as goal
 

@@ -18,9 +18,9 @@ returns-in-Err-clause-value c n ds rest e =
     let found = c.fault_of_array-in-Err in
     let room : 999 - l.number + l.number + 1 ≡ 1000 = omega (arith, l.invariant.few) in
     fault_streams_list _ _ _ _ (λ other.
-        let known : c.in-Err.fault ≡ fault.Memory → ⊥ = λ same. other (found.ensures.memory same) in
-        at_fault _ _ _ _ _ _ _ _ _ _ _ _ ds _ (l.invariant.at n ds rest e) going.0 room known
-            (λ d r is. c.in-Err.ensures.value d r (rw going.1 is)) (found.ensures.value known))
+    let known : c.in-Err.fault ≡ fault.Memory → ⊥ = λ same. other (found.ensures.memory same) in
+    at_fault _ _ _ _ _ _ _ _ _ _ _ _ ds _ (l.invariant.at n ds rest e) going.0 room known
+    (λ d r is. c.in-Err.ensures.value d r (rw going.1 is)) (found.ensures.value known))
 
 pub frames-preserved : goal.frames-preserved
 frames-preserved c =

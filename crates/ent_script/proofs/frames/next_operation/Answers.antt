@@ -1,4 +1,4 @@
-use Rattle.ent_script.proofs.Common.{arith, rules, common_steps, births_before}
+use Rattle.ent_script.proofs.Common.{arith, rules}
 use Rattle.ent_script.proofs.Keyed.{no_operation}
 use Rattle.ent_script.proofs.Openings.{object_begun, no_object_begun}
 use Rattle.ent_script.proofs.frames.next_operation.Goals as goal

@@ -1,4 +1,4 @@
-use Rattle.ent_script.proofs.Common.{rules, ◌≡◌, ◌+◌, ◌-◌, length, None, ap, ◌∙◌, arith, common_steps, after_end_array, value, list_of, system_of, operation_at}
+use Rattle.ent_script.proofs.Common.{rules, ◌≡◌, ◌+◌, ◌-◌, length, None, ap, ◌∙◌, arith, after_end_array, value, list_of, system_of, operation_at}
 use Rattle.ent_script.specs.declared.read_fault.ReadFault.TheVariants as fault
 use Rattle.ent_script.proofs.Listing.{at_end, at_most_many, at_fault, fault_streams}
 use Rattle.ent_script.proofs.Operations.{reached_next, listed_among}
@@ -25,10 +25,10 @@ returns-in-Err-clause-value c n ds rest e =
     let room : 9999 - l.number + l.number + 1 ≡ 10000 = omega (arith, l.invariant.few) in
     let at = l.invariant.at n ds rest e in
     fault_streams _ _ _ _ (λ other.
-        let known : c.in-Err.fault ≡ fault.Memory → ⊥ = λ same. other (found.ensures.memory same) in
-        let is = at_fault _ _ _ _ _ _ _ _ _ _ _ _ ds _ (at.0, at.1, at.2, at.3, at.4) going.0 room known
-        (λ d r is. rw (← at.6) (c.in-Err.ensures.value d r (rw going.1 is))) (found.ensures.value known) in
-        (listed_among _ g _ _ ∙ is.0, is.1))
+    let known : c.in-Err.fault ≡ fault.Memory → ⊥ = λ same. other (found.ensures.memory same) in
+    let is = at_fault _ _ _ _ _ _ _ _ _ _ _ _ ds _ (at.0, at.1, at.2, at.3, at.4) going.0 room known
+    (λ d r is. rw (← at.6) (c.in-Err.ensures.value d r (rw going.1 is))) (found.ensures.value known) in
+    (listed_among _ g _ _ ∙ is.0, is.1))
 
 pub operations-preserved : goal.operations-preserved
 operations-preserved c =

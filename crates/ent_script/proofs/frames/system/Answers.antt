@@ -1,4 +1,4 @@
-use Rattle.ent_script.proofs.Common.{rules, arith, system_of}
+use Rattle.ent_script.proofs.Common.{rules, system_of}
 use Rattle.ent_script.proofs.Openings.{array_begun, no_array_begun}
 use Rattle.ent_script.proofs.frames.system.Goals as goal
 

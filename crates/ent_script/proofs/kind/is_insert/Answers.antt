@@ -1,4 +1,4 @@
-use Rattle.ent_script.proofs.Common.{◌∷◌, [], ◌∙◌, codes, sym, is_insert}
+use Rattle.ent_script.proofs.Common.{◌∙◌, sym, is_insert}
 use Rattle.ent_script.proofs.Keyed.{two_there, two_first, two_second}
 use Rattle.ent_script.proofs.kind.is_insert.Goals as goal
 

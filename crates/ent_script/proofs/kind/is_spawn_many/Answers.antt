@@ -1,4 +1,4 @@
-use Rattle.ent_script.proofs.Common.{◌∷◌, [], ◌∙◌, codes, sym, is_spawn_many}
+use Rattle.ent_script.proofs.Common.{◌∙◌, sym, is_spawn_many}
 use Rattle.ent_script.proofs.Keyed.{one_there, one_absent}
 use Rattle.ent_script.proofs.kind.is_spawn_many.Goals as goal
 

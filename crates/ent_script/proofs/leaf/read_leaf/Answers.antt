@@ -1,10 +1,7 @@
-use Rattle.ent_script.proofs.Common.{value_is, refl, ap, arith, rules, Token, token_of, null, boolean, number, string, number_view}
+use Rattle.ent_script.proofs.Common.{value_is, refl, ap, arith, rules, token_of, null, boolean, number, string, number_view}
 use Rattle.ent_script.proofs.Cuts.{opened_array, opened_object}
 use Rattle.ent_script.proofs.Openings.{passed_nested}
 use Rattle.ent_script.proofs.leaf.read_leaf.Goals as goal
-
-pub returns-in_err-token-clause-refused : goal.returns-in_err-token-clause-refused
-returns-in_err-token-clause-refused c = search (rules, value_is)
 
 pub returns-in-String-clause-ok : goal.returns-in-String-clause-ok
 returns-in-String-clause-ok c = (string c.in-String.text.now, search (rules, value_is), refl)
@@ -17,12 +14,6 @@ returns-in-Null-clause-ok c = (null, search (rules, value_is), refl)
 
 pub returns-in-Some-clause-ok : goal.returns-in-Some-clause-ok
 returns-in-Some-clause-ok c = (number (number_view c.in-Some.number), search (rules, value_is), refl)
-
-pub returns-in-None-clause-refused : goal.returns-in-None-clause-refused
-returns-in-None-clause-refused c = search (rules, value_is)
-
-pub returns-in-EndObject-clause-refused : goal.returns-in-EndObject-clause-refused
-returns-in-EndObject-clause-refused c = search (rules, value_is)
 
 pub returns-in_ok-pass_rest-in-BeginArray-clause-ok : goal.returns-in_ok-pass_rest-in-BeginArray-clause-ok
 returns-in_ok-pass_rest-in-BeginArray-clause-ok c =

@@ -1,16 +1,10 @@
-use Rattle.ent_script.proofs.Common.{members_end, read_key-shorter, ◌≡◌, ◌-◌, length, Some, refl, ◌∙◌, arith, rules, read_key, value, no_members, put}
-use Rattle.ent_script.proofs.Turns.{member_read, member_refused, key_refused}
+use Rattle.ent_script.proofs.Common.{read_key-shorter, ◌≡◌, ◌-◌, length, Some, refl, ◌∙◌, arith, rules, read_key, no_members, put}
+use Rattle.ent_script.proofs.Turns.{member_read}
 use Rattle.ent_script.proofs.Cuts.{cut_members-put}
 use Rattle.ent_script.proofs.part.read_object.Goals as goal
 
 pub members-init : goal.members-init
 members-init c = (length c.args.reader.now, omega arith, (no_members, refl, refl), omega arith)
-
-pub returns-in_err-name-clause-json : goal.returns-in_err-name-clause-json
-returns-in_err-name-clause-json c refused = search (rules, key_refused)
-
-pub returns-in_err-leaf-clause-json : goal.returns-in_err-leaf-clause-json
-returns-in_err-leaf-clause-json c refused = search (rules, member_refused)
 
 pub members-preserved : goal.members-preserved
 members-preserved c =
@@ -24,6 +18,3 @@ members-preserved c =
       (put _ done.ok.0 l.invariant.2.0, on, search (rules, cut_members-put)),
       omega (arith, l.invariant.3, less, done.shorter),
     )
-
-pub returns-clause-ok : goal.returns-clause-ok
-returns-clause-ok c = search (rules, members_end)

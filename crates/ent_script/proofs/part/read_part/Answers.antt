@@ -4,15 +4,9 @@ use Rattle.ent_script.proofs.Cuts.{opened_array}
 use Rattle.ent_script.proofs.Openings.{passed_nested}
 use Rattle.ent_script.proofs.part.read_part.Goals as goal
 
-pub returns-in_err-token-clause-json : goal.returns-in_err-token-clause-json
-returns-in_err-token-clause-json c refused = search (rules, value_is)
-
 pub returns-then-depth-eq0-clause-json : goal.returns-then-depth-eq0-clause-json
 unfolding value
 returns-then-depth-eq0-clause-json c never = grind (arith, common_steps)
-
-pub returns-in_err-read_object-in-BeginObject-clause-json : goal.returns-in_err-read_object-in-BeginObject-clause-json
-returns-in_err-read_object-in-BeginObject-clause-json c refused = search (rules, value-begin_object, converted-object)
 
 pub returns-in-String-clause-ok : goal.returns-in-String-clause-ok
 returns-in-String-clause-ok c = (string c.in-String.text.now, search (rules, value_is), refl)
@@ -25,12 +19,6 @@ returns-in-Null-clause-ok c = (null, search (rules, value_is), refl)
 
 pub returns-in-Some-clause-ok : goal.returns-in-Some-clause-ok
 returns-in-Some-clause-ok c = (number (number_view c.in-Some.number), search (rules, value_is), refl)
-
-pub returns-in-None-clause-json : goal.returns-in-None-clause-json
-returns-in-None-clause-json c refused = search (rules, value_is)
-
-pub returns-in-EndObject-clause-json : goal.returns-in-EndObject-clause-json
-returns-in-EndObject-clause-json c refused = search (rules, value_is)
 
 pub returns-in_ok-read_object-in-BeginObject-clause-ok : goal.returns-in_ok-read_object-in-BeginObject-clause-ok
 returns-in_ok-read_object-in-BeginObject-clause-ok c =

@@ -1,4 +1,4 @@
-use Rattle.ent_script.proofs.Common.{Ok, ◌≡◌, ◌∙◌, ◌∷◌, ◌++◌, [], length-append, Some, None, Err, map, rules, arith, view, as_name, numbered, component_at, new_name}
+use Rattle.ent_script.proofs.Common.{Ok, ◌≡◌, ◌∙◌, ◌∷◌, ◌++◌, [], length-append, Some, None, Err, map, rules, arith, view, as_name, component_at, new_name}
 use Rattle.ent_script.specs.declared.cause.ScriptCause.TheVariants as script_cause
 use Rattle.ent_script.proofs.NamesLaws.{new_name_is, with_new}
 use Rattle.ent_script.proofs.Numbering.{goes_on, stops, names_on}

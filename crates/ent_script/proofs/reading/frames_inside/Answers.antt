@@ -1,4 +1,4 @@
-use Rattle.ent_script.proofs.Common.{rules, ◌≡◌, ◌-◌, Some, None, codes, sym, ◌∙◌, refl, arith, read_key, value, no_members, put, frames_of}
+use Rattle.ent_script.proofs.Common.{◌≡◌, ◌-◌, Some, None, codes, sym, ◌∙◌, refl, arith, read_key, value, no_members, put}
 use Rattle.ent_script.proofs.Finding.{next_member, last_member, no_key}
 use Rattle.ent_script.proofs.PassedOver.{member_over, member_not_over}
 use Rattle.ent_script.proofs.Listing.{streamed_list}

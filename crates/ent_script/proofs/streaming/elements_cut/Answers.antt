@@ -1,5 +1,5 @@
-use Rattle.ent_script.proofs.Common.{common_steps, ◌≡◌, ℕ, ◌+◌, List, ◌++◌, length, map, None, arith, rules, append_assoc, true, false, le-leb, Bool, ap, option_map, [], ◌∙◌, Option, Vec, Global, lt-leb, map-append, append-nil, nat_le, Token, after_end_array, items, value, Data, Items, of_items, converted, view, Value, cut, list_of, left, PassesAtMost, Json, Ok, Err}
-use Rattle.ent_script.proofs.Finding.{next_item, last_item, impossible}
+use Rattle.ent_script.proofs.Common.{common_steps, ◌≡◌, ℕ, ◌+◌, List, ◌++◌, length, map, None, arith, rules, append_assoc, true, false, le-leb, Bool, ap, option_map, [], ◌∙◌, Option, Vec, Global, lt-leb, map-append, append-nil, nat_le, Token, after_end_array, items, value, Data, Items, view, Value, cut, list_of, left, PassesAtMost, Json, Ok, Err}
+use Rattle.ent_script.proofs.Finding.{next_item, last_item}
 use Rattle.ent_script.proofs.Stepping.{goes_on, goes_stuck, goes_over, passes_refused}
 use Rattle.ent_script.proofs.streaming.elements_cut.Goals as goal
 
@@ -22,9 +22,6 @@ returns-then-len-most-clause-value c n ds rest e =
     let test : nat_le (length (list_of ds)) c.args.most ≡ false = grind (arith, common_steps, lt-leb) in
     let now = c.in_ok-passes_at_most.ensures.value at.0 at.1 rest (rw going.1 at.2) in
     (rw test, passed_over _ _ at.1 rest now)
-
-pub returns-in_err-read_cut-clause-value : goal.returns-in_err-read_cut-clause-value
-returns-in_err-read_cut-clause-value c n ds rest e = search (rules, next_item, impossible)
 
 pub elements-preserved : goal.elements-preserved
 elements-preserved c =
@@ -65,6 +62,3 @@ returns-then-len-most-clause-passes c n h =
     let going : (after_end_array l.reader ≡ None) × (c.take_end_array.new.self ≡ l.reader) = grind arith in
     let at = l.invariant.same n h in
     at.2 ∙ rw (← going.1) (c.in_ok-passes_at_most.ensures.passes at.0 (rw going.1 at.1))
-
-pub returns-in_err-passes_at_most-clause-passes : goal.returns-in_err-passes_at_most-clause-passes
-returns-in_err-passes_at_most-clause-passes c n h = search (rules, after_end_array, left, converted, of_items, items, value)

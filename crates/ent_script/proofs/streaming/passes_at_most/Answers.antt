@@ -1,5 +1,5 @@
 use Rattle.ent_script.proofs.Common.{rules, ◌≡◌, ℕ, ◌+◌, ◌<◌, List, length, Bool, true, false, refl, [], None, arith, after_end_array, value, Token, Items, list_of, PassesAtMost, Ok}
-use Rattle.ent_script.proofs.Finding.{next_item, last_item, not_passed}
+use Rattle.ent_script.proofs.Finding.{last_item}
 use Rattle.ent_script.proofs.PassedOver.{item_over}
 use Rattle.ent_script.proofs.Stepping.{goes_on, goes_stuck, goes_over}
 use Rattle.ent_script.proofs.streaming.passes_at_most.Goals as goal
@@ -38,9 +38,6 @@ loop-reader-preserved c =
           (rw (← going.1) c.in_ok-pass_value.ensures.value) less;
       shorter = omega (arith, less, l.invariant.shorter);
     }
-
-pub returns-in_err-pass_value-clause-value : goal.returns-in_err-pass_value-clause-value
-returns-in_err-pass_value-clause-value c n ds rest e = search (rules, next_item, not_passed)
 
 pub returns-clause-value : goal.returns-clause-value
 returns-clause-value c n ds rest e = search (rules, last_item, verdict)

@@ -1,13 +1,10 @@
-use Rattle.ent_script.proofs.Common.{common_steps, value_is, value-begin_object, ◌≡◌, ◌∷◌, refl, ap, ◌∙◌, arith, rules, codes, None, Token, value, token_of, object, as_object, the_lemmas, heading_of}
+use Rattle.ent_script.proofs.Common.{common_steps, value-begin_object, ◌≡◌, ◌∷◌, refl, ap, ◌∙◌, arith, rules, None, Token, value, object, as_object, the_lemmas, heading_of}
 use Rattle.ent_script.proofs.Finding.{no_object_at}
 use Rattle.ent_script.proofs.Openings.{passed_nested}
 use Rattle.ent_script.proofs.Stepping.{if_ok}
 use Rattle.ent_script.proofs.Tops.{heading_of-heads, no_heading, no_member}
 use Rattle.ent_script.proofs.Turns.{converted-object}
 use Rattle.ent_script.proofs.top.read_top.Goals as goal
-
-pub returns-in_err-token-clause-json : goal.returns-in_err-token-clause-json
-returns-in_err-token-clause-json c refused = search (rules, value_is)
 
 pub returns-then-depth-eq0-clause-json : goal.returns-then-depth-eq0-clause-json
 unfolding value
@@ -23,9 +20,6 @@ returns-in-BeginObject-clause-ok c =
       ap heading_of ms.2 ∙ heading_of-heads ms.0,
       ms.3,
     ))
-
-pub returns-in-BeginObject-clause-json : goal.returns-in-BeginObject-clause-json
-returns-in-BeginObject-clause-json c refused = search (rules, value-begin_object, converted-object)
 
 pub returns-clause-ok : goal.returns-clause-ok
 returns-clause-ok c =
