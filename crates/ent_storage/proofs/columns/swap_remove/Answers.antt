@@ -1,6 +1,9 @@
 use Rattle.ent_storage.proofs.Common.{rules, arith}
-use Rattle.ent_storage.proofs.InUse.{passed_more}
+use Rattle.ent_storage.proofs.InUse.{passed_all, passed_more}
 use Rattle.ent_storage.proofs.columns.swap_remove.Goals as goal
+
+pub returns-clause-moved : goal.returns-clause-moved
+returns-clause-moved c = search (rules, passed_all)
 
 pub loop-number-preserved : goal.loop-number-preserved
 loop-number-preserved c = record {

@@ -1,5 +1,5 @@
 use Rattle.ent_storage.proofs.Common.{rules, ◌≡◌, ◌<◌, ◌++◌, ◌∷◌, [], length}
-use Rattle.ent_storage.proofs.Sparse.{more_slots, pushed_positioned}
+use Rattle.ent_storage.proofs.Sparse.{more_slots, pushed_positioned, pushed_values}
 use Rattle.ent_storage.proofs.sparse_map.add.Goals as goal
 
 pub returns-clause-positioned : goal.returns-clause-positioned
@@ -11,3 +11,6 @@ returns-clause-positioned g c =
     let room : c.args.handle.index < length c.make_position.new.positions.items = search rules in
     let is = more_slots _ _ _ c.requires.positioned c.make_position.ensures.few c.make_position.ensures.kept in
     rw (items, index, len) (pushed_positioned _ _ is _ _ c.requires.free room)
+
+pub returns-clause-ok : goal.returns-clause-ok
+returns-clause-ok g c = search (rules, more_slots, pushed_values)

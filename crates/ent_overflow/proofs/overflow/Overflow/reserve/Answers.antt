@@ -1,6 +1,9 @@
 use Rattle.ent_overflow.proofs.Common.{refl, rules, Caller}
-use Rattle.ent_overflow.proofs.Going.{here, used_on}
+use Rattle.ent_overflow.proofs.Going.{here, used_on, gone_past}
 use Rattle.ent_overflow.proofs.overflow.Overflow.reserve.Goals as goal
+
+pub returns-then-left-eq0-clause-stays : goal.returns-then-left-eq0-clause-stays
+returns-then-left-eq0-clause-stays c = search (rules, here, gone_past)
 
 pub returns-clause-stays : goal.returns-clause-stays
 returns-clause-stays c =

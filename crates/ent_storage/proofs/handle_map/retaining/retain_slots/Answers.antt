@@ -1,6 +1,9 @@
-use Rattle.ent_storage.proofs.Common.{arith}
-use Rattle.ent_storage.proofs.Kept.{counted-slot, retained-more, retained-done}
+use Rattle.ent_storage.proofs.Common.{rules, arith}
+use Rattle.ent_storage.proofs.Kept.{counts_one, counted-slot, retained-more, retained-done}
 use Rattle.ent_storage.proofs.handle_map.retaining.retain_slots.Goals as goal
+
+pub retain_slot-keep-requires-clause-counted : goal.retain_slot-keep-requires-clause-counted
+retain_slot-keep-requires-clause-counted g c = search (rules, counts_one)
 
 pub loop-index-preserved : goal.loop-index-preserved
 loop-index-preserved g c =

@@ -1,4 +1,5 @@
-use Rattle.ent_storage.proofs.Common.{rules, ◌≡◌, ℕ, List, length, slice_get, ap, sym, ◌∙◌, ComponentId, Column, no_column, Resident, Living, LivingEntity, value_at, entities_from, AreColumnsOf, option_and_then}
+use Rattle.ent_storage.proofs.Common.{rules, ◌≡◌, ℕ, List, length, slice_get, ap, sym, ◌∙◌, none-some, ComponentId, Column, no_column, Resident, Living, LivingEntity, value_at, entities_from, AreColumnsOf, option_and_then}
+use Rattle.ent_storage.proofs.ColumnsAtPlaces.{taken_none}
 use Rattle.std.specs.FinMap as finite
 use Rattle.ent_storage.proofs.EntitiesOfResidents.{value_from}
 use Rattle.ent_storage.proofs.living.Living.pairs.Goals as goal
@@ -20,3 +21,6 @@ pub returns-in-Some-clause-all : goal.returns-in-Some-clause-all
 returns-in-Some-clause-all c place v is =
     let column = (rw c.deref.ensures.value at c.in-Some.ensures.lookup).3.1 no_column in
     search (rules, value_from, column)
+
+pub returns-in-None-clause-all : goal.returns-in-None-clause-all
+returns-in-None-clause-all c place v is = search (rules, none-some, taken_none, value_from)

@@ -1,6 +1,6 @@
 use Rattle.ent_storage.proofs.Common.{rules}
 use Rattle.ent_storage.proofs.ColumnsAtPlaces.{get_components}
-use Rattle.ent_storage.proofs.EntitiesOfResidents.{read_from, inside_from, changed_within, written_back}
+use Rattle.ent_storage.proofs.EntitiesOfResidents.{read_from, inside_from, changed_from, changed_within, written_back}
 use Rattle.ent_storage.proofs.InUse.{in_use_changed}
 use Rattle.ent_storage.proofs.living.Living.remove.Goals as goal
 
@@ -17,3 +17,6 @@ pub returns-clause-value : goal.returns-clause-value
 returns-clause-value c d =
     let read = read_from _ _ _ _ _ c.self.view_is c.requires (record { handle = d.handle; birth = d.birth }) d in
     search (rules, read, get_components, c.remove.ensures.value, c.deref_mut.ensures.value)
+
+pub returns-clause-entities : goal.returns-clause-entities
+returns-clause-entities c = search (rules, written_back, changed_from)

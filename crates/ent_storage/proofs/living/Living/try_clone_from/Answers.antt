@@ -1,6 +1,7 @@
-use Rattle.ent_storage.proofs.Common.{◌≡◌, ◌<◌, ◌⊎◌, List, ap, sym, subst, inr, All, Living, LivingEntity}
+use Rattle.ent_storage.proofs.Common.{rules, ◌≡◌, ◌<◌, ◌⊎◌, List, ap, sym, subst, inr, All, Living, LivingEntity}
 use Rattle.std.specs.FinMap as finite
-use Rattle.ent_storage.proofs.Copied.{bare_columns}
+use Rattle.ent_storage.proofs.Copied.{bare_columns, entities_same}
+use Rattle.ent_storage.proofs.EntitiesOfResidents.{written_back}
 use Rattle.ent_storage.proofs.Missing.{on_err}
 use Rattle.ent_storage.proofs.living.Living.try_clone_from.Goals as goal
 
@@ -13,3 +14,6 @@ returns-in_err-reserve_for-clause-memory c =
     c.args.source.now.entities → ⊥)} _ (inr (λ bare. memory
     (bare_columns c.source.inside.residents.items c.source.inside.columns.items c.source.invariant.0
     (subst (λ (es : List LivingEntity). All (λ entity. entity.components ≡ finite.empty) es) (sym view) bare))))
+
+pub returns-clause-entities : goal.returns-clause-entities
+returns-clause-entities c = search (rules, written_back, entities_same)

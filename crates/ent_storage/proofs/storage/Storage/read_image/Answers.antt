@@ -1,8 +1,11 @@
 use Rattle.ent_storage.proofs.Common.{rules, ◌≡◌, sym, ap, ◌∙◌, arith, length, subst, is_some, false, inl, inr, refl, false≢true, get_or_default, nil_from_length, length-take-le, common_steps, handle_cmp, EntityMap, IsNoEntity, HasFault}
 use Rattle.std.specs.FinMap as map
 use Rattle.ent_storage.specs.declared.image_fault.StorageImageFault.TheVariants.{Entity}
-use Rattle.ent_storage.proofs.ImageRead.{damaged, read_more, places_more, first_read, all_read, all_first, are_stored, is_read, nothing_left, width_told, width_placed}
+use Rattle.ent_storage.proofs.ImageRead.{too_wide, damaged, read_more, places_more, first_read, all_read, all_first, are_stored, is_read, nothing_left, width_told, width_placed}
 use Rattle.ent_storage.proofs.storage.Storage.read_image.Goals as goal
+
+pub returns-then-width-gt256-clause-refused : goal.returns-then-width-gt256-clause-refused
+returns-then-width-gt256-clause-refused c other m stored same = search (rules, too_wide)
 
 pub loop-handle-init : goal.loop-handle-init
 loop-handle-init c =
