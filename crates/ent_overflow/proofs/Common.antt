@@ -23,6 +23,7 @@ pub use Rattle.ent_alloc.specs.Sequential.{Allocator, after_take, available, bef
 pub use Rattle.ent_alloc.specs.Sound.{AreApart, IsSound}
 pub use Rattle.ent_alloc.specs.declared.refused.Refused.{Refused}
 pub use Rattle.ent_blocks.proofs.Dealing.{of_phase}
+pub use Rattle.ent_blocks.proofs.Given.{used-distinct, used-live, used-not_live}
 pub use Rattle.ent_blocks.proofs.Openings.{are_dealt, length-from, none_used}
 pub use Rattle.ent_blocks.specs.Blocks.{AreDealt, AreLaid, Block, after_use, blocks_from, dealt, unused}
 pub use Rattle.ent_handle.specs.Handle.{Handle}
