@@ -1,6 +1,9 @@
 use Rattle.ent_world.proofs.Common.{rules, ◌++◌, arith, word}
-use Rattle.ent_world.proofs.ImageHeader.{header_is, too_short, other_version, part_missing, begins}
+use Rattle.ent_world.proofs.ImageHeader.{header_is, too_short, other_magic, other_version, part_missing, begins, other_letters}
 use Rattle.ent_world.proofs.image.read_header.Goals as goal
+
+pub returns-then-magic-ne-MAGIC-clause-refused : goal.returns-then-magic-ne-MAGIC-clause-refused
+returns-then-magic-ne-MAGIC-clause-refused c phase part rest fits_p fits is = search (rules, other_magic)
 
 pub returns-then-bytes-lt-HEADER : goal.returns-then-bytes-lt-HEADER
 returns-then-bytes-lt-HEADER c =
@@ -18,6 +21,9 @@ returns-then-rest-len-clause-refused c phase part rest fits_p fits is = part_mis
     (omega (arith, c.if-rest-len.true)) (cc) phase part rest fits_p fits is
 
 -- ---- the first fault
+
+pub returns-then-magic-ne-MAGIC-clause-fault : goal.returns-then-magic-ne-MAGIC-clause-fault
+returns-then-magic-ne-MAGIC-clause-fault c = search (rules, other_letters)
 
 pub returns-then-version-ne-VERSION-clause-fault : goal.returns-then-version-ne-VERSION-clause-fault
 returns-then-version-ne-VERSION-clause-fault c =

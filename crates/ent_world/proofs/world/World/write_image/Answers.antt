@@ -1,8 +1,11 @@
 use Rattle.ent_world.proofs.Common.{rules, ◌+◌, ◌*◌, ◌≤◌, arith, ℕ, zero, suc, without_rows, width}
 use Rattle.ent_world.proofs.ImageHeader.{appended_4}
 use Rattle.ent_world.proofs.ImageRead.{allocator_len}
-use Rattle.ent_world.proofs.ImageWrite.{width_listed, keys_listed, are_stored}
+use Rattle.ent_world.proofs.ImageWrite.{width_listed, have_rows, keys_listed, are_stored}
 use Rattle.ent_world.proofs.world.World.write_image.Goals as goal
+
+pub write_entities-requires-clause-placed : goal.write_entities-requires-clause-placed
+write_entities-requires-clause-placed c = search (rules, have_rows)
 
 pub returns-clause-written : goal.returns-clause-written
 returns-clause-written c =
