@@ -1,6 +1,6 @@
-use Rattle.ent_replay.proofs.Common.{none, refl, allocator_is}
-use Rattle.ent_replay.proofs.MachineAnswers.{consistent_as, ok_not_err}
-use Rattle.ent_replay.proofs.MachineEvents.{alloc-consistent}
+use Rattle.ent_replay.proofs.Common.{none, rules, refl, allocator_is}
+use Rattle.ent_replay.proofs.MachineAnswers.{consistent_as, ok_not_err, told}
+use Rattle.ent_replay.proofs.MachineEvents.{alloc-needs_flush, alloc-given, alloc-consistent, alloc-flushed}
 use Rattle.ent_replay.proofs.machine.Machine.alloc.Goals as goal
 
 pub invariant_of-self : goal.invariant_of-self
@@ -13,3 +13,6 @@ invariant_of-self c =
       | goal.in-Err-Space w ↦ consistent_as (allocator_is w.in-Err-Space.ensures.err) c.self.invariant
       | goal.in-Err-Memory w ↦ consistent_as (allocator_is w.in-Err-Memory.ensures.err) c.self.invariant
     ]
+
+pub returns : goal.returns
+returns c = search (rules, told, alloc-given, alloc-needs_flush, alloc-flushed)

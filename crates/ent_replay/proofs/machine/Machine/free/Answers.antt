@@ -1,6 +1,6 @@
-use Rattle.ent_replay.proofs.Common.{none, refl, allocator_is}
-use Rattle.ent_replay.proofs.MachineAnswers.{consistent_as, ok_not_err}
-use Rattle.ent_replay.proofs.MachineEvents.{free-consistent}
+use Rattle.ent_replay.proofs.Common.{none, rules, refl, allocator_is}
+use Rattle.ent_replay.proofs.MachineAnswers.{consistent_as, ok_not_err, told}
+use Rattle.ent_replay.proofs.MachineEvents.{free-needs_flush, free-not_alive, free-freed, free-consistent}
 use Rattle.ent_replay.proofs.machine.Machine.free.Goals as goal
 
 pub invariant_of-self : goal.invariant_of-self
@@ -13,3 +13,6 @@ invariant_of-self c =
       | goal.in-Err-NotAlive w ↦ consistent_as (allocator_is w.in-Err-NotAlive.ensures.err) c.self.invariant
       | goal.in-Err-Memory w ↦ consistent_as (allocator_is w.in-Err-Memory.ensures.err) c.self.invariant
     ]
+
+pub returns : goal.returns
+returns c = search (rules, told, free-freed, free-needs_flush, free-not_alive)

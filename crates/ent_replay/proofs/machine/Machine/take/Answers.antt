@@ -1,9 +1,12 @@
 use Rattle.ent_replay.proofs.Common.{rules, ◌≡◌, sym, ◌∙◌, arith, ints}
 use Rattle.std.specs.FinMap as finite
-use Rattle.ent_replay.proofs.MachineAnswers.{done, none_of}
-use Rattle.ent_replay.proofs.MachineEvents.{stepped, awaited-bound, step-taken, step-consistent}
+use Rattle.ent_replay.proofs.MachineAnswers.{done, faulty, some_of, none_of}
+use Rattle.ent_replay.proofs.MachineEvents.{stepped, awaited-bound, step-stepped, step-taken, step-consistent}
 use Rattle.ent_replay.proofs.machine.Machine.take.Goals as goal
 use Rattle.ent_replay.proofs.machine.Machine.take.Goals.{After-replace}
+
+pub returns-then-is_some : goal.returns-then-is_some
+returns-then-is_some c = search (rules, some_of, faulty, step-stepped)
 
 pub lower-span-requires : goal.lower-span-requires
 lower-span-requires c =

@@ -5,6 +5,9 @@ use Rattle.ent_replay.proofs.Settled.{IsLinedUp, all-settled, some-none, some-Sh
 use Rattle.ent_replay.proofs.trace.comparer.Comparer.settle.Goals as goal
 use Rattle.ent_replay.proofs.trace.comparer.Comparer.settle.Goals.{In_ok-lineup, After-difference, After-make_all}
 
+pub new-requires : goal.new-requires
+new-requires c = search (rules, sum_by-IsPermutation, IsPermutation-map)
+
 -- the run is sorted and lined up
 lined : (c : In_ok-lineup) → IsLinedUp c.self.inside.entities.allocator c.self.inside.run.items
     c.sort_by_cached_key.new.self.items c.in_ok-lineup.lineup

@@ -1,8 +1,14 @@
 use Rattle.ent_replay.proofs.Common.{nil_from_length, rules, ◌≡◌, ◌∷◌, [], sym, ◌∙◌, to_z, of_z, w64, pos, ◌-ℤ◌, ints}
-use Rattle.ent_replay.proofs.Lineups.{Passing-lower, placed_next, left_next, over_lined, over_stuck}
+use Rattle.ent_replay.proofs.Lineups.{Passing-least, Passing-passed, Passing-lower, started, placed_next, left_next, over_lined, over_stuck}
 use Rattle.ent_replay.proofs.MachineAnswers.{some_of, none_of}
 use Rattle.ent_replay.proofs.trace.lineup.Lineup.pass.Goals as goal
 use Rattle.ent_replay.proofs.trace.lineup.Lineup.pass.Goals.{In_ok-push, After-drop-blocked-inside-2}
+
+pub loop-one-init : goal.loop-one-init
+loop-one-init c = search (rules, started)
+
+pub fits_at-requires : goal.fits_at-requires
+fits_at-requires c = search (rules, ints, Passing-least, Passing-passed)
 
 pub overflow_sub-at : goal.overflow_sub-at
 overflow_sub-at c =
@@ -31,6 +37,9 @@ over c = search (rules, nil_from_length)
 
 pub returns-clause-lined : goal.returns-clause-lined
 returns-clause-lined c = search (rules, over, over_lined)
+
+pub returns-clause-keeps : goal.returns-clause-keeps
+returns-clause-keeps c = search (rules, nil_from_length)
 
 pub returns-clause-stuck : goal.returns-clause-stuck
 returns-clause-stuck c = over_stuck
