@@ -15,9 +15,8 @@ pub own_by_caller : (number caller : ℕ) (f : Reservation → ℕ) (cs : List R
     → All (λ (c : Reservation). c.caller ≡ number) cs → sum_by (only caller f) cs
     ≡ cond (number == caller) (sum_by f cs) 0
 own_by_caller number caller f [] all = grind (arith, common_steps)
-own_by_caller number caller f (c ∷ cs) all =
-    let rest = own_by_caller number caller f cs (λ i d lt. all (suc i) d (omega arith)) in
-    grind (arith, common_steps, sum_by-cons, All-head)
+own_by_caller number caller f (c ∷ cs) all = grind
+    (arith, common_steps, sum_by-cons, All-head, own_by_caller number caller f cs (λ i d lt. all (suc i) d (omega arith)))
 
 -- of records with different numbers only the one with this number weighs anything
 abbrev pub of_number : ℕ → (Record → ℕ) → Record → ℕ

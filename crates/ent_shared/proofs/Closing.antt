@@ -1,11 +1,8 @@
 -- The end of a phase: the history of all records is legal, and the cursor and the least floor tell
 -- the allocator after it.
 use Rattle.ent_shared.proofs.Histories.{falls_apart, reservations_are, respects_all}
-use Rattle.ent_shared.proofs.Common.{rules, ◌≡◌, ◌≢◌, ℕ, ◌+◌, ◌-◌, ◌^◌, ◌≤◌, ℤ, pos, ◌+ℤ◌, ◌-ℤ◌, ◌≤ℤ◌, ◌<ℤ◌, List, length, map, sym, ap, ◌∙◌, arith, sum, length-append, AllPairs, ◌↔◌, ◌⊎◌, common_steps, sum_by, cases_lt, length_permutation, ints, Handle, Entities, Allocator, available, cursor, top, asked_at, settled, after_flush, IsSound, IsLive, after_takes-sound, available-after_takes, asked-after_takes, cursor-after_takes, length-taken, length-available, flushed-laid_out, asked_at-is, after_history-takes, given_in-distinct, given_in-not_live, given_in-taken, given_in-bring_to_life, after_history-settled, Record, Opening, floor_of, least_floor, IsStart, IsClosed, as_call, own_of_all, reservations_of, history_of, Respects}
-use Rattle.std.proofs.Common.{All, Contains}
+use Rattle.ent_shared.proofs.Common.{rules, ◌≡◌, ◌≢◌, ℕ, ◌+◌, ◌-◌, ◌^◌, ◌≤◌, ℤ, pos, ◌+ℤ◌, ◌-ℤ◌, ◌≤ℤ◌, ◌<ℤ◌, List, length, map, sym, ap, ◌∙◌, arith, sum, length-append, AllPairs, ◌↔◌, ◌⊎◌, common_steps, sum_by, cases_lt, length_permutation, ints, Handle, Entities, Allocator, available, cursor, top, asked_at, settled, after_flush, IsSound, IsLive, after_takes-sound, available-after_takes, asked-after_takes, cursor-after_takes, length-taken, length-available, flushed-laid_out, asked_at-is, after_history-takes, given_in-distinct, given_in-not_live, given_in-taken, given_in-bring_to_life, after_history-settled, Record, Opening, least_floor, IsStart, IsClosed, as_call, own_of_all, reservations_of, history_of, Respects, All, Contains, w64, to_z, of_z}
 use Rattle.ent_alloc.specs.History as history
-use mir.Syntax.{w64}
-use mir.Val.{to_z, of_z}
 use Rattle.ent_shared.proofs.Words.{requested, follow_asked, few_asked}
 use Rattle.ent_shared.proofs.Sorting.{follow_falls}
 use Rattle.ent_shared.proofs.Callers.{numbers_differ}
@@ -36,13 +33,10 @@ module _ (start : Allocator) (count : ℕ) (records : List Record) (at : ℤ) (k
   asked_in_all = follow_asked (cursor start) k.log at k.follow
 
   pub cursor_least : count ≤ 1024 → pos (top start) ≤ℤ (at +ℤ pos (2 ^ 50))
-  cursor_least few =
-      let all = asked_in_all in
-      let most = few_asked (sum_by requested k.log) count (omega arith) few in
-      omega (arith, ints)
+  cursor_least few = omega (arith, ints, asked_in_all, few_asked (sum_by requested k.log) count (omega (arith, k.quota)) few)
 
   pub cursor_greatest : at ≤ℤ pos (top start)
-  cursor_greatest = let all = asked_in_all in omega (arith, ints)
+  cursor_greatest = omega (arith, ints, asked_in_all)
 
   module _ (whole : length records ≡ count) where
     abbrev final : Allocator
@@ -60,13 +54,12 @@ module _ (start : Allocator) (count : ℕ) (records : List Record) (at : ℤ) (k
     -- the least floor tells how many are taken
     pub floor_is : least_floor (cursor start) records ≡ pos (top start) -ℤ pos (length final.taken)
     floor_is =
-        let of_log : least_floor (cursor start) records ≡ floor_of start k.log = floor_of_all start at k.log records
-        k.each ∙ (sym (floor_sorted start (own_of_all records)) ∙ ap (floor_of start) (reservations_are start count
-        records at k whole)) in
         let none = ap length (flushed-laid_out start sound flushed).taken in
-        let below = floor_below start k.log in
+        let all = floor_of_all start at k.log records k.each in
+        let sorted = floor_sorted start (own_of_all records) in
+        let log = reservations_are start count records at k whole in
         let taken = taken_floor start start k.log at flushed itself k.follow in
-        search (rules, min_right, history_is)
+        search (rules, min_right, history_is, floor_below start k.log, all, sorted, log, none, taken)
 
     asked_is : sum (history.requests_of (history_of records)) ≡ sum_by requested k.log
     asked_is = grind (arith, common_steps, history_is)
@@ -139,9 +132,6 @@ ended entities start n count key records at floor from begins sound few key_is h
     let from_word : to_z w64 (of_z w64 from) ≡ pos (top here) = omega (arith, ints) in
     let e = ended_at here n records at k sound begins.flushed (whole ∙ sym n_is) floor
     (floor_is ∙ ap (λ (z : ℤ). least_floor z records) from_word) few in
-    let ordered = e.ordered in
-    let least = e.least in
-    let greatest = e.greatest in
-    let at_word : to_z w64 (of_z w64 at) ≡ at = omega (arith, ints) in
-    let floor_word : to_z w64 (of_z w64 floor) ≡ floor = omega (arith, ints) in
+    let at_word : to_z w64 (of_z w64 at) ≡ at = omega (arith, ints, e.ordered, e.least, e.greatest) in
+    let floor_word : to_z w64 (of_z w64 floor) ≡ floor = omega (arith, ints, e.ordered, e.least, e.greatest) in
     rw (at_word, floor_word, sym here_is) e

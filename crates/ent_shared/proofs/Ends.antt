@@ -4,17 +4,11 @@ use Rattle.ent_shared.proofs.Weighing.{all_one, sum_at, all_at, whole_weighs}
 use Rattle.ent_shared.proofs.Words.{left_of, numbered, all_quota}
 
 module _ (start : Allocator) (count : ℕ) where
-  abbrev St : Type 0
-  St = State (Unit {0}) (List Record)
-
-  abbrev Rule : St → Type 0
-  Rule = IsRuled start count
-
   -- before the first step
   weigh-opened : (f : Reservation → ℕ) (number many : ℕ) → weigh f (opened_records start number many) ≡ 0
   unfolding opened_records
   weigh-opened f number zero = refl
-  weigh-opened f number (suc many) = let rest = weigh-opened f (number + 1) many in grind (arith, common_steps)
+  weigh-opened f number (suc many) = grind (arith, common_steps, weigh-opened f (number + 1) many)
 
   length-opened : (number many : ℕ) → length (opened_records start number many) ≡ many
   unfolding opened_records
@@ -25,11 +19,7 @@ module _ (start : Allocator) (count : ℕ) where
       × (k < number → numbered k (opened_records start number many) ≡ 0)
   unfolding opened_records
   numbered-opened k number zero = (omega arith, λ _. refl)
-  numbered-opened k number (suc many) =
-      let rest = numbered-opened k (number + 1) many in
-      let few = rest.0 in
-      let none = rest.1 in
-      (grind (arith, common_steps), λ less. grind (arith, common_steps))
+  numbered-opened k number (suc many) = grind (arith, common_steps, numbered-opened k (number + 1) many)
 
   kept-opened : (at : ℤ) (number : ℕ) → at ≤ℤ cursor start → IsKept start at [] (opened start number)
   kept-opened at number le = search (rules, All-nil)
@@ -41,7 +31,7 @@ module _ (start : Allocator) (count : ℕ) where
   all_kept-opened at number (suc many) le = search (rules, All-cons, kept-opened, all_kept-opened at (number + 1) many)
 
   pub begins : (word : ℕ) → IsStart start → count ≤ 1024 → cursor_of word ≡ cursor start
-      → Rule (opening (word ∷ []) [] (opened_records start 0 count))
+      → IsRuled start count (opening (word ∷ []) [] (opened_records start 0 count))
   begins word is few at =
       let v : List Record = opened_records start 0 count in
       let least : cursor_of word ≤ℤ cursor start = omega (arith, ints) in
@@ -59,8 +49,8 @@ module _ (start : Allocator) (count : ℕ) where
       }
 
   -- after the last step
-  pub ends : (s : St) (k : Rule s) (id : ℕ) (v : List Record) → get_elem? s.views id ≡ some v → (at : ℤ)
-      → cursor_of k.word ≡ at → IsClosed start count v at
+  pub ends : (s : State (Unit {0}) (List Record)) (k : IsRuled start count s) (id : ℕ) (v : List Record)
+      → get_elem? s.views id ≡ some v → (at : ℤ) → cursor_of k.word ≡ at → IsClosed start count v at
   ends s k id v there at here =
       let sums = λ (g : List Record → ℕ). sum_at g s.views id v [] there in
       let each = all_at (All (IsKept start (cursor_of k.word) k.spans.log)) s.views id v there k.each in

@@ -1,7 +1,6 @@
 -- The handles of a list differ if each is there at most once. So the handles of some reservers differ if
 -- those of all do.
-use Rattle.ent_shared.proofs.Common.{rules, arith, ◌≡◌, ◌≢◌, ℕ, ◌≤◌, List, [], ◌∷◌, refl, AllPairs, ◌⊎◌, sym, cond, sum_by, common_steps, nat_tests, All-tail, All-head, All-contains_itself, AllPairs-cons, sum_by-append, sum_by-cons, Handle, handle_eq, handles_in, AllPairs-head, AllPairs-tail, Reservation, Record, own_reservations, weigh, own_of_all, handles_of}
-use Rattle.std.proofs.Common.{All, Contains}
+use Rattle.ent_shared.proofs.Common.{rules, arith, ◌≡◌, ◌≢◌, ℕ, ◌≤◌, List, [], ◌∷◌, refl, AllPairs, ◌⊎◌, sym, cond, sum_by, common_steps, nat_tests, All-tail, All-head, All-contains_itself, AllPairs-cons, sum_by-append, sum_by-cons, Handle, handle_eq, handles_in, AllPairs-head, AllPairs-tail, Reservation, Record, own_reservations, weigh, own_of_all, handles_of, All, Contains}
 use Rattle.ent_shared.proofs.Sorting.{contains_cases}
 use Rattle.ent_shared.proofs.Weighing.{sum_by-flat_map}
 
@@ -26,10 +25,8 @@ same_or_none g h = grind (arith, common_steps, nat_tests, same_parts h g)
 
 none_there : (h : Handle) (gs : List Handle) → All (λ g. h ≢ g) gs → sum_by (is_one h) gs ≡ 0
 none_there h [] all = refl
-none_there h (g ∷ gs) all =
-    let rest = none_there h gs (All-tail (λ g. h ≢ g) g gs all) in
-    let here = none_other g h (All-head (λ g. h ≢ g) g gs all) in
-    grind (arith, common_steps, sum_by-cons)
+none_there h (g ∷ gs) all = grind
+    (arith, common_steps, sum_by-cons, none_there h gs (All-tail (λ g. h ≢ g) g gs all), none_other g h (All-head (λ g. h ≢ g) g gs all))
 
 -- each handle of the list counts
 counted : (h : Handle) (gs : List Handle) → Contains gs h → 1 ≤ sum_by (is_one h) gs
@@ -42,8 +39,7 @@ once [] differ h = omega arith
 once (g ∷ gs) differ h =
     let rest = once gs (AllPairs-tail (λ g h. g ≢ h) g gs differ) h in
     let others = none_there g gs (AllPairs-head (λ g h. g ≢ h) g gs differ) in
-    let first : sum_by (is_one g) (g ∷ gs) ≤ 1 = grind (arith, common_steps, sum_by-cons, one_itself g) in
-    search (rules, sum_by-cons, same_or_none)
+    grind (arith, common_steps, sum_by-cons, same_or_none g h, one_itself g)
 
 -- and the other way around
 differ_if_once : (gs : List Handle) → ((h : Handle) → sum_by (is_one h) gs ≤ 1) → Differ gs
@@ -63,10 +59,6 @@ in_replies h (c ∷ cs) = search (rules, sum_by-append, sum_by-cons, in_replies 
 pub some_differ : (records : List Record) (log : List Reservation) → ((f : Reservation → ℕ) → weigh f records ≤ sum_by f
     log) → Differ (handles_of log) → Differ (handles_of (own_of_all records))
 some_differ records log some differ = differ_if_once _ (λ h.
-    let here = in_replies h (own_of_all records) in
-    let all = in_replies h log in
-    let less = some (λ c. sum_by (is_one h) (handles_in c.reply)) in
-    let few = once (handles_of log) differ h in
-    let apart = sum_by-flat_map (λ (r : Record). own_reservations r.entries)
-    (λ (c : Reservation). sum_by (is_one h) (handles_in c.reply)) records in
-    omega arith)
+    let count : Reservation → ℕ = λ c. sum_by (is_one h) (handles_in c.reply) in
+    let apart = sum_by-flat_map (λ (r : Record). own_reservations r.entries) count records in
+    omega (arith, in_replies h (own_of_all records), in_replies h log, some count, once (handles_of log) differ h))

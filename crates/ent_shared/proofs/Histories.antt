@@ -37,11 +37,8 @@ after_one : (cs before : List Reservation) (later : Reservation) → FallsStrict
     → All (λ (earlier : Reservation). later.high ≤ℤ low earlier) before → All (λ (earlier : Reservation). StandsBefore
     cs earlier later) before
 after_one cs before later falls requests in_before in_later order i d lt =
-    let x : Reservation = get_or before i d in
-    let inside = in_before i d lt in
-    let some_request = All-contains (λ (c : Reservation). 0 < c.requested) cs x requests inside in
-    let le = order i d lt in
-    search (rules, stands)
+    let some_request = All-contains (λ (c : Reservation). 0 < c.requested) cs _ requests (in_before i d lt) in
+    search (rules, stands, order i d lt, in_before i d lt)
 
 -- what a record knew before its own calls stands before them
 follows : (cs : List Reservation) (es : List RecordEntry) → FallsStrictly cs
@@ -50,27 +47,23 @@ follows : (cs : List Reservation) (es : List RecordEntry) → FallsStrictly cs
 follows cs [] falls requests known order = tt
 follows cs (e ∷ es) falls requests known order =
     let rest = All-right (Contains cs) (reservations_in e) (known_reservations es) known in
-    let more = follows cs es falls requests rest order.1 in
     let before = All-left (Contains cs) (reservations_in e) (known_reservations es) known in
-    let after = all_own (Contains cs) es rest in
-    search (rules, after_one)
+    search (rules, after_one, all_own (Contains cs) es rest, follows cs es falls requests rest order.1)
 
 -- a record's own calls fall
 own_fall : (es : List RecordEntry) → All (λ (c : Reservation). 0 < c.requested) (own_reservations es) → InOrder es
     → Falls (own_reservations es)
 own_fall [] requests order = tt
 own_fall (Met cs ∷ es) requests order = own_fall es requests order.1
-own_fall (Own c ∷ es) requests order =
-    let rest = own_fall es (λ i d lt. requests (suc i) d (omega arith)) order.1 in
-    (λ i d lt. let le = order.0 i d lt 0 d (omega arith) in omega (arith, ints), rest)
+own_fall (Own c ∷ es) requests order = (
+  λ i d lt. omega (arith, ints, order.0 i d lt 0 d (omega arith)),
+  own_fall es (λ i d lt. requests (suc i) d (omega arith)) order.1,
+)
 
 strictly_by : (caller : ℕ) (cs : List Reservation) → FallsStrictly cs → FallsStrictly (reservations_by caller cs)
 strictly_by caller [] falls = tt
-strictly_by caller (c ∷ cs) falls =
-    let rest = strictly_by caller cs falls.1 in
-    let here = All-filter (λ (d : Reservation). d.caller == caller) (λ (d : Reservation). d.high <ℤ c.high) cs
-    falls.0 in
-    search (rules, here, rest)
+strictly_by caller (c ∷ cs) falls = search
+    (rules, strictly_by caller cs falls.1, All-filter (λ (d : Reservation). d.caller == caller) (λ (d : Reservation). d.high <ℤ c.high) cs falls.0)
 
 contains_by : (caller : ℕ) (cs : List Reservation) (c : Reservation) → Contains cs c → c.caller ≡ caller
     → Contains (reservations_by caller cs) c
@@ -83,9 +76,8 @@ contains_by caller (d ∷ cs) c inside is =
 
 sum_same : (g h : Record → ℕ) (rs : List Record) → All (λ (r : Record). g r ≡ h r) rs → sum_by g rs ≡ sum_by h rs
 sum_same g h [] all = refl
-sum_same g h (r ∷ rs) all =
-    let rest = sum_same g h rs (λ i d lt. all (suc i) d (omega arith)) in
-    search (rules, sum_by-cons, all 0 r (omega arith))
+sum_same g h (r ∷ rs) all = search
+    (rules, sum_by-cons, all 0 r (omega arith), sum_same g h rs (λ i d lt. all (suc i) d (omega arith)))
 
 module _ (start : Allocator) (count : ℕ) (records : List Record) (at : ℤ) (k : IsClosed start count records at)
     (whole : length records ≡ count) where
@@ -93,26 +85,26 @@ module _ (start : Allocator) (count : ℕ) (records : List Record) (at : ℤ) (k
   respects_one r inside =
       let log : List Reservation = k.log in
       let kept = All-contains (IsKept start at log) records r k.each inside in
-      let own : List Reservation = own_reservations r.entries in
+      let own : List Reservation = own_calls r in
       let is = reservations_are start count records at k whole in
       let falls = follow_falls (cursor start) log at k.follow in
       let requests = follow_requests (cursor start) log at k.follow in
       let own_in = all_own (Contains log) r.entries kept.marks.known in
       let own_requests : All (λ (c : Reservation). 0 < c.requested) own = λ i c lt. All-contains
       (λ (d : Reservation). 0 < d.requested) log _ requests (own_in i c lt) in
-      let weighs : WeighSame own (reservations_by r.number log) = λ f. let g : Record
-      → ℕ = λ (x : Record). sum_by f (own_reservations x.entries) in let h : Record
-      → ℕ = λ (x : Record). sum_by (only r.number f) (own_reservations x.entries) in let parted : sum_by h records
-      ≡ sum_by (of_number r.number g) records = search (rules, sum_same, of_number, All-weaker, own_by_caller) in
-      let alone = one_of_number r.number g records r (k.numbers r.number) inside refl in search
-      (rules, only, sum_by_caller) in
+      let weighs : WeighSame own (reservations_by r.number log) = λ f.
+      let g : Record → ℕ = λ (x : Record). sum_by f (own_calls x) in
+      let h : Record → ℕ = λ (x : Record). sum_by (only r.number f) (own_calls x) in
+      let parted : sum_by h records ≡ sum_by (of_number r.number g) records = search
+      (rules, sum_same, of_number, All-weaker, own_by_caller) in
+      let alone = one_of_number r.number g records r (k.numbers r.number) inside refl in
+      search (rules, only, sum_by_caller) in
       let same = same_fall own (reservations_by r.number log) (own_fall r.entries own_requests kept.marks.order)
       (strictly_by r.number log falls) (λ i c lt. contains_by r.number log _ (own_in i c lt) (kept.caller i c lt))
       weighs in
       record {
         own = ap (reservations_by r.number) is ∙ sym same;
-        after = rw is
-            (follows log r.entries falls requests kept.marks.known kept.marks.order);
+        after = rw is (follows log r.entries falls requests kept.marks.known kept.marks.order);
       }
 
   pub respects_all : All (Respects (reservations_of records)) records

@@ -1,6 +1,5 @@
 -- What crates above need to know of records: what they were given, one by one and all together.
-use Rattle.ent_shared.proofs.Common.{arith, rules, ◌≡◌, ◌≢◌, List, [], ◌∷◌, ◌++◌, refl, sym, AllPairs, common_steps, flat_map, IsPermutation-refl, IsPermutation-sym, IsPermutation-trans, IsPermutation-append_right, AllPairs-IsPermutation, Reservation, Record, insert_reservation, by_falling_high, own_of_all, history_of, handles_of, handles_given}
-use Rattle.std.proofs.Common.{IsPermutation}
+use Rattle.ent_shared.proofs.Common.{arith, rules, ◌≡◌, ◌≢◌, List, [], ◌∷◌, ◌++◌, refl, sym, AllPairs, common_steps, flat_map, IsPermutation-refl, IsPermutation-sym, IsPermutation-trans, IsPermutation-append_right, AllPairs-IsPermutation, Reservation, Record, insert_reservation, by_falling_high, own_of_all, history_of, handles_of, handles_given, IsPermutation}
 use Rattle.ent_shared.proofs.Regrouping.{turned}
 use Rattle.ent_alloc.specs.History as history
 
@@ -20,10 +19,8 @@ given_inserted c (d ∷ ds) =
 
 given_sorted : (cs : List Reservation) → IsPermutation (handles_of cs) (handles_of (by_falling_high cs))
 given_sorted [] = IsPermutation-refl []
-given_sorted (c ∷ cs) =
-    let rest = IsPermutation-append_right (history.handles_in c.reply) (handles_of cs) (handles_of (by_falling_high cs))
-    (given_sorted cs) in
-    search (rules, IsPermutation-trans, given_inserted c (by_falling_high cs), rest)
+given_sorted (c ∷ cs) = IsPermutation-trans _ _ _ (IsPermutation-append_right _ _ _ (given_sorted cs))
+    (given_inserted c (by_falling_high cs))
 
 given_all : (records : List Record) → handles_of (own_of_all records) ≡ flat_map handles_given records
 given_all [] = refl

@@ -1,8 +1,5 @@
 -- The end of a phase where some reservers are lost: the front of the pool counts as reserved.
-use Rattle.ent_shared.proofs.Common.{cases_eq, rules, ◌≡◌, ℕ, ◌+◌, ◌-◌, ◌*◌, ◌^◌, ◌<◌, ◌≤◌, ℤ, pos, ◌+ℤ◌, ◌-ℤ◌, ◌≤ℤ◌, get_or, List, [], ◌∷◌, length, take, drop, sym, ap, ◌∙◌, arith, AllPairs, ◌⊎◌, ◌≢◌, neg_ℤ, zero-add, refl, map, Ok, Err, common_steps, true, false, cond, nat_le, sum_by, drop-take, take-take, take_all, drop_all, length-take, take-append-drop, All-head, All-tail, All-nil, All-append, All-take, All-drop, All-contains, All-contains_itself, All-permutation, int_max, ints, Handle, Entities, quota, Allocator, available, cursor, top, asked_at, pool_at, listed, settled, IsSound, IsLive, length-available, flushed-laid_out, asked_at-is, listed-IsPermutation, not_apart, given_in-distinct, Reservation, Record, Opening, low, own_reservations, requested_by, after_loss, Follow, HasItsReply, IsStart, IsClosed, history_of, handles_of, as_call, own_of_all}
-use Rattle.std.proofs.Common.{All, Contains}
-use mir.Syntax.{w64}
-use mir.Val.{to_z, of_z}
+use Rattle.ent_shared.proofs.Common.{rules, ◌≡◌, ℕ, ◌+◌, ◌-◌, ◌*◌, ◌^◌, ◌<◌, ◌≤◌, ℤ, pos, ◌+ℤ◌, ◌-ℤ◌, ◌≤ℤ◌, get_or, List, [], ◌∷◌, length, take, drop, sym, ap, ◌∙◌, arith, AllPairs, ◌⊎◌, ◌≢◌, neg_ℤ, zero-add, refl, map, Ok, Err, common_steps, true, false, cond, nat_le, sum_by, drop-take, take-take, take_all, drop_all, length-take, take-append-drop, All-head, All-tail, All-nil, All-append, All-take, All-drop, All-contains, All-contains_itself, All-permutation, int_max, ints, Handle, Entities, quota, Allocator, available, cursor, top, asked_at, pool_at, listed, settled, IsSound, IsLive, length-available, flushed-laid_out, asked_at-is, listed-IsPermutation, not_apart, given_in-distinct, Reservation, Record, Opening, low, own_reservations, requested_by, after_loss, Follow, HasItsReply, IsStart, IsClosed, history_of, handles_of, as_call, own_of_all, All, Contains, w64, to_z, of_z}
 use Rattle.ent_alloc.specs.History as history
 use Rattle.ent_shared.proofs.Words.{requested}
 use Rattle.ent_shared.proofs.Records.{all_own}
@@ -13,10 +10,8 @@ use Rattle.ent_shared.proofs.Settling.{IsLater, legal_from}
 -- what lies inside the front of a list is in it
 front_contains : (xs : List Handle) (k n asked : ℕ) → k + n ≤ asked
     → All (Contains (take asked xs)) (take n (drop k xs))
-front_contains xs k n asked le =
-    let front : List Handle = take asked xs in
-    rw (sym (drop-take k n xs), sym (take-take (k + n) asked xs le)) (All-drop (Contains front) k (take (k + n) front)
-    (All-take (Contains front) (k + n) front (All-contains_itself front)))
+front_contains xs k n asked le = rw (sym (drop-take k n xs), sym (take-take (k + n) asked xs le)) (All-drop (Contains
+    (take asked xs)) k _ (All-take (Contains (take asked xs)) (k + n) _ (All-contains_itself (take asked xs))))
 
 -- the handles of a call are in the front that reaches as far
 reservation_contains : (start : Allocator) (c : Reservation) (asked : ℕ) → HasItsReply start c
@@ -35,10 +30,8 @@ reservations_contain : (start : Allocator) (asked : ℕ) (cs : List Reservation)
     → All (λ (c : Reservation). asked_at (top start) c.high + c.requested ≤ asked) cs
     → All (Contains (take asked (available start))) (handles_of cs)
 reservations_contain start asked [] replied within = search (rules, All-nil)
-reservations_contain start asked (c ∷ cs) replied within =
-    let here = reservation_contains start c asked in
-    let rest = reservations_contain start asked cs in
-    search (rules, All-append, here, rest, All-head, All-tail)
+reservations_contain start asked (c ∷ cs) replied within = search
+    (rules, All-append, reservation_contains start c asked, reservations_contain start asked cs, All-head, All-tail)
 
 -- each call lies between the top and the cursor
 reservations_within : (start : Allocator) (high : ℤ) (cs : List Reservation) (end : ℤ) (asked : ℕ)
@@ -80,14 +73,6 @@ module _ (start : Allocator) (sound : IsSound start) (flushed : start.asked ≡ 
       → settled start given asked ≡ after_loss start asked
   loss_is given asked le which = search (rules, flushed-laid_out, take_all, length-take, drop_all, zero-add)
 
-  -- none of the pool is alive
-  pool_not_live : All (λ h. ¬ (IsLive start h)) start.pool
-  pool_not_live = search (rules, all_pool, not_apart)
-
-  -- the cursor of the allocator that is left
-  cursor-loss : (asked : ℕ) → cursor (after_loss start asked) ≡ cursor start -ℤ pos asked
-  cursor-loss asked = search (rules, take-append-drop, all_pool, ints)
-
   lost_at : (count : ℕ) (records : List Record) (at floor : ℤ) → count ≤ 1024 → IsClosed start count records at
       → floor ≡ int_max at (neg_ℤ (pos (start.limits.slots - start.made))) → Lost start start count records at floor
   lost_at count records at floor few k is =
@@ -101,20 +86,19 @@ module _ (start : Allocator) (sound : IsSound start) (flushed : start.asked ≡ 
       let g = asked_at-is (top start) floor floor_in in
       let given : ℕ = asked_at (top start) floor in
       let asked_is : asked_at (top start) at ≡ asked = omega (arith, ints) in
-      let some : ¬ (given ≡ asked) → given ≡ length start.pool = grind (arith, ints) in
-      let cases : (given ≡ asked) ⊎ (given ≡ length start.pool) = search (rules, cases_eq, some) in
+      let cases : (given ≡ asked) ⊎ (given ≡ length start.pool) = grind (arith, ints) in
       let W : Reservation → Type 0 = λ (c : Reservation). asked_at (top start) c.high + c.requested ≤ asked in
       let log_within : All W k.log = (reservations_within start (cursor start) k.log at asked (omega (arith, ints))
       within k.follow).0 in
-      let left = cursor-loss asked in
+      let left : cursor (after_loss start asked) ≡ cursor start -ℤ pos asked = search
+      (rules, take-append-drop, all_pool, ints) in
       record {
         asked = asked;
         some_asked = k.some requested;
         all_asked = λ all_here. k.all all_here requested;
         most_asked = k.quota;
         reached = λ i d lt. let mark = (k.each i d lt).marks.mark in omega (arith, ints);
-        whole = λ all_here. let other = final_cursor start count records at k sound flushed all_here in omega
-            (arith, ints);
+        whole = λ all_here. left ∙ sym (final_cursor start count records at k sound flushed all_here ∙ (omega (arith, ints)));
         least = cursor_least start count records at k sound flushed few;
         greatest = floor_in;
         all_given = λ room. grind (arith, ints);
@@ -122,7 +106,7 @@ module _ (start : Allocator) (sound : IsSound start) (flushed : start.asked ≡ 
         given = λ i d lt. let own = all_own (Contains k.log) (get_or records i d).entries (k.each i d lt).marks.known in
             rw (sym all_pool) (reservations_contain start asked _ (λ j c l. All-contains (HasItsReply start) k.log _
             k.replied (own j c l)) (λ j c l. All-contains W k.log _ log_within (own j c l)));
-        none_live = All-take (λ h. ¬ (IsLive start h)) asked start.pool pool_not_live;
+        none_live = All-take (λ h. ¬ (IsLive start h)) asked start.pool (search (rules, all_pool, not_apart));
         distinct =
             let itself : IsLater start start = record { sound = sound; available_is = refl; made_is = refl } in
             some_differ records k.log k.some (given_in-distinct start (map as_call k.log) sound
@@ -140,13 +124,12 @@ lost entities start n count room key records at floor roomed begins sound few ke
     room_small roomed_is floor_is =
     let here : Allocator = entities.allocator in
     let small = begins.top in
-    let flushed = begins.flushed in
     let k : IsClosed here n records at = rw key_is at closed in
-    let least = cursor_least here n records at k sound flushed few in
-    let greatest = cursor_greatest here n records at k sound flushed in
+    let least = cursor_least here n records at k sound begins.flushed few in
+    let greatest = cursor_greatest here n records at k sound begins.flushed in
     let at_word : to_z w64 (of_z w64 at) ≡ at = omega (arith, ints) in
     let end_word : to_z w64 (of_z w64 (pos 0 -ℤ to_z w64 (of_z w64 roomed)))
     ≡ neg_ℤ (pos (here.limits.slots - here.made)) = omega (arith, ints) in
     let max_is = rw (at_word, end_word) at floor_is in
     let floor_word : to_z w64 (of_z w64 floor) ≡ floor = grind (arith, ints) in
-    search (rules, lost_at)
+    search (rules, lost_at, begins.flushed)

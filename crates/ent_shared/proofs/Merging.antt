@@ -17,9 +17,6 @@ pub sum_by-records_of : (f : Record → ℕ) (rs : List Reserver) → sum_by f (
     r.own) rs
 sum_by-records_of f rs = search (rules, fold-map)
 
-records_of-append : (rs : List Reserver) (r : Reserver) → records_of (rs ++ r ∷ []) ≡ records_of rs ++ r.own ∷ []
-records_of-append rs r = map-append (λ (x : Reserver). x.own) rs (r ∷ [])
-
 pub records_on : (before after : List Record) (yielded : List Reserver) (r : Reserver) (records : List Record)
     → before ≡ records_of yielded → after ≡ before ++ records → records ≡ r.own ∷ []
     → after ≡ records_of (yielded ++ r ∷ [])
@@ -28,7 +25,7 @@ records_on before after yielded r records was now one = grind (arith, common_ste
 pub floor_on : (top before after own : ℤ) (yielded : List Reserver) (r : Reserver)
     → before ≡ least_floor top (records_of yielded) → after ≡ int_min before own → own ≡ r.own.floor
     → after ≡ least_floor top (records_of (yielded ++ r ∷ []))
-floor_on top before after own yielded r was now is = search (rules, least_floor-more, records_of-append)
+floor_on top before after own yielded r was now is = search (rules, least_floor-more, map-append)
 
 -- what holds of all records holds of the reservers that have them
 pub all_owners : (P : Record → Type 0) (rs : List Reserver) → All P (records_of rs) → All (λ (r : Reserver). P r.own) rs

@@ -1,5 +1,5 @@
 -- What a reservation and a meeting add to a record.
-use Rattle.ent_shared.proofs.Common.{rules, ◌≡◌, ℕ, ◌+◌, ◌≤◌, ℤ, pos, ◌-ℤ◌, ◌≤ℤ◌, List, [], ◌∷◌, ◌++◌, length, sym, refl, ap, subst, ◌∙◌, arith, append-nil, add-zero, common_steps, nat_le, cond, Bool, true, false, All, Contains, int_min, All-head, All-tail, All-nil, All-cons, All-append, All-weaker, Contains-append_left, Contains-push, sum_by-cons, sum_by-append, ints, Allocator, cursor, pool_at, All-left, All-right, Reservation, RecordEntry, Own, Met, Record, quota, low, reservations_in, own_reservations, known_reservations, requested_by, reservation_at, after_reservation, after_meeting, floor_after, floor_of, InOrder, IsKept}
+use Rattle.ent_shared.proofs.Common.{rules, ◌≡◌, ℕ, ◌+◌, ◌≤◌, ℤ, pos, ◌-ℤ◌, ◌≤ℤ◌, List, [], ◌∷◌, ◌++◌, length, refl, ap, arith, append-nil, add-zero, common_steps, nat_le, cond, Bool, true, false, All, Contains, int_min, All-head, All-tail, All-nil, All-cons, All-append, All-weaker, Contains-append_left, Contains-push, sum_by-cons, sum_by-append, ints, Allocator, cursor, pool_at, All-left, All-right, Reservation, RecordEntry, Own, Met, Record, quota, low, reservations_in, own_reservations, known_reservations, requested_by, reservation_at, after_reservation, after_meeting, floor_of, InOrder, IsKept}
 use Rattle.ent_shared.proofs.Weighing.{all_one}
 
 pub own-made : (es : List RecordEntry) (c : Reservation) → own_reservations (es ++ Own c ∷ []) ≡ own_reservations es
@@ -19,21 +19,13 @@ pub known-more : (es : List RecordEntry) (e : RecordEntry) → known_reservation
 known-more [] e = append-nil (reservations_in e)
 known-more (d ∷ es) e = grind (arith, common_steps, known-more es e)
 
--- how much a reserver has requested after a reservation and after a meeting
-pub requested-reserved : (r : Record) (high : ℤ) (n : ℕ) → requested_by (after_reservation r high n) ≡ requested_by r
-    + n
-requested-reserved r high n = search (rules, sum_by-append, sum_by-cons, add-zero, own-made)
-
-pub requested-met : (r met : Record) → requested_by (after_meeting r met) ≡ requested_by r
-requested-met r met = search (rules, own-met)
-
 pub quota-reserved : (r : Record) (high : ℤ) (n : ℕ) → n ≤ r.left → r.left + requested_by r ≡ quota
     → (after_reservation r high n).left + requested_by (after_reservation r high n) ≡ quota
-quota-reserved r high n within adds_up = let more = requested-reserved r high n in omega arith
+quota-reserved r high n within adds_up = search (rules, sum_by-append, sum_by-cons, add-zero, own-made)
 
 pub quota-met : (r met : Record) → r.left + requested_by r ≡ quota
     → (after_meeting r met).left + requested_by (after_meeting r met) ≡ quota
-quota-met r met adds_up = ap (λ (k : ℕ). r.left + k) (requested-met r met) ∙ adds_up
+quota-met r met adds_up = search (rules, own-met)
 
 -- own reservations are known
 pub all_own : (P : Reservation → Type 0) (es : List RecordEntry) → All P (known_reservations es)
@@ -49,11 +41,10 @@ order-made [] c order below = search (rules, All-nil)
 order-made (e ∷ es) c order below =
     let P : Reservation → Type 0 = λ (d : Reservation). c.high ≤ℤ low d in
     let Q : Reservation → Type 0 = λ (later : Reservation).
-    All (λ (earlier : Reservation). later.high ≤ℤ low earlier) (reservations_in e) in (
-      subst (All Q) (sym (own-made es c)) (All-append Q (own_reservations es) (c ∷ []) order.0
-          (all_one Q c (All-left P (reservations_in e) (known_reservations es) below))),
-      order-made es c order.1 (All-right P (reservations_in e) (known_reservations es) below),
-    )
+    All (λ (earlier : Reservation). later.high ≤ℤ low earlier) (reservations_in e) in
+    let first = All-left P (reservations_in e) (known_reservations es) below in
+    let rest = order-made es c order.1 (All-right P (reservations_in e) (known_reservations es) below) in
+    (rw (own-made es c) (All-append Q (own_reservations es) (c ∷ []) order.0 (all_one Q c first)), rest)
 
 pub order-met : (es : List RecordEntry) (cs : List Reservation) → InOrder es → InOrder (es ++ Met cs ∷ [])
 order-met [] cs order = search (rules, All-nil)
@@ -64,10 +55,6 @@ lower_first : (a b c : ℤ) (served : Bool) → b ≤ℤ a → int_min a (cond s
 lower_first a b c true le = grind (arith, ints)
 lower_first a b c false le = refl
 
-least_after : (start : Allocator) (at : ℤ) (c : Reservation) → at ≤ℤ low c → at ≤ℤ cursor start
-    → at ≤ℤ floor_after start c
-least_after start at c le top = search (rules)
-
 pub floor-made : (start : Allocator) (cs : List Reservation) (c : Reservation)
     → All (λ (d : Reservation). low c ≤ℤ low d) cs → low c ≤ℤ cursor start
     → floor_of start (cs ++ c ∷ []) ≡ cond (nat_le c.requested (length (pool_at start c.high))) (low c)
@@ -75,8 +62,7 @@ pub floor-made : (start : Allocator) (cs : List Reservation) (c : Reservation)
 floor-made start [] c below top = search (rules, ints)
 floor-made start (d ∷ cs) c below top =
     let rest = floor-made start cs c (All-tail (λ (e : Reservation). low c ≤ℤ low e) d cs below) top in
-    let first = below 0 d (omega arith) in
-    search (rules, lower_first, least_after, rest, first)
+    search (rules, lower_first, rest, below 0 d (omega arith))
 
 -- a record stays kept while the cursor goes down and the log grows
 pub kept_on : (start : Allocator) (at now : ℤ) (log more : List Reservation) (r : Record) → now ≤ℤ at
@@ -90,12 +76,10 @@ kept_reserved start at log n r within top k =
     let c : Reservation = reservation_at r at n in
     let es : List RecordEntry = r.entries in
     let mark = k.marks.mark in
-    let P : Reservation → Type 0 = λ (d : Reservation). at ≤ℤ low d in
-    let below : All P (known_reservations es) = All-weaker (λ (d : Reservation). r.mark ≤ℤ low d) P
-    (λ d h. omega (arith, ints)) (known_reservations es) k.marks.below in
+    let below : All (λ (d : Reservation). at ≤ℤ low d) (known_reservations es) = λ i d lt.
+    let h = k.marks.below i d lt in omega (arith, ints) in
     let Q : Reservation → Type 0 = λ (d : Reservation). (at -ℤ pos n) ≤ℤ low d in
-    let lower : All Q (known_reservations es) = All-weaker P Q (λ d h. omega (arith, ints)) (known_reservations es)
-    below in
+    let lower : All Q (known_reservations es) = λ i d lt. let h = below i d lt in omega (arith, ints) in
     let K : Reservation → Type 0 = Contains (log ++ c ∷ []) in
     record {
       start_is = k.start_is;
@@ -108,8 +92,8 @@ kept_reserved start at log n r within top k =
         mark = omega (arith, ints);
         below = rw (known-more es (Own c)) (All-append Q _ _ lower (all_one Q c (omega (arith, ints))));
         order = order-made es c k.marks.order below;
-        known = rw (known-more es (Own c)) (All-append K _ _ (All-weaker (Contains log) K
-            (λ d h. Contains-append_left log (c ∷ []) d h) _ k.marks.known) (all_one K c (Contains-push log c)));
+        known = rw (known-more es (Own c)) (All-append K _ _
+            (λ i d lt. Contains-append_left log (c ∷ []) _ (k.marks.known i d lt)) (all_one K c (Contains-push log c)));
       };
     }
 
@@ -123,18 +107,15 @@ below_meeting r met mine theirs =
 
 pub kept_met : (start : Allocator) (at : ℤ) (log : List Reservation) (r met : Record) → IsKept start at log r
     → IsKept start at log met → IsKept start at log (after_meeting r met)
-kept_met start at log r met k m =
-    let here = k.marks.mark in
-    let there = m.marks.mark in
-    let cs : List Reservation = known_reservations met.entries in
-    record {
-      start_is = k.start_is;
-      caller = search (rules, own-met);
-      quota = record { quota = quota-met r met k.quota.quota; floor = rw (own-met r.entries cs) k.quota.floor };
-      marks = record {
-        mark = grind (arith, ints);
-        below = below_meeting r met k.marks.below m.marks.below;
-        order = order-met r.entries cs k.marks.order;
-        known = rw (known-more r.entries (Met cs)) (All-append (Contains log) _ cs k.marks.known m.marks.known);
-      };
-    }
+kept_met start at log r met k m = record {
+  start_is = k.start_is;
+  caller = search (rules, own-met);
+  quota = search (rules, own-met, quota-met);
+  marks = record {
+    mark = grind (arith, ints, k.marks.mark, m.marks.mark);
+    below = below_meeting r met k.marks.below m.marks.below;
+    order = order-met r.entries _ k.marks.order;
+    known = rw (known-more r.entries (Met (known_reservations met.entries)))
+        (All-append (Contains log) _ _ k.marks.known m.marks.known);
+  };
+}

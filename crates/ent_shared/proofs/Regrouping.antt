@@ -1,44 +1,35 @@
 -- Seats that share out the same records in two ways: what the records weigh and what holds of each.
-use Rattle.ent_shared.proofs.Common.{All-left, All-right, common_steps, rules, arith, ◌≡◌, ℕ, zero, suc, List, [], ◌∷◌, ◌++◌, length, set, sym, subst, ◌∙◌, append_assoc, append-nil, IsPermutation, sum_by, All, set_comm, flat_map-append, length-flat_map, All-nil, All-cons, IsPermutation-refl, IsPermutation-sym, IsPermutation-trans, IsPermutation-append, IsPermutation-append_comm, sum_by-IsPermutation, All-permutation, length_permutation, some, some-ne-none, get_elem?, set_else, set_again, records_in}
+use Rattle.ent_shared.proofs.Common.{All-left, All-right, common_steps, rules, arith, ◌≡◌, ℕ, zero, suc, List, [], ◌∷◌, ◌++◌, length, set, sym, ◌∙◌, append_assoc, append-nil, IsPermutation, sum_by, All, set_comm, flat_map-append, length-flat_map, All-nil, All-cons, IsPermutation-refl, IsPermutation-sym, IsPermutation-trans, IsPermutation-append, IsPermutation-append_comm, sum_by-IsPermutation, All-permutation, length_permutation, some, some-ne-none, get_elem?, set_else, set_again, records_in, IsPermutation-append_right}
 use Rattle.ent_shared.proofs.Weighing.{sum_by-flat_map, All-flat_map}
 
 module _ {R : Type 0} where
-  -- what the records weigh, seat by seat
-  sum_by-records : (f : R → ℕ) (views : List (List R)) → sum_by f (records_in views)
-      ≡ sum_by (λ (v : List R). sum_by f v) views
-  sum_by-records f views = sum_by-flat_map (λ (v : List R). v) f views
-
-  all_in : (P : R → Type 0) (views : List (List R)) → All (All P) views → All P (records_in views)
-  all_in P views all = All-flat_map (λ (v : List R). v) P views all
-
   all_out : (P : R → Type 0) (views : List (List R)) → All P (records_in views) → All (All P) views
   all_out P [] all = All-nil (All P)
-  all_out P (v ∷ views) all = All-cons (All P) v views (All-left P v (records_in views) all)
-      (all_out P views (All-right P v (records_in views) all))
+  all_out P (v ∷ views) all = All-cons (All P) v views (All-left P v _ all) (all_out P views (All-right P v _ all))
 
   module _ (before after : List (List R)) (same : IsPermutation (records_in before) (records_in after)) where
     pub sum_regrouped : (f : R → ℕ) → sum_by (λ (v : List R). sum_by f v) after
         ≡ sum_by (λ (v : List R). sum_by f v) before
-    sum_regrouped f = search (rules, sum_by-records, sum_by-IsPermutation)
+    sum_regrouped f = grind (arith, sum_by-flat_map (λ (v : List R). v) f, sum_by-IsPermutation)
 
     pub length-regrouped : sum_by length after ≡ sum_by length before
     length-regrouped = search (rules, length-flat_map, length_permutation)
 
     pub all_regrouped : (P : R → Type 0) → All (All P) before → All (All P) after
-    all_regrouped P all = search (rules, all_out, All-permutation, all_in)
+    all_regrouped P all = search (rules, all_out, All-permutation, All-flat_map (λ (v : List R). v))
 
   -- three lists of which the first two change places
   pub turned : (xs ys zs : List R) → IsPermutation (xs ++ (ys ++ zs)) (ys ++ (xs ++ zs))
-  turned xs ys zs = rw (sym (append_assoc xs ys zs), sym (append_assoc ys xs zs)) (IsPermutation-append _ _ zs zs
+  turned xs ys zs = rw (sym (append_assoc xs ys zs), sym (append_assoc ys xs zs)) (IsPermutation-append _ _ _ _
       (IsPermutation-append_comm xs ys) (IsPermutation-refl zs))
 
   -- the records of one seat, and then those of the others
   set_first : (views : List (List R)) (id : ℕ) (v w : List R) → get_elem? views id ≡ some v
       → IsPermutation (records_in (set views id w)) (w ++ records_in (set views id []))
   set_first [] id v w at = absurd (some-ne-none v (sym at))
-  set_first (x ∷ views) zero v w at = IsPermutation-refl (w ++ records_in views)
-  set_first (x ∷ views) (suc id) v w at = IsPermutation-trans _ _ _ (IsPermutation-append x x _ _ (IsPermutation-refl x)
-      (set_first views id v w at)) (turned x w _)
+  set_first (x ∷ views) zero v w at = IsPermutation-refl _
+  set_first (x ∷ views) (suc id) v w at = IsPermutation-trans _ _ _
+      (IsPermutation-append_right x _ _ (set_first views id v w at)) (turned x w _)
 
   seat_first : (views : List (List R)) (id : ℕ) (v : List R) → get_elem? views id ≡ some v
       → IsPermutation (records_in views) (v ++ records_in (set views id []))
@@ -69,9 +60,8 @@ module _ {R : Type 0} where
       let first : get_elem? bare id ≡ some v = set_else views other id [] (λ e. apart (sym e)) ∙ at in
       let two : IsPermutation (records_in views) (w ++ (v ++ others)) = search
       (rules, IsPermutation-trans, seat_first, IsPermutation-append, IsPermutation-refl) in
-      let one : IsPermutation (w ++ (v ++ others)) (both ++ others) = IsPermutation-trans (w ++ (v ++ others))
-      ((v ++ w) ++ others) (both ++ others) (subst (IsPermutation (w ++ (v ++ others))) (sym (append_assoc v w others))
-      (turned w v others)) (IsPermutation-append (v ++ w) both others others parts (IsPermutation-refl others)) in
+      let one : IsPermutation (w ++ (v ++ others)) (both ++ others) = IsPermutation-trans _ _ _ (turned w v others)
+      (rw (sym (append_assoc v w others)) (IsPermutation-append _ _ others others parts (IsPermutation-refl others))) in
       let set_both : IsPermutation (both ++ others) (records_in (set bare id both)) = search
       (rules, IsPermutation-sym, set_first) in
       grind (arith, common_steps, set_comm, IsPermutation-trans)

@@ -1,14 +1,11 @@
 -- What a reservation returns.
-use Rattle.ent_shared.proofs.Common.{rules, ◌≡◌, ℕ, ℤ, pos, ◌-ℤ◌, List, [], length, take, ◌∙◌, arith, Ok, Err, ◌≤◌, length-drop, common_steps, Result, nat_le, true, length_permutation, listed-IsPermutation, nat_tests, Handle, Space, Span, Record, reservation_at, after_reservation, Allocator, pool_at, reply_from, listed, top, IsSound, length-pool}
-
-pub reply-none : (made : ℕ) (pool : List Handle) → reply_from made pool 0 ≡ Ok []
-reply-none made pool = search (rules, nat_tests)
+use Rattle.ent_shared.proofs.Common.{rules, ◌≡◌, ℕ, ℤ, pos, ◌-ℤ◌, List, [], length, take, ◌∙◌, arith, Ok, Err, ◌≤◌, length-drop, common_steps, Result, nat_le, true, length_permutation, listed-IsPermutation, nat_tests, Handle, Space, Span, Record, reservation_at, after_reservation, Allocator, pool_at, reply_from, top, IsSound, length-pool}
 
 -- the reply to a span of no numbers
 pub nothing_at : (start : Allocator) (span : Span) (top : ℤ) (reply : Result (List Handle) Space)
     → span ≡ record { high = top; low = top -ℤ pos 0 } → ((k : ℕ) → span.low ≡ span.high -ℤ pos k
     → reply ≡ reply_from start.made (pool_at start span.high) k) → reply ≡ Ok []
-nothing_at start span top reply is replies = replies 0 (search rules) ∙ reply-none start.made (pool_at start span.high)
+nothing_at start span top reply is replies = search (rules, nat_tests, replies 0 (search rules))
 
 -- whether a reply serves tells whether there was enough
 pub enough_served : (made : ℕ) (pool handles : List Handle) (n : ℕ) → reply_from made pool n ≡ Ok handles
@@ -18,9 +15,8 @@ enough_served made pool handles n is = search (rules)
 -- a reply that serves n lists n handles
 pub length-served : (made : ℕ) (pool handles : List Handle) (n : ℕ) → reply_from made pool n ≡ Ok handles
     → length handles ≡ n
-length-served made pool handles n is =
-    let long = length_permutation (take n pool) (listed made (take n pool)) (listed-IsPermutation made (take n pool)) in
-    grind (arith, nat_tests, common_steps)
+length-served made pool handles n is = grind
+    (arith, nat_tests, common_steps, length_permutation _ _ (listed-IsPermutation made (take n pool)))
 
 -- the pool never has more than at the opening
 pub enough_at_first : (start : Allocator) (high : ℤ) (handles : List Handle) (n : ℕ) → IsSound start → start.asked ≡ 0

@@ -1,6 +1,6 @@
 -- Calls that lead from the top down to the cursor are a legal history, and two numbers tell the
 -- allocator after it.
-use Rattle.ent_shared.proofs.Common.{rules, ◌≡◌, ℕ, ◌+◌, ◌<◌, ◌≤◌, ⊎_elim, ℤ, pos, ◌-ℤ◌, ◌≤ℤ◌, List, [], ◌∷◌, ◌++◌, length, map, take, refl, sym, ap, subst, ◌∙◌, arith, le-leb, length-append, common_steps, Bool, true, false, cond, nat_le, All, flat_map, int_min, cases_lt, lt-leb, length-take-le, All-head, All-tail, ints, Handle, Allocator, available, cursor, top, pool_at, after_take, IsSound, after_take-sound, available-after_take, after_take-served, after_take-refused, length-pool, made-after_take, cursor-after_take, pool_at-cursor, length-taken, Reservation, Record, low, own_reservations, Follow, HasItsReply, floor_after, floor_of, least_floor, IsKept, insert_reservation, by_falling_high, as_call}
+use Rattle.ent_shared.proofs.Common.{rules, ◌≡◌, ℕ, ◌+◌, ◌<◌, ◌≤◌, ℤ, pos, ◌-ℤ◌, ◌≤ℤ◌, List, [], ◌∷◌, ◌++◌, length, map, take, refl, sym, ap, ◌∙◌, arith, le-leb, length-append, common_steps, nat_le, All, flat_map, int_min, cases_lt, lt-leb, length-take-le, All-head, All-tail, ints, Handle, Allocator, available, cursor, top, pool_at, after_take, IsSound, after_take-sound, available-after_take, after_take-served, after_take-refused, length-pool, made-after_take, cursor-after_take, pool_at-cursor, length-taken, Reservation, Record, low, own_reservations, Follow, HasItsReply, floor_after, floor_of, least_floor, IsKept, insert_reservation, by_falling_high, as_call, inl, inr}
 use Rattle.ent_alloc.specs.History as history
 
 -- the same things to give, and the same slots made
@@ -15,13 +15,10 @@ later_take start s n l = search (rules, after_take-sound, available-after_take, 
 top_later : (start s : Allocator) → IsLater start s → top s ≡ top start
 top_later start s l = search rules
 
-pool_later : (start s : Allocator) → IsLater start s → pool_at start (cursor s) ≡ s.pool
-pool_later start s l = search (rules, top_later, pool_at-cursor)
-
 -- the pool where a call's high is the cursor
 pool_there : (start s : Allocator) (c : Reservation) → IsLater start s → c.high ≡ cursor s
     → pool_at start c.high ≡ s.pool
-pool_there start s c l at = ap (pool_at start) at ∙ pool_later start s l
+pool_there start s c l at = search (rules, at, top_later, pool_at-cursor)
 
 follow_on : (s : Allocator) (c : Reservation) (cs : List Reservation) (end : ℤ) → IsSound s → c.high ≡ cursor s
     → Follow (low c) cs end → Follow (cursor (after_take s c.requested)) cs end
@@ -40,8 +37,12 @@ legal_from start s (c ∷ cs) end l f replied =
 pub min_right : (a b : ℤ) → b ≤ℤ a → int_min a b ≡ b
 min_right a b le = grind (arith, ints)
 
-min_left : (a b : ℤ) → a ≤ℤ b → int_min a b ≡ a
-min_left a b le = grind (arith, ints)
+-- of three that are known to be lower or higher
+min_up : (a b c : ℤ) → a ≤ℤ b → int_min a (int_min b c) ≡ int_min a c
+min_up a b c le = grind (arith, ints)
+
+min_down : (a b c : ℤ) → b ≤ℤ a → int_min a (int_min b c) ≡ int_min b c
+min_down a b c le = grind (arith, ints)
 
 min_comm : (a b : ℤ) → int_min a b ≡ int_min b a
 min_comm a b = grind (arith, ints)
@@ -60,36 +61,27 @@ pub taken_floor : (start s : Allocator) (cs : List Reservation) (end : ℤ) → 
 taken_floor start s [] end flushed l f = grind (arith, common_steps)
 taken_floor start s (c ∷ cs) end flushed l f =
     let n : ℕ = c.requested in
-    let t : Allocator = after_take s n in
     let a : ℤ = pos (top start) -ℤ pos (length s.taken) in
-    let rest = taken_floor start t cs end flushed (later_take start s n l) (follow_on s c cs end l.sound f.0 f.2) in
+    let F : ℤ = floor_of start cs in
+    let rest = taken_floor start (after_take s n) cs end flushed (later_take start s n l)
+    (follow_on s c cs end l.sound f.0 f.2) in
     let tops = top_later start s l in
-    let pool : pool_at start c.high ≡ s.pool = pool_there start s c l f.0 in
+    let pool = ap (λ (hs : List Handle). nat_le n (length hs)) (pool_there start s c l f.0) in
     let some_request : 0 < n = f.1 in
-    let goal : ℤ → Type 0 = λ z. int_min a (int_min z (floor_of start cs))
-    ≡ pos (top start) -ℤ pos (length (history.after_history t (map as_call cs)).taken) in
-    ⊎_elim (λ (short : length s.pool < n). let test : nat_le n (length (pool_at start c.high))
-    ≡ false = ap (λ (hs : List Handle). nat_le n (length hs)) pool
-    ∙ lt-leb n (length s.pool) short in let same : length t.taken
-    ≡ length s.taken = ap (λ (x : Allocator). length x.taken) (after_take-refused s n short) in let at_top : a
-    ≤ℤ cursor start = omega (arith, ints) in let begins : int_min a (int_min (cursor start) (floor_of start cs))
-    ≡ int_min a (floor_of start cs) = sym (min_assoc a (cursor start) (floor_of start cs))
-    ∙ ap (λ (z : ℤ). int_min z (floor_of start cs)) (min_left a (cursor start) at_top) in subst goal
-    (sym (ap (λ (b : Bool). cond b (low c) (cursor start)) test))
-    (begins ∙ (ap (λ (k : ℕ). int_min (pos (top start) -ℤ pos k) (floor_of start cs)) (sym same) ∙ rest)))
-    (λ (enough : n ≤ length s.pool). let test : nat_le n (length (pool_at start c.high))
-    ≡ true = ap (λ (hs : List Handle). nat_le n (length hs)) pool
-    ∙ le-leb n (length s.pool) enough in let left = length-pool s l.sound in let taken : length s.taken
-    ≡ s.asked = length-taken s l.sound (omega arith) in let joined : length t.taken
-    ≡ length (s.taken ++ take n s.pool) = ap (λ (x : Allocator). length x.taken)
-    (after_take-served s n enough) in let more : length (s.taken ++ take n s.pool) ≡ length s.taken
-    + length (take n s.pool) = length-append s.taken (take n s.pool) in let long : length (take n s.pool)
-    ≡ n = length-take-le n s.pool enough in let here : low c ≡ pos (top start) -ℤ pos (length t.taken) =
-    omega (arith, ints) in let down : low c ≤ℤ a = omega (arith, ints) in let begins : int_min a
-    (int_min (low c) (floor_of start cs)) ≡ int_min (low c) (floor_of start cs) = sym
-    (min_assoc a (low c) (floor_of start cs)) ∙ ap (λ (z : ℤ). int_min z (floor_of start cs))
-    (min_right a (low c) down) in subst goal (sym (ap (λ (b : Bool). cond b (low c) (cursor start)) test))
-    (begins ∙ (ap (λ (z : ℤ). int_min z (floor_of start cs)) here ∙ rest))) (cases_lt (length s.pool) n)
+    elim (cases_lt (length s.pool) n) [
+      | inl short ↦
+          let same = ap (λ (x : Allocator). length x.taken) (after_take-refused s n short) in
+          rw (pool ∙ lt-leb n (length s.pool) short) (min_up a (cursor start) F (omega (arith, ints))
+          ∙ rw same at rest)
+      | inr enough ↦
+          let left = length-pool s l.sound in
+          let taken : length s.taken ≡ s.asked = length-taken s l.sound (omega arith) in
+          let joined = ap (λ (x : Allocator). length x.taken) (after_take-served s n enough)
+          ∙ length-append s.taken (take n s.pool) in
+          let long = length-take-le n s.pool enough in
+          let here : low c ≡ pos (top start) -ℤ pos (length (after_take s n).taken) = omega (arith, ints) in
+          rw (pool ∙ le-leb n (length s.pool) enough) (min_down a (low c) F (omega (arith, ints)) ∙ rw (sym here) at rest)
+    ]
 
 -- the floor of a list does not depend on its order
 floor-append : (start : Allocator) (xs ys : List Reservation) → floor_of start (xs ++ ys) ≡ int_min (floor_of start xs)
@@ -112,8 +104,7 @@ pub floor_of_all : (start : Allocator) (at : ℤ) (log : List Reservation) (reco
 floor_of_all start at log [] all = refl
 floor_of_all start at log (r ∷ records) all =
     let kept = All-head (IsKept start at log) r records all in
-    let rest = floor_of_all start at log records (All-tail (IsKept start at log) r records all) in
-    search (rules, floor-append)
+    search (rules, floor-append, floor_of_all start at log records (All-tail (IsKept start at log) r records all))
 
 pub least_floor-more : (high : ℤ) (rs : List Record) (r : Record)
     → least_floor high (rs ++ r ∷ []) ≡ int_min (least_floor high rs) r.floor

@@ -44,10 +44,8 @@ module _ (start : Allocator) (n number : ℕ) (word seat : TableId) (made : List
       → after ≡ (drop 1 me.0, []) → (views : List (List Record)) → views ≡ take 1 me.0 ∷ []
       → r ≡ record { word = seat; own = own_of views } → (now : List Reserver) → now ≡ made ++ r ∷ []
       → AreShared start n (number + 1) word now later after
-  shared_more later after r same left views is r_is now now_is =
-      let one = next_seated views in
-      let first = opened-last start 0 number in
-      search (rules, next_is, map-append, d.made_is, d.seat_is)
+  shared_more later after r same left views is r_is now now_is = search
+      (rules, next_is, map-append, d.made_is, d.seat_is, next_seated views, opened-last start 0 number)
 
 pub own_again : (word : TableId) (rs : List Record) → map (λ (r : Reserver). r.own) (map (seated word) rs) ≡ rs
 own_again word [] = refl

@@ -30,8 +30,7 @@ inserted c (d ∷ ds) =
 
 pub sorted : (cs : List Reservation) → IsPermutation cs (by_falling_high cs)
 sorted [] = IsPermutation-refl []
-sorted (c ∷ cs) = IsPermutation-trans (c ∷ cs) (c ∷ by_falling_high cs) (by_falling_high (c ∷ cs))
-    (IsPermutation-cons c cs (by_falling_high cs) (sorted cs)) (inserted c (by_falling_high cs))
+sorted (c ∷ cs) = IsPermutation-trans _ _ _ (IsPermutation-cons c cs _ (sorted cs)) (inserted c (by_falling_high cs))
 
 pub all_sorted : (P : Reservation → Type 0) (cs : List Reservation) → All P cs → All P (by_falling_high cs)
 all_sorted P cs all = All-permutation P cs (by_falling_high cs) (sorted cs) all
@@ -42,10 +41,8 @@ sum_sorted f cs = sum_by-IsPermutation f cs (by_falling_high cs) (sorted cs)
 falls_inserted : (c : Reservation) (cs : List Reservation) → Falls cs → Falls (insert_reservation c cs)
 falls_inserted c [] falls = search (rules, All-nil)
 falls_inserted c (d ∷ ds) falls =
-    let Q : Reservation → Type 0 = λ (e : Reservation). e.high ≤ℤ d.high in
-    let rest = falls_inserted c ds falls.1 in
-    let perm = All-permutation Q (c ∷ ds) (insert_reservation c ds) (inserted c ds) in
-    search (rules, ints, c.high, Q, perm, All-cons, rest, by_lt_z)
+    let perm = All-permutation (λ (e : Reservation). e.high ≤ℤ d.high) _ _ (inserted c ds) in
+    search (rules, ints, c.high, perm, All-cons, falls_inserted c ds falls.1, by_lt_z)
 
 pub falls_sorted : (cs : List Reservation) → Falls (by_falling_high cs)
 falls_sorted [] = tt

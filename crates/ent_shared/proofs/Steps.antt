@@ -1,6 +1,5 @@
 -- Each step keeps the rule over the cursor word and the records.
-use Rattle.ent_shared.proofs.Common.{known_reservations, low, own_reservations, reservation_at, after_reservation, rules, ◌≡◌, ℕ, ◌+◌, ◌-◌, ◌%◌, ◌^◌, ◌<◌, ◌≤◌, ℤ, pos, ◌-ℤ◌, ◌≤ℤ◌, List, [], ◌∷◌, ◌++◌, length, set, get_or, take, drop, sym, refl, ap, subst, ◌∙◌, arith, ◌==◌, cond, sum_by, All, All-head, All-nil, All-cons, All-append, All-set, IsPermutation-refl, sum_by-cons, sum_by-append, ints, some, get_elem?, State, Me, keeps, Allows, Splits, Joins, set_else, GoesByRecords, quota, Allocator, cursor, Reservation, Record, after_meeting, met_in, cursor_of, Follow, HasItsReply, IsKept, IsRuled, AfterReserve, ReserveTells}
-use Rattle.std.proofs.Common.{take-append-drop}
+use Rattle.ent_shared.proofs.Common.{known_reservations, low, own_reservations, reservation_at, after_reservation, rules, ◌≡◌, ℕ, ◌+◌, ◌-◌, ◌%◌, ◌^◌, ◌<◌, ◌≤◌, ℤ, pos, ◌-ℤ◌, ◌≤ℤ◌, List, [], ◌∷◌, ◌++◌, length, set, get_or, take, drop, sym, refl, ap, subst, ◌∙◌, arith, ◌==◌, cond, sum_by, All, All-head, All-nil, All-cons, All-append, All-set, IsPermutation-refl, sum_by-cons, sum_by-append, ints, some, get_elem?, Me, keeps, Allows, Splits, Joins, set_else, GoesByRecords, quota, Allocator, cursor, Reservation, Record, after_meeting, met_in, cursor_of, Follow, HasItsReply, IsKept, IsRuled, AfterReserve, ReserveTells, take-append-drop}
 use Rattle.ent_shared.proofs.Weighing.{all_one, sum_at, all_at}
 use Rattle.ent_shared.proofs.Regrouping.{sum_regrouped, length-regrouped, all_regrouped}
 use Rattle.ent_shared.proofs.Moving.{splits}
@@ -13,14 +12,9 @@ follow-snoc high [] c end f is some_request = (is ∙ sym f, some_request, refl)
 follow-snoc high (d ∷ cs) c end f is some_request = (f.0, f.1, follow-snoc (low d) cs c end f.2 is some_request)
 
 module _ (start : Allocator) (count : ℕ) where
-  abbrev St : Type 0
-  St = State (Unit {0}) (List Record)
-
-  abbrev Rule : St → Type 0
-  Rule = IsRuled start count
-
   pub reserves : (slots id : ℕ) (r : Record) (n : ℕ) → 0 < n → n ≤ r.left
-      → Allows Rule slots id (r ∷ [], []) 0 (λ word. (word + (2 ^ 64 - n)) % 2 ^ 64) (ReserveTells n (r ∷ [], []))
+      → Allows (IsRuled start count) slots id (r ∷ [], []) 0 (λ word. (word + (2 ^ 64 - n)) % 2 ^ 64)
+      (ReserveTells n (r ∷ [], []))
   reserves slots id r n some_request within s k _ at _ =
       let word : ℕ = k.word in
       let found : get_or s.words 0 0 ≡ word = ap (λ (ws : List ℕ). get_or ws 0 0) k.words in
@@ -73,32 +67,31 @@ module _ (start : Allocator) (count : ℕ) where
       )
 
   pub reserves_at : (slots id : ℕ) (me : Me (Unit {0}) (List Record)) (r : Record) (n m : ℕ) → me.0 ≡ r ∷ [] → me.1 ≡ []
-      → m ≡ n → 0 < n → n ≤ r.left → Allows Rule slots id me 0 (λ word. (word + (2 ^ 64 - m)) % 2 ^ 64)
-      (ReserveTells m me)
+      → m ≡ n → 0 < n → n ≤ r.left → Allows (IsRuled start count) slots id me 0
+      (λ word. (word + (2 ^ 64 - m)) % 2 ^ 64) (ReserveTells m me)
   reserves_at slots id me r n m view bare same some_request within = rw (view, bare, same)
       (reserves slots id r n some_request within)
 
   -- the rule goes by the records, and not by which seat has which
-  pub goes_by_records : GoesByRecords Rule
-  goes_by_records s views same k = record {
-    begins = k.begins;
-    few = k.few;
-    word = k.word;
-    words = k.words;
-    spans = record {
-      log = k.spans.log;
-      follow = k.spans.follow;
-      all = λ f. sum_regrouped s.views views same (λ (r : Record). sum_by f (own_reservations r.entries))
-          ∙ k.spans.all f;
-    };
-    replied = k.replied;
-    records = length-regrouped s.views views same ∙ k.records;
-    numbers = λ a. omega
-        (arith, k.numbers a, sum_regrouped s.views views same (λ (r : Record). cond (r.number == a) 1 0));
-    each = search (rules, all_regrouped);
-  }
+  pub goes_by_records : GoesByRecords (IsRuled start count)
+  goes_by_records s views same k =
+      let weighed = sum_regrouped s.views views same in
+      let spans = λ (f : Reservation → ℕ). weighed (λ (r : Record). sum_by f (own_reservations r.entries)) ∙ k.spans.all f in
+      let numbers = λ (a : ℕ). weighed (λ (r : Record). cond (r.number == a) 1 0) in
+      record {
+        begins = k.begins;
+        few = k.few;
+        word = k.word;
+        words = k.words;
+        spans = record { log = k.spans.log; follow = k.spans.follow; all = spans };
+        replied = k.replied;
+        records = length-regrouped s.views views same ∙ k.records;
+        numbers = λ a. omega (arith, k.numbers a, numbers a);
+        each = search (rules, all_regrouped);
+      }
 
-  pub meets : (id other : ℕ) (r met : Record) → Joins Rule id (r ∷ []) other (met ∷ []) (met_in (r ∷ []) (met ∷ [])) []
+  pub meets : (id other : ℕ) (r met : Record) → Joins (IsRuled start count) id (r ∷ []) other (met ∷ [])
+      (met_in (r ∷ []) (met ∷ [])) []
   meets id other r met s k at apart there =
       let both : List Record = after_meeting r met ∷ met ∷ [] in
       let views : List (List Record) = set s.views id both in
@@ -123,9 +116,9 @@ module _ (start : Allocator) (count : ℕ) where
       }
 
   pub meets_at : (id other : ℕ) (v w : List Record) (r met : Record) → v ≡ r ∷ [] → w ≡ met ∷ []
-      → Joins Rule id v other w (met_in v w) []
+      → Joins (IsRuled start count) id v other w (met_in v w) []
   meets_at id other v w r met v_is w_is = search (rules, meets)
 
   -- the first record stays, and the others go to a seat of their own
-  pub splits_others : (id : ℕ) (v : List Record) → Splits Rule id v (take 1 v) (drop 1 v)
+  pub splits_others : (id : ℕ) (v : List Record) → Splits (IsRuled start count) id v (take 1 v) (drop 1 v)
   splits_others id v = search (rules, splits, goes_by_records, take-append-drop, IsPermutation-refl)

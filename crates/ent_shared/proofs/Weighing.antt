@@ -1,6 +1,5 @@
 -- Sums over lists of which one element changes, and over lists of lists.
-use Rattle.ent_shared.proofs.Common.{common_steps, rules, ◌≡◌, ℕ, zero, suc, ◌+◌, List, [], ◌∷◌, set, sym, refl, subst, arith, length, sum_by, All, All-head, All-tail, All-nil, All-cons, All-append, sum_by-cons, sum_by-append, some, some-injective, some-ne-none, get_elem?}
-use Rattle.std.proofs.Common.{flat_map}
+use Rattle.ent_shared.proofs.Common.{common_steps, rules, ◌≡◌, ℕ, zero, suc, ◌+◌, List, [], ◌∷◌, set, sym, refl, subst, arith, length, sum_by, All, All-head, All-tail, All-nil, All-cons, All-append, sum_by-cons, sum_by-append, some, some-injective, some-ne-none, get_elem?, flat_map}
 
 module _ {X : Type 0} where
   pub all_one : (P : X → Type 0) (x : X) → P x → All P (x ∷ [])
@@ -19,17 +18,14 @@ module _ {X : Type 0} where
 
   all_zero : (f g : X → ℕ) → ((x : X) → f x ≡ 0 → g x ≡ 0) → (xs : List X) → sum_by f xs ≡ 0 → sum_by g xs ≡ 0
   all_zero f g zeros [] is = refl
-  all_zero f g zeros (x ∷ xs) is =
-      let sums : sum_by f (x ∷ xs) ≡ f x + sum_by f xs = sum_by-cons f x xs in
-      search (rules, sum_by-cons, all_zero f g zeros xs (omega arith))
+  all_zero f g zeros (x ∷ xs) is = grind (arith, common_steps, sum_by-cons, zeros x, all_zero f g zeros xs)
 
   -- where only the element at i weighs anything, all weigh what it weighs
   only_at : (f g : X → ℕ) (xs : List X) (i : ℕ) (v nothing : X) → get_elem? xs i ≡ some v → f nothing ≡ 0
       → g nothing ≡ 0 → ((x : X) → f x ≡ 0 → g x ≡ 0) → sum_by f xs ≡ f v → sum_by g xs ≡ g v
   only_at f g xs i v nothing e f_none g_none zeros is =
-      let s = sum_at f xs i v nothing e in
-      let others : sum_by f (set xs i nothing) ≡ 0 = omega arith in
-      grind (arith, common_steps, all_zero f g zeros (set xs i nothing) others, sum_at)
+      let others = all_zero f g zeros (set xs i nothing) (omega (arith, sum_at f xs i v nothing e)) in
+      grind (arith, common_steps, others, sum_at)
 
 -- where one of the lists has as many elements as all together, all weigh what it weighs
 pub whole_weighs : {X : Type 0} (f : X → ℕ) (xss : List (List X)) (i : ℕ) (v : List X) → get_elem? xss i ≡ some v

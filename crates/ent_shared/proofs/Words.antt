@@ -1,7 +1,5 @@
 -- The cursor word stays in its range, and what the code makes of it.
-use Rattle.ent_shared.proofs.Common.{suc, rules, ◌≡◌, ℕ, ◌+◌, ◌*◌, ◌-◌, ◌%◌, ◌^◌, ◌<◌, ◌≤◌, ℤ, pos, ◌+ℤ◌, ◌-ℤ◌, ◌≤ℤ◌, List, [], ◌∷◌, length, arith, suc-mul, add-mul, common_steps, ◌==◌, count_by, sum_by, All, All-weaker, sum_by-cons, ints, nat_abs, SFits, State, quota, Allocator, Reservation, Record, low, offset, cursor_of, Follow, weigh, IsKept, IsRuled}
-use mir.Syntax.{w64}
-use mir.Val.{to_z, of_z}
+use Rattle.ent_shared.proofs.Common.{suc, rules, ◌≡◌, ℕ, ◌+◌, ◌*◌, ◌-◌, ◌%◌, ◌^◌, ◌<◌, ◌≤◌, ℤ, pos, ◌+ℤ◌, ◌-ℤ◌, ◌≤ℤ◌, List, [], ◌∷◌, length, arith, suc-mul, add-mul, common_steps, ◌==◌, count_by, sum_by, All, All-weaker, sum_by-cons, ints, nat_abs, SFits, State, quota, Allocator, Reservation, Record, low, offset, cursor_of, Follow, weigh, IsKept, IsRuled, w64, to_z, of_z}
 
 abbrev pub requested : Reservation → ℕ
 requested c = c.requested
@@ -48,14 +46,12 @@ pub lowered_cursor : (word n : ℕ) → offset ≤ word + 2 ^ 50 → n ≤ quota
 unfolding offset quota
 lowered_cursor word n least within = omega (arith, ints)
 
-module _ {X : Type 0} where
-  -- two sums make up a third one if their terms do
-  pub sum_parts : (f g h : X → ℕ) (m : ℕ) (xs : List X) → All (λ x. f x + g x ≡ h x * m) xs
-      → sum_by f xs + sum_by g xs ≡ sum_by h xs * m
-  sum_parts f g h m [] all = omega arith
-  sum_parts f g h m (x ∷ xs) all =
-      let rest = sum_parts f g h m xs (λ i d lt. all (suc i) d (omega arith)) in
-      search (rules, add-mul, sum_by-cons, all 0 x (omega arith))
+-- two sums make up a third one if their terms do
+pub sum_parts : {X : Type 0} (f g h : X → ℕ) (m : ℕ) (xs : List X) → All (λ x. f x + g x ≡ h x * m) xs
+    → sum_by f xs + sum_by g xs ≡ sum_by h xs * m
+sum_parts f g h m [] all = omega arith
+sum_parts f g h m (x ∷ xs) all = search
+    (rules, add-mul, sum_by-cons, all 0 x (omega arith), sum_parts f g h m xs (λ i d lt. all (suc i) d (omega arith)))
 
 -- the quota of all reservers is no more than this
 pub few_asked : (n count : ℕ) → n ≤ count * quota → count ≤ 1024 → n ≤ 2 ^ 50
@@ -70,37 +66,24 @@ numbered number = count_by (λ (r : Record). r.number == number)
 abbrev pub left_of : List Record → ℕ
 left_of view = sum_by (λ (r : Record). r.left) view
 
-module _ (start : Allocator) (count : ℕ) where
-  abbrev St : Type 0
-  St = State (Unit {0}) (List Record)
+-- what the records of a seat have left and what they have requested is their quota
+view_quota : (start : Allocator) (at : ℤ) (log : List Reservation) (view : List Record) → All (IsKept start at log) view
+    → left_of view + weigh requested view ≡ length view * quota
+view_quota start at log [] all = omega arith
+view_quota start at log (r ∷ view) all =
+    let here = (all 0 r (omega arith)).quota.quota in
+    search (rules, sum_by-cons, suc-mul, view_quota start at log view (λ i d lt. all (suc i) d (omega arith)))
 
-  abbrev Rule : St → Type 0
-  Rule = IsRuled start count
-
-  -- what the records of a seat have left and what they have requested is their quota
-  view_quota : (at : ℤ) (log : List Reservation) (view : List Record) → All (IsKept start at log) view
-      → left_of view + weigh requested view ≡ length view * quota
-  view_quota at log [] all = omega arith
-  view_quota at log (r ∷ view) all =
-      let here = (all 0 r (omega arith)).quota.quota in
-      let rest = view_quota at log view (λ i d lt. all (suc i) d (omega arith)) in
-      search (rules, sum_by-cons, suc-mul)
-
+module _ (start : Allocator) (count : ℕ) (s : State (Unit {0}) (List Record)) (k : IsRuled start count s) where
   -- and so it is with the records of all seats
-  pub all_quota : (s : St) (k : Rule s) → sum_by left_of s.views + sum_by requested k.spans.log ≡ count * quota
-  all_quota s k =
-      let each = All-weaker (All (IsKept start (cursor_of k.word) k.spans.log))
-      (λ (v : List Record). left_of v + weigh requested v ≡ length v * quota)
-      (view_quota (cursor_of k.word) k.spans.log) s.views k.each in
+  pub all_quota : sum_by left_of s.views + sum_by requested k.spans.log ≡ count * quota
+  all_quota =
+      let each = All-weaker _ (λ (v : List Record). left_of v + weigh requested v ≡ length v * quota)
+      (view_quota start (cursor_of k.word) k.spans.log) s.views k.each in
       grind (arith, common_steps, sum_parts)
 
-  all_asked : (s : St) (k : Rule s) → sum_by requested k.spans.log ≤ count * quota
-  all_asked s k = let all = all_quota s k in omega arith
+  pub word_least : offset ≤ k.word + 2 ^ 50
+  word_least = search (rules, follow_asked, ints, few_asked (sum_by requested k.spans.log) count (omega (arith, all_quota)) k.few)
 
-  pub word_least : (s : St) (k : Rule s) → offset ≤ k.word + 2 ^ 50
-  word_least s k =
-      let asked = few_asked (sum_by requested k.spans.log) count (all_asked s k) k.few in
-      search (rules, follow_asked, ints)
-
-  pub word_greatest : (s : St) (k : Rule s) → k.word < offset + 2 ^ 32
-  word_greatest s k = search (rules, follow_asked, ints)
+  pub word_greatest : k.word < offset + 2 ^ 32
+  word_greatest = search (rules, follow_asked, ints)

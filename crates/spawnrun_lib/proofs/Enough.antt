@@ -2,7 +2,7 @@
 -- frame begins with at least as many handles to give as are still requested: a call takes what it
 -- requests, and a sync point takes nothing away.
 use Rattle.spawnrun_lib.proofs.OneCourse.{below_each}
-use Rattle.spawnrun_lib.proofs.Common.{rules, ◌≡◌, subst, arith, ℕ, ◌+◌, ◌-◌, ◌≤◌, le-leb, List, [], ◌∷◌, length, length-drop, Some, Result, ◌==◌, slice_get, IsOk, sum_by, flat_map, range_with_len, length-append, All-nil, All-cons, All-head, All-map, All-filter, All-permutation, sum_by-cons, get_or_from_slice_get, slice_get_within, Handle, Space, AreLimits, quota, Allocator, after_take, Call, IsLegal, after_history, length-fresh, All-left, All-right, after_take-served, Command, Refused, stands_for, cost, FitsQuota, FitQuota, sync, World, first_world, after_queues-keeps, IsFrame, queue_at, commands_of, reserved_by, view_of, all_from_each, all_flat, flat_all, Script, Operation, IsGranted, AreGranted, MayIssue, Execution, AreExecutions, synced, requested_by_operation, HasEnoughSlots, All}
+use Rattle.spawnrun_lib.proofs.Common.{rules, ◌≡◌, subst, arith, ℕ, ◌+◌, ◌-◌, ◌≤◌, le-leb, List, [], ◌∷◌, length, length-drop, Some, Result, ◌==◌, slice_get, IsOk, sum_by, flat_map, length-append, All-nil, All-cons, All-head, All-map, All-filter, All-permutation, sum_by-cons, get_or_from_slice_get, slice_get_within, Handle, Space, AreLimits, quota, Allocator, after_take, Call, IsLegal, after_history, length-fresh, All-left, All-right, after_take-served, Command, Refused, stands_for, cost, FitsQuota, FitQuota, sync, World, first_world, after_queues-keeps, IsFrame, queue_at, commands_of, reserved_by, view_of, all_from_each, all_flat, flat_all, Script, Operation, IsGranted, AreGranted, MayIssue, Execution, AreExecutions, synced, requested_by_operation, HasEnoughSlots, All}
 use Rattle.ent_alloc.specs.declared.refused.Refused.TheVariants as refusal
 use Rattle.spawnrun_lib.proofs.NoRefusal.{WereGranted}
 use Rattle.spawnrun_lib.proofs.Requested.{requested, requested_in, wanted_by, wanted_in, cost-wanted, queues-wanted, worker-wanted, history-wanted}
@@ -40,10 +40,7 @@ commands-granted : (left : ℕ) (commands : List Command) → FitQuota left comm
     → All IsReplied (flat_map stands_for commands) → All IsGranted commands
 commands-granted left [] fit within replied = All-nil IsGranted
 commands-granted left (c ∷ cs) fit within replied =
-    let sums = sum_by-cons wanted_by c cs in
-    let most = cost-wanted c in
-    let rest = commands-granted (left - cost c) cs fit.1 (omega arith) in
-    search (rules, All-cons, command-granted left c fit.0 (omega arith), All-left, All-right, rest)
+    search (rules, All-cons, command-granted left c fit.0 (omega (arith, sum_by-cons wanted_by c cs)), All-left, All-right, commands-granted (left - cost c) cs fit.1 (omega (arith, sum_by-cons wanted_by c cs, cost-wanted c)))
 
 -- ---- what a sync point leaves
 
@@ -85,24 +82,16 @@ module _ (systems : List (List Operation)) (workers : ℕ) (w : World) (queues :
 
   frame-granted : AreGranted queues
   frame-granted =
-      let ran : List ℕ = flat_map (λ mine. mine) frame.ran in
-      let all = All-permutation IsGrantedAt ran (range_with_len 0 (length systems)) frame.once
-      (all_flat IsGrantedAt (λ mine. mine) frame.ran (all_from_each (λ mine. All IsGrantedAt mine) frame.ran
-      worker-granted)) in
-      all_from_each (All IsGranted) queues (λ k q at.
-      let within = slice_get_within queues k q at in
-      let count = frame.count in
-      subst (All IsGranted) (get_or_from_slice_get queues k q [] at) (below_each IsGrantedAt (length systems) all k
-      (omega arith)))
+      let all = All-permutation IsGrantedAt _ _ frame.once (all_flat IsGrantedAt (λ mine. mine) frame.ran
+      (all_from_each (λ mine. All IsGrantedAt mine) frame.ran worker-granted)) in
+      all_from_each (All IsGranted) queues (λ k q at. subst (All IsGranted) (get_or_from_slice_get queues k q [] at)
+      (below_each IsGrantedAt (length systems) all k (omega (arith, slice_get_within queues k q at, frame.count))))
 
   -- what its systems have not requested is left for the frames after it
   frame-left : (n : ℕ) → requested_by_systems systems + n ≤ length w.allocator.pool
       → HasLeft n (sync queues (reserved_by history w)).world
-  frame-left n more =
-      let all = history-wanted MayIssue systems workers w queues history frame in
-      let same = wanted in
-      let left = served.1 in
-      sync-left n queues (reserved_by history w) (omega arith)
+  frame-left n more = sync-left n queues (reserved_by history w)
+      (omega (arith, history-wanted MayIssue systems workers w queues history frame, wanted, served.1))
 
 -- ---- all frames
 
@@ -112,11 +101,9 @@ more_granted : (workers : ℕ) (w : World) (frames : List (List (List Operation)
 more_granted workers w [] [] went enough small = All-nil WereGranted
 more_granted workers w (systems ∷ frames) (e ∷ executions) went enough small =
     let sums = sum_by-cons requested_by_systems systems frames in
-    let here : requested_by_systems systems ≤ length w.allocator.pool = omega arith in
-    let fits : requested_by_systems systems ≤ quota = omega arith in
-    let left = frame-left systems workers w e.queues e.history went.0 here fits (sum_by requested_by_systems frames)
-    (omega arith) in
-    search (rules, All-cons, frame-granted systems workers w e.queues e.history went.0 here fits, more_granted workers (synced w e).world frames executions went.1 left (omega arith))
+    let left = frame-left systems workers w e.queues e.history went.0 (omega arith) (omega arith)
+    (sum_by requested_by_systems frames) (omega arith) in
+    search (rules, All-cons, frame-granted systems workers w e.queues e.history went.0 (omega arith) (omega arith), more_granted workers (synced w e).world frames executions went.1 left (omega arith))
 more_granted workers w _ _ went enough small = absurd went
 
 -- In the first world each slot has a handle to give, and a worker's quota is more than all slots.

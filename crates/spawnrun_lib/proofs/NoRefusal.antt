@@ -16,10 +16,7 @@ module _ (system command : ℕ) where
   before_fault : (why : FaultKind) (a : Applied) → AreNone (with_fault system command why a)
       → AreNone a × (IsRefusedRequest why → ⊥)
   before_fault why a none =
-      let fault : Fault = record { system = system; command = command; kind = why } in (
-        All-left IsNoRefusal a.faults (fault ∷ []) none,
-        All-head IsNoRefusal fault [] (All-right IsNoRefusal a.faults (fault ∷ []) none),
-      )
+      (All-left IsNoRefusal a.faults _ none, All-head IsNoRefusal _ [] (All-right IsNoRefusal a.faults _ none))
 
   module _ (change : Handle → World → World) where
     before_one : (h : Handle) (a : Applied) → AreNone (on_entity system command change h a) → AreNone a
@@ -60,18 +57,12 @@ lines_after : (a b : List ℕ) → IsLines a → IsLines b → IsLines (a ++ b)
 lines_after a b lines which = search (rules, append-nil, end_after)
 
 fault_line-end : (fault : Fault) → HasEnd (fault_line Births fault)
-fault_line-end fault = (
-  codes "fault " ++ decimal fault.system ++ codes " "
-      ++ decimal fault.command ++ kind_text Births fault.kind,
-  refl,
-)
+fault_line-end fault =
+    (codes "fault " ++ decimal fault.system ++ codes " " ++ decimal fault.command ++ kind_text Births fault.kind, refl)
 
 frame_line-end : (number born faults : ℕ) → HasEnd (frame_line number born faults)
-frame_line-end number born faults = (
-  codes "frame " ++ decimal number ++ codes " born "
-      ++ decimal born ++ codes " faults " ++ decimal faults,
-  refl,
-)
+frame_line-end number born faults =
+    (codes "frame " ++ decimal number ++ codes " born " ++ decimal born ++ codes " faults " ++ decimal faults, refl)
 
 fault_lines : (faults : List Fault) → IsLines (flat_map (fault_line Births) faults)
 fault_lines [] = inl refl
