@@ -6,7 +6,7 @@ pub use Rattle.std.proofs.lemmas.Bool.{and_parts, cases_lt, cond-false, cond-tru
 pub use Rattle.std.proofs.lemmas.Bool.Decides.{nat_tests}
 pub use Rattle.std.proofs.lemmas.Fmt.{decimal_by_steps}
 pub use Rattle.std.proofs.lemmas.Grind.{common_steps, flat_map-append}
-pub use Rattle.std.proofs.lemmas.List.{drop_more, ext_get_or, get_or_default, length-append, length-map, length-take, length-take-le, map-append, nil_from_length, take-append-drop, take-append-le, take_all, take_more}
+pub use Rattle.std.proofs.lemmas.List.{drop_all, drop_more, ext_get_or, get_or_default, length-append, length-map, length-take, length-take-le, map-append, nil_from_length, take-append-drop, take-append-le, take_all, take_more}
 pub use Rattle.std.proofs.lemmas.List.Elements.{All-append, All-cons, All-contains_itself, All-filter, All-head, All-map, All-nil, All-push, All-tail, All-take, All-weaker}
 pub use Rattle.std.proofs.lemmas.List.FromFn.{get_or-range_with_len, length-range_with_len}
 pub use Rattle.std.proofs.lemmas.List.Sorted.{All-permutation, Contains-permutation, IsPartitionPoint-from_clause, IsPermutation-sym, IsPermutation-trans, length_permutation, sum_by-IsPermutation}

@@ -1,0 +1,6 @@
+use Rattle.spawnrun_lib.proofs.Common.{rules}
+use Rattle.spawnrun_lib.proofs.Pieces.{counted}
+use Rattle.spawnrun_lib.proofs.script.with_system.Goals as goal
+
+pub returns-clause-printable : goal.returns-clause-printable
+returns-clause-printable c = search (rules, counted)
