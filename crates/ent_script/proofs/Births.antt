@@ -1,5 +1,5 @@
 -- The texts of births, cut at their dots.
-use Rattle.ent_script.proofs.Common.{rules, ◌≡◌, ◌≢◌, ℕ, Bool, true, false, eqb, List, [], ◌∷◌, ◌++◌, Err, All, refl, sym, ◌∙◌, inl, inr, arith, common_steps, slice_split, cases_Bool, ne_eqb, cond-false, get_or_default, slice_split_none, slice_split_at, join_with_byte-slice_split, is_decimal, plain_from_decimal, birth_number, birth_of_parts, birth_of}
+use Rattle.ent_script.proofs.Common.{rules, ◌≡◌, ◌≢◌, ℕ, Bool, true, false, eqb, List, [], ◌∷◌, ◌++◌, Err, All, refl, arith, common_steps, slice_split, cases_Bool, ne_eqb, cond-false, get_or_default, slice_split_none, slice_split_at, join_with_byte-slice_split, is_decimal, plain_from_decimal, birth_number, birth_of_parts, birth_of}
 use Rattle.ent_script.specs.declared.cause.Cause.TheVariants as cause
 
 abbrev is_dot : ℕ → Bool
@@ -26,7 +26,7 @@ ordinal_refused before frame system ordinal lacks = grind (arith, common_steps)
 -- no dot: no birth
 pub birth_of_whole : (before : ℕ) (text : List ℕ) → IsWithoutDot text → birth_of before text ≡ Err cause.Birth
 unfolding birth_of
-birth_of_whole before text h = search (rules, slice_split_none, fails)
+birth_of_whole before text h = search (rules, slice_split_none, ne_eqb)
 
 -- one dot: no birth
 pub birth_of_halves : (before : ℕ) (text frame others : List ℕ) → text ≡ frame ++ 46 ∷ others → IsWithoutDot frame
@@ -47,8 +47,4 @@ pub birth_of_split : (before : ℕ) (text frame others system ordinal : List ℕ
     → birth_of before text ≡ birth_of_parts before (frame ∷ system ∷ ordinal ∷ [])
 unfolding birth_of
 birth_of_split before text frame others system ordinal e e' f s = rw (e, slice_split_at is_dot frame 46 others (fails frame f) refl, e', slice_split_at is_dot system 46 ordinal (fails system s) refl)
-    (elim (cases_Bool (is_decimal ordinal)) [
-      | inl is ↦ rw (slice_split_none is_dot ordinal (fails ordinal (decimal_without_dot ordinal is))) refl
-      | inr lacks ↦ one_part before frame system ordinal _ refl lacks ∙ sym (ordinal_refused before frame system ordinal
-          (number_refused ordinal lacks))
-    ])
+    (search (rules, cases_Bool (is_decimal ordinal), slice_split_none, fails, decimal_without_dot, one_part, ordinal_refused, number_refused))

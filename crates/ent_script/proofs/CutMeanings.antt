@@ -1,7 +1,6 @@
 -- One law, with a step for each test of the format: a value that is cut means the same.
-use Rattle.ent_script.proofs.Common.{take-map, arith, rules, ◌≡◌, ℕ, suc, ◌+◌, List, [], ◌∷◌, map, refl, Option, option_map, Result, Ok, ok_or, codes, common_steps, Data, Members, no_members, member, get, as_str, cut, cut_members, pairs_of, whole, whole_within, as_name, ◌>>=◌, items_of, read_bundle, with_of, count_of, binding_of, removed_of, target_of, format_of, or_absent, numbered, component_at, ScriptCause, Heading}
+use Rattle.ent_script.proofs.Common.{take-map, arith, rules, ◌≡◌, ℕ, suc, ◌+◌, List, [], ◌∷◌, map, refl, Option, option_map, Result, common_steps, Data, Members, no_members, member, as_str, cut, cut_members, pairs_of, whole, as_name, items_of, read_bundle, with_of, count_of, binding_of, removed_of, target_of, numbered, component_at}
 use Rattle.ent_script.specs.Json.{members}
-use Rattle.ent_script.specs.declared.cause.ScriptCause.TheVariants as script_cause
 
 abbrev cut_pair : ℕ → List ℕ × Data → List ℕ × Data
 cut_pair l m = (m.0, cut l m.1)
@@ -63,12 +62,6 @@ numbered-cut f g l n [] same = refl
 numbered-cut {A} {E} f g l n (d ∷ ds) same = search (rules, numbered-cut f g l (n + 1) ds same)
 
 -- ---- the heading, and the names of the components
-
-abbrev said : Data → Result Heading ScriptCause
-said d = format_of (get (codes "format") d) >>= λ format. ok_or (or_absent 4294967295 (whole_within 1 4294967295)
-    (get (codes "slots") d)) script_cause.Slots >>= λ slots. ok_or (or_absent 2147483647 (whole_within 1 2147483647)
-    (get (codes "generations") d)) script_cause.Generations >>= λ generations. Ok
-    (record { format = format; limits = record { slots = slots; generations = generations } })
 
 pub components-cut : (ds : List Data) → numbered (component_at (map (cut 0) ds)) 0 (map (cut 0) ds)
     ≡ numbered (component_at ds) 0 ds

@@ -1,5 +1,5 @@
 -- Of a text that is read as a value: what each step of a reader finds.
-use Rattle.ent_script.proofs.Common.{rules, ◌≡◌, ℕ, zero, suc, ◌-◌, List, [], ◌∷◌, false, Option, Some, None, option_map, refl, sym, ap, ◌∙◌, Token, Parse, parse_map, after_end_array, read_key, items, members, value, value_is, Data, Items, no_items, item, Members, put, as_array, as_object, get, tokens, begins_object, of_json, of_items, of_members, converted, read}
+use Rattle.ent_script.proofs.Common.{rules, ◌≡◌, ℕ, ◌-◌, List, [], ◌∷◌, false, Option, Some, None, option_map, refl, sym, ap, ◌∙◌, Token, Parse, parse_map, after_end_array, read_key, items, members, value, value_is, Data, Items, no_items, item, Members, put, as_array, as_object, get, tokens, begins_object, of_json, of_items, of_members, converted, read}
 use Rattle.json.specs.Json as json
 use Rattle.ent_script.proofs.Turns.{item_read, item_refused, member_read, member_refused, key_refused, converted-object, converted-array}
 
@@ -17,9 +17,7 @@ module _ (p : Parse json.Json) where
       → (d : Data) × (r : List Token) × (later : Items) × (ds ≡ item d later) × (converted of_json (p ts) ≡ Some (d, r))
       × (converted of_items (items p (n - 1) r) ≡ Some (later, rest))
   unfolding items
-  next_by None n ts rest ds first going e = search (rules, impossible, item_refused)
-  next_by (Some q) zero ts rest ds first going e = impossible (ds, rest) e
-  next_by (Some q) (suc n) ts rest ds first going e = search (rules, item_read, mapped)
+  next_by it n ts rest ds first going e = search (rules, impossible, item_refused, item_read, mapped)
 
   pub next_item : (n : ℕ) (ts rest : List Token) (ds : Items) → after_end_array ts ≡ None
       → converted of_items (items p n ts) ≡ Some (ds, rest) → (d : Data) × (r : List Token) × (later : Items) × (ds
@@ -37,8 +35,7 @@ module _ (p : Parse json.Json) where
       ts) ≡ Some (ms, rest) → (d : Data) × (r : List Token) × (converted of_json (p s) ≡ Some (d, r))
       × (converted (λ ms. of_members ms (put k d old)) (members p (n - 1) r) ≡ Some (ms, rest))
   unfolding members
-  member_by None n k ts s rest old ms first key e = search (rules, impossible, member_refused)
-  member_by (Some q) n k ts s rest old ms first key e = search (rules, impossible, member_read)
+  member_by it n k ts s rest old ms first key e = search (rules, impossible, member_refused, member_read)
 
   pub next_member : (n : ℕ) (k : List ℕ) (ts s rest : List Token) (old ms : Members) → read_key ts ≡ Some (Some k, s)
       → converted (λ ms. of_members ms old) (members p n ts) ≡ Some (ms, rest)

@@ -65,8 +65,7 @@ module _ {A : Type 0} (p : Parse json.Json) (f : ℕ → Data → Result A ReadF
       let next = next_item p at.0 now rest at.1 going at.2 in
       let is = streams_fault e left (f number next.0) next.1 other (reads next.0 next.1 next.4) in
       let fault = faults (at.0 - 1) next.2 rest (rw is.1 next.5) in
-      let means : numbered f 0 (list_of ds) ≡ Err e = search (rules, onto) in
-      (search (rules, le-leb, lt-leb, fault.few, fault.many), fault.passed)
+      (search (rules, le-leb, lt-leb, onto, fault.few, fault.many), fault.passed)
 
 pub streamed_list : {A : Type 0} (r : Result (Vec A) ReadFault) (left : List Token) (read : Result (List A) ReadFault)
     (rest : List Token) → ran_out r ≡ false → StreamsList r left read rest → ReadsList r read × (left ≡ rest)

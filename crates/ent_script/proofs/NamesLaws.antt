@@ -1,5 +1,5 @@
 -- Names and their numbers.
-use Rattle.ent_script.proofs.Common.{length-map, map-append, rules, ◌≡◌, ℕ, ◌+◌, ◌<◌, Bool, true, false, List, [], ◌∷◌, ◌++◌, length, map, Option, Some, None, option_map, is_some, IfSome, cond, refl, sym, ◌∙◌, arith, bytes_eq, true≢false, suc, add-one, Bor, BTreeMap, option_and_then, common_steps, get_by, Updates, slice_cmp, btree_map_updates_str, bytes_eq-Decides, Data, as_name, number_among, with_name, new_name, HaveNumbers}
+use Rattle.ent_script.proofs.Common.{length-map, map-append, rules, ◌≡◌, ℕ, ◌+◌, ◌<◌, Bool, false, List, [], ◌∷◌, ◌++◌, length, map, Option, Some, None, option_map, is_some, IfSome, cond, refl, sym, ◌∙◌, arith, bytes_eq, true≢false, suc, add-one, Bor, BTreeMap, common_steps, get_by, Updates, slice_cmp, btree_map_updates_str, bytes_eq-Decides, Data, as_name, number_among, with_name, new_name, HaveNumbers}
 use Rattle.std.specs.Ordering.{nat_cmp}
 
 -- a name's number is less than how many there are
@@ -16,16 +16,10 @@ later : (found : Option ℕ) (b : Bool) (n : ℕ) → option_map (λ p. p + 1) (
     ≡ first_of (option_map (λ p. p + 1) found) (cond b (Some (suc n)) None)
 later it b n = search (rules, add-one)
 
-here_or_later : (here : Bool) (found : Option ℕ) (b : Bool) (n : ℕ)
-    → cond here (Some 0) (option_map (λ p. p + 1) (first_of found (cond b (Some n) None)))
-    ≡ first_of (cond here (Some 0) (option_map (λ p. p + 1) found)) (cond b (Some (suc n)) None)
-here_or_later true found b n = refl
-here_or_later false found b n = later found b n
-
 number_among-append : (text name : List ℕ) (names : List (List ℕ)) → number_among text (names ++ name ∷ []) ≡ first_of
     (number_among text names) (cond (bytes_eq name text) (Some (length names)) None)
 number_among-append text name [] = refl
-number_among-append text name (first ∷ others) = search (rules, here_or_later, number_among-append text name others)
+number_among-append text name (first ∷ others) = search (rules, later, number_among-append text name others)
 
 pub at_end : (text name : List ℕ) (names : List (List ℕ)) → number_among name names ≡ None
     → cond (bytes_eq name text) (Some (length names)) (number_among text names) ≡ number_among text (names ++ name ∷ [])
@@ -48,15 +42,10 @@ numbers_added names numbers after name n count old none updates = λ text. rw (b
 pub none_of : (found : Option ℕ) (b : Bool) → b ≡ is_some found → b ≡ false → found ≡ None
 none_of it b e h = search (rules, true≢false)
 
-found_by : (o : Option (List ℕ)) (t : List ℕ) (names : List (List ℕ))
-    → option_and_then (λ name. cond (is_some (number_among name names)) None (Some name)) o ≡ Some t
-    → (o ≡ Some t) × (number_among t names ≡ None)
-found_by it t names h = search rules
-
 -- a new name is none of the others
 pub new_name_is : (names : List (List ℕ)) (d : Data) (t : List ℕ) → new_name names d ≡ Some t
     → (as_name d ≡ Some t) × (number_among t names ≡ None)
-new_name_is names d t h = found_by (as_name d) t names h
+new_name_is names d t h = search rules
 
 pub with_new : (names : List (List ℕ)) (t : List ℕ) → number_among t names ≡ None → with_name names t ≡ names ++ t ∷ []
 with_new names t h = search rules

@@ -1,5 +1,5 @@
 -- Reading the operations of a system one after another, with the names that they bind.
-use Rattle.ent_script.proofs.Common.{rules, ◌≡◌, ℕ, zero, suc, ◌+◌, List, [], ◌∷◌, ◌++◌, length, take, drop, Some, None, Result, Ok, Bool, cond, ok_or, ap, ◌∙◌, arith, add-one, common_steps, fold-append, nat_le, Token, Parse, after_end_array, items, Data, Items, of_json, of_items, converted, cut, list_of, with_part, names_in, ◌>>=◌, numbered, bound_name, Streams, ReadFault}
+use Rattle.ent_script.proofs.Common.{rules, ◌≡◌, ℕ, zero, suc, ◌+◌, List, [], ◌∷◌, ◌++◌, length, take, drop, Some, None, Result, Ok, Bool, cond, ok_or, arith, add-one, common_steps, fold-append, nat_le, Token, Parse, after_end_array, items, Data, Items, of_json, of_items, converted, cut, list_of, with_part, names_in, ◌>>=◌, numbered, bound_name, Streams, ReadFault}
 use Rattle.json.specs.Json as json
 use Rattle.ent_script.proofs.Finding.{next_item}
 use Rattle.ent_script.proofs.Listing.{listed}
@@ -23,7 +23,7 @@ here : (ds : List Data) (i : ℕ) (d : Data) (later : List Data) → drop i ds �
     → (drop (suc i) ds ≡ later) × (take (suc i) ds ≡ take i ds ++ d ∷ [])
 here [] zero d later e = absurd (cc e)
 here [] (suc i) d later e = absurd (cc e)
-here (x ∷ ds) zero d later e = (ap tail_of e, ap (λ y. y ∷ []) (ap (head_or x) e))
+here (x ∷ ds) zero d later e = search rules
 here (x ∷ ds) (suc i) d later e = search (rules, here ds i d later e)
 
 -- of an array that is read as ds, so many operations were taken, which bind these names
@@ -43,11 +43,8 @@ module _ {A : Type 0} (p : Parse json.Json) (f : ℕ → Data → Result A ReadF
       → Reached p f (done ++ x ∷ []) (number + 1) left ds rest after
   reached_next done number now left x ds rest bound after at going reads binds =
       let next = next_item p at.0 now rest at.1 going at.2 in
-      let is = reads next.0 next.1 next.4 in
-      let named = binds next.0 next.1 next.4 in
-      let later : list_of at.1 ≡ next.0 ∷ list_of next.2 = ap list_of next.3 in
-      let now = here (list_of ds) number next.0 (list_of next.2) (at.5 ∙ later) in
-      search (rules, add-one, onto_one, onto, fold-append, named, now, is)
+      let now = here (list_of ds) number next.0 (list_of next.2) in
+      search (rules, add-one, onto_one, onto, fold-append, now, next, reads next.0 next.1 next.4, binds next.0 next.1 next.4)
 
 listed_by : {A : Type 0} (b : Bool) (g : List Data → ℕ → Data → Result A ReadFault) (limit : ReadFault) (ds : List Data)
     → (ok_or (cond b (Some ds) None) limit >>= λ xs. numbered (g xs) 0 xs)

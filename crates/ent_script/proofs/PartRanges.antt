@@ -58,8 +58,7 @@ with_put_in n bundle (item ∷ items) h all = search
 bundle_in : (components : List (List ℕ)) (part : Option Data) → IfOk (read_bundle components part) (IsBundleOf
     (length components))
 unfolding read_bundle
-bundle_in components part =
-    let items = items_in components in let puts = with_put_in (length components) [] in search (rules, items, puts)
+bundle_in components part = search (rules, items_in components, with_put_in (length components) [])
 
 with_in : (components : List (List ℕ)) (part : Option Data)
     → IfOk (with_of components part) (IsBundleOf (length components))
@@ -82,13 +81,12 @@ below_more_names it n most few h = search (rules, few)
 binding_in : (bound : List (List ℕ)) (most : ℕ) → length bound ≤ most → (part : Option Data)
     → IfOk (binding_of bound part) (IsBindingAt most)
 unfolding binding_of
-binding_in bound most few it = let found = λ (name : List ℕ). number_within name bound in search (rules, found, few)
+binding_in bound most few it = search (rules, λ (name : List ℕ). number_within name bound, few)
 
 names_from : (f : Data → Option (List ℕ)) (i : ℕ) (names : List (List ℕ)) (ds : List Data)
     → length (fold (λ names d. with_part names (f d)) names (take i ds)) ≤ length names + i
 names_from f zero names ds = omega arith
-names_from f (suc i) names [] = omega arith
-names_from f (suc i) names (d ∷ ds) = search (rules, length-append, names_from f i (with_part names (f d)) ds)
+names_from f (suc i) names ds = search (rules, length-append, names_from f i)
 
 -- at most as many names as operations
 pub few_names : (i : ℕ) (ds : List Data) → length (names_in bound_name (take i ds)) ≤ i
@@ -105,16 +103,12 @@ module _ (components bound : List (List ℕ)) (format : Format) (frame most : �
   target_at_in : (key text : List ℕ) → IfOk (target_at components bound (births_before format frame) key text)
       (IsTargetAt (length components) frame most)
   unfolding target_at
-  target_at_in key text =
-      let name = number_within text bound in
-      let each = component_in components text in
-      let birth = birth_in (length components) most format frame text in
-      search (rules, either, below_more_names, name, each, birth)
+  target_at_in key text = search (rules, either, below_more_names, number_within text bound, component_in components text, birth_in (length components) most format frame text)
 
   target_in : (part : Option Data) → IfOk (target_of components bound (births_before format frame) part)
       (IsTargetAt (length components) frame most)
   unfolding target_of
-  target_in part = search (rules, then_any, target_at_in)
+  target_in part = search (rules, target_at_in)
 
   of_kind_in : (d : Data) (kind : Kind) → IfOk (of_kind components bound (births_before format frame) d kind)
       (IsOperationAt (length components) frame most)
@@ -131,4 +125,4 @@ module _ (components bound : List (List ℕ)) (format : Format) (frame most : �
   pub operation_in : (d : Data) → IfOk (operation_of components bound (births_before format frame) d)
       (IsOperationAt (length components) frame most)
   unfolding operation_of
-  operation_in d = search (rules, then_any, of_kind_in d)
+  operation_in d = search (rules, of_kind_in)

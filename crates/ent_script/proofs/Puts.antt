@@ -1,18 +1,16 @@
 -- What an object has after a member is put into it.
-use Rattle.ent_script.proofs.Common.{rules, ◌≡◌, ℕ, List, Option, Some, Ordering, Less, Equal, Greater, nat_cmp, is_eq, true, false, bytes_eq, true≢false, refl, sym, ap, ◌∙◌, nat_list_cmp_total, tied_itself, is_eq-slice_cmp, bytes_eq-Decides, slice_cmp, match_ordering, Data, Members, no_members, member, put, get_member}
+use Rattle.ent_script.proofs.Common.{rules, ◌≡◌, ℕ, List, Option, Some, Ordering, Equal, nat_cmp, is_eq, true, false, bytes_eq, true≢false, sym, ap, ◌∙◌, nat_list_cmp_total, tied_itself, is_eq-slice_cmp, bytes_eq-Decides, slice_cmp, match_ordering, Data, Members, no_members, member, put, get_member}
+
+pub tied : (k l : List ℕ) → slice_cmp nat_cmp k l ≡ Equal → k ≡ l
+tied k l is = (bytes_eq-Decides k l).0 (sym (is_eq-slice_cmp k l) ∙ ap is_eq is)
 
 same_text : (xs : List ℕ) → slice_cmp nat_cmp xs xs ≡ Equal
 same_text xs = tied_itself nat_list_cmp_total xs
 
-get_member-put_at : (o : Ordering) (k l : List ℕ) (d e : Data) (ms : Members) → slice_cmp nat_cmp k l ≡ o
-    → get_member k (put k d ms) ≡ Some d → get_member k (match_ordering o (member k d (member l e ms)) (member l d ms)
-    (member l e (put k d ms))) ≡ Some d
-get_member-put_at it k l d e ms is later = search (rules, same_text)
-
 -- what was put at a name is found there
 pub get_member-put : (k : List ℕ) (d : Data) (ms : Members) → get_member k (put k d ms) ≡ Some d
 get_member-put k d no_members = rw same_text
-get_member-put k d (member l e ms) = get_member-put_at _ k l d e ms refl (get_member-put k d ms)
+get_member-put k d (member l e ms) = search (rules, same_text, get_member-put k d ms)
 
 either : (o : Ordering) (a b : Option Data) → is_eq o ≡ false → match_ordering o a b a ≡ a
 either it a b e = search (rules, true≢false)
@@ -20,23 +18,11 @@ either it a b e = search (rules, true≢false)
 skips : (q k : List ℕ) (d : Data) (ms : Members) → (q ≡ k → ⊥) → get_member q (member k d ms) ≡ get_member q ms
 skips q k d ms other = search (rules, either, is_eq-slice_cmp, bytes_eq-Decides)
 
-get_member-put_other_at : (o : Ordering) (q k l : List ℕ) (d e : Data) (ms : Members) → slice_cmp nat_cmp k l ≡ o
-    → (q ≡ k → ⊥) → get_member q (put k d ms) ≡ get_member q ms
-    → get_member q (match_ordering o (member k d (member l e ms)) (member l d ms) (member l e (put k d ms)))
-    ≡ get_member q (member l e ms)
-get_member-put_other_at Less q k l d e ms is other later = skips q k d (member l e ms) other
-get_member-put_other_at Equal q k l d e ms is other later =
-    let same : k ≡ l = (bytes_eq-Decides k l).0 (sym (is_eq-slice_cmp k l) ∙ ap is_eq is) in
-    let apart = λ (h : q ≡ l). other (h ∙ sym same) in
-    search (rules, skips)
-get_member-put_other_at Greater q k l d e ms is other later = search (rules)
-
 -- the other names keep their values
 pub get_member-put_other : (q k : List ℕ) (d : Data) (ms : Members) → (q ≡ k → ⊥)
     → get_member q (put k d ms) ≡ get_member q ms
 get_member-put_other q k d no_members other = skips q k d no_members other
-get_member-put_other q k d (member l e ms) other = search
-    (rules, get_member-put_other_at, get_member-put_other q k d ms other)
+get_member-put_other q k d (member l e ms) other = search (rules, skips, tied k l, get_member-put_other q k d ms other)
 
 pub found_here : (name k : List ℕ) (d : Data) (ms : Members) → bytes_eq k name ≡ true
     → get_member name (put k d ms) ≡ Some d

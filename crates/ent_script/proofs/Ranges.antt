@@ -1,7 +1,6 @@
 -- A script that is read is in its ranges: its systems, its frames and the whole.
-use Rattle.ent_script.proofs.Common.{rules, ℕ, ◌+◌, ◌≤◌, List, [], ◌∷◌, length, take, Option, ok_or, Result, Ok, Err, IfSome, codes, arith, ◌>>=◌, numbered, or_absent, at_operation, operation_at, bound_name, system_of, frame_of, component_at, component_names, heading_of, script_of, ReadsAs, common_steps, IfOk, Data, get, AreLimits, Cause, Format, Heading, ReadFault, whole_within, names_in, Script, AllFrom, IsOperationAt, IsSystemOf, IsFrameOf, IsScript}
+use Rattle.ent_script.proofs.Common.{rules, ℕ, ◌+◌, ◌≤◌, List, [], ◌∷◌, length, Option, Result, IfSome, codes, arith, numbered, or_absent, at_operation, operation_at, system_of, frame_of, component_at, component_names, heading_of, script_of, ReadsAs, IfOk, Data, get, AreLimits, Cause, Format, Heading, ReadFault, whole_within, Script, AllFrom, IsOperationAt, IsSystemOf, IsFrameOf, IsScript}
 use Rattle.ent_script.proofs.PartRanges.{then_any, then_ok, numbered_each, Between, whole_in, few, few_names, operation_in}
-use Rattle.ent_script.specs.declared.cause.ScriptCause.TheVariants as script_cause
 
 at_in : {A : Type 0} (P : A → Type 0) (f s o : ℕ) (r : Result A Cause) → IfOk r P → IfOk (at_operation f s o r) P
 at_in P f s o it h = search rules
@@ -18,26 +17,16 @@ numbered_from P f n (d ∷ ds) each = search (rules, then_ok, numbered_from P f 
 system_in : (format : Format) (components : List (List ℕ)) (frame number : ℕ) (d : Data)
     → IfOk (system_of format components frame number d) (IsSystemOf (length components) frame)
 unfolding system_of
-system_in format components frame number d =
-    let P = IsOperationAt (length components) frame in
-    let each = λ (ds : List Data). numbered_from P (operation_at format components frame number ds) 0 ds
-    (λ i e. at_in (P i) frame number i _ (operation_in components (names_in bound_name (take i ds)) format frame i
-    (few_names i ds) e)) in
-    search (rules, few 10000 d, each)
+system_in format components frame number d = search (rules, few 10000 d, at_in, λ (ds : List Data). numbered_from (IsOperationAt (length components) frame) (operation_at format components frame number ds) 0 ds, few_names, operation_in)
 
 frame_in : (format : Format) (components : List (List ℕ)) (number : ℕ) (d : Data)
     → IfOk (frame_of format components number d) (IsFrameOf (length components) number)
 unfolding frame_of
-frame_in format components number d =
-    let each = λ (ds : List Data). numbered_each (IsSystemOf (length components) number)
-    (system_of format components number) 0 ds (system_in format components number) in
-    search (rules, few 256 d, each)
+frame_in format components number d = search (rules, few 256 d, λ (ds : List Data). numbered_each (IsSystemOf (length components) number) (system_of format components number) 0 ds (system_in format components number))
 
 components_in : (part : Option Data) → IfOk (component_names part) (λ names. length names ≤ 256)
 unfolding component_names
-components_in part =
-    let each = λ (ds : List Data). numbered_each (λ _. Unit {0}) (component_at ds) 0 ds (λ i e. search rules) in
-    search (rules, few, each)
+components_in part = search (rules, few, λ (ds : List Data). numbered_each (λ _. Unit {0}) (component_at ds) 0 ds (λ i e. search rules))
 
 absent_in : (absent low high : ℕ) → Between low high absent → (part : Option Data)
     → IfSome (or_absent absent (whole_within low high) part) (Between low high)
@@ -50,28 +39,15 @@ limits_in2 : (slots generations : ℕ) → Between 1 4294967295 slots → Betwee
     → AreLimits (record { slots = slots; generations = generations })
 limits_in2 slots generations s g = search rules
 
-after_slots : (f : Format) (slots generations : Option ℕ) → IfSome slots (Between 1 4294967295)
-    → IfSome generations (Between 1 2147483647) → IfOk (ok_or slots script_cause.Slots >>= λ s. ok_or generations
-    script_cause.Generations >>= λ g. Ok (record { format = f; limits = record { slots = s; generations = g } }))
-    HasLimits
-after_slots f it us s g = search (rules, limits_in2)
-
 heading_in : (d : Data) → IfOk (heading_of d) HasLimits
 unfolding heading_of
-heading_in d = search (rules, absent_in, after_slots, then_any)
+heading_in d = search (rules, absent_in, limits_in2, then_any)
 
 -- what a value means is a script
 pub script_in : (d : Data) → IfOk (script_of d) IsScript
 unfolding script_of
-script_in d =
-    let each = λ (format : Format) (components : List (List ℕ)) (ds : List Data). numbered_from
-    (IsFrameOf (length components)) (frame_of format components) 0 ds (frame_in format components) in
-    let heading = heading_in d in
-    let names = components_in (get (codes "components") d) in
-    let short = few 1000 in
-    search (rules, heading, names, short, each)
+script_in d = search (rules, heading_in d, components_in (get (codes "components") d), few 1000, λ (format : Format) (components : List (List ℕ)) (ds : List Data). numbered_from (IsFrameOf (length components)) (frame_of format components) 0 ds (frame_in format components))
 
 -- so is what was returned, if it is what a value means
 pub returned_in : (r : Result Script ReadFault) (d : Data) → ReadsAs r (script_of d) → IfOk r IsScript
-returned_in (Ok s) d e = grind (arith, common_steps, script_in d)
-returned_in (Err e) d h = tt
+returned_in it d e = search (rules, script_in d)

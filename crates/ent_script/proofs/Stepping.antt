@@ -1,5 +1,5 @@
 -- The grammar's loops, a turn at a time, of what is left alone.
-use Rattle.ent_script.proofs.Common.{rules, ◌≡◌, ℕ, ◌-◌, ◌<◌, ◌≤◌, List, length, Option, Some, None, ap, ◌∙◌, arith, Result, Err, Bool, cond, true, false, ◌⊎◌, Token, Parse, after_end_array, read_key, items, members, left_some, left_none, left-parse_map, Data, Members, item, put, of_json, of_items, of_members, converted, IfOk, left, Passes, ReadFault, Json, Memory}
+use Rattle.ent_script.proofs.Common.{rules, ◌≡◌, ℕ, ◌-◌, ◌<◌, ◌≤◌, List, length, Option, Some, None, ap, ◌∙◌, arith, Result, Err, Bool, cond, true, false, ◌⊎◌, Token, Parse, after_end_array, read_key, items, members, left_some, left_none, left-parse_map, Data, Members, put, of_json, of_items, of_members, converted, IfOk, left, Passes, ReadFault, Json, Memory}
 use Rattle.json.specs.Json as json
 use Rattle.ent_script.proofs.Turns.{item_read, item_refused, items_over, member_read, member_refused}
 
@@ -7,8 +7,7 @@ pub item_passed : (p : Parse json.Json) (n : ℕ) (ts r : List Token) → 0 < n 
     → left (converted of_json (p ts)) ≡ Some r → left (converted of_items (items p n ts))
     ≡ left (converted of_items (items p (n - 1) r))
 item_passed p n ts r some going e =
-    let d = left_some (converted of_json (p ts)) r e in
-    ap left (item_read p n ts r d.0 some going d.1) ∙ left-parse_map (item d.0) _
+    let d = left_some (converted of_json (p ts)) r e in search (rules, item_read p n ts r d.0 some going d.1, left-parse_map)
 
 pub member_passed : (p : Parse json.Json) (n : ℕ) (k : List ℕ) (ts s r : List Token) (old : Members) → 0 < n
     → read_key ts ≡ Some (Some k, s) → left (converted of_json (p s)) ≡ Some r
@@ -32,14 +31,10 @@ Goes p all ts = (n : ℕ) × (length ts ≤ n) × (all ≡ left (converted of_it
 module _ (p : Parse json.Json) (all : Option (List Token)) (ts r : List Token) (going : Goes p all ts) where
   pub goes_on : after_end_array ts ≡ None → left (converted of_json (p ts)) ≡ Some r → length r < length ts
       → Goes p all r
-  goes_on more passed less = (
-    going.0 - 1,
-    omega (arith, going.1, less),
-    going.2 ∙ item_passed p going.0 ts r (omega (arith, going.1, less)) more passed,
-  )
+  goes_on more passed less = search (rules, arith, item_passed p going.0 ts r)
 
   pub goes_stuck : after_end_array ts ≡ None → left (converted of_json (p ts)) ≡ None → all ≡ None
-  goes_stuck more refused = going.2 ∙ item_stuck p going.0 ts more refused
+  goes_stuck more refused = search (rules, item_stuck)
 
   pub goes_over : after_end_array ts ≡ Some r → all ≡ Some r
   goes_over over = going.2 ∙ ap left (items_over p going.0 ts r going.1 over)

@@ -1,12 +1,8 @@
 -- Texts: which of them are JSON, and names as texts of their own.
-use Rattle.ent_script.proofs.Common.{rules, ◌≡◌, ℕ, ◌+◌, ◌<◌, zero, suc, List, [], ◌∷◌, ◌++◌, length, map, take, get_or, Bool, cond, None, Bor, String, Global, string_bytes, refl, ap, arith, add-one, IsUtf8, is_utf8, map-append, IsUtf8-from_is_utf8, read, json_of}
-
-none_by : (text : List ℕ) (b : Bool) → is_utf8 text ≡ b → (IsUtf8 text → read text ≡ None)
-    → cond b (read text) None ≡ None
-none_by text b e refused = search (rules, IsUtf8-from_is_utf8)
+use Rattle.ent_script.proofs.Common.{rules, ◌≡◌, ℕ, ◌+◌, ◌<◌, zero, suc, List, [], ◌∷◌, ◌++◌, length, map, take, get_or, None, Bor, String, Global, string_bytes, ap, arith, add-one, IsUtf8, map-append, IsUtf8-from_is_utf8, read, json_of}
 
 pub json_none : (text : List ℕ) → (IsUtf8 text → read text ≡ None) → json_of text ≡ None
-json_none text refused = none_by text (is_utf8 text) refl refused
+json_none text refused = search (rules, IsUtf8-from_is_utf8)
 
 taken : (names : List (Bor (List ℕ))) (i : ℕ) (text : List ℕ) → i < length names
     → text ≡ (get_or names i (record { ref_ptr = (0, 0); now = [] })).now

@@ -1,5 +1,5 @@
 -- The grammar's loops, a turn at a time, under the conversion to data.
-use Rattle.ent_script.proofs.Common.{rules, ◌≡◌, ℕ, zero, suc, ◌-◌, ◌<◌, ◌≤◌, List, length, Option, Some, None, option_map, option_and_then, refl, ap, ◌∙◌, Token, Parse, parse_map, after_end_array, read_key, items, members, items_end, items_more, members_no_key, members_more, Data, array, object, no_items, item, Members, no_members, put, of_json, of_items, of_members, converted}
+use Rattle.ent_script.proofs.Common.{rules, ◌≡◌, ℕ, ◌-◌, ◌<◌, ◌≤◌, List, length, Option, Some, None, option_map, option_and_then, ap, Token, Parse, parse_map, after_end_array, read_key, items, members, items_end, items_more, members_no_key, members_more, Data, array, object, no_items, item, Members, no_members, put, of_json, of_items, of_members, converted}
 use Rattle.json.specs.Json as json
 
 found : {A B : Type 0} (a : A) (r s : List Token) (x : Option B) (b : B)
@@ -35,8 +35,7 @@ module _ (p : Parse json.Json) where
       → converted of_json (p ts) ≡ Some (d, r) → converted of_items (items p n ts)
       ≡ parse_map (item d) (converted of_items (items p (n - 1) r))
   item_read n ts r d some going e =
-      let j = converted_some of_json (p ts) d r e in
-      ap (converted of_items) (items_more p n ts r j.0 some going j.1) ∙ with_item j.0 d j.2 _
+      let j = converted_some of_json (p ts) d r e in search (rules, items_more p n ts r j.0 some going j.1, with_item, j)
 
   no_item : (more : Parse json.Items) (o : Option (json.Json × List Token)) → converted of_json o ≡ None
       → converted of_items (option_and_then (λ q. parse_map (json.item q.0) (more q.1)) o) ≡ None
@@ -45,8 +44,7 @@ module _ (p : Parse json.Json) where
   pub item_refused : (n : ℕ) (ts : List Token) → after_end_array ts ≡ None → converted of_json (p ts) ≡ None
       → converted of_items (items p n ts) ≡ None
   unfolding items
-  item_refused zero ts going e = refl
-  item_refused (suc n) ts going e = search (rules, no_item)
+  item_refused it ts going e = search (rules, no_item)
 
   pub items_over : (n : ℕ) (ts r : List Token) → length ts ≤ n → after_end_array ts ≡ Some r
       → converted of_items (items p n ts) ≡ Some (no_items, r)
@@ -67,8 +65,7 @@ module _ (p : Parse json.Json) where
     pub member_refused : (n : ℕ) (k : List ℕ) (ts s : List Token) → read_key ts ≡ Some (Some k, s)
         → converted of_json (p s) ≡ None → converted (λ ms. of_members ms old) (members p n ts) ≡ None
     unfolding members
-    member_refused zero k ts s key e = refl
-    member_refused (suc n) k ts s key e = rw key (no_member k (members p n) (p s) e)
+    member_refused it k ts s key e = search (rules, no_member)
 
     pub key_refused : (n : ℕ) (ts : List Token) → read_key ts ≡ None → converted (λ ms. of_members ms old) (members p n
         ts) ≡ None

@@ -30,12 +30,6 @@ after_frames : (heading : Heading) (names : Names) (o : Option (List Data))
     (frame_of heading.format names) 0 ds) >>= λ frames. all_of heading names frames)
 after_frames heading names it = search rules
 
-abbrev after_names : Data → Heading → Names → Result Script ReadFault
-after_names d heading names = after_these heading names (option_and_then (at_most 1000) (get (codes "frames") d))
-
-abbrev after_heading : Data → Heading → Result Script ReadFault
-after_heading d heading = in_script (component_names (get (codes "components") d)) >>= after_names d heading
-
 pub script_is : (d : Data) (heading : Heading) (names : Names) → in_script (heading_of d) ≡ Ok heading
     → in_script (component_names (get (codes "components") d)) ≡ Ok names
     → script_of d ≡ (frames_of heading.format names (get (codes "frames") d) >>= λ frames. all_of heading names frames)
