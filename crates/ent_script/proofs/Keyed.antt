@@ -1,5 +1,5 @@
 -- The keys of an operation as they are put in, and what it is by them.
-use Rattle.ent_script.proofs.Common.{rules, ◌≡◌, ℕ, List, [], ◌∷◌, Bool, true, false, ◌&&◌, Option, Some, None, option_map, is_some, bytes_eq, refl, option_and_then, Err, ◌||◌, bytes_eq-Decides, list_any, Data, object, Members, no_members, member, put, as_object, data_of, Part, cut, IsUnder, AreAmong, AreFields, of_fields, keys_among, pairs_of, has_keys, is_spawn, is_spawn_many, is_insert, is_remove, is_despawn, of_kind, operation_of, bound_name, as_name, Fields, Kind}
+use Rattle.ent_script.proofs.Common.{rules, ◌≡◌, ℕ, List, [], ◌∷◌, Bool, true, false, ◌&&◌, Option, Some, None, option_map, is_some, bytes_eq, refl, option_and_then, Err, ◌||◌, bytes_eq-Decides, list_any, Data, object, Members, no_members, member, put, as_object, data_of, Part, cut, IsUnder, AreAmong, AreFields, of_fields, keys_among, pairs_of, has_keys, is_spawn, is_spawn_many, is_insert, is_remove, is_despawn, of_kind, operation_of, bound_name, as_name, Fields, Kind, Bor, option_copied}
 use Rattle.ent_script.specs.declared.cause.Cause.TheVariants as cause
 use Rattle.ent_script.specs.declared.kind.Kind.TheVariants as kinds
 use Rattle.ent_script.proofs.CutMeanings.{bundle-cut, with-cut, count-cut, binding-cut, removed-cut, target-cut, as_name-cut}
@@ -77,6 +77,11 @@ module _ (k l : List ℕ) (allowed : List (List ℕ)) (ms : Members) (f g : Opti
 
 name-cut : (o : Option Data) → option_and_then as_name (option_map (cut 1) o) ≡ option_and_then as_name o
 name-cut it = search (rules, as_name-cut)
+
+pub lent : (r : Option (Bor Part)) → option_map (λ (v : Bor Part). data_of v.now) r
+    ≡ option_map data_of (option_copied r)
+lent None = refl
+lent (Some v) = refl
 
 module _ (components bound : List (List ℕ)) (before : Option ℕ) (f : Fields) (ms : Members) (at : AreFields f ms) where
   pub of_fields-means : (kind : Kind) → of_fields components bound before f kind
