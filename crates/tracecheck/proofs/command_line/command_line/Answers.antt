@@ -1,5 +1,6 @@
-use Rattle.tracecheck.proofs.Common.{◌≡◌, ◌∙◌, List, ℕ, true, ap, map, takes, only_memory, is_taken, App}
+use Rattle.tracecheck.proofs.Common.{rules, ◌≡◌, ◌∙◌, List, ℕ, true, ap, map, takes, only_memory, is_taken, App}
 use Rattle.tracecheck.proofs.Beginnings.{both_not_taken, clap_fault, faultless_of_one, faulty_of_both, is_taken-takes}
+use Rattle.tracecheck.proofs.OptionsGiven.{generations-given, slots-given}
 use Rattle.tracecheck.proofs.command_line.command_line.Goals as goal
 
 pub returns-in_err-matches-clause-refused : goal.returns-in_err-matches-clause-refused
@@ -12,6 +13,12 @@ returns-in_err-matches-clause-refused g c =
 pub returns-in_err-matches-clause-fault : goal.returns-in_err-matches-clause-fault
 returns-in_err-matches-clause-fault g c = clap_fault _ _ _ (map g.S.AsStr.text c.args.words.now) c.in_ok-program.ensures
     c.from_residual-in_err-matches.ensures.1 c.in_err-matches.ensures.kinds
+
+pub beginning_of-requires-clause-slots : goal.beginning_of-requires-clause-slots
+beginning_of-requires-clause-slots g c = search (rules, slots-given)
+
+pub beginning_of-requires-clause-generations : goal.beginning_of-requires-clause-generations
+beginning_of-requires-clause-generations g c = search (rules, generations-given)
 
 pub returns-clause-taken : goal.returns-clause-taken
 returns-clause-taken g c = faultless_of_one _ (map g.S.AsStr.text c.args.words.now) _ c.in_ok-program.ensures

@@ -1,4 +1,4 @@
-use Rattle.tracecheck.proofs.Common.{common_steps, arith, rules, ◌++◌, ◌∷◌, [], List, ℕ, subst, sym, err_from_is_err_and, HasRead}
+use Rattle.tracecheck.proofs.Common.{common_steps, arith, rules, ◌++◌, ◌∷◌, [], List, ℕ, subst, sym, append_assoc, err_from_is_err_and, HasRead}
 use Rattle.tracecheck.proofs.LinesRead.{piece_front, piece_rest}
 use Rattle.tracecheck.proofs.lines.feed.Goals as goal
 
@@ -20,3 +20,6 @@ loop-line-preserved c =
           c.end_line.new.pending.items) (sym (grind (arith, common_steps)))
           (c.in_ok-checking.ensures.taken begin (text ++ before.0) (before.2 begin text read)),
     )
+
+pub returns-clause-taken : goal.returns-clause-taken
+returns-clause-taken c = search (rules, append_assoc)
