@@ -1,6 +1,7 @@
 #!/usr/bin/env python3
 """stub.py REPO make                      makes REPO/../stubs-NAME of every crate: bodies emptied, holes for proofs
 stub.py REPO lemmas CRATE [--out F]     checks all lemma files of CRATE (bodies of functions emptied); prints what rattle says
+stub.py REPO quick CRATE [MODULE..]     checks all lemma files of CRATE (or these, as `Fronts`, and what they import), and one small function: faster from cold than `lemmas`
 stub.py REPO only CRATE FN..            checks these functions (module::Type::fn) with real bodies; lemmas are holes
 stub.py REPO answers CRATE              checks every function of the crate that has an Answers.antt, bodies real, lemmas holes
 Lower crates are stubs of the same REPO (made anew if older)."""
@@ -55,6 +56,18 @@ def run(crate,functions,mode,kept=None):
             save={f:f.read_text() for f in (room/'proofs').rglob('*.antt') if f.name not in('Answers.antt','Invariants.antt','Proof.antt')}
             M.empty_others(room,crate,[])
             for f,t in save.items(): f.write_text(t)
+        elif mode=='quick':
+            # lemma files stay; one small function imports them all
+            save={f:f.read_text() for f in (room/'proofs').rglob('*.antt') if f.name not in('Answers.antt','Invariants.antt','Proof.antt')}
+            real={f:f.read_text() for f in (room/'proofs').rglob('Answers.antt') if not f.parent.name.startswith('+') and not (f.parent/'Invariants.antt').exists()}
+            one=min(real,key=lambda f:(len(real[f]),str(f)))
+            fn='::'.join(one.parent.relative_to(room/'proofs').parts)
+            M.empty_others(room,crate,[fn])
+            for f,t in save.items(): f.write_text(t)
+            want=functions or [f.relative_to(room/'proofs').with_suffix('') for f in save if f.name not in('Lib.antt',)]
+            mods=[('.'.join(x.parts) if not isinstance(x,str) else x) for x in want]
+            one.write_text(''.join(f'use Rattle.{crate}.proofs.{m} as quick{i}\n' for i,m in enumerate(sorted(mods)))+real[one])
+            functions=[fn]
         elif mode=='only':
             M.empty_others(room,crate,functions)
         t=time.time()
@@ -68,6 +81,7 @@ if __name__=='__main__':
     else:
         crate=sys.argv[3]
         if what=='lemmas': r=run(crate,[], 'lemmas')
+        elif what=='quick': r=run(crate,sys.argv[4:],'quick')
         elif what=='only': r=run(crate,sys.argv[4:],'only')
         elif what=='answers':
             fs=['::'.join(p.parent.relative_to(f'crates/{crate}/proofs').parts) for p in sorted(pathlib.Path(f'crates/{crate}/proofs').rglob('Answers.antt'))]
