@@ -1,5 +1,5 @@
 #!/bin/sh
-# Runs above 70,000 of each thing that grows, or as many as the formats allow: that memory which is there is not refused, and that nothing
+# Runs above 70,000 of each thing that grows, or as many as the formats allow: that no call runs out of memory, and that nothing
 # is cut or mixed up at some size. No contract says the first. The tests `sizes` and `room` of the package make such runs of the allocator,
 # its phases, storages, worlds and frames. The test `map_sizes` of `crates/ent_tests` does the same for a map by handle. The programs then run
 # scripts, a schedule and traces, and must print what is computed here from their numbers alone. It needs `cargo` and `python3` on the path,

@@ -69,7 +69,7 @@ counted() {
     grep -q '^test result: ok. 1 passed' "$out/printed" || { echo "$test: not passed"; cat "$out/printed"; exit 1; }
 }
 
-# A search by halving would have ten steps more among 65,536 slots than among 64.
+# A binary search would have ten steps more among 65,536 slots than among 64.
 for entities in 64 65536; do
     counted "own_$entities" "$entities" births_in_the_slots_of_others --toggle-collect='counted::next_occupants*'
 done

@@ -2,7 +2,7 @@
 # Runs the programs with each of their allocations refused in turn: schedules, scripts on one worker and on eight, with a bundle that takes
 # memory and with many births as targets, a script that is refused, and traces that agree, differ or are none, also with an image. Each run
 # must end as an undisturbed one does (the program may do without that piece of memory), or with status 3, `memory` on standard error and
-# nothing else. Then it runs each test of refused memory in the same way, and the files `*_refused.txt` of `crates/cases_and_examples`: they
+# nothing else. Then it runs each test of running out of memory in the same way, and the files `*_out_of_memory.txt` of `crates/cases_and_examples`: they
 # must pass, whichever allocation is refused, and each of their lines must be run in at least one of these runs. It also counts what tests
 # of things that take no memory ask for. With `PROGRAMS`, a folder of programs that cargo has built, it runs these, and no tests: each
 # allocation is refused with all after it, and Rust's runtime may end a program as it starts, or as a thread does. It needs `cc` on the
@@ -205,7 +205,7 @@ answered() {
     cases=$top/crates/cases_and_examples/out/cases_and_examples
     [ -x "$cases" ] || { echo "the cases are not built, .ci/run builds them"; return; }
     cd "$top/crates/cases_and_examples/data"
-    for file in *_refused.txt; do
+    for file in *_out_of_memory.txt; do
         : >"$room/left_out"
         for round in 1 2 3 4 5 6 7 8 9 10; do
             passes "$file" "$cases" "$file"

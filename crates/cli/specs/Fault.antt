@@ -12,7 +12,7 @@ abbrev pub IsFaultOf : Error → LineFault → Type 0
 IsFaultOf error (Line same) = (same ≡ error) × (kind_of error ≢ OutOfMemory)
 IsFaultOf error Memory = kind_of error ≡ OutOfMemory
 
--- the fault is one of these kinds, unless memory was refused
+-- the fault is one of these kinds, unless memory ran out
 abbrev pub IsFaultAmong : Kinds → LineFault → Type 0
 IsFaultAmong kinds (Line error) = IsAmong (kind_of error) kinds
 IsFaultAmong kinds Memory = ⊤

@@ -16,7 +16,7 @@ const PIECE: usize = 16_384;
 pub enum InputFault {
     /// More bytes came than the limit allows.
     TooLong,
-    /// Memory for them was refused.
+    /// Memory for them ran out.
     Memory,
     /// The source failed.
     Device,

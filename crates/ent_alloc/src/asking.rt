@@ -17,7 +17,7 @@ use ent_handle::Handle;
 use std::alloc::Global;
 
 /// How many handles may be requested between two flushes.
-const MOST: u64 = 1 << 50;
+pub(crate) const MOST: u64 = 1 << 50;
 
 impl Entities {
     /// Requests a handle, which the next [`flush`](Self::flush) brings to life. Until then `alloc`

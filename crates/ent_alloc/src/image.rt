@@ -11,6 +11,7 @@ ghost use Rattle.ent_alloc.specs.ImageRecords.{AreNumbers, AreServed};
 ghost use Rattle.ent_alloc.specs.FirstFault.{first_failing, front_tests, first_fault, header_fault};
 ghost use Rattle.ent_alloc.specs.declared.image.Header.{Header};
 
+use crate::asking::MOST;
 use crate::entities::Entities;
 use crate::image_fault::ImageFault;
 use crate::image_slots::{SLOT, read_long, read_word, write_word};
@@ -129,7 +130,7 @@ fn requests_of(asked: u64, reserved: u32, available: u32) -> Option<Requests>
 {
     let given = u64::from(reserved);
     let available = u64::from(available);
-    if asked <= 1 << 50
+    if asked <= MOST
         && given <= asked
         && given <= available
         && (available < asked || given == asked)

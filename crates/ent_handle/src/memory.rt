@@ -1,7 +1,7 @@
 use std::alloc::{AllocError, AllocFailed};
 use thiserror::Error;
 
-/// Out of memory: a growth was really refused, or a call says what else counts as such. It is the
+/// Out of memory: an allocation really failed, or a call says what else counts as such. It is the
 /// only error of a call that has no other.
 #[derive(Clone, Copy, Debug, PartialEq, Eq, Hash, Error)]
 #[error("out of memory")]

@@ -116,7 +116,7 @@ fn read_event(line: &[u8]) -> Result<Event, Cause>
 pub fn read_schedule(alloc: Global, text: &[u8]) -> Result<Vec<Event>, ReadFault>
     // The events are spelled by the text.
     ensures found { IfOk result (λ events. AreEvents events.items × Spells events.items text.now) }
-    // A spelled schedule is never refused but for memory.
+    // A spelled schedule fails only if memory runs out.
     ensures only { (events : List Event)
         → AreEvents events → Spells events text.now → ReadsAsSchedule result (Ok events) }
     // A refused text has events up to the line that is named.

@@ -18,7 +18,8 @@ opened_get start number (suc count) (suc k) less = opened_get start (number + 1)
     ∙ ap (λ n. Some (opened start n)) (omega arith)
 
 last_pushed : {X : Type 0} (xs : List X) (y : X) → slice_get (xs ++ y ∷ []) (length (xs ++ y ∷ []) - 1) ≡ Some y
-last_pushed xs y = search (rules, arith, length-append xs (y ∷ []), slice_get-get_or (xs ++ y ∷ []) (length xs) y, get_or_push xs y y)
+last_pushed xs y =
+    search (rules, arith, length-append xs (y ∷ []), slice_get-get_or (xs ++ y ∷ []) (length xs) y, get_or_push xs y y)
 
 module _ {E : Type 0} (Adds : Record → List E → Record → Type 0) where
   -- a job that adds its output, which is as it may be
@@ -31,15 +32,15 @@ module _ {E : Type 0} (Adds : Record → List E → Record → Type 0) where
 
     pub all_either : (a : Record) (mine : List ℕ) (b : Record) → DidAll (Does P) outputs a mine b ⊎ DidUntil (Does P)
         (Does Q) outputs a mine b → DidAll (Does Either) outputs a mine b
-    all_either = did_either (Does P) (Does Q) (Does Either) (λ n a o b it. (it.0, inl it.1))
-        (λ n a o b it. (it.0, inr it.1)) outputs
+    all_either = did_either _ _ _ (λ n a o b it. (it.0, inl it.1)) (λ n a o b it. (it.0, inr it.1)) _
 
     -- A worker did a job after another one only if that one had ended.
     in_turn : (a : Record) (mine : List ℕ) (b : Record) → DidAll (Does P) outputs a mine b
         ⊎ DidUntil (Does P) (Does Q) outputs a mine b → AllPairs
         (λ earlier later. P earlier (get_or outputs earlier [])) mine
     in_turn a mine b (inl did) = search (rules, held (Does P) P (λ n a o b it. it.1) outputs [] a mine b did)
-    in_turn a mine b (inr did) = grind (arith, common_steps, all_pairs_push, held (Does P) P (λ n a o b it. it.1) outputs [] a did.earlier did.between did.ended)
+    in_turn a mine b (inr did) = grind
+        (arith, common_steps, all_pairs_push, held (Does P) P (λ n a o b it. it.1) outputs [] a did.earlier did.between did.ended)
 
     module _ (ran : List (List ℕ)) (before after : List Record) where
       pub ended_by : length after ≡ length before → length ran ≡ length before
@@ -57,7 +58,13 @@ module _ {E : Type 0} (Adds : Record → List E → Record → Type 0) where
           × DidUntil (Does P) (Does Q) outputs a mine b) ⊎ Rest → ((worker : ℕ) × (mine : List ℕ) × (last : ℕ)
           × (slice_get ran worker ≡ Some mine) × (slice_get mine (length mine - 1) ≡ Some last)
           × Q last (get_or outputs last [])) ⊎ Rest
-      stopped_last Rest (inl (worker, mine, a, b, at, at_a, at_b, d)) = search (rules, d.numbers_are, last_pushed d.earlier d.last, get_or_from_slice_get outputs d.last d.stopped.0 [] d.stopped.1, d.stopped.2.1)
+      stopped_last Rest (inl (worker, mine, a, b, at, at_a, at_b, d)) = search (
+        rules,
+        d.numbers_are,
+        last_pushed d.earlier d.last,
+        get_or_from_slice_get outputs d.last d.stopped.0 [] d.stopped.1,
+        d.stopped.2.1,
+      )
       stopped_last Rest (inr rest) = inr rest
 
   module _ (nothing : (a : Record) → Adds a [] a) (joined : (a b c : Record) (xs ys : List E) → Adds a xs b
@@ -76,8 +83,12 @@ module _ {E : Type 0} (Adds : Record → List E → Record → Type 0) where
       pub added_at : (k : ℕ) (mine : List ℕ) → slice_get ran k ≡ Some mine → (r : Record)
           × (slice_get records k ≡ Some r) × Adds (opened start k) (flat_map (λ n. get_or outputs n []) mine) r
       added_at k mine at =
-          let r = at_within records k (search (rules, slice_get_within ran k mine at)) in
-          (r.0, r.1, added (opened start k) mine r.0 (did k mine (opened start k) r.0 at (search (rules, opened_get, slice_get_within ran k mine at)) r.1))
+          let r = at_within records k (search (rules, slice_get_within ran k mine at)) in (
+            r.0,
+            r.1,
+            added (opened start k) mine r.0
+                (did k mine (opened start k) r.0 at (search (rules, opened_get, slice_get_within ran k mine at)) r.1),
+          )
 
       -- the history has no calls of others
       pub ours : ((k : ℕ) (xs : List E) (r : Record) → Adds (opened start k) xs r

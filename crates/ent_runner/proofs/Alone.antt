@@ -21,13 +21,21 @@ rising_from a (x ∷ xs) rises least below =
 queues_in_order : (queues before after : List (List Command)) (n : ℕ) → queues ≡ before ++ after → n ≡ length before
     → commands_of queues (range_with_len n (length after)) ≡ flat_map (λ queue. queue) after
 queues_in_order queues before [] n is at = refl
-queues_in_order queues before (q ∷ after) n is at = search (rules, arith, get_or-append_seam, queues_in_order queues (before ++ q ∷ []) after (n + 1), append_assoc before (q ∷ []) after, length-append before (q ∷ []))
+queues_in_order queues before (q ∷ after) n is at = search (
+  rules,
+  arith,
+  get_or-append_seam,
+  queues_in_order queues (before ++ q ∷ []) after (n + 1),
+  append_assoc before (q ∷ []) after,
+  length-append before (q ∷ []),
+)
 
 -- the calls of a history whose callers are all the first one
 pub calls_back : (history : List Call) → All (λ (call : Call). call.caller < 1) history
     → map first_call (requests_by 0 history) ≡ history
 calls_back [] all = refl
-calls_back (call ∷ history) all = search (rules, eq-eqb, calls_back history (λ k d within. all (suc k) d (omega arith)), all 0 call (omega arith))
+calls_back (call ∷ history) all =
+    search (rules, eq-eqb, calls_back history (λ k d within. all (suc k) d (omega arith)), all 0 call (omega arith))
 
 module _ {S : Type 0} (may : S → View → List Command → Type 0) (systems : List S) (before : World)
     (queues : List (List Command)) where
@@ -37,12 +45,22 @@ module _ {S : Type 0} (may : S → View → List Command → Type 0) (systems : 
       let only = at_within frame.ran 0 (omega (arith, frame.each_worker)) in
       let mine : List ℕ = only.0 in
       let work = frame.work 0 mine only.1 in
-      let same : IsPermutation mine (range_with_len 0 (length systems)) = search (rules, alone frame.ran mine, only.1, frame.once, append-nil mine) in
+      let same : IsPermutation mine (range_with_len 0 (length systems)) =
+      search (rules, alone frame.ran mine, only.1, frame.once, append-nil mine) in
       let long = length_permutation mine (range_with_len 0 (length systems)) same in
       let count = length-range_with_len 0 (length systems) in
       let below = All-permutation (λ n. n < length systems) _ mine (IsPermutation-sym mine _ same) (all_below _) in
       let whole = rising_from 0 mine work.rising (search rules) (search (rules, below, long, count)) in
-      search (rules, calls_back history (rw one at frame.callers), work.calls, queues_in_order queues [] queues 0 refl refl, whole, long, count, frame.count)
+      search (
+        rules,
+        calls_back history (rw one at frame.callers),
+        work.calls,
+        queues_in_order queues [] queues 0 refl refl,
+        whole,
+        long,
+        count,
+        frame.count,
+      )
     where
       alone : (ran : List (List ℕ)) (mine : List ℕ) → length ran ≡ 1 → slice_get ran 0 ≡ Some mine
           → ran ≡ mine ∷ []

@@ -24,9 +24,12 @@ one_holder : (n : ℕ) (cs : List Claimer) → weight (is n) cs ≤ 1 → (j k :
     → j ≡ k
 one_holder n [] few j k (c, at, has) second = absurd (none-some c at)
 one_holder n (x ∷ cs) few zero zero first second = refl
-one_holder n (x ∷ cs) few zero (suc k) first second = grind (arith, common_steps, is n, held n (x ∷ cs) 0 first, held n cs k second)
-one_holder n (x ∷ cs) few (suc j) zero first second = grind (arith, common_steps, is n, held n (x ∷ cs) 0 second, held n cs j first)
-one_holder n (x ∷ cs) few (suc j) (suc k) first second = ap suc (one_holder n cs (grind (arith, common_steps, is n)) j k first second)
+one_holder n (x ∷ cs) few zero (suc k) first second =
+    grind (arith, common_steps, is n, held n (x ∷ cs) 0 first, held n cs k second)
+one_holder n (x ∷ cs) few (suc j) zero first second =
+    grind (arith, common_steps, is n, held n (x ∷ cs) 0 second, held n cs j first)
+one_holder n (x ∷ cs) few (suc j) (suc k) first second =
+    ap suc (one_holder n cs (grind (arith, common_steps, is n)) j k first second)
 
 holder : (n : ℕ) (cs : List Claimer) → 1 ≤ weight (is n) cs → (k : ℕ) × IsClaimedBy cs n k
 holder n [] some = absurd (omega arith)
@@ -43,7 +46,8 @@ all_claimed numbers claimed (c ∷ cs) some each ended = search (rules, All-head
 
 one_ended : (numbers claimed : ℕ) (cs : List Claimer) → All (IsClaimKept numbers claimed) (records_of cs)
     → (k : ℕ) (c : Claimer) → slice_get cs k ≡ Some c → c.own.ended ≡ true → claimed ≡ numbers
-one_ended numbers claimed cs each k c at ended = search (rules, each_of_all (IsClaimKept numbers claimed) (records_of cs) k c.own each, get_mapped (λ (c : Claimer). c.own) cs k c)
+one_ended numbers claimed cs each k c at ended = search
+    (rules, each_of_all (IsClaimKept numbers claimed) (records_of cs) k c.own each, get_mapped (λ (c : Claimer). c.own) cs k c)
 
 module _ (numbers workers : ℕ) (cs : List Claimer) (all : length cs ≡ workers)
     (closed : AreClaimsClosed numbers workers (records_of cs)) where
@@ -57,8 +61,10 @@ module _ (numbers workers : ℕ) (cs : List Claimer) (all : length cs ≡ worker
   apart n j k = one_holder n cs (omega (arith, weights (is n), (in_range n 0 closed.claimed).0)) j k
 
   pub claimed : 0 < workers → HaveEnded cs → (n : ℕ) → n < numbers → (k : ℕ) × IsClaimedBy cs n k
-  claimed some ended n below = search (rules, arith, all_claimed numbers closed.claimed cs, closed.each, holder n cs, weights (is n), in_range n 0 closed.claimed)
+  claimed some ended n below = search
+      (rules, arith, all_claimed numbers closed.claimed cs, closed.each, holder n cs, weights (is n), in_range n 0 closed.claimed)
 
   pub once : 0 < workers → HaveEnded cs → IsPermutation (flat_map (λ (c : Claimer). c.own.claims) cs)
       (range_with_len 0 numbers)
-  once some ended = search (rules, all_claimed numbers closed.claimed cs, closed.each, weigh_same, weight-flat_map, weights)
+  once some ended =
+      search (rules, all_claimed numbers closed.claimed cs, closed.each, weigh_same, weight-flat_map, weights)

@@ -45,13 +45,12 @@ pub use Rattle.ent_shared.specs.Order.{Respects, as_call, history_of, own_of_all
 pub use Rattle.ent_shared.specs.Phase.{Reserver, records_of}
 pub use Rattle.ent_shared.specs.Record.{opened, own_reservations}
 unfoldable pub use Rattle.ent_shared.specs.Record.{opened_records}
-pub use Rattle.ent_shared.specs.Seats.{GoesByRecords}
+pub use Rattle.ent_shared.specs.Holders.{GoesByRecords}
 pub use Rattle.ent_shared.specs.declared.record.Record.{Record}
 pub use Rattle.ent_shared.specs.declared.record.RecordEntry.TheVariants.{Own}
 pub use Rattle.ent_shared.specs.declared.record.Reservation.{Reservation}
-pub use Rattle.ent_world.proofs.Born.{get-with_born, no_entity}
+pub use Rattle.ent_world.proofs.Born.{get-with_born, no_entity, no_index}
 pub use Rattle.ent_world.proofs.GivenOnce.{history-sound}
-pub use Rattle.ent_world.proofs.Numbered.{no_index}
 pub use Rattle.ent_world.specs.OpenWorld.{OpenWorld, View, world_at_start}
 pub use Rattle.ent_world.specs.Rest.{HasStoppedSo}
 pub use Rattle.ent_world.specs.Sync.{IfStopped, IsStop, after_births, birth_in, handles_listed, listed_birth, ordinal, sync}
@@ -63,7 +62,7 @@ pub use lib.ListN.{get_elem?}
 pub use mathlib.Core.Logic.{dite}
 pub use mathlib.Core.Option.{some}
 pub use native.Mathlib.Decide.{ℕ_discrete}
-pub use Rattle.ent_runner.specs.Claims.{AreFirst, Claimer, Claims, IsClaimedBy, IsClaimerOf, IsClaimerSeated}
+pub use Rattle.ent_runner.specs.Claims.{AreFirst, Claimer, Claims, IsClaimedBy, IsClaimerOf, IsClaimerHolding}
 pub use Rattle.ent_runner.specs.Collecting.{outputs_put}
 pub use Rattle.ent_runner.specs.Crew.{AreBrokenOff, AreDone, Crew, DidAll, DidUntil, DoesAt, OfEach}
 pub use Rattle.ent_runner.specs.Frame.{Ends, EndsInOrder, IsBrokenOff, IsFrame, IsLost, IsWork, StopsAt, SystemMayHaveIssued, SystemMayIssue, calls_in_order, commands_of, first_call, queue_at, requests_by, reserved_by, view_of}

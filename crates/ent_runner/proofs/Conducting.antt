@@ -1,8 +1,7 @@
 -- What the workers of a crew have done together, once all of them are back.
-use Rattle.ent_runner.proofs.Common.{common_steps, rules, ◌≡◌, ℕ, ◌<◌, ◌≤◌, List, [], ◌∷◌, ◌++◌, length, map, get_or, refl, ap, sym, ◌∙◌, arith, Option, Some, None, false, Bool, take, drop, inl, inr, true, ◌⊎◌, Vec, Global, reverse, slice_get, replicate, IfSome, IfNone, Any, vec_capacity, All, AllPairs, flat_map, range_with_len, IsPermutation, cases_lt, slice_get_within, get_or_from_slice_get, slice_get-get_or, length-map, length-append, take-append-le, take_all, length-replicate, map-append, length-reverse, flat_map-map, All-permutation, IsPermutation-reverse, length_permutation, length-range_with_len, All-map, All-left, Claims, Claimer, AreFirst, IsClaimerOf, outputs_put, AreDone, AreBrokenOff, DidAll, DidUntil, Done, Worker, HasWorked, HaveAllWorked, HaveDoneFirst, HasClaimed, OfEach, IsUnused, IsRoomForOne, IsNewWorker, IsLostFor, numbers_of, all_done, IsRoom, All-right}
+use Rattle.ent_runner.proofs.Common.{common_steps, rules, ◌≡◌, ℕ, ◌<◌, ◌≤◌, List, [], ◌∷◌, ◌++◌, length, map, get_or, refl, ap, sym, ◌∙◌, arith, Option, Some, None, false, Bool, take, drop, inl, inr, true, ◌⊎◌, Vec, Global, reverse, slice_get, replicate, IfSome, IfNone, Any, vec_capacity, All, AllPairs, flat_map, range_with_len, IsPermutation, cases_lt, slice_get_within, get_or_from_slice_get, slice_get-get_or, length-map, length-append, take-append-le, take_all, length-replicate, map-append, length-reverse, flat_map-map, All-permutation, IsPermutation-reverse, length_permutation, length-range_with_len, All-map, All-left, Claims, Claimer, AreFirst, IsClaimerOf, outputs_put, AreDone, AreBrokenOff, DidAll, DidUntil, Done, Worker, HasWorked, HaveAllWorked, HaveDoneFirst, HasClaimed, OfEach, IsUnused, IsRoomForOne, IsLostFor, numbers_of, all_done, IsRoom, All-right}
 use Rattle.ent_runner.proofs.Lists.{of_mapped, each_of_all, mapped_at, same_flat, get_mapped, map_flat, at_within, flat_all}
-use Rattle.ent_runner.proofs.ByNumber.{length_put}
-use Rattle.ent_runner.proofs.Outputs.{full, left_out, long, outputs_at, unwrapped, kept_all}
+use Rattle.ent_runner.proofs.Outputs.{length_put, full, left_out, long, outputs_at, unwrapped, kept_all}
 
 -- a slice of the same length that was written back
 pub written_back : {X : Type 0} (n : ℕ) (old new : List X) → n ≡ length old → length new ≡ length old
@@ -18,13 +17,6 @@ some_weaker None follows p = tt
 some_weaker (Some x) follows p = follows x p
 
 module _ {O : Type 0} where
-  -- the workers are ready to begin
-  pub all_ready : (claims : Claims) (team : List (Worker O)) (fresh : List Claimer)
-      → map (λ (w : Worker O). w.claimer) team ≡ reverse fresh → All (IsClaimerOf claims) fresh → All IsUnused fresh
-      → All (λ (w : Worker O). IsRoomForOne w.done) team → All (λ (w : Worker O). IsClaimerOf claims w.claimer
-      × IsNewWorker w) team
-  all_ready claims team fresh claimers theirs unused empty = search (rules, All-permutation (λ c. IsClaimerOf claims c × IsUnused c) fresh (reverse fresh) (IsPermutation-reverse fresh), of_mapped (λ c. IsClaimerOf claims c × IsUnused c) (λ (w : Worker O). w.claimer) team)
-
   -- A crew is made: its claims are open, its workers are ready, and there is room for all outputs.
   pub room_of : (claims seen : Claims) (jobs workers : ℕ) (team : List (Worker O)) (fresh : List Claimer)
       (claimers : Vec Claimer Global) (by_number : List (Option O)) (outputs : Vec O Global) → claims ≡ seen
@@ -34,7 +26,14 @@ module _ {O : Type 0} where
       → by_number ≡ replicate jobs None → outputs.items ≡ [] → jobs ≤ vec_capacity outputs
       → IsRoom seen team claimers by_number outputs
   room_of claims seen jobs workers team fresh claimers by_number outputs same numbers many some count own unused theirs
-      empty none fits without outputs_none outputs_fit = search (rules, all_ready claims team fresh theirs own unused empty, length-map team (λ (w : Worker O). w.claimer), length-reverse fresh, ap length theirs)
+      empty none fits without outputs_none outputs_fit = search (
+        rules,
+        All-permutation (λ c. IsClaimerOf claims c × IsUnused c) fresh (reverse fresh) (IsPermutation-reverse fresh),
+        of_mapped (λ c. IsClaimerOf claims c × IsUnused c) (λ (w : Worker O). w.claimer) team,
+        length-map team (λ (w : Worker O). w.claimer),
+        length-reverse fresh,
+        ap length theirs,
+      )
 
   abbrev claimers_of : List (Worker O) → List Claimer
   claimers_of team = map (λ (w : Worker O). w.claimer) team
@@ -44,31 +43,52 @@ module _ {O : Type 0} where
     pub claimers_own : All (IsClaimerOf claims) (map (λ (w : Worker O). w.claimer) team)
     claimers_own = All-map (IsClaimerOf claims) _ team (λ k d within. (each k d within).claimer)
 
-    -- the jobs that they did are those that they claimed
-    pub did_claims : numbers_of (all_done team) ≡ flat_map (λ (c : Claimer). c.own.claims) (claimers_of team)
-    did_claims = search (rules, map_flat, same_flat, flat_map-map)
-
     -- each job has a number that there is
     pub numbers_below : All (λ (w : Worker O). All (λ (d : Done O). d.number < claims.numbers) w.done.items) team
-    numbers_below k w within = search (rules, of_mapped (λ n. n < claims.numbers) (λ (d : Done O). d.number) (get_or team k w).done.items, each k w within)
+    numbers_below k w within = search
+        (rules, of_mapped (λ n. n < claims.numbers) (λ (d : Done O). d.number) (get_or team k w).done.items, each k w within)
 
   -- A worker did a job, if some are left: else it had found none left.
   busy_all : (claims : Claims) (team : List (Worker O)) → All (HasClaimed claims) team → (claimers : List Claimer)
       → claimers ≡ map (λ (w : Worker O). w.claimer) team → (first : AreFirst claims.numbers claimers)
       → first.count < claims.numbers → All (λ (w : Worker O). 0 < length w.done.items) team
-  busy_all claims team each claimers theirs first less k d within = grind (arith, common_steps, each k d within, first.whole k (get_or team k d).claimer, get_mapped (λ (w : Worker O). w.claimer) team k _ (slice_get-get_or team k d within))
+  busy_all claims team each claimers theirs first less k d within = grind (
+    arith,
+    common_steps,
+    each k d within,
+    first.whole k (get_or team k d).claimer,
+    get_mapped (λ (w : Worker O). w.claimer) team k _ (slice_get-get_or team k d within),
+  )
 
   -- So some were done, if there are any.
   some_ran : (numbers count : ℕ) (team : List (Worker O)) → 0 < length team
       → IsPermutation (numbers_of (all_done team)) (range_with_len 0 count)
       → (count < numbers → All (λ (w : Worker O). 0 < length w.done.items) team) → 0 < numbers → 0 < count
   some_ran numbers count [] many once busy less = absurd (omega arith)
-  some_ran numbers count (w ∷ team) many once busy less = grind (arith, common_steps, length_permutation _ _ once, length-range_with_len, length-map, length-append, cases_lt count numbers, λ (left : count < numbers). busy left 0 w (omega arith))
+  some_ran numbers count (w ∷ team) many once busy less = grind (
+    arith,
+    common_steps,
+    length_permutation _ _ once,
+    length-range_with_len,
+    length-map,
+    length-append,
+    cases_lt count numbers,
+    λ (left : count < numbers). busy left 0 w (omega arith),
+  )
 
   pub first_closed : (claims : Claims) (team : List (Worker O)) → All (HasClaimed claims) team
       → (claimers : List Claimer) → claimers ≡ map (λ (w : Worker O). w.claimer) team → 0 < length team
       → AreFirst claims.numbers claimers → HaveDoneFirst claims.numbers team
-  first_closed claims team each claimers theirs many first = search (rules, did_claims claims team each, busy_all claims team each claimers theirs first, some_ran claims.numbers first.count team, first)
+  first_closed claims team each claimers theirs many first = search (
+    rules,
+    map_flat,
+    same_flat,
+    flat_map-map,
+    busy_all claims team each claimers theirs first,
+    some_ran claims.numbers first.count team,
+    first,
+    each,
+  )
 
   abbrev no_output : Option O
   no_output = None
@@ -79,12 +99,31 @@ module _ {O : Type 0} where
   module _ (numbers : ℕ) (team : List (Worker O)) (first : HaveDoneFirst numbers team) where
     -- if each job has an output, all were done
     pub all_ran : (outputs : List O) → map Some outputs ≡ by_number numbers team → first.count ≡ numbers
-    all_ran outputs each = search (rules, arith, cases_lt first.count numbers, first.within, left_out first.count (all_done team) first.once numbers first.count no_output, slice_get-get_or (by_number numbers team) first.count no_output, length_put, length-replicate, mapped_at Some outputs first.count no_output)
+    all_ran outputs each = search (
+      rules,
+      arith,
+      cases_lt first.count numbers,
+      first.within,
+      left_out first.count (all_done team) first.once numbers first.count no_output,
+      slice_get-get_or (by_number numbers team) first.count no_output,
+      length_put,
+      length-replicate,
+      mapped_at Some outputs first.count no_output,
+    )
 
     -- if one lacks it, some are left
     pub some_left : Any (λ (output : Option O). output ≡ None) (by_number numbers team)
         → length (all_done team) < numbers
-    some_left (k, output, within, at, none) = search (rules, arith, length_permutation _ _ first.once, length-range_with_len 0 first.count, length-map (all_done team) (λ (d : Done O). d.number), cases_lt first.count numbers, first.within, full first.count (all_done team) first.once k output)
+    some_left (k, output, within, at, none) = search (
+      rules,
+      arith,
+      length_permutation _ _ first.once,
+      length-range_with_len 0 first.count,
+      length-map (all_done team) (λ (d : Done O). d.number),
+      cases_lt first.count numbers,
+      first.within,
+      full first.count (all_done team) first.once k output,
+    )
 
   -- the outputs by number after all were put in, as they are written back
   pub outputs_back : (count n : ℕ) (done : List (Done O)) (start new : List (Option O)) → start ≡ replicate count None
@@ -119,7 +158,8 @@ module _ {O : Type 0} where
     ran_flat = search (rules, flat_map-map, map_flat)
 
     rising : All (AllPairs (λ m n. m < n)) ran
-    rising = All-map (AllPairs (λ m n. m < n)) (λ (w : Worker O). numbers_of w.done.items) team (search (rules, all_claimed))
+    rising =
+        All-map (AllPairs (λ m n. m < n)) (λ (w : Worker O). numbers_of w.done.items) team (search (rules, all_claimed))
 
     long_ran : length ran ≡ length before
     long_ran = length-map team _ ∙ worked.count
@@ -128,7 +168,11 @@ module _ {O : Type 0} where
         (k : ℕ) (w : Worker O) (a b : L) (at_w : slice_get team k ≡ Some w) (at_a : slice_get before k ≡ Some a)
         (at_b : slice_get after k ≡ Some b) where
       own_at : All (λ (d : Done O). slice_get outputs d.number ≡ Some d.output) w.done.items
-      own_at = search (rules, each_of_all (λ (w : Worker O). All (λ (d : Done O). slice_get outputs d.number ≡ Some d.output) w.done.items) team k w, flat_all (λ (d : Done O). slice_get outputs d.number ≡ Some d.output) (λ (w : Worker O). w.done.items) team)
+      own_at = search (
+        rules,
+        each_of_all (λ (w : Worker O). All (λ (d : Done O). slice_get outputs d.number ≡ Some d.output) w.done.items) team k w,
+        flat_all (λ (d : Done O). slice_get outputs d.number ≡ Some d.output) (λ (w : Worker O). w.done.items) team,
+      )
 
       ended_by : w.stopped ≡ false → DidAll may outputs a (numbers_of w.done.items) b
       ended_by going = kept_all may outputs a w.done.items b own_at ((worked_at k w a b at_w at_a at_b).ended going)
@@ -138,7 +182,15 @@ module _ {O : Type 0} where
       stopped_by stopped =
           let At : Done O → Type 0 = λ (d : Done O). slice_get outputs d.number ≡ Some d.output in
           let s = (worked_at k w a b at_w at_a at_b).stopped stopped in
-          search (rules, s, own_at, kept_all may outputs a s.earlier s.between, All-left At s.earlier (s.last ∷ []), All-right At s.earlier (s.last ∷ []), map-append)
+          search (
+            rules,
+            s,
+            own_at,
+            kept_all may outputs a s.earlier s.between,
+            All-left At s.earlier (s.last ∷ []),
+            All-right At s.earlier (s.last ∷ []),
+            map-append,
+          )
 
       either_by : (stopped : Bool) → w.stopped ≡ stopped → DidAll may outputs a (numbers_of w.done.items) b
           ⊎ DidUntil may leave outputs a (numbers_of w.done.items) b
@@ -155,7 +207,8 @@ module _ {O : Type 0} where
         let ended = ended_by outputs (outputs_at claims.numbers (all_done team) once outputs each) in
         let did : OfEach ran before after (λ mine a b. DidAll may outputs a mine b) = λ k mine a b is at_a at_b.
         let w = mapped_at _ team k mine is in
-        rw (sym w.2) (ended k w.0 a b w.1 at_a at_b (search (rules, going, each_of_all (λ (w : Worker O). w.stopped ≡ false) team k w.0))) in
+        rw (sym w.2) (ended k w.0 a b w.1 at_a at_b (search
+        (rules, going, each_of_all (λ (w : Worker O). w.stopped ≡ false) team k w.0))) in
         search (rules, long_ran, rising, ran_flat, once, long claims.numbers (all_done team) once outputs each, did)
 
     pub are_broken_off : HaveDoneFirst claims.numbers team → IsLostFor claims.numbers team
@@ -163,21 +216,23 @@ module _ {O : Type 0} where
     are_broken_off first lost =
         let there = unwrapped (by_number first.count team) (full first.count (all_done team) first.once) in
         let at = outputs_at first.count (all_done team) first.once there.0 there.1 in
-        record {
-          ran = ran;
-          each_worker = long_ran;
-          count = first.count;
-          within = first.within;
-          some = first.some;
-          once = rw ran_flat first.once;
-          rising = rising;
-          outputs = there.0;
-          each_output = long first.count (all_done team) first.once there.0 there.1;
-          did = λ k mine a b is at_a at_b. let w = mapped_at (λ (w : Worker O). numbers_of w.done.items) team k mine is in
-              rw (sym w.2) (either_by there.0 at k w.0 a b w.1 at_a at_b w.0.stopped refl);
-          why = why first there.0 at lost;
-          busy = λ less. All-map (λ mine. 0 < length mine) (λ (w : Worker O). numbers_of w.done.items) team (search (rules, first.busy, length-map));
-        }
+        let did : OfEach ran before after (λ mine a b. DidAll may there.0 a mine b
+        ⊎ DidUntil may leave there.0 a mine b) = λ k mine a b is at_a at_b.
+        let w = mapped_at (λ (w : Worker O). numbers_of w.done.items) team k mine is in
+        rw (sym w.2) (either_by there.0 at k w.0 a b w.1 at_a at_b w.0.stopped refl) in
+        let busy = λ (less : first.count < claims.numbers). All-map (λ mine. 0 < length mine)
+        (λ (w : Worker O). numbers_of w.done.items) team (search (rules, first.busy, length-map)) in
+        search (
+          rules,
+          long_ran,
+          first,
+          rising,
+          ran_flat,
+          long first.count (all_done team) first.once there.0 there.1,
+          did,
+          why first there.0 at lost,
+          busy,
+        )
       where
         why : (first : HaveDoneFirst claims.numbers team) (outputs : List O)
             → All (λ (d : Done O). slice_get outputs d.number ≡ Some d.output) (all_done team)
@@ -190,7 +245,8 @@ module _ {O : Type 0} where
             let b = at_within after k (omega (arith, worked.lent, worked.count)) in
             let mine = get_mapped (λ (w : Worker O). numbers_of w.done.items) team k w at_w in
             inl (k, _, a.0, b.0, mine, a.1, b.1, stopped_by outputs at k w a.0 b.0 at_w a.1 b.1 stopped)
-        why first outputs at (inr less) = inr (search (rules, length_permutation _ _ first.once, length-range_with_len 0 first.count, length-map))
+        why first outputs at (inr less) =
+            inr (search (rules, length_permutation _ _ first.once, length-range_with_len 0 first.count, length-map))
 
     -- what comes of these outputs, by number, where they are collected
     module _ (first : HaveDoneFirst claims.numbers team) (got : Option (Vec O Global)) (was : List (Option O))
@@ -201,7 +257,8 @@ module _ {O : Type 0} where
 
       pub lost_of : IfNone got (Any (λ (output : Option O). output ≡ None) was)
           → IfNone got (AreBrokenOff may leave claims.numbers before after)
-      lost_of lacks = none_weaker got (λ lacking. are_broken_off first (inr (search (rules, some_left claims.numbers team first)))) lacks
+      lost_of lacks = none_weaker got (λ lacking. are_broken_off first (inr (search
+          (rules, some_left claims.numbers team first)))) lacks
 
     -- a worker that has stopped has done a job
     pub some_jobs : IsLostFor claims.numbers team → 0 < claims.numbers

@@ -11,15 +11,11 @@ is_same n m e = ap (λ (b : Bool). cond {A = ℕ} b 1 0) (eq-eqb m n e)
 is_other : (n m : ℕ) → (m ≡ n → ⊥) → is n m ≡ 0
 is_other n m ne = ap (λ (b : Bool). cond {A = ℕ} b 1 0) (ne_eqb m n ne)
 
-pub found_in : (n : ℕ) (xs : List ℕ) → Contains xs n → 1 ≤ sum_by (is n) xs
-found_in n [] at = absurd (let none = at.1 in omega arith)
-found_in n (x ∷ xs) (zero, within, at) = search (rules, sum_by-cons, is_same)
-found_in n (x ∷ xs) (suc k, within, at) = search (rules, sum_by-cons, found_in n xs (k, omega arith, at))
-
 pub inside : (n : ℕ) (xs : List ℕ) → 1 ≤ sum_by (is n) xs → Contains xs n
 inside n [] some = absurd (omega arith)
 inside n (x ∷ xs) some = dite (ℕ_discrete x n) (λ same. (0, omega arith, same)) (λ other.
-    let rest = inside n xs (search (rules, sum_by-cons, is_other n x other)) in (suc rest.0, omega (arith, rest.1), rest.2))
+    let rest = inside n xs (search (rules, sum_by-cons, is_other n x other)) in
+    (suc rest.0, omega (arith, rest.1), rest.2))
 
 -- how often a number stands among those from low on
 pub in_range : (n low many : ℕ) → (sum_by (is n) (range_with_len low many) ≤ 1)
@@ -27,7 +23,8 @@ pub in_range : (n low many : ℕ) → (sum_by (is n) (range_with_len low many) �
     × (low ≤ n → n < low + many → 1 ≤ sum_by (is n) (range_with_len low many))
     × (low + many ≤ n → sum_by (is n) (range_with_len low many) ≡ 0)
 in_range n low zero = (omega arith, λ _. refl, λ le lt. absurd (omega arith), λ _. refl)
-in_range n low (suc many) = grind (arith, common_steps, in_range n (low + 1) many, sum_by-cons, dite, ℕ_discrete, is_same, is_other)
+in_range n low (suc many) =
+    grind (arith, common_steps, in_range n (low + 1) many, sum_by-cons, dite, ℕ_discrete, is_same, is_other)
 
 nothing_in : (xs : List ℕ) → sum_by (λ (_ : ℕ). 1) xs ≡ 0 → xs ≡ []
 nothing_in [] e = refl

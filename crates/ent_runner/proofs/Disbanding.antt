@@ -1,6 +1,6 @@
 -- Workers are taken apart, one after the other.
 use Rattle.ent_runner.proofs.Common.{rules, ◌≡◌, ◌<◌, List, [], ◌∷◌, ◌++◌, length, map, Option, append_assoc, arith, All, flat_map, map-append, All-rest, Done, Worker, outputs_put}
-use Rattle.ent_runner.proofs.ByNumber.{put_both, length_put}
+use Rattle.ent_runner.proofs.Outputs.{put_both, length_put}
 
 module _ {O : Type 0} where
   abbrev Inside : List (Option O) → Worker O → Type 0
@@ -20,7 +20,8 @@ module _ {O : Type 0} where
       → old ≡ w ∷ rest → yielded ++ old ≡ workers → next ≡ outputs_put w.done.items by_number
       → All (λ (w : Worker O). All (λ (d : Done O). d.number < length by_number) w.done.items) old
       → Disbanded workers yielded rest w by_number next
-  disbanded_on workers yielded old rest w by_number next front all put inside = search (rules, append_assoc, put_both, length_put, All-rest (Inside by_number) w rest old front inside)
+  disbanded_on workers yielded old rest w by_number next front all put inside =
+      search (rules, append_assoc, put_both, length_put, All-rest (Inside by_number) w rest old front inside)
 
   -- its outputs have numbers of jobs
   pub inside_first : (old rest : List (Worker O)) (w : Worker O) (by_number : List (Option O)) → old ≡ w ∷ rest

@@ -1,12 +1,19 @@
--- What a relation says of the output of a job alone holds of each output.
-use Rattle.ent_runner.proofs.Common.{rules, All, get_or, slice_get, [], List, Some, inl, inr, length, ℕ, ◌<◌, ◌∷◌, ◌≡◌, ◌⊎◌, FoldsTo-push, All-cons, All-nil, get_or-range_with_len, length-range_with_len, All-permutation, get_or_from_slice_get, slice_get_within, flat_map, range_with_len, IsPermutation, AreBrokenOff, AreDone, DidAll, DidUntil, DoesAt, OfEach}
-use Rattle.ent_runner.proofs.Lists.{at_within, all_flat, all_from_each}
+-- What a relation says of the output of a job alone holds of each output. What jobs did with what was lent to them,
+-- seen by one part of it.
+use Rattle.ent_runner.proofs.Common.{rules, All, get_or, slice_get, [], List, Some, inl, inr, length, ℕ, ◌<◌, ◌∷◌, ◌≡◌, ◌⊎◌, FoldsTo-push, All-cons, All-nil, get_or-range_with_len, length-range_with_len, All-permutation, get_or_from_slice_get, slice_get_within, flat_map, range_with_len, IsPermutation, AreBrokenOff, AreDone, DidAll, DidUntil, DoesAt, OfEach, map, ap, sym, ◌∙◌, ⊎_elim, length-map}
+use Rattle.ent_runner.proofs.Lists.{at_within, all_flat, all_from_each, mapped_at, get_mapped}
 
 -- what holds of the jobs of each worker, holds of each job
 pub everywhere : (P : ℕ → Type 0) (total : ℕ) (ran : List (List ℕ))
     → IsPermutation (flat_map (λ mine. mine) ran) (range_with_len 0 total)
     → ((k : ℕ) (mine : List ℕ) → slice_get ran k ≡ Some mine → All P mine) → (n : ℕ) → n < total → P n
-everywhere P total ran once each n less = search (rules, all_flat P (λ mine. mine) ran (all_from_each (λ mine. All P mine) ran each), All-permutation P (flat_map (λ mine. mine) ran) (range_with_len 0 total) once, get_or-range_with_len 0 total n 0, length-range_with_len 0 total)
+everywhere P total ran once each n less = search (
+  rules,
+  all_flat P (λ mine. mine) ran (all_from_each (λ mine. All P mine) ran each),
+  All-permutation P (flat_map (λ mine. mine) ran) (range_with_len 0 total) once,
+  get_or-range_with_len 0 total n 0,
+  length-range_with_len 0 total,
+)
 
 -- it holds of the output of this job
 abbrev pub HoldsAt : {O : Type 0} → (ℕ → O → Type 0) → List O → ℕ → Type 0
@@ -24,14 +31,22 @@ module _ {O L : Type 0} where
     pub did_either : (a : L) (mine : List ℕ) (b : L) → DidAll may outputs a mine b ⊎ DidUntil may leave outputs a mine b
         → DidAll either outputs a mine b
     did_either a mine b (inl did) = all_ended a mine b did
-    did_either a mine b (inr did) = search (rules, did.numbers_are, FoldsTo-push (DoesAt either outputs) a did.earlier did.between did.last b (all_ended a did.earlier did.between did.ended), did.stopped, stopped did.last did.between)
+    did_either a mine b (inr did) = search (
+      rules,
+      did.numbers_are,
+      FoldsTo-push (DoesAt either outputs) a did.earlier did.between did.last b
+          (all_ended a did.earlier did.between did.ended),
+      did.stopped,
+      stopped did.last did.between,
+    )
 
   -- what a job ensures of its number and its output
   module _ (may : ℕ → L → O → L → Type 0) (P : ℕ → O → Type 0) (holds : (n : ℕ) (a : L) (o : O) (b : L) → may n a o b
       → P n o) (outputs : List O) (d : O) where
     pub held : (a : L) (mine : List ℕ) (b : L) → DidAll may outputs a mine b → All (λ n. P n (get_or outputs n d)) mine
     held a [] b did = All-nil (λ n. P n (get_or outputs n d))
-    held a (n ∷ mine) b (j, (o, at, does), rest) = search (rules, All-cons, get_or_from_slice_get outputs n o d at, holds n a o j does, held j mine b rest)
+    held a (n ∷ mine) b (j, (o, at, does), rest) =
+        search (rules, All-cons, get_or_from_slice_get outputs n o d at, holds n a o j does, held j mine b rest)
 
     pub each_held : (jobs : ℕ) (before after : List L) (ran : List (List ℕ)) → length ran ≡ length before
         → length after ≡ length before → IsPermutation (flat_map (λ mine. mine) ran) (range_with_len 0 jobs)
@@ -49,9 +64,57 @@ module _ {O L : Type 0} where
   pub each_done : (P : ℕ → O → Type 0) (jobs : ℕ) (before : List L) (outputs : List O) (after : List L)
       → length after ≡ length before → AreDone (Alone P) jobs before outputs after → (n : ℕ) → n < jobs
       → HoldsAt P outputs n
-  each_done P jobs before outputs after same done n less output at = search (rules, get_or_from_slice_get outputs n output output at, each_held (Alone P) P (λ n a o b it. it) outputs output jobs before after done.ran done.each_worker same done.once done.did n less)
+  each_done P jobs before outputs after same done n less output at = search (
+    rules,
+    get_or_from_slice_get outputs n output output at,
+    each_held (Alone P) P (λ n a o b it. it) outputs output jobs before after done.ran done.each_worker same done.once
+        done.did n less,
+  )
 
   pub each_either : (P Q : ℕ → O → Type 0) (jobs : ℕ) (before after : List L) → length after ≡ length before
       → (done : AreBrokenOff (Alone P) (Alone Q) jobs before after) → (n : ℕ) → n < done.count
       → HoldsAt (λ m output. P m output ⊎ Q m output) done.outputs n
-  each_either P Q jobs before after same done n less output at = search (rules, get_or_from_slice_get done.outputs n output output at, each_held (Alone (λ m o. P m o ⊎ Q m o)) (λ m o. P m o ⊎ Q m o) (λ n a o b it. it) done.outputs output done.count before after done.ran done.each_worker same done.once (λ k mine a b m x y. did_either (Alone P) (Alone Q) (Alone (λ m o. P m o ⊎ Q m o)) (λ n a o b it. inl it) (λ n a o b it. inr it) done.outputs a mine b (done.did k mine a b m x y)) n less)
+  each_either P Q jobs before after same done n less output at = search (
+    rules,
+    get_or_from_slice_get done.outputs n output output at,
+    each_held (Alone (λ m o. P m o ⊎ Q m o)) (λ m o. P m o ⊎ Q m o) (λ n a o b it. it) done.outputs output done.count
+        before after done.ran done.each_worker same done.once
+        (λ k mine a b m x y. did_either (Alone P) (Alone Q) (Alone (λ m o. P m o ⊎ Q m o)) (λ n a o b it. inl it)
+        (λ n a o b it. inr it) done.outputs a mine b (done.did k mine a b m x y)) n less,
+  )
+
+module _ {O L K : Type 0} (f : L → K) (may leave : ℕ → K → O → K → Type 0) where
+  abbrev Of : (ℕ → K → O → K → Type 0) → ℕ → L → O → L → Type 0
+  Of may number before output after = may number (f before) output (f after)
+
+  did_seen : (outputs : List O) (mine : List ℕ) (a b : L) → DidAll (Of may) outputs a mine b
+      → DidAll may outputs (f a) mine (f b)
+  did_seen outputs [] a b same = ap f same
+  did_seen outputs (n ∷ mine) a b (j, did, rest) = (f j, did, did_seen outputs mine j b rest)
+
+  until_seen : (outputs : List O) (mine : List ℕ) (a b : L) → DidUntil (Of may) (Of leave) outputs a mine b
+      → DidUntil may leave outputs (f a) mine (f b)
+  until_seen outputs mine a b did = search (rules, did_seen)
+
+  pub done_seen : (jobs : ℕ) (before : List L) (outputs : List O) (after : List L)
+      → AreDone (Of may) jobs before outputs after → AreDone may jobs (map f before) outputs (map f after)
+  done_seen jobs before outputs after done = search (rules, length-map, mapped_at, did_seen)
+
+  pub broken_off_seen : (jobs : ℕ) (before after : List L) → AreBrokenOff (Of may) (Of leave) jobs before after
+      → AreBrokenOff may leave jobs (map f before) (map f after)
+  broken_off_seen jobs before after done = record {
+    ran = done.ran;
+    each_worker = done.each_worker ∙ sym (length-map before f);
+    count = done.count;
+    within = done.within;
+    some = done.some;
+    once = done.once;
+    rising = done.rising;
+    outputs = done.outputs;
+    each_output = done.each_output;
+    did = λ worker mine a b at at_a at_b. search
+        (rules, done.did worker mine, mapped_at, did_seen done.outputs mine, until_seen done.outputs mine);
+    why = ⊎_elim (λ s. inl (search
+        (rules, s, get_mapped f before s.0 s.2 s.5, get_mapped f after s.0 s.3 s.6, until_seen done.outputs s.1 s.2 s.3 s.7))) inr done.why;
+    busy = done.busy;
+  }

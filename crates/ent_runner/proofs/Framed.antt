@@ -1,7 +1,22 @@
 -- What a crew did whose jobs are the systems of a frame, and the history of its reservers, are a frame.
-use Rattle.ent_runner.proofs.Common.{All, slice_get, List, Some, length, map, rules, ℕ, ◌<◌, ◌∙◌, ◌≡◌, slice_get_within, AllPairs, flat_map, range_with_len, IsPermutation, Call, IsLegal, gains_nothing, gains_then, Command, Gains, Respects, history_of, reservations_by, reservations_of, opened_records, Record, Reservation, View, World, some, AreBrokenOff, AreDone, DidAll, OfEach, IsBrokenOff, IsFrame, IsWork, SystemMayHaveIssued, SystemMayIssue, queue_at, requests_by, view_of, sym}
+-- What a frame leaves if no queue was applied.
+use Rattle.ent_runner.proofs.Common.{rules, ◌≡◌, ℕ, List, get_or, Ok, Err, OnOk, OnErr, get_or_from_slice_get, Record, Command, Gains, View, SystemMayIssue, Result, All, slice_get, Some, length, map, ◌<◌, ◌∙◌, slice_get_within, AllPairs, flat_map, range_with_len, IsPermutation, Call, IsLegal, gains_nothing, gains_then, Respects, history_of, reservations_by, reservations_of, opened_records, Reservation, World, some, AreBrokenOff, AreDone, DidAll, OfEach, IsBrokenOff, IsFrame, IsWork, SystemMayHaveIssued, queue_at, requests_by, view_of, sym, Option, Vec, Global, ap, IfSome, IfNone, drop_of_length-le, IsSound, after_history, after_takes-sound, available-after_takes, limits-after_takes, live-after_takes, made-after_takes, length-taken, after_history-takes, OpenWorld, world_at_start, IsLost, reserved_by, None}
 use Rattle.ent_runner.proofs.Lists.{each_of_all, filter_map_is, map_map_is}
 use Rattle.ent_runner.proofs.Adding.{own_mapped, all_either, ended_by, stopped_last, added_at, ours, each_may}
+use Rattle.ent_runner.proofs.Conducting.{none_weaker, some_weaker}
+
+module _ {S A E : Type 0} (may : S → View → List Command → Type 0) (systems : List S) (view : View) (n : ℕ) (d : S)
+    (a b : Record) (queue finished : List Command) (same : finished ≡ queue) (gains : Gains a finished b) where
+  -- if it ended, and if it stopped
+  pub issued_ok : (r : Result A E) → OnOk r (may (get_or systems n d) view queue)
+      → OnOk r (Gains a finished b × SystemMayIssue may systems view n finished)
+  issued_ok (Ok x) ran = (gains, λ system at. search (rules, get_or_from_slice_get))
+  issued_ok (Err e) ran = tt
+
+  pub issued_err : (r : Result A E) → OnErr r (may (get_or systems n d) view queue)
+      → OnErr r (Gains a finished b × SystemMayIssue may systems view n finished)
+  issued_err (Ok x) ran = tt
+  issued_err (Err e) ran = (gains, λ system at. search (rules, get_or_from_slice_get))
 
 -- the calls of one caller in the history
 by_caller : (k : ℕ) (records : List Record) → requests_by k (history_of records)
@@ -27,7 +42,14 @@ module _ (before : World) (workers : ℕ) (opens records : List Record)
         let r = added_at Gains gains_nothing gains_then P queues before.allocator workers opens records opened_are many
         long ran teams did k mine at in
         let own = each_of_all (Respects (reservations_of records)) records k r.0 respects r.1 in
-        search (rules, each_of_all (AllPairs (λ m n. m < n)) ran k mine rising at, by_caller k records, own.own, own_mapped r.2.reservations, r.2)
+        search (
+          rules,
+          each_of_all (AllPairs (λ m n. m < n)) ran k mine rising at,
+          by_caller k records,
+          own.own,
+          own_mapped r.2.reservations,
+          r.2,
+        )
 
     callers : All (λ (call : Call). call.caller < workers) (history_of records)
     callers = ours Gains gains_nothing gains_then P queues before.allocator workers opens records opened_are many long
@@ -35,8 +57,7 @@ module _ (before : World) (workers : ℕ) (opens records : List Record)
 
     each_issues : (jobs : ℕ) → IsPermutation (flat_map (λ mine. mine) ran) (range_with_len 0 jobs) → (n : ℕ) → n < jobs
         → P n (queue_at queues n)
-    each_issues = each_may Gains gains_nothing gains_then P queues before.allocator workers opens records opened_are
-        many long ran teams did
+    each_issues = each_may _ gains_nothing gains_then P _ before.allocator _ _ _ opened_are many long ran teams did
 
   module _ {S : Type 0} (may : S → View → List Command → Type 0) (systems : List S) where
     abbrev May : ℕ → List Command → Type 0
@@ -44,7 +65,16 @@ module _ (before : World) (workers : ℕ) (opens records : List Record)
 
     pub frame_is : (queues : List (List Command)) → AreDone (Issues may systems (view_of before)) (length systems) opens
         queues records → IsFrame may systems workers before queues (history_of records)
-    frame_is queues done = search (rules, legal, callers May queues done.ran done.each_worker done.did, done, many, worked May queues done.ran done.each_worker done.did done.rising, each_issues May queues done.ran done.each_worker done.did (length systems) done.once, slice_get_within)
+    frame_is queues done = search (
+      rules,
+      legal,
+      callers May queues done.ran done.each_worker done.did,
+      done,
+      many,
+      worked May queues done.ran done.each_worker done.did done.rising,
+      each_issues May queues done.ran done.each_worker done.did (length systems) done.once,
+      slice_get_within,
+    )
 
     pub broken_off : (leave : S → View → List Command → Type 0) → AreBrokenOff (Issues may systems (view_of before))
         (Issues leave systems (view_of before)) (length systems) opens records
@@ -53,11 +83,84 @@ module _ (before : World) (workers : ℕ) (opens records : List Record)
         let Leave : ℕ → List Command → Type 0 = λ n queue. SystemMayIssue leave systems (view_of before) n queue in
         let Left : ℕ → List Command → Type 0 = SystemMayHaveIssued may leave systems (view_of before) in
         let did : OfEach done.ran opens records (λ mine a b. DidAll (λ n before queue after. Gains before queue after
-        × Left n queue) done.outputs a mine b) = λ k mine a b at at_a at_b. all_either Gains May Leave done.outputs a mine b
+        × Left n queue) done.outputs a mine b) =
+        λ k mine a b at at_a at_b. all_either Gains May Leave done.outputs a mine b
         (done.did k mine a b at at_a at_b) in
         let own = callers Left done.outputs done.ran done.each_worker did in
         let each = each_issues Left done.outputs done.ran done.each_worker did done.count done.once in
         let work = worked Left done.outputs done.ran done.each_worker did done.rising in
-        let ended = ended_by Gains May Leave done.outputs done.ran opens records (long ∙ sym many) done.each_worker done.did in
-        let why = stopped_last Gains May Leave done.outputs done.ran opens records (done.count < length systems) done.why in
-        search (rules, legal, many, own, each, work, ended, why, done.within, done.some, done.once, done.each_output, done.busy, done.each_worker)
+        let ended =
+        ended_by Gains May Leave done.outputs done.ran opens records (long ∙ sym many) done.each_worker done.did in
+        let why =
+        stopped_last Gains May Leave done.outputs done.ran opens records (done.count < length systems) done.why in
+        search (
+          rules,
+          legal,
+          many,
+          own,
+          each,
+          work,
+          ended,
+          why,
+          done.within,
+          done.some,
+          done.once,
+          done.each_output,
+          done.busy,
+          done.each_worker,
+        )
+
+pub is_lost : (before w : World) (history : List Call) → IsSound before.allocator → before.allocator.asked ≡ 0
+    → w ≡ reserved_by history before → IsLost before w
+is_lost before w history sound flushed changed = search (
+  rules,
+  after_history-takes,
+  after_takes-sound,
+  available-after_takes,
+  sound.pool,
+  limits-after_takes,
+  live-after_takes,
+  made-after_takes,
+  length-taken,
+  drop_of_length-le,
+)
+
+-- What is known of a world that was opened and closed again, and of the queues, if there are any.
+abbrev pub ClosedAgain : {S : Type 0} → (S → View → List Command → Type 0) → (S → View → List Command → Type 0) → List S
+    → OpenWorld → World → Option (Vec (List Command) Global) → Type 0
+ClosedAgain may leave systems world after got = (history : List Call)
+    × IfNone got (IsBrokenOff may leave systems world.shared.count (world_at_start world) history)
+    × (after ≡ reserved_by history (world_at_start world)) × IfSome got (λ q. IsFrame may systems world.shared.count
+    (world_at_start world) q.items history)
+
+pub view_is : (world : OpenWorld) (view : View) → view.phase ≡ world.phase → view.entities ≡ world.entities
+    → view ≡ view_of (world_at_start world)
+view_is world view phase entities = (λ i. record { phase = phase i; entities = entities i })
+
+-- The crew has worked, and the world was closed: so it is closed again.
+pub closed_again : {S : Type 0} (may leave : S → View → List Command → Type 0) (systems : List S) (world : OpenWorld)
+    (after : World) (got : Option (Vec (List Command) Global)) (opens records : List Record) (jobs : ℕ) (view : View)
+    → jobs ≡ length systems → view ≡ view_of (world_at_start world)
+    → opens ≡ opened_records world.shared.start 0 world.shared.count → length opens ≡ world.shared.count
+    → length records ≡ world.shared.count → IfSome got (λ q. AreDone (Issues may systems view) jobs opens q.items
+    records) → IfNone got (AreBrokenOff (Issues may systems view) (Issues leave systems view) jobs opens records)
+    → after.phase ≡ world.phase → after.entities ≡ world.entities → after.allocator ≡ after_history world.shared.start
+    (history_of records) → IsLegal world.shared.start (history_of records)
+    → All (Respects (reservations_of records)) records → ClosedAgain may leave systems world after got
+closed_again may leave systems world after got opens records jobs view all seen opened many long done lost phase
+    entities allocator legal respects = search (rules, none_weaker, broken_off, some_weaker, frame_is)
+
+module _ {S : Type 0} (may leave : S → View → List Command → Type 0) (systems : List S)
+    (before after : World) (world : OpenWorld) (got : Option (Vec (List Command) Global))
+    (same : world_at_start world ≡ before) (closed : ClosedAgain may leave systems world after got)
+  where
+    abbrev changed : after ≡ reserved_by closed.0 before
+    changed = closed.2 ∙ ap (reserved_by closed.0) same
+
+    pub lost_again : IsSound world.shared.start → before.allocator.asked ≡ 0 → IsLost before after
+    lost_again sound flushed = search (rules, is_lost before after closed.0, changed)
+
+    pub broken_again : (workers : ℕ) → world.shared.count ≡ workers → got ≡ None
+        → (history : List Call) × IsBrokenOff may leave systems workers before history
+        × (after ≡ reserved_by history before)
+    broken_again workers count none = search (rules, closed, changed)

@@ -33,7 +33,7 @@ module _ {X Y : Type 0} (f : X → List Y) where
       (IsPermutation-refl (flat_map f xs)) (search (rules, IsPermutation-trans, flat_swap)) ys moved
 
 -- a list of lists of lists
-flat_flat : {X Y Z : Type 0} (g : Y → List Z) (f : X → List Y) (xs : List X)
+pub flat_flat : {X Y Z : Type 0} (g : Y → List Z) (f : X → List Y) (xs : List X)
     → flat_map g (flat_map f xs) ≡ flat_map (λ x. flat_map g (f x)) xs
 flat_flat g f [] = refl
 flat_flat g f (x ∷ xs) = grind (arith, common_steps, flat_flat g f xs)
@@ -43,7 +43,8 @@ flat_by_number : {X Y : Type 0} (f : ℕ → List Y) (g : X → List Y) (a : ℕ
     → ((k : ℕ) (x : X) → slice_get xs k ≡ Some x → f (a + k) ≡ g x)
     → flat_map f (range_with_len a (length xs)) ≡ flat_map g xs
 flat_by_number f g a [] each = refl
-flat_by_number f g a (x ∷ xs) each = grind (arith, common_steps, each 0 x refl, flat_by_number f g (a + 1) xs (λ k y at. ap f (omega arith) ∙ each (suc k) y at))
+flat_by_number f g a (x ∷ xs) each = grind
+    (arith, common_steps, each 0 x refl, flat_by_number f g (a + 1) xs (λ k y at. ap f (omega arith) ∙ each (suc k) y at))
 
 -- ---- the calls of a history, caller by caller
 
@@ -64,8 +65,10 @@ one_gets : (c a many : ℕ) (handles : List Handle) (given : ℕ → List Handle
 unfolding with_call
 one_gets c a zero handles given from below = absurd (omega arith)
 one_gets c a (suc many) handles given from below = elim (cases_eq c a) [
-  | inl e ↦ rw (eq-eqb c a e, append_assoc, sym (none_below c (a + 1) many handles given (omega arith))) (IsPermutation-refl _)
-  | inr ne ↦ rw (ne_eqb c a ne) (IsPermutation-trans _ _ _ (flipped handles (given a) _) (search (rules, IsPermutation-append_right, one_gets c (a + 1) many handles given)))
+  | inl e ↦ rw (eq-eqb c a e, append_assoc, sym (none_below c (a + 1) many handles given (omega arith)))
+      (IsPermutation-refl _)
+  | inr ne ↦ rw (ne_eqb c a ne) (IsPermutation-trans _ _ _ (flipped handles (given a) _) (search
+      (rules, IsPermutation-append_right, one_gets c (a + 1) many handles given)))
 ]
 
 -- what a history gave to one caller
@@ -136,7 +139,8 @@ pub position_is : (hs : List Handle) (index k : ℕ) (h : Handle) → AreGivenOn
     → position_from (eq_by_cmp handle_cmp h) index hs ≡ Some (index + k)
 position_is [] index k h once at = absurd (cc)
 position_is (x ∷ hs) index zero h once at = search (rules, itself)
-position_is (x ∷ hs) index (suc k) h once at = search (rules, position_is hs (index + 1) k h (AllPairs-tail Differ x hs once), each_of_all (Differ x) hs k h (AllPairs-head Differ x hs once))
+position_is (x ∷ hs) index (suc k) h once at = search
+    (rules, position_is hs (index + 1) k h (AllPairs-tail Differ x hs once), each_of_all (Differ x) hs k h (AllPairs-head Differ x hs once))
 
 -- ---- the law
 
@@ -157,7 +161,8 @@ module _ {S : Type 0} (may : S → View → List Command → Type 0) (systems : 
   unfolding listed_at
   listed-IsPermutation =
       let by_system = flat_by_number listed_at handles_listed 0 queues (search (rules, get_or_from_slice_get)) in
-      let by_worker = flat_by_number (given_to history) (flat_map listed_at) 0 frame.ran (search (rules, given_listed)) in
+      let by_worker =
+      flat_by_number (given_to history) (flat_map listed_at) 0 frame.ran (search (rules, given_listed)) in
       rw (sym by_system, frame.count) (IsPermutation-sym _ _ (IsPermutation-trans _ _ _
       (rw (sym frame.each_worker, by_worker, sym (flat_flat listed_at (λ mine. mine) frame.ran)) at
       (by_callers workers history frame.callers)) (flat_moved listed_at _ _ frame.once)))
@@ -165,9 +170,11 @@ module _ {S : Type 0} (may : S → View → List Command → Type 0) (systems : 
   module _ (sound : IsSound before.allocator) where
     -- No handle is listed twice, by one queue or by two.
     pub listed-distinct : AreGivenOnce (flat_map handles_listed queues)
-    listed-distinct = AllPairs-IsPermutation Differ (search rules) _ _ (IsPermutation-sym _ _ listed-IsPermutation) (search (rules, given_in-distinct))
+    listed-distinct = AllPairs-IsPermutation Differ (search rules) _ _ (IsPermutation-sym _ _ listed-IsPermutation)
+        (search (rules, given_in-distinct))
 
     module _ (flushed : before.allocator.asked ≡ 0) where
       -- The handles that the queues list are those that are born in the sync of the frame.
       pub listed-born : IsPermutation (flat_map handles_listed queues) (born (after_history before.allocator history))
-      listed-born = IsPermutation-trans _ _ _ listed-IsPermutation (search (rules, IsPermutation-trans, given_in-taken before.allocator history sound frame.legal flushed, born-IsPermutation))
+      listed-born = IsPermutation-trans _ _ _ listed-IsPermutation (search
+          (rules, IsPermutation-trans, given_in-taken before.allocator history sound frame.legal flushed, born-IsPermutation))

@@ -22,11 +22,16 @@ all_rise workers = grind (arith, common_steps, All-replicate, none_rise)
 
 pub is_none : (workers worker : ℕ) (mine : List ℕ) → slice_get (replicate workers no_jobs) worker ≡ Some mine
     → mine ≡ no_jobs
-is_none workers worker mine at = search (rules, each_of_all (λ (mine : List ℕ). mine ≡ no_jobs) (replicate workers no_jobs) worker mine, All-replicate (λ (mine : List ℕ). mine ≡ no_jobs) workers no_jobs)
+is_none workers worker mine at = search (
+  rules,
+  each_of_all (λ (mine : List ℕ). mine ≡ no_jobs) (replicate workers no_jobs) worker mine,
+  All-replicate (λ (mine : List ℕ). mine ≡ no_jobs) workers no_jobs,
+)
 
 no_frame : {S : Type 0} (may : S → View → List Command → Type 0) (workers : ℕ) (before : World)
     → IsFrame may [] workers before [] []
-no_frame may workers before = search (rules, All-nil, length-replicate workers no_jobs, none_once workers, is_none, none_rise)
+no_frame may workers before =
+    search (rules, All-nil, length-replicate workers no_jobs, none_once workers, is_none, none_rise)
 
 pub ends_none : {S : Type 0} (may : S → View → List Command → Type 0) (systems : List S) (workers : ℕ) (before : World)
     (queues : List (List Command)) (after : World) (births : List Handle) (faults : List Fault) → length systems ≡ 0

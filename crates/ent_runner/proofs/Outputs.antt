@@ -1,8 +1,61 @@
--- The outputs of jobs that were done once each: each is there at its number.
-use Rattle.ent_runner.proofs.Common.{rules, ◌≡◌, ℕ, suc, ◌<◌, ◌≤◌, List, [], ◌∷◌, length, map, get_or, refl, ap, arith, Option, Some, None, inl, inr, ne_eqb, slice_get, replicate, IsSome, All, sum_by, range_with_len, IsPermutation, cases_eq, slice_get-get_or, length-replicate, length-map, get_or-replicate, All-head, All-tail, sum_by-cons, sum_by-IsPermutation, All-permutation, IsPermutation-sym, Done, outputs_put, DidAll, numbers_of, HaveEnded}
-use Rattle.ent_runner.proofs.ByNumber.{times, all_put, length_put, put_other}
+-- Outputs put at the numbers of their jobs, which were done once each: each is there at its number.
+use Rattle.ent_runner.proofs.Common.{common_steps, rules, append_assoc, ◌≡◌, ℕ, ◌+◌, ◌<◌, ◌≤◌, List, [], ◌∷◌, ◌++◌, length, map, get_or, refl, ap, arith, Option, Some, cond, eq-eqb, suc, slice_set, ◌==◌, All, sum_by, All-nil, All-cons, All-rest, sum_by-cons, get_or-set_same, get_or-set_other, length-set, map-append, Done, outputs_put, None, inl, inr, ne_eqb, slice_get, replicate, IsSome, range_with_len, IsPermutation, cases_eq, slice_get-get_or, length-replicate, length-map, get_or-replicate, All-head, All-tail, sum_by-IsPermutation, All-permutation, IsPermutation-sym, DidAll, numbers_of, HaveEnded}
 use Rattle.ent_runner.proofs.Lists.{each_of_all, sum_map, mapped_at, of_mapped, all_below}
 use Rattle.ent_runner.proofs.Counting.{is, in_range}
+
+module _ {O : Type 0} where
+  -- how often a number is there among these
+  abbrev pub is_of : ℕ → Done O → ℕ
+  is_of n d = cond (d.number == n) 1 0
+
+  abbrev pub times : ℕ → List (Done O) → ℕ
+  times n done = sum_by (is_of n) done
+
+  pub times_here : (n : ℕ) (d : Done O) → d.number ≡ n → is_of n d ≡ 1
+  times_here n d e = ap (λ b. cond b 1 0) (eq-eqb d.number n e)
+
+  pub length_put : (done : List (Done O)) (by_number : List (Option O))
+      → length (outputs_put done by_number) ≡ length by_number
+  length_put [] by_number = refl
+  length_put (d ∷ done) by_number = search (rules, length_put done, length-set)
+
+  pub put_both : (xs ys : List (Done O)) (by_number : List (Option O)) → outputs_put (xs ++ ys) by_number ≡ outputs_put
+      ys (outputs_put xs by_number)
+  put_both [] ys by_number = refl
+  put_both (d ∷ xs) ys by_number = put_both xs ys (slice_set by_number d.number (Some d.output))
+
+  -- what is not named stays
+  pub put_other : (n : ℕ) (e : Option O) (done : List (Done O)) (by_number : List (Option O)) → times n done ≡ 0
+      → get_or (outputs_put done by_number) n e ≡ get_or by_number n e
+  put_other n e [] by_number none = refl
+  put_other n e (d ∷ done) by_number none =
+      search (rules, sum_by-cons (is_of n) d done, put_other n e done, get_or-set_other)
+
+  pub all_put : (e : Option O) (done : List (Done O)) (by_number : List (Option O))
+      → All (λ (d : Done O). d.number < length by_number) done → ((n : ℕ) → times n done ≤ 1)
+      → All (λ (d : Done O). get_or (outputs_put done by_number) d.number e ≡ Some d.output) done
+  all_put e [] by_number inside once = search (rules, All-nil)
+  all_put e (d ∷ done) by_number inside once =
+      let sums : (n : ℕ) → times n (d ∷ done) ≡ is_of n d + times n done = λ n. sum_by-cons (is_of n) d done in
+      let alone : times d.number done ≡ 0 = grind (arith, common_steps, times_here) in
+      let put = length-set by_number d.number (Some d.output) in
+      let rest = all_put e done (slice_set by_number d.number (Some d.output)) (λ k f within. rw put (inside (suc k) f
+      (omega arith))) (λ n. omega (arith, sums n, once n)) in
+      search (rules, All-cons, put_other, alone, get_or-set_same, rest, inside 0 d (omega arith))
+
+  -- one more output is put at its number
+  pub put_on : (rest new : List (Done O)) (d : Done O) (by_number next all : List (Option O)) → rest ≡ d ∷ new
+      → next ≡ slice_set by_number d.number (Some d.output) → All (λ (f : Done O). f.number < length by_number) rest
+      → outputs_put rest by_number ≡ all → All (λ (f : Done O). f.number < length next) new
+      × (outputs_put new next ≡ all)
+  put_on rest new d by_number next all front set inside same =
+      search (rules, length-set, All-rest (λ (f : Done O). f.number < length by_number) d new rest front inside)
+
+-- one more output is moved out
+pub collected_on : {O : Type 0} (rest new : List (Option O)) (q : O) (before after : List O) (all : List (Option O))
+    → rest ≡ Some q ∷ new → after ≡ before ++ q ∷ [] → map Some before ++ rest ≡ all
+    → (map Some after ++ new ≡ all) × (length rest ≡ length new + 1)
+collected_on rest new q before after all front push same = search (rules, map-append, append_assoc)
 
 module _ {O : Type 0} where
   -- an element that is there so often is somewhere
@@ -22,7 +75,13 @@ module _ {O : Type 0} where
     counts n = search (rules, sum_map (is n) (λ (d : Done O). d.number) done, sum_by-IsPermutation (is n) _ _ once)
 
     pub inside : All (λ (d : Done O). d.number < count) done
-    inside = search (rules, of_mapped (λ n. n < count) (λ (d : Done O). d.number) done, All-permutation (λ n. n < count) (range_with_len 0 count) (numbers_of done), IsPermutation-sym, all_below)
+    inside = search (
+      rules,
+      of_mapped (λ n. n < count) (λ (d : Done O). d.number) done,
+      All-permutation (λ n. n < count) (range_with_len 0 count) (numbers_of done),
+      IsPermutation-sym,
+      all_below,
+    )
 
     -- each output is there at its number
     pub stand : (e : Option O) → All (λ (d : Done O). get_or (outputs_put done (replicate count None)) d.number e
@@ -34,7 +93,15 @@ module _ {O : Type 0} where
     found_at n less = search (rules, found, counts, in_range n 0 count)
 
     pub full : All IsSome (outputs_put done (replicate count None))
-    full n e within = search (rules, arith, found_at n, length_put done (replicate count none), length-replicate count none, each_of_all (λ (d : Done O). get_or (outputs_put done (replicate count none)) d.number e ≡ Some d.output) done, stand e)
+    full n e within = search (
+      rules,
+      arith,
+      found_at n,
+      length_put done (replicate count none),
+      length-replicate count none,
+      each_of_all (λ (d : Done O). get_or (outputs_put done (replicate count none)) d.number e ≡ Some d.output) done,
+      stand e,
+    )
 
     -- one that was not done has none
     pub left_out : (numbers n : ℕ) (e : Option O) → count ≤ n → n < numbers
@@ -46,7 +113,16 @@ module _ {O : Type 0} where
       long = search (rules, length-map, length_put, length-replicate)
 
       pub outputs_at : All (λ (d : Done O). slice_get outputs d.number ≡ Some d.output) done
-      outputs_at k e within = search (rules, arith, mapped_at Some outputs (get_or done k e).number (Some (get_or done k e).output), slice_get-get_or (map Some outputs) (get_or done k e).number None, inside k e within, long, length-map outputs Some, stand None k e within)
+      outputs_at k e within = search (
+        rules,
+        arith,
+        mapped_at Some outputs (get_or done k e).number (Some (get_or done k e).output),
+        slice_get-get_or (map Some outputs) (get_or done k e).number None,
+        inside k e within,
+        long,
+        length-map outputs Some,
+        stand None k e within,
+      )
 
   -- what is there for all
   pub unwrapped : (os : List (Option O)) → All IsSome os → (xs : List O) × (map Some xs ≡ os)
@@ -60,4 +136,10 @@ module _ {O : Type 0} where
     pub kept_all : (a : L) (done : List (Done O)) (b : L) → All (λ (d : Done O). slice_get outputs d.number ≡ Some
         d.output) done → HaveEnded may a done b → DidAll may outputs a (numbers_of done) b
     kept_all a [] b at ended = ended
-    kept_all a (d ∷ done) b at ended = search (rules, ended, kept_all ended.0 done b, All-head (λ (d : Done O). slice_get outputs d.number ≡ Some d.output) d done at, All-tail (λ (d : Done O). slice_get outputs d.number ≡ Some d.output) d done at)
+    kept_all a (d ∷ done) b at ended = search (
+      rules,
+      ended,
+      kept_all ended.0 done b,
+      All-head (λ (d : Done O). slice_get outputs d.number ≡ Some d.output) d done at,
+      All-tail (λ (d : Done O). slice_get outputs d.number ≡ Some d.output) d done at,
+    )

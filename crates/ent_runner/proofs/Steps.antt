@@ -38,11 +38,23 @@ module _ (numbers workers : ℕ) where
       let left : k.claimed < numbers = search rules in
       let mine = all_at (All (IsClaimKept numbers k.claimed)) s.views id (r ∷ []) at k.each 0 r (omega arith) in
       let w : List ClaimRecord = with_claim r k.claimed ∷ [] in
-      let counts : k.word + 1 ≡ (k.claimed + 1) + sum_by ended_in (set s.views id w) = search (rules, sum_at ended_in s.views id (r ∷ []) w at, k.counts) in
+      let counts : k.word + 1 ≡ (k.claimed + 1) + sum_by ended_in (set s.views id w) =
+      search (rules, sum_at ended_in s.views id (r ∷ []) w at, k.counts) in
       let each = All-set (All (IsClaimKept numbers (k.claimed + 1))) s.views id w
       (all_one (IsClaimKept numbers (k.claimed + 1)) (with_claim r k.claimed) (kept_claim k.claimed r left mine))
       (λ i d lt j e l. kept_on k.claimed _ left (k.each i d lt j e l)) in
-      search (rules, each, now, counts, k.none_early left, sum_at length s.views id (r ∷ []) w at, k.records, sum_at, sum_by_push, range_last 0 k.claimed k.claimed)
+      search (
+        rules,
+        each,
+        now,
+        counts,
+        k.none_early left,
+        sum_at length s.views id (r ∷ []) w at,
+        k.records,
+        sum_at,
+        sum_by_push,
+        range_last 0 k.claimed k.claimed,
+      )
 
   after_end : (s : St) (k : Rule s) (id : ℕ) (r : ClaimRecord) (words : List ℕ) → get_elem? s.views id ≡ some (r ∷ [])
       → r.ended ≡ false → numbers ≤ k.word → words ≡ (k.word + 1) ∷ []
@@ -64,21 +76,38 @@ module _ (numbers workers : ℕ) where
       let now : set s.words 0 ((get_or s.words 0 0 + 1) % 2 ^ 64) ≡ (word + 1)
       ∷ [] = search (rules, mod-eq_of_lt, k.words) in
       let mine = all_at (All (IsClaimKept numbers k.claimed)) s.views id (r ∷ []) at k.each 0 r (omega arith) in
-      let told : AfterClaim r (get_or s.words 0 0) (after_claim r word ∷ []) = search (rules, found, mine.below, k.counts) in
+      let told : AfterClaim r (get_or s.words 0 0) (after_claim r word ∷ []) =
+      search (rules, found, mine.below, k.counts) in
       let ruled : Rule (record s {
         words = set s.words 0 ((get_or s.words 0 0 + 1) % 2 ^ 64);
         views = set s.views id
             (after_claim r word ∷ []);
-      }) = search (rules, mine.numbers_is, cases_lt word numbers, lt-ltb, le-ltb, after_number s k id r (set s.words 0 ((get_or s.words 0 0 + 1) % 2 ^ 64)) at, after_end s k id r (set s.words 0 ((get_or s.words 0 0 + 1) % 2 ^ 64)) at going, now) in
+      }) = search (
+        rules,
+        mine.numbers_is,
+        cases_lt word numbers,
+        lt-ltb,
+        le-ltb,
+        after_number s k id r (set s.words 0 ((get_or s.words 0 0 + 1) % 2 ^ 64)) at,
+        after_end s k id r (set s.words 0 ((get_or s.words 0 0 + 1) % 2 ^ 64)) at going,
+        now,
+      ) in
       (after_claim r word ∷ [], keeps, tt, ruled, (refl, λ x is _. search (rules, told)))
 
   pub claims_at : (slots id : ℕ) (me : Me (Unit {0}) (List ClaimRecord)) (r : ClaimRecord) (n : ℕ) → me.0 ≡ r ∷ []
       → me.1 ≡ [] → n ≡ 1 → r.ended ≡ false → Allows Rule slots id me 0 (λ word. (word + n) % 2 ^ 64) (ClaimTells me)
   claims_at slots id me r n view bare one going = rw (view, bare, one) (claims slots id r going)
 
-  -- the rule goes by the records, and not by which seat has which
+  -- the rule goes by the records, and not by which holder has which
   pub goes_by_records : GoesByRecords Rule
-  goes_by_records s views same k = search (rules, sum_regrouped s.views views same (λ (r : ClaimRecord). cond {A = ℕ} r.ended 1 0), λ (f : ℕ → ℕ). sum_regrouped s.views views same (λ (r : ClaimRecord). sum_by f r.claims) ∙ k.partition f, length-regrouped s.views views same, all_regrouped s.views views same (IsClaimKept numbers k.claimed) k.each, k)
+  goes_by_records s views same k = search (
+    rules,
+    sum_regrouped s.views views same (λ (r : ClaimRecord). cond {A = ℕ} r.ended 1 0),
+    λ (f : ℕ → ℕ). sum_regrouped s.views views same (λ (r : ClaimRecord). sum_by f r.claims) ∙ k.partition f,
+    length-regrouped s.views views same,
+    all_regrouped s.views views same (IsClaimKept numbers k.claimed) k.each,
+    k,
+  )
 
   -- before the first step
   pub begins : numbers ≤ 2 ^ 16 → workers ≤ 64 → Rule (opening (0 ∷ []) []

@@ -1,5 +1,5 @@
--- A worker does one job after the other.
-use Rattle.ent_runner.proofs.Common.{rules, ◌≡◌, ℕ, List, [], ◌∷◌, ◌++◌, ap, subst, is_err, false, true≢false, Ok, Err, OnOk, OnErr, FoldsTo-push, map-append, Claimed, Done, numbers_of, HaveEnded, HasStoppedAt, Result}
+-- A worker does one job after the other. Two parts of the workers have worked, so all of them have.
+use Rattle.ent_runner.proofs.Common.{rules, ◌≡◌, ℕ, List, [], ◌∷◌, ◌++◌, is_err, false, true≢false, OnOk, OnErr, FoldsTo-push, map-append, Done, numbers_of, HaveEnded, HasStoppedAt, Result, ◌-◌, length, arith, sym, cases_lt, length-append, get_or_append_left, get_or-append_right, Claims, Worker, HaveAllWorked}
 
 module _ {O : Type 0} where
   pub numbers_more : (done next : List (Done O)) (d : Done O) (claims more : List ℕ) → next ≡ done ++ d ∷ []
@@ -17,12 +17,6 @@ module _ {O : Type 0} where
         → leave d.number b d.output c → next ≡ done ++ d ∷ [] → HasStoppedAt may leave a next c
     stopped_at a b c done next d ended left pushed = search rules
 
-pub of_ok : {A E : Type 0} (X : Type 0) (r : Result A E) (a : A) → r ≡ Ok a → OnOk r X → X
-of_ok X r a is on = subst (λ r. OnOk r X) is on
-
-pub of_err : {A E : Type 0} (X : Type 0) (r : Result A E) (e : E) → r ≡ Err e → OnErr r X → X
-of_err X r e is on = subst (λ r. OnErr r X) is on
-
 pub on_err : {A E : Type 0} {P : Type 0} (r : Result A E) → P → OnErr r P
 on_err it p = search rules
 
@@ -30,7 +24,28 @@ on_err it p = search rules
 pub on_ok : {X E : Type 0} {P : Type 0} (r : Result X E) → is_err r ≡ false → OnOk r P → P
 on_ok it test p = search (rules, true≢false)
 
--- one number more was claimed
-pub claims_more : (old new : Claimed) (n : ℕ) → new ≡ record old { claims = old.claims ++ n ∷ [] }
-    → new.claims ≡ old.claims ++ n ∷ []
-claims_more old new n is = ap (λ (c : Claimed). c.claims) is
+module _ {O L : Type 0} (may leave : ℕ → L → O → L → Type 0) (may_have : L → Type 0) (claims : Claims) where
+  abbrev HaveDone : List L → List L → List (Worker O) → Type 0
+  HaveDone before after team = HaveAllWorked may leave may_have claims before after team
+
+  pub both_worked : (first first' second second' before : List L) (front back : List (Worker O))
+      → first ++ second ≡ before → HaveDone first first' front → HaveDone second second' back
+      → HaveDone before (first' ++ second') (front ++ back)
+  both_worked first first' second second' before front back parts one other =
+      let teams = length-append front back in
+      let befores = length-append first second in
+      let afters = length-append first' second' in
+      rw (sym parts) (record {
+        count = omega (arith, one.count, other.count);
+        lent = omega (arith, one.lent, other.lent);
+        each = λ k d e f less. search (
+          rules,
+          cases_lt k (length first),
+          get_or_append_left,
+          get_or-append_right,
+          one.each k d e f,
+          other.each (k - length first) d e f,
+          one.lent,
+          one.count,
+        );
+      })

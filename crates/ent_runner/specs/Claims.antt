@@ -61,7 +61,7 @@ abbrev pub HaveEnded : List Claimer → Type 0
 HaveEnded claimers = All (λ (c : Claimer). c.own.ended ≡ true) claimers
 
 -- A claimer's field says what its record says.
-pub record IsClaimerSeated (views : List (List ClaimRecord)) (ended : Bool) : Type 0 where
+pub record IsClaimerHolding (views : List (List ClaimRecord)) (ended : Bool) : Type 0 where
   pub views_is : views ≡ (claims_of views ∷ []) ∷ []
   pub ended_is : ended ≡ (claims_of views).ended
 

@@ -77,7 +77,7 @@ abbrev pub SystemMayIssue : {S : Type 0} → (S → View → List Command → Ty
 SystemMayIssue {S} may systems view n queue =
     (system : S) → slice_get systems n ≡ Some system → may system view queue
 
--- or leave them in its queue, if memory was refused to it
+-- or leave them in its queue, if it ran out of memory
 abbrev pub SystemMayHaveIssued : {S : Type 0} → (S → View → List Command → Type 0)
     → (S → View → List Command → Type 0) → List S → View → ℕ → List Command → Type 0
 SystemMayHaveIssued may leave systems view n queue =

@@ -17,7 +17,7 @@ after_claim r found =
 abbrev pub nobody : ClaimRecord
 nobody = record { numbers = 0; claims = []; ended = false }
 
--- the one record of what a badge knows
+-- the one record of what a token knows
 abbrev pub claims_of : List (List ClaimRecord) → ClaimRecord
 claims_of ((r ∷ rs) ∷ views) = r
 claims_of _ = nobody

@@ -6,11 +6,11 @@ use Rattle.atomic_table.specs.Table.{State, Me}
 use Rattle.ent_runner.specs.declared.record.ClaimRecord.{ClaimRecord}
 use Rattle.ent_runner.specs.Record.{after_claim}
 
--- the claims of a seat's records, each of them weighed
+-- the claims of a holder's records, each of them weighed
 abbrev pub weigh_claims : (ℕ → ℕ) → List ClaimRecord → ℕ
 weigh_claims f records = sum_by (λ (r : ClaimRecord). sum_by f r.claims) records
 
--- how many of a seat's records have ended
+-- how many of a holder's records have ended
 abbrev pub ended_in : List ClaimRecord → ℕ
 ended_in records = sum_by (λ (r : ClaimRecord). cond r.ended 1 0) records
 
@@ -40,7 +40,7 @@ pub record AreClaimsRuled (numbers workers : ℕ) (s : State (Unit {0}) (List Cl
   pub records : sum_by length s.views ≡ workers
   pub each : All (All (IsClaimKept numbers claimed)) s.views
 
--- After a claim by the one claimer of a seat.
+-- After a claim by the one claimer of a holder.
 pub record AfterClaim (r : ClaimRecord) (found : ℕ) (others : List ClaimRecord) : Type 0 where
   pub above : All (λ n. n < found) r.claims
   pub after : others ≡ after_claim r found ∷ []

@@ -1,7 +1,7 @@
 ghost use Rattle.std.specs.Prelude.{◌≡◌, false};
 
 use crate::record::ClaimRecord;
-use ent_shared::seats::RecordsBadge;
+use ent_shared::holders::RecordsToken;
 use std::marker::Model;
 
 /// The right of one worker to claim numbers.
@@ -10,33 +10,33 @@ use std::marker::Model;
 /// takes them back. A worker that claims in a thread of its own takes one along.
 #[derive(Drop)]
 pub struct Claimer {
-    pub(crate) badge: RecordsBadge<ClaimRecord>,
+    pub(crate) token: RecordsToken<ClaimRecord>,
     pub(crate) ended: bool,
 }
 
 impl Model for Claimer {
     ghost use Rattle.ent_runner.specs.Record.{claims_of};
-    ghost use Rattle.ent_runner.specs.Claims.{Claimer, claimer_code, IsClaimerSeated};
+    ghost use Rattle.ent_runner.specs.Claims.{Claimer, claimer_code, IsClaimerHolding};
 
     ghost Value = { Claimer };
 
     ghost coded = { claimer_code };
 
-    ghost view = { λ c. record { word = c.badge.table_id; own = claims_of c.badge.views } };
+    ghost view = { λ c. record { word = c.token.table_id; own = claims_of c.token.views } };
 
-    ghost invariant = { λ c. IsClaimerSeated c.badge.views c.ended };
+    ghost invariant = { λ c. IsClaimerHolding c.token.views c.ended };
 }
 
 impl Claimer {
     ghost use Rattle.ent_runner.specs.Record.{claims_of};
-    ghost use Rattle.ent_runner.specs.Claims.{IsClaimerSeated};
+    ghost use Rattle.ent_runner.specs.Claims.{IsClaimerHolding};
 
-    pub(crate) fn new(badge: RecordsBadge<ClaimRecord>) -> Self
-        requires { IsClaimerSeated badge.views false }
-        ensures { result ≡ record { word = badge.table_id; own = claims_of badge.views } }
+    pub(crate) fn new(token: RecordsToken<ClaimRecord>) -> Self
+        requires { IsClaimerHolding token.views false }
+        ensures { result ≡ record { word = token.table_id; own = claims_of token.views } }
     {
         Claimer {
-            badge,
+            token,
             ended: false,
         }
     }

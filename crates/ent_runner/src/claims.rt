@@ -8,7 +8,7 @@ use crate::rule::Opening;
 use crate::word;
 use crate::word::Word;
 use ent_handle::Memory;
-use ent_shared::seats::{merge, new_seat, split_first};
+use ent_shared::holders::{merge, new_holder, split_first};
 use std::alloc::Global;
 use std::marker::Model;
 
@@ -89,7 +89,7 @@ impl Claims {
         if claimer.ended {
             return None;
         }
-        let found = word::claim(&self.word, &mut claimer.badge) as usize;
+        let found = word::claim(&self.word, &mut claimer.token) as usize;
         if found < self.numbers {
             Some(found)
         } else {
@@ -119,9 +119,9 @@ impl Claims {
             (range_with_len 0 self.numbers) }
     {
         let Claims { word, .. } = self;
-        let mut all = new_seat(&word);
+        let mut all = new_holder(&word);
         for claimer in claimers {
-            merge(&word, &mut all, claimer.badge);
+            merge(&word, &mut all, claimer.token);
         }
         word::close(word, all);
     }

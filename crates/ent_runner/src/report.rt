@@ -14,7 +14,7 @@ pub struct FrameReport {
 /// Why a frame stopped.
 #[derive(Drop, Debug, Error)]
 pub enum FrameFault {
-    /// Memory was refused before any system ran. The world is as it was.
+    /// Memory ran out before any system ran. The world is as it was.
     #[error("out of memory before any system ran")]
     Memory,
     /// A system returned `Memory`, or systems are left and no worker has memory for the queue of

@@ -5,7 +5,7 @@ ghost use Rattle.std.specs.Prelude.{replicate};
 
 use crate::record::ClaimRecord;
 use atomic_table::{Play, TableRule};
-use ent_shared::seats::SeatRecords;
+use ent_shared::holders::HeldRecords;
 
 /// How many numbers there are to claim, and how many claimers.
 #[derive(Drop)]
@@ -16,7 +16,7 @@ pub(crate) struct Opening {
 
 pub(crate) struct Numbers;
 
-impl TableRule<(), SeatRecords<ClaimRecord>, Opening> for Numbers {
+impl TableRule<(), HeldRecords<ClaimRecord>, Opening> for Numbers {
     ghost holds = { λ opening. AreClaimsRuled opening.numbers opening.workers };
 
     ghost first = { λ opening. replicate opening.workers (nothing_claimed opening.numbers) };
@@ -25,6 +25,6 @@ impl TableRule<(), SeatRecords<ClaimRecord>, Opening> for Numbers {
 /// A claim.
 pub(crate) struct Claim;
 
-impl Play<(), SeatRecords<ClaimRecord>> for Claim {
+impl Play<(), HeldRecords<ClaimRecord>> for Claim {
     ghost then = { λ step before found after. ClaimTells before found after };
 }

@@ -19,7 +19,7 @@ pub trait System {
     /// empty queue on, leaves a queue of this kind.
     ghost may_issue: { Self → Viewed → List Command → Type 0 };
 
-    /// What it may leave in its queue if memory is refused to it: anything, unless the system says
+    /// What it may leave in its queue if it runs out of memory: anything, unless the system says
     /// more.
     ghost may_leave: { Self → Viewed → List Command → Type 0 } = { λ _ _ _. Unit {0} };
 
@@ -27,7 +27,7 @@ pub trait System {
     ///
     /// # Errors
     ///
-    /// `Memory`, if memory was refused to the system. The whole frame is then lost, and what the
+    /// `Memory`, if the system ran out of memory. The whole frame is then lost, and what the
     /// system had reserved stays reserved.
     fn run(&self, alloc: Global, view: &View<'_>, commands: &mut Commands<'_>) -> Result<(), Memory>
         requires { IsReady commands.old }

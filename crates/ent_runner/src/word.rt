@@ -7,16 +7,16 @@ ghost use Rattle.ent_runner.specs.Claims.{IsOpen};
 use crate::record::ClaimRecord;
 use crate::rule::{Claim, Numbers, Opening};
 use atomic_table::{Badge, Table};
-use ent_shared::seats::{RecordsBadge, RecordsSeat, RecordsWord};
+use ent_shared::holders::{RecordsHolder, RecordsToken, RecordsWord};
 use std::alloc::{AllocError, Global};
 use std::mem;
 
 pub(crate) type Word = RecordsWord<ClaimRecord, Opening, Numbers>;
 
-pub(crate) type WordSeat = RecordsSeat<ClaimRecord>;
+pub(crate) type WordHolder = RecordsHolder<ClaimRecord>;
 
-/// A word that begins at 0, and a seat that has all records.
-pub(crate) fn open(alloc: Global, opening: &Opening) -> Result<(Word, WordSeat), AllocError>
+/// A word that begins at 0, and a holder that has all records.
+pub(crate) fn open(alloc: Global, opening: &Opening) -> Result<(Word, WordHolder), AllocError>
     requires numbers { opening.now.numbers ≤ 2 ^ 16 }
     requires some { 0 < opening.now.workers }
     requires few { opening.now.workers ≤ 64 }
@@ -29,24 +29,24 @@ pub(crate) fn open(alloc: Global, opening: &Opening) -> Result<(Word, WordSeat),
 }
 
 /// The claiming step: adds 1 to the word. Returns the number that it found.
-pub(crate) fn claim(word: &Word, badge: &mut RecordsBadge<ClaimRecord>) -> u64
+pub(crate) fn claim(word: &Word, token: &mut RecordsToken<ClaimRecord>) -> u64
     requires word { (word.now.shared.table_id.words ≡ 1)
-        × (badge.old.table_id ≡ word.now.shared.table_id) }
-    requires alone { badge.old.views ≡ (claims_of badge.old.views ∷ []) ∷ [] }
-    requires goes_on { (claims_of badge.old.views).ended ≡ false }
-    ensures same { badge.new.table_id ≡ badge.old.table_id }
-    ensures claims { badge.new.views
-        ≡ (after_claim (claims_of badge.old.views) result ∷ []) ∷ [] }
-    ensures above { All (λ n. n < result) (claims_of badge.old.views).claims }
+        × (token.old.table_id ≡ word.now.shared.table_id) }
+    requires alone { token.old.views ≡ (claims_of token.old.views ∷ []) ∷ [] }
+    requires goes_on { (claims_of token.old.views).ended ≡ false }
+    ensures same { token.new.table_id ≡ token.old.table_id }
+    ensures claims { token.new.views
+        ≡ (after_claim (claims_of token.old.views) result ∷ []) ∷ [] }
+    ensures above { All (λ n. n < result) (claims_of token.old.views).claims }
 {
-    let mut seat = mem::replace(badge, Badge::blank()).into_seat();
+    let mut seat = mem::replace(token, Badge::blank()).into_seat();
     let found = word.shared.fetch_add::<Claim>(&mut seat, 0, 1);
-    *badge = seat.into_badge();
+    *token = seat.into_badge();
     found
 }
 
-/// Ends the claiming, of which a seat knows these records.
-pub(crate) fn close(word: Word, all: WordSeat)
+/// Ends the claiming, of which a holder knows these records.
+pub(crate) fn close(word: Word, all: WordHolder)
     requires word { (word.shared.table_id.words ≡ 1) × (word.shared.table_id.slots ≡ 0)
         × (all.table_id ≡ word.shared.table_id) }
     ensures { AreClaimsClosed word.shared.key.numbers word.shared.key.workers all.me.0 }

@@ -91,7 +91,7 @@ pub(crate) fn passes_at_most(
 }
 
 /// What is wrong with an array, of which an element has this fault, and at most so many elements
-/// may follow. Want of memory is no fault of the array, and decides at once.
+/// may follow. Running out of memory is no fault of the array, and decides at once.
 pub(crate) fn fault_of_array(
     reader: &mut Reader<'_>,
     depth: usize,

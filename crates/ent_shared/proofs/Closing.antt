@@ -1,11 +1,10 @@
 -- The end of a phase: the history of all records is legal, and the cursor and the least floor tell
 -- the allocator after it.
-use Rattle.ent_shared.proofs.Histories.{falls_apart, reservations_are, respects_all}
-use Rattle.ent_shared.proofs.Common.{rules, ◌≡◌, ◌≢◌, ℕ, ◌+◌, ◌-◌, ◌^◌, ◌≤◌, ℤ, pos, ◌+ℤ◌, ◌-ℤ◌, ◌≤ℤ◌, ◌<ℤ◌, List, length, map, sym, ap, ◌∙◌, arith, sum, length-append, AllPairs, ◌↔◌, ◌⊎◌, common_steps, sum_by, cases_lt, length_permutation, ints, Handle, Entities, Allocator, available, cursor, top, asked_at, settled, after_flush, IsSound, IsLive, after_takes-sound, available-after_takes, asked-after_takes, cursor-after_takes, length-taken, length-available, flushed-laid_out, asked_at-is, after_history-takes, given_in-distinct, given_in-not_live, given_in-taken, given_in-bring_to_life, after_history-settled, Record, Opening, least_floor, IsStart, IsClosed, as_call, own_of_all, reservations_of, history_of, Respects, All, Contains, w64, to_z, of_z}
+use Rattle.ent_shared.proofs.Histories.{falls_apart, reservations_are, respects_all, numbers_differ}
+use Rattle.ent_shared.proofs.Common.{rules, ◌≡◌, ◌≢◌, ℕ, ◌+◌, ◌-◌, ◌^◌, ◌≤◌, ℤ, pos, ◌+ℤ◌, ◌-ℤ◌, ◌≤ℤ◌, ◌<ℤ◌, List, length, map, sym, ap, ◌∙◌, arith, sum, length-append, AllPairs, ◌↔◌, ◌⊎◌, common_steps, sum_by, cases_lt, length_permutation, ints, Handle, Entities, Allocator, available, cursor, top, asked_at, settled, after_flush, IsSound, IsLive, after_takes-sound, available-after_takes, asked-after_takes, cursor-after_takes, length-taken, length-available, flushed-laid_out, asked_at-is, after_history-takes, given_in-distinct, given_in-not_live, given_in-taken, given_in-bring_to_life, after_history-settled, Record, Opening, least_floor, IsClosed, as_call, own_of_all, reservations_of, history_of, Respects, All, Contains, w64, to_z, of_z, Shared, TableId, IsPhase}
 use Rattle.ent_alloc.specs.History as history
 use Rattle.ent_shared.proofs.Words.{requested, follow_asked, few_asked}
 use Rattle.ent_shared.proofs.Sorting.{follow_falls}
-use Rattle.ent_shared.proofs.Callers.{numbers_differ}
 use Rattle.ent_shared.proofs.Settling.{IsLater, legal_from, min_right, floor_below, taken_floor, floor_sorted, floor_of_all}
 
 -- what the closing call owes and gives, in the numbers of its code
@@ -33,7 +32,8 @@ module _ (start : Allocator) (count : ℕ) (records : List Record) (at : ℤ) (k
   asked_in_all = follow_asked (cursor start) k.log at k.follow
 
   pub cursor_least : count ≤ 1024 → pos (top start) ≤ℤ (at +ℤ pos (2 ^ 50))
-  cursor_least few = omega (arith, ints, asked_in_all, few_asked (sum_by requested k.log) count (omega (arith, k.quota)) few)
+  cursor_least few =
+      omega (arith, ints, asked_in_all, few_asked (sum_by requested k.log) count (omega (arith, k.quota)) few)
 
   pub cursor_greatest : at ≤ℤ pos (top start)
   cursor_greatest = omega (arith, ints, asked_in_all)
@@ -118,20 +118,21 @@ module _ (start : Allocator) (count : ℕ) (records : List Record) (at : ℤ) (k
             brings_to_life = given_in-bring_to_life start calls sound legal flushed;
           }
 
-pub ended : (entities : Entities) (start : Allocator) (n count : ℕ) (key : Opening) (records : List Record)
-    (at floor from : ℤ) → IsStart entities.allocator → IsSound entities.allocator → n ≤ 1024
-    → key ≡ record { entities = entities; count = n } → entities.allocator ≡ start → n ≡ count → length records ≡ count
-    → IsClosed key.entities.allocator key.count records at → from ≡ pos (top entities.allocator)
-    → floor ≡ least_floor (to_z w64 (of_z w64 from)) records → Ended entities.allocator start records (to_z w64
-    (of_z w64 at)) (to_z w64 (of_z w64 floor))
-ended entities start n count key records at floor from begins sound few key_is here_is n_is whole closed from_is
-    floor_is =
+-- the same of the numbers as the code has them
+pub ended : (entities : Entities) (n : ℕ) (key : Opening) (word : TableId) (shared : Shared) (records : List Record)
+    (at floor from : ℤ) → IsPhase entities n key word
+    → record { word = word; start = entities.allocator; rows = entities.rows; count = n } ≡ shared
+    → length records ≡ shared.count → IsClosed key.entities.allocator key.count records at
+    → from ≡ pos (top entities.allocator) → floor ≡ least_floor (to_z w64 (of_z w64 from)) records
+    → Ended entities.allocator shared.start records (to_z w64 (of_z w64 at)) (to_z w64 (of_z w64 floor))
+ended entities n key word shared records at floor from phase view whole closed from_is floor_is =
     let here : Allocator = entities.allocator in
-    let small = begins.top in
-    let k : IsClosed here n records at = search rules in
+    let small = phase.begins.top in
+    let k : IsClosed here n records at = rw phase.key_is at closed in
     let from_word : to_z w64 (of_z w64 from) ≡ pos (top here) = omega (arith, ints) in
-    let e = ended_at here n records at k sound begins.flushed (whole ∙ sym n_is) floor
-    (floor_is ∙ ap (λ (z : ℤ). least_floor z records) from_word) few in
+    let e = ended_at here n records at k phase.sound phase.begins.flushed
+    (whole ∙ sym (ap (λ (s : Shared). s.count) view)) floor
+    (floor_is ∙ ap (λ (z : ℤ). least_floor z records) from_word) phase.few in
     let at_word : to_z w64 (of_z w64 at) ≡ at = omega (arith, ints, e.ordered, e.least, e.greatest) in
     let floor_word : to_z w64 (of_z w64 floor) ≡ floor = omega (arith, ints, e.ordered, e.least, e.greatest) in
-    rw (at_word, floor_word, sym here_is) e
+    rw (at_word, floor_word, sym (ap (λ (s : Shared). s.start) view)) e

@@ -1,24 +1,17 @@
 -- The names that proofs of this crate cite, of std, of the crates below and of its own specs. Declares nothing.
-pub use Rattle.std.proofs.Common.{AllPairs, Err, List, Ok, [], add-mul, add-zero, ap, append-nil, append_assoc, arith, drop, get_or, inl, inr, le-leb, length, length-append, length-drop, map, neg_ℤ, of_z, pos, refl, rules, set, subst, suc, suc-mul, sum, sym, take, to_z, vec_len, w64, zero, zero-add, ℕ, ℤ, ⊎_elim, ◌%◌, ◌*◌, ◌++◌, ◌+ℤ◌, ◌+◌, ◌-ℤ◌, ◌-◌, ◌<ℤ◌, ◌<◌, ◌^◌, ◌↔◌, ◌∙◌, ◌∷◌, ◌≡◌, ◌≢◌, ◌≤ℤ◌, ◌≤◌, ◌⊎◌}
-pub use Rattle.std.proofs.lemmas.Bool.{cases_eq, cases_lt, lt-leb}
-pub use Rattle.std.proofs.lemmas.Bool.Decides.{nat_tests}
-pub use Rattle.std.proofs.lemmas.Grind.{common_steps}
+pub use Rattle.std.proofs.Common.{All, AllPairs, Bool, Contains, Err, IsPermutation, List, Ok, Result, [], add-mul, add-zero, ap, append-nil, append_assoc, arith, cond, count_by, drop, false, flat_map, get_or, inl, inr, int_lt, le-leb, length, length-append, length-drop, map, nat_abs, nat_le, neg_ℤ, of_z, pos, refl, rules, set, subst, suc, suc-mul, sum, sum_by, sym, take, to_z, true, vec_capacity, vec_len, w64, zero, zero-add, ℕ, ℤ, ⊎_elim, ◌%◌, ◌*◌, ◌++◌, ◌+ℤ◌, ◌+◌, ◌-ℤ◌, ◌-◌, ◌<ℤ◌, ◌<◌, ◌==◌, ◌^◌, ◌↔◌, ◌∙◌, ◌∷◌, ◌≡◌, ◌≢◌, ◌≤ℤ◌, ◌≤◌, ◌⊎◌}
 pub use Rattle.std.proofs.lemmas.Int.{by_lt_z, ints, to_z-of_z}
 pub use Rattle.std.proofs.lemmas.List.{drop-take, drop_all, get_or_default, length-map, length-take, length-take-le, map-append, nil_from_length, set_comm, take-append-drop, take-take, take_all}
 pub use Rattle.std.proofs.lemmas.List.Concat.{flat_map-append, length-flat_map}
 pub use Rattle.std.proofs.lemmas.List.Elements.{All-append, All-cons, All-contains, All-contains_itself, All-drop, All-filter, All-head, All-nil, All-set, All-tail, All-take, All-weaker, Contains-append_left, Contains-push}
 pub use Rattle.std.proofs.lemmas.List.Folds.{fold-map}
-pub use Rattle.std.proofs.lemmas.List.Kept.{AllPairs-cons}
 pub use Rattle.std.proofs.lemmas.List.Sorted.{All-permutation, IsPermutation-append, IsPermutation-append_comm, IsPermutation-append_right, IsPermutation-cons, IsPermutation-middle, IsPermutation-refl, IsPermutation-sym, IsPermutation-trans, length_permutation, sum_by-IsPermutation}
 pub use Rattle.std.proofs.lemmas.List.Sums.{sum_by-append, sum_by-cons}
-pub use Rattle.std.proofs.lemmas.Option.{slice_get-get_or}
 pub use Rattle.std.specs.Int.{int_max, int_min}
-pub use Rattle.std.specs.List.{All, Contains, flat_map, sum_by}
-pub use Rattle.std.specs.Prelude.{Bool, IsPermutation, Result, cond, count_by, false, int_lt, nat_le, true, ◌==◌}
-pub use Rattle.std.specs.Vec.{vec_capacity}
 pub use Rattle.atomic_table.proofs.Lists.{set_again, set_else}
 pub use Rattle.atomic_table.specs.Seated.{TableId}
 pub use Rattle.atomic_table.specs.Table.{Allows, Enters, Joins, Me, Splits, State, keeps, opening}
+pub use Rattle.ent_alloc.proofs.Common.{AllPairs-cons, Allocator, Entities, IsLive, IsSound, after_flush, after_take, asked_at, available, cases_lt, common_steps, cursor, listed, listed_alone, lt-leb, nat_tests, pool_at, reply_from, settled, slice_get-get_or, top}
 pub use Rattle.ent_alloc.proofs.Flushes.{live-after_flush, live-stays, taken-lives}
 pub use Rattle.ent_alloc.proofs.Histories.{after_history-settled, after_history-takes, given_in-bring_to_life, given_in-distinct, given_in-not_live, given_in-taken}
 pub use Rattle.ent_alloc.proofs.LaidOut.{flushed-laid_out}
@@ -29,26 +22,21 @@ pub use Rattle.ent_alloc.proofs.Replies.{listed-IsPermutation, not_apart}
 pub use Rattle.ent_alloc.proofs.Settled.{length-all}
 pub use Rattle.ent_alloc.proofs.Soundness.{after_take-sound}
 pub use Rattle.ent_alloc.proofs.Taken.{after_take-refused, after_take-served, available-after_take, length-available, length-pool}
-pub use Rattle.ent_alloc.specs.Entities.{Entities}
 pub use Rattle.ent_alloc.specs.History.{handles_in}
 unfoldable pub use Rattle.ent_alloc.specs.Limits.{quota}
-pub use Rattle.ent_alloc.specs.Sequential.{Allocator, after_flush, after_take, asked_at, available, cursor, listed, listed_alone, pool_at, reply_from, settled, top}
-pub use Rattle.ent_alloc.specs.Sound.{IsLive, IsSound}
 pub use Rattle.ent_alloc.specs.declared.space.Space.{Space}
 pub use Rattle.ent_alloc.specs.declared.span.Span.{Span}
 pub use Rattle.ent_handle.specs.Handle.{Handle, handle_cmp, handle_eq}
-pub use lib.IntN.{nat_abs}
 pub use lib.ListN.{get_elem?}
 pub use mathlib.Core.Option.{some, some-injective, some-ne-none}
-pub use mir.Val.{SFits}
 pub use Rattle.ent_shared.specs.Moves.{after_meeting, met_in}
 pub use Rattle.ent_shared.specs.Order.{FollowsEntries, Respects, StandsBefore, as_call, by_falling_high, handles_given, handles_of, history_of, insert_reservation, own_of_all, reservations_by, reservations_of}
-pub use Rattle.ent_shared.specs.Phase.{IsOf, IsSeated, Reserver, Shared, after_loss, own_of, records_of}
+pub use Rattle.ent_shared.specs.Phase.{IsOf, IsPhase, IsHolding, Reserver, Shared, after_loss, own_of, records_of}
 pub use Rattle.ent_shared.specs.Record.{after_reservation, known_reservations, low, opened, own_reservations, requested_by, reservation_at, reservations_in}
 unfoldable pub use Rattle.ent_shared.specs.Record.{opened_records}
 pub use Rattle.ent_shared.specs.Rule.{AfterReserve, Follow, HasItsReply, InOrder, IsClosed, IsKept, IsRuled, IsStart, ReserveTells, cursor_of, floor_after, floor_of, least_floor, weigh}
 unfoldable pub use Rattle.ent_shared.specs.Rule.{offset}
-pub use Rattle.ent_shared.specs.Seats.{GoesByRecords, records_in}
+pub use Rattle.ent_shared.specs.Holders.{GoesByRecords, records_in}
 pub use Rattle.ent_shared.specs.declared.record.Record.{Record}
 pub use Rattle.ent_shared.specs.declared.record.RecordEntry.{RecordEntry}
 pub use Rattle.ent_shared.specs.declared.record.RecordEntry.TheVariants.{Met, Own}

@@ -1,4 +1,4 @@
--- Those that hold seats, as they are handed in one by one.
+-- Those that hold holders, as they are handed in one by one.
 use Rattle.ent_shared.proofs.Common.{rules, ◌≡◌, List, ◌++◌, length, append-nil, nil_from_length}
 
 -- all that were handed in were taken in

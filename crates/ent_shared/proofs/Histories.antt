@@ -1,10 +1,53 @@
--- What all records together tell once no thread steps any more: their own calls are the calls that
--- lead from the top to the cursor.
-use Rattle.ent_shared.proofs.Common.{common_steps, get_or_default, sum_by, All, Contains, rules, ◌≡◌, ℕ, suc, ◌<◌, ⊎_elim, ℤ, ◌≤ℤ◌, ◌<ℤ◌, List, [], ◌∷◌, length, get_or, refl, sym, ap, ◌∙◌, arith, Bool, true, false, cond, ◌==◌, All-weaker, All-contains, All-contains_itself, All-filter, sum_by-cons, slice_get-get_or, ints, Allocator, cursor, Reservation, RecordEntry, Own, Met, Record, low, reservations_in, own_reservations, known_reservations, InOrder, IsKept, IsClosed, own_of_all, reservations_of, reservations_by, StandsBefore, FollowsEntries, Respects, All-left, All-right, AllPairs}
+-- What all records together tell once no thread steps any more: their own calls are the calls that lead from the top to
+-- the cursor. First the calls of one caller among those of all, and records of which no two have one number.
+use Rattle.ent_shared.proofs.Common.{common_steps, get_or_default, sum_by, All, Contains, rules, ◌≡◌, ℕ, suc, ◌<◌, ⊎_elim, ℤ, ◌≤ℤ◌, ◌<ℤ◌, List, [], ◌∷◌, length, get_or, refl, sym, ap, ◌∙◌, arith, Bool, true, false, cond, ◌==◌, All-weaker, All-contains, All-contains_itself, All-filter, sum_by-cons, slice_get-get_or, ints, Allocator, cursor, Reservation, RecordEntry, Own, Met, Record, low, reservations_in, own_reservations, known_reservations, InOrder, IsKept, IsClosed, own_of_all, reservations_of, reservations_by, StandsBefore, FollowsEntries, Respects, All-left, All-right, AllPairs, All-head, ◌≢◌, ◌≤◌, count_by, AllPairs-cons}
 use Rattle.ent_shared.proofs.Weighing.{sum_by-flat_map, All-flat_map}
 use Rattle.ent_shared.proofs.Records.{all_own}
-use Rattle.ent_shared.proofs.Callers.{only, sum_by_caller, own_by_caller, of_number, one_of_number}
 use Rattle.ent_shared.proofs.Sorting.{contains_cases, Falls, FallsStrictly, WeighSame, all_sorted, sum_sorted, falls_sorted, same_fall, follow_falls, follow_requests}
+
+-- one caller's calls weigh what its own calls weigh
+abbrev pub only : ℕ → (Reservation → ℕ) → Reservation → ℕ
+only caller f c = cond (c.caller == caller) (f c) 0
+
+pub sum_by_caller : (caller : ℕ) (f : Reservation → ℕ) (cs : List Reservation)
+    → sum_by f (reservations_by caller cs) ≡ sum_by (only caller f) cs
+sum_by_caller caller f [] = refl
+sum_by_caller caller f (c ∷ cs) = grind (arith, common_steps, sum_by-cons, c.caller, sum_by_caller caller f cs)
+
+pub own_by_caller : (number caller : ℕ) (f : Reservation → ℕ) (cs : List Reservation)
+    → All (λ (c : Reservation). c.caller ≡ number) cs → sum_by (only caller f) cs
+    ≡ cond (number == caller) (sum_by f cs) 0
+own_by_caller number caller f [] all = grind (arith, common_steps)
+own_by_caller number caller f (c ∷ cs) all = grind
+    (arith, common_steps, sum_by-cons, All-head, own_by_caller number caller f cs (λ i d lt. all (suc i) d (omega arith)))
+
+-- of records with different numbers only the one with this number weighs anything
+abbrev pub of_number : ℕ → (Record → ℕ) → Record → ℕ
+of_number number g r = cond (r.number == number) (g r) 0
+
+none_of_number : (number : ℕ) (g : Record → ℕ) (rs : List Record) → count_by (λ (r : Record). r.number == number) rs ≡ 0
+    → sum_by (of_number number g) rs ≡ 0
+none_of_number number g [] none = refl
+none_of_number number g (r ∷ rs) none = grind (arith, common_steps, sum_by-cons, none_of_number number g rs)
+
+counted : (number : ℕ) (rs : List Record) (r : Record) → Contains rs r → r.number ≡ number
+    → 1 ≤ count_by (λ (x : Record). x.number == number) rs
+counted number rs r inside is = grind (arith, common_steps)
+
+-- records of which no two have one number differ in it
+pub numbers_differ : (rs : List Record) → ((k : ℕ) → count_by (λ (r : Record). r.number == k) rs ≤ 1)
+    → AllPairs (λ r s. r.number ≢ s.number) rs
+numbers_differ [] few = λ i j d lt within. absurd (omega arith)
+numbers_differ (r ∷ rs) few = AllPairs-cons (λ x y. x.number ≢ y.number) r rs
+    (λ i d lt same. grind (arith, common_steps, sum_by-cons, few r.number, counted))
+    (numbers_differ rs (λ k. grind (arith, common_steps, sum_by-cons, few k)))
+
+pub one_of_number : (number : ℕ) (g : Record → ℕ) (rs : List Record) (r : Record)
+    → count_by (λ (x : Record). x.number == number) rs ≤ 1 → Contains rs r → r.number ≡ number
+    → sum_by (of_number number g) rs ≡ g r
+one_of_number number g [] r few inside is = absurd (omega arith)
+one_of_number number g (x ∷ rs) r few inside is = grind
+    (arith, common_steps, sum_by-cons, contains_cases, none_of_number, one_of_number number g rs r, counted)
 
 -- a record's own calls
 abbrev own_calls : Record → List Reservation
@@ -16,8 +59,8 @@ pub reservations_are : (start : Allocator) (count : ℕ) (records : List Record)
 reservations_are start count records at k whole =
     let inside = All-flat_map own_calls (Contains k.log) records
     (λ i d lt. all_own (Contains k.log) (get_or records i d).entries (k.each i d lt).marks.known) in
-    same_fall (reservations_of records) k.log (falls_sorted (own_of_all records))
-    (follow_falls (cursor start) k.log at k.follow) (all_sorted (Contains k.log) (own_of_all records) inside)
+    same_fall _ _ (falls_sorted (own_of_all records)) (follow_falls (cursor start) k.log at k.follow)
+    (all_sorted (Contains k.log) (own_of_all records) inside)
     (λ f. search (rules, sum_sorted, sum_by-flat_map, k.all whole f))
 
 -- of two reservations of a list that falls the later one is lower
@@ -36,9 +79,8 @@ after_one : (cs before : List Reservation) (later : Reservation) → FallsStrict
     → All (λ (c : Reservation). 0 < c.requested) cs → All (Contains cs) before → Contains cs later
     → All (λ (earlier : Reservation). later.high ≤ℤ low earlier) before → All (λ (earlier : Reservation). StandsBefore
     cs earlier later) before
-after_one cs before later falls requests in_before in_later order i d lt =
-    let some_request = All-contains (λ (c : Reservation). 0 < c.requested) cs _ requests (in_before i d lt) in
-    search (rules, stands, order i d lt, in_before i d lt)
+after_one cs before later falls requests in_before in_later order i d lt = search
+    (rules, All-contains, stands, order i d lt, in_before i d lt)
 
 -- what a record knew before its own calls stands before them
 follows : (cs : List Reservation) (es : List RecordEntry) → FallsStrictly cs
@@ -62,8 +104,11 @@ own_fall (Own c ∷ es) requests order = (
 
 strictly_by : (caller : ℕ) (cs : List Reservation) → FallsStrictly cs → FallsStrictly (reservations_by caller cs)
 strictly_by caller [] falls = tt
-strictly_by caller (c ∷ cs) falls = search
-    (rules, strictly_by caller cs falls.1, All-filter (λ (d : Reservation). d.caller == caller) (λ (d : Reservation). d.high <ℤ c.high) cs falls.0)
+strictly_by caller (c ∷ cs) falls = search (
+  rules,
+  strictly_by caller cs falls.1,
+  All-filter (λ (d : Reservation). d.caller == caller) (λ (d : Reservation). d.high <ℤ c.high) cs falls.0,
+)
 
 contains_by : (caller : ℕ) (cs : List Reservation) (c : Reservation) → Contains cs c → c.caller ≡ caller
     → Contains (reservations_by caller cs) c

@@ -1,11 +1,74 @@
--- The end of a phase where some reservers are lost: the front of the pool counts as reserved.
-use Rattle.ent_shared.proofs.Common.{rules, ◌≡◌, ℕ, ◌+◌, ◌-◌, ◌*◌, ◌^◌, ◌<◌, ◌≤◌, ℤ, pos, ◌+ℤ◌, ◌-ℤ◌, ◌≤ℤ◌, get_or, List, [], ◌∷◌, length, take, drop, sym, ap, ◌∙◌, arith, AllPairs, ◌⊎◌, ◌≢◌, neg_ℤ, zero-add, refl, map, Ok, Err, common_steps, true, false, cond, nat_le, sum_by, drop-take, take-take, take_all, drop_all, length-take, take-append-drop, All-head, All-tail, All-nil, All-append, All-take, All-drop, All-contains, All-contains_itself, All-permutation, int_max, ints, Handle, Entities, quota, Allocator, available, cursor, top, asked_at, pool_at, listed, settled, IsSound, IsLive, length-available, flushed-laid_out, asked_at-is, listed-IsPermutation, not_apart, given_in-distinct, Reservation, Record, Opening, low, own_reservations, requested_by, after_loss, Follow, HasItsReply, IsStart, IsClosed, history_of, handles_of, as_call, own_of_all, All, Contains, w64, to_z, of_z}
+-- The end of a phase where some reservers are lost: the front of the pool counts as reserved. The handles of a list
+-- differ if each is there at most once, so those of some reservers differ if those of all do.
+use Rattle.ent_shared.proofs.Common.{rules, ◌≡◌, ℕ, ◌+◌, ◌-◌, ◌*◌, ◌^◌, ◌<◌, ◌≤◌, ℤ, pos, ◌+ℤ◌, ◌-ℤ◌, ◌≤ℤ◌, get_or, List, [], ◌∷◌, length, take, drop, sym, ap, ◌∙◌, arith, AllPairs, ◌⊎◌, ◌≢◌, neg_ℤ, zero-add, refl, map, Ok, Err, common_steps, true, false, cond, nat_le, sum_by, drop-take, take-take, take_all, drop_all, length-take, take-append-drop, All-head, All-tail, All-nil, All-append, All-take, All-drop, All-contains, All-contains_itself, All-permutation, int_max, ints, Handle, Entities, quota, Allocator, available, cursor, top, asked_at, pool_at, listed, settled, IsSound, IsLive, length-available, flushed-laid_out, asked_at-is, listed-IsPermutation, not_apart, given_in-distinct, Reservation, Record, Opening, low, own_reservations, requested_by, after_loss, Follow, HasItsReply, IsClosed, history_of, handles_of, as_call, own_of_all, All, Contains, w64, to_z, of_z, IsPhase, Shared, TableId, nat_tests, AllPairs-cons, sum_by-append, sum_by-cons, handle_eq, handles_in, AllPairs-head, AllPairs-tail, weigh}
 use Rattle.ent_alloc.specs.History as history
 use Rattle.ent_shared.proofs.Words.{requested}
 use Rattle.ent_shared.proofs.Records.{all_own}
 use Rattle.ent_shared.proofs.Closing.{asked_in_all, cursor_least, cursor_greatest, final_cursor}
-use Rattle.ent_shared.proofs.GivenApart.{some_differ}
 use Rattle.ent_shared.proofs.Settling.{IsLater, legal_from}
+use Rattle.ent_shared.proofs.Sorting.{contains_cases}
+use Rattle.ent_shared.proofs.Weighing.{sum_by-flat_map}
+
+abbrev Differ : List Handle → Type 0
+Differ = AllPairs (λ g h. g ≢ h)
+
+-- 1 for this handle, 0 for others
+abbrev is_one : Handle → Handle → ℕ
+is_one h g = cond (handle_eq g h) 1 0
+
+one_itself : (h : Handle) → is_one h h ≡ 1
+one_itself h = grind (arith, nat_tests)
+
+same_parts : (g h : Handle) → g.index ≡ h.index → g.generation ≡ h.generation → g ≡ h
+same_parts g h index generation i = record { index = index i; generation = generation i }
+
+none_other : (g h : Handle) → h ≢ g → is_one h g ≡ 0
+none_other g h other = grind (arith, common_steps, nat_tests, same_parts h g, other)
+
+same_or_none : (g h : Handle) → (h ≡ g) ⊎ (is_one h g ≡ 0)
+same_or_none g h = grind (arith, common_steps, nat_tests, same_parts h g)
+
+none_there : (h : Handle) (gs : List Handle) → All (λ g. h ≢ g) gs → sum_by (is_one h) gs ≡ 0
+none_there h [] all = refl
+none_there h (g ∷ gs) all = grind (
+  arith,
+  common_steps,
+  sum_by-cons,
+  none_there h gs (All-tail (λ g. h ≢ g) g gs all),
+  none_other g h (All-head (λ g. h ≢ g) g gs all),
+)
+
+-- each handle of the list counts
+counted : (h : Handle) (gs : List Handle) → Contains gs h → 1 ≤ sum_by (is_one h) gs
+counted h [] inside = absurd (omega arith)
+counted h (g ∷ gs) inside = grind (arith, common_steps, sum_by-cons, contains_cases, one_itself h, counted h gs)
+
+-- a list of different handles has each at most once
+once : (gs : List Handle) → Differ gs → (h : Handle) → sum_by (is_one h) gs ≤ 1
+once [] differ h = omega arith
+once (g ∷ gs) differ h =
+    let rest = once gs (AllPairs-tail (λ g h. g ≢ h) g gs differ) h in
+    let others = none_there g gs (AllPairs-head (λ g h. g ≢ h) g gs differ) in
+    grind (arith, common_steps, sum_by-cons, same_or_none g h, one_itself g)
+
+-- and the other way around
+differ_if_once : (gs : List Handle) → ((h : Handle) → sum_by (is_one h) gs ≤ 1) → Differ gs
+differ_if_once [] few = λ i j d lt within. absurd (omega arith)
+differ_if_once (g ∷ gs) few = AllPairs-cons (λ g h. g ≢ h) g gs
+    (λ i d lt same. grind (arith, common_steps, sum_by-cons, one_itself g, few g, counted, All-contains_itself))
+    (differ_if_once gs (λ h. grind (arith, common_steps, sum_by-cons, few h)))
+
+-- a handle is in replies as often as in the lists of their handles
+in_replies : (h : Handle) (cs : List Reservation) → sum_by (is_one h) (handles_of cs)
+    ≡ sum_by (λ (c : Reservation). sum_by (is_one h) (handles_in c.reply)) cs
+in_replies h [] = refl
+in_replies h (c ∷ cs) = search (rules, sum_by-append, sum_by-cons, in_replies h cs)
+
+-- what these records were given differs if what all were given does
+pub some_differ : (records : List Record) (log : List Reservation) → ((f : Reservation → ℕ) → weigh f records ≤ sum_by f
+    log) → Differ (handles_of log) → Differ (handles_of (own_of_all records))
+some_differ records log some differ = differ_if_once _ (λ h. grind
+    (arith, common_steps, in_replies, once (handles_of log) differ h, some (λ c. sum_by (is_one h) (handles_in c.reply)), sum_by-flat_map))
 
 -- what lies inside the front of a list is in it
 front_contains : (xs : List Handle) (k n asked : ℕ) → k + n ≤ asked
@@ -98,7 +161,8 @@ module _ (start : Allocator) (sound : IsSound start) (flushed : start.asked ≡ 
         all_asked = λ all_here. k.all all_here requested;
         most_asked = k.quota;
         reached = λ i d lt. let mark = (k.each i d lt).marks.mark in omega (arith, ints);
-        whole = λ all_here. left ∙ sym (final_cursor start count records at k sound flushed all_here ∙ (omega (arith, ints)));
+        whole = λ all_here. left ∙ sym (final_cursor start count records at k sound flushed all_here ∙ (omega
+            (arith, ints)));
         least = cursor_least start count records at k sound flushed few;
         greatest = floor_in;
         all_given = λ room. grind (arith, ints);
@@ -113,23 +177,23 @@ module _ (start : Allocator) (sound : IsSound start) (flushed : start.asked ≡ 
             (legal_from start start k.log at itself k.follow k.replied));
       }
 
-pub lost : (entities : Entities) (start : Allocator) (n count room : ℕ) (key : Opening) (records : List Record)
-    (at floor roomed : ℤ) → IsStart entities.allocator → IsSound entities.allocator → n ≤ 1024
-    → key ≡ record { entities = entities; count = n } → entities.allocator ≡ start → n ≡ count
+pub lost : (entities : Entities) (n room : ℕ) (key : Opening) (word : TableId) (shared : Shared) (records : List Record)
+    (at floor roomed : ℤ) → IsPhase entities n key word
+    → record { word = word; start = entities.allocator; rows = entities.rows; count = n } ≡ shared
     → IsClosed key.entities.allocator key.count records at
     → room ≡ entities.allocator.limits.slots - entities.allocator.made → room < 2 ^ 32 → roomed ≡ pos room
     → floor ≡ int_max (to_z w64 (of_z w64 at)) (to_z w64 (of_z w64 (pos 0 -ℤ to_z w64 (of_z w64 roomed))))
-    → Lost entities.allocator start count records (to_z w64 (of_z w64 at)) (to_z w64 (of_z w64 floor))
-lost entities start n count room key records at floor roomed begins sound few key_is here_is n_is closed room_is
-    room_small roomed_is floor_is =
+    → Lost entities.allocator shared.start shared.count records (to_z w64 (of_z w64 at)) (to_z w64 (of_z w64 floor))
+lost entities n room key word shared records at floor roomed phase view closed room_is room_small roomed_is floor_is =
     let here : Allocator = entities.allocator in
-    let small = begins.top in
-    let k : IsClosed here n records at = rw key_is at closed in
-    let least = cursor_least here n records at k sound begins.flushed few in
-    let greatest = cursor_greatest here n records at k sound begins.flushed in
+    let small = phase.begins.top in
+    let k : IsClosed here n records at = rw phase.key_is at closed in
+    let least = cursor_least here n records at k phase.sound phase.begins.flushed phase.few in
+    let greatest = cursor_greatest here n records at k phase.sound phase.begins.flushed in
     let at_word : to_z w64 (of_z w64 at) ≡ at = omega (arith, ints) in
     let end_word : to_z w64 (of_z w64 (pos 0 -ℤ to_z w64 (of_z w64 roomed)))
     ≡ neg_ℤ (pos (here.limits.slots - here.made)) = omega (arith, ints) in
     let max_is = rw (at_word, end_word) at floor_is in
     let floor_word : to_z w64 (of_z w64 floor) ≡ floor = grind (arith, ints) in
-    search (rules, lost_at, begins.flushed)
+    rw (← view, at_word, floor_word)
+    (lost_at here phase.sound phase.begins.flushed n records at floor phase.few k max_is)

@@ -86,7 +86,13 @@ kept_reserved start at log n r within top k =
       caller = grind (arith, common_steps, own-made, All-append, all_one);
       quota = record {
         quota = quota-reserved r at n within k.quota.quota;
-        floor = rw (own-made es c, floor-made start (own_reservations es) c (all_own Q es lower) (omega (arith, ints)), k.start_is, k.quota.floor) refl;
+        floor =
+            rw (
+              own-made es c,
+              floor-made start (own_reservations es) c (all_own Q es lower) (omega (arith, ints)),
+              k.start_is,
+              k.quota.floor,
+            ) refl;
       };
       marks = record {
         mark = omega (arith, ints);

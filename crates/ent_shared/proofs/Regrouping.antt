@@ -1,5 +1,6 @@
--- Seats that share out the same records in two ways: what the records weigh and what holds of each.
-use Rattle.ent_shared.proofs.Common.{All-left, All-right, common_steps, rules, arith, ◌≡◌, ℕ, zero, suc, List, [], ◌∷◌, ◌++◌, length, set, sym, ◌∙◌, append_assoc, append-nil, IsPermutation, sum_by, All, set_comm, flat_map-append, length-flat_map, All-nil, All-cons, IsPermutation-refl, IsPermutation-sym, IsPermutation-trans, IsPermutation-append, IsPermutation-append_comm, sum_by-IsPermutation, All-permutation, length_permutation, some, some-ne-none, get_elem?, set_else, set_again, records_in, IsPermutation-append_right}
+-- Holders that share out the same records in two ways: what the records weigh and what holds of each. So a rule that goes
+-- by the records holds on as they move from holder to holder.
+use Rattle.ent_shared.proofs.Common.{All-left, All-right, common_steps, rules, arith, ◌≡◌, ℕ, zero, suc, List, [], ◌∷◌, ◌++◌, length, set, sym, ◌∙◌, append_assoc, append-nil, IsPermutation, sum_by, All, set_comm, flat_map-append, length-flat_map, All-nil, All-cons, IsPermutation-refl, IsPermutation-sym, IsPermutation-trans, IsPermutation-append, IsPermutation-append_comm, sum_by-IsPermutation, All-permutation, length_permutation, some, some-ne-none, get_elem?, set_else, set_again, records_in, IsPermutation-append_right, take, drop, refl, State, Splits, Joins, Enters, GoesByRecords}
 use Rattle.ent_shared.proofs.Weighing.{sum_by-flat_map, All-flat_map}
 
 module _ {R : Type 0} where
@@ -23,7 +24,7 @@ module _ {R : Type 0} where
   turned xs ys zs = rw (sym (append_assoc xs ys zs), sym (append_assoc ys xs zs)) (IsPermutation-append _ _ _ _
       (IsPermutation-append_comm xs ys) (IsPermutation-refl zs))
 
-  -- the records of one seat, and then those of the others
+  -- the records of one holder, and then those of the others
   set_first : (views : List (List R)) (id : ℕ) (v w : List R) → get_elem? views id ≡ some v
       → IsPermutation (records_in (set views id w)) (w ++ records_in (set views id []))
   set_first [] id v w at = absurd (some-ne-none v (sym at))
@@ -35,21 +36,21 @@ module _ {R : Type 0} where
       → IsPermutation (records_in views) (v ++ records_in (set views id []))
   seat_first views id v at = search (rules, set_again views id v, set_first views id v v)
 
-  -- a seat's records in two seats
+  -- a holder's records in two holders
   pub same_split : (views : List (List R)) (id : ℕ) (v left right : List R) → get_elem? views id ≡ some v
       → IsPermutation v (left ++ right) → IsPermutation (records_in views)
       (records_in (set views id left ++ right ∷ []))
   same_split views id v left right at parts =
       let others : List R = records_in (set views id []) in
-      let first : IsPermutation (records_in views) (left ++ (right ++ others)) = rw
-      (sym (append_assoc left right others))
-      (search (rules, IsPermutation-trans, seat_first, IsPermutation-append, IsPermutation-refl)) in
-      let second = IsPermutation-trans _ _ _ (turned left right others) (IsPermutation-append_comm right _) in
+      let first : IsPermutation (records_in views) ((left ++ right) ++ others) = search
+      (rules, IsPermutation-trans, seat_first, IsPermutation-append, IsPermutation-refl) in
+      let second : IsPermutation ((left ++ right) ++ others) ((left ++ others) ++ right) = search
+      (rules, append_assoc, IsPermutation-append, IsPermutation-refl, IsPermutation-append_comm) in
       let third : IsPermutation ((left ++ others) ++ right) (records_in (set views id left) ++ right) = search
       (rules, IsPermutation-append, IsPermutation-sym, set_first, IsPermutation-refl) in
       search (rules, append-nil, flat_map-append, IsPermutation-trans)
 
-  -- two seats' records in one
+  -- two holders' records in one
   pub same_join : (views : List (List R)) (id other : ℕ) (v w both : List R) → get_elem? views id ≡ some v
       → ¬ (other ≡ id) → get_elem? (set views id both) other ≡ some w → IsPermutation (v ++ w) both
       → IsPermutation (records_in views) (records_in (set (set views id both) other []))
@@ -66,6 +67,22 @@ module _ {R : Type 0} where
       (rules, IsPermutation-sym, set_first) in
       grind (arith, common_steps, set_comm, IsPermutation-trans)
 
-  -- one more seat, which has no record
+  -- one more holder, which has no record
   pub same_entered : (views : List (List R)) → records_in (views ++ [] ∷ []) ≡ records_in views
   same_entered views = search (rules, flat_map-append, append-nil)
+
+module _ {R : Type 0} (holds : State (Unit {0}) (List R) → Type 0) (rule : GoesByRecords holds)
+  where
+    pub splits : (id : ℕ) (v left right : List R) → IsPermutation v (left ++ right) → Splits holds id v left right
+    splits id v left right parts s k at = rule s _ (same_split s.views id v left right at parts) k
+
+    pub splits_first : (id : ℕ) (v : List R) → Splits holds id v (drop 1 v) (take 1 v)
+    splits_first id [] = splits id [] [] [] (IsPermutation-refl [])
+    splits_first id (r ∷ v) = splits id (r ∷ v) v (r ∷ []) (IsPermutation-append_comm (r ∷ []) v)
+
+    pub merges : (id other : ℕ) (v w : List R) → Joins holds id v other w (v ++ w) []
+    merges id other v w s k at apart there = rule s _ (same_join s.views id other v w (v ++ w) at apart there
+        (IsPermutation-refl (v ++ w))) k
+
+    pub enters : (slots : ℕ) → Enters holds slots 0 (λ word view. view ≡ [])
+    enters slots s k _ _ = ([], rule s _ (rw (same_entered s.views) (IsPermutation-refl _)) k, refl)

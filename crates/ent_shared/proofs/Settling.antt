@@ -29,9 +29,8 @@ pub legal_from : (start s : Allocator) (cs : List Reservation) (end : ℤ) → I
 legal_from start s [] end l f replied = tt
 legal_from start s (c ∷ cs) end l f replied =
     let here = replied 0 c (omega arith) in
-    let rest = legal_from start (after_take s c.requested) cs end (later_take start s c.requested l)
-    (follow_on s c cs end l.sound f.0 f.2) (All-tail (HasItsReply start) c cs replied) in
-    search (rules, here, l.made_is, pool_there start s c l f.0, rest)
+    let pool = pool_there start s c l f.0 in
+    search (rules, here, l.made_is, pool, legal_from start (after_take s c.requested) cs end, later_take, follow_on, All-tail)
 
 -- the lesser of two that is known
 pub min_right : (a b : ℤ) → b ≤ℤ a → int_min a b ≡ b
@@ -80,7 +79,8 @@ taken_floor start s (c ∷ cs) end flushed l f =
           ∙ length-append s.taken (take n s.pool) in
           let long = length-take-le n s.pool enough in
           let here : low c ≡ pos (top start) -ℤ pos (length (after_take s n).taken) = omega (arith, ints) in
-          rw (pool ∙ le-leb n (length s.pool) enough) (min_down a (low c) F (omega (arith, ints)) ∙ rw (sym here) at rest)
+          rw (pool ∙ le-leb n (length s.pool) enough) (min_down a (low c) F (omega (arith, ints)) ∙ rw (sym here) at
+          rest)
     ]
 
 -- the floor of a list does not depend on its order
@@ -108,5 +108,5 @@ floor_of_all start at log (r ∷ records) all =
 
 pub least_floor-more : (high : ℤ) (rs : List Record) (r : Record)
     → least_floor high (rs ++ r ∷ []) ≡ int_min (least_floor high rs) r.floor
-least_floor-more high [] r = min_comm r.floor high
-least_floor-more high (x ∷ rs) r = search (rules, min_assoc, least_floor-more high rs r)
+least_floor-more high [] r = grind (arith, ints)
+least_floor-more high (x ∷ rs) r = let rest = least_floor-more high rs r in grind (arith, ints)

@@ -93,7 +93,7 @@ same_fall (x ∷ xs) (y ∷ ys) falls strictly within same =
 -- calls that follow each other fall
 pub follow_below : (high : ℤ) (cs : List Reservation) (end : ℤ) → Follow high cs end
     → All (λ (c : Reservation). c.high ≤ℤ high) cs
-follow_below high [] end f = All-nil (λ (c : Reservation). c.high ≤ℤ high)
+follow_below high [] end f = All-nil _
 follow_below high (c ∷ cs) end f = grind (arith, common_steps, follow_below (low c) cs end f.2)
 
 pub follow_falls : (high : ℤ) (cs : List Reservation) (end : ℤ) → Follow high cs end → FallsStrictly cs

@@ -1,17 +1,79 @@
--- Each step keeps the rule over the cursor word and the records.
-use Rattle.ent_shared.proofs.Common.{known_reservations, low, own_reservations, reservation_at, after_reservation, rules, ◌≡◌, ℕ, ◌+◌, ◌-◌, ◌%◌, ◌^◌, ◌<◌, ◌≤◌, ℤ, pos, ◌-ℤ◌, ◌≤ℤ◌, List, [], ◌∷◌, ◌++◌, length, set, get_or, take, drop, sym, refl, ap, subst, ◌∙◌, arith, ◌==◌, cond, sum_by, All, All-head, All-nil, All-cons, All-append, All-set, IsPermutation-refl, sum_by-cons, sum_by-append, ints, some, get_elem?, Me, keeps, Allows, Splits, Joins, set_else, GoesByRecords, quota, Allocator, cursor, Reservation, Record, after_meeting, met_in, cursor_of, Follow, HasItsReply, IsKept, IsRuled, AfterReserve, ReserveTells, take-append-drop}
-use Rattle.ent_shared.proofs.Weighing.{all_one, sum_at, all_at}
-use Rattle.ent_shared.proofs.Regrouping.{sum_regrouped, length-regrouped, all_regrouped}
-use Rattle.ent_shared.proofs.Moving.{splits}
+-- The rule over the cursor word and the records: it holds before the first step, each step keeps it, and what it says
+-- after the last one.
+use Rattle.ent_shared.proofs.Common.{known_reservations, low, own_reservations, reservation_at, after_reservation, rules, ◌≡◌, ℕ, ◌+◌, ◌-◌, ◌%◌, ◌^◌, ◌<◌, ◌≤◌, ℤ, pos, ◌-ℤ◌, ◌≤ℤ◌, List, [], ◌∷◌, ◌++◌, length, set, get_or, take, drop, sym, refl, ap, subst, ◌∙◌, arith, ◌==◌, cond, sum_by, All, All-head, All-nil, All-cons, All-append, All-set, IsPermutation-refl, sum_by-cons, sum_by-append, ints, some, get_elem?, Me, keeps, Allows, Splits, Joins, set_else, GoesByRecords, quota, Allocator, cursor, Reservation, Record, after_meeting, met_in, cursor_of, Follow, HasItsReply, IsKept, IsRuled, AfterReserve, ReserveTells, take-append-drop, common_steps, zero, suc, State, opening, opened, opened_records, weigh, IsStart, IsClosed}
+use Rattle.ent_shared.proofs.Weighing.{all_one, sum_at, all_at, whole_weighs}
+use Rattle.ent_shared.proofs.Regrouping.{sum_regrouped, length-regrouped, all_regrouped, splits}
 use Rattle.ent_shared.proofs.Records.{own-made, own-met, kept_on, kept_reserved, kept_met}
-use Rattle.ent_shared.proofs.Words.{follow_asked, word_least, word_greatest, lowered, lowered_cursor, numbered}
+use Rattle.ent_shared.proofs.Words.{follow_asked, word_least, word_greatest, lowered, lowered_cursor, numbered, left_of, all_quota}
 
 follow-snoc : (high : ℤ) (cs : List Reservation) (c : Reservation) (end : ℤ) → Follow high cs end → c.high ≡ end
     → 0 < c.requested → Follow high (cs ++ c ∷ []) (low c)
-follow-snoc high [] c end f is some_request = (is ∙ sym f, some_request, refl)
+follow-snoc high [] c end f is some_request = search rules
 follow-snoc high (d ∷ cs) c end f is some_request = (f.0, f.1, follow-snoc (low d) cs c end f.2 is some_request)
 
 module _ (start : Allocator) (count : ℕ) where
+  -- before the first step
+  weigh-opened : (f : Reservation → ℕ) (number many : ℕ) → weigh f (opened_records start number many) ≡ 0
+  unfolding opened_records
+  weigh-opened f number zero = refl
+  weigh-opened f number (suc many) = grind (arith, common_steps, weigh-opened f (number + 1) many)
+
+  length-opened : (number many : ℕ) → length (opened_records start number many) ≡ many
+  unfolding opened_records
+  length-opened number zero = refl
+  length-opened number (suc many) = ap suc (length-opened (number + 1) many)
+
+  numbered-opened : (k number many : ℕ) → (numbered k (opened_records start number many) ≤ 1)
+      × (k < number → numbered k (opened_records start number many) ≡ 0)
+  unfolding opened_records
+  numbered-opened k number zero = (omega arith, λ _. refl)
+  numbered-opened k number (suc many) = grind (arith, common_steps, numbered-opened k (number + 1) many)
+
+  kept-opened : (at : ℤ) (number : ℕ) → at ≤ℤ cursor start → IsKept start at [] (opened start number)
+  kept-opened at number le = search (rules, All-nil)
+
+  all_kept-opened : (at : ℤ) (number many : ℕ) → at ≤ℤ cursor start → All (IsKept start at []) (opened_records start
+      number many)
+  unfolding opened_records
+  all_kept-opened at number zero le = All-nil (IsKept start at [])
+  all_kept-opened at number (suc many) le = search (rules, All-cons, kept-opened, all_kept-opened at (number + 1) many)
+
+  pub begins : (word : ℕ) → IsStart start → count ≤ 1024 → cursor_of word ≡ cursor start
+      → IsRuled start count (opening (word ∷ []) [] (opened_records start 0 count))
+  begins word is few at =
+      let v : List Record = opened_records start 0 count in
+      let least : cursor_of word ≤ℤ cursor start = omega (arith, ints) in
+      record {
+        begins = is;
+        few = few;
+        word = word;
+        words = refl;
+        spans = record { log = []; follow = sym at; all = λ f. search (rules, sum_by-cons, weigh-opened) };
+        replied = All-nil (HasItsReply start);
+        records = search (rules, sum_by-cons, length-opened);
+        numbers = λ number. (
+            let sums = sum_by-cons (numbered number) v [] in let n = (numbered-opened number 0 count).0 in omega arith);
+        each = all_one (All (IsKept start (cursor_of word) [])) v (all_kept-opened (cursor_of word) 0 count least);
+      }
+
+  -- after the last step
+  pub ends : (s : State (Unit {0}) (List Record)) (k : IsRuled start count s) (id : ℕ) (v : List Record)
+      → get_elem? s.views id ≡ some v → (at : ℤ) → cursor_of k.word ≡ at → IsClosed start count v at
+  ends s k id v there at here =
+      let sums = λ (g : List Record → ℕ). sum_at g s.views id v [] there in
+      let each = all_at (All (IsKept start (cursor_of k.word) k.spans.log)) s.views id v there k.each in
+      record {
+        log = k.spans.log;
+        follow = search (rules, here);
+        replied = k.replied;
+        each = search (rules, here, each);
+        numbers = λ number. grind (arith, sums (numbered number), k.numbers number);
+        some = λ f. grind (arith, sums (weigh f), k.spans.all f);
+        all = λ whole f. sym (whole_weighs (λ (r : Record). sum_by f (own_reservations r.entries)) s.views id v there
+            (k.records ∙ sym whole)) ∙ k.spans.all f;
+        quota = grind (arith, sums left_of, all_quota start count s k);
+      }
+
   pub reserves : (slots id : ℕ) (r : Record) (n : ℕ) → 0 < n → n ≤ r.left
       → Allows (IsRuled start count) slots id (r ∷ [], []) 0 (λ word. (word + (2 ^ 64 - n)) % 2 ^ 64)
       (ReserveTells n (r ∷ [], []))
@@ -72,12 +134,12 @@ module _ (start : Allocator) (count : ℕ) where
   reserves_at slots id me r n m view bare same some_request within = rw (view, bare, same)
       (reserves slots id r n some_request within)
 
-  -- the rule goes by the records, and not by which seat has which
+  -- the rule goes by the records, and not by which holder has which
   pub goes_by_records : GoesByRecords (IsRuled start count)
   goes_by_records s views same k =
       let weighed = sum_regrouped s.views views same in
-      let spans = λ (f : Reservation → ℕ). weighed (λ (r : Record). sum_by f (own_reservations r.entries)) ∙ k.spans.all f in
-      let numbers = λ (a : ℕ). weighed (λ (r : Record). cond (r.number == a) 1 0) in
+      let spans =
+      λ (f : Reservation → ℕ). weighed (λ (r : Record). sum_by f (own_reservations r.entries)) ∙ k.spans.all f in
       record {
         begins = k.begins;
         few = k.few;
@@ -86,7 +148,7 @@ module _ (start : Allocator) (count : ℕ) where
         spans = record { log = k.spans.log; follow = k.spans.follow; all = spans };
         replied = k.replied;
         records = length-regrouped s.views views same ∙ k.records;
-        numbers = λ a. omega (arith, k.numbers a, numbers a);
+        numbers = λ a. omega (arith, k.numbers a, weighed (λ (r : Record). cond (r.number == a) 1 0));
         each = search (rules, all_regrouped);
       }
 
@@ -119,6 +181,6 @@ module _ (start : Allocator) (count : ℕ) where
       → Joins (IsRuled start count) id v other w (met_in v w) []
   meets_at id other v w r met v_is w_is = search (rules, meets)
 
-  -- the first record stays, and the others go to a seat of their own
+  -- the first record stays, and the others go to a holder of their own
   pub splits_others : (id : ℕ) (v : List Record) → Splits (IsRuled start count) id v (take 1 v) (drop 1 v)
   splits_others id v = search (rules, splits, goes_by_records, take-append-drop, IsPermutation-refl)

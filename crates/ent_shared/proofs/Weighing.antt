@@ -23,15 +23,13 @@ module _ {X : Type 0} where
   -- where only the element at i weighs anything, all weigh what it weighs
   only_at : (f g : X → ℕ) (xs : List X) (i : ℕ) (v nothing : X) → get_elem? xs i ≡ some v → f nothing ≡ 0
       → g nothing ≡ 0 → ((x : X) → f x ≡ 0 → g x ≡ 0) → sum_by f xs ≡ f v → sum_by g xs ≡ g v
-  only_at f g xs i v nothing e f_none g_none zeros is =
-      let others = all_zero f g zeros (set xs i nothing) (omega (arith, sum_at f xs i v nothing e)) in
-      grind (arith, common_steps, others, sum_at)
+  only_at f g xs i v nothing e f_none g_none zeros is = grind
+      (arith, common_steps, sum_at, all_zero f g zeros (set xs i nothing))
 
 -- where one of the lists has as many elements as all together, all weigh what it weighs
 pub whole_weighs : {X : Type 0} (f : X → ℕ) (xss : List (List X)) (i : ℕ) (v : List X) → get_elem? xss i ≡ some v
     → sum_by length xss ≡ length v → sum_by (λ (xs : List X). sum_by f xs) xss ≡ sum_by f v
-whole_weighs {X = X} f xss i v at whole = only_at length (λ (xs : List X). sum_by f xs) xss i v [] at refl refl
-    (grind (arith, common_steps)) whole
+whole_weighs f xss i v at whole = only_at length _ xss i v [] at refl refl (grind (arith, common_steps)) whole
 
 module _ {X Y : Type 0} (g : X → List Y) where
   pub sum_by-flat_map : (f : Y → ℕ) (xs : List X) → sum_by f (flat_map g xs) ≡ sum_by (λ (x : X). sum_by f (g x)) xs

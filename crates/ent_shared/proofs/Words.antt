@@ -1,5 +1,5 @@
 -- The cursor word stays in its range, and what the code makes of it.
-use Rattle.ent_shared.proofs.Common.{suc, rules, ◌≡◌, ℕ, ◌+◌, ◌*◌, ◌-◌, ◌%◌, ◌^◌, ◌<◌, ◌≤◌, ℤ, pos, ◌+ℤ◌, ◌-ℤ◌, ◌≤ℤ◌, List, [], ◌∷◌, length, arith, suc-mul, add-mul, common_steps, ◌==◌, count_by, sum_by, All, All-weaker, sum_by-cons, ints, nat_abs, SFits, State, quota, Allocator, Reservation, Record, low, offset, cursor_of, Follow, weigh, IsKept, IsRuled, w64, to_z, of_z}
+use Rattle.ent_shared.proofs.Common.{suc, rules, ◌≡◌, ℕ, ◌+◌, ◌*◌, ◌-◌, ◌%◌, ◌^◌, ◌<◌, ◌≤◌, ℤ, pos, ◌+ℤ◌, ◌-ℤ◌, ◌≤ℤ◌, List, [], ◌∷◌, length, arith, suc-mul, add-mul, common_steps, ◌==◌, count_by, sum_by, All, All-weaker, sum_by-cons, ints, nat_abs, State, quota, Allocator, Reservation, Record, low, offset, cursor_of, Follow, weigh, IsKept, IsRuled, w64, to_z, of_z}
 
 abbrev pub requested : Reservation → ℕ
 requested c = c.requested
@@ -12,15 +12,6 @@ follow_asked high (c ∷ cs) end f = search
     (rules, c.requested, sum_by-cons, c.high, ints, follow_asked (low c) cs end f.2)
 
 -- the word as the code turns it into a cursor
-pub word_fits : (word : ℕ) → word < offset + 2 ^ 32 → SFits w64 (pos word)
-unfolding offset
-word_fits word greatest = omega (arith, ints)
-
-pub cursor_fits : (word : ℕ) → offset ≤ word + 2 ^ 50 → word < offset + 2 ^ 32
-    → SFits w64 (to_z w64 word -ℤ pos 4611686018427387904)
-unfolding offset
-cursor_fits word least greatest = omega (arith, ints)
-
 pub cursor_is : (word : ℕ) → offset ≤ word + 2 ^ 50 → word < offset + 2 ^ 32
     → to_z w64 (of_z w64 (to_z w64 word -ℤ pos 4611686018427387904)) ≡ cursor_of word
 unfolding offset
@@ -58,15 +49,15 @@ pub few_asked : (n count : ℕ) → n ≤ count * quota → count ≤ 1024 → n
 unfolding quota
 few_asked n count le few = omega arith
 
--- how many of a seat's records have this number
+-- how many of a holder's records have this number
 abbrev pub numbered : ℕ → List Record → ℕ
 numbered number = count_by (λ (r : Record). r.number == number)
 
--- what the records of a seat have left
+-- what the records of a holder have left
 abbrev pub left_of : List Record → ℕ
 left_of view = sum_by (λ (r : Record). r.left) view
 
--- what the records of a seat have left and what they have requested is their quota
+-- what the records of a holder have left and what they have requested is their quota
 view_quota : (start : Allocator) (at : ℤ) (log : List Reservation) (view : List Record) → All (IsKept start at log) view
     → left_of view + weigh requested view ≡ length view * quota
 view_quota start at log [] all = omega arith
@@ -75,7 +66,7 @@ view_quota start at log (r ∷ view) all =
     search (rules, sum_by-cons, suc-mul, view_quota start at log view (λ i d lt. all (suc i) d (omega arith)))
 
 module _ (start : Allocator) (count : ℕ) (s : State (Unit {0}) (List Record)) (k : IsRuled start count s) where
-  -- and so it is with the records of all seats
+  -- and so it is with the records of all holders
   pub all_quota : sum_by left_of s.views + sum_by requested k.spans.log ≡ count * quota
   all_quota =
       let each = All-weaker _ (λ (v : List Record). left_of v + weigh requested v ≡ length v * quota)
@@ -83,7 +74,8 @@ module _ (start : Allocator) (count : ℕ) (s : State (Unit {0}) (List Record)) 
       grind (arith, common_steps, sum_parts)
 
   pub word_least : offset ≤ k.word + 2 ^ 50
-  word_least = search (rules, follow_asked, ints, few_asked (sum_by requested k.spans.log) count (omega (arith, all_quota)) k.few)
+  word_least = search
+      (rules, follow_asked, ints, few_asked (sum_by requested k.spans.log) count (omega (arith, all_quota)) k.few)
 
   pub word_greatest : k.word < offset + 2 ^ 32
   word_greatest = search (rules, follow_asked, ints)

@@ -1,4 +1,4 @@
-pub mod Seats
+pub mod Holders
 pub mod Record
 pub mod Moves
 pub mod Rule

@@ -12,7 +12,7 @@ after_meeting r met = record r {
   mark = int_min r.mark met.mark;
 }
 
--- the records of two seats in one, after the first reserver met the second
+-- the records of two holders in one, after the first reserver met the second
 abbrev pub met_in : List Record → List Record → List Record
 met_in (r ∷ rs) (met ∷ others) = after_meeting r met ∷ met ∷ others
 met_in rs others = rs ++ others

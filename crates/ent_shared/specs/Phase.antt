@@ -67,7 +67,7 @@ blank = record {
   floor = pos 0;
 }
 
--- the one record of what a badge knows
+-- the one record of what a token knows
 abbrev pub own_of : List (List Record) → Record
 own_of ((r ∷ rs) ∷ views) = r
 own_of _ = blank
@@ -78,7 +78,7 @@ IsBelow mark entries = All (λ (c : Reservation). mark ≤ℤ low c) (known_rese
 
 -- A reserver's fields say what its record says, and its next reservation comes after all that it
 -- knows.
-pub record IsSeated (views : List (List Record)) (number left : ℕ) (floor : ℤ) : Type 0 where
+pub record IsHolding (views : List (List Record)) (number left : ℕ) (floor : ℤ) : Type 0 where
   pub views_is : views ≡ (own_of views ∷ []) ∷ []
   pub number_is : number ≡ (own_of views).number
   pub left_is : left ≡ (own_of views).left

@@ -25,7 +25,7 @@ abbrev pub Follow : ℤ → List Reservation → ℤ → Type 0
 Follow high [] end = high ≡ end
 Follow high (c ∷ cs) end = (c.high ≡ high) × (0 < c.requested) × Follow (low c) cs end
 
--- the own reservations of a seat's records, each of them weighed
+-- the own reservations of a holder's records, each of them weighed
 abbrev pub weigh : (Reservation → ℕ) → List Record → ℕ
 weigh f records = sum_by (λ (r : Record). sum_by f (own_reservations r.entries)) records
 
@@ -88,7 +88,7 @@ pub record IsStart (start : Allocator) : Type 0 where
   pub flushed : start.asked ≡ 0
   pub top : top start < 2 ^ 32
 
--- the three parts together, and each record stands in one seat at most
+-- the three parts together, and each record stands in one holder at most
 pub record IsRuled (start : Allocator) (count : ℕ) (s : State (Unit {0}) (List Record))
     : Type 0 where
   pub begins : IsStart start
@@ -101,7 +101,7 @@ pub record IsRuled (start : Allocator) (count : ℕ) (s : State (Unit {0}) (List
   pub numbers : (k : ℕ) → sum_by (count_by (λ (r : Record). r.number == k)) s.views ≤ 1
   pub each : All (All (IsKept start (cursor_of word) spans.log)) s.views
 
--- After a reservation of n by the one reserver of a seat: the word is in its range, and the record
+-- After a reservation of n by the one reserver of a holder: the word is in its range, and the record
 -- has one reservation more.
 pub record AfterReserve (n : ℕ) (r : Record) (found : ℕ) (others : List Record) : Type 0 where
   pub least : offset ≤ found + 2 ^ 50

@@ -2,12 +2,12 @@
 //! it through a shared reference.
 #![tactic(auto)]
 
+pub mod holders;
 mod phase;
 mod plays;
 mod record;
 mod reserver;
 mod rule;
-pub mod seats;
 mod shared;
 mod word;
 

@@ -3,9 +3,9 @@ ghost use Rattle.ent_alloc.specs.Sound.{IsSound};
 ghost use Rattle.ent_shared.specs.Record.{opened_records};
 ghost use Rattle.ent_shared.specs.Phase.{IsOf, records_of};
 
+use crate::holders::split_first;
 use crate::reserver::Reserver;
 use crate::rule::Opening;
-use crate::seats::split_first;
 use crate::shared::Shared;
 use crate::word;
 use ent_alloc::Entities;

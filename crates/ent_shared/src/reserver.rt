@@ -1,7 +1,7 @@
 ghost use Rattle.std.specs.Prelude.{◌≡◌};
 
+use crate::holders::RecordsToken;
 use crate::record::Record;
-use crate::seats::RecordsBadge;
 use ent_alloc::QUOTA;
 use std::marker::Model;
 
@@ -11,36 +11,36 @@ use std::marker::Model;
 /// A caller that reserves in a thread of its own takes one along.
 #[derive(Drop)]
 pub struct Reserver {
-    pub(crate) badge: RecordsBadge<Record>,
+    pub(crate) token: RecordsToken<Record>,
     pub(crate) number: usize,
     pub(crate) left: u64,
     pub(crate) floor: i64,
 }
 
 impl Model for Reserver {
-    ghost use Rattle.ent_shared.specs.Phase.{Reserver, reserver_code, own_of, IsSeated};
+    ghost use Rattle.ent_shared.specs.Phase.{Reserver, reserver_code, own_of, IsHolding};
 
     ghost Value = { Reserver };
 
     ghost coded = { reserver_code };
 
-    ghost view = { λ r. record { word = r.badge.table_id; own = own_of r.badge.views } };
+    ghost view = { λ r. record { word = r.token.table_id; own = own_of r.token.views } };
 
-    ghost invariant = { λ r. IsSeated r.badge.views r.number r.left r.floor };
+    ghost invariant = { λ r. IsHolding r.token.views r.number r.left r.floor };
 }
 
 impl Reserver {
     ghost use Rattle.std.specs.Prelude.{◌≡◌, ◌+◌};
     ghost use Rattle.ent_alloc.specs.Limits.{quota};
     ghost use Rattle.ent_shared.specs.Record.{requested_by};
-    ghost use Rattle.ent_shared.specs.Phase.{own_of, IsSeated};
+    ghost use Rattle.ent_shared.specs.Phase.{own_of, IsHolding};
 
-    pub(crate) fn new(badge: RecordsBadge<Record>, number: usize, floor: i64) -> Self
-        requires { IsSeated badge.views number quota floor }
-        ensures { result ≡ record { word = badge.table_id; own = own_of badge.views } }
+    pub(crate) fn new(token: RecordsToken<Record>, number: usize, floor: i64) -> Self
+        requires { IsHolding token.views number quota floor }
+        ensures { result ≡ record { word = token.table_id; own = own_of token.views } }
     {
         Reserver {
-            badge,
+            token,
             number,
             left: QUOTA,
             floor,

@@ -4,8 +4,8 @@ ghost use Rattle.ent_shared.specs.Record.{opened_records};
 ghost use Rattle.std.specs.Prelude.{[], take, drop};
 ghost use Rattle.ent_shared.specs.Moves.{met_in};
 
+use crate::holders::HeldRecords;
 use crate::record::Record;
-use crate::seats::SeatRecords;
 use atomic_table::{Join, Play, Split, TableRule};
 use ent_alloc::Entities;
 
@@ -18,7 +18,7 @@ pub(crate) struct Opening {
 
 pub(crate) struct Cursor;
 
-impl TableRule<(), SeatRecords<Record>, Opening> for Cursor {
+impl TableRule<(), HeldRecords<Record>, Opening> for Cursor {
     ghost holds = { λ opening. IsRuled opening.entities.allocator opening.count };
 
     ghost first = { λ opening. opened_records opening.entities.allocator 0 opening.count };
@@ -27,23 +27,23 @@ impl TableRule<(), SeatRecords<Record>, Opening> for Cursor {
 /// A reservation.
 pub(crate) struct Reserve;
 
-impl Play<(), SeatRecords<Record>> for Reserve {
+impl Play<(), HeldRecords<Record>> for Reserve {
     ghost then = { λ step before found after. ReserveTells step.first before found after };
 }
 
 /// The first reserver meets the second.
 pub(crate) struct Meet;
 
-impl Join<SeatRecords<Record>> for Meet {
+impl Join<HeldRecords<Record>> for Meet {
     ghost both = { met_in };
 
     ghost spent = { [] };
 }
 
-/// The reserver that was met goes back to a seat of its own.
+/// The reserver that was met goes back to a holder of its own.
 pub(crate) struct SplitSecond;
 
-impl Split<SeatRecords<Record>> for SplitSecond {
+impl Split<HeldRecords<Record>> for SplitSecond {
     ghost left = { λ records. take 1 records };
 
     ghost right = { λ records. drop 1 records };

@@ -17,8 +17,8 @@ ghost use Rattle.ent_shared.specs.Order.{reservations_of, history_of, handles_gi
 ghost use Rattle.ent_shared.specs.Order.{handles_of, own_of_all};
 ghost use Rattle.ent_alloc.specs.declared.refused.Refused.TheVariants.{Quota};
 
+use crate::holders::{merge, new_holder};
 use crate::reserver::Reserver;
-use crate::seats::{merge, new_seat};
 use crate::word;
 use crate::word::Word;
 use ent_alloc::{Entities, Living, Refused, Reserved, Span};
@@ -163,7 +163,7 @@ impl Shared {
         }
         // It is read once: after the atomic step the compiler would read it again.
         let left = reserver.left - 1;
-        let high = word::reserve(&self.word, &mut reserver.badge, 1);
+        let high = word::reserve(&self.word, &mut reserver.token, 1);
         reserver.left = left;
         let handle = self.entities.reply_one(high)?;
         reserver.floor = high - 1;
@@ -210,7 +210,7 @@ impl Shared {
             };
             return Ok(nothing);
         }
-        let span = Span::new(word::reserve(&self.word, &mut reserver.badge, n), n);
+        let span = Span::new(word::reserve(&self.word, &mut reserver.token, n), n);
         reserver.left -= u64::from(n);
         let handles = self.entities.reply(span)?;
         reserver.floor = span.low;
@@ -232,7 +232,7 @@ impl Shared {
         // Every reservation that b has made or learned of ends above where a's next one may begin.
         ensures mark { IsBelow a.new.own.mark b.old.own.entries }
     {
-        word::meet(&self.word, &mut a.badge, &mut b.badge);
+        word::meet(&self.word, &mut a.token, &mut b.token);
     }
 
     /// Ends the phase with all its reservers. The allocator is as if their reservations had been
@@ -334,11 +334,11 @@ fn end_phase(word: Word, top: i64, reservers: Vec<Reserver>) -> (i64, i64)
         IsClosed opening.entities.allocator opening.count (records_of reservers.items) result.0 }
     ensures floor { result.1 ≡ least_floor top (records_of reservers.items) }
 {
-    let mut all = new_seat(&word);
+    let mut all = new_holder(&word);
     let mut floor = top;
     for reserver in reservers {
         floor = floor.min(reserver.floor);
-        merge(&word, &mut all, reserver.badge);
+        merge(&word, &mut all, reserver.token);
     }
     (word::close(word, all), floor)
 }

@@ -19,9 +19,9 @@ pub enum Act {
     Nothing,
     /// Spawns one entity with this `HP`.
     Spawn(i64),
-    /// Spawns one entity with this `HP`, also if memory is refused to it once.
+    /// Spawns one entity with this `HP`, also if its first allocation fails.
     SpawnSurely(i64),
-    /// Spawns one entity with this `HP`, and then returns that memory was refused.
+    /// Spawns one entity with this `HP`, and then returns that memory ran out.
     SpawnAndStop(i64),
     Despawn(Handle),
     /// Gives the entity this `HP`.

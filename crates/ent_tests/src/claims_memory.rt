@@ -1,4 +1,4 @@
-//! Memory that is refused to the beginning of claiming.
+//! Claims that run out of memory when they are opened.
 ghost use Rattle.std.specs.Prelude.{All};
 ghost use Rattle.ent_runner.specs.Claims.{IsClaimerOf};
 

@@ -63,7 +63,7 @@ impl Line {
     }
 }
 
-/// An empty list with room for so many. Memory that is refused once is asked for again.
+/// An empty list with room for so many. An allocation that fails once is tried again.
 pub fn room<T: Drop>(rt: &impl Abort, alloc: Global, len: usize) -> Vec<T> {
     let made = match Vec::with_capacity(alloc, len) {
         Err(_) => Vec::with_capacity(alloc, len),

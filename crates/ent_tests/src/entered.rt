@@ -67,7 +67,7 @@ where
 }
 
 /// Systems that spawn, of which `stops` in a row, after the first `before` ones, then return that
-/// memory was refused.
+/// memory ran out.
 fn stopping(rt: &impl Abort, alloc: Global, before: usize, stops: usize) -> Vec<Act> {
     let mut acts = Vec::new(alloc);
     for number in 0..MANY {
@@ -146,11 +146,11 @@ fn a_worker_that_stops_does_no_more(rt: HostRuntime) {
 /// Systems that do not fail, as no more than one allocation is refused.
 const SURE: [Act; 2] = [Act::SpawnSurely(5), Act::SpawnSurely(7)];
 
-/// One worker runs systems that do not fail. So the entries of the gate tell where memory was
-/// refused: before the first system, between the two, where the list of what the worker ran grows,
+/// One worker runs systems that do not fail. So the entries of the gate tell where memory ran
+/// out: before the first system, between the two, where the list of what the worker ran grows,
 /// or after both. Each system that was entered has reserved one handle.
 #[test]
-fn refused_memory_and_what_was_entered(rt: HostRuntime) {
+fn out_of_memory_and_what_was_entered(rt: HostRuntime) {
     let alloc = rt.alloc();
     let mut world = World::new(alloc, Limits::default_limits());
     let entered = entered(&rt, alloc, &mut world);

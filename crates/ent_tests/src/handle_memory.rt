@@ -1,12 +1,12 @@
-//! Memory that is refused to the text of a handle.
+//! Texts of handles that run out of memory.
 
 use ent_handle::{Handle, Memory};
 use std::test::Fail;
 
 // Passes whichever one allocation is refused: the refused call appends nothing, and is made again.
-// `rt try --test --fail-alloc N -- refused_memory` refuses the Nth.
+// `rt try --test --fail-alloc N -- out_of_memory` refuses the Nth.
 #[test]
-fn refused_memory_appends_nothing(rt: HostRuntime) -> Result<(), Fail> {
+fn out_of_memory_appends_nothing(rt: HostRuntime) -> Result<(), Fail> {
     let mut written = Vec::new(rt.alloc());
     assert!(rt; has_appended(&mut written)?);
     assert!(rt; written.len() == 210 && written.ends_with(b"4294967294v2147483647"));
@@ -24,7 +24,7 @@ fn has_appended(written: &mut Vec<u8>) -> Result<bool, Memory> {
     Ok(true)
 }
 
-// Appends the handle's text to so many bytes, once more if memory is refused, and says whether
+// Appends the handle's text to so many bytes, once more if memory ran out, and says whether
 // nothing was appended then.
 fn is_appended(handle: Handle, written: &mut Vec<u8>, len: usize) -> Result<bool, Memory> {
     if handle.write_text(written).is_ok() {

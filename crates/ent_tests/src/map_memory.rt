@@ -1,4 +1,4 @@
-//! Memory that is refused to maps by handle.
+//! Maps by handle that run out of memory.
 
 use ent_handle::Handle;
 use ent_storage::handle_map::{HandleMap, InsertError, Uninserted};
@@ -8,9 +8,9 @@ use std::process::Abort;
 const INDEXES: &[u32] = &[0, 5, 100];
 
 // Passes whichever one allocation is refused: the refused call changes nothing, and is made again.
-// `rt try --test --fail-alloc N -- refused_memory` refuses the Nth.
+// `rt try --test --fail-alloc N -- out_of_memory` refuses the Nth.
 #[test]
-fn refused_memory_changes_nothing(rt: HostRuntime) {
+fn out_of_memory_changes_nothing(rt: HostRuntime) {
     let mut numbers = with_capacity_at_last(&rt, rt.alloc());
     for index in INDEXES {
         insert_at_last(&rt, &mut numbers, *index);

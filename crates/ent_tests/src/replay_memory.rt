@@ -1,4 +1,4 @@
-//! Memory that is refused to a run of a schedule.
+//! Runs of a schedule that run out of memory.
 
 use ent_alloc::Limits;
 use ent_handle::Memory;
@@ -14,9 +14,9 @@ const BULK: [Event; 4] = [
 ];
 
 // Passes whichever single allocation is refused: a second run goes on after the events that are done.
-// `rt try --test --fail-alloc N -- refused_memory` refuses the Nth.
+// `rt try --test --fail-alloc N -- out_of_memory` refuses the Nth.
 #[test]
-fn refused_memory_cuts_a_run(rt: HostRuntime) -> Result<(), Fail> {
+fn out_of_memory_cuts_a_run(rt: HostRuntime) -> Result<(), Fail> {
     assert!(rt; is_run_at_last(rt.alloc())?);
     Ok(())
 }

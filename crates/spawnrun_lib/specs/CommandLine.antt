@@ -126,7 +126,7 @@ AsksFor words (RunInBlocks size workers show) = (rows : List Row)
     × (subcommand_of program words ≡ Some (codes "run", rows))
     × HasRun rows (RunInBlocks size workers show)
 
--- clap's rules find the fault in the words, unless memory was refused
+-- clap's rules find the fault in the words, unless memory ran out
 abbrev pub IsFaultIn : List Text → LineFault → Type 0
 IsFaultIn words = IsFaultAmong (fault_of program words)
 

@@ -106,7 +106,7 @@ abbrev pub StopsOnEach : View → Bindings → Target → (Handle → Command) �
 StopsOnEach view names on command issued =
     IsUnlisted on issued ⊎ IsCutShort view names on command issued
 
--- One operation may have issued these commands when memory was refused to it: a spawn none.
+-- One operation may have issued these commands when it ran out of memory: a spawn none.
 abbrev pub Stops : View → Bindings → Operation → List Command → Type 0
 Stops view names (operation.Spawn bundle binds) issued = issued ≡ []
 Stops view names (operation.SpawnMany count bundle binds) issued = issued ≡ []
@@ -116,7 +116,7 @@ Stops view names (operation.Remove id on) issued =
     StopsOnEach view names on (λ h. Remove h id) issued
 Stops view names (operation.Despawn on) issued = StopsOnEach view names on Despawn issued
 
--- Memory may have been refused to one of the operations, after those before it.
+-- One of the operations may have run out of memory, after those before it.
 abbrev pub StopsAmong : View → Bindings → List Operation → List Command → Type 0
 StopsAmong view names [] queue = ⊥
 StopsAmong view names (op ∷ ops) queue =
@@ -124,6 +124,6 @@ StopsAmong view names (op ∷ ops) queue =
     ⊎ ((issued rest : List Command) × (queue ≡ issued ++ rest) × Issues view names op issued
     × StopsAmong view (names_after names op issued) ops rest)
 
--- A system may have issued these commands when memory was refused to it.
+-- A system may have issued these commands when it ran out of memory.
 abbrev pub MayStop : List Operation → View → List Command → Type 0
 MayStop ops view queue = StopsAmong view unbound ops queue

@@ -36,7 +36,7 @@ pub record HasIssued (view : View) (op : Operation) (before after : List Command
   pub may : Issues view (names_of lists) op issued
   pub names : names_of lists_after ≡ names_after (names_of lists) op issued
 
--- ---- memory was refused
+-- ---- out of memory
 
 -- The change was issued for some first handles, and not for all.
 pub record HasStoppedAmong (handles : List Handle) (command : Handle → Command)

@@ -74,7 +74,7 @@ where
 ///
 /// # Errors
 ///
-/// `Memory` if memory was refused, and then the world is dropped.
+/// `Memory` if memory ran out, and then the world is dropped.
 pub(crate) fn run<R>(
     rt: &R,
     alloc: Global,

@@ -18,7 +18,7 @@ use std::alloc::Global;
 ///
 /// # Errors
 ///
-/// `Memory`, if memory was refused to one of the operations, and for no other reason. A spawn that is
+/// `Memory`, if one of the operations ran out of memory, and for no other reason. A spawn that is
 /// refused is a command, and the run goes on.
 pub(crate) fn issue_all<Q: Issue>(
     alloc: Global,

@@ -89,7 +89,7 @@ where
 ///
 /// # Errors
 ///
-/// `Memory` if memory was refused at any point of the run.
+/// `Memory` if memory ran out at any point of the run.
 pub fn run_script<R, P: Progress>(
     rt: &R,
     alloc: Global,

@@ -40,7 +40,7 @@ impl System for ScriptSystem<'_> {
 
     /// # Errors
     ///
-    /// `Memory`, if memory was refused to one of the operations, and for no other reason. A spawn
+    /// `Memory`, if one of the operations ran out of memory, and for no other reason. A spawn
     /// that is refused for lack of slots or quota is a command of the queue, and the run goes on.
     fn run(
         &self,

@@ -41,7 +41,7 @@ impl<J: BlockNumbering> SystemInBlocks<J> for ScriptSystemInBlocks<'_> {
 
     /// # Errors
     ///
-    /// `Memory`, if memory was refused to one of the operations, and for no other reason. A spawn of
+    /// `Memory`, if one of the operations ran out of memory, and for no other reason. A spawn of
     /// more than is left of the system's block is a command of the queue, and the run goes on.
     fn run(
         &self,

@@ -20,7 +20,7 @@ pub record IsImageOf (bytes : List ℕ) (e : Entities) : Type 0 where
   pub has_image : HasImage e
   pub is : image e ≡ bytes
 
--- why these bytes may be unread: for their first fault, or for want of memory or of the device
+-- why these bytes may be unread: for their first fault, or because of memory or the device
 abbrev pub MayBeUnread : List ℕ → Unread → Type 0
 MayBeUnread bytes (unread.Fault fault) = first_fault bytes ≡ Some fault
 MayBeUnread bytes other = ⊤

@@ -83,7 +83,7 @@ fault_in words = or_else (fault_of program words) (both_fault (matches_of progra
 abbrev pub is_taken : List Text → Bool
 is_taken words = takes program words && not (has_both (matches_of program words))
 
--- the fault is one of these, unless memory was refused
+-- the fault is one of these, unless memory ran out
 abbrev pub IsFaultIn : List Text → LineFault → Type 0
 IsFaultIn words = IsFaultAmong (fault_in words)
 

@@ -36,7 +36,7 @@ const KIT_FMT: &[&str] = &[
     ")",
 ];
 
-/// `clone` in the kit, from its parameters to the end of its body. It may be refused memory, and this one
+/// `clone` in the kit, from its parameters to the end of its body. It may run out of memory, and this one
 /// isn't.
 const KIT_CLONE: &[&str] = &[
     "(",

@@ -19,7 +19,7 @@ pub struct Call<'a> {
     /// 0 where none is given.
     pub numbers: [u32; 3],
     given: usize,
-    /// Memory for an item was refused.
+    /// Memory for an item ran out.
     pub is_cut: bool,
 }
 

@@ -156,7 +156,7 @@ impl<'a> Case<'a> {
         }
     }
 
-    /// Whether the call returned what the file says. What memory was refused to can't be compared.
+    /// Whether the call returned what the file says. What ran out of memory can't be compared.
     fn is_met(&self) -> bool {
         let is_cut = self.call.is_cut || self.wanted.is_cut || self.found.is_cut;
         !is_cut

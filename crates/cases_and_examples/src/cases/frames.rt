@@ -13,7 +13,7 @@ use std::alloc::Global;
 /// A system that issues these calls, with `;` between them.
 ///
 /// It has two calls that `Commands` has not: `copy 0 1` gives each entity that has component 0 as
-/// much of component 1, and `stop` returns that memory was refused.
+/// much of component 1, and `stop` returns that memory ran out.
 #[derive(Drop)]
 pub struct Listed {
     pub calls: String,

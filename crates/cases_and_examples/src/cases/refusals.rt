@@ -11,8 +11,8 @@ const REFUSED: &str = "out of memory";
 
 /// Which calls of a file ran out of memory.
 ///
-/// In a file whose name ends with `refused` such a call is made again, if it has changed nothing. In
-/// all other files its answer is compared as any other is.
+/// In a file whose name ends with `out_of_memory` such a call is made again, if it has changed
+/// nothing. In all other files its answer is compared as any other is.
 #[derive(Drop)]
 pub struct Refusals {
     pub are_awaited: bool,
@@ -27,7 +27,7 @@ impl Refusals {
     /// Those of a file of this name.
     pub fn of(alloc: Global, name: &str) -> Result<Self, AllocError> {
         Ok(Refusals {
-            are_awaited: name.ends_with("refused.txt"),
+            are_awaited: name.ends_with("out_of_memory.txt"),
             count: 0,
             before: Out::with_room(alloc)?,
             after: Out::with_room(alloc)?,
@@ -91,7 +91,7 @@ fn answer<R: Threads + Sync>(rt: &R, layer: &mut Layer, call: &Call<'_>, out: &m
     }
 }
 
-/// Writes the state as text, again if memory for it is refused.
+/// Writes the state as text, again if memory for it runs out.
 fn write_state(layer: &Layer, call: &Call<'_>, out: &mut Out) {
     out.clear();
     layer.write_state(call, out);

@@ -12,7 +12,7 @@ use std::fmt::Display;
 #[derive(Drop)]
 pub struct Out {
     pub text: String,
-    /// Memory for a part of the text was refused.
+    /// Memory for a part of the text ran out.
     pub is_cut: bool,
 }
 
@@ -24,7 +24,7 @@ impl Out {
         }
     }
 
-    /// With room for a line, also if memory is refused to it once. So nothing of an answer is lost.
+    /// With room for a line, also if its first allocation fails. So nothing of an answer is lost.
     pub fn with_room(alloc: Global) -> Result<Self, AllocError> {
         let text = match String::with_capacity(alloc, 4096) {
             Err(_) => String::with_capacity(alloc, 4096),

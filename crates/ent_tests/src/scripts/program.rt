@@ -1,5 +1,5 @@
-//! What the program makes of words that can't be read. Devices that fail, and refused memory, are
-//! runs of the program (`examples/fail_each_device.sh`, `refuse_each_allocation.sh`).
+//! What the program makes of words that can't be read. Devices that fail, and allocations that
+//! do, are runs of the program (`examples/fail_each_device.sh`, `refuse_each_allocation.sh`).
 use super::memory::{MemorySink, NEVER};
 use spawnrun_lib::refuse_words;
 use std::io;

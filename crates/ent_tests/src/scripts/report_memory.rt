@@ -1,5 +1,5 @@
-//! Reports of what no script does, while memory is refused. Each test passes whichever single
-//! allocation is refused: `rt try --test --fail-alloc N -- refused_memory` refuses the Nth.
+//! Reports of what no script does, which run out of memory. Each test passes whichever single
+//! allocation is refused: `rt try --test --fail-alloc N -- out_of_memory` refuses the Nth.
 use ent_alloc::Limits;
 use ent_handle::{Birth, ComponentId, Handle, Memory};
 use ent_queue::Bundle;
@@ -13,13 +13,13 @@ const FRAME: &[u8] = b"frame 18446744073709551615 born 1 faults 2\n\
     fault 3 70 not alive 1234567v89\nfault 255 9999 quota left 1099511627776\n";
 
 #[test]
-fn refused_memory_of_a_frame(rt: HostRuntime) {
+fn out_of_memory_of_a_frame(rt: HostRuntime) {
     let mut out = Vec::new(rt.alloc());
     append_frame_at_last(&rt, rt.alloc(), &mut out);
     assert!(rt; out.as_slice() == FRAME);
 }
 
-// Appends the frame, once more if memory is refused. Nothing is appended then.
+// Appends the frame, once more if memory ran out. Nothing is appended then.
 fn append_frame_at_last(rt: &impl Abort, alloc: Global, out: &mut Vec<u8>) {
     if append_frame(alloc, out).is_err() {
         assert!(rt; out.is_empty());
@@ -54,13 +54,13 @@ fn report(alloc: Global) -> Result<SyncReport, Memory> {
 const WORLD: &[u8] = b"18446744073709551615.4294967295.4294967295 0v1 hp=-7 =123456\nalive 1\n";
 
 #[test]
-fn refused_memory_of_a_world(rt: HostRuntime) {
+fn out_of_memory_of_a_world(rt: HostRuntime) {
     let mut out = Vec::new(rt.alloc());
     append_world_at_last(&rt, rt.alloc(), &mut out);
     assert!(rt; out.as_slice() == WORLD);
 }
 
-// Appends the world, once more if memory is refused. Nothing is appended then.
+// Appends the world, once more if memory ran out. Nothing is appended then.
 fn append_world_at_last(rt: &impl Abort, alloc: Global, out: &mut Vec<u8>) {
     if append_world(alloc, out).is_err() {
         assert!(rt; out.is_empty());

@@ -1,4 +1,4 @@
-//! Scripts that are read, and refusals that are written, while memory is refused.
+//! Scripts that are read, and refusals that are written, which run out of memory.
 use ent_script::{ReadFault, read_script, write_refusal};
 use std::alloc::Global;
 use std::test::Fail;
@@ -13,10 +13,10 @@ fn frames_read(alloc: Global) -> Result<usize, ReadFault> {
     Ok(script.frames().len())
 }
 
-// Passes whichever single allocation is refused: `rt try --test --fail-alloc N -- refused_memory`
+// Passes whichever single allocation is refused: `rt try --test --fail-alloc N -- out_of_memory`
 // refuses the Nth. Where memory ran out, it is read a second time.
 #[test]
-fn refused_memory_of_reading(rt: HostRuntime) {
+fn out_of_memory_of_reading(rt: HostRuntime) {
     let read = match frames_read(rt.alloc()) {
         Err(ReadFault::Memory) => frames_read(rt.alloc()),
         read => read,
@@ -26,7 +26,7 @@ fn refused_memory_of_reading(rt: HostRuntime) {
 
 // The same of the line of a refusal. A refused call appends nothing.
 #[test]
-fn refused_memory_of_a_refusal(rt: HostRuntime) -> Result<(), Fail> {
+fn out_of_memory_of_a_refusal(rt: HostRuntime) -> Result<(), Fail> {
     let mut out = Vec::new(rt.alloc());
     let fault = ReadFault::System {
         frame: 7,

@@ -1,17 +1,17 @@
-//! Memory that may be refused.
+//! Allocations that may fail.
 //!
 //! The contracts are those of the kit's `core/src/alloc.rt` and `std_alloc/src/room.rt`.
 
 use ::alloc::collections::TryReserveError;
 use core::fmt;
 
-/// Memory was refused.
+/// Memory ran out.
 ///
 /// The contract: a call that returns it has changed nothing that its caller can see.
 #[derive(Clone, Copy, Debug, PartialEq, Eq)]
 pub struct AllocError;
 
-/// Memory was refused, and the value that was to be stored comes back.
+/// Memory ran out, and the value that was to be stored comes back.
 #[derive(Clone, Copy, Debug, PartialEq, Eq)]
 pub struct AllocFailed<T> {
     pub value: T,

@@ -53,7 +53,7 @@ impl<K: Ord, V> BTreeMap<K, V> {
     /// The contract: the key has the value, and the one that it had comes back; or the pair comes back in an
     /// `Err`, and nothing has changed. It takes no memory for a key that has a value, and that key stays.
     ///
-    /// Rust has no stable map that returns if memory is refused. So as much as it can take is asked for
+    /// Rust has no stable map that returns if memory runs out. So as much as it can take is asked for
     /// and given back first. If another thread takes it meanwhile, and no other memory is left, the
     /// program ends.
     pub fn insert(&mut self, key: K, value: V) -> Result<Option<V>, AllocFailed<(K, V)>> {

@@ -1,4 +1,4 @@
-//! Memory that tests refuse.
+//! Allocations that fail in tests.
 
 use super::alloc::AllocError;
 use core::cell::Cell;

@@ -66,7 +66,7 @@ mod tests {
     use super::*;
 
     #[test]
-    fn refused_memory_gives_the_value_back() {
+    fn out_of_memory_gives_the_value_back() {
         let refused = refuse(|| Arc::new(7)).err();
         assert_eq!(refused, Some(AllocFailed { value: 7 }));
     }

@@ -51,7 +51,7 @@ pub trait FallibleVec<T>: Sized {
     fn insert_fallibly(&mut self, at: usize, value: T) -> Result<(), AllocFailed<T>>;
 
     /// The contract: clones of the items stand at the end, in their order. It is the kit's
-    /// `extend_with_clones` too, in which a clone may be refused memory.
+    /// `extend_with_clones` too, in which a clone may run out of memory.
     fn extend_from_slice_fallibly(&mut self, items: &[T]) -> Result<(), AllocError>
     where
         T: Clone;

@@ -1,5 +1,5 @@
 use Rattle.ent_runner.proofs.Common.{arith}
-use Rattle.ent_runner.proofs.ByNumber.{collected_on}
+use Rattle.ent_runner.proofs.Outputs.{collected_on}
 use Rattle.ent_runner.proofs.collecting.collect.Goals as goal
 
 pub loop-output-preserved : goal.loop-output-preserved

@@ -1,4 +1,4 @@
-use Rattle.ent_runner.proofs.ByNumber.{put_on}
+use Rattle.ent_runner.proofs.Outputs.{put_on}
 use Rattle.ent_runner.proofs.collecting.put_all.Goals as goal
 
 pub loop-one-preserved : goal.loop-one-preserved

@@ -1,36 +1,16 @@
-use Rattle.ent_runner.proofs.Common.{rules, ◌≡◌, ◌∙◌, ◌++◌, ap, length, take, drop, length-map, Reserver, records_of, opened_records, world_at_start}
+use Rattle.ent_runner.proofs.Common.{rules, ◌≡◌, ◌∙◌, ap, length, length-map, Reserver, records_of, world_at_start}
 use Rattle.ent_runner.proofs.Alone.{ends_in_order}
 use Rattle.ent_runner.proofs.Conducting.{written_back, none_weaker, some_weaker}
-use Rattle.ent_runner.proofs.Framed.{Issues}
-use Rattle.ent_runner.proofs.Lending.{done_seen, broken_off_seen}
+use Rattle.ent_runner.proofs.Framed.{Issues, ClosedAgain, closed_again, lost_again, broken_again, view_is}
+use Rattle.ent_runner.proofs.EachOutput.{done_seen, broken_off_seen}
 use Rattle.ent_runner.proofs.NoSystems.{ends_none}
-use Rattle.ent_runner.proofs.Lost.{ClosedAgain, closed_again, lost_again, broken_again, view_is}
 use Rattle.ent_runner.proofs.frame.run_frame.Given as given
-use Rattle.ent_runner.proofs.frame.run_frame.Goals.{In-Ok-open, After-work-queues, After-close}
+use Rattle.ent_runner.proofs.frame.run_frame.Goals.{In-Ok-open, After-close}
 use Rattle.ent_runner.proofs.frame.run_frame.Goals as goal
 
 -- the world that was opened is the one before
 same : (g : given.Over) (c : In-Ok-open g) → world_at_start c.in-Ok-open.made.0 ≡ c.args.world.now
 same g c = search rules
-
--- the reservers are written back
-back : (g : given.Over) (c : After-work-queues g) → take c.in-Ok-open.made.1.len
-    (c.work-queues.new.lent ++ drop (length c.work-queues.new.lent) c.in-Ok-open.made.1.items) ≡ c.work-queues.new.lent
-back g c = written_back _ _ _ c.in-Ok-open.made.1.ok.0
-    (c.work-queues.ensures.count ∙ ap length c.deref_mut.ensures.value)
-
-back_end : (g : given.Over) (c : After-close g) → take c.in-Ok-open.made.1.len
-    (c.work-queues.new.lent ++ drop (length c.work-queues.new.lent) c.in-Ok-open.made.1.items) ≡ c.work-queues.new.lent
-back_end g c = written_back _ _ _ c.in-Ok-open.made.1.ok.0
-    (c.work-queues.ensures.count ∙ ap length c.deref_mut.ensures.value)
-
-opened : (g : given.Over) (c : After-close g) → records_of c.deref_mut.result.now
-    ≡ opened_records c.in-Ok-open.made.0.shared.start 0 c.in-Ok-open.made.0.shared.count
-opened g c = rw c.deref_mut.ensures.value (search rules)
-
--- so many reservers there are
-many : (g : given.Over) (c : After-close g) → length c.deref_mut.result.now ≡ c.in-Ok-open.made.0.shared.count
-many g c = rw c.deref_mut.ensures.value (search rules)
 
 -- the crew has worked, and the world was closed
 closed : (g : given.Over) (c : After-close g) → ClosedAgain g.S.System.may_issue g.S.System.may_leave c.args.systems.now
@@ -41,27 +21,39 @@ closed g c =
     let own = λ (r : Reserver). r.own in
     let may = Issues g.S.System.may_issue c.args.systems.now c.view.result in
     let leave = Issues g.S.System.may_leave c.args.systems.now c.view.result in
+    let back = written_back _ _ c.work-queues.new.lent c.in-Ok-open.made.1.ok.0
+    (w.count ∙ ap length c.deref_mut.ensures.value) in
+    let many : length c.deref_mut.result.now ≡ c.in-Ok-open.made.0.shared.count = rw c.deref_mut.ensures.value
+    (search rules) in
     closed_again g.S.System.may_issue g.S.System.may_leave c.args.systems.now c.in-Ok-open.made.0 c.close.result
     c.work-queues.result (records_of c.deref_mut.result.now) (records_of c.work-queues.new.lent) _ c.view.result
-    (search rules) (view_is c.in-Ok-open.made.0 c.view.result c.view.ensures.phase c.view.ensures.entities) (opened g c)
-    (length-map c.deref_mut.result.now own ∙ many g c) (length-map c.work-queues.new.lent own ∙ (w.count ∙ many g c))
+    (search rules) (view_is c.in-Ok-open.made.0 c.view.result c.view.ensures.phase c.view.ensures.entities)
+    (rw c.deref_mut.ensures.value (search rules)) (length-map c.deref_mut.result.now own ∙ many)
+    (length-map c.work-queues.new.lent own ∙ (w.count ∙ many))
     (some_weaker c.work-queues.result (λ q. done_seen own may leave _ c.deref_mut.result.now q.items
     c.work-queues.new.lent) w.done) (none_weaker c.work-queues.result
     (broken_off_seen own may leave _ c.deref_mut.result.now c.work-queues.new.lent) w.broken_off) e.phase e.entities
-    (rw (back_end g c) at e.after) (rw (back_end g c) at e.legal) (rw (back_end g c) at e.respects)
+    (rw back at e.after) (rw back at e.legal) (rw back at e.respects)
 
 pub close-requires-clause-own : goal.close-requires-clause-own
-close-requires-clause-own g c = rw (back g (goal.at.close-requires-clause-own g c).After-work-queues)
-    (rw c.shared.ensures at c.work-queues.ensures.lent)
+close-requires-clause-own g c =
+    let w = c.work-queues.ensures in
+    rw (written_back _ _ c.work-queues.new.lent c.in-Ok-open.made.1.ok.0
+    (w.count ∙ ap length c.deref_mut.ensures.value)) (rw c.shared.ensures at w.lent)
 
 pub returns-in-Ok-apply-clause-ok : goal.returns-in-Ok-apply-clause-ok
-returns-in-Ok-apply-clause-ok g c = search (rules, closed g (goal.at.returns-in-Ok-apply-clause-ok g c).After-close, same g (goal.at.returns-in-Ok-apply-clause-ok g c).In-Ok-open)
+returns-in-Ok-apply-clause-ok g c = search
+    (rules, closed g (goal.at.returns-in-Ok-apply-clause-ok g c).After-close, same g (goal.at.returns-in-Ok-apply-clause-ok g c).In-Ok-open)
 
 pub returns-in-Ok-apply-clause-alone : goal.returns-in-Ok-apply-clause-alone
 returns-in-Ok-apply-clause-alone g c one = ends_in_order _ _ _ _ _ _ _ _ one (returns-in-Ok-apply-clause-ok g c)
 
 pub returns-in-Err-apply-clause-stopped : goal.returns-in-Err-apply-clause-stopped
-returns-in-Err-apply-clause-stopped g c = search (rules, closed g (goal.at.returns-in-Err-apply-clause-stopped g c).After-close, same g (goal.at.returns-in-Err-apply-clause-stopped g c).In-Ok-open)
+returns-in-Err-apply-clause-stopped g c = search (
+  rules,
+  closed g (goal.at.returns-in-Err-apply-clause-stopped g c).After-close,
+  same g (goal.at.returns-in-Err-apply-clause-stopped g c).In-Ok-open,
+)
 
 pub returns-in_default-queues-clause-still : goal.returns-in_default-queues-clause-still
 returns-in_default-queues-clause-still g c lost = lost_again g.S.System.may_issue g.S.System.may_leave _ _ _

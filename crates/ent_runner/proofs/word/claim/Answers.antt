@@ -2,22 +2,22 @@ use Rattle.ent_runner.proofs.Common.{rules, ◌≡◌, [], ◌∷◌, refl, clai
 use Rattle.ent_runner.proofs.Steps.{claims_at}
 use Rattle.ent_runner.proofs.word.claim.Goals as goal
 
--- the seat has the badge's record alone
-seat : (c : goal.After-seat-1) → c.into_seat-seat.result.me.0 ≡ claims_of c.args.badge.now.views ∷ []
+-- the holder has the token's record alone
+seat : (c : goal.After-seat-1) → c.into_seat-seat.result.me.0 ≡ claims_of c.args.token.now.views ∷ []
 seat c = search rules
 
 pub fetch_add-found-requires : goal.fetch_add-found-requires
 fetch_add-found-requires c = (
   search rules,
   search rules,
-  claims_at _ _ _ _ c.into_seat-seat.result.me (claims_of c.args.badge.now.views) 1 (seat c)
+  claims_at _ _ _ _ c.into_seat-seat.result.me (claims_of c.args.token.now.views) 1 (seat c)
       c.into_seat-seat.ensures.3 refl c.requires.goes_on,
 )
 
 -- what the step tells
-told : (c : goal.After-drop-badge) → AfterClaim (claims_of c.args.badge.now.views) c.fetch_add-found.result
+told : (c : goal.After-drop-token) → AfterClaim (claims_of c.args.token.now.views) c.fetch_add-found.result
     c.fetch_add-found.new.seat.me.0
-told c = c.fetch_add-found.ensures.2.1 (claims_of c.args.badge.now.views)
+told c = c.fetch_add-found.ensures.2.1 (claims_of c.args.token.now.views)
     (cc (c.into_seat-seat.ensures.2, c.replace.ensures.value, c.requires.alone)) c.requires.goes_on
 
 pub returns-clause-claims : goal.returns-clause-claims

@@ -1,5 +1,5 @@
 use Rattle.ent_runner.proofs.Common.{sym}
-use Rattle.ent_runner.proofs.Halves.{both_worked}
+use Rattle.ent_runner.proofs.Working.{both_worked}
 use Rattle.ent_runner.proofs.worker.+halves.Goals as goal
 
 pub run_all-returns : goal.run_all-returns

@@ -1,20 +1,19 @@
-use Rattle.ent_shared.proofs.Common.{rules, ◌≡◌, w64, to_z, of_z, [], ◌∷◌, arith, ap, ◌∙◌, common_steps, ints, Reserver}
+use Rattle.ent_shared.proofs.Common.{rules, ◌≡◌, w64, to_z, of_z, [], ◌∷◌, arith, ap, ◌∙◌, ints, Reserver}
 use Rattle.ent_shared.proofs.Steps.{goes_by_records}
-use Rattle.ent_shared.proofs.Merging.{item_is, items_on, records_on, floor_on}
+use Rattle.ent_shared.proofs.Sharing.{item_is, items_on, records_on, floor_on}
 use Rattle.ent_shared.proofs.shared.end_phase.Goals as goal
 
-pub new_seat-all-requires-clause-rule : goal.new_seat-all-requires-clause-rule
-new_seat-all-requires-clause-rule c = goes_by_records _ _
+pub new_holder-all-requires-clause-rule : goal.new_holder-all-requires-clause-rule
+new_holder-all-requires-clause-rule c = goes_by_records _ _
 
 pub merge-requires-clause-rule : goal.merge-requires-clause-rule
 merge-requires-clause-rule c = goes_by_records _ _
 
 pub merge-requires-clause-word : goal.merge-requires-clause-word
 merge-requires-clause-word c =
-    let i = c.loop-reserver.invariant in
-    let own = item_is (λ (r : Reserver). r.word ≡ c.args.word.shared.table_id) _ _ _ _ _ i.all c.in-Some.ensures.steps.0
-    c.requires.own in
-    (c.requires.word.0, i.seat, ap (λ (r : Reserver). r.word) c.reserver.view_is ∙ own, i.bare)
+    let own = item_is (λ (r : Reserver). r.word ≡ c.args.word.shared.table_id) _ _ _ _ _ c.loop-reserver.invariant.all
+    c.in-Some.ensures.steps.0 c.requires.own in
+    search rules
 
 pub loop-reserver-preserved : goal.loop-reserver-preserved
 loop-reserver-preserved c =
@@ -32,12 +31,3 @@ loop-reserver-preserved c =
       floor = floor_on _ _ _ _ c.loop-reserver.yielded c.in-Some.reserver i.floor (after ∙ c.min-floor.ensures.value)
           (own ∙ (view.floor_is ∙ ap (λ (r : Reserver). r.own.floor) c.reserver.view_is));
     }
-
-pub close-requires : goal.close-requires
-close-requires c = search rules
-
-pub returns-clause-cursor : goal.returns-clause-cursor
-returns-clause-cursor c = grind (arith, common_steps)
-
-pub returns-clause-floor : goal.returns-clause-floor
-returns-clause-floor c = grind (arith, common_steps)

@@ -81,7 +81,7 @@ mod tests {
     use super::*;
 
     #[test]
-    fn refused_memory_is_an_error_of_its_kind() {
+    fn out_of_memory_is_an_error_of_its_kind() {
         assert_eq!(
             io::Error::from(AllocError).kind(),
             io::ErrorKind::OutOfMemory

@@ -11,7 +11,7 @@ use crate::proved::ent_alloc::reserved::Reserved;
 use crate::proved::ent_handle::Handle;
 
 /// How many handles may be requested between two flushes.
-const MOST: u64 = 1 << 50;
+pub(super) const MOST: u64 = 1 << 50;
 
 impl Entities {
     /// Requests a handle, which the next [`flush`](Self::flush) brings to life. Until then `alloc`

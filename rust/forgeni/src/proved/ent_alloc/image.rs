@@ -4,6 +4,7 @@
 
 use alloc::vec::Vec;
 use crate::kit::vec::FallibleVec;
+use crate::proved::ent_alloc::asking::MOST;
 use crate::proved::ent_alloc::entities::Entities;
 use crate::proved::ent_alloc::image_fault::ImageFault;
 use crate::proved::ent_alloc::image_slots::{SLOT, read_long, read_word, write_word};
@@ -125,7 +126,7 @@ fn requests_of(asked: u64, reserved: u32, available: u32) -> Option<Requests>
 {
     let given = u64::from(reserved);
     let available = u64::from(available);
-    if asked <= 1 << 50
+    if asked <= MOST
         && given <= asked
         && given <= available
         && (available < asked || given == asked)

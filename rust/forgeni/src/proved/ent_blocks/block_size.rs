@@ -95,12 +95,15 @@ impl BlockSize {
     }
 }
 
+/// The least size, unless the limit is less.
+const LEAST: u64 = 64;
+
 #[inline]
 fn next_size(used: u32, limit: u32) -> u32
     // ensures { result ≡ min (max 64 (2 * used)) limit }
 {
     let twice = 2 * u64::from(used);
-    let wanted = if twice <= 64 { 64 } else { twice };
+    let wanted = if twice <= LEAST { LEAST } else { twice };
     if wanted <= u64::from(limit) {
         wanted as u32
     } else {

@@ -2,7 +2,7 @@
 
 use crate::kit::alloc::{AllocError, AllocFailed};
 
-/// Out of memory: a growth was really refused, or a call says what else counts as such. It is the
+/// Out of memory: an allocation really failed, or a call says what else counts as such. It is the
 /// only error of a call that has no other.
 #[derive(Clone, Copy, PartialEq, Eq, Hash)]
 pub struct Memory;

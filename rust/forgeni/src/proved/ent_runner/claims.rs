@@ -7,7 +7,7 @@ use crate::proved::ent_runner::rule::Opening;
 use crate::proved::ent_runner::word;
 use crate::proved::ent_runner::word::Word;
 use crate::proved::ent_handle::Memory;
-use crate::proved::ent_shared::seats::{merge, new_seat, split_first};
+use crate::proved::ent_shared::holders::{merge, new_holder, split_first};
 
 /// The numbers below a count, which workers claim side by side, each with a [`Claimer`] of its own.
 pub struct Claims {
@@ -69,7 +69,7 @@ impl Claims {
         if claimer.ended {
             return None;
         }
-        let found = word::claim(&self.word, &mut claimer.badge) as usize;
+        let found = word::claim(&self.word, &mut claimer.token) as usize;
         if found < self.numbers {
             Some(found)
         } else {
@@ -100,9 +100,9 @@ impl Claims {
         //     (range_with_len 0 self.numbers) }
     {
         let Claims { word, .. } = self;
-        let mut all = new_seat(&word);
+        let mut all = new_holder(&word);
         for claimer in claimers {
-            merge(&word, &mut all, claimer.badge);
+            merge(&word, &mut all, claimer.token);
         }
         word::close(word, all);
     }

@@ -26,7 +26,7 @@ use crate::kit::thread::Threads;
 ///
 /// # Errors
 ///
-/// - [`FrameFault::Memory`] if memory was refused before any system ran. The world is as it was. A
+/// - [`FrameFault::Memory`] if memory ran out before any system ran. The world is as it was. A
 ///   frame without systems takes no memory.
 /// - [`FrameFault::Lost`] if a system returned `Memory`, or if systems are left and no worker has
 ///   memory for the queue of another one. No command was applied. What the systems that ran had

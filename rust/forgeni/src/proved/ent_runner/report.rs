@@ -16,7 +16,7 @@ pub struct FrameReport {
 /// Why a frame stopped.
 #[derive(Debug)]
 pub enum FrameFault {
-    /// Memory was refused before any system ran. The world is as it was.
+    /// Memory ran out before any system ran. The world is as it was.
     Memory,
     /// A system returned `Memory`, or systems are left and no worker has memory for the queue of
     /// another one. No command was applied. The handles that the systems reserved stay reserved, and

@@ -4,7 +4,7 @@
 
 use crate::proved::ent_runner::record::ClaimRecord;
 use crate::kit::atomic_table::{Play, TableRule};
-use crate::proved::ent_shared::seats::SeatRecords;
+use crate::proved::ent_shared::holders::HeldRecords;
 
 /// How many numbers there are to claim, and how many claimers.
 pub(super) struct Opening {
@@ -14,9 +14,9 @@ pub(super) struct Opening {
 
 pub(super) struct Numbers;
 
-impl TableRule<(), SeatRecords<ClaimRecord>, Opening> for Numbers {}
+impl TableRule<(), HeldRecords<ClaimRecord>, Opening> for Numbers {}
 
 /// A claim.
 pub(super) struct Claim;
 
-impl Play<(), SeatRecords<ClaimRecord>> for Claim {}
+impl Play<(), HeldRecords<ClaimRecord>> for Claim {}

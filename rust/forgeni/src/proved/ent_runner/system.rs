@@ -15,7 +15,7 @@ pub trait System {
     ///
     /// # Errors
     ///
-    /// `Memory`, if memory was refused to the system. The whole frame is then lost, and what the
+    /// `Memory`, if the system ran out of memory. The whole frame is then lost, and what the
     /// system had reserved stays reserved.
     ///
     /// <details><summary>Contract</summary>

@@ -5,17 +5,17 @@
 use crate::proved::ent_runner::record::ClaimRecord;
 use crate::proved::ent_runner::rule::{Claim, Numbers, Opening};
 use crate::kit::atomic_table::{Badge, Table};
-use crate::proved::ent_shared::seats::{RecordsBadge, RecordsSeat, RecordsWord};
+use crate::proved::ent_shared::holders::{RecordsHolder, RecordsToken, RecordsWord};
 use crate::kit::alloc::AllocError;
 use core::mem;
 
 pub(super) type Word = RecordsWord<ClaimRecord, Opening, Numbers>;
 
-pub(super) type WordSeat = RecordsSeat<ClaimRecord>;
+pub(super) type WordHolder = RecordsHolder<ClaimRecord>;
 
-/// A word that begins at 0, and a seat that has all records.
+/// A word that begins at 0, and a holder that has all records.
 #[inline]
-pub(super) fn open(opening: &Opening) -> Result<(Word, WordSeat), AllocError>
+pub(super) fn open(opening: &Opening) -> Result<(Word, WordHolder), AllocError>
     // requires numbers { opening.now.numbers ≤ 2 ^ 16 }
     // requires some { 0 < opening.now.workers }
     // requires few { opening.now.workers ≤ 64 }
@@ -29,25 +29,25 @@ pub(super) fn open(opening: &Opening) -> Result<(Word, WordSeat), AllocError>
 
 /// The claiming step: adds 1 to the word. Returns the number that it found.
 #[inline]
-pub(super) fn claim(word: &Word, badge: &mut RecordsBadge<ClaimRecord>) -> u64
+pub(super) fn claim(word: &Word, token: &mut RecordsToken<ClaimRecord>) -> u64
     // requires word { (word.now.shared.table_id.words ≡ 1)
-    //     × (badge.old.table_id ≡ word.now.shared.table_id) }
-    // requires alone { badge.old.views ≡ (claims_of badge.old.views ∷ []) ∷ [] }
-    // requires goes_on { (claims_of badge.old.views).ended ≡ false }
-    // ensures same { badge.new.table_id ≡ badge.old.table_id }
-    // ensures claims { badge.new.views
-    //     ≡ (after_claim (claims_of badge.old.views) result ∷ []) ∷ [] }
-    // ensures above { All (λ n. n < result) (claims_of badge.old.views).claims }
+    //     × (token.old.table_id ≡ word.now.shared.table_id) }
+    // requires alone { token.old.views ≡ (claims_of token.old.views ∷ []) ∷ [] }
+    // requires goes_on { (claims_of token.old.views).ended ≡ false }
+    // ensures same { token.new.table_id ≡ token.old.table_id }
+    // ensures claims { token.new.views
+    //     ≡ (after_claim (claims_of token.old.views) result ∷ []) ∷ [] }
+    // ensures above { All (λ n. n < result) (claims_of token.old.views).claims }
 {
-    let mut seat = mem::replace(badge, Badge::blank()).into_seat();
+    let mut seat = mem::replace(token, Badge::blank()).into_seat();
     let found = word.shared.fetch_add::<Claim>(&mut seat, 0, 1);
-    *badge = seat.into_badge();
+    *token = seat.into_badge();
     found
 }
 
-/// Ends the claiming, of which a seat knows these records.
+/// Ends the claiming, of which a holder knows these records.
 #[inline]
-pub(super) fn close(word: Word, all: WordSeat)
+pub(super) fn close(word: Word, all: WordHolder)
     // requires word { (word.shared.table_id.words ≡ 1) × (word.shared.table_id.slots ≡ 0)
     //     × (all.table_id ≡ word.shared.table_id) }
     // ensures { AreClaimsClosed word.shared.key.numbers word.shared.key.workers all.me.0 }

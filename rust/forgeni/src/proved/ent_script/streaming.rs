@@ -84,7 +84,7 @@ pub(super) fn passes_at_most(
 }
 
 /// What is wrong with an array, of which an element has this fault, and at most so many elements
-/// may follow. Want of memory is no fault of the array, and decides at once.
+/// may follow. Running out of memory is no fault of the array, and decides at once.
 #[inline]
 pub(super) fn fault_of_array(
     reader: &mut Reader<'_>,

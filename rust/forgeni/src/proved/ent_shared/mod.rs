@@ -3,12 +3,12 @@
 //! Reservation by many threads at once: one atomic word counts down, and each caller reserves from
 //! it through a shared reference.
 
+pub mod holders;
 mod phase;
 mod plays;
 mod record;
 mod reserver;
 mod rule;
-pub mod seats;
 mod shared;
 mod word;
 

@@ -2,9 +2,9 @@
 
 use alloc::vec::Vec;
 use crate::kit::vec::FallibleVec;
+use crate::proved::ent_shared::holders::split_first;
 use crate::proved::ent_shared::reserver::Reserver;
 use crate::proved::ent_shared::rule::Opening;
-use crate::proved::ent_shared::seats::split_first;
 use crate::proved::ent_shared::shared::Shared;
 use crate::proved::ent_shared::word;
 use crate::proved::ent_alloc::Entities;

@@ -1,24 +1,24 @@
 // Made of crates/ent_shared/src/plays.rt by rust/erase. It isn't edited by hand.
 
-//! What a seat knows, and what a step makes of it.
+//! What a holder knows, and what a step makes of it.
 
 use crate::kit::atomic_table::{Join, Play, Split};
 use crate::kit::collections::LinkedList;
 
-/// What a seat knows: the records of those that it stands for. No value of it is ever made.
-pub type SeatRecords<R> = LinkedList<R>;
+/// What a holder knows: the records of those that it stands for. No value of it is ever made.
+pub type HeldRecords<R> = LinkedList<R>;
 
-/// A new seat, which has no record.
-pub(super) struct NewSeat;
+/// A new holder, which has no record.
+pub(super) struct NewHolder;
 
-impl<R> Play<(), SeatRecords<R>> for NewSeat {}
+impl<R> Play<(), HeldRecords<R>> for NewHolder {}
 
-/// The first record moves to a seat of its own.
+/// The first record moves to a holder of its own.
 pub(super) struct SplitFirst;
 
-impl<R> Split<SeatRecords<R>> for SplitFirst {}
+impl<R> Split<HeldRecords<R>> for SplitFirst {}
 
-/// The records of two seats in one.
+/// The records of two holders in one.
 pub(super) struct Merge;
 
-impl<R> Join<SeatRecords<R>> for Merge {}
+impl<R> Join<HeldRecords<R>> for Merge {}

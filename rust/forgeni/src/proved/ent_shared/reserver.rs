@@ -1,7 +1,7 @@
 // Made of crates/ent_shared/src/reserver.rt by rust/erase. It isn't edited by hand.
 
+use crate::proved::ent_shared::holders::RecordsToken;
 use crate::proved::ent_shared::record::Record;
-use crate::proved::ent_shared::seats::RecordsBadge;
 use crate::proved::ent_alloc::QUOTA;
 
 /// The right of one caller to reserve from a shared allocator, and what is left of its quota.
@@ -9,7 +9,7 @@ use crate::proved::ent_alloc::QUOTA;
 /// [`share`](crate::proved::ent_shared::share) makes them, and [`Shared::close`](crate::proved::ent_shared::Shared::close) takes them back.
 /// A caller that reserves in a thread of its own takes one along.
 pub struct Reserver {
-    pub(super) badge: RecordsBadge<Record>,
+    pub(super) token: RecordsToken<Record>,
     pub(super) number: usize,
     pub(super) left: u64,
     pub(super) floor: i64,
@@ -17,12 +17,12 @@ pub struct Reserver {
 
 impl Reserver {
     #[inline]
-    pub(super) fn new(badge: RecordsBadge<Record>, number: usize, floor: i64) -> Self
-        // requires { IsSeated badge.views number quota floor }
-        // ensures { result ≡ record { word = badge.table_id; own = own_of badge.views } }
+    pub(super) fn new(token: RecordsToken<Record>, number: usize, floor: i64) -> Self
+        // requires { IsHolding token.views number quota floor }
+        // ensures { result ≡ record { word = token.table_id; own = own_of token.views } }
     {
         Reserver {
-            badge,
+            token,
             number,
             left: QUOTA,
             floor,

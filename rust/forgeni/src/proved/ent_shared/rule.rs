@@ -2,8 +2,8 @@
 
 //! The rule over the cursor word and the records of all reservers, and what its steps tell.
 
+use crate::proved::ent_shared::holders::HeldRecords;
 use crate::proved::ent_shared::record::Record;
-use crate::proved::ent_shared::seats::SeatRecords;
 use crate::kit::atomic_table::{Join, Play, Split, TableRule};
 use crate::proved::ent_alloc::Entities;
 
@@ -15,19 +15,19 @@ pub(super) struct Opening {
 
 pub(super) struct Cursor;
 
-impl TableRule<(), SeatRecords<Record>, Opening> for Cursor {}
+impl TableRule<(), HeldRecords<Record>, Opening> for Cursor {}
 
 /// A reservation.
 pub(super) struct Reserve;
 
-impl Play<(), SeatRecords<Record>> for Reserve {}
+impl Play<(), HeldRecords<Record>> for Reserve {}
 
 /// The first reserver meets the second.
 pub(super) struct Meet;
 
-impl Join<SeatRecords<Record>> for Meet {}
+impl Join<HeldRecords<Record>> for Meet {}
 
-/// The reserver that was met goes back to a seat of its own.
+/// The reserver that was met goes back to a holder of its own.
 pub(super) struct SplitSecond;
 
-impl Split<SeatRecords<Record>> for SplitSecond {}
+impl Split<HeldRecords<Record>> for SplitSecond {}

@@ -2,9 +2,9 @@
 
 //! The cursor as one atomic word: what each kind of step does to the word and to the records.
 
+use crate::proved::ent_shared::holders::{RecordsHolder, RecordsToken, RecordsWord};
 use crate::proved::ent_shared::record::Record;
 use crate::proved::ent_shared::rule::{Cursor, Meet, Opening, Reserve, SplitSecond};
-use crate::proved::ent_shared::seats::{RecordsBadge, RecordsSeat, RecordsWord};
 use crate::kit::atomic_table::{Badge, Table};
 use crate::kit::alloc::AllocError;
 use core::mem;
@@ -14,11 +14,11 @@ const OFFSET: i64 = 1 << 62;
 
 pub(super) type Word = RecordsWord<Record, Opening, Cursor>;
 
-pub(super) type CursorSeat = RecordsSeat<Record>;
+pub(super) type CursorHolder = RecordsHolder<Record>;
 
-/// A word that begins at the cursor of the allocator, and a seat that has all records.
+/// A word that begins at the cursor of the allocator, and a holder that has all records.
 #[inline]
-pub(super) fn open(opening: &Opening) -> Result<(Word, CursorSeat), AllocError>
+pub(super) fn open(opening: &Opening) -> Result<(Word, CursorHolder), AllocError>
     // requires start { IsStart opening.now.entities.allocator }
     // requires count { opening.now.count ≤ 1024 }
     // ensures word { IfOk result (λ made.
@@ -33,28 +33,28 @@ pub(super) fn open(opening: &Opening) -> Result<(Word, CursorSeat), AllocError>
 
 /// The reservation step: subtracts `n` from the word. Returns the cursor that it found.
 #[inline]
-pub(super) fn reserve(word: &Word, badge: &mut RecordsBadge<Record>, n: u32) -> i64
+pub(super) fn reserve(word: &Word, token: &mut RecordsToken<Record>, n: u32) -> i64
     // requires word { (word.now.shared.table_id.words ≡ 1)
-    //     × (badge.old.table_id ≡ word.now.shared.table_id) }
-    // requires alone { badge.old.views ≡ (own_of badge.old.views ∷ []) ∷ [] }
+    //     × (token.old.table_id ≡ word.now.shared.table_id) }
+    // requires alone { token.old.views ≡ (own_of token.old.views ∷ []) ∷ [] }
     // requires some { 0 < n }
-    // requires quota { n ≤ (own_of badge.old.views).left }
-    // ensures same { badge.new.table_id ≡ badge.old.table_id }
-    // ensures gains { badge.new.views
-    //     ≡ (after_reservation (own_of badge.old.views) result n ∷ []) ∷ [] }
-    // ensures mark { result ≤ℤ (own_of badge.old.views).mark }
+    // requires quota { n ≤ (own_of token.old.views).left }
+    // ensures same { token.new.table_id ≡ token.old.table_id }
+    // ensures gains { token.new.views
+    //     ≡ (after_reservation (own_of token.old.views) result n ∷ []) ∷ [] }
+    // ensures mark { result ≤ℤ (own_of token.old.views).mark }
     // ensures least { (pos 0 -ℤ pos (2 ^ 50)) ≤ℤ result }
-    // ensures greatest { result ≤ℤ cursor (own_of badge.old.views).start }
+    // ensures greatest { result ≤ℤ cursor (own_of token.old.views).start }
 {
-    let mut seat = mem::replace(badge, Badge::blank()).into_seat();
+    let mut seat = mem::replace(token, Badge::blank()).into_seat();
     let found = word.shared.fetch_sub::<Reserve>(&mut seat, 0, n.into());
-    *badge = seat.into_badge();
+    *token = seat.into_badge();
     found as i64 - OFFSET
 }
 
 /// The meeting step: the first reserver's record lists what the second one has made and learned of.
 #[inline]
-pub(super) fn meet(word: &Word, a: &mut RecordsBadge<Record>, b: &mut RecordsBadge<Record>)
+pub(super) fn meet(word: &Word, a: &mut RecordsToken<Record>, b: &mut RecordsToken<Record>)
     // requires word { (word.now.shared.table_id.words ≡ 1)
     //     × (a.old.table_id ≡ word.now.shared.table_id)
     //     × (b.old.table_id ≡ word.now.shared.table_id) }
@@ -75,9 +75,9 @@ pub(super) fn meet(word: &Word, a: &mut RecordsBadge<Record>, b: &mut RecordsBad
     *a = seat.into_badge();
 }
 
-/// The cursor at the end of the phase, of which a seat knows these records.
+/// The cursor at the end of the phase, of which a holder knows these records.
 #[inline]
-pub(super) fn close(word: Word, all: CursorSeat) -> i64
+pub(super) fn close(word: Word, all: CursorHolder) -> i64
     // requires word { (word.shared.table_id.words ≡ 1) × (word.shared.table_id.slots ≡ 0)
     //     × (all.table_id ≡ word.shared.table_id) }
     // ensures { IsClosed word.shared.key.entities.allocator word.shared.key.count all.me.0 result }

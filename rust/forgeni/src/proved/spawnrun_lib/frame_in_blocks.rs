@@ -71,7 +71,7 @@ where
 ///
 /// # Errors
 ///
-/// `Memory` if memory was refused, and then the world is dropped.
+/// `Memory` if memory ran out, and then the world is dropped.
 #[inline]
 pub(super) fn run<R>(
     rt: &R,

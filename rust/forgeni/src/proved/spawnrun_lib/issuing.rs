@@ -15,7 +15,7 @@ use crate::proved::ent_world::View;
 ///
 /// # Errors
 ///
-/// `Memory`, if memory was refused to one of the operations, and for no other reason. A spawn that is
+/// `Memory`, if one of the operations ran out of memory, and for no other reason. A spawn that is
 /// refused is a command, and the run goes on.
 #[inline]
 pub(super) fn issue_all<Q: Issue>(

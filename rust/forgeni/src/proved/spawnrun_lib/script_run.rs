@@ -83,7 +83,7 @@ where
 ///
 /// # Errors
 ///
-/// `Memory` if memory was refused at any point of the run.
+/// `Memory` if memory ran out at any point of the run.
 #[inline]
 pub(crate) fn run_script<R, P: Progress>(
     rt: &R,

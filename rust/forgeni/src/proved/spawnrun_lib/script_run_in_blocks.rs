@@ -85,7 +85,7 @@ where
 ///
 /// # Errors
 ///
-/// `Memory` if memory was refused at any point of the run, or if there are no workers, more than 64, or
+/// `Memory` if memory ran out at any point of the run, or if there are no workers, more than 64, or
 /// more than 65,536 systems in a frame.
 ///
 /// <details><summary>Contract</summary>

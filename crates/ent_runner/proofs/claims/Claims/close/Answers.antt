@@ -3,8 +3,8 @@ use Rattle.ent_runner.proofs.Steps.{goes_by_records}
 use Rattle.ent_runner.proofs.Closing.{records_of, first, apart, claimed, once}
 use Rattle.ent_runner.proofs.claims.Claims.close.Goals as goal
 
-pub new_seat-all-requires-clause-rule : goal.new_seat-all-requires-clause-rule
-new_seat-all-requires-clause-rule c = goes_by_records _ _
+pub new_holder-all-requires-clause-rule : goal.new_holder-all-requires-clause-rule
+new_holder-all-requires-clause-rule c = goes_by_records _ _
 
 pub merge-requires-clause-rule : goal.merge-requires-clause-rule
 merge-requires-clause-rule c = goes_by_records _ _

@@ -1,13 +1,13 @@
 use Rattle.ent_runner.proofs.Common.{arith}
 use Rattle.ent_runner.proofs.Steps.{goes_by_records}
-use Rattle.ent_runner.proofs.Opening.{next_seated, opened_more}
+use Rattle.ent_runner.proofs.Claiming.{next_holding, opened_more}
 use Rattle.ent_runner.proofs.claims.Claims.open.Goals as goal
 
 pub split_first-requires-clause-rule : goal.split_first-requires-clause-rule
 split_first-requires-clause-rule c = goes_by_records _ _
 
 pub new-requires : goal.new-requires
-new-requires c = next_seated c.args.numbers c.args.workers c.loop.counter _ _ _ c.loop.all.me c.loop-test.true
+new-requires c = next_holding c.args.numbers c.args.workers c.loop.counter _ _ _ c.loop.all.me c.loop-test.true
     c.loop.invariant.first c.split_first.result.views c.split_first.ensures.first.1
 
 pub loop-preserved : goal.loop-preserved

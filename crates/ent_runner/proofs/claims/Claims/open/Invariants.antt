@@ -1,5 +1,5 @@
 use Rattle.ent_runner.proofs.Common.{◌≡◌, ◌≤◌, vec_len, vec_capacity}
-use Rattle.ent_runner.proofs.Opening.{AreOpened}
+use Rattle.ent_runner.proofs.Claiming.{AreOpened}
 use Rattle.ent_runner.proofs.claims.Claims.open.Given as goal
 
 abbrev pub invariant-loop : goal.invariant-loop

@@ -1,47 +1,42 @@
-use Rattle.ent_runner.proofs.Common.{◌≡◌, ◌∙◌, ap, length, arith, take, drop, ◌++◌, inl, length-replicate, Crew, HaveDoneFirst, HasClaimed, all_done}
-use Rattle.std.proofs.Common.{All}
+use Rattle.ent_runner.proofs.Common.{◌≡◌, ◌∙◌, ap, length, arith, take, drop, ◌++◌, inl, length-replicate, Crew, HaveDoneFirst, all_done}
 use Rattle.ent_runner.proofs.Conducting.{written_back, outputs_back, all_claimed, numbers_below, claimers_own, first_closed, stay, are_broken_off, done_of, lost_of, some_jobs}
 use Rattle.ent_runner.proofs.crew.Crew.work.Given as given
-use Rattle.ent_runner.proofs.crew.Crew.work.Goals.{After-run_all, After-close}
+use Rattle.ent_runner.proofs.crew.Crew.work.Goals.{After-close}
 use Rattle.ent_runner.proofs.crew.Crew.work.Goals as goal
 
 jobs_end : (g : given.Over) (c : After-close g) → c.args.self.jobs ≡ c.self.inside.claims.numbers
 jobs_end g c = cc (ap (λ (k : Crew). k.jobs) c.self.view_is)
 
 -- the workers are written back
-team : (g : given.Over) (c : After-run_all g) → take c.self.inside.workers.len
-    (c.run_all.new.workers ++ drop (length c.run_all.new.workers) c.self.inside.workers.items) ≡ c.run_all.new.workers
-team g c = written_back _ _ _ c.self.inside.workers.ok.0 (omega (arith, ap (λ (k : Crew). k.workers) c.self.view_is))
-
--- what each of them has claimed
-claimed : (g : given.Over) (c : After-run_all g) → All (HasClaimed c.self.inside.claims) c.run_all.new.workers
-claimed g c = all_claimed _ _ _ _ _ _ _ c.run_all.ensures
-
--- the same at the end
 team_end : (g : given.Over) (c : After-close g) → take c.self.inside.workers.len
     (c.run_all.new.workers ++ drop (length c.run_all.new.workers) c.self.inside.workers.items) ≡ c.run_all.new.workers
 team_end g c = written_back _ _ _ c.self.inside.workers.ok.0
     (omega (arith, ap (λ (k : Crew). k.workers) c.self.view_is))
 
-claimed_end : (g : given.Over) (c : After-close g) → All (HasClaimed c.self.inside.claims) c.run_all.new.workers
-claimed_end g c = all_claimed _ _ _ _ _ _ _ c.run_all.ensures
-
 first : (g : given.Over) (c : After-close g) → HaveDoneFirst c.self.inside.claims.numbers c.run_all.new.workers
-first g c = first_closed c.self.inside.claims c.run_all.new.workers (claimed_end g c) c.disband.new.claimers.items
+first g c = first_closed c.self.inside.claims c.run_all.new.workers
+    (all_claimed _ _ _ _ _ _ _ c.run_all.ensures) c.disband.new.claimers.items
     (rw (team_end g c) at c.disband.ensures.claimers) (omega (arith, ap (λ (k : Crew). k.workers) c.self.view_is))
     c.close.ensures.first
 
 pub disband-requires-clause-inside : goal.disband-requires-clause-inside
 disband-requires-clause-inside g c =
-    let a = (goal.at.disband-requires-clause-inside g c).After-run_all in
     let many : length c.deref_mut-2.result.now ≡ c.self.inside.claims.numbers = ap length c.deref_mut-2.ensures.value
     ∙ (ap length c.self.invariant.by_number_empty ∙ length-replicate c.self.inside.claims.numbers _) in
-    rw (team g a, many) (numbers_below _ _ (claimed g a))
+    rw (
+      written_back _ _ c.run_all.new.workers c.self.inside.workers.ok.0
+          (omega (arith, ap (λ (k : Crew). k.workers) c.self.view_is)),
+      many,
+    )
+    (numbers_below _ _ (all_claimed _ _ _ _ _ _ _ c.run_all.ensures))
 
 pub close-requires-clause-own : goal.close-requires-clause-own
-close-requires-clause-own g c =
-    let a = (goal.at.close-requires-clause-own g c).After-run_all in
-    rw (c.disband.ensures.claimers, team g a) (claimers_own _ _ (claimed g a))
+close-requires-clause-own g c = rw (
+  c.disband.ensures.claimers,
+  written_back _ _ c.run_all.new.workers c.self.inside.workers.ok.0
+      (omega (arith, ap (λ (k : Crew). k.workers) c.self.view_is)),
+)
+    (claimers_own _ _ (all_claimed _ _ _ _ _ _ _ c.run_all.ensures))
 
 pub returns-then-stopped-clause-lent : goal.returns-then-stopped-clause-lent
 returns-then-stopped-clause-lent g c = stay _ _ _ _ _ _ _ c.run_all.ensures

@@ -1,5 +1,5 @@
 use Rattle.ent_runner.proofs.Common.{rules}
-use Rattle.ent_runner.proofs.Issuing.{issued_ok, issued_err}
+use Rattle.ent_runner.proofs.Framed.{issued_ok, issued_err}
 use Rattle.ent_runner.proofs.stage.StageJobsCommandQueueReserver.run.Goals as goal
 
 pub returns-clause-does : goal.returns-clause-does

@@ -1,6 +1,6 @@
-use Rattle.ent_shared.proofs.Common.{rules, ap, ◌∙◌, pos, to_z, of_z, w64, Shared, records_of}
+use Rattle.ent_shared.proofs.Common.{rules, ap, ◌∙◌, pos, to_z, of_z, w64, records_of}
 use Rattle.ent_shared.proofs.Closing.{ended, Ended}
-use Rattle.ent_shared.proofs.Merging.{length-records_of}
+use Rattle.ent_shared.proofs.Sharing.{length-records_of}
 use Rattle.ent_shared.proofs.shared.Shared.close.Goals as goal
 use Rattle.ent_shared.proofs.shared.Shared.close.Goals.{After-end_phase-cursor}
 
@@ -8,17 +8,13 @@ use Rattle.ent_shared.proofs.shared.Shared.close.Goals.{After-end_phase-cursor}
 known : (c : After-end_phase-cursor) → Ended c.self.inside.entities.allocator c.args.self.start
     (records_of c.args.reservers.items) (to_z w64 (of_z w64 c.end_phase-cursor.result.0))
     (to_z w64 (of_z w64 c.end_phase-cursor.result.1))
-known c =
-    let phase = c.self.invariant in
-    ended _ _ _ _ c.self.inside.word.shared.key _ _ _ c.from.result phase.begins phase.sound phase.few phase.key_is
-    (ap (λ (s : Shared). s.start) c.self.view_is) (ap (λ (s : Shared). s.count) c.self.view_is)
+known c = ended _ _ _ _ _ _ _ _ _ c.self.invariant c.self.view_is
     (length-records_of c.args.reservers.items ∙ c.requires.all) c.end_phase-cursor.ensures.cursor
     (c.from.ensures ∙ ap pos c.top.ensures) c.end_phase-cursor.ensures.floor
 
 pub settle-requires : goal.settle-requires
-settle-requires c =
-    let end = known (goal.at.settle-requires c).After-end_phase-cursor in
-    search (rules, end, c.self.invariant.begins.flushed)
+settle-requires c = search
+    (rules, known (goal.at.settle-requires c).After-end_phase-cursor, c.self.invariant.begins.flushed)
 
 pub returns-clause-legal : goal.returns-clause-legal
 returns-clause-legal c = (known (goal.at.returns-clause-legal c).After-end_phase-cursor).is_legal

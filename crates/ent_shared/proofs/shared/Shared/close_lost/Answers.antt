@@ -1,7 +1,6 @@
-use Rattle.ent_shared.proofs.Common.{take, rules, arith, ◌≡◌, ◌≤ℤ◌, ap, ◌∙◌, to_z, of_z, w64, List, common_steps, Handle, cursor, Record, own_reservations, handles_of, handles_given, live-after_flush, live-stays, taken-lives, Shared, records_of}
-use Rattle.std.proofs.Common.{All, Contains}
+use Rattle.ent_shared.proofs.Common.{All, Contains, take, rules, arith, ◌≤ℤ◌, ap, ◌∙◌, to_z, of_z, w64, common_steps, cursor, Record, own_reservations, handles_of, live-after_flush, live-stays, taken-lives, records_of}
 use Rattle.ent_shared.proofs.Losing.{lost, Lost}
-use Rattle.ent_shared.proofs.Merging.{length-records_of, sum_by-records_of, all_owners}
+use Rattle.ent_shared.proofs.Sharing.{length-records_of, sum_by-records_of, all_owners}
 use Rattle.ent_shared.proofs.shared.Shared.close_lost.Goals as goal
 use Rattle.ent_shared.proofs.shared.Shared.close_lost.Goals.{After-max-end}
 
@@ -9,11 +8,8 @@ use Rattle.ent_shared.proofs.shared.Shared.close_lost.Goals.{After-max-end}
 known : (c : After-max-end) → Lost c.self.inside.entities.allocator c.args.self.start c.args.self.count
     (records_of c.args.reservers.items) (to_z w64 (of_z w64 c.end_phase-cursor.result.0))
     (to_z w64 (of_z w64 c.max-end.result))
-known c =
-    let phase = c.self.invariant in
-    lost _ _ _ _ c.room.result c.self.inside.word.shared.key _ _ _ c.from-2.result phase.begins phase.sound phase.few
-    phase.key_is (ap (λ (s : Shared). s.start) c.self.view_is) (ap (λ (s : Shared). s.count) c.self.view_is)
-    c.end_phase-cursor.ensures.cursor c.room.ensures c.room.type_inv c.from-2.ensures c.max-end.ensures.value
+known c = lost _ _ _ _ _ _ _ _ _ _ c.self.invariant c.self.view_is c.end_phase-cursor.ensures.cursor c.room.ensures
+    c.room.type_inv c.from-2.ensures c.max-end.ensures.value
 
 pub settle-requires-clause-least : goal.settle-requires-clause-least
 settle-requires-clause-least c = (known (goal.at.settle-requires-clause-least c).After-max-end).least
@@ -26,9 +22,7 @@ settle-requires-clause-all_given c = search (rules, known)
 
 pub returns-clause-after : goal.returns-clause-after
 returns-clause-after c =
-    let l = known (goal.at.returns-clause-after c).After-max-end in
-    let left = c.settle.ensures.settled ∙ l.after in
-    search (rules, left)
+    let l = known (goal.at.returns-clause-after c).After-max-end in search (rules, c.settle.ensures.settled ∙ l.after)
 
 pub returns-clause-least : goal.returns-clause-least
 returns-clause-least c =
@@ -37,41 +31,32 @@ returns-clause-least c =
     search (rules, c.args.reservers.items, sum_by-records_of, left)
 
 pub returns-clause-asked : goal.returns-clause-asked
-returns-clause-asked c = λ all_here. let l = known (goal.at.returns-clause-asked c).After-max-end in let left =
-    c.settle.ensures.settled
-    ∙ l.after in search (rules, c.args.reservers.items, sum_by-records_of, length-records_of, left)
+returns-clause-asked c all_here =
+    let l = known (goal.at.returns-clause-asked c).After-max-end in
+    search (rules, c.args.reservers.items, sum_by-records_of, length-records_of, c.settle.ensures.settled ∙ l.after)
 
 pub returns-clause-most : goal.returns-clause-most
 returns-clause-most c =
     let l = known (goal.at.returns-clause-most c).After-max-end in
-    let left = c.settle.ensures.settled ∙ l.after in
-    grind (arith, common_steps, left, c.args.reservers.items, c.args.self.count)
+    grind (arith, common_steps, c.settle.ensures.settled ∙ l.after, c.args.reservers.items, c.args.self.count)
 
 pub returns-clause-reached : goal.returns-clause-reached
 returns-clause-reached c =
     let l = known (goal.at.returns-clause-reached c).After-max-end in
-    let left = c.settle.ensures.settled ∙ l.after in
-    all_owners (λ (r : Record). cursor c.settle.new.self.allocator ≤ℤ r.mark) c.args.reservers.items
-    (search (rules, c.args.reservers.items, left))
+    search (rules, all_owners (λ (r : Record). cursor c.settle.new.self.allocator ≤ℤ r.mark), c.settle.ensures.settled ∙ l.after)
 
 pub returns-clause-whole : goal.returns-clause-whole
-returns-clause-whole c = λ all_here. let l = known (goal.at.returns-clause-whole c).After-max-end in let left =
-    c.settle.ensures.settled ∙ l.after in ap cursor left ∙ l.whole (length-records_of c.args.reservers.items ∙ all_here)
+returns-clause-whole c all_here =
+    let l = known (goal.at.returns-clause-whole c).After-max-end in
+    ap cursor (c.settle.ensures.settled ∙ l.after) ∙ l.whole (length-records_of c.args.reservers.items ∙ all_here)
 
 -- what the reservers were given is the front of the pool
-all_reserved : (c : After-max-end) (l : Lost c.self.inside.entities.allocator c.args.self.start c.args.self.count
-    (records_of c.args.reservers.items) (to_z w64 (of_z w64 c.end_phase-cursor.result.0))
-    (to_z w64 (of_z w64 c.max-end.result))) → (taken : List Handle) → taken ≡ take l.asked c.args.self.start.pool
-    → All (λ o. All (Contains taken) (handles_given o.own)) c.args.reservers.items
-all_reserved c l taken front = rw front (all_owners (λ (o : Record). All
-    (Contains (take l.asked c.args.self.start.pool)) (handles_of (own_reservations o.entries))) c.args.reservers.items
-    l.given)
-
 pub returns-clause-given : goal.returns-clause-given
 returns-clause-given c =
-    let at = (goal.at.returns-clause-given c).After-max-end in
-    let l = known at in
-    all_reserved at l _ (search (rules, l))
+    let l = known (goal.at.returns-clause-given c).After-max-end in
+    rw (c.settle.ensures.settled ∙ l.after) (all_owners (λ (o : Record). All
+    (Contains (take l.asked c.args.self.start.pool)) (handles_of (own_reservations o.entries))) c.args.reservers.items
+    l.given)
 
 pub returns-clause-distinct : goal.returns-clause-distinct
 returns-clause-distinct c = (known (goal.at.returns-clause-distinct c).After-max-end).distinct
@@ -79,8 +64,7 @@ returns-clause-distinct c = (known (goal.at.returns-clause-distinct c).After-max
 pub returns-clause-not_live : goal.returns-clause-not_live
 returns-clause-not_live c =
     let l = known (goal.at.returns-clause-not_live c).After-max-end in
-    let left = c.settle.ensures.settled ∙ l.after in
-    search (rules, left, l.none_live)
+    search (rules, c.settle.ensures.settled ∙ l.after, l.none_live)
 
 pub returns-clause-brings_to_life : goal.returns-clause-brings_to_life
 returns-clause-brings_to_life c h = search (rules, known, lost, live-after_flush, live-stays, taken-lives)

@@ -1,40 +1,37 @@
-use Rattle.ent_shared.proofs.Common.{rules, ◌-ℤ◌, pos, arith, to_z, of_z, w64, ◌++◌, append-nil, ◌≡◌, ap, ◌∙◌, handles_in, handles_given, ints, Reserver, own_of, cursor}
-use Rattle.ent_shared.proofs.Seating.{seated_reservation, of_stepped, given_now}
-use Rattle.ent_shared.proofs.Returned.{served_floor, refused_floor, span_at, nothing_at, length-served, enough_at_first}
+use Rattle.ent_shared.proofs.Common.{rules, ◌≡◌, ◌-ℤ◌, pos, arith, ap, to_z, of_z, w64, append-nil, ints, Ok, [], Span}
+use Rattle.ent_shared.proofs.Holding.{Gives, gives, nothing_at, length-served, enough_at_first}
 use Rattle.ent_shared.proofs.shared.Shared.reserve_many.Goals as goal
-use Rattle.ent_shared.proofs.shared.Shared.reserve_many.Goals.{After-reply-2}
+use Rattle.ent_shared.proofs.shared.Shared.reserve_many.Goals.{After-reply, After-reply-2}
+
+-- the reply to a request of nothing
+none : (c : After-reply) → c.reply.result ≡ Ok []
+none c = nothing_at c.self.inside.entities.allocator _ _ _ c.new.ensures.value c.reply.ensures
 
 pub unreachable-requires : goal.unreachable-requires
 unreachable-requires c =
-    let is = nothing_at c.self.inside.entities.allocator c.new.result _ c.reply.result c.new.ensures.value
-    c.reply.ensures in
+    let is = none (goal.at.unreachable-requires c).After-reply in
     let bad = c.in_default.is in
     cc
 
 pub returns-then-n-eq0-clause-nothing : goal.returns-then-n-eq0-clause-nothing
-returns-then-n-eq0-clause-nothing c = λ n. let is = nothing_at c.self.inside.entities.allocator c.new.result _
-    c.reply.result c.new.ensures.value c.reply.ensures in search (rules, c.in-Ok.is, c.in-Ok.nothing)
+returns-then-n-eq0-clause-nothing c n =
+    let is = none (goal.at.returns-then-n-eq0-clause-nothing c).After-reply in
+    search (rules, c.in-Ok.is, c.in-Ok.nothing)
 
 pub reply-requires-2 : goal.reply-requires-2
 reply-requires-2 c = search rules
 
--- the reserver is of this allocator
-started : (c : After-reply-2) → c.args.reserver.now.own.start ≡ c.self.inside.entities.allocator
-started c = search rules
-
 -- the span is the request's, at the cursor that the step found
-spanned : (c : After-reply-2) → c.new-span.result ≡ record {
-  high = c.reserve.result;
-  low = c.reserve.result -ℤ pos
-      c.args.n;
-}
-spanned c = search (rules, span_at, ints)
+spanned : (c : After-reply-2) → c.new-span.result
+    ≡ record { high = c.reserve.result; low = c.reserve.result -ℤ pos c.args.n }
+spanned c = search (rules, ints)
 
--- what the reserver was given by then
-given : (c : After-reply-2) → handles_given (own_of c.reserve.new.badge.views) ≡ handles_given c.args.reserver.now.own
-    ++ handles_in c.reply-2.result
-given c = given_now c.reserver.inside.badge.views c.reserve.new.badge.views _ _ _ _ c.args.n _ _ c.reserver.view_is
-    c.reserve.ensures.gains (started c) (spanned c) c.reply-2.ensures
+-- what it gives and leaves
+known : (c : After-reply-2) → Gives c.args.self.now c.args.reserver.now c.reserve.new.token.views
+    c.reserve.new.token.table_id c.reserver.inside.number c.reserver.inside.left c.args.n c.reserver.inside.floor
+    c.reserve.result c.reply-2.result
+known c = gives _ _ _ _ _ _ _ _ _ _ _ _ c.reserver.view_is c.reserver.invariant c.requires (omega arith)
+    c.reserve.ensures.same c.reserve.ensures.gains c.reserve.ensures.mark (search (rules, spanned))
 
 pub invariant_of-reserver-2 : goal.invariant_of-reserver-2
 invariant_of-reserver-2 c =
@@ -42,30 +39,21 @@ invariant_of-reserver-2 c =
     let least = c.reserve.ensures.least in
     let few = c.ranges.n in
     let at = (goal.at.invariant_of-reserver-2 c).After-reply-2 in
-    let span = spanned at in
-    let low_word : to_z w64 (of_z w64 c.new-span.result.low) ≡ c.new-span.result.low = omega (arith, ints) in
-    rw c.from-2.ensures (seated_reservation _ _ _ _ c.args.n _ c.reserve.result _ c.reserver.invariant
-    c.reserve.ensures.gains c.reserve.ensures.mark (omega arith)
-    (low_word ∙ served_floor (own_of c.reserver.inside.badge.views) _ _ c.args.n _ _
-    (ap (λ (r : Reserver). r.own.start) c.reserver.view_is ∙ started at) span c.reply-2.ensures _ c.in_ok-handles.was))
+    let low : to_z w64 (of_z w64 c.new-span.result.low) ≡ c.reserve.result -ℤ pos c.args.n = omega
+    (arith, ints, ap (λ (s : Span). s.low) (spanned at)) in
+    rw (c.from-2.ensures, low) ((known at).served _ c.in_ok-handles.was)
 
 pub invariant_of-reserver : goal.invariant_of-reserver
-invariant_of-reserver c =
-    let at = (goal.at.invariant_of-reserver c).After-reply-2 in
-    rw c.from-2.ensures (seated_reservation _ _ _ _ c.args.n _ c.reserve.result _ c.reserver.invariant
-    c.reserve.ensures.gains c.reserve.ensures.mark (omega arith) (c.reserver.invariant.floor_is ∙ refused_floor
-    (own_of c.reserver.inside.badge.views) _ _ c.args.n _ _ (ap (λ (r : Reserver). r.own.start) c.reserver.view_is
-    ∙ started at) (spanned at) c.reply-2.ensures _ c.in_err-handles.was))
+invariant_of-reserver c = rw c.from-2.ensures ((known (goal.at.invariant_of-reserver c).After-reply-2).refused _
+    c.in_err-handles.was)
 
 pub returns-then-n-eq0-clause-length : goal.returns-then-n-eq0-clause-length
 returns-then-n-eq0-clause-length c =
-    let is = nothing_at c.self.inside.entities.allocator c.new.result _ c.reply.result c.new.ensures.value
-    c.reply.ensures in
+    let is = none (goal.at.returns-then-n-eq0-clause-length c).After-reply in
     search (rules, c.in-Ok.is, c.in-Ok.nothing, c.if-n-eq0.true)
 
 pub returns-clause-stays : goal.returns-clause-stays
-returns-clause-stays c = of_stepped _ _ _ _ _ _ c.args.n _ _ _ _ c.reserver.view_is c.reserver.invariant c.requires
-    (omega arith) c.reserve.ensures.same c.reserve.ensures.gains
+returns-clause-stays c = (known (goal.at.returns-clause-stays c).After-reply-2).stays
 
 pub returns-clause-length : goal.returns-clause-length
 returns-clause-length c = search (rules, length-served)
@@ -74,17 +62,15 @@ pub returns-clause-enough : goal.returns-clause-enough
 returns-clause-enough c = search (rules, enough_at_first, spanned)
 
 pub returns-in_err-handles-clause-stays : goal.returns-in_err-handles-clause-stays
-returns-in_err-handles-clause-stays c = of_stepped _ _ _ _ _ _ c.args.n _ _ _ _ c.reserver.view_is c.reserver.invariant
-    c.requires (omega arith) c.reserve.ensures.same c.reserve.ensures.gains
+returns-in_err-handles-clause-stays c = (known (goal.at.returns-in_err-handles-clause-stays c).After-reply-2).stays
 
 pub returns-then-n-eq0-clause-given : goal.returns-then-n-eq0-clause-given
 returns-then-n-eq0-clause-given c =
-    let is = nothing_at c.self.inside.entities.allocator c.new.result _ c.reply.result c.new.ensures.value
-    c.reply.ensures in
+    let is = none (goal.at.returns-then-n-eq0-clause-given c).After-reply in
     search (rules, c.in-Ok.is, c.in-Ok.nothing, append-nil, c.args.reserver.now.own)
 
 pub returns-clause-given : goal.returns-clause-given
-returns-clause-given c = search (rules, given)
+returns-clause-given c = search (rules, known)
 
 pub returns-in_err-handles-clause-refused : goal.returns-in_err-handles-clause-refused
-returns-in_err-handles-clause-refused c = search (rules, given, append-nil)
+returns-in_err-handles-clause-refused c = search (rules, known, append-nil)

@@ -238,7 +238,7 @@ fn the_version_is_that_of_the_program() {
 }
 
 #[test]
-fn refused_memory_is_an_error_of_its_kind() {
+fn out_of_memory_is_an_error_of_its_kind() {
     assert!(refuse(|| program().is_err()));
     for words in [
         &["run"][..],

@@ -55,7 +55,7 @@ impl Error {
         }
     }
 
-    /// The contract: whether memory was refused.
+    /// The contract: whether memory ran out.
     pub fn is_memory(&self) -> bool {
         self.code == Code::OutOfMemory
     }

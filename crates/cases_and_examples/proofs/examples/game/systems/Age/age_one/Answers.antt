@@ -1,5 +1,5 @@
-use Rattle.std.proofs.Common.{rules, ◌≡◌, List, [], ◌∷◌, ◌++◌, sym, subst, All}
-use Rattle.std.proofs.lemmas.List.Elements.{All-append, All-cons, All-nil}
+use Rattle.std.proofs.Common.{rules, ◌≡◌, List, [], ◌∷◌, ◌++◌, All}
+use Rattle.std.proofs.lemmas.List.Elements.{All-push}
 use Rattle.std.proofs.lemmas.Result.{on_ok_weaker}
 use Rattle.ent_queue.specs.Command.{Command}
 use Rattle.ent_world.specs.OpenWorld.{View}
@@ -9,9 +9,7 @@ use Rattle.cases_and_examples.proofs.examples.game.systems.Age.age_one.Goals as 
 -- one command more, on a projectile
 one_more : (view : View) (before after : List Command) (last : Command) → after ≡ before ++ last ∷ []
     → IsOnProjectile view last → All (IsOnProjectile view) before → All (IsOnProjectile view) after
-one_more view before after last added on all = subst (All (IsOnProjectile view)) (sym added)
-    (All-append (IsOnProjectile view) before (last ∷ []) all
-    (All-cons (IsOnProjectile view) last [] on (All-nil (IsOnProjectile view))))
+one_more view before after last added on all = rw added (All-push (IsOnProjectile view) before last all on)
 
 pub returns-in_ok-one-in-Some-clause-may : goal.returns-in_ok-one-in-Some-clause-may
 returns-in_ok-one-in-Some-clause-may c = on_ok_weaker c.insert-in-Some.result

@@ -676,7 +676,7 @@ fn calls_of_a_map() {
     });
 }
 
-/// A vacant entry that is refused memory hands its value back, and the map is as it was. What lends values or moves
+/// A vacant entry that runs out of memory hands its value back, and the map is as it was. What lends values or moves
 /// them out takes no memory.
 #[test]
 fn entries_and_drains_of_maps() {
@@ -1870,7 +1870,7 @@ fn one_request_ends_the_process() {
     }
 }
 
-/// A value that a sparse map was refused memory for comes back, and a clone that is refused changes neither map.
+/// A value for which a sparse map ran out of memory comes back, and a clone that is refused changes neither map.
 #[test]
 fn calls_of_a_sparse_map() {
     let none = Refusal::All { after: 0 };
