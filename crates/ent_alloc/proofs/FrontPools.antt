@@ -3,8 +3,7 @@
 use Rattle.ent_alloc.proofs.Common.{IsWithin, get_or-append_right, common_steps, IsLive, ◌≡◌, sym, subst, ℕ, ◌+◌, ◌-◌, ◌<◌, ◌≤◌, rules, List, [], ◌++◌, length, take, drop, reverse, All, arith, IsPermutation, refl, get_or, slice_get, Some, ◌∷◌, map, length-map, get_or-map, get_or_append_left, get_or-reverse, get_or_default, length-take-le, drop-append-le, take-append-le, length-drop, drop-take, length-append, length-reverse, append_assoc, take-append-drop, reverse-append, reverse-reverse, slice_get_read, get_or_from_slice_get, Limits, handle_at, roster_of, SlotRecord, cases_lt, All-append, All-take, All-drop, All-permutation, IsPermutation-append_left, IsPermutation-reverse, IsPermutation-trans, Handle, Roster, Allocator, available, top, fresh, IsSound, AreApart, idle, allocator_of, AreReserved, Requests, with_front, slots_of, AreSlotsOf, map-append}
 use Rattle.ent_alloc.proofs.FreshHandles.{first_of_slot, length-fresh, All-fresh, take_joined, drop_joined, get_or-fresh}
 use Rattle.ent_alloc.proofs.LaidOut.{old_ones, IsLaidOut, flushed-laid_out, laid_out-sound}
-use Rattle.ent_alloc.proofs.ListLaws.{All-left, AllPairs-left, AllPairs-IsPermutation}
-use Rattle.ent_alloc.proofs.Reversed.{drop-reverse, take-reverse}
+use Rattle.ent_alloc.proofs.ListLaws.{All-left, AllPairs-left, AllPairs-IsPermutation, drop-reverse, take-reverse}
 use Rattle.ent_alloc.proofs.Meaning.{top_is, length-idle, pending_below, rest_is, none_is, StandFor, closed}
 
 -- ---- the allocator
@@ -47,7 +46,14 @@ module _ (s : Allocator) (hs : List Handle) (sound : IsSound s) (flushed : s.ask
       let older : All P (old_ones s) = λ k d lt. omega (arith, was.below k d lt) in
       let both = All-append P (take n (old_ones s)) (fresh s.made (n - top s)) (All-take P n (old_ones s) older)
       (All-fresh P s.made (n - top s) (λ k lt. omega arith)) in
-      let front : All P hs = search (rules, arith, All-permutation P (take n s.pool) hs same, take_joined s.made (s.limits.slots - s.made) (old_ones s) was.below n, was.pool, long) in
+      let front : All P hs = search (
+        rules,
+        arith,
+        All-permutation P (take n s.pool) hs same,
+        take_joined s.made (s.limits.slots - s.made) (old_ones s) was.below n,
+        was.pool,
+        long,
+      ) in
       let over : made ≤ s.limits.slots = omega (arith, long, was.made) in
       let below = All-append P hs (drop n (old_ones s)) front (All-drop P n (old_ones s) older) in
       let apart = AllPairs-left AreApart old (fresh made (s.limits.slots - made))
@@ -81,19 +87,31 @@ module _ (r : Roster) (hs : List Handle) (sound : IsSound (allocator_of r 0 0)) 
   pub same_waits : IsPermutation (drop (length wide - length hs) wide) hs
   same_waits =
       let last = drop (length r.pending - length hs) r.pending in
-      let late : length wide - length hs ≡ length r.pending - length hs =
-      omega (arith, length-append r.pending (fresh r.made more), length-fresh r.made more) in
       let front : take (length hs) (idle r) ≡ reverse last ++ fresh r.made more =
       search (rules, take_joined, below, length-idle, length-reverse, take-reverse) in
-      rw (late, drop-append-le (length r.pending - length hs) r.pending (fresh r.made more) (omega arith))
-      (IsPermutation-trans _ _ hs (IsPermutation-append_left (fresh r.made more) last (reverse last)
-      (IsPermutation-reverse last)) (rw front at same))
+      search (
+        rules,
+        arith,
+        length-append r.pending (fresh r.made more),
+        length-fresh r.made more,
+        drop-append-le (length r.pending - length hs) r.pending (fresh r.made more),
+        IsPermutation-trans _ _ hs
+            (IsPermutation-append_left (fresh r.made more) last (reverse last) (IsPermutation-reverse last))
+            (rw front at same),
+      )
 
   kept_is : take (length wide - length hs) wide ≡ take (length r.pending - length hs) r.pending
-  kept_is = search (rules, arith, length-append r.pending (fresh r.made more), length-fresh r.made more, take-append-le (length r.pending - length hs) r.pending (fresh r.made more))
+  kept_is = search (
+    rules,
+    arith,
+    length-append r.pending (fresh r.made more),
+    length-fresh r.made more,
+    take-append-le (length r.pending - length hs) r.pending (fresh r.made more),
+  )
 
   pub front_view : allocator_of (turned (grown r more) hs) 0 0 ≡ with_front (allocator_of r 0 0) hs
-  front_view = search (rules, top_is r 0 0, sound, kept_is, reverse-append, reverse-reverse, append_assoc, drop_joined, below, length-reverse, drop-reverse)
+  front_view = search
+      (rules, top_is r 0 0, sound, kept_is, reverse-append, reverse-reverse, append_assoc, drop_joined, below, length-reverse, drop-reverse)
 
 -- ---- where a call begins and ends that has the slots of the handles
 
@@ -129,11 +147,7 @@ module _ (r : Roster) (requests : Requests) (s : Allocator) (is : List ℕ)
     enough_of = search (rules, grown_is, length-append, length-fresh)
 
     pub waits_of : AreSlotsOf (drop (length r'.pending - length is) r'.pending) is
-    waits_of = record {
-      front = hs;
-      same = search (rules, as_long, grown_is, same_waits, sound_at_rest, few_at_rest, same_at_rest);
-      slots = order.slots;
-    }
+    waits_of = search (rules, as_long, grown_is, same_waits, sound_at_rest, few_at_rest, same_at_rest, order.slots)
 
     front_view_in : allocator_of (turned r' hs) 0 0 ≡ with_front s hs
     front_view_in = search (rules, grown_is, as_long, front_view, view_at_rest)
@@ -161,7 +175,15 @@ module _ (r : Roster) (position : ℕ) where
 
   pub slot_is_fresh : length r.pending ≤ position → position < length (idle r)
       → slice_get (slots_of (idle r)) position ≡ Some (r.made + (position - length r.pending))
-  slot_is_fresh late below = search (rules, arith, length-reverse r.pending, length-idle r, at_position (r.made + (position - length r.pending)) (first_of_slot 0), get_or-append_right (reverse r.pending) (fresh r.made (r.limits.slots - r.made)) (length r.pending) position (first_of_slot 0), get_or-fresh r.made (r.limits.slots - r.made) (position - length r.pending) (first_of_slot 0))
+  slot_is_fresh late below = search (
+    rules,
+    arith,
+    length-reverse r.pending,
+    length-idle r,
+    at_position (r.made + (position - length r.pending)) (first_of_slot 0),
+    get_or-append_right (reverse r.pending) (fresh r.made (r.limits.slots - r.made)) (length r.pending) position (first_of_slot 0),
+    get_or-fresh r.made (r.limits.slots - r.made) (position - length r.pending) (first_of_slot 0),
+  )
 
 -- ---- those that wait, as they are listed
 
@@ -173,8 +195,19 @@ module _ (records : List SlotRecord) where
 -- some of a list from its other end
 pub turned_part : (xs ys : List ℕ) (from n : ℕ) → n ≤ length xs - from
     → reverse (take n (drop (length xs - from - n) xs)) ≡ take n (drop from (reverse xs ++ ys))
-turned_part xs ys from n few = search
-    (rules, arith, cases_lt, length-take-le, drop-append-le, take-append-le, length-reverse, length-drop, drop-reverse, take-reverse, drop-take)
+turned_part xs ys from n few = search (
+  rules,
+  arith,
+  cases_lt,
+  length-take-le,
+  drop-append-le,
+  take-append-le,
+  length-reverse,
+  length-drop,
+  drop-reverse,
+  take-reverse,
+  drop-take,
+)
 
 pub waiting_long : (limits : Limits) (records : List SlotRecord) (pending : List ℕ) (r : Roster)
     → roster_of limits records pending ≡ r → length r.pending ≡ length pending

@@ -1,5 +1,5 @@
 -- No handle is given twice: each step keeps the list of all given handles free of repetitions.
-use Rattle.ent_alloc.proofs.Common.{take, le_of_eq, common_steps, rules, ◌≡◌, ◌≢◌, refl, sym, ℕ, ◌<◌, ◌≤◌, List, [], ◌∷◌, ◌++◌, length, get_or, drop, All, Contains, IsPermutation, Ok, arith, cases_lt, All-push, All-nil, All-append, All-head, All-contains, All-contains_itself, All-weaker, All-take, All-drop, Contains-append_left, all_pairs_push, All-permutation, Handle, Allocator, available, after_take, after_flush, after_alloc, after_free, next, in_front, reply_to, IsSound, AreApart, IsLive, IsSpent, AreSpent, append-nil}
+use Rattle.ent_alloc.proofs.Common.{take, le_of_eq, common_steps, rules, ◌≡◌, ◌≢◌, refl, sym, ℕ, ◌<◌, ◌≤◌, List, [], ◌∷◌, ◌++◌, length, get_or, drop, All, Contains, IsPermutation, Ok, arith, cases_lt, All-push, All-nil, All-append, All-head, All-contains, All-contains_itself, All-weaker, All-take, All-drop, Contains-append_left, all_pairs_push, All-permutation, Handle, Allocator, after_take, after_flush, after_alloc, after_free, next, in_front, reply_to, IsSound, AreApart, IsLive, IsSpent, AreSpent, append-nil}
 use Rattle.ent_alloc.proofs.ListLaws.{All-left, All-right, AllPairs-append, AllPairs-left, AllPairs-across, AllPairs-IsPermutation, same_from_AllPairs}
 use Rattle.ent_alloc.proofs.HandleSets.{inserted, in_removed, of_inserted, of_joined}
 use Rattle.ent_alloc.proofs.Taken.{after_take-served, after_take-refused}
@@ -32,21 +32,20 @@ taken-spent s h sound in_taken =
     let taken : All (NotBefore h) s.taken = λ k d lt same. search
     (rules, same_from_AllPairs AreApart s.taken (get_or s.taken k d) h among) in
     let left : All (After h) (s.aside ++ s.pool) = search (rules, All-weaker, after_if_apart, All-contains) in
-    let live : (g : Handle) → IsLive s g → NotBefore h g =
-    λ g alive same. absurd (All-contains (AreApart g) (available s) h (sound.live g alive).apart
-    (Contains-append_left s.taken (s.aside ++ s.pool) h in_taken) same) in
-    search rules
+    search (rules, taken, left, All-contains, sound.live, Contains-append_left s.taken (s.aside ++ s.pool) h in_taken)
 
 -- what is alive
 pub live-spent : (s : Allocator) (h : Handle) → IsSound s → IsLive s h → IsSpent s h
 live-spent s h sound alive =
     let apart = (sound.live h alive).apart in
-    let left = All-weaker (AreApart h) (After h) (after_if_apart h) _ (All-right (AreApart h) s.taken (s.aside
-    ++ s.pool) apart) in
-    let taken = All-weaker (AreApart h) (NotBefore h) (λ g apart same. absurd (apart (sym same))) _
-    (All-left (AreApart h) s.taken (s.aside
-    ++ s.pool) apart) in
-    search (rules, le_of_eq)
+    search (
+      rules,
+      le_of_eq,
+      All-weaker,
+      after_if_apart,
+      All-right (AreApart h) s.taken (s.aside ++ s.pool) apart,
+      All-left (AreApart h) s.taken (s.aside ++ s.pool) apart,
+    )
 
 -- ---- what is spent stays so
 
@@ -78,19 +77,28 @@ module _ (s : Allocator) (h : Handle) (spent : IsSpent s h) where
   -- after an allocation
   alloc-stays_spent : (x : Handle) (rest : List Handle) → s.pool ≡ x ∷ rest → IsSpent (after_alloc s x) h
   alloc-stays_spent x rest front =
-      let left = with_aside (drop 1 s.pool) (All-drop (After h) 1 s.pool in_pool) in
       let first = All-head (After h) x rest (rw front at in_pool) in
-      let live = of_inserted (NotBefore h) s.live x (not_before_if_after h x first) spent.live in
-      search rules
+      search (
+        rules,
+        with_aside (drop 1 s.pool),
+        All-drop (After h) 1 s.pool in_pool,
+        of_inserted (NotBefore h) s.live x (not_before_if_after h x first) spent.live,
+      )
 
   -- after a free: the slot goes on with the next generation, or gives nothing more
   free-stays_spent : (x : Handle) → IsLive s x → IsSpent (after_free s x) h
   free-stays_spent x alive =
       let front = next s.limits x in
-      let left = with_aside (in_front front s.pool) (All-in_front (After h) front s.pool (of_next (After h) s.limits x
-      (λ _ same. let occupant = spent.live x alive same in omega arith)) in_pool) in
-      let live = λ (g : Handle) (kept : IsLive (after_free s x) g). spent.live g (in_removed s.live x g kept).1 in
-      search rules
+      search (
+        rules,
+        arith,
+        with_aside (in_front front s.pool),
+        All-in_front (After h) front s.pool,
+        of_next (After h) s.limits x,
+        spent.live,
+        in_pool,
+        in_removed,
+      )
 
 -- ---- each step
 
@@ -99,9 +107,19 @@ pub take-given : (s : Allocator) (n : ℕ) (given more : List Handle) → IsSoun
     → AreSpent s given → AreSpent (after_take s n) (given ++ more)
 take-given s n given more sound served once =
     let from_pool = of_reply s n more served (Contains s.pool) (All-contains_itself s.pool) in
-    let distinct = AllPairs-append (λ g h. g ≢ h) given more once.distinct (reply-distinct s n more served sound)
-    (λ i d lt j e lt_j. spent_not_in_pool s _ (once.spent i d lt) _ (from_pool j e lt_j)) in
-    search (rules, All-append, All-weaker, take-stays_spent, taken-spent, reply-taken, after_take-sound)
+    search (
+      rules,
+      AllPairs-append (λ g h. g ≢ h) given more once.distinct (reply-distinct s n more served sound),
+      spent_not_in_pool s,
+      once.spent,
+      from_pool,
+      All-append,
+      All-weaker,
+      take-stays_spent,
+      taken-spent,
+      reply-taken,
+      after_take-sound,
+    )
 
 -- a refused request gives nothing
 pub refused-given : (s : Allocator) (n : ℕ) (given : List Handle) → AreSpent s given → AreSpent (after_take s n) given
@@ -116,9 +134,19 @@ pub alloc-given : (s : Allocator) (x : Handle) (rest given : List Handle) → Is
     → AreSpent s given → AreSpent (after_alloc s x) (given ++ x ∷ [])
 alloc-given s x rest given sound flushed front once =
     let first : Contains s.pool x = rw front (0, omega arith, refl) in
-    let distinct = all_pairs_push (λ g h. g ≢ h) given x once.distinct
-    (λ k d lt. spent_not_in_pool s (get_or given k d) (once.spent k d lt) x first) in
-    search (rules, after_alloc-sound, All-push, All-weaker, alloc-stays_spent, live-spent, inserted)
+    search (
+      rules,
+      all_pairs_push (λ g h. g ≢ h) given x once.distinct,
+      spent_not_in_pool s,
+      once.spent,
+      first,
+      after_alloc-sound,
+      All-push,
+      All-weaker,
+      alloc-stays_spent,
+      live-spent,
+      inserted,
+    )
 
 -- a free gives nothing
 pub free-given : (s : Allocator) (x : Handle) (given : List Handle) → IsLive s x → AreSpent s given

@@ -1,9 +1,9 @@
--- What records and pending indexes stand for has an image, which is that of the records in order.
-use Rattle.ent_alloc.proofs.Common.{◌≡◌, refl, sym, ap, ◌∙◌, ℕ, suc, ◌+◌, ◌^◌, ◌<◌, ◌≤◌, rules, true, cond, eqb, IsTrue, List, [], ◌∷◌, length, get_or, arith, None, Some, flat_map, range_with_len, common_steps, cases_lt, false≢true, eq-eqb, and_from, get_or-map, length-map, get_or_past, Handle, Limits, AreLimits, Roster, is_alive, row_of, record_at, handle_at, roster_of, AreLinked, occupied, slot, slots_bytes, AreSlots, number_of, record_bytes, kept, SlotRecord, Occupancy, AliveWithRow, Pending, Retired}
+-- What records and pending indexes stand for has an image, which is that of the records in order,
+-- with their rows or without. Slots that are read one by one point at each other.
+use Rattle.ent_alloc.proofs.Common.{◌≡◌, refl, sym, ap, ◌∙◌, ℕ, suc, ◌+◌, ◌^◌, ◌<◌, ◌≤◌, rules, true, cond, eqb, IsTrue, List, [], ◌∷◌, length, get_or, arith, None, Some, flat_map, range_with_len, common_steps, cases_lt, false≢true, eq-eqb, and_from, get_or-map, length-map, get_or_past, Handle, Limits, AreLimits, Roster, is_alive, row_of, record_at, handle_at, roster_of, AreLinked, occupied, slot, slots_bytes, AreSlots, number_of, record_bytes, kept, SlotRecord, Occupancy, AliveWithRow, Pending, Retired, ◌≢◌, map, flat_map-map, get_or_mapped, no_slot, occupants, rows_from, without_row, without_row_of, rowless_bytes, ◌⊎◌, inr, ◌++◌, take, drop, cases_eq, length-append, length_push, get_or_push, get_or_append_left, get_or-set_same, get_or-set_other, length-set, drop_all, take_all, append-nil, IsGeneration, vacant, CanWait, with_waiting, AreRead}
 use Rattle.std.specs.FinSet as sets
-use Rattle.ent_alloc.proofs.Occupants.{is_occupant, contains_occupants}
-use Rattle.ent_alloc.proofs.KeptRows.{get_rows}
-use Rattle.ent_alloc.proofs.LivingOccupant.{occupant_made, occupant_alive, occupant_generation}
+use Rattle.std.specs.FinMap as maps
+use Rattle.ent_alloc.proofs.Occupants.{is_occupant, contains_occupants, get_rows, occupant_made, occupant_alive, occupant_generation, one, occupants-append}
 use Rattle.ent_alloc.proofs.ImageSlots.{Lives, Waits, Gone, became, slot_lives, slot_waits, no_handle}
 
 -- Records and pending indexes that point at each other.
@@ -50,10 +50,8 @@ pieces_of : (g : SlotRecord → List ℕ) (f : ℕ → List ℕ) (from : ℕ) (r
     → ((k : ℕ) → k < length records → f (from + k) ≡ g (record_at records k))
     → flat_map f (range_with_len from (length records)) ≡ flat_map g records
 pieces_of g f from [] each = refl
-pieces_of g f from (r ∷ records) each =
-    let next : (k : ℕ) → k < length records → f (from + 1 + k) ≡ g (record_at records k) = λ k lt. search
-    (rules, arith, each (suc k)) in
-    search (rules, arith, each 0, pieces_of g f (from + 1) records next)
+pieces_of g f from (r ∷ records) each = search
+    (rules, arith, each 0, pieces_of g f (from + 1) records (λ k lt. search (rules, arith, each (suc k))))
 
 module _ (limits : Limits) (records : List SlotRecord) (pending : List ℕ) (tied : AreTied limits records pending) where
   abbrev stands : Roster
@@ -70,7 +68,22 @@ module _ (limits : Limits) (records : List SlotRecord) (pending : List ℕ) (tie
   occupant h lives = sym (contains_occupants records h) ∙ lives
 
   pub are_slots : AreSlots stands
-  are_slots = search (rules, occupant_generation, occupant_made, occupant_alive, false≢true, long, at, get_rows, no_row, contains_occupants, and_from, kept_row, row_made, row_alive)
+  are_slots = search (
+    rules,
+    occupant_generation,
+    occupant_made,
+    occupant_alive,
+    false≢true,
+    long,
+    at,
+    get_rows,
+    no_row,
+    contains_occupants,
+    and_from,
+    kept_row,
+    row_made,
+    row_alive,
+  )
 
   -- ---- what is written of each
 
@@ -79,11 +92,26 @@ module _ (limits : Limits) (records : List SlotRecord) (pending : List ℕ) (tie
     where
       alive_slot : is_alive (record_at records index).occupancy ≡ true → slot stands index
           ≡ occupied (record_at records index).generation (row_of (record_at records index).occupancy)
-      alive_slot alive = search (rules, slot_lives stands are_slots (handle_at records index), contains_occupants, and_from, eq-eqb, get_rows records (handle_at records index))
+      alive_slot alive = search (
+        rules,
+        slot_lives stands are_slots (handle_at records index),
+        contains_occupants,
+        and_from,
+        eq-eqb,
+        get_rows records (handle_at records index),
+      )
 
       by_occupancy : (t : Occupancy) → (record_at records index).occupancy ≡ t
           → slot stands index ≡ kept (record_at records index)
-      by_occupancy (Pending position) is = search (rules, arith, tied.listed index position made, tied.back index position made, at position no_handle, slot_waits stands are_slots position, long)
+      by_occupancy (Pending position) is = search (
+        rules,
+        arith,
+        tied.listed index position made,
+        tied.back index position made,
+        at position no_handle,
+        slot_waits stands are_slots position,
+        long,
+      )
       by_occupancy Retired is = rw is (elim (became stands index) [
         | Lives h alive same tells ↦ let lives = occupant_alive records h (occupant h alive) in absurd cc
         | Waits position lt same tells ↦
@@ -97,3 +125,116 @@ module _ (limits : Limits) (records : List SlotRecord) (pending : List ℕ) (tie
   pub slots_bytes_are : slots_bytes stands ≡ flat_map record_bytes records
   unfolding slots_bytes
   slots_bytes_are = search (rules, pieces_of, at, slot_is)
+
+-- ---- one record
+
+row_left : (t : Occupancy) → (is_alive (without_row_of t) ≡ is_alive t) × (row_of (without_row_of t) ≡ None)
+row_left Retired = (refl, refl)
+row_left _ = (refl, refl)
+
+pending_as : (t : Occupancy) (position : ℕ) → without_row_of t ≡ Pending position → t ≡ Pending position
+pending_as (Pending other) position is = is
+pending_as _ position is = cc
+
+never_with_row : (t : Occupancy) (row : ℕ) → without_row_of t ≢ AliveWithRow row
+never_with_row Retired row is = cc
+never_with_row _ row is = cc
+
+-- ---- all of them
+
+rowless_at : (records : List SlotRecord) (index : ℕ) → record_at (map without_row records) index
+    ≡ without_row (record_at records index)
+rowless_at records index = get_or_mapped without_row records index no_slot
+
+occupants_as : (index : ℕ) (records : List SlotRecord) → occupants index (map without_row records) ≡ occupants index
+    records
+occupants_as index [] = refl
+occupants_as index (r ∷ records) = search (rules, row_left, occupants_as (index + 1) records)
+
+no_rows : (index : ℕ) (records : List SlotRecord) → rows_from index (map without_row records) ≡ []
+no_rows index [] = refl
+no_rows index (r ∷ records) = search (rules, row_left, no_rows (index + 1) records)
+
+-- the same slots, without rows
+pub rowless_is : (limits : Limits) (records : List SlotRecord) (pending : List ℕ)
+    → roster_of limits (map without_row records) pending ≡ record (roster_of limits records pending)
+    { rows = maps.empty }
+rowless_is limits records pending = search (rules, occupants_as, no_rows, rowless_at, length-map)
+
+rowless_tied : (limits : Limits) (records : List SlotRecord) (pending : List ℕ) (live : ℕ)
+    → AreLinked limits records pending live → AreTied limits (map without_row records) pending
+rowless_tied limits records pending live linked = search
+    (rules, length-map, rowless_at, pending_as, never_with_row)
+
+pub rowless_slots : (limits : Limits) (records : List SlotRecord) (pending : List ℕ) (live : ℕ)
+    → AreLinked limits records pending live → AreSlots (record (roster_of limits records pending) { rows = maps.empty })
+rowless_slots limits records pending live linked = rw (← rowless_is limits records pending)
+    (are_slots limits (map without_row records) pending (rowless_tied limits records pending live linked))
+
+-- what is written of them
+pub rowless_bytes_are : (limits : Limits) (records : List SlotRecord) (pending : List ℕ) (live : ℕ)
+    → AreLinked limits records pending live → flat_map rowless_bytes records
+    ≡ slots_bytes (record (roster_of limits records pending) { rows = maps.empty })
+rowless_bytes_are limits records pending live linked = search (
+  rules,
+  flat_map-map record_bytes without_row records,
+  rowless_is limits records pending,
+  slots_bytes_are limits (map without_row records) pending (rowless_tied limits records pending live linked),
+)
+
+-- ---- one slot more
+
+-- what is so of each record, and of one more
+each_more : (P : ℕ → SlotRecord → Type 0) (records : List SlotRecord) (s : SlotRecord)
+    → ((index : ℕ) → index < length records → P index (record_at records index)) → P (length records) s → (index : ℕ)
+    → index < length (records ++ s ∷ []) → P index (record_at (records ++ s ∷ []) index)
+each_more P records s each last index lt = search (rules, cases_lt, get_or_append_left, length_push, get_or_push)
+
+pub length-with_waiting : (pending : List ℕ) (t : Occupancy) (index : ℕ)
+    → length (with_waiting pending t index) ≡ length pending
+length-with_waiting pending (Pending position) index = length-set pending position index
+length-with_waiting pending _ index = refl
+
+module _ (limits : Limits) (records : List SlotRecord) (pending : List ℕ) (live : ℕ)
+    (read : AreRead limits records pending live) where
+  -- the next slot waits at a position, which was vacant, or the position stays as it was
+  placed : (t : Occupancy) (at : ℕ) → CanWait pending t → ((t ≡ Pending at)
+      × (get_or (with_waiting pending t (length records)) at 0 ≡ length records) × (at < length pending)
+      × (get_or pending at 0 ≡ vacant))
+      ⊎ ((t ≢ Pending at) × (get_or (with_waiting pending t (length records)) at 0 ≡ get_or pending at 0))
+  placed (Pending position) at can = search (rules, cases_eq position at, get_or-set_same, get_or-set_other)
+  placed _ at can = inr ((λ is. cc), refl)
+
+  -- the next slot
+  pub read_more : (s : SlotRecord) → IsGeneration limits s.generation → number_of s.occupancy < 2 ^ 32
+      → CanWait pending s.occupancy → length records < vacant → AreRead limits (records ++ s ∷ [])
+      (with_waiting pending s.occupancy (length records)) (live + one (is_alive s.occupancy))
+  read_more s generation number can few =
+      let long = length-with_waiting pending s.occupancy (length records) in
+      let more = length_push records s in
+      let it = λ (at : ℕ). placed s.occupancy at can in
+      record {
+        counted = search (rules, occupants-append, length-append, common_steps);
+        generations = each_more (λ _ r. IsGeneration limits r.generation) records s read.generations generation;
+        numbers = each_more (λ _ r. number_of r.occupancy < 2 ^ 32) records s read.numbers number;
+        made = λ at below taken. search (rules, arith, it at, read.made at);
+        forward = λ at below taken. search
+            (rules, arith, it at, read.made at, read.forward at, get_or_push, get_or_append_left);
+        listed = λ index at below is. search
+            (rules, arith, cases_lt index (length records), get_or_append_left, get_or_push, it at, read.listed index at);
+        back = λ index at below is. search
+            (rules, arith, cases_lt index (length records), get_or_append_left, get_or_push, it at, read.back index at);
+      }
+
+-- ---- no slot yet, and all
+
+pub read_all : (limits : Limits) (records : List SlotRecord) (pending : List ℕ) (live : ℕ)
+    → AreRead limits records pending live → AreLimits limits → length records ≤ limits.slots
+    → ((position : ℕ) → position < length pending → get_or pending position 0 ≢ vacant) → AreTied limits records pending
+read_all limits records pending live read limited few taken = search (rules)
+
+-- ---- positions that were lent and came back
+
+pub written_back : (len : ℕ) (items new : List ℕ) → length new ≡ length items → len ≡ length items
+    → take len (new ++ drop (length new) items) ≡ new
+written_back len items new long all = search (rules, drop_all, append-nil, take_all)

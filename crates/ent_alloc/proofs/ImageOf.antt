@@ -4,7 +4,7 @@ use Rattle.ent_alloc.proofs.Common.{common_steps, rules, ◌≡◌, ◌≢◌, r
 use Rattle.ent_alloc.proofs.PoolLaw.{length-taken}
 use Rattle.ent_alloc.proofs.Meaning.{length-idle, top_is}
 use Rattle.ent_alloc.proofs.Settled.{settled-sound}
-use Rattle.ent_alloc.proofs.MeaningOfRequests.{settled_is}
+use Rattle.ent_alloc.proofs.MeaningOfSteps.{settled_is}
 use Rattle.ent_alloc.proofs.ImageWords.{length-slot_bytes, length-pieces, piece, same_slot}
 use Rattle.ent_alloc.proofs.ImageSlots.{few, slots_sound, small, same_roster}
 use Rattle.ent_alloc.proofs.ImageSound.{roster_slots, idle_is, same_entities, roster_is}
@@ -25,8 +25,8 @@ slot_in r index lt = piece _ 12 (λ index. length-slot_bytes (slot r index)) 0 r
 same_slots : (r q : Roster) → AreSlots r → AreSlots q → r.limits ≡ q.limits → r.made ≡ q.made
     → length r.pending ≡ length q.pending → slots_bytes r ≡ slots_bytes q → r ≡ q
 same_slots r q is_r is_q limits made long same = same_roster r q is_r is_q limits made long
-    (λ index lt. same_slot (slot r index) (slot q index) (small r is_r index) (small q is_q index)
-    (rw (← slot_in r index lt, same) (slot_in q index (omega arith))))
+    (λ index lt. search
+    (rules, same_slot (slot r index) (slot q index), small, slot_in r index lt, slot_in q index, same))
 
 -- ---- an allocator with its image
 
@@ -42,10 +42,8 @@ module _ (e : Entities) (has : HasImage e) where
 
   -- how many were requested, and how many of them are reserved
   pub served : AreServed s.asked (length s.taken) (top s + (s.limits.slots - s.made))
-  served =
-      let long : length (available s) ≡ top s + (s.limits.slots - s.made) =
-      omega (arith, top_as, ap length (idle_is e has), length-idle (roster e)) in
-      grind (arith, common_steps, length-append, length-drop, length-taken)
+  served = grind
+      (arith, common_steps, top_as, ap length (idle_is e has), length-idle (roster e), length-append, length-drop, length-taken)
 
   pub numbers_fit : AreNumbers (header e)
   numbers_fit = grind (arith, common_steps, served, few_wait)

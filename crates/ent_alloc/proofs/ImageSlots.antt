@@ -131,7 +131,7 @@ module _ (r : Roster) (are : AreSlots r) where
 
   -- so no more wait than were made
   pub few : length r.pending ≤ r.made
-  few = omega (arith, retired-rest (allocator_of r 0 0) slots_sound, top_is r 0 0 (omega arith) slots_sound)
+  few = search (rules, arith, retired-rest (allocator_of r 0 0) slots_sound, top_is r 0 0, slots_sound)
 
   -- of a slot that waits
   pub slot_waits : (position : ℕ) → position < length r.pending → slot r (waiter r position).index ≡ pending_slot
@@ -173,8 +173,18 @@ same_roster r q is_r is_q limits made long each =
     let there = also_lives r q is_r is_q each in
     let here = also_lives q r is_q is_r (λ index lt. sym (each index (omega arith))) in
     let alive : (h : Handle) → set.contains r.live h ≡ set.contains q.live h = λ h. grind (arith, there h, here h) in
-    let row : (h : Handle) → map.get r.rows h ≡ map.get q.rows h = λ h. search (rules, cases_Bool (set.contains r.live h), there h, is_r.rows_of_living h, is_q.rows_of_living h, alive h, false≢true) in
+    let row : (h : Handle) → map.get r.rows h ≡ map.get q.rows h = λ h. search
+    (rules, cases_Bool (set.contains r.live h), there h, is_r.rows_of_living h, is_q.rows_of_living h, alive h, false≢true) in
     let live = set.same_set handle_cmp_total handle_cmp-IsAntisymmetric r.live q.live alive in
     let rows = map.same_map handle_cmp_total handle_cmp-IsAntisymmetric r.rows q.rows row in
-    let pending = same_lists r.pending q.pending long (λ k d lt. search (rules, arith, get_or_default r.pending k d no_handle, waits_from q is_q (waiter r k).index k (waiter r k).generation, each (waiter r k).index, is_r.waiting_made k no_handle, slot_waits r is_r k, get_or_default q.pending k no_handle d)) in
+    let pending = same_lists r.pending q.pending long (λ k d lt. search (
+      rules,
+      arith,
+      get_or_default r.pending k d no_handle,
+      waits_from q is_q (waiter r k).index k (waiter r k).generation,
+      each (waiter r k).index,
+      is_r.waiting_made k no_handle,
+      slot_waits r is_r k,
+      get_or_default q.pending k no_handle d,
+    )) in
     search rules

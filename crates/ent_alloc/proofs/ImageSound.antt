@@ -17,7 +17,14 @@ pub linked : (limits : Limits) (records : List SlotRecord) (pending : List ℕ) 
 linked limits records pending live tied counted =
     let r = roster_of limits records pending in
     let sound = slots_sound r (are_slots limits records pending tied) in
-    search (rules, arith, len_occupants 0 records, length-map pending (handle_at records), retired-rest (allocator_of r 0 0) sound, top_is r 0 0 (omega arith) sound)
+    search (
+      rules,
+      arith,
+      len_occupants 0 records,
+      length-map pending (handle_at records),
+      retired-rest (allocator_of r 0 0) sound,
+      top_is r 0 0 (omega arith) sound,
+    )
 
 -- ---- from an allocator to its slots
 

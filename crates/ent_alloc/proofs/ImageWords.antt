@@ -62,11 +62,14 @@ module _ (f : ℕ → List ℕ) (n : ℕ) (long : (i : ℕ) → length (f i) ≡
   pub piece : (from count k at : ℕ) → k < count → at ≡ from + k
       → take n (drop (n * k) (flat_map f (range_with_len from count))) ≡ f at
   piece from zero k at lt is = absurd (omega arith)
-  piece from (suc count) zero at lt is =
-      let here : at ≡ from = omega arith in search (rules, take_at)
-  piece from (suc count) (suc k) at lt is =
-      let rest = flat_map f (range_with_len (from + 1) count) in
-      search (rules, arith, drop-drop (n * k) n (f from ++ rest), drop_at (f from) rest n (long from), piece (from + 1) count k at)
+  piece from (suc count) zero at lt is = search (rules, arith, take_at (f from), long from)
+  piece from (suc count) (suc k) at lt is = search (
+    rules,
+    arith,
+    drop-drop (n * k) n (f from ++ flat_map f (range_with_len (from + 1) count)),
+    drop_at (f from) (flat_map f (range_with_len (from + 1) count)) n (long from),
+    piece (from + 1) count k at,
+  )
 
 -- ---- the number at a place of bytes that are spelled word by word
 

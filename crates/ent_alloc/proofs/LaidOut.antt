@@ -50,7 +50,8 @@ laid_out-sound s old h =
     let apart : AllPairs AreApart (available s) = rw all (AllPairs-append AreApart old news h.apart
     (fresh_apart s.made (s.limits.slots - s.made))
     (λ i d lt. below_never_made s.made s.limits.slots (get_or old i d) (h.below i d lt))) in
-    let rest : (x : Handle) → IsLive s x → All (AreApart x) (available s) = λ x alive. rw all (All-append (AreApart x) old
+    let rest : (x : Handle) → IsLive s x → All (AreApart x) (available s) =
+    λ x alive. rw all (All-append (AreApart x) old
     news (h.live_apart x alive) (below_never_made s.made s.limits.slots x (h.live_below x alive))) in
     search (rules, all ∙ ap (◌++ news) (sym olds), within, apart, rest, h.live_within, h.live_below, h.one_occupant)
 

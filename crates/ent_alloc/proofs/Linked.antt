@@ -1,12 +1,82 @@
--- Slots that get their next occupants, and slots that are made: the vectors stay linked, and the
--- roster gains the occupants.
-use Rattle.ent_alloc.proofs.Common.{rules, ◌≡◌, ℕ, ◌+◌, ◌-◌, ◌<◌, ◌≤◌, List, [], ◌∷◌, ◌++◌, length, get_or, set, take, drop, map, replicate, slice_get, refl, sym, ap, ◌∙◌, arith, Some, cases_lt, slice_get_read, take_at, drop_at, get_or-map, length-map, get_or-take, get_or-drop, length-drop, length-append, length-replicate, length_push, drop-map, take-map, get_or_append_left, get_or-append_right, get_or-replicate, get_or_push, Limits, fresh, SlotRecord, Pending, occupants, record_at, no_slot, new_record, handle_at, reuse, reused, roster_of, AreLinked}
+-- Slots that get their next occupants, and slots that are made: what becomes of the records, that
+-- the vectors stay linked, and that the roster gains the occupants.
+use Rattle.ent_alloc.proofs.Common.{rules, ◌≡◌, ◌≢◌, ℕ, ◌+◌, ◌<◌, ◌||◌, List, [], ◌∷◌, length, get_or, set, map, arith, suc, common_steps, list_any, eq_by_cmp, get_or-set_other, length-set, Handle, handle_cmp, handle_cmp_total, handle_cmp-IsAntisymmetric, SlotRecord, Pending, occupants, record_at, rows_from, reuse, reused, handle_at, ◌-◌, ◌≤◌, ◌++◌, take, drop, replicate, slice_get, ap, ◌∙◌, Some, cases_lt, slice_get_read, take_at, drop_at, get_or-map, length-map, get_or-take, get_or-drop, length-drop, length-append, length-replicate, length_push, drop-map, take-map, get_or_append_left, get_or-append_right, get_or-replicate, get_or_push, Limits, fresh, no_slot, new_record, roster_of, AreLinked}
 use Rattle.std.specs.FinSet as sets
-use Rattle.ent_alloc.proofs.FreshHandles.{length-fresh}
-use Rattle.ent_alloc.proofs.Occupants.{occupants-append, occupants-new, from_list-append}
-use Rattle.ent_alloc.proofs.Reused.{Wait, AreReused, reused_are, live-reused}
 use Rattle.ent_alloc.proofs.ListLaws.{map_alike}
-use Rattle.ent_alloc.proofs.KeptRows.{rows_from-made}
+use Rattle.ent_alloc.proofs.Occupants.{is_occupant, contains_occupants, is_occupant-set, length-occupants-set, ties, rows_from-set, occupants-append, occupants-new, from_list-append, rows_from-made}
+use Rattle.ent_alloc.proofs.FreshHandles.{length-fresh}
+
+-- The slots of these indexes wait at the positions from a first one on.
+pub record Wait (records : List SlotRecord) (from : ℕ) (indices : List ℕ) : Type 0 where
+  pub made : (k : ℕ) → k < length indices → get_or indices k 0 < length records
+  pub pending : (k : ℕ) → k < length indices → (record_at records (get_or indices k 0)).occupancy
+      ≡ Pending (from + k)
+
+-- the records after the first of them got its occupant
+abbrev after : List SlotRecord → ℕ → List SlotRecord
+after records index = set records index (reuse (record_at records index))
+
+-- the others still wait
+Wait-rest : (records : List SlotRecord) (from index : ℕ) (indices : List ℕ) → Wait records from (index ∷ indices)
+    → Wait (after records index) (from + 1) indices
+Wait-rest records from index indices wait = record {
+  made = λ k within. search (rules, arith, wait.made (suc k), length-set);
+  pending = λ k within. grind (arith, common_steps, wait.pending 0, wait.pending (suc k));
+}
+
+-- one that waits now waited before, and is none of these
+pub record StillWaits (records : List SlotRecord) (indices : List ℕ) (at position : ℕ) : Type 0
+  where
+    pub before : (record_at records at).occupancy ≡ Pending position
+    pub apart : (k : ℕ) → k < length indices → get_or indices k 0 ≢ at
+
+-- What became of the records: the generations and the rows stay, a slot that waits at an earlier position goes on
+-- waiting there, and each of these slots has an occupant more.
+pub record AreReused (records : List SlotRecord) (from : ℕ) (indices : List ℕ) (new : List SlotRecord) : Type 0
+  where
+    pub long : length new ≡ length records
+    pub generation : (at : ℕ) → (record_at new at).generation ≡ (record_at records at).generation
+    pub waits : (at position : ℕ) → (record_at records at).occupancy ≡ Pending position → position < from
+        → (record_at new at).occupancy ≡ Pending position
+    pub waited : (at position : ℕ) → (record_at new at).occupancy ≡ Pending position
+        → StillWaits records indices at position
+    pub count : length (occupants 0 new) ≡ length (occupants 0 records) + length indices
+    pub rows : rows_from 0 new ≡ rows_from 0 records
+    pub lives : (q : Handle) → is_occupant new q
+        ≡ (list_any (eq_by_cmp handle_cmp q) (map (handle_at records) indices) || is_occupant records q)
+
+generation-reuse : (records : List SlotRecord) (index at : ℕ) → index < length records
+    → (record_at (after records index) at).generation ≡ (record_at records at).generation
+generation-reuse records index at within = grind (arith, common_steps)
+
+pub reused_are : (records : List SlotRecord) (from : ℕ) (indices : List ℕ) → Wait records from indices
+    → AreReused records from indices (reused records indices)
+reused_are records from [] wait = search rules
+reused_are records from (index ∷ indices) wait =
+    let here = wait.pending 0 (omega arith) in
+    let within = wait.made 0 (omega arith) in
+    let later = reused_are (after records index) (from + 1) indices (Wait-rest records from index indices wait) in
+    let same : map (handle_at (after records index)) indices ≡ map (handle_at records) indices = search
+    (rules, map_alike, generation-reuse) in
+    record {
+      long = search (rules, later.long);
+      generation = search (rules, later.generation, generation-reuse);
+      waits = λ at position is below. search (rules, later.waits at position, get_or-set_other);
+      waited = λ at position is. let still = later.waited at position is in
+          grind (arith, common_steps, still.before, still.apart);
+      count = search (rules, later.count, length-occupants-set);
+      rows = search (rules, later.rows, rows_from-set);
+      lives = λ q. let set_is = is_occupant-set records index (reuse (record_at records index)) q within in
+          grind (arith, common_steps, later.lives q, same, ties q (handle_at records index));
+    }
+
+-- so the set of the occupants is the union
+pub live-reused : (records : List SlotRecord) (from : ℕ) (indices : List ℕ) → Wait records from indices
+    → sets.from_list {R = handle_cmp} (occupants 0 (reused records indices))
+    ≡ sets.union (sets.from_list (occupants 0 records)) (sets.from_list (map (handle_at records) indices))
+live-reused records from indices wait = sets.same_set handle_cmp_total handle_cmp-IsAntisymmetric _ _
+    (λ q. let tells = (reused_are records from indices wait).lives q in let joined = sets.contains-union
+    handle_cmp_total in search (rules, contains_occupants, sets.contains-from_list, joined, handle_cmp_total))
 
 -- ---- reusing
 
@@ -26,8 +96,7 @@ module _ (limits : Limits) (records : List SlotRecord) (pending : List ℕ) (liv
   position_below index position made is =
       let still = became.waited index position is in
       let back = linked.back index position made still.before in
-      let apart = still.apart (position - from) in
-      search (rules, cases_lt, length-drop, get_or-drop, apart, back)
+      search (rules, cases_lt, length-drop, get_or-drop, still.apart (position - from), back)
 
   pub reuse_keeps_links : AreLinked limits alive (take from pending) (live + (length pending - from))
   reuse_keeps_links =
@@ -58,33 +127,39 @@ module _ (limits : Limits) (records : List SlotRecord) (pending rest : List ℕ)
 
   pub reuse_last_keeps_links : AreLinked limits (set records index (reuse (record_at records index))) rest (live + 1)
   reuse_last_keeps_links =
-      let more = long in
-      let one_less : length pending - length rest ≡ 1 = omega arith in
-      rw (dropped, taken, one_less) at
-      (reuse_keeps_links limits records pending live (length rest) linked (omega arith))
+      search (rules, arith, long, dropped, taken, reuse_keeps_links limits records pending live (length rest) linked)
 
   pub roster_of-reuse_last : roster_of limits (set records index (reuse (record_at records index))) rest
       ≡ (let was = roster_of limits records pending in record was {
         live = sets.union was.live (sets.from_list (handle_at records index ∷ []));
         pending = take (length was.pending - 1) was.pending;
       })
-  roster_of-reuse_last =
-      let f = handle_at records in
-      let more = long in
-      let at : length (map f pending) - 1 ≡ length rest = omega (arith, length-map pending f) in
-      rw at (rw (drop-map f (length rest) pending, dropped, taken) at
-      (roster_of-reuse limits records pending live (length rest) linked (omega arith)))
+  roster_of-reuse_last = search (
+    rules,
+    arith,
+    long,
+    length-map,
+    drop-map (handle_at records) (length rest) pending,
+    dropped,
+    taken,
+    roster_of-reuse limits records pending live (length rest) linked,
+  )
 
   pub last_handle : slice_get (map (handle_at records) pending) (length (map (handle_at records) pending) - 1)
       ≡ Some (handle_at records index)
   last_handle =
       let f = handle_at records in
       let n = length (map f pending) in
-      let more = long in
-      let same = length-map pending f in
-      let at : get_or pending (n - 1) 0 ≡ index = search (rules, get_or_push) in
-      slice_get_read (map f pending) n (n - 1) (f index) refl (omega arith)
-      (sym (get_or-map f pending (n - 1) 0 (f index) (omega arith) ∙ ap f at))
+      let at : get_or pending (n - 1) 0 ≡ index = search (rules, get_or_push, long, length-map) in
+      search (
+        rules,
+        arith,
+        long,
+        length-map pending f,
+        slice_get_read (map f pending) n (n - 1) (f index),
+        get_or-map f pending (n - 1) 0 (f index),
+        at,
+      )
 
 -- ---- making
 
@@ -106,9 +181,7 @@ module _ (limits : Limits) (records : List SlotRecord) (pending : List ℕ) (liv
     pub make_keeps_links : AreLinked limits grown pending (live + count)
     make_keeps_links =
         let long = grown_long in
-        let more : length (occupants 0 grown) ≡ length (occupants 0 records)
-        + count = simp (occupants-append, occupants-new, length-append, length-fresh) in
-        search (rules, cases_lt, new_is, old_stays)
+        search (rules, cases_lt, new_is, old_stays, occupants-append, occupants-new, length-append, length-fresh)
 
     pub roster_of-make : let was = roster_of limits records pending in
         roster_of limits grown pending

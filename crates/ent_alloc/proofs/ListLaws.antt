@@ -1,6 +1,6 @@
--- Laws of lists: filters that keep all or nothing, parts of joined lists, pairs, and functions that
--- agree on a list.
-use Rattle.ent_alloc.proofs.Common.{rules, ◌≡◌, refl, ap, ℕ, zero, suc, ◌+◌, ◌-◌, ◌<◌, Bool, true, false, eqb, List, [], ◌∷◌, ◌++◌, length, get_or, take, drop, filter, All, AllPairs, Contains, arith, cond, ◌==◌, ◌≢◌, swap, IsPermutation, map, leb, ◌⊎◌, common_steps, get_or-take, get_or-drop, get_or_append_left, length-append, length-take, length-drop, get_or_default, get_or-append-add, cases_lt, nat_tests, Swapped, length-swap, swapped_from_swap, IsPermutation-keeps, All-nil, All-head, All-tail, All-cons, All-append, AllPairs-cons}
+-- Laws of lists: filters that keep all or nothing, parts of joined lists, pairs, functions that
+-- agree on a list, and a list from its other end.
+use Rattle.ent_alloc.proofs.Common.{cases_eq, rules, ◌≡◌, refl, ap, ℕ, zero, suc, ◌+◌, ◌-◌, ◌<◌, Bool, true, false, eqb, List, [], ◌∷◌, ◌++◌, length, get_or, take, drop, filter, All, AllPairs, Contains, arith, ◌≢◌, swap, IsPermutation, map, leb, ◌⊎◌, common_steps, get_or-take, get_or-drop, get_or_append_left, length-append, length-take, length-drop, get_or_default, get_or-append-add, cases_lt, nat_tests, length-swap, swapped_from_swap, IsPermutation-keeps, All-nil, All-head, All-tail, All-cons, All-append, AllPairs-cons, reverse, sym, ◌∙◌, list_any, length-reverse, take-append-drop, take_all, drop_all, drop_at, take_at, reverse-append, Handle, IsPermutation-reverse, list_any-IsPermutation}
 
 pub eqb_sym : (a b : ℕ) → eqb a b ≡ eqb b a
 eqb_sym a b = grind (arith, nat_tests)
@@ -28,15 +28,11 @@ tests_of n index = grind (arith, common_steps)
 
 pub filter_all : {X : Type 0} (p : X → Bool) (xs : List X) → All (λ x. p x ≡ true) xs → filter p xs ≡ xs
 filter_all p [] h = refl
-filter_all p (x ∷ xs) h =
-    let here : p x ≡ true = h 0 x (omega arith) in
-    let rest = filter_all p xs (All-tail (λ x. p x ≡ true) x xs h) in
-    rw here (ap (x ∷◌) rest)
+filter_all p (x ∷ xs) h = search (rules, arith, h 0 x, filter_all p xs, All-tail (λ x. p x ≡ true) x xs h)
 
 pub filter_none : {X : Type 0} (p : X → Bool) (xs : List X) → All (λ x. p x ≡ false) xs → filter p xs ≡ []
 filter_none p [] h = refl
-filter_none p (x ∷ xs) h =
-    let here : p x ≡ false = h 0 x (omega arith) in rw here (filter_none p xs (All-tail (λ x. p x ≡ false) x xs h))
+filter_none p (x ∷ xs) h = grind (arith, common_steps, h 0 x, filter_none p xs (All-tail (λ x. p x ≡ false) x xs h))
 
 drop-nil : {X : Type 0} (n : ℕ) → drop {A = X} n [] ≡ []
 drop-nil n = search (rules)
@@ -104,25 +100,6 @@ module _ {X : Type 0} (R : X → X → Type 0) where
   same_from_AllPairs xs x y h in_x in_y not_before not_behind = search
       (rules, cases_lt in_x.0 in_y.0, cases_lt in_y.0 in_x.0, AllPairs-at, get_or_default)
 
--- the position from which a swap of two positions brings the element at a position
-swapped_from : ℕ → ℕ → ℕ → ℕ
-swapped_from a b k = cond (k == a) b (cond (k == b) a k)
-
-swapped_from_lt : (n a b k : ℕ) → a < n → b < n → k < n → swapped_from a b k < n
-unfolding swapped_from
-swapped_from_lt n a b k la lb lk = grind (arith, nat_tests)
-
--- two positions come from two positions
-swapped_from_apart : (a b i j : ℕ) → i ≢ j → swapped_from a b i ≢ swapped_from a b j
-unfolding swapped_from
-swapped_from_apart a b i j apart same = grind (arith, nat_tests)
-
--- what stands at a position after a swap
-get_or-swapped : {X : Type 0} (xs : List X) (a b k : ℕ) (d : X) → a < length xs → b < length xs
-    → get_or (swap xs a b) k d ≡ get_or xs (swapped_from a b k) d
-unfolding swapped_from
-get_or-swapped {X} xs a b k d la lb = grind (arith, common_steps, Swapped, swapped_from_swap, nat_tests)
-
 module _ {X : Type 0} (R : X → X → Type 0) (both : (x y : X) → R x y → R y x) where
   -- of each two positions
   AtPositions : List X → Type 0
@@ -136,8 +113,9 @@ module _ {X : Type 0} (R : X → X → Type 0) (both : (x y : X) → R x y → R
   -- a swap keeps it
   swap_keeps : (xs : List X) (a b : ℕ) → a < length xs → b < length xs → AtPositions xs → AtPositions (swap xs a b)
   unfolding AtPositions
-  swap_keeps xs a b la lb h i j d apart li lj = search
-      (rules, get_or-swapped, length-swap, swapped_from_apart, swapped_from_lt)
+  swap_keeps xs a b la lb h i j d apart li lj =
+      let moved = swapped_from_swap xs (swap xs a b) a b d la lb refl in
+      search (rules, cases_eq i a, cases_eq i b, cases_eq j a, cases_eq j b, moved, length-swap)
 
   -- the same list in another order has the same pairs, where the relation goes both ways
   pub AllPairs-IsPermutation : (xs ys : List X) → IsPermutation xs ys → AllPairs R xs → AllPairs R ys
@@ -150,3 +128,24 @@ pub map_alike : {X : Type 0} (f g : ℕ → X) (xs : List ℕ) → ((k : ℕ) �
     (get_or xs k 0)) → map f xs ≡ map g xs
 map_alike f g [] alike = refl
 map_alike f g (x ∷ xs) alike = search (rules, alike 0, map_alike f g xs (λ k below. alike (suc k) (omega arith)))
+
+module _ {X : Type 0} (n : ℕ) (xs : List X) where
+  -- how many stand before the last n
+  abbrev before : ℕ
+  before = length xs - n
+
+  turned : reverse xs ≡ reverse (drop before xs) ++ reverse (take before xs)
+  turned = ap reverse (sym (take-append-drop before xs)) ∙ reverse-append (take before xs) (drop before xs)
+
+  long : length (reverse (drop before xs)) ≡ length xs - before
+  long = length-reverse (drop before xs) ∙ length-drop before xs
+
+  pub drop-reverse : drop n (reverse xs) ≡ reverse (take before xs)
+  drop-reverse = search (rules, long, cases_lt, drop_all, length-reverse, turned, drop_at)
+
+  pub take-reverse : take n (reverse xs) ≡ reverse (drop before xs)
+  take-reverse = search (rules, long, cases_lt, take_all, length-reverse, turned, take_at)
+
+-- a test of the elements doesn't see their order
+pub list_any-reverse : (p : Handle → Bool) (hs : List Handle) → list_any p (reverse hs) ≡ list_any p hs
+list_any-reverse p hs = search (rules, list_any-IsPermutation, IsPermutation-reverse)

@@ -45,10 +45,12 @@ pub rest_to_list : (records : List SlotRecord) (waiting : List ℕ) (index index
     → AreToList records rest index index_end (left - 1)
 rest_to_list records waiting index index_end left range at rest is =
     let all : AreToList records (at ∷ rest) index index_end left = search rules in
-    let made = All-tail (λ x. x < length records) at rest all.made in
-    let handles = All-tail (λ x. IsHandle (handle_at records x)) at rest all.handles in
     let count = all.count in
-    search (rules, made, handles)
+    search (
+      rules,
+      All-tail (λ x. x < length records) at rest all.made,
+      All-tail (λ x. IsHandle (handle_at records x)) at rest all.handles,
+    )
 
 -- ---- listing one after the other
 

@@ -1,14 +1,12 @@
--- What looking a handle up in the records tells of the pending list, of the fresh handles and of
--- the rows.
-use Rattle.ent_alloc.proofs.Common.{common_steps, rules, ◌≡◌, ◌≢◌, ℕ, ◌+◌, ◌-◌, ◌<◌, ◌≤◌, Bool, true, false, ◌&&◌, eqb, ltb, List, length, get_or, set, drop, map, refl, arith, cases_eq, false≢true, and_parts, and_from, eqb-true, leb-true, ltb-true, eq-eqb, le-leb, lt-ltb, false_from_ne_true, get_or-drop, get_or-map, length-drop, length-map, length-set, get_or-set_same, get_or-set_other, Handle, handle_cmp, handle_cmp_total, handle_cmp-IsAntisymmetric, Limits, fresh, stands_in, SlotRecord, Occupancy, Alive, AliveWithRow, Pending, Retired, occupants, occupancy_of, lives, row_kept, record_at, no_slot, handle_at, rows_from, is_pending_from, waits_from, roster_of, AreLinked, Contains}
+-- What looking a handle up in the records tells, and one slot changed: its occupant gets a row, is
+-- freed, or is the last one. The vectors stay linked, and the roster changes by that handle.
+use Rattle.ent_alloc.proofs.Common.{common_steps, rules, ◌≡◌, ◌≢◌, ℕ, ◌+◌, ◌-◌, ◌<◌, ◌≤◌, Bool, true, false, ◌&&◌, eqb, ltb, List, length, get_or, set, drop, map, refl, arith, cases_eq, false≢true, and_parts, and_from, eqb-true, leb-true, ltb-true, eq-eqb, le-leb, lt-ltb, false_from_ne_true, get_or-drop, get_or-map, length-drop, length-map, length-set, get_or-set_same, get_or-set_other, Handle, handle_cmp, handle_cmp_total, handle_cmp-IsAntisymmetric, Limits, fresh, stands_in, SlotRecord, Occupancy, AliveWithRow, Pending, Retired, occupants, occupancy_of, lives, row_kept, record_at, no_slot, handle_at, rows_from, is_pending_from, waits_from, roster_of, AreLinked, Contains, [], ◌∷◌, ◌++◌, None, cases_lt, length_push, map_push, get_or_append_left, get_or_push, following, is_alive, row_of, Roster}
 use Rattle.std.specs.FinSet as sets
 use Rattle.std.specs.FinMap as maps
 use Rattle.ent_alloc.proofs.ListLaws.{map_alike}
 use Rattle.ent_alloc.proofs.HandleSets.{Contains-from_stands_in, stands_in-from_Contains}
 use Rattle.ent_alloc.proofs.FreshHandles.{length-fresh, get_or-fresh}
-use Rattle.ent_alloc.proofs.Occupants.{is_occupant, contains_occupants, ties, one, length-occupants-set}
-use Rattle.ent_alloc.proofs.LivingOccupant.{occupant_made, occupant_alive}
-use Rattle.ent_alloc.proofs.KeptRows.{row_at, get_rows}
+use Rattle.ent_alloc.proofs.Occupants.{is_occupant, contains_occupants, ties, one, length-occupants-set, occupant_made, occupant_alive, row_at, get_rows}
 
 -- the handle is the next one of a slot that waits at this position or after it
 abbrev pub waits_at : List SlotRecord → Handle → ℕ → Bool
@@ -32,10 +30,8 @@ module _ (records : List SlotRecord) (h : Handle) where
 -- the position that a slot waits at
 waiting_position : (t : Occupancy) (from : ℕ) → is_pending_from t from ≡ true
     → (position : ℕ) × (t ≡ Pending position) × (from ≤ position)
-waiting_position Alive from is = absurd (false≢true is)
-waiting_position (AliveWithRow row) from is = absurd (false≢true is)
-waiting_position Retired from is = absurd (false≢true is)
 waiting_position (Pending position) from is = (position, refl, leb-true from position is)
+waiting_position _ from is = absurd (false≢true is)
 
 module _ (limits : Limits) (records : List SlotRecord) (pending : List ℕ) (live : ℕ)
     (linked : AreLinked limits records pending live) where
@@ -56,10 +52,16 @@ module _ (limits : Limits) (records : List SlotRecord) (pending : List ℕ) (liv
       let parts = and_parts (ltb h.index (length records)) _ is in
       let rest = and_parts (is_pending_from (record_at records h.index).occupancy from) _ parts.1 in
       let position = waiting_position (record_at records h.index).occupancy from rest.0 in
-      let made = ltb-true h.index (length records) parts.0 in
-      let listed = linked.listed h.index position.0 made position.1 in
-      let back = linked.back h.index position.0 made position.1 in
-      search (rules, listed, back, eqb-true _ _ rest.1, at_position from (position.0 - from) h, long)
+      search (
+        rules,
+        linked.listed h.index position.0,
+        linked.back h.index position.0,
+        ltb-true h.index (length records) parts.0,
+        position,
+        eqb-true _ _ rest.1,
+        at_position from (position.0 - from) h,
+        long,
+      )
 
   -- who waits after a position is told by the record
   pub stands_in-pending : (h : Handle) (from : ℕ) → waits_at records h from
@@ -116,3 +118,83 @@ module _ (limits : Limits) (records : List SlotRecord) (pending : List ℕ) (liv
   pub roster_of-set_row : let was = roster_of limits records pending in
       roster_of limits relabelled pending ≡ record was { rows = maps.insert was.rows h row }
   roster_of-set_row = search (rules, map_alike, generations, same_live, new_rows, length-set)
+
+module _ (limits : Limits) (records : List SlotRecord) (pending : List ℕ) (live : ℕ) (h : Handle)
+    (linked : AreLinked limits records pending live) (lives : is_occupant records h ≡ true) where
+  made_slot : h.index < length records
+  made_slot = occupant_made records h lives
+
+  apart : (position : ℕ) → position < length pending → get_or pending position 0 ≢ h.index
+  apart position below e = search (rules, occupant_alive, false≢true)
+
+  -- its record has no occupant any more
+  module _ (left : SlotRecord) (dead : is_alive left.occupancy ≡ false) (bare : row_of left.occupancy ≡ None) where
+    abbrev changed : List SlotRecord
+    changed = set records h.index left
+
+    other : (at : ℕ) → at ≢ h.index → record_at changed at ≡ record_at records at
+    other at ne = get_or-set_other records h.index at left no_slot ne
+
+    same : record_at changed h.index ≡ left
+    same = get_or-set_same records h.index left no_slot made_slot
+
+    fewer : length (occupants 0 changed) + 1 ≡ length (occupants 0 records)
+    fewer = search (rules, length-occupants-set, made_slot, one, occupant_alive)
+
+    live_is : sets.from_list {R = handle_cmp} (occupants 0 changed) ≡ sets.remove (sets.from_list (occupants 0 records))
+        h
+    live_is = sets.same_set handle_cmp_total handle_cmp-IsAntisymmetric _ _
+        (λ q. let gone = sets.contains-remove handle_cmp_total (sets.from_list (occupants 0 records)) h q in grind
+        (arith, common_steps, contains_occupants changed q, contains_occupants records q))
+
+    rows_is : maps.from_entries {R = handle_cmp} (rows_from 0 changed)
+        ≡ maps.remove (maps.from_entries (rows_from 0 records)) h
+    rows_is = maps.same_map handle_cmp_total handle_cmp-IsAntisymmetric _ _
+        (λ q. let gone = maps.get-remove handle_cmp_total (maps.from_entries (rows_from 0 records)) h q in grind
+        (arith, common_steps, ties q h, get_rows changed q, get_rows records q))
+
+    pending_is : map (handle_at changed) pending ≡ map (handle_at records) pending
+    pending_is = search (rules, map_alike, other, apart)
+
+  -- ---- the slot waits for the next one
+
+  abbrev vacant : SlotRecord
+  vacant = record { generation = h.generation + 1; occupancy = Pending (length pending) }
+
+  abbrev released : List SlotRecord
+  released = set records h.index vacant
+
+  pub one_lives : 1 ≤ live
+  one_lives = let counted = linked.counted in omega (arith, fewer vacant refl refl)
+
+  pub release_keeps_links : h.generation ≢ limits.generations → AreLinked limits released (pending ++ h.index ∷ [])
+      (live - 1)
+  release_keeps_links before =
+      let less = fewer vacant refl refl in
+      let made = made_slot in
+      search (rules, length_push, cases_lt, cases_eq, get_or_append_left, get_or_push, apart)
+
+  abbrev was : Roster
+  was = roster_of limits records pending
+
+  pub roster_of-release : roster_of limits released (pending ++ h.index ∷ []) ≡ record was {
+    live = sets.remove was.live h;
+    rows = maps.remove was.rows h;
+    pending = was.pending ++ following h ∷ [];
+  }
+  roster_of-release = search (rules, pending_is, map_push, same, live_is, rows_is, length-set)
+
+  -- ---- the slot is retired
+
+  abbrev unused : SlotRecord
+  unused = record { generation = (record_at records h.index).generation; occupancy = Retired }
+
+  abbrev retired : List SlotRecord
+  retired = set records h.index unused
+
+  pub retire_keeps_links : AreLinked limits retired pending (live - 1)
+  retire_keeps_links = search (rules, fewer unused refl refl, made_slot)
+
+  pub roster_of-retire : roster_of limits retired pending
+      ≡ record was { live = sets.remove was.live h; rows = maps.remove was.rows h }
+  roster_of-retire = search (rules, live_is, rows_is, pending_is, length-set)

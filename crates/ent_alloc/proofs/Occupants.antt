@@ -1,7 +1,9 @@
--- What the set of occupants holds, and how many they are.
-use Rattle.ent_alloc.proofs.Common.{rules, ◌≡◌, ℕ, ◌+◌, ◌-◌, ◌<◌, Bool, false, cond, ◌&&◌, eqb, leb, List, [], ◌∷◌, ◌++◌, length, get_or, set, refl, ap, arith, suc, zero, replicate, common_steps, list_any, eq_by_cmp, le-leb, and-false, list_any-append, Handle, handle_cmp, handle_cmp_total, handle_cmp-IsAntisymmetric, SlotRecord, occupants, record_at, no_slot, is_alive, new_record, fresh}
+-- What the set of occupants holds, how many they are and in which order, what the record of one
+-- has, and the rows that the records keep with them.
+use Rattle.ent_alloc.proofs.Common.{rules, ◌≡◌, ℕ, ◌+◌, ◌-◌, ◌<◌, Bool, false, cond, ◌&&◌, eqb, leb, List, [], ◌∷◌, ◌++◌, length, get_or, set, refl, ap, arith, suc, zero, replicate, common_steps, list_any, eq_by_cmp, le-leb, and-false, list_any-append, Handle, handle_cmp, handle_cmp_total, handle_cmp-IsAntisymmetric, SlotRecord, occupants, record_at, no_slot, is_alive, new_record, fresh, true, and_parts, Limits, Roster, roster_of, ◌≤◌, All, AllPairs, AllPairs-cons, Option, None, find, row_of, rows_from}
 use Rattle.std.specs.FinSet as sets
-use Rattle.ent_alloc.proofs.ListLaws.{tests_of}
+use Rattle.std.specs.FinMap as maps
+use Rattle.ent_alloc.proofs.ListLaws.{tests_of, eqb_sym}
 
 -- ---- looking a handle up
 
@@ -23,9 +25,13 @@ at_from index records q = leb index q.index && has_occupant (get_or records (q.i
 list_any-occupants : (index : ℕ) (records : List SlotRecord) (q : Handle)
     → list_any (eq_by_cmp handle_cmp q) (occupants index records) ≡ at_from index records q
 list_any-occupants index [] q = search (rules, and-false)
-list_any-occupants index (r ∷ records) q =
-    let tie = ties q (record { index = index; generation = r.generation }) in
-    grind (arith, common_steps, tie, list_any-occupants (index + 1) records q, tests_of q.index index)
+list_any-occupants index (r ∷ records) q = grind (
+  arith,
+  common_steps,
+  ties q (record { index = index; generation = r.generation }),
+  list_any-occupants (index + 1) records q,
+  tests_of q.index index,
+)
 
 -- the set of the occupants holds just these
 pub contains_occupants : (records : List SlotRecord) (q : Handle) → sets.contains {R = handle_cmp} (sets.from_list
@@ -40,10 +46,13 @@ absent_below index records generation = search (rules, sets.contains-from_list, 
 pub len_occupants : (index : ℕ) (records : List SlotRecord)
     → sets.len {R = handle_cmp} (sets.from_list (occupants index records)) ≡ length (occupants index records)
 len_occupants index [] = sets.len-empty handle_cmp
-len_occupants index (r ∷ records) =
-    let h : Handle = record { index = index; generation = r.generation } in
-    let long = sets.len-insert handle_cmp_total (sets.from_list (occupants (index + 1) records)) h in
-    grind (arith, common_steps, absent_below index records r.generation, len_occupants (index + 1) records)
+len_occupants index (r ∷ records) = grind (
+  arith,
+  common_steps,
+  sets.len-insert handle_cmp_total (sets.from_list (occupants (index + 1) records)) (record { index = index; generation = r.generation }),
+  absent_below index records r.generation,
+  len_occupants (index + 1) records,
+)
 
 -- ---- one record set
 
@@ -81,3 +90,86 @@ pub occupants-new : (from count : ℕ) → occupants from (replicate count new_r
 unfolding fresh
 occupants-new from zero = refl
 occupants-new from (suc count) = search (rules, occupants-new (from + 1) count)
+
+-- a handle that lives in the roster is that of an occupant
+pub lives_in : (limits : Limits) (records : List SlotRecord) (pending : List ℕ) (h : Handle) {old : Roster}
+    → roster_of limits records pending ≡ old → sets.contains old.live h ≡ true → is_occupant records h ≡ true
+lives_in limits records pending h view lives = search (rules, contains_occupants)
+
+pub occupant_made : (records : List SlotRecord) (h : Handle) → is_occupant records h ≡ true → h.index < length records
+occupant_made records h is = grind (arith, common_steps)
+
+pub occupant_alive : (records : List SlotRecord) (h : Handle) → is_occupant records h ≡ true
+    → is_alive (record_at records h.index).occupancy ≡ true
+occupant_alive records h is = search (rules, and_parts)
+
+pub occupant_generation : (records : List SlotRecord) (h : Handle) → is_occupant records h ≡ true
+    → (record_at records h.index).generation ≡ h.generation
+occupant_generation records h is = grind (arith, common_steps)
+
+-- ---- by rising slot
+
+-- the occupants from an index on
+occupants_after : (from index : ℕ) (records : List SlotRecord) → from ≤ index
+    → All (λ h. from ≤ h.index) (occupants index records)
+occupants_after from index [] least = λ k d l. absurd (omega (arith, l))
+occupants_after from index (r ∷ records) least = grind
+    (arith, common_steps, occupants_after from (index + 1) records (omega arith))
+
+pub rising_occupants : (index : ℕ) (records : List SlotRecord) → AllPairs (λ g h. g.index < h.index) (occupants index
+    records)
+rising_occupants index [] = λ i j d l m. absurd (omega (arith, m))
+rising_occupants index (r ∷ records) = search
+    (rules, occupants_after, AllPairs-cons, rising_occupants (index + 1) records)
+
+-- the row that a record keeps with its occupant of a generation
+abbrev pub row_in : SlotRecord → ℕ → Option ℕ
+row_in r generation = cond (eqb r.generation generation) (row_of r.occupancy) None
+
+-- the row that is kept with the occupant that a handle names
+abbrev pub row_at : List SlotRecord → Handle → Option ℕ
+row_at records h = row_in (record_at records h.index) h.generation
+
+-- ---- looking a row up
+
+abbrev row_from : ℕ → List SlotRecord → Handle → Option ℕ
+row_from index records q = cond (leb index q.index) (row_in (get_or records (q.index - index) no_slot) q.generation)
+    None
+
+find-rows_from : (index : ℕ) (records : List SlotRecord) (q : Handle)
+    → find handle_cmp q (rows_from index records) ≡ row_from index records q
+find-rows_from index [] q = search rules
+find-rows_from index (r ∷ records) q = grind (
+  arith,
+  common_steps,
+  ties q (record { index = index; generation = r.generation }),
+  find-rows_from (index + 1) records q,
+  eqb_sym q.generation r.generation,
+  tests_of q.index index,
+)
+
+-- the map of the rows returns with these
+pub get_rows : (records : List SlotRecord) (q : Handle)
+    → maps.get {R = handle_cmp} (maps.from_entries (rows_from 0 records)) q ≡ row_at records q
+get_rows records q = search (rules, maps.get-from_entries, handle_cmp_total, find-rows_from, le-leb)
+
+-- ---- one record set
+
+-- a record without a row instead of another one leaves the rows
+pub rows_from-set : (from : ℕ) (records : List SlotRecord) (index : ℕ) (r : SlotRecord) → row_of r.occupancy ≡ None
+    → row_of (record_at records index).occupancy ≡ None → rows_from from (set records index r) ≡ rows_from from records
+rows_from-set from [] index r new old = refl
+rows_from-set from (x ∷ records) zero r new old = search (rules)
+rows_from-set from (x ∷ records) (suc index) r new old = search
+    (rules, rows_from-set (from + 1) records index r new old)
+
+-- ---- records put at the end
+
+rows_from-new : (from count : ℕ) → rows_from from (replicate count new_record) ≡ []
+rows_from-new from zero = refl
+rows_from-new from (suc count) = rows_from-new (from + 1) count
+
+pub rows_from-made : (from count : ℕ) (records : List SlotRecord)
+    → rows_from from (records ++ replicate count new_record) ≡ rows_from from records
+rows_from-made from count [] = rows_from-new from count
+rows_from-made from count (r ∷ records) = search (rules, rows_from-made (from + 1) count records)

@@ -1,13 +1,64 @@
--- Handles that come to life at once leave what single calls of `alloc` leave.
-use Rattle.ent_alloc.proofs.Common.{rules, ◌≡◌, sym, ap, ◌∙◌, subst, refl, ℕ, suc, zero, ◌+◌, ◌-◌, ◌<◌, ◌≤◌, List, [], ◌∷◌, ◌++◌, length, take, drop, Some, slice_get, arith, inl, inr, slice_index_or, ◌||◌, eq_by_cmp, common_steps, cases_lt, take_all, take-take, drop-append-le, length-take-le, nil_from_length, drop_all, list_any-append, slice_get-get_or, or-false, Handle, handle_cmp, handle_cmp_total, handle_cmp-IsAntisymmetric, Requests, Roster, Allocator, fresh, after_alloc, after_allocs, after_take, after_flush, stands_in, IsSound, idle, allocator_of}
+-- Many handles that come to life at once: as if they were requested and flushed, and as if each was
+-- given by a call of `alloc`.
+use Rattle.ent_alloc.proofs.Common.{rules, ◌≡◌, refl, ℕ, ◌+◌, ◌-◌, ◌≤◌, length, take, drop, reverse, ◌++◌, All, None, arith, List, length-append, length-reverse, take_at, drop_at, All-take, Handle, Requests, Roster, Allocator, fresh, after_take, after_flush, IsSound, IsLive, Entities, allocator_of, HasRowsOfLiving, sym, ap, subst, suc, zero, ◌<◌, [], ◌∷◌, Some, slice_get, inl, inr, slice_index_or, ◌||◌, eq_by_cmp, common_steps, cases_lt, take_all, take-take, drop-append-le, length-take-le, nil_from_length, drop_all, list_any-append, slice_get-get_or, or-false, handle_cmp, handle_cmp_total, handle_cmp-IsAntisymmetric, after_alloc, after_allocs, stands_in, idle}
+use Rattle.std.specs.FinMap as maps
 use Rattle.std.specs.FinSet as sets
-use Rattle.ent_alloc.proofs.FreshHandles.{fresh-next, fresh-none}
+use Rattle.ent_alloc.proofs.Soundness.{after_take-sound, after_flush-sound, after_alloc-sound}
+use Rattle.ent_alloc.proofs.Replies.{not_apart, of_pool}
+use Rattle.ent_alloc.proofs.Flushes.{rows-joined}
+use Rattle.ent_alloc.proofs.Meaning.{IsAtRest, StandFor, closed, to_give}
+use Rattle.ent_alloc.proofs.MeaningOfSteps.{lower_served, flushed_roster, flush_is, taken_is, pool_is, reused_roster, made_roster, alloc_old_is, alloc_fresh_is, alloc_old_front, alloc_fresh_front, last_is}
+use Rattle.ent_alloc.proofs.FreshHandles.{first_of_slot, fresh-next, fresh-none}
 use Rattle.ent_alloc.proofs.HandleSets.{contains-union_list}
-use Rattle.ent_alloc.proofs.Soundness.{after_alloc-sound}
-use Rattle.ent_alloc.proofs.Meaning.{to_give, IsAtRest}
-use Rattle.ent_alloc.proofs.MeaningOfFlush.{flushed_roster}
-use Rattle.ent_alloc.proofs.MeaningOfAlloc.{reused_roster, made_roster, alloc_old_is, alloc_fresh_is, alloc_old_front, alloc_fresh_front, pool_is, last_is}
-use Rattle.ent_alloc.proofs.GivenMany.{many_given}
+
+-- so it has no row
+pub front_no_row : (e : Entities) (n : ℕ) → IsSound e.allocator → HasRowsOfLiving e
+    → All (λ h. maps.get e.rows h ≡ None) (take n e.allocator.pool)
+front_no_row e n sound kept k d lt = kept _ (All-take (λ x. ¬ (IsLive e.allocator x)) n e.allocator.pool
+    (of_pool (λ x. ¬ (IsLive e.allocator x)) e.allocator (λ i x below alive. search (rules, not_apart))) k d lt)
+
+-- a list that has the fresh handles first, once its two parts are in the order of single calls
+pub ordered : (news olds items handles : List Handle) (many len : ℕ) → items ≡ news ++ olds → many ≡ length news
+    → handles ≡ reverse (drop many items) ++ take many items → len ≡ length items
+    → take len (handles ++ drop (length handles) items) ≡ reverse olds ++ news
+ordered news olds items handles many len items_are many_is handles_are len_is = search
+    (rules, drop_at, take_at, length-append, length-reverse)
+
+module _ (r : Roster) (requests : Requests) (s : Allocator) (rest : IsAtRest r requests s) (n : ℕ)
+    (enough : n ≤ length r.pending + (r.limits.slots - r.made)) where
+  -- how many slots go on waiting, and how many are made
+  abbrev waits : ℕ
+  waits = length r.pending - n
+
+  abbrev news : ℕ
+  news = n - length r.pending
+
+  -- the roster with the request, as if it had been made
+  requested : allocator_of r n n ≡ after_take s n
+  requested = search (rules, lower_served r 0 0 n refl, rest.view)
+
+  sound : IsSound (allocator_of r n n)
+  sound = search (rules, requested, after_take-sound)
+
+  -- the front of the pool, as the vectors have it
+  pub front_is : reverse (drop waits r.pending) ++ fresh r.made news ≡ take n s.pool
+  front_is = search (rules, taken_is, sound, pool_is)
+
+  -- the slots that are left stand for the allocator
+  pub many_given : (new : Roster) → new ≡ flushed_roster r waits news
+      → StandFor new requests (after_flush (after_take s n))
+  many_given new is = search (
+    rules,
+    arith,
+    closed new (flushed_roster r waits news) requests (after_flush (after_take s n)) is,
+    rest.requests_is,
+    flush_is r n n,
+    sound,
+    requested,
+    after_flush-sound,
+    after_take-sound,
+    rows-joined,
+  )
 
 -- ---- who is alive
 
@@ -25,22 +76,27 @@ live_none live = sets.same_set handle_cmp_total handle_cmp-IsAntisymmetric _ _
 live_old : (live : sets.FinSet handle_cmp) (h : Handle) (news olds all : List Handle) → all ≡ olds ++ h ∷ []
     → sets.union (sets.union (sets.union live (sets.from_list (h ∷ []))) (sets.from_list news)) (sets.from_list olds)
     ≡ sets.union (sets.union live (sets.from_list news)) (sets.from_list all)
-live_old live h news olds all is = sets.same_set handle_cmp_total handle_cmp-IsAntisymmetric _ _ (λ q.
-    let alls = ap (λ hs. stands_in hs q) is ∙ list_any-append (eq_by_cmp handle_cmp q) olds (h ∷ []) in
-    let first = both_in (sets.union live (sets.from_list (h ∷ []))) news olds q in
-    let one = contains-union_list live (h ∷ []) q in
-    let last = both_in live news all q in
-    grind (arith, common_steps))
+live_old live h news olds all is = sets.same_set handle_cmp_total handle_cmp-IsAntisymmetric _ _ (λ q. grind (
+  arith,
+  common_steps,
+  is,
+  list_any-append (eq_by_cmp handle_cmp q) olds (h ∷ []),
+  both_in (sets.union live (sets.from_list (h ∷ []))) news olds q,
+  contains-union_list live (h ∷ []) q,
+  both_in live news all q,
+))
 
 live_fresh : (live : sets.FinSet handle_cmp) (h : Handle) (news all : List Handle) → all ≡ h ∷ news
     → sets.union (sets.union (sets.union live (sets.from_list (h ∷ []))) (sets.from_list news)) (sets.from_list [])
     ≡ sets.union (sets.union live (sets.from_list all)) (sets.from_list [])
-live_fresh live h news all is = sets.same_set handle_cmp_total handle_cmp-IsAntisymmetric _ _ (λ q.
-    let alls = ap (λ hs. stands_in hs q) is in
-    let first = both_in (sets.union live (sets.from_list (h ∷ []))) news [] q in
-    let one = contains-union_list live (h ∷ []) q in
-    let last = both_in live all [] q in
-    grind (arith, common_steps))
+live_fresh live h news all is = sets.same_set handle_cmp_total handle_cmp-IsAntisymmetric _ _ (λ q. grind (
+  arith,
+  common_steps,
+  is,
+  both_in (sets.union live (sets.from_list (h ∷ []))) news [] q,
+  contains-union_list live (h ∷ []) q,
+  both_in live all [] q,
+))
 
 -- ---- the vectors after one handle and then n
 
@@ -58,24 +114,23 @@ module _ (r : Roster) (n : ℕ) where
   old_flushed h some last =
       let len = length r.pending in
       let others = take (len - 1) r.pending in
-      let long : length others ≡ len - 1 = length-take-le (len - 1) r.pending (omega arith) in
-      let kept_is : length others - n ≡ len - suc n = omega (arith, long) in
-      let news_is : n - length others ≡ suc n - len = omega (arith, long) in
-      let all_is : drop (len - suc n) r.pending ≡ drop (len - suc n) others ++ h ∷ [] = ap (drop (len - suc n))
-      (last_is r h some last) ∙ drop-append-le (len - suc n) others (h ∷ []) (omega arith) in
-      let live_is = live_old r.live h (fresh r.made (suc n - len)) (drop (len - suc n) others) _ all_is in
-      let pending_is = take-take (len - suc n) (len - 1) r.pending (omega arith) in
-      rw (kept_is, news_is) (search (rules, live_is, pending_is))
+      let all = last_is r h some last in
+      search (
+        rules,
+        arith,
+        length-take-le (len - 1) r.pending,
+        live_old,
+        drop-append-le (len - suc n) others (h ∷ []),
+        all,
+        take-take (len - suc n) (len - 1) r.pending,
+      )
 
   -- the first occupant of a new slot, and then so many
   fresh_flushed : (h : Handle) → length r.pending ≡ 0 → h ≡ record { index = r.made; generation = 1 }
       → flushed_by (made_roster r h) n ≡ flushed_by r (suc n)
   fresh_flushed h none first =
-      let few_is : n - length r.pending ≡ n = omega arith in
-      let more_is : suc n - length r.pending ≡ suc n = omega arith in
       let all_is : fresh r.made (suc n) ≡ h ∷ fresh (r.made + 1) n = rw first (fresh-next r.made n) in
-      let live_is = live_fresh r.live h (fresh (r.made + 1) n) _ all_is in
-      rw (few_is, more_is, nil_from_length r.pending none) (search (rules, live_is))
+      search (rules, none, nil_from_length r.pending none, live_fresh r.live h (fresh (r.made + 1) n) _ all_is)
 
 -- ---- any number of them
 
@@ -111,17 +166,26 @@ all_flushed (suc n) r sound many = elim (cases_lt 0 (length r.pending)) [
       (alloc_old_is r h some last sound) (omega arith) (old_flushed r n h some last)
   | inr none ↦
       let empty : length r.pending ≡ 0 = omega arith in
-      let room : r.made < r.limits.slots = omega arith in
-      let h : Handle = record { index = r.made; generation = 1 } in
-      let front : idle r ≡ h ∷ idle (made_roster r h) = search (rules, alloc_fresh_front, nil_from_length) in
-      one_and n (all_flushed n) r sound many h (made_roster r h) front (alloc_fresh_is r empty room h refl)
-      (omega arith) (fresh_flushed r n h empty refl)
+      let h = first_of_slot r.made in
+      search (
+        rules,
+        arith,
+        one_and n (all_flushed n) r sound many h (made_roster r h),
+        alloc_fresh_front r empty,
+        nil_from_length r.pending empty,
+        alloc_fresh_is r empty,
+        fresh_flushed r n h empty,
+      )
 ]
 
 pub one_by_one : (r : Roster) (requests : Requests) (s : Allocator) → IsAtRest r requests s → (n : ℕ) → n ≤ to_give r
     → after_flush (after_take s n) ≡ after_allocs s (take n s.pool)
-one_by_one r requests s rest n enough =
-    let left = flushed_by r n in
-    sym (many_given r requests s rest n enough left refl).view ∙ ap (λ (q : Requests). allocator_of left q.asked
-    q.served) rest.requests_is ∙ all_flushed n r (subst IsSound (sym rest.view) rest.sound) enough
-    ∙ (λ i. after_allocs (rest.view i) (take n (pool_is r requests s rest i)))
+one_by_one r requests s rest n enough = search (
+  rules,
+  many_given r requests s rest n enough (flushed_by r n),
+  rest.requests_is,
+  all_flushed n r,
+  rest.view,
+  rest.sound,
+  pool_is r requests s rest,
+)

@@ -1,6 +1,6 @@
 -- Portions of a pool: the allocator whose pool begins with what was used, and what a request for it
 -- leaves.
-use Rattle.ent_alloc.proofs.Common.{◌≡◌, inl, inr, sym, ◌∙◌, subst, ℕ, ◌-◌, ◌≤◌, rules, List, [], length, take, arith, IsPermutation, common_steps, cases_eq, length-append, append_assoc, take_at, drop_at, length-map, length-take-le, take-append-drop, length_permutation, Handle, Roster, Allocator, after_take, idle, allocator_of, AreReserved, with_front, slots_of, AreSlotsOf, Portion, Requests, used_of, size_of, count_of, reach_of, AreUsed, front_of, after_portions, arranged, IsSound, ◌≢◌}
+use Rattle.ent_alloc.proofs.Common.{◌≡◌, sym, ◌∙◌, ℕ, ◌-◌, ◌≤◌, rules, List, [], length, take, arith, IsPermutation, common_steps, cases_eq, length-append, append_assoc, take_at, drop_at, length-map, length-take-le, take-append-drop, length_permutation, Handle, Roster, Allocator, after_take, idle, allocator_of, AreReserved, with_front, slots_of, AreSlotsOf, Portion, Requests, used_of, size_of, count_of, reach_of, AreUsed, front_of, after_portions, arranged, IsSound, ◌≢◌}
 use Rattle.ent_alloc.proofs.Meaning.{rest_is}
 use Rattle.ent_alloc.proofs.FrontPools.{with_front-sound}
 use Rattle.ent_alloc.proofs.LaidOut.{flushed-laid_out}
@@ -56,7 +56,8 @@ module _ (s : Allocator) (ps : List Portion) (fits : AreUsed ps) (within : size_
 
   -- the pool was arranged
   moved_taken : count ≢ reach → s.taken ≡ [] → s.asked ≡ 0 → after_take (with_front s front) count ≡ after_portions s ps
-  moved_taken short none flushed = search (rules, append_assoc, length-append, us_long, front_long, behind_reach, take-append-drop, take_at, drop_at, after_take-served)
+  moved_taken short none flushed = search
+      (rules, append_assoc, length-append, us_long, front_long, behind_reach, take-append-drop, take_at, drop_at, after_take-served)
 
   pub portions_taken : s.taken ≡ [] → s.asked ≡ 0 → after_take (arranged s ps) count ≡ after_portions s ps
   portions_taken none flushed = grind
@@ -74,15 +75,15 @@ front_slots r requests s is ps reserved view flushed are = grind (arith, common_
 -- the allocator stays sound
 pub after_portions-sound : (s : Allocator) (ps : List Portion) → IsSound s → s.asked ≡ 0 → AreUsed ps
     → size_of ps ≤ length s.pool → IsSound (after_portions s ps)
-after_portions-sound s ps sound flushed fits within =
-    let long = front_long s ps fits within in
-    let arranged_sound : IsSound (arranged s ps) = elim (cases_eq (count_of ps) (reach_of ps)) [
-      | inl all ↦
-          let is : arranged s ps ≡ s = grind (arith, common_steps) in rw is sound
-      | inr short ↦
-          let is : arranged s ps ≡ with_front s (front_of s.pool ps) = grind (arith, common_steps) in
-          rw is (with_front-sound s (front_of s.pool ps) sound flushed (omega (arith, reaches s ps fits within))
-          (rw long (same s ps fits within)))
-    ] in
-    subst IsSound (portions_taken s ps fits within (flushed-laid_out s sound flushed).taken flushed)
-    (after_take-sound (arranged s ps) (count_of ps) arranged_sound)
+after_portions-sound s ps sound flushed fits within = search (
+  rules,
+  arith,
+  portions_taken s ps fits within,
+  flushed-laid_out s sound flushed,
+  after_take-sound,
+  cases_eq (count_of ps) (reach_of ps),
+  with_front-sound s (front_of s.pool ps),
+  front_long s ps fits within,
+  reaches s ps fits within,
+  same s ps fits within,
+)

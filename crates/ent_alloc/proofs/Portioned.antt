@@ -46,10 +46,15 @@ module _ {A : Type 0} where
   pub length-used : (pool : List A) (ps : List Portion) → AreUsed ps → size_of ps ≤ length pool
       → length (used_of pool ps) ≡ count_of ps
   length-used pool [] fits within = refl
-  length-used pool (p ∷ ps) fits within =
-      let here = first_used p ps fits in
-      let others = length-used (drop p.size pool) ps (others_used p ps fits) (omega (arith, length-drop p.size pool)) in
-      simp length-append (omega (arith, length-take-le p.used pool (omega arith)))
+  length-used pool (p ∷ ps) fits within = search (
+    rules,
+    arith,
+    length-append,
+    length-take-le,
+    length-drop,
+    first_used p ps fits,
+    length-used (drop p.size pool) ps (others_used p ps fits),
+  )
 
   -- a portion's rest, and what comes behind it
   module _ (p : Portion) (pool : List A) (fits : p.used ≤ p.size) (within : p.size ≤ length pool)
@@ -76,12 +81,18 @@ module _ {A : Type 0} where
       -- as many as there are of a rest, and then of others
       pub take_left : (more n : ℕ) (others : List A) → n ≡ min (p.size - p.used) more
           → take more (rest ++ others) ≡ take n (drop p.used pool) ++ take (more - n) others
-      take_left more n others least =
-          let long = length-rest in
-          let count : more - length rest ≡ more - n = omega arith in
-          let first : take more rest ≡ take n (drop p.used pool) = search
-          (rules, cases_lt more (p.size - p.used), rest_is, take-take, take_all, min-eq_left, min-eq_right) in
-          rw (take-append more rest others, first, count)
+      take_left more n others least = search (
+        rules,
+        arith,
+        length-rest,
+        take-append more rest others,
+        cases_lt more (p.size - p.used),
+        rest_is,
+        take-take,
+        take_all,
+        min-eq_left,
+        min-eq_right,
+      )
 
   -- behind the last one that was used nothing has moved
   pub behind_reach : (pool : List A) (ps : List Portion) → AreUsed ps → size_of ps ≤ length pool
@@ -90,19 +101,20 @@ module _ {A : Type 0} where
   behind_reach pool (p ∷ ps) fits within =
       let here = first_used p ps fits in
       let few = count_within ps (others_used p ps fits) in
-      let others = behind_reach (drop p.size pool) ps (others_used p ps fits)
-      (omega (arith, length-drop p.size pool)) in
-      elim (none_or_some (reach_of ps)) [
-        | inl none ↦
-            let start : p.used - (p.used + count_of ps) ≡ 0 = omega arith in
-            rw (reach-none p ps none, start, left_none (drop p.size pool) ps (omega arith))
-            (rest_and_behind p pool here (omega arith))
-        | inr some ↦
-            let long = length-rest p pool here (omega arith) in
-            let start : p.size + reach_of ps - (p.used + count_of ps) ≡ length (rest p pool here (omega arith))
-            + (reach_of ps - count_of ps) = omega arith in
-            rw (reach-some p ps some, start, drop-append-add, others, drop-drop)
-      ]
+      search (
+        rules,
+        arith,
+        none_or_some (reach_of ps),
+        reach-none p ps,
+        reach-some p ps,
+        left_none,
+        rest_and_behind p pool here,
+        length-rest p pool here,
+        length-drop p.size pool,
+        drop-append-add (rest p pool here (omega arith)) (left_of (drop p.size pool) ps) (reach_of ps - count_of ps),
+        behind_reach (drop p.size pool) ps (others_used p ps fits),
+        drop-drop,
+      )
 
   -- the middle ones of four lists in the other order
   swap_middle : (u r us rs : List A) → IsPermutation ((u ++ r) ++ (us ++ rs)) ((u ++ us) ++ (r ++ rs))
@@ -121,45 +133,44 @@ module _ {A : Type 0} where
       let few = count_within ps (others_used p ps fits) in
       let others = front_same (drop p.size pool) ps (others_used p ps fits) (omega (arith, length-drop p.size pool)) in
       elim (none_or_some (reach_of ps)) [
-        | inl none ↦
-            let start : p.used - (p.used + count_of ps) ≡ 0 = omega arith in
-            rw (reach-none p ps none, start, used_none (drop p.size pool) ps (omega arith), append-nil, append-nil)
-            (IsPermutation-refl (take p.used pool))
+        | inl none ↦ search
+            (rules, arith, reach-none p ps none, used_none (drop p.size pool) ps, append-nil, IsPermutation-refl)
         | inr some ↦
             let r = rest p pool here (omega arith) in
             let rs = take (reach_of ps - count_of ps) (left_of (drop p.size pool) ps) in
-            let long = length-rest p pool here (omega arith) in
-            let start : p.size + reach_of ps - (p.used + count_of ps) ≡ length r + (reach_of ps - count_of ps) =
-            omega arith in
             let first = IsPermutation-append_right (take p.used pool ++ r) _ _ others in
             let swapped = IsPermutation-trans _ _ _ first (swap_middle (take p.used pool) r _ rs) in
-            rw (reach-some p ps some, take-add, start, take-append-add)
-            (rw (front_and_rest p pool here (omega arith)) at swapped)
+            search (
+              rules,
+              arith,
+              reach-some p ps some,
+              take-add p.size (reach_of ps) pool,
+              length-rest p pool here,
+              take-append-add r (left_of (drop p.size pool) ps) (reach_of ps - count_of ps),
+              front_and_rest p pool here,
+              swapped,
+            )
       ]
 
   -- if nothing is left before the last one that was used, they are what the list begins with
   pub used_is_front : (pool : List A) (ps : List Portion) → AreUsed ps → count_of ps ≡ reach_of ps
       → size_of ps ≤ length pool → used_of pool ps ≡ take (count_of ps) pool
   used_is_front pool [] fits all within = refl
-  used_is_front pool (p ∷ ps) fits all within =
-      let here = first_used p ps fits in
-      let few = count_within ps (others_used p ps fits) in
-      let others = λ (whole : count_of ps ≡ reach_of ps). used_is_front (drop p.size pool) ps (others_used p ps fits)
-      whole (omega (arith, length-drop p.size pool)) in
-      elim (none_or_some (reach_of ps)) [
-        | inl none ↦
-            let sum : p.used + count_of ps ≡ p.used = omega arith in
-            rw (used_none (drop p.size pool) ps (omega arith), append-nil, sum)
-        | inr some ↦
-            let reach = reach-some p ps some in
-            let full : p.used ≡ p.size = omega arith in
-            rw (full, others (omega arith)) (sym (take-add p.size (count_of ps) pool))
-      ]
+  used_is_front pool (p ∷ ps) fits all within = grind (
+    arith,
+    common_steps,
+    first_used p ps fits,
+    count_within ps (others_used p ps fits),
+    length-drop p.size pool,
+    used_is_front (drop p.size pool) ps (others_used p ps fits),
+    used_none,
+    append-nil,
+    take-add,
+  )
 
   pub left_is_behind : (pool : List A) (ps : List Portion) → AreUsed ps → count_of ps ≡ reach_of ps
       → size_of ps ≤ length pool → left_of pool ps ≡ drop (count_of ps) pool
-  left_is_behind pool ps fits all within =
-      let none : 0 ≡ reach_of ps - count_of ps = omega arith in search (rules, behind_reach)
+  left_is_behind pool ps fits all within = search (rules, arith, all, behind_reach pool ps)
 
 -- ---- one portion more
 

@@ -1,6 +1,6 @@
 -- What a served reply lists: handles of different slots, none of them alive, all of them taken, and
 -- none twice in two replies.
-use Rattle.ent_alloc.proofs.Common.{rules, ◌≡◌, ◌≢◌, refl, sym, ap, subst, ℕ, ◌<◌, ◌≤◌, not, List, ◌++◌, length, take, reverse, filter, All, AllPairs, Contains, IsPermutation, Ok, Err, arith, common_steps, lt-leb, le-leb, nat_tests, All-take, Contains-append_right, All-contains_itself, IsPermutation-refl, IsPermutation-sym, IsPermutation-trans, IsPermutation-append, IsPermutation-reverse, IsPermutation-filter_both, All-permutation, Handle, Allocator, available, after_take, listed, reply_to, is_old, is_fresh, IsSound, AreApart, IsLive}
+use Rattle.ent_alloc.proofs.Common.{rules, ◌≡◌, ◌≢◌, refl, sym, ap, subst, ℕ, ◌<◌, ◌≤◌, not, List, ◌++◌, length, take, filter, All, AllPairs, Contains, IsPermutation, Ok, Err, arith, common_steps, lt-leb, le-leb, nat_tests, All-take, Contains-append_right, All-contains_itself, IsPermutation-refl, IsPermutation-sym, IsPermutation-trans, IsPermutation-append, IsPermutation-reverse, IsPermutation-filter_both, All-permutation, Handle, Allocator, available, after_take, listed, reply_to, is_old, is_fresh, IsSound, AreApart, IsLive}
 use Rattle.ent_alloc.proofs.ListLaws.{AllPairs-right, AllPairs-take, AllPairs-IsPermutation, All-right}
 use Rattle.ent_alloc.proofs.Taken.{after_take-served}
 
@@ -9,11 +9,15 @@ fresh_is_not_old made h = grind (arith, nat_tests)
 
 -- a reply lists what it gives in another order
 pub listed-IsPermutation : (made : ℕ) (given : List Handle) → IsPermutation given (listed made given)
-listed-IsPermutation made given =
-    let old = filter (is_old made) given in
-    let new = filter (is_fresh made) given in
-    IsPermutation-trans given (old ++ new) (reverse old ++ new) (IsPermutation-filter_both (is_old made) (is_fresh made)
-    (fresh_is_not_old made) given) (search (rules, IsPermutation-append, IsPermutation-reverse, IsPermutation-refl))
+listed-IsPermutation made given = search (
+  rules,
+  IsPermutation-trans given (filter (is_old made) given ++ filter (is_fresh made) given),
+  IsPermutation-filter_both,
+  fresh_is_not_old,
+  IsPermutation-append,
+  IsPermutation-reverse,
+  IsPermutation-refl,
+)
 
 -- a request for no more than the pool has
 pub reply-served : (s : Allocator) (n : ℕ) → n ≤ length s.pool → reply_to s n ≡ Ok (listed s.made (take n s.pool))

@@ -22,18 +22,23 @@ pub taken-after_takes : (s : Allocator) (requests : List ℕ) → IsPermutation 
     (after_takes s requests).taken
 taken-after_takes s [] = rw (append-nil s.taken) (IsPermutation-refl s.taken)
 taken-after_takes s (n ∷ requests) =
-    let t = after_take s n in
-    let one = IsPermutation-append_left (given_by t requests) _ t.taken (taken-after_take s n) in
-    IsPermutation-trans _ _ _ (rw append_assoc at one) (taken-after_takes t requests)
+    let one = IsPermutation-append_left (given_by (after_take s n) requests) _ _ (taken-after_take s n) in
+    IsPermutation-trans _ _ _ (rw append_assoc at one) (taken-after_takes (after_take s n) requests)
 
 module _ (s : Allocator) (requests : List ℕ) (h : IsSound s) where
   -- no two of all are of one slot
   pub given_by-apart : AllPairs AreApart (given_by s requests)
   given_by-apart =
       let t = after_takes s requests in
-      let taken = AllPairs-left AreApart t.taken (t.aside ++ t.pool) (after_takes-sound s requests h).apart in
-      AllPairs-right AreApart s.taken (given_by s requests) (AllPairs-IsPermutation AreApart apart_both t.taken
-      (s.taken ++ given_by s requests) (search (rules, IsPermutation-sym, taken-after_takes)) taken)
+      search (
+        rules,
+        after_takes-sound s requests h,
+        AllPairs-left AreApart t.taken (t.aside ++ t.pool),
+        AllPairs-right AreApart s.taken (given_by s requests),
+        AllPairs-IsPermutation AreApart apart_both t.taken (s.taken ++ given_by s requests),
+        IsPermutation-sym,
+        taken-after_takes,
+      )
 
   pub given_by-not_live : All (λ x. ¬ (IsLive s x)) (given_by s requests)
   given_by-not_live =
@@ -54,10 +59,16 @@ module _ (s : Allocator) (requests : List ℕ) (h : IsSound s) where
   live-since_flush flushed x =
       let t = after_takes s requests in
       let all = taken-since_flush flushed in
-      let back = Contains-permutation t.taken (given_by s requests) x (IsPermutation-sym _ t.taken all) in
-      let there = Contains-permutation (given_by s requests) t.taken x all in
-      let same = live-after_takes s requests in
-      grind (arith, common_steps, live-after_flush t x, live-stays t x, taken-lives t x)
+      grind (
+        arith,
+        common_steps,
+        Contains-permutation t.taken (given_by s requests) x (IsPermutation-sym _ t.taken all),
+        Contains-permutation (given_by s requests) t.taken x all,
+        live-after_takes s requests,
+        live-after_flush t x,
+        live-stays t x,
+        taken-lives t x,
+      )
 
 -- one request gives nothing that was given before
 pub requested-given : (s : Allocator) (n : ℕ) (given : List Handle) → IsSound s → AreSpent s given

@@ -1,6 +1,6 @@
 -- How many slots are retired: all that were made but those of the living and those of the old
 -- handles that may be given.
-use Rattle.ent_alloc.proofs.Common.{rules, ◌≡◌, ℕ, ◌+◌, ◌<◌, ◌≤◌, Bool, true, false, cond, not, ◌⊎◌, inl, inr, ◌||◌, eqb, List, [], ◌∷◌, length, filter, refl, sym, ◌∙◌, arith, suc, zero, All, AllPairs, Contains, true≢false, common_steps, count_by, range_with_len, cases_eq, eq-eqb, ne_eqb, eqb-true, false_from_ne_true, AllPairs-filter, sum_by-cons, All-head, All-tail, All-contains, Contains-get_or, Handle, handle_cmp, handle_cmp_total, handle_cmp-IsAntisymmetric, Allocator, available, top, is_old, has_slot, retired, stands_in, IsSound, AreApart, IsLive, Any-from_list_any, list_any_at, list_any_none}
+use Rattle.ent_alloc.proofs.Common.{cases_Bool, rules, ◌≡◌, ℕ, ◌+◌, ◌<◌, ◌≤◌, Bool, true, false, cond, not, ◌||◌, eqb, List, [], ◌∷◌, length, filter, refl, sym, ◌∙◌, arith, suc, zero, All, AllPairs, Contains, common_steps, count_by, range_with_len, cases_eq, eq-eqb, ne_eqb, eqb-true, AllPairs-filter, sum_by-cons, All-head, All-tail, All-contains, Contains-get_or, Handle, handle_cmp, handle_cmp_total, handle_cmp-IsAntisymmetric, Allocator, available, top, is_old, has_slot, retired, stands_in, IsSound, AreApart, IsLive, Any-from_list_any, list_any_at, list_any_none}
 use Rattle.std.specs.FinSet as set
 use Rattle.ent_alloc.proofs.ListLaws.{AllPairs-head, AllPairs-tail}
 use Rattle.ent_alloc.proofs.HandleSets.{Contains-from_stands_in, stands_in-from_Contains}
@@ -36,14 +36,15 @@ count-none : (from n : ℕ) → count (λ _. false) from n ≡ 0
 count-none from zero = refl
 count-none from (suc n) = search (rules, count-next, count-none (from + 1) n)
 
--- one number more that passes
-count-one_more : (p : ℕ → Bool) (k from n : ℕ) → from ≤ k → k < from + n → p k ≡ false
-    → count (λ i. eqb k i || p i) from n ≡ count p from n + 1
-count-one_more p k from zero least below fails = absurd (omega arith)
-count-one_more p k from (suc n) least below fails =
+-- one number more that passes, if it did not
+count-one_more : (p : ℕ → Bool) (k from n : ℕ) → from ≤ k → k < from + n
+    → count (λ i. eqb k i || p i) from n ≡ count p from n + weight (not (p k))
+count-one_more p k from zero least below = absurd (omega arith)
+count-one_more p k from (suc n) least below =
     let now = count-next (λ i. eqb k i || p i) from n in
     let before = count-next p from n in
-    search (rules, cases_eq, eq-eqb, count_alike, ne_eqb, count-one_more p k (from + 1) n)
+    let others = count_alike (λ i. eqb k i || p i) p (from + 1) n in
+    search (rules, arith, cases_eq k from, cases_Bool (p from), eq-eqb, others, ne_eqb, count-one_more p k (from + 1) n)
 
 -- ---- the slots of a list
 
@@ -61,13 +62,17 @@ has_slot-apart handles h apart = search (rules, list_any_none, ne_eqb)
 count-apart : (handles : List Handle) (n : ℕ) → AllPairs AreApart handles → All (λ h. h.index < n) handles
     → count (has_slot handles) 0 n ≡ length handles
 count-apart [] n apart below = count-none 0 n
-count-apart (h ∷ handles) n apart below =
-    let first : h.index < n = search (rules, All-head) in
-    let rest = count-apart handles n (AllPairs-tail AreApart h handles apart)
-    (All-tail (λ h. h.index < n) h handles below) in
-    let none = has_slot-apart handles h (AllPairs-head AreApart h handles apart) in
-    let more = count-one_more (has_slot handles) h.index 0 n in
-    search (rules)
+count-apart (h ∷ handles) n apart below = search (
+  rules,
+  arith,
+  count-apart handles n,
+  AllPairs-tail AreApart h handles apart,
+  All-tail (λ h. h.index < n) h handles below,
+  All-head,
+  has_slot-apart,
+  AllPairs-head AreApart h handles apart,
+  count-one_more (has_slot handles) h.index 0 n,
+)
 
 -- a slot has one of these handles at most
 abbrev AreAlone : List Handle → Type 0
@@ -79,32 +84,33 @@ in_tail x handles h (k, below, is) = (suc k, omega arith, is)
 alone-tail : (x : Handle) (handles : List Handle) → AreAlone (x ∷ handles) → AreAlone handles
 alone-tail x handles alone g h in_g in_h = search (rules, in_tail)
 
-cases_eq_bool : (b : Bool) → (b ≡ true) ⊎ (b ≡ false)
-cases_eq_bool b = grind (arith, common_steps)
+has_slot-alone : (handles : List Handle) (h : Handle) → AreAlone (h ∷ handles)
+    → has_slot handles h.index ≡ stands_in handles h
+has_slot-alone handles h alone =
+    let found = has_slot-found handles h.index in
+    let same = λ (one : has_slot handles h.index ≡ true). rw (← alone h (found one).0 (0, omega arith, refl)
+    (in_tail h handles (found one).0 (found one).1) (sym (found one).2)) at
+    (stands_in-from_Contains handles (found one).0 (found one).1) in
+    let has = λ (one : stands_in handles h ≡ true). has_slot-has handles h (Contains-from_stands_in handles h one) in
+    grind (arith, common_steps, same, has)
 
 -- the set of them has as many
 count-alone : (handles : List Handle) (n : ℕ) → AreAlone handles → All (λ h. h.index < n) handles
     → count (has_slot handles) 0 n ≡ set.len {R = handle_cmp} (set.from_list handles)
 count-alone [] n alone below = count-none 0 n ∙ sym (set.len-empty handle_cmp)
 count-alone (h ∷ handles) n alone below =
-    let first : h.index < n = search (rules, All-head) in
+    let first = below 0 h (omega arith) in
     let rest = count-alone handles n (alone-tail h handles alone) (All-tail (λ h. h.index < n) h handles below) in
-    let long = set.len-insert handle_cmp_total (set.from_list handles) h in
-    let tells = set.contains-from_list handle_cmp_total handles h in
-    elim (cases_eq_bool (stands_in handles h)) [
-      | inl is ↦
-          let there = has_slot-has handles h (Contains-from_stands_in handles h is) in
-          let same = count_alike (has_slot (h ∷ handles)) (has_slot handles) 0 n
-          (λ i _ _. grind (arith, common_steps)) in
-          cc
-      | inr is ↦
-          let none : has_slot handles h.index ≡ false = false_from_ne_true _ (λ one.
-          let found = has_slot-found handles h.index one in
-          let same = alone found.0 h (in_tail h handles found.0 found.1) (0, omega arith, refl) found.2 in
-          true≢false (search (rules, stands_in-from_Contains, same))) in
-          let more = count-one_more (has_slot handles) h.index 0 n (omega arith) (omega arith) none in
-          cc
-    ]
+    search (
+      rules,
+      arith,
+      cases_Bool (stands_in handles h),
+      rest,
+      count-one_more (has_slot handles) h.index 0 n,
+      has_slot-alone handles h alone,
+      set.len-insert handle_cmp_total (set.from_list handles) h,
+      set.contains-from_list handle_cmp_total handles h,
+    )
 
 -- of the old slots, the old handles tell
 has_slot-old : (made : ℕ) (handles : List Handle) (index : ℕ) → index < made
@@ -131,10 +137,15 @@ module _ (s : Allocator) (sound : IsSound s) where
       (λ i d lt. (sound.live _ (lives _ (Contains-get_or living i d lt))).made))
 
   count-waiting : count (has_slot (available s)) 0 s.made ≡ top s
-  count-waiting = count_alike (has_slot (available s)) (has_slot (old_ones s)) 0 s.made
-      (λ i _ below. has_slot-old s.made (available s) i (omega arith))
-      ∙ count-apart (old_ones s) s.made (AllPairs-filter AreApart (is_old s.made) (available s) sound.apart)
-      (old_ones_below s)
+  count-waiting = search (
+    rules,
+    arith,
+    count_alike (has_slot (available s)) (has_slot (old_ones s)) 0 s.made,
+    has_slot-old s.made (available s),
+    count-apart (old_ones s) s.made,
+    AllPairs-filter AreApart (is_old s.made) (available s) sound.apart,
+    old_ones_below s,
+  )
 
   -- what is neither alive nor old and to be given is retired
   pub retired-rest : retired s + (set.len s.live + top s) ≡ s.made

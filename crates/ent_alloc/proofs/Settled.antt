@@ -1,6 +1,6 @@
 -- Two numbers tell what requests leave of a flushed allocator: how many handles were given, and how
 -- many were asked for.
-use Rattle.ent_alloc.proofs.Common.{rules, ◌≡◌, ◌∙◌, ℕ, ◌+◌, ◌-◌, ◌≤◌, List, [], length, sum, take_all, drop_all, length-take, length-drop, length_permutation, Allocator, available, top, after_take, settled, IsSound}
+use Rattle.ent_alloc.proofs.Common.{rules, ◌≡◌, ℕ, ◌+◌, ◌-◌, ◌≤◌, List, [], length, sum, take_all, drop_all, length-take, length-drop, length_permutation, Allocator, available, top, after_take, settled, IsSound}
 use Rattle.std.proofs.Common.{append-nil}
 use Rattle.ent_alloc.proofs.LaidOut.{flushed-laid_out}
 use Rattle.ent_alloc.proofs.Taken.{length-available, after_take-served}
@@ -43,11 +43,18 @@ module _ (s : Allocator) (h : IsSound s) (flushed : s.asked ≡ 0) where
   after_takes-settled requests =
       let t = after_takes s requests in
       let sound = after_takes-sound s requests h in
-      let pool = available-after_takes s requests h ∙ all_in_pool in
-      let long : length t.taken ≡ length (given_by s requests) = search
-      (rules, length_permutation, taken-since_flush) in
-      let taken = taken_is t in
-      let aside = aside_is t sound in
-      let asked = asked-after_takes s requests in
-      let made = made-after_takes s requests in
-      search (rules, nothing_taken, nothing_aside, limits-after_takes, live-after_takes)
+      search (
+        rules,
+        available-after_takes s requests h,
+        all_in_pool,
+        length_permutation,
+        taken-since_flush,
+        taken_is t,
+        aside_is t sound,
+        asked-after_takes s requests,
+        made-after_takes s requests,
+        nothing_taken,
+        nothing_aside,
+        limits-after_takes,
+        live-after_takes,
+      )

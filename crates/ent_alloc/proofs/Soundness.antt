@@ -22,15 +22,21 @@ IsSound-moved s taken aside pool asked h same rest enough = search (rules, enoug
 
 -- a request, served or refused
 pub after_take-sound : (s : Allocator) (n : ℕ) → IsSound s → IsSound (after_take s n)
-after_take-sound s n h =
-    let moves = take_moves s.taken s.aside s.pool n (aside_or_pool s h) in
-    let pool = ap (drop n) h.pool ∙ drop-drop n s.asked (available s) in
-    let split = cases_lt (length s.pool) n in
-    search
-    (rules, split, length-pool, after_take-refused, after_take-served, IsSound-moved, append-nil, drop_all, enough)
-
-pub next-later : (limits : Limits) (h : Handle) → h.generation ≢ limits.generations → next limits h ≡ Some (following h)
-next-later limits h before = search (rules)
+after_take-sound s n h = search (
+  rules,
+  arith,
+  cases_lt (length s.pool) n,
+  take_moves s.taken s.aside s.pool n (aside_or_pool s h),
+  ap (drop n) h.pool,
+  drop-drop n s.asked (available s),
+  length-pool,
+  after_take-refused,
+  after_take-served,
+  IsSound-moved,
+  append-nil,
+  drop_all,
+  enough,
+)
 
 -- what holds of what follows
 pub of_next : (P : Handle → Type 0) (limits : Limits) (h : Handle)
@@ -75,10 +81,20 @@ alloc_of_fresh : (s : Allocator) (more : ℕ) → IsLaidOut s [] → s.limits.sl
 alloc_of_fresh s more was some =
     let x = first_of_slot s.made in
     let fewer : s.limits.slots - (s.made + 1) ≡ more = omega arith in
-    let within = of_inserted (IsWithin s.limits) s.live x (search rules) was.live_within in
-    let below = of_inserted (λ h. h.index < s.made + 1) s.live x (omega arith)
-    (λ y alive. let below = was.live_below y alive in omega arith) in
-    search (rules, some, fresh-next, fewer, All-nil, within, below, one_occupant_inserted, apart_by_made)
+    search (
+      rules,
+      arith,
+      some,
+      fresh-next,
+      fewer,
+      All-nil,
+      of_inserted (IsWithin s.limits) s.live x,
+      of_inserted (λ h. h.index < s.made + 1) s.live x,
+      was.live_within,
+      was.live_below,
+      one_occupant_inserted,
+      apart_by_made,
+    )
 
 -- the handle at the front of the pool comes to life
 pub after_alloc-sound : (s : Allocator) (x : Handle) (rest : List Handle) → IsSound s → s.asked ≡ 0 → s.pool ≡ x ∷ rest
@@ -109,23 +125,33 @@ flush-laid_out s h =
     let old = drop k (old_ones s) in
     let olds : (P : Handle → Type 0) → All P (available s) → All P old = λ P all. All-drop P k (old_ones s)
     (All-filter (is_old s.made) P (available s) all) in
-    let within = olds (IsWithin s.limits) h.within in
     let made : (after_flush s).made ≤ s.limits.slots = omega (arith, made-after_flush s h, enough s h, h.made) in
     let below : All (λ h. h.index < (after_flush s).made) old =
     grind (arith, common_steps, All-drop, old_ones, All-weaker, old_ones_below) in
     let apart = AllPairs-drop AreApart k (old_ones s)
     (AllPairs-filter AreApart (is_old s.made) (available s) h.apart) in
-    let live_within = of_joined (IsWithin s.limits) s.live s.taken (λ x alive. (h.live x alive).within)
-    (All-left (IsWithin s.limits) s.taken (s.aside ++ s.pool) h.within) in
-    let live_below = of_joined (λ h. h.index < (after_flush s).made) s.live s.taken
-    (λ x alive. let was = (h.live x alive).made in omega arith) (taken_below s h) in
     let live_apart = of_joined (λ h. All (AreApart h) old) s.live s.taken
     (λ x alive. olds (AreApart x) (h.live x alive).apart) (λ i d lt. All-left (AreApart (get_or s.taken i d)) old _
     (subst (All (AreApart (get_or s.taken i d))) (left-parts s h)
     (AllPairs-across AreApart s.taken (s.aside ++ s.pool) h.apart i d lt))) in
     let one = one_occupant_joined s.live s.taken (λ x alive. All-left (AreApart x) s.taken (s.aside ++ s.pool)
     (h.live x alive).apart) (AllPairs-left AreApart s.taken (s.aside ++ s.pool) h.apart) h.one_occupant in
-    search (rules, within, made, below, apart, left-parts s h, live_within, live_below, live_apart, one)
+    search (
+      rules,
+      arith,
+      olds (IsWithin s.limits) h.within,
+      made,
+      below,
+      apart,
+      left-parts s h,
+      of_joined (IsWithin s.limits) s.live s.taken,
+      All-left (IsWithin s.limits) s.taken (s.aside ++ s.pool) h.within,
+      of_joined (λ h. h.index < (after_flush s).made) s.live s.taken,
+      h.live,
+      taken_below s h,
+      live_apart,
+      one,
+    )
 
 pub after_flush-sound : (s : Allocator) → IsSound s → IsSound (after_flush s)
 after_flush-sound s h = laid_out-sound (after_flush s) _ (flush-laid_out s h)

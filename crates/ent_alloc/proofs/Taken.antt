@@ -1,5 +1,5 @@
 -- What a request does to the lists of a sound allocator, and what is taken by all requests.
-use Rattle.ent_alloc.proofs.Common.{rules, ◌≡◌, sym, ap, ◌∙◌, subst, ℕ, ◌+◌, ◌-◌, ◌<◌, ◌≤◌, List, [], ◌++◌, length, take, drop, All, arith, ◌⊎◌, common_steps, cases_lt, lt-leb, le-leb, take-append_seam, drop-append_seam, length-append, length-drop, All-take, All-append, All-weaker, Handle, Allocator, top, available, after_take, after_flush, fresh, IsSound}
+use Rattle.ent_alloc.proofs.Common.{rules, ◌≡◌, sym, ap, ◌∙◌, ℕ, ◌+◌, ◌-◌, ◌<◌, ◌≤◌, List, [], ◌++◌, length, take, drop, All, arith, ◌⊎◌, common_steps, cases_lt, lt-leb, le-leb, take-append_seam, drop-append_seam, length-append, length-drop, All-take, All-append, All-weaker, Handle, Allocator, top, available, after_take, after_flush, fresh, IsSound}
 use Rattle.ent_alloc.proofs.FreshHandles.{All-fresh, fresh_of_joined, take_joined, drop_joined, length-fresh}
 use Rattle.ent_alloc.proofs.LaidOut.{old_ones, old_ones_below}
 
@@ -60,7 +60,4 @@ module _ (s : Allocator) (h : IsSound s) where
   pub taken_below : All (λ h. h.index < (after_flush s).made) s.taken
   taken_below =
       let below = λ (h : Handle). h.index < (after_flush s).made in
-      let more = made-after_flush in
-      let olds = All-weaker (λ h. h.index < s.made) below (λ h lt. omega arith) _ taken_old_below in
-      let news = All-fresh below s.made (length s.taken - top s) (λ k lt. omega arith) in
-      subst (All below) (sym taken-parts) (All-append below _ _ olds news)
+      search (rules, arith, made-after_flush, taken-parts, All-append below, All-weaker, taken_old_below, All-fresh below)

@@ -14,8 +14,8 @@ pub get_or-new_waiting : (position count k : ℕ) (d : SlotRecord) → k < count
     → get_or (new_waiting position count) k d ≡ waiting_at 1 (position + k)
 get_or-new_waiting position zero k d below = absurd (omega arith)
 get_or-new_waiting position (suc count) zero d below = ap (waiting_at 1) (omega arith)
-get_or-new_waiting position (suc count) (suc k) d below = get_or-new_waiting (position + 1) count k d (omega arith)
-    ∙ ap (waiting_at 1) (omega arith)
+get_or-new_waiting position (suc count) (suc k) d below =
+    search (rules, arith, get_or-new_waiting (position + 1) count k)
 
 pub new_waiting-push : (position count : ℕ) → new_waiting position (count + 1) ≡ new_waiting position count
     ++ waiting_at 1 (position + count) ∷ []
@@ -81,13 +81,22 @@ module _ (limits : Limits) (records : List SlotRecord) (pending : List ℕ) (liv
     living = search (rules, occupants-append, occupants-waiting, append-nil)
 
     pub waiting_keeps_links : AreLinked limits grown order live
-    waiting_keeps_links =
-        let least = generation_in (λ g. 1 ≤ g) linked.least (omega arith) in
-        let greatest = generation_in (λ g. g ≤ limits.generations) linked.greatest linked.limited.some_generation in
-        let long = grown_long in
-        let waits = order_long in
-        search
-        (rules, least, greatest, living, cases_lt, old_stays, new_is, old_place, new_place, linked.listed, linked.back)
+    waiting_keeps_links = search (
+      rules,
+      generation_in (λ g. 1 ≤ g) linked.least,
+      generation_in (λ g. g ≤ limits.generations) linked.greatest,
+      linked.limited,
+      grown_long,
+      order_long,
+      living,
+      cases_lt,
+      old_stays,
+      new_is,
+      old_place,
+      new_place,
+      linked.listed,
+      linked.back,
+    )
 
     olds : map (handle_at grown) pending ≡ map (handle_at records) pending
     olds = search (rules, map_alike, old_stays, linked.made)

@@ -1,5 +1,5 @@
 -- The names that proofs of this crate cite, of std, of the crates below and of its own specs. Declares nothing.
-pub use Rattle.std.proofs.Common.{All, Err, IsTrue, List, Ok, Result, Some, [], ap, append-nil, arith, get_or, inl, inr, length, map, refl, rules, subst, suc, sym, take, true, vec_len, zero, ℕ, ⊎_elim, ◌++◌, ◌+◌, ◌-◌, ◌<◌, ◌∙◌, ◌∷◌, ◌≡◌, ◌≤◌}
+pub use Rattle.std.proofs.Common.{All, Err, IsTrue, List, Ok, Result, Some, [], ap, append-nil, arith, get_or, inl, inr, length, map, refl, rules, subst, suc, sym, take, true, vec_len, zero, ℕ, ⊎_elim, ◌++◌, ◌+◌, ◌-◌, ◌<◌, ◌∙◌, ◌∷◌, ◌≡◌, ◌≤◌, ◌⊎◌}
 pub use Rattle.std.proofs.lemmas.Grind.{common_steps}
 pub use Rattle.std.proofs.lemmas.List.{length-map, take_all}
 pub use Rattle.std.proofs.lemmas.List.Elements.{All-map}
@@ -21,9 +21,9 @@ pub use Rattle.ent_queue.specs.Drawing.{after_commands}
 pub use Rattle.ent_runner.proofs.EachOutput.{HoldsAt, each_done, each_either}
 pub use Rattle.ent_runner.proofs.Lists.{at_within, get_mapped, mapped_at}
 pub use Rattle.ent_runner.specs.Crew.{AreBrokenOff, AreDone}
-pub use Rattle.ent_runner.specs.Frame.{SystemMayHaveIssued, SystemMayIssue}
+pub use Rattle.ent_runner.specs.Frame.{SystemMayIssue}
 pub use Rattle.ent_world.specs.OpenWorld.{View}
 pub use Rattle.ent_block_runner.specs.Drawing.{DrawsOne, Source}
 pub use Rattle.ent_block_runner.specs.Filling.{Draws, Extends, Filling}
 pub use Rattle.ent_block_runner.specs.Queues.{HaveIssued, HaveStopped, IssuesAt, blocks_after_queues}
-pub use Rattle.ent_block_runner.specs.Running.{AreReady, FillsAt, HaveFilled, IsBrokenOff, SystemMayHaveLogged, SystemMayLog, blocks_after}
+pub use Rattle.ent_block_runner.specs.Running.{AreReady, FillsAt, HaveFilled, IsBrokenOff, SystemMayLog, blocks_after}

@@ -1,68 +1,168 @@
--- Systems that filled logs as the jobs of a crew: each from its own block.
-use Rattle.ent_block_runner.proofs.Common.{All, List, arith, inl, inr, length, refl, ℕ, ⊎_elim, ◌<◌, ◌∙◌, ◌≡◌, length-map, slice_get_within, Block, Phase, Reserver, after_use, blocks_of, spawned_in, Entry, HoldsAt, each_done, each_either, AreBrokenOff, AreDone, Draws, AreReady, FillsAt, HaveFilled, IsBrokenOff, SystemMayHaveLogged, SystemMayLog, blocks_after}
-use Rattle.ent_block_runner.proofs.FromBlocks.{filled_is, filled_of, reservers_of, blocks_are, Fills, filled_at, of_phase}
+-- Systems that filled lists as the jobs of a crew, each from its own block. The lists are logs or queues.
+use Rattle.ent_block_runner.proofs.Common.{get_or, slice_get, [], zero, suc, All, All-map, List, Some, rules, arith, inl, inr, length, map, refl, sym, ℕ, ⊎_elim, ◌<◌, ◌∙◌, ◌∷◌, ◌≡◌, ◌⊎◌, length-map, get_or_from_slice_get, slice_get-get_or, slice_get_within, Block, Phase, Reserver, after_use, blocks_of, spawned_in, Entry, Command, after_commands, HoldsAt, at_within, get_mapped, mapped_at, each_done, each_either, AreBrokenOff, AreDone, Draws, AreReady, FillsAt, HaveFilled, IsBrokenOff, SystemMayLog, blocks_after, SystemMayIssue, View, HaveIssued, HaveStopped, IssuesAt, blocks_after_queues}
+use Rattle.ent_queue.specs.Drawing.{AreDrawnBy}
 
-module _ {C S : Type 0} (may leave : S → List (Entry C) → Type 0) (systems : List S) (phase : Phase)
-    (reservers : List Reserver) (ready : AreReady phase (length systems) reservers) where
-  abbrev pub May : ℕ → List (Entry C) × Reserver → Type 0
-  May n one = FillsAt may systems phase reservers n one
+module _ {E : Type 0} where
+  -- the lists that systems hand back, and the reservers
+  abbrev filled_of : List (List E × Reserver) → List (List E)
+  filled_of all = map (λ (one : List E × Reserver). one.0) all
 
-  abbrev pub Leave : ℕ → List (Entry C) × Reserver → Type 0
-  Leave n one = FillsAt leave systems phase reservers n one
+  abbrev reservers_of : List (List E × Reserver) → List Reserver
+  reservers_of all = map (λ (one : List E × Reserver). one.1) all
 
-  abbrev From : Block → List (Entry C) → Block → Type 0
-  From before log after = Draws phase.phase.start.pool before log after
+  filled_is : (all : List (List E × Reserver)) (n : ℕ) (one : List E × Reserver) → slice_get all n ≡ Some one
+      → get_or (filled_of all) n [] ≡ one.0
+  filled_is all n one at =
+      search (rules, get_or_from_slice_get, get_mapped (λ (one : List E × Reserver). one.0) all n one)
 
-  module _ {L : Type 0} (before after : List L) (same : length after ≡ length before) (jobs : ℕ)
-      (jobs_are : jobs ≡ length systems) where
-    module _ (all : List (List (Entry C) × Reserver)) (done : AreDone (λ n a one b. May n one) jobs before all
-        after) where
-      each : (n : ℕ) → n < length all → HoldsAt (Fills phase reservers (SystemMayLog may systems) From) all n
-      each n less one at =
-          let f = each_done May jobs before all after same done n (omega (arith, less, done.count)) one at in
-          (f.system, f.of_phase, f.draws)
+  module _ (Drawn : Block → List E → Type 0) (use_one : Block → List E → Block)
+      (use_all : List Block → List (List E) → List Block) (none : use_all [] [] ≡ [])
+      (more : (b : Block) (bs : List Block) (l : List E) (ls : List (List E)) → use_all (b ∷ bs) (l ∷ ls) ≡ use_one b l
+      ∷ use_all bs ls) where
+    -- each block is used as its system's list says
+    blocks_are : (before : List Reserver) (all : List (List E × Reserver)) → length all ≡ length before
+        → ((n : ℕ) (r : Reserver) (one : List E × Reserver) → slice_get before n ≡ Some r → slice_get all n ≡ Some one
+        → one.1.block ≡ use_one r.block one.0)
+        → blocks_of (reservers_of all) ≡ use_all (blocks_of before) (filled_of all)
+    blocks_are [] [] same each = sym none
+    blocks_are (r ∷ before) (one ∷ all) same each = search (
+      rules,
+      arith,
+      each zero r one refl refl,
+      blocks_are before all (omega arith) (λ n s other at there. each (suc n) s other at there),
+      more,
+    )
+    blocks_are _ _ same _ = absurd (omega arith)
 
-      pub filled_done : HaveFilled may systems phase.phase.start.pool (blocks_of reservers) (filled_of all)
-          (blocks_of (reservers_of all))
-      filled_done =
-          let at = filled_at phase reservers (SystemMayLog may systems) From all each in
-          let long = length-map reservers (λ (r : Reserver). r.block) in
-          record {
-            each_log = length-map all (λ (one : List (Entry C) × Reserver). one.0) ∙ done.count ∙ jobs_are;
-            each_system = λ n system there.
-                (at n (omega (arith, slice_get_within systems n system there, done.count))).0 system there;
-            draws = λ n block there.
-                let less = slice_get_within (blocks_of reservers) n block there in
-                let d = (at n (omega (arith, less, long, ready.count, done.count))).1 block there in
-                record { given = d.1.given; used = refl };
-            used = blocks_are (λ b log. after_use b (length (spawned_in log))) blocks_after refl (λ b bs l ls. refl)
-                reservers all (omega (arith, done.count, ready.count))
-                (λ n r one at there. ((each n (slice_get_within all n one there) one there).2 r at).used);
-          }
+    module _ (number : ℕ) (reservers : List Reserver) where
+      -- the job of this number filled the list from its own block, and hands back the list and the reserver
+      abbrev Fills : (ℕ → List E → Type 0) → ℕ → List E × Reserver → Type 0
+      Fills May n one = May n one.0 × (one.1.number ≡ number) × ((r : Reserver) → slice_get reservers n ≡ Some r
+          → Drawn r.block one.0 × (one.1.block ≡ use_one r.block one.0))
 
-      pub of_done : All (λ (r : Reserver). r.number ≡ phase.number) (reservers_of all)
-      of_done = of_phase phase reservers (SystemMayLog may systems) From all each
+      module _ (May : ℕ → List E → Type 0) (all : List (List E × Reserver)) (n : ℕ) (less : n < length all)
+          (each : HoldsAt (Fills May) all n) where
+        may_at : May n (get_or (filled_of all) n [])
+        may_at = let one = at_within all n less in rw (filled_is all n one.0 one.1) ((each one.0 one.1).0)
 
-    pub lost_off : AreBrokenOff (λ n a one b. May n one) (λ n a one b. Leave n one) jobs before after
-        → IsBrokenOff may leave systems phase.phase.start.pool (blocks_of reservers)
-    lost_off done =
-        let all : List (List (Entry C) × Reserver) = done.outputs in
-        let at = filled_at phase reservers (SystemMayHaveLogged may leave systems) From all (λ n less one at. ⊎_elim
-        (λ f. (inl f.system, f.of_phase, f.draws)) (λ f. (inr f.system, f.of_phase, f.draws))
-        (each_either May Leave jobs before after same done n (omega (arith, less, done.each_output)) one at)) in
-        record {
-          count = done.count;
-          within = omega (arith, done.within);
-          some = λ some. done.some (omega arith);
-          logs = filled_of all;
-          each_log = length-map all (λ (one : List (Entry C) × Reserver). one.0) ∙ done.each_output;
-          each_system = λ n less. (at n (omega (arith, done.each_output))).0;
-          draws = λ n block less there.
-              let d = (at n (omega (arith, done.each_output))).1 block there in
-              record { given = d.1.given; used = refl };
-          why = ⊎_elim (λ s.
-              let last = s.7.stopped in
-              let within = slice_get_within all s.7.last last.0 last.1 in
-              inl (s.7.last, omega (arith, done.each_output), rw (filled_is all s.7.last last.0 last.1) last.2.system))
-              (λ less. inr (omega arith)) done.why;
-        }
+        drawn_at : (block : Block) → slice_get (blocks_of reservers) n ≡ Some block
+            → Drawn block (get_or (filled_of all) n [])
+        drawn_at block at =
+            let one = at_within all n less in
+            let r = mapped_at (λ (r : Reserver). r.block) reservers n block at in
+            rw (filled_is all n one.0 one.1, sym r.2) (((each one.0 one.1).2 r.0 r.1).0)
+
+      module _ {L : Type 0} (before after : List L) (same : length after ≡ length before) (jobs : ℕ)
+          (count : length reservers ≡ jobs) (Fits Left : ℕ → List E × Reserver → Type 0)
+          (May Leave : ℕ → List E → Type 0) (fits : (n : ℕ) (one : List E × Reserver) → Fits n one → Fills May n one)
+          (left : (n : ℕ) (one : List E × Reserver) → Left n one → Fills Leave n one) where
+        done_all : (all : List (List E × Reserver)) → AreDone (λ n a one b. Fits n one) jobs before all after
+            → ((n : ℕ) → n < jobs → May n (get_or (filled_of all) n []))
+            × ((n : ℕ) (block : Block) → slice_get (blocks_of reservers) n ≡ Some block
+            → Drawn block (get_or (filled_of all) n []))
+            × (blocks_of (reservers_of all) ≡ use_all (blocks_of reservers) (filled_of all))
+            × All (λ (r : Reserver). r.number ≡ number) (reservers_of all)
+        done_all all done =
+            let each : (n : ℕ) → n < length all → HoldsAt (Fills May) all n = λ n less one at.
+            fits n one (each_done Fits jobs before all after same done n (omega (arith, less, done.count)) one at) in
+            let of_phase = λ (k : ℕ) (d : List E × Reserver) (within : k < length all).
+            (each k within (get_or all k d) (slice_get-get_or all k d within)).1 in (
+              λ n less. let here : n < length all = omega (arith, done.count) in may_at May all n here (each n here),
+              λ n block at.
+                  let here : n < length all = omega (
+                    arith,
+                    slice_get_within (blocks_of reservers) n block at,
+                    length-map reservers (λ (r : Reserver). r.block),
+                    count,
+                    done.count,
+                  ) in
+                  drawn_at May all n here (each n here) block at,
+              blocks_are reservers all (omega (arith, done.count))
+                  (λ n r one at there. ((each n (slice_get_within all n one there) one there).2 r at).1),
+              All-map (λ (r : Reserver). r.number ≡ number) (λ (one : List E × Reserver). one.1) all of_phase,
+            )
+
+        lost_all : (done : AreBrokenOff (λ n a one b. Fits n one) (λ n a one b. Left n one) jobs before after)
+            → (length (filled_of done.outputs) ≡ done.count)
+            × ((n : ℕ) → n < done.count → May n (get_or (filled_of done.outputs) n [])
+            ⊎ Leave n (get_or (filled_of done.outputs) n []))
+            × ((n : ℕ) (block : Block) → n < done.count → slice_get (blocks_of reservers) n ≡ Some block
+            → Drawn block (get_or (filled_of done.outputs) n []))
+            × (((n : ℕ) × (n < done.count) × Leave n (get_or (filled_of done.outputs) n [])) ⊎ (done.count < jobs))
+        lost_all done =
+            let Either : ℕ → List E → Type 0 = λ n l. May n l ⊎ Leave n l in
+            let each : (n : ℕ) → n < done.count → HoldsAt (Fills Either) done.outputs n = λ n less one at. ⊎_elim
+            (λ f. let g = fits n one f in (inl g.0, g.1, g.2)) (λ f. let g = left n one f in (inr g.0, g.1, g.2))
+            (each_either Fits Left jobs before after same done n less one at) in (
+              length-map done.outputs (λ (one : List E × Reserver). one.0) ∙ done.each_output,
+              λ n less. may_at Either done.outputs n (omega (arith, less, done.each_output)) (each n less),
+              λ n block less. drawn_at Either done.outputs n (omega (arith, less, done.each_output)) (each n less)
+                  block,
+              ⊎_elim (λ s.
+                  let last = s.7.stopped in
+                  let within = slice_get_within done.outputs s.7.last last.0 last.1 in
+                  inl (
+                    s.7.last,
+                    omega (arith, done.each_output),
+                    rw (filled_is done.outputs s.7.last last.0 last.1)
+                        ((left s.7.last last.0 last.2).0),
+                  )) inr done.why,
+            )
+
+-- logs
+module _ {C S L : Type 0} (may leave : S → List (Entry C) → Type 0) (systems : List S) (phase : Phase)
+    (reservers : List Reserver) (ready : AreReady phase (length systems) reservers) (before after : List L)
+    (same : length after ≡ length before) where
+  abbrev uses : Block → List (Entry C) → Block
+  uses block log = after_use block (length (spawned_in log))
+
+  abbrev DrawsLog : Block → List (Entry C) → Type 0
+  DrawsLog block log = Draws phase.phase.start.pool block log (uses block log)
+
+  fits_log : (may : S → List (Entry C) → Type 0) (n : ℕ) (one : List (Entry C) × Reserver)
+      → FillsAt may systems phase reservers n one → Fills DrawsLog uses blocks_after refl (λ b bs l ls. refl)
+      phase.number reservers (SystemMayLog may systems) n one
+  fits_log may n one f = (f.system, f.of_phase, λ r at. search (rules, f.draws r at))
+
+  pub filled_done : (all : List (List (Entry C) × Reserver))
+      → AreDone (λ n a one b. FillsAt may systems phase reservers n one) (length systems) before all after
+      → HaveFilled may systems phase.phase.start.pool (blocks_of reservers) (filled_of all)
+      (blocks_of (reservers_of all)) × All (λ (r : Reserver). r.number ≡ phase.number) (reservers_of all)
+  filled_done all done =
+      let d = done_all DrawsLog uses blocks_after refl (λ b bs l ls. refl) phase.number reservers before after same _
+      ready.count _ _ _ _ (fits_log may) (fits_log leave) all done in
+      (search (rules, d.0, d.1, d.2, done.count, length-map, slice_get_within), d.3)
+
+  pub lost_off : AreBrokenOff (λ n a one b. FillsAt may systems phase reservers n one)
+      (λ n a one b. FillsAt leave systems phase reservers n one) (length systems) before after
+      → IsBrokenOff may leave systems phase.phase.start.pool (blocks_of reservers)
+  lost_off done =
+      let d = lost_all DrawsLog uses blocks_after refl (λ b bs l ls. refl) phase.number reservers before after same _
+      ready.count _ _ _ _ (fits_log may) (fits_log leave) done in
+      search (rules, d.0, d.1, d.2, d.3, done.within, done.some)
+
+-- queues
+module _ {S L : Type 0} (may leave : S → View → List Command → Type 0) (systems : List S) (view : View) (phase : Phase)
+    (reservers : List Reserver) (ready : AreReady phase (length systems) reservers) (before after : List L)
+    (same : length after ≡ length before) where
+  fits_queue : (may : S → View → List Command → Type 0) (n : ℕ) (one : List Command × Reserver)
+      → IssuesAt may systems view phase reservers n one → Fills (AreDrawnBy phase.phase.start) after_commands
+      blocks_after_queues refl (λ b bs l ls. refl) phase.number reservers (SystemMayIssue may systems view) n one
+  fits_queue may n one f = (f.system, f.of_phase, λ r at. search (rules, f.draws r at))
+
+  pub issued_done : (all : List (List Command × Reserver))
+      → AreDone (λ n a one b. IssuesAt may systems view phase reservers n one) (length systems) before all after
+      → HaveIssued may systems view phase.phase.start (blocks_of reservers) (filled_of all)
+      (blocks_of (reservers_of all)) × All (λ (r : Reserver). r.number ≡ phase.number) (reservers_of all)
+  issued_done all done =
+      let d = done_all (AreDrawnBy phase.phase.start) after_commands blocks_after_queues refl (λ b bs l ls. refl)
+      phase.number reservers before after same _ ready.count _ _ _ _ (fits_queue may) (fits_queue leave) all done in
+      (search (rules, d.0, d.1, d.2, done.count, length-map, slice_get_within), d.3)
+
+  pub issued_lost : AreBrokenOff (λ n a one b. IssuesAt may systems view phase reservers n one)
+      (λ n a one b. IssuesAt leave systems view phase reservers n one) (length systems) before after
+      → HaveStopped may leave systems view phase.phase.start (blocks_of reservers)
+  issued_lost done =
+      let d = lost_all (AreDrawnBy phase.phase.start) after_commands blocks_after_queues refl (λ b bs l ls. refl)
+      phase.number reservers before after same _ ready.count _ _ _ _ (fits_queue may) (fits_queue leave) done in
+      search (rules, d.0, d.1, d.2, d.3, done.within, done.some)

@@ -1,5 +1,5 @@
 -- Reservers of all blocks, in their order, still are so after systems have used the blocks.
-use Rattle.ent_block_runner.proofs.Common.{◌≡◌, refl, sym, ap, ◌∙◌, subst, arith, ℕ, suc, ◌-◌, ◌<◌, List, [], ◌∷◌, length, map, true, IsTrue, if◌then◌else◌, common_steps, length-map, Block, unused, is_same, are_among, IsMissing, EndError, Command, blocks_after_queues}
+use Rattle.ent_block_runner.proofs.Common.{rules, ◌≡◌, refl, ap, subst, arith, ℕ, suc, ◌-◌, ◌<◌, List, [], ◌∷◌, length, map, true, IsTrue, if◌then◌else◌, common_steps, length-map, Block, unused, is_same, are_among, IsMissing, EndError, Command, blocks_after_queues}
 use Rattle.ent_blocks.specs.declared.unended.EndError.TheVariants as unended
 
 among_used : (blocks before : List Block) (queues : List (List Command))
@@ -19,8 +19,7 @@ same_unused r = grind (arith, common_steps)
 
 among_all : (before : List Block) → are_among (map unused before) before ≡ true
 among_all [] = refl
-among_all (r ∷ before) = (λ i. if same_unused r i then are_among (map unused before) before else are_among
-    (map unused before) (r ∷ before)) ∙ among_all before
+among_all (r ∷ before) = search (rules, same_unused r, among_all before)
 
 length_used : (before : List Block) (queues : List (List Command)) → length (blocks_after_queues before queues) ≡ length
     before
@@ -33,7 +32,8 @@ pub unused_used : (before : List Block) (queues : List (List Command)) → map u
 unused_used (r ∷ before) (queue ∷ queues) = ap (λ bs. unused r ∷ bs) (unused_used before queues)
 unused_used _ _ = refl
 
-only_memory : (e : EndError) → (e ≡ unended.OtherPhase → ⊥) → (e ≡ unended.Order → ⊥) → ((n : ℕ) → IsMissing n e → ⊥)
+only_memory : (e : EndError) → (e ≡ unended.OtherPhase → ⊥) → (e ≡ unended.Order → ⊥)
+    → ((n : ℕ) → IsMissing n e → ⊥)
     → e ≡ unended.Memory
 only_memory unended.OtherPhase phase order none = absurd (phase refl)
 only_memory unended.Order phase order none = absurd (order refl)
@@ -47,9 +47,7 @@ pub whole : (blocks before left : List Block) (queues : List (List Command)) (e 
     → ⊥) → ((n : ℕ) → IsMissing n e → n ≡ length blocks - count) → (IsMissing (length blocks - count) e → count < length
     blocks) → e ≡ unended.Memory
 whole blocks before left queues e count OfPhase of_phase all used long phase order counts missing =
-    let among : are_among blocks left ≡ true = ap (are_among blocks) used ∙ among_used blocks before queues
-    ∙ ap (λ (bs : List Block). are_among bs before) (sym all) ∙ among_all before in
-    let same : length blocks ≡ count = ap length (sym all) ∙ length-map before unused ∙ sym (length_used before queues)
-    ∙ ap length (sym used) ∙ long in
+    let among : are_among blocks left ≡ true = search (rules, among_used blocks before queues, among_all before) in
+    let same : length blocks ≡ count = search (rules, length_used before queues, length-map before unused) in
     only_memory e (λ is. phase is of_phase) (λ is. order is among)
     (λ n is. absurd (omega (arith, same, missing (subst (λ m. IsMissing m e) (counts n is) is))))

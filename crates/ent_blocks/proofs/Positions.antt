@@ -1,5 +1,5 @@
 -- A position of the pool, from its front, and what a request finds there.
-use Rattle.ent_blocks.proofs.Common.{rules, ◌≡◌, refl, sym, ap, ◌∙◌, ℕ, ℤ, pos, ◌-ℤ◌, ◌+◌, ◌-◌, ◌<◌, ◌≤◌, List, [], ◌∷◌, ◌++◌, length, take, drop, get_or, arith, Ok, Err, slice_get, Some, Result, common_steps, le-leb, lt-leb, get_or-drop, length-drop, take_more, drop_more, drop-take, length-take-le, take-take, drop-drop, length_permutation, get_or_from_slice_get, slice_get_read, Handle, Space, Allocator, available, top, cursor, asked_at, pool_at, reply_from, listed, listed_alone, IsSound, asked_at-is, flushed-laid_out, listed-IsPermutation, Block, used_of, rest_of}
+use Rattle.ent_blocks.proofs.Common.{rules, ◌≡◌, refl, sym, ap, ◌∙◌, ℕ, ℤ, pos, ◌-ℤ◌, ◌+◌, ◌-◌, ◌<◌, ◌≤◌, List, [], ◌∷◌, ◌++◌, length, take, drop, get_or, arith, Ok, Err, slice_get, Some, Result, common_steps, le-leb, lt-leb, get_or-drop, length-drop, take_more, drop_more, drop-take, length-take-le, take-take, drop-drop, length_permutation, get_or_from_slice_get, slice_get_read, Handle, Space, Allocator, top, cursor, asked_at, pool_at, reply_from, listed, listed_alone, IsSound, asked_at-is, flushed-laid_out, listed-IsPermutation, Block, used_of, rest_of}
 
 -- one more of what begins at a position
 pub list_more : (pool : List Handle) (from more : ℕ) (h : Handle) → slice_get pool (from + more) ≡ Some h
@@ -13,18 +13,12 @@ single made x = grind (arith, common_steps)
 
 module _ (s : Allocator) (sound : IsSound s) (flushed : s.asked ≡ 0) (position : ℕ) (high : ℤ)
     (at : high ≡ cursor s -ℤ pos position) where
-  all : available s ≡ s.pool
-  all = search (rules, flushed-laid_out)
-
-  pub high_is : high ≡ pos (top s) -ℤ pos position
-  high_is = search rules
-
   asked_is : asked_at (top s) high ≡ position
-  asked_is = search (rules, asked_at-is, high_is)
+  asked_is = search (rules, asked_at-is)
 
   -- the pool from there on
   pub pool_there : pool_at s high ≡ drop position s.pool
-  pool_there = (λ i. drop (asked_is i) (all i))
+  pool_there = search (rules, asked_is, flushed-laid_out)
 
   -- one handle
   pub one_there : (reply : Result Handle Space) → position < length s.pool
@@ -33,12 +27,8 @@ module _ (s : Allocator) (sound : IsSound s) (flushed : s.asked ≡ 0) (position
   one_there reply below replies h is =
       let x = get_or s.pool position h in
       let rest : drop position s.pool ≡ x ∷ drop (position + 1) s.pool = drop_more s.pool position h below in
-      let given : reply_from s.made (drop position s.pool) 1 ≡ Ok (listed s.made (take 1 (drop position s.pool))) =
-      search (rules, le-leb) in
-      let front : take 1 (drop position s.pool) ≡ x ∷ [] = ap (take 1) rest in
-      let same = sym (ap listed_alone is) ∙ replies ∙ ap (λ pool. reply_from s.made pool 1) pool_there ∙ given
-      ∙ ap (λ hs. Ok (listed s.made hs)) front ∙ ap Ok (single s.made x) in
-      let here : x ≡ h = grind (arith, common_steps) in
+      let given : reply_from s.made (drop position s.pool) 1 ≡ Ok (listed s.made (x ∷ [])) = search (rules, le-leb) in
+      let here : x ≡ h = grind (arith, common_steps, pool_there, single) in
       slice_get_read s.pool (length s.pool) position h refl below (sym here)
 
 -- ---- a block
@@ -77,10 +67,7 @@ pub served_one : (made : ℕ) (pool : List Handle) (b : Block) (h : Handle) → 
 served_one made pool b h less within at =
     let rest = rest_of pool b in
     let long : length rest ≡ b.size - b.used = length-rest pool b (omega arith) within in
-    let there = drop (b.before + b.used) pool in
-    let first : take 1 rest ≡ h ∷ [] = ap (take 1) (rest_is pool b (omega arith) within)
-    ∙ take-take 1 (b.size - b.used) there (omega arith) ∙ list_more pool (b.before + b.used) 0 h (ap (slice_get pool)
-    (omega arith) ∙ at) (omega arith) in
+    let first : take 1 rest ≡ h ∷ [] = search (rules, rest_is, take-take, list_more pool (b.before + b.used) 0 h) in
     search (rules, served, single)
 
 -- n of a block are those that begin where its rest begins

@@ -1,5 +1,5 @@
 -- How many slots wait after a close: those that waited before, or no more than were dealt.
-use Rattle.ent_blocks.proofs.Common.{rules, ◌≡◌, ◌≢◌, ◌⊎◌, inl, inr, sym, ap, ◌∙◌, subst, ◌-◌, ◌≤◌, max, List, length, take, map, arith, length-append, length_permutation, cases_eq, common_steps, Handle, with_front, AreUsed, arranged, after_portions, front_of, count_of, reach_of, size_of, Allocator, available, top, IsSound, Portion, with_front-sound, flushed-laid_out, top-after_take, portions_taken, front_same, reach_within, length-available, Block, dealt, unused, AreLaid, portions_of, after_blocks}
+use Rattle.ent_blocks.proofs.Common.{rules, ◌≡◌, ap, ◌∙◌, ◌-◌, ◌≤◌, max, List, length, take, map, arith, length-append, length_permutation, common_steps, Handle, with_front, AreUsed, arranged, after_portions, front_of, count_of, reach_of, size_of, Allocator, available, top, IsSound, Portion, with_front-sound, flushed-laid_out, top-after_take, portions_taken, front_same, reach_within, length-available, Block, dealt, unused, AreLaid, portions_of, after_blocks}
 use Rattle.std.proofs.Common.{length-drop, length-take-le}
 use Rattle.ent_blocks.proofs.Dealing.{closed_is, portions_within, size-portions}
 
@@ -29,25 +29,10 @@ module _ (s : Allocator) (ps : List Portion) (sound : IsSound s) (flushed : s.as
   top_front = search (rules, length-available, front_sound, reach_within, pool_long, front_available, front_long)
 
   top_arranged : top (arranged s ps) ≤ max (top s) (size_of ps)
-  top_arranged = by_count (cases_eq (count_of ps) (reach_of ps))
-    where
-      by_count : (count_of ps ≡ reach_of ps) ⊎ (count_of ps ≢ reach_of ps)
-          → top (arranged s ps) ≤ max (top s) (size_of ps)
-      by_count (inl all) =
-          let is : arranged s ps ≡ s = grind (arith, common_steps) in omega (arith, ap top is)
-      by_count (inr short) =
-          let is : arranged s ps ≡ with_front s front = grind (arith, common_steps) in
-          omega (arith, ap top is, top_front)
+  top_arranged = grind (arith, common_steps, top_front)
 
   arranged_sound : IsSound (arranged s ps)
-  arranged_sound = by_count (cases_eq (count_of ps) (reach_of ps))
-    where
-      by_count : (count_of ps ≡ reach_of ps) ⊎ (count_of ps ≢ reach_of ps) → IsSound (arranged s ps)
-      by_count (inl all) =
-          let is : arranged s ps ≡ s = grind (arith, common_steps) in subst IsSound (sym is) sound
-      by_count (inr short) =
-          let is : arranged s ps ≡ with_front s front = grind (arith, common_steps) in
-          subst IsSound (sym is) front_sound
+  arranged_sound = grind (arith, common_steps, front_sound)
 
   top_portions : top (after_portions s ps) ≤ max (top s) (size_of ps)
   top_portions =
@@ -57,6 +42,5 @@ module _ (s : Allocator) (ps : List Portion) (sound : IsSound s) (flushed : s.as
 pub waiting : (s : Allocator) (blocks : List Block) → IsSound s → s.asked ≡ 0 → AreLaid 0 (map unused blocks)
     → dealt blocks ≤ length s.pool → AreUsed (portions_of blocks) → top (after_blocks s blocks) ≤ max (top s) (dealt
     blocks)
-waiting s blocks sound flushed laid within fits =
-    let all = top_portions s (portions_of blocks) sound flushed fits (portions_within s blocks laid fits within) in
-    omega (arith, ap top (closed_is s blocks laid fits within), size-portions blocks, all)
+waiting s blocks sound flushed laid within fits = search
+    (rules, top_portions s (portions_of blocks) sound flushed fits, portions_within, closed_is, size-portions)

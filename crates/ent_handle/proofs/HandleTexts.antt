@@ -48,7 +48,8 @@ handle_of-split : (bytes index generation : List ℕ) → bytes ≡ index ++ 118
 handle_of-split bytes index generation e h =
     let parts = slice_split_at is_letter index 118 generation (fails index h) refl in
     elim (cases_Bool (is_decimal generation)) [
-      | inl is ↦ rw (e, parts, slice_split_none is_letter generation (fails generation (decimal_without_letter generation is)))
+      | inl is ↦ rw
+          (e, parts, slice_split_none is_letter generation (fails generation (decimal_without_letter generation is)))
       | inr lacks ↦ rw (e, parts) (one_part index generation _ refl lacks)
     ]
 

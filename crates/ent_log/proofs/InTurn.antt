@@ -1,5 +1,5 @@
 -- How a closure takes entries in turn, as far as it has come.
-use Rattle.std.proofs.Common.{rules, ◌≡◌, ◌∙◌, sym, refl, ap, append-nil, List, [], ◌∷◌, ◌++◌, Result, Ok, Err, MutBor, Option, None, Some, IfSome, IfNone, subst}
+use Rattle.std.proofs.Common.{rules, ◌≡◌, ◌∙◌, sym, refl, append-nil, List, [], ◌∷◌, ◌++◌, Result, Ok, Err, MutBor, Option, None, Some, IfSome, IfNone}
 use Rattle.std.specs.List.{FoldsTo}
 use Rattle.std.specs.Option.{option_to_list}
 use Rattle.std.specs.Result.{IfErr, OnOk}
@@ -32,13 +32,7 @@ module _ {C E F : Type 0} (step : F → MutBor Entities → Entry C → Result (
   pub called_at : (f next : F) (shown left : MutBor Entities) (entry : Entry C)
       (returned : Result (Unit {0}) (Entry C × E)) → step f shown entry returned left next
       → CalledAt step f shown.now entry returned left.now next
-  called_at f next shown left entry returned called = record {
-    shown = shown;
-    shows = refl;
-    left = left;
-    called = called;
-    leaves = refl;
-  }
+  called_at f next shown left entry returned called = search rules
 
   module _ (f : F) (before : Entities) (entries : List (Entry C)) where
     pub took_none : HasTaken f before entries f before entries
@@ -55,26 +49,12 @@ module _ {C E F : Type 0} (step : F → MutBor Entities → Entry C → Result (
 
     pub took_all : (next : F) (after : Entities) (left : List (Entry C)) → HasTaken f before entries next after left
         → left ≡ [] → TakesAll step f before entries after
-    took_all next after left so none =
-        let whole : entries ≡ so.taken = so.in_order ∙ (ap (λ (l : List (Entry C)). so.taken ++ l) none
-        ∙ append-nil so.taken) in
-        record { last = next; each = rw whole so.each }
+    took_all next after left so none = search (rules, so.in_order, so.each, append-nil)
 
     pub fails_at : (now last : F) (here there : Entities) (entry returned : Entry C) (error : E) (left : List (Entry C))
         → HasTaken f before entries now here (entry ∷ left) → CalledAt step now here entry (Err (returned, error)) there
         last → FailsAt step f before entries error (returned ∷ left) there
-    fails_at now last here there entry returned error left so called = record {
-      taken = so.taken;
-      entry = entry;
-      behind = left;
-      in_order = so.in_order;
-      between = (now, here);
-      each = so.each;
-      returned = returned;
-      last = last;
-      fails = called;
-      left_is = refl;
-    }
+    fails_at now last here there entry returned error left so called = search (rules, so.in_order, so.each)
 
     -- a call succeeded, and the next entry is taken out
     pub went_on : (now next : F) (shown left : MutBor Entities) (entry : Entry C)
@@ -84,13 +64,9 @@ module _ {C E F : Type 0} (step : F → MutBor Entities → Entry C → Result (
         → IfSome item (λ (x : Entry C). rest ≡ x ∷ new) → IfNone item (rest ≡ []) → IfNone item (new ≡ [])
         → HasTaken f before entries next left.now (option_to_list item ++ new)
     went_on now next shown left entry returned u here item rest new so is called ok first none done =
-        let front : option_to_list here ++ rest ≡ entry ∷ (option_to_list item ++ new) = ap
-        (λ (o : Option (Entry C)). option_to_list o ++ rest) is ∙ ap (λ (l : List (Entry C)). entry ∷ l) (taken_out rest
-        new item first none done) in
         took_one now next shown.now left.now entry (option_to_list item ++ new)
-        (subst (λ (l : List (Entry C)). HasTaken f before entries now shown.now l) front so)
-        (called_at now next shown left entry (Ok tt) (subst (λ (r : Result (Unit {0}) (Entry C × E)). step now shown
-        entry r left next) ok called))
+        (rw (is, taken_out rest new item first none done) at so)
+        (called_at now next shown left entry (Ok tt) (rw ok at called))
 
     -- a call failed
     pub went_wrong : (now last : F) (shown left : MutBor Entities) (entry : Entry C)
@@ -99,19 +75,15 @@ module _ {C E F : Type 0} (step : F → MutBor Entities → Entry C → Result (
         → here ≡ Some entry → step now shown entry returned left last → returned ≡ Err failed
         → FailsAt step f before entries failed.1 (failed.0 ∷ rest) left.now
     went_wrong now last shown left entry returned failed here rest so is called err = fails_at now last shown.now
-        left.now entry failed.0 failed.1 rest (subst (λ (l : List (Entry C)). HasTaken f before entries now shown.now l)
-        (ap (λ (o : Option (Entry C)). option_to_list o ++ rest) is) so)
-        (called_at now last shown left entry (Err failed) (subst (λ (r : Result (Unit {0}) (Entry C × E)). step now
-        shown entry r left last) err called))
+        left.now entry failed.0 failed.1 rest (rw is at so) (called_at now last shown left entry (Err failed)
+        (rw err at called))
 
   -- the same of the list that a view has
   pub TakesAll-of_view : (r : Result (Unit {0}) E) (f : F) (before after : Entities) (shown all : List (Entry C))
       → shown ≡ all → OnOk r (TakesAll step f before shown after) → OnOk r (TakesAll step f before all after)
-  TakesAll-of_view r f before after shown all view = subst
-      (λ (l : List (Entry C)). OnOk r (TakesAll step f before l after)) view
+  TakesAll-of_view r f before after shown all view taken = rw view at taken
 
   pub FailsAt-of_view : (r : Result (Unit {0}) E) (f : F) (before after : Entities) (shown all left : List (Entry C))
       → shown ≡ all → IfErr r (λ (error : E). FailsAt step f before shown error left after)
       → IfErr r (λ (error : E). FailsAt step f before all error left after)
-  FailsAt-of_view r f before after shown all left view = subst
-      (λ (l : List (Entry C)). IfErr r (λ (error : E). FailsAt step f before l error left after)) view
+  FailsAt-of_view r f before after shown all left view fails = rw view at fails

@@ -1,5 +1,5 @@
 -- What a crew did whose jobs are systems that fill logs, and the history of its reservers.
-use Rattle.ent_log_runner.proofs.Common.{All, slice_get, List, Some, ap, length, sym, ℕ, ◌<◌, ◌∙◌, ◌≡◌, slice_get_within, AllPairs, flat_map, range_with_len, IsPermutation, ◌==◌, Call, IsLegal, after_history, given_in, Allocator, spawned_in, Entry, added_at, all_either, each_may, ended_by, ours, own_mapped, stopped_last, each_of_all, filter_map_is, AreBrokenOff, AreDone, DidAll, OfEach, Respects, as_call, handles_of, history_of, reservations_of, opened_records, Record, LogGains, HaveLogged, HaveRun, IsBrokenOff, SystemMayHaveLogged, SystemMayLog, entries_by, given_to, log_at}
+use Rattle.ent_log_runner.proofs.Common.{rules, All, slice_get, List, Some, Option, Vec, Global, IfSome, IfNone, none_weaker, some_weaker, ap, length, sym, ℕ, ◌<◌, ◌∙◌, ◌≡◌, slice_get_within, AllPairs, flat_map, range_with_len, IsPermutation, ◌==◌, Call, IsLegal, after_history, given_in, Allocator, spawned_in, Entry, added_at, all_either, each_may, ended_by, ours, own_mapped, stopped_last, each_of_all, filter_map_is, AreBrokenOff, AreDone, DidAll, OfEach, Respects, as_call, handles_of, history_of, reservations_of, opened_records, Record, LogGains, HaveLogged, HaveRun, IsBrokenOff, SystemMayHaveLogged, SystemMayLog, entries_by, given_to, log_at}
 use Rattle.ent_log_runner.proofs.Gaining.{log_gains_nothing, log_gains_then}
 
 -- what a system may do as a job
@@ -26,22 +26,22 @@ module _ {C : Type 0} (start after : Allocator) (workers : ℕ) (opens records :
         ap given_in (filter_map_is (λ (call : Call). call.caller == k) as_call (reservations_of records))
         ∙ (ap handles_of (rw r.2.gained.number at own.own) ∙ r.2.given)
 
-    pub run_is : HaveRun workers count start logs after
-    run_is = record {
-      history = history_of records;
-      legal = legal;
-      after_is = after_is;
-      callers = ours LogGains log_gains_nothing log_gains_then P logs start workers opens records opened_are many long
-          ran each did (λ k xs r g. rw (g.gained.entries, own_mapped g.gained.reservations) g.callers);
-      ran = ran;
-      each_worker = each ∙ many;
-      once = once;
-      rising = rising;
-      given = given_at;
-      each_log = each_log;
-    }
+    run_is : HaveRun workers count start logs after
+    run_is = search (
+      rules,
+      legal,
+      after_is,
+      many,
+      each,
+      once,
+      rising,
+      given_at,
+      each_log,
+      ours LogGains log_gains_nothing log_gains_then P logs start workers opens records opened_are many long ran each
+          did (λ k xs r g. rw (g.gained.entries, own_mapped g.gained.reservations) g.callers),
+    )
 
-    pub each_holds : (n : ℕ) → n < count → P n (log_at logs n)
+    each_holds : (n : ℕ) → n < count → P n (log_at logs n)
     each_holds = each_may LogGains log_gains_nothing log_gains_then P logs start workers opens records opened_are many
         long ran each did count once
 
@@ -52,15 +52,16 @@ module _ {C : Type 0} (start after : Allocator) (workers : ℕ) (opens records :
     abbrev Leave : ℕ → List (Entry C) → Type 0
     Leave n log = SystemMayLog leave systems n log
 
-    pub logged : (logs : List (List (Entry C))) → AreDone (Logs may systems) (length systems) opens logs records
+    logged : (logs : List (List (Entry C))) → AreDone (Logs may systems) (length systems) opens logs records
         → HaveLogged may systems workers start logs after
-    logged logs done = record {
-      run = run_is May (length systems) logs done.ran done.each_worker done.once done.rising done.count done.did;
-      each_system = λ n system at. each_holds May (length systems) logs done.ran done.each_worker done.once done.rising
-          done.count done.did n (slice_get_within systems n system at) system at;
-    }
+    logged logs done = search (
+      rules,
+      run_is May (length systems) logs done.ran done.each_worker done.once done.rising done.count done.did,
+      each_holds May (length systems) logs done.ran done.each_worker done.once done.rising done.count done.did,
+      slice_get_within,
+    )
 
-    pub broken_off : AreBrokenOff (Logs may systems) (Logs leave systems) (length systems) opens records
+    broken_off : AreBrokenOff (Logs may systems) (Logs leave systems) (length systems) opens records
         → IsBrokenOff may leave systems workers start after
     unfolding run_is
     broken_off done =
@@ -81,3 +82,11 @@ module _ {C : Type 0} (start after : Allocator) (workers : ℕ) (opens records :
           why = stopped_last LogGains May Leave logs done.ran opens records (done.count < length systems) done.why;
           busy = done.busy;
         }
+
+    -- the crew has worked, and the allocator was closed
+    pub ran : (got : Option (Vec (List (Entry C)) Global)) (jobs : ℕ) → jobs ≡ length systems
+        → IfSome got (λ logs. AreDone (Logs may systems) jobs opens logs.items records)
+        → IfNone got (AreBrokenOff (Logs may systems) (Logs leave systems) jobs opens records)
+        → IfSome got (λ logs. HaveLogged may systems workers start logs.items after)
+        × IfNone got (IsBrokenOff may leave systems workers start after)
+    ran got jobs all done lost = search (rules, none_weaker, broken_off, some_weaker, logged)

@@ -1,8 +1,63 @@
--- What the end of a phase says, of the phase and of its callers.
-use Rattle.ent_overflow.proofs.Common.{rules, ◌≡◌, ◌≢◌, ap, ◌∙◌, ◌+◌, ◌≤◌, ◌<ℤ◌, List, [], ◌∷◌, ◌↔◌, length, take, drop, sum, All, AllPairs, Contains, All-nil, All-cons, All-head, All-tail, Handle, Allocator, after_take, before_requests, after_history-takes, AllPairs-across, dealt, Record, own_reservations, reservations_of, history_of, Respects, IsReserverOf, Phase, Caller, IsOf, IsPhase, IsInOrder, past_of, past_records, past_history}
+-- What the end of a phase says, of the phase and of its callers. The dealer's reservation is the first one of all, and
+-- the others are a history of their own.
+use Rattle.ent_overflow.proofs.Common.{rules, ◌≡◌, ◌≢◌, ◌∙◌, ◌+◌, ◌≤◌, ◌<ℤ◌, List, [], ◌∷◌, ◌↔◌, length, take, drop, sum, All, AllPairs, Contains, All-nil, All-cons, All-head, All-tail, Handle, Allocator, after_take, before_requests, after_history-takes, AllPairs-across, dealt, Record, own_reservations, reservations_of, history_of, Respects, IsReserverOf, Phase, Caller, IsOf, IsPhase, IsInOrder, past_of, past_records, past_history, refl, subst, ℕ, zero, suc, ◌≤ℤ◌, ℤ, All-append, All-weaker, AllPairs-right, after_take-none, Reservation, as_call, insert_reservation, own_of_all, all_sorted, IsDealer, HasDealt}
 use Rattle.ent_alloc.specs.History as history
-use Rattle.ent_overflow.proofs.Splitting.{AreBehind, Splits, all_behind, splits}
 use Rattle.ent_overflow.proofs.Endings as ends
+
+-- all that was reserved begins at this position or below it
+abbrev pub AreBehind : ℤ → List Reservation → Type 0
+AreBehind mark cs = All (λ (c : Reservation). c.high ≤ℤ mark) cs
+
+pub all_behind : (mark : ℤ) (records : List Record) → All (λ (r : Record). AreBehind mark (own_reservations r.entries))
+    records → AreBehind mark (own_of_all records)
+all_behind mark [] all = All-nil (λ (c : Reservation). c.high ≤ℤ mark)
+all_behind mark (r ∷ records) all =
+    let Q : Record → Type 0 = λ (r : Record). AreBehind mark (own_reservations r.entries) in
+    All-append (λ (c : Reservation). c.high ≤ℤ mark) (own_reservations r.entries) (own_of_all records)
+    (All-head Q r records all) (all_behind mark records (All-tail Q r records all))
+
+inserted_first : (c : Reservation) (cs : List Reservation) → All (λ (d : Reservation). d.high <ℤ c.high) cs
+    → insert_reservation c cs ≡ c ∷ cs
+inserted_first c [] below = refl
+inserted_first c (d ∷ ds) below = search (rules, All-head)
+
+abbrev Falls : Reservation → Reservation → Type 0
+Falls earlier later = later.high <ℤ earlier.high
+
+-- what was reserved past the blocks, when the blocks are reserved
+pub record Splits (s : Allocator) (d : ℕ) (dealer : Record) (records : List Record) : Type 0 where
+  pub legal : history.IsLegal (after_take s d) (history_of records)
+  pub after : history.after_history s (history_of (dealer ∷ records))
+      ≡ history.after_history (after_take s d) (history_of records)
+  pub falls : AllPairs (λ earlier later. later.high <ℤ earlier.high) (reservations_of records)
+  pub in_order : (r : Record) → dealer.number ≢ r.number
+      → Respects (reservations_of (dealer ∷ records)) r → IsInOrder (reservations_of records) r
+
+module _ (s : Allocator) (dealer : Record) (records : List Record)
+    (behind : AreBehind dealer.mark (own_of_all records)) where
+  none_first : dealer.entries ≡ [] → reservations_of (dealer ∷ records) ≡ reservations_of records
+  none_first nothing = search rules
+
+  dealt_first : (d : ℕ) (h : HasDealt (suc d) dealer) → reservations_of (dealer ∷ records) ≡ h.call
+      ∷ reservations_of records
+  dealt_first d h =
+      let mark = h.mark in
+      let some = h.requested in
+      let below : All (λ (c : Reservation). c.high <ℤ h.call.high) (own_of_all records) = search (rules, All-weaker) in
+      let first =
+      inserted_first h.call (reservations_of records) (all_sorted (λ (c : Reservation). c.high <ℤ h.call.high)
+      (own_of_all records) below) in
+      search (rules, h.entries, first)
+
+  pub splits : (d : ℕ) → IsDealer d dealer → history.IsLegal s (history_of (dealer ∷ records))
+      → AllPairs (λ earlier later. later.high <ℤ earlier.high) (reservations_of (dealer ∷ records))
+      → Splits s d dealer records
+  splits zero deals legal falls = search (rules, none_first, after_take-none)
+  splits (suc d) h legal falls =
+      let same = dealt_first d h in
+      let from : history.IsLegal s (as_call h.call ∷ history_of records) = search (rules, same) in
+      let behind = AllPairs-right Falls (h.call ∷ []) (reservations_of records) (subst (AllPairs Falls) same falls) in
+      search (rules, same, h.requested)
 
 -- what the shared allocator says at its close
 pub record Closed (s : Allocator) (records : List Record) (a : Allocator) : Type 0 where
@@ -56,16 +111,17 @@ ending p callers a is own closed =
     (AllPairs-across N (p.dealer.own ∷ []) records closed.numbers) in
     let all : List Record = p.dealer.own ∷ records in
     let respects = All-tail (Respects (reservations_of all)) p.dealer.own records closed.respects in
-    record {
-      legal = split.legal;
-      in_order = λ k r lt. split.in_order _ (others k r lt) (respects k r lt);
-      falls = split.falls;
-      handles = ends.same_handles s lie.sound lie.flushed d lie.within calls split.legal;
-      asked = ap (λ (t : Allocator). t.asked) last ∙ ends.all_asked s lie.sound lie.flushed d lie.within calls
-          split.legal;
-      taken = ap (λ (t : Allocator). length t.taken) last ∙ ends.long s lie.sound lie.flushed d lie.within calls
-          split.legal;
-      back = ap before_requests last ∙ ends.taken_back s lie.sound lie.flushed d lie.within calls split.legal;
-      within = ends.within s lie.sound lie.flushed d lie.within calls split.legal;
-      none = ends.some_requested (after_take s d) calls split.legal;
-    }
+    let in_order : All (IsInOrder (reservations_of records)) records = λ k r lt.
+    split.in_order _ (others k r lt) (respects k r lt) in
+    search (
+      rules,
+      last,
+      lie,
+      split,
+      ends.same_handles s,
+      ends.all_asked s,
+      ends.long s,
+      ends.taken_back s,
+      ends.within s,
+      ends.some_requested,
+    )

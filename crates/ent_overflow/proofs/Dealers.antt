@@ -1,5 +1,5 @@
 -- The dealer's one reservation, and the reservers that come after it.
-use Rattle.ent_overflow.proofs.Common.{rules, ◌≡◌, refl, sym, ap, ◌∙◌, subst, ℕ, zero, suc, ◌+◌, ◌^◌, ◌<◌, ◌≤ℤ◌, List, [], ◌∷◌, ◌++◌, length, take, get_or, arith, Contains, All, Result, get_or_default, map-append, take_more, All-nil, All-head, All-tail, ints, Handle, quota, Allocator, IsSound, Refused, Block, dealt, unused, blocks_from, AreLaid, AreDealt, RecordEntry, Met, Reservation, Record, reservation_at, after_reservation, own_reservations, known_reservations, after_meeting, Shared, Reserver, IsReserverOf, Reserves, own_of_all, All-left, All-right, none_used, are_dealt, length-from, Phase, Caller, IsOf, IsFresh, IsPhase, HasDealt, IsDealer, past_records, past_history, blocks_of}
+use Rattle.ent_overflow.proofs.Common.{rules, ◌≡◌, refl, ap, ℕ, zero, suc, ◌+◌, ◌^◌, ◌<◌, List, [], ◌∷◌, ◌++◌, length, take, get_or, arith, Contains, All, Result, get_or_default, map-append, take_more, All-nil, All-head, All-tail, ints, Handle, quota, Allocator, IsSound, Refused, Block, dealt, unused, blocks_from, AreLaid, AreDealt, reservation_at, after_reservation, own_reservations, after_meeting, Shared, Reserver, IsReserverOf, Reserves, own_of_all, All-left, All-right, none_used, are_dealt, length-from, Phase, Caller, IsOf, IsFresh, IsPhase, HasDealt, IsDealer, past_records, past_history, blocks_of}
 
 -- a reserver that has done nothing has its whole quota
 pub whole_quota : (s : Shared) (r : Reserver) → IsReserverOf s r → r.own.entries ≡ [] → r.own.left ≡ quota
@@ -12,15 +12,15 @@ has_dealt s old new n result did nothing =
     record {
       call = reservation_at old.own did.high n;
       entries = search rules;
-      caller = sym (ap (λ (r : Record). r.number) own);
+      caller = search (rules, own);
       requested = refl;
-      mark = ap (λ (r : Record). r.mark) own;
+      mark = search (rules, own);
     }
 
 pub is_dealer : (s : Shared) (old new : Reserver) (n : ℕ) (result : Result (List Handle) Refused) → 0 < n
     → Reserves s old new n result → old.own.entries ≡ [] → IsDealer n new.own
 is_dealer s old new zero result some did nothing = absurd (omega arith)
-is_dealer s old new (suc n) result some did nothing = has_dealt s old new (suc n) result did nothing
+is_dealer s old new (suc n) result some did nothing = search (rules, has_dealt)
 
 -- a caller that has gone past its block with nothing
 pub record IsUnused (c : Caller) : Type 0 where
@@ -36,38 +36,23 @@ module _ (p : Phase) (laid : AreLaid 0 p.blocks) (k : ℕ) (b : Block) (lt : k <
     own_is = ap (λ (x : Reserver). x.own) is
 
     nothing_own : own_reservations met.own.entries ≡ []
-    nothing_own = ap (λ (x : Record). own_reservations x.entries) own_is
-        ∙ ap (λ (es : List RecordEntry). own_reservations (es ++ Met (known_reservations p.dealer.own.entries) ∷ []))
-        fresh.nothing
+    nothing_own = search (rules, own_is, fresh.nothing)
 
     in_phase : Contains p.blocks (unused (unused b))
-    in_phase =
-        let none : b.used ≡ 0 = ap (λ (x : Block). x.used) there ∙ none_used 0 k p.blocks b laid lt in
-        let same : unused b ≡ b = λ i. record b { used = sym none i } in
-        (k, lt, get_or_default p.blocks k (unused b) b lt ∙ sym there ∙ sym same)
+    in_phase = search (rules, none_used, get_or_default)
 
     pub of_block : IsOf p (record { block = unused b; past = met })
-    of_block = record {
-      block = in_phase;
-      past = of;
-      next = let mark = ap (λ (x : Record). x.mark) own_is in grind (arith, ints, mark);
-      all = subst (All (λ (c : Reservation). c.high ≤ℤ p.dealer.own.mark)) (sym nothing_own)
-          (All-nil (λ (c : Reservation). c.high ≤ℤ p.dealer.own.mark));
-    }
+    of_block = search (rules, in_phase, ints, own_is, nothing_own, All-nil)
 
     pub unused_of_block : IsUnused (record { block = unused b; past = met })
-    unused_of_block = record {
-      nothing = nothing_own;
-      whole = ap (λ (x : Record). x.left) own_is ∙ whole_quota p.shared r fresh.of fresh.nothing;
-    }
+    unused_of_block = search (rules, nothing_own, own_is, whole_quota, fresh)
 
 -- nobody has gone past its block
 nothing_past : (callers : List Caller) → All IsUnused callers → own_of_all (past_records callers) ≡ []
 nothing_past [] all = refl
 nothing_past (c ∷ callers) all =
     let first = (All-head IsUnused c callers all).nothing in
-    let rest = nothing_past callers (All-tail IsUnused c callers all) in
-    (λ i. first i ++ rest i)
+    search (rules, first, nothing_past callers (All-tail IsUnused c callers all))
 
 pub none_past : (callers : List Caller) → All IsUnused callers → past_history callers ≡ []
 none_past callers all = search (rules, nothing_past)
@@ -76,10 +61,10 @@ none_past callers all = search (rules, nothing_past)
 module _ (s : Shared) (all rest : List Reserver) (r : Reserver) (front : all ≡ rest ++ r ∷ [])
     (fresh : All (IsFresh s) all) where
   pub last_fresh : IsFresh s r
-  last_fresh = All-head (IsFresh s) r [] (All-right (IsFresh s) rest (r ∷ []) (subst (All (IsFresh s)) front fresh))
+  last_fresh = All-head (IsFresh s) r [] (All-right (IsFresh s) rest (r ∷ []) (rw front at fresh))
 
   pub others_fresh : All (IsFresh s) rest
-  others_fresh = All-left (IsFresh s) rest (r ∷ []) (subst (All (IsFresh s)) front fresh)
+  others_fresh = All-left (IsFresh s) rest (r ∷ []) (rw front at fresh)
 
 pub blocks_more : (before after : List Caller) (bs : List Block) (k : ℕ) (b : Block) (met : Reserver) → AreLaid 0 bs
     → k < length bs → b ≡ get_or bs k b → after ≡ before ++ record { block = unused b; past = met } ∷ []
@@ -95,11 +80,7 @@ pub opened : (s : Allocator) (sizes : List ℕ) (shared : Shared) (dealer : Rese
     → s.asked ≡ 0 → IsSound shared.start → shared.start ≡ s → shared.count ≡ length sizes + 1
     → blocks ≡ blocks_from 0 (length s.pool) sizes → dealt blocks < 2 ^ 32 → IsReserverOf shared dealer
     → d ≡ dealt blocks → IsDealer d dealer.own → IsPhase shared dealer blocks
-opened s sizes shared dealer blocks d flushed sound start count is few of deals dealer_is = record {
-  lie = subst (λ (t : Allocator). AreDealt t blocks) (sym start)
-      (subst (AreDealt s) (sym is) (are_dealt s sizes (subst IsSound start sound) flushed
-      (subst (λ (bs : List Block). dealt bs < 2 ^ 32) is few)));
-  of = of;
-  deals = subst (λ n. IsDealer n dealer.own) deals dealer_is;
-  count = search (rules, length-from);
-}
+opened s sizes shared dealer blocks d flushed sound start count is few of deals dealer_is =
+    let lie : AreDealt shared.start blocks = rw (start, is)
+    (are_dealt s sizes (rw start at sound) flushed (rw is at few)) in
+    search (rules, length-from)

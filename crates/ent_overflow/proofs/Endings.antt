@@ -1,17 +1,15 @@
 -- The end of a phase, in the numbers of its code.
-use Rattle.ent_overflow.proofs.Common.{rules, ◌≡◌, refl, ap, ◌∙◌, subst, ℕ, zero, suc, ◌+◌, ◌≤◌, List, [], ◌∷◌, ◌++◌, map, All, AllPairs, Contains, ◌↔◌, arith, length, take, drop, sum, IsPermutation, inl, inr, common_steps, length-take-le, length-take, map-append, sum_by-cons, All-contains, Contains-append_right, Contains-append_cases, length_permutation, Contains-permutation, IsPermutation-sym, take-add, Handle, Allocator, available, after_take, before_requests, IsSound, AreApart, flushed-laid_out, given_in-legal, AllPairs-left, AllPairs-across, AllPairs-IsPermutation, after_takes, after_takes-sound, available-after_takes, limits-after_takes, live-after_takes, made-after_takes, asked-after_takes, asked-after_take, limits-after_take, live-after_take, made-after_take, taken_is, not_apart, apart_both, taken-after_takes, after_take-sound, available-after_take, after_take-served, Block, dealt, unused, AreLaid, past_block}
+use Rattle.ent_overflow.proofs.Common.{rules, ◌≡◌, refl, subst, ℕ, ◌+◌, ◌≤◌, List, [], ◌∷◌, ◌++◌, map, AllPairs, Contains, ◌↔◌, arith, length, take, drop, sum, IsPermutation, common_steps, length-take-le, length-take, map-append, sum_by-cons, All-contains, Contains-append_right, Contains-append_cases, length_permutation, Contains-permutation, IsPermutation-sym, take-add, Handle, Allocator, available, after_take, before_requests, IsSound, AreApart, flushed-laid_out, given_in-legal, AllPairs-left, AllPairs-across, AllPairs-IsPermutation, after_takes, after_takes-sound, available-after_takes, limits-after_takes, live-after_takes, made-after_takes, asked-after_takes, asked-after_take, limits-after_take, live-after_take, made-after_take, taken_is, not_apart, apart_both, taken-after_takes, after_take-sound, available-after_take, after_take-served, Block, dealt, unused, AreLaid, past_block, dealt-unused}
 use Rattle.std.proofs.Common.{length-append}
 use Rattle.ent_alloc.specs.History as history
 
 -- what else the two have, if both begin with the same handles and no slot is there twice
 also_behind : (front xs ys : List Handle) → AllPairs AreApart (front ++ xs) → IsPermutation (front ++ xs) (front ++ ys)
     → (h : Handle) → Contains xs h → Contains ys h
-also_behind front xs ys apart same h has = elim (Contains-append_cases front ys h
-    (Contains-permutation (front ++ xs) (front ++ ys) h same (Contains-append_right front xs h has))) [
-      | inl before ↦ absurd (not_apart h (All-contains (AreApart h) xs h (All-contains (λ g. All (AreApart g) xs) front
-          h (AllPairs-across AreApart front xs apart) before) has))
-      | inr behind ↦ behind
-    ]
+also_behind front xs ys apart same h has =
+    let across = AllPairs-across AreApart front xs apart in
+    let there = Contains-permutation (front ++ xs) (front ++ ys) h same (Contains-append_right front xs h has) in
+    search (rules, Contains-append_cases front ys h there, not_apart, All-contains)
 
 -- requests were made
 pub some_requested : (s : Allocator) (calls : List history.Call) → history.IsLegal s calls
@@ -37,17 +35,11 @@ module _ (s : Allocator) (sound : IsSound s) (flushed : s.asked ≡ 0) (d : ℕ)
   abbrev front : List Handle
   front = take d s.pool
 
-  first_sound : IsSound first
-  first_sound = after_take-sound s d sound
-
   last_sound : IsSound last
-  last_sound = after_takes-sound first requests first_sound
-
-  all_in_pool : available s ≡ s.pool
-  all_in_pool = search (rules, flushed-laid_out)
+  last_sound = search (rules, after_takes-sound, after_take-sound)
 
   last_available : available last ≡ s.pool
-  last_available = search (rules, available-after_takes, first_sound, available-after_take, all_in_pool)
+  last_available = search (rules, available-after_takes, after_take-sound, available-after_take, flushed-laid_out)
 
   first_taken : first.taken ≡ front
   first_taken = search (rules, after_take-served, flushed-laid_out)
@@ -75,46 +67,44 @@ module _ (s : Allocator) (sound : IsSound s) (flushed : s.asked ≡ 0) (d : ℕ)
   same_both = subst (IsPermutation (front ++ given)) taken_both moved
 
   back_both : IsPermutation (front ++ behind) (front ++ given)
-  back_both = search (rules, IsPermutation-sym, same_both)
+  back_both = search (rules, IsPermutation-sym, taken_both, moved)
 
   pub same_handles : (h : Handle) → Contains given h ↔ Contains behind h
-  same_handles h = (
-    also_behind front given behind (AllPairs-IsPermutation AreApart apart_both (front ++ behind) (front ++ given)
-        back_both apart_both_parts) same_both h,
-    also_behind front behind given apart_both_parts back_both h,
-  )
+  same_handles h =
+      let other = AllPairs-IsPermutation AreApart apart_both _ _ back_both apart_both_parts in
+      search (rules, also_behind front, other, apart_both_parts, same_both, back_both)
 
   pub all_asked : last.asked ≡ d + sum requests
   all_asked = search (rules, asked-after_take, asked-after_takes)
 
   pub taken_back : before_requests last ≡ s
-  taken_back = search (rules, flushed-laid_out, limits-after_takes, limits-after_take, live-after_takes, live-after_take, made-after_takes, made-after_take, last_available)
+  taken_back = search (
+    rules,
+    flushed-laid_out,
+    limits-after_takes,
+    limits-after_take,
+    live-after_takes,
+    live-after_take,
+    made-after_takes,
+    made-after_take,
+    last_available,
+  )
 
 -- one more block
 laid_more : (before : ℕ) (xs ys : List Block) → AreLaid before xs → AreLaid (before + dealt xs) ys
     → AreLaid before (xs ++ ys)
-laid_more before [] ys laid more = subst (λ n. AreLaid n ys) (omega arith) more
-laid_more before (x ∷ xs) ys laid more =
-    (laid.0, laid.1, laid_more (before + x.size) xs ys laid.2 (subst (λ n. AreLaid n ys) (omega arith) more))
-
-past_some : (before n : ℕ) → past_block before (suc n) ≡ record { before = before; size = suc n; used = suc n } ∷ []
-past_some before n = grind (arith, common_steps)
+laid_more before [] ys laid more = search rules
+laid_more before (x ∷ xs) ys laid more = search (rules, arith, laid_more (before + x.size) xs ys laid.2)
 
 past_laid : (before n : ℕ) → AreLaid before (map unused (past_block before n))
-past_laid before zero = tt
-past_laid before (suc n) = search (rules, past_some)
+past_laid before n = grind (arith, common_steps)
 
 past_dealt : (before n : ℕ) → dealt (past_block before n) ≡ n
-past_dealt before zero = refl
-past_dealt before (suc n) = ap dealt (past_some before n) ∙ omega arith
+past_dealt before n = grind (arith, common_steps)
 
 dealt-append : (xs ys : List Block) → dealt (xs ++ ys) ≡ dealt xs + dealt ys
 dealt-append [] ys = omega arith
 dealt-append (x ∷ xs) ys = let rest = dealt-append xs ys in omega arith
-
-dealt-unused : (xs : List Block) → dealt (map unused xs) ≡ dealt xs
-dealt-unused [] = refl
-dealt-unused (x ∷ xs) = ap (λ n. x.size + n) (dealt-unused xs)
 
 module _ (blocks used : List Block) (laid : AreLaid 0 blocks) (all : map unused used ≡ blocks) (n : ℕ) where
   pub ends_laid : AreLaid 0 (map unused (used ++ past_block (dealt blocks) n))

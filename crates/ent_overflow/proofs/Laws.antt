@@ -1,8 +1,5 @@
 -- The lemmas that close goals without an answer: the prover tries them together at each such goal of this crate.
-use Rattle.std.proofs.lemmas.Grind.{common_steps}
-use Rattle.std.proofs.lemmas.List.{length-append}
-use Rattle.ent_blocks.proofs.Given.{used-distinct, used-live, used-not_live}
-use Rattle.ent_blocks.proofs.Openings.{length-from}
+use Rattle.ent_overflow.proofs.Common.{common_steps, length-append, used-distinct, used-live, used-not_live, length-from}
 use Rattle.ent_overflow.proofs.Dealers.{none_past}
 use Rattle.ent_overflow.proofs.Going.{gone_past, here, lies_few, lies_within}
 

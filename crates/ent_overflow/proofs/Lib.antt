@@ -1,6 +1,5 @@
 pub mod Dealers
 pub mod Going
-pub mod Splitting
 pub mod Endings
 pub mod Closings
 pub mod Common

@@ -35,5 +35,5 @@ pub use Rattle.ent_queue.specs.InBlocks.{ExtendsInBlocks, Issuing}
 pub use Rattle.ent_queue.specs.Packing.{bundle_bytes, command_bytes, handle_bytes, item_bytes, queue_bytes, refusal_bytes}
 unfoldable pub use Rattle.ent_queue.specs.Packing.{bytes_2, bytes_4, bytes_8}
 pub use Rattle.ent_queue.specs.Reserving.{FitQuota, FitsQuota, Gains, IsReturned, as_list, cost, queued, refused_by, stands_for}
-pub use Rattle.ent_queue.specs.Unpacking.{ArePacked, BeginsWith, after_first, handle_of_bits, unpacked_bundle, unpacked_command, unpacked_handle, unpacked_handles, unpacked_item, unpacked_refusal}
+pub use Rattle.ent_queue.specs.Unpacking.{ArePacked, BeginsWith, after_first, command_of_kind, handle_of_bits, unpacked_bundle, unpacked_command, unpacked_handle, unpacked_handles, unpacked_item, unpacked_refusal}
 unfoldable pub use Rattle.ent_queue.specs.Unpacking.{number_2, number_4, number_8, unpacked_commands}

@@ -1,10 +1,6 @@
-pub mod Numbers
 pub mod Parts
 pub mod Queues
-pub mod Fronts
-pub mod Pushes
 pub mod Gaining
-pub mod Issuing
 pub mod Extending
 pub mod DrawnBlocks
 pub mod ExtendingInBlocks

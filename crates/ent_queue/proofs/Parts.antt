@@ -1,6 +1,61 @@
--- Handles, items and bundles as bytes, and back.
-use Rattle.ent_queue.proofs.Common.{rules, ◌≡◌, refl, ℕ, ◌+◌, ◌*◌, ◌^◌, ◌<◌, ℤ, List, [], ◌∷◌, ◌++◌, length, take, drop, map, arith, append_assoc, length-append, common_steps, All, flat_map, All-head, All-tail, drop-append_seam, first_chunks, w64, cast_unsigned, FitsSigned, to_z-of_z, Fits-lt-pow, Fits-of_z, ComponentId, Handle, IsHandle, Bundle, IsItem, handle_bytes, item_bytes, bundle_bytes, number_2, unpacked_handles, unpacked_item, unpacked_bundle, zero, suc, drop-take}
-use Rattle.ent_queue.proofs.Numbers.{length-bytes_2, length-bytes_8, number_2-bytes, number_8-alone, drop-bytes_2, drop-bytes_8, take-bytes_8, unpacked_handle-alone}
+-- Numbers, handles, items and bundles as bytes, and back.
+use Rattle.ent_queue.proofs.Common.{rules, ◌≡◌, refl, ℕ, ◌^◌, ◌<◌, List, ◌++◌, length, take, drop, arith, common_steps, from_le_bytes-to_le_bytes_2, from_le_bytes-to_le_bytes_4, from_le_bytes-to_le_bytes_8, Handle, IsHandle, bits, bytes_2, bytes_4, bytes_8, handle_bytes, number_2, number_4, number_8, handle_of_bits, unpacked_handle, ◌+◌, ◌*◌, ◌≤◌, ℤ, [], ◌∷◌, map, append_assoc, length-append, All, flat_map, All-head, All-tail, drop-append_seam, first_chunks, w64, cast_unsigned, FitsSigned, to_z-of_z, Fits-lt-pow, Fits-of_z, ComponentId, Bundle, IsBundle, IsItem, few_items, item_bytes, bundle_bytes, unpacked_handles, unpacked_item, unpacked_bundle, zero, suc, drop-take}
+
+pub length-bytes_2 : (n : ℕ) → length (bytes_2 n) ≡ 2
+unfolding bytes_2
+length-bytes_2 n = refl
+
+pub length-bytes_4 : (n : ℕ) → length (bytes_4 n) ≡ 4
+unfolding bytes_4
+length-bytes_4 n = refl
+
+pub length-bytes_8 : (n : ℕ) → length (bytes_8 n) ≡ 8
+unfolding bytes_8
+length-bytes_8 n = refl
+
+pub number_2-bytes : (n : ℕ) (rest : List ℕ) → n < 2 ^ 16 → number_2 (bytes_2 n ++ rest) ≡ n
+unfolding number_2 bytes_2
+number_2-bytes n rest h = from_le_bytes-to_le_bytes_2 n h
+
+pub number_4-bytes : (n : ℕ) (rest : List ℕ) → n < 2 ^ 32 → number_4 (bytes_4 n ++ rest) ≡ n
+unfolding number_4 bytes_4
+number_4-bytes n rest h = from_le_bytes-to_le_bytes_4 n h
+
+pub number_8-bytes : (n : ℕ) (rest : List ℕ) → n < 2 ^ 64 → number_8 (bytes_8 n ++ rest) ≡ n
+unfolding number_8 bytes_8
+number_8-bytes n rest h = from_le_bytes-to_le_bytes_8 n h
+
+pub drop-bytes_2 : (n : ℕ) (rest : List ℕ) → drop 2 (bytes_2 n ++ rest) ≡ rest
+unfolding bytes_2
+drop-bytes_2 n rest = refl
+
+pub drop-bytes_4 : (n : ℕ) (rest : List ℕ) → drop 4 (bytes_4 n ++ rest) ≡ rest
+unfolding bytes_4
+drop-bytes_4 n rest = refl
+
+pub drop-bytes_8 : (n : ℕ) (rest : List ℕ) → drop 8 (bytes_8 n ++ rest) ≡ rest
+unfolding bytes_8
+drop-bytes_8 n rest = refl
+
+pub take-bytes_8 : (n : ℕ) (rest : List ℕ) → take 8 (bytes_8 n ++ rest) ≡ bytes_8 n
+unfolding bytes_8
+take-bytes_8 n rest = refl
+
+pub number_8-alone : (n : ℕ) → n < 2 ^ 64 → number_8 (bytes_8 n) ≡ n
+unfolding number_8 bytes_8
+number_8-alone n h = from_le_bytes-to_le_bytes_8 n h
+
+pub bits_below : (h : Handle) → IsHandle h → bits h < 2 ^ 64
+bits_below h is = omega (arith, is.index, is.greatest)
+
+pub handle_of_bits-bits : (h : Handle) → IsHandle h → handle_of_bits (bits h) ≡ h
+handle_of_bits-bits h is = grind (arith, common_steps)
+
+pub unpacked_handle-bytes : (h : Handle) (rest : List ℕ) → IsHandle h → unpacked_handle (handle_bytes h ++ rest) ≡ h
+unpacked_handle-bytes h rest is = search (rules, number_8-bytes, bits_below, handle_of_bits-bits)
+
+pub unpacked_handle-alone : (h : Handle) → IsHandle h → unpacked_handle (handle_bytes h) ≡ h
+unpacked_handle-alone h is = search (rules, number_8-alone, bits_below, handle_of_bits-bits)
 
 pub length-handles : (hs : List Handle) → length (flat_map handle_bytes hs) ≡ 8 * length hs
 length-handles [] = refl
@@ -9,10 +64,8 @@ length-handles (h ∷ hs) = search (rules, length-append, length-bytes_8, length
 pub unpacked_handles-bytes : (hs : List Handle) (rest : List ℕ) → All IsHandle hs
     → unpacked_handles (length hs) (flat_map handle_bytes hs ++ rest) ≡ hs
 unpacked_handles-bytes [] rest all = refl
-unpacked_handles-bytes (h ∷ hs) rest all =
-    let first = unpacked_handle-alone h (All-head IsHandle h hs all) in
-    let others = unpacked_handles-bytes hs rest (All-tail IsHandle h hs all) in
-    rw (append_assoc (handle_bytes h) (flat_map handle_bytes hs) rest, take-bytes_8, drop-bytes_8, first, others)
+unpacked_handles-bytes (h ∷ hs) rest all = search
+    (rules, append_assoc, take-bytes_8, drop-bytes_8, unpacked_handle-alone, All-head, All-tail, unpacked_handles-bytes hs rest)
 
 pub drop-handles : (hs : List Handle) (rest : List ℕ) → drop (8 * length hs) (flat_map handle_bytes hs ++ rest) ≡ rest
 drop-handles hs rest = grind (arith, common_steps, length-handles, drop-append_seam)
@@ -21,7 +74,7 @@ take-item : (item : ComponentId × ℤ) (rest : List ℕ) → take 9 (item_bytes
 take-item item rest = search (rules, take-bytes_8)
 
 drop-item : (item : ComponentId × ℤ) (rest : List ℕ) → drop 9 (item_bytes item ++ rest) ≡ rest
-drop-item item rest = drop-bytes_8 (cast_unsigned w64 item.1) rest
+drop-item item rest = search (rules, drop-bytes_8)
 
 pub unsigned_below : (z : ℤ) → FitsSigned w64 z → cast_unsigned w64 z < 2 ^ 64
 unsigned_below z fits = Fits-lt-pow (Fits-of_z fits)
@@ -48,15 +101,18 @@ length-bundle items = search (rules, length-append, length-bytes_2, length-items
 
 -- What a bundle's bytes say of the bytes that begin with them.
 pub record BundleBegins (items : Bundle) (bytes rest : List ℕ) : Type 0 where
-  pub count : number_2 bytes ≡ length items
   pub items_are : unpacked_bundle bytes ≡ items
-  pub length_is : length bytes ≡ 2 + 9 * length items + length rest
-  pub rest_is : drop (9 * length items) (drop 2 bytes) ≡ rest
+  pub is : IsBundle items
+  pub header : 2 ≤ length bytes
+  pub long : 2 + 9 * number_2 bytes ≤ length bytes
+  pub rest_is : drop (9 * number_2 bytes) (drop 2 bytes) ≡ rest
 
-pub bundle_begins : (items : Bundle) (rest bytes : List ℕ) → All IsItem items → length items < 2 ^ 16
-    → bytes ≡ bundle_bytes items ++ rest → BundleBegins items bytes rest
-bundle_begins items rest bytes all few e = search
-    (rules, append_assoc, number_2-bytes, drop-bytes_2, items_in-bytes, length-append, length-bundle, drop-items)
+pub bundle_begins : (items : Bundle) (rest bytes : List ℕ) → IsBundle items → bytes ≡ bundle_bytes items ++ rest
+    → BundleBegins items bytes rest
+bundle_begins items rest bytes is e =
+    let few : length items < 2 ^ 16 = omega (arith, few_items items is) in
+    search
+    (rules, is, is.each, append_assoc, number_2-bytes, drop-bytes_2, items_in-bytes, length-append, length-bundle, drop-items)
 
 -- ---- a list in chunks of one length
 

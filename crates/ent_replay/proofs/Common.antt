@@ -2,7 +2,7 @@
 pub use Rattle.std.proofs.Common.{All, AllPairs, Bool, Contains, Err, IsPermutation, List, None, Ok, Option, Result, Some, [], ap, arith, cond, drop, eq-eqb, eqb, false, filter, get_or, if◌then◌else◌, inl, inr, length, map, max, min, nat_lt, ne_eqb, not, of_z, pos, refl, replicate, rules, set, slice_get, subst, suc, sym, take, to_z, true, true≢false, vec_capacity, vec_len, w64, zero, ℕ, ℤ, ◌&&◌, ◌*◌, ◌++◌, ◌+ℤ◌, ◌+◌, ◌-ℤ◌, ◌-◌, ◌<◌, ◌^◌, ◌∙◌, ◌∷◌, ◌≡◌, ◌≢◌, ◌≤ℤ◌, ◌≤◌, ◌⊎◌}
 pub use Rattle.std.proofs.Math.ListN.{get_or-eq_default}
 pub use Rattle.std.proofs.Math.Numerals.{add-one}
-pub use Rattle.std.proofs.Math.Seq.{drop-cons}
+pub use Rattle.std.proofs.Math.Seq.{drop-append_seam, drop-cons}
 pub use Rattle.std.proofs.lemmas.Bool.{and_from, and_parts, cases_Bool, cases_eq, cases_lt, cond-false, cond-true, cond_both, eqb-true, le-ltb, lt-ltb}
 pub use Rattle.std.proofs.lemmas.Bool.Decides.{nat_tests}
 pub use Rattle.std.proofs.lemmas.Grind.{common_steps, get_or-set_at}

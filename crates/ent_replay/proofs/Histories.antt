@@ -1,13 +1,17 @@
 -- The kinds of event, by what they do to a machine: no handle is given twice in a run, and its reservations
 -- are a legal history, of which each answer tells a reply.
-use Rattle.ent_replay.proofs.Common.{none, Alloc, Free, Flush, Begin, Step, Answer, rules, ◌≡◌, refl, ℕ, ◌+◌, ◌<◌, Bool, true, false, cond, nat_lt, List, [], ◌∷◌, Option, Some, None, Result, Ok, Err, arith, nat_cmp, FinMap, empty_of_len, cond_both, nat_tests, Handle, cursor, after_take, after_alloc, after_free, after_flush, next, born, reply_to, IsLive, Event, Outcome, ReplayFault, MachineState, OpenCall, Reply, Returned, is_busy, on_event, alloc_front, begin_with, step_with, step_open, answer_with, say, answer_open, callers, reported, refuse, reserved_by_request, reserved_by_call, reservations, given_by, ◌≢◌, sym, ap, subst, ◌∙◌, zero, suc, ◌++◌, AllPairs, IsPermutation, inl, inr, get-empty, cases_lt, IsPermutation-refl, IsPermutation-sym, IsPermutation-trans, IsPermutation-append_left, IsPermutation-append_right, IsPermutation-append_comm, Allocator, IsSound, handles_in, AreGivenOnce, All-right, AllPairs-left, AllPairs-right, requested-given, alloc-given, free-given, flush-given, given-IsPermutation, after_take-sound, after_alloc-sound, after_free-sound, after_flush-sound, outcome_of, after_event, outcomes_of, joined, held_by, held, all_held, given_by_all, cond-false, ◌⊎◌, ◌==◌, same_Some, none-some, IsLegal, after_history, asked-after_take, after_take-none, reply-none, Phase, phase_after, last_of, TellsReply, StandInHistory, IsAtRest, new_phase, append-nil, append_assoc}
+use Rattle.ent_replay.proofs.Common.{none, Alloc, Free, Flush, Begin, Step, Answer, rules, ◌≡◌, refl, ℕ, ◌+◌, ◌<◌, Bool, true, false, cond, nat_lt, List, [], ◌∷◌, Option, Some, None, Result, Ok, Err, arith, nat_cmp, FinMap, empty_of_len, cond_both, nat_tests, Handle, after_take, after_free, after_flush, next, born, reply_to, IsLive, Event, Outcome, ReplayFault, MachineState, OpenCall, Reply, Returned, is_busy, on_event, alloc_front, begin_with, step_with, step_open, answer_with, say, answer_open, callers, reported, refuse, reserved_by_request, reserved_by_call, reservations, given_by, ◌≢◌, sym, ap, subst, ◌∙◌, zero, suc, ◌++◌, AllPairs, IsPermutation, inl, inr, get-empty, cases_lt, IsPermutation-refl, IsPermutation-sym, IsPermutation-trans, IsPermutation-append_left, IsPermutation-append_right, IsPermutation-append_comm, Allocator, IsSound, handles_in, AreGivenOnce, All-right, AllPairs-left, AllPairs-right, requested-given, alloc-given, free-given, flush-given, given-IsPermutation, after_take-sound, after_alloc-sound, after_free-sound, after_flush-sound, outcome_of, after_event, outcomes_of, joined, held_by, held, all_held, given_by_all, cond-false, ◌⊎◌, ◌==◌, same_Some, none-some, IsLegal, after_history, asked-after_take, after_take-none, reply-none, Phase, phase_after, last_of, TellsReply, StandInHistory, IsAtRest, new_phase, append-nil, append_assoc}
 use Rattle.std.specs.FinMap as finite
 use Rattle.ent_replay.specs.declared.event.Event.TheVariants as event
 use Rattle.ent_replay.specs.declared.outcome.Outcome.TheVariants as outcome
 use Rattle.ent_replay.specs.declared.fault.ReplayFault.TheVariants as fault
 use Rattle.ent_alloc.specs.Spent as spent
 use Rattle.ent_alloc.specs.History.{Call}
-use Rattle.ent_replay.proofs.Maps.{get-inserted, get-insert_other, get-removed, get-remove_other, nothing_in, on_inserted, on_removed}
+use Rattle.ent_replay.proofs.Tables.{get-inserted, get-insert_other, get-removed, get-remove_other, nothing_in, on_inserted, on_removed}
+
+-- the state where this call is open
+abbrev pub with_call : MachineState → FinMap nat_cmp ℕ → ℕ → OpenCall → MachineState
+with_call s spent caller call = record s { spent = spent; calls = finite.insert s.calls caller call }
 
 -- What the event returns, with the state after it, and what it reserves: it leaves all as it was; it
 -- allocates, frees, flushes; it begins a call, makes its step, answers it.
@@ -16,40 +20,19 @@ pub data Move (s : MachineState) : Event → Returned → List Call → Type 0 w
       → ((told : Outcome) (caller : ℕ) → e ≡ event.Answer caller → r ≡ Ok told → ⊥)
       → Move s e (r, s) []
   allocates : (h : Handle) (rest : List Handle) → s.calls ≡ finite.empty → s.allocator.asked ≡ 0
-      → s.allocator.pool ≡ h ∷ rest → Move s event.Alloc
-      (Ok (outcome.Handle h), record s { allocator = after_alloc s.allocator h }) []
-  frees : (h : Handle) → s.calls ≡ finite.empty → s.allocator.asked ≡ 0 → IsLive s.allocator h
-      → Move s (event.Free h) (
-        Ok (outcome.Freed h (next s.allocator.limits h)),
-        record s { allocator = after_free s.allocator h },
-      ) []
-  flushes : s.calls ≡ finite.empty → Move s event.Flush (
-    Ok (outcome.Born (born s.allocator)),
-    record s { allocator = after_flush s.allocator; spent = finite.empty },
-  ) []
-  begins : (caller n : ℕ) (spent : FinMap nat_cmp ℕ) → caller < callers
-      → finite.get s.calls caller ≡ None → Move s (event.Begin caller n) (
-        Ok outcome.Open,
-        record s {
-          spent = spent;
-          calls = finite.insert s.calls caller (record { requested = n; reply = None });
-        },
-      ) []
-  steps : (caller : ℕ) (call : OpenCall) → caller < callers
-      → finite.get s.calls caller ≡ Some call → call.reply ≡ None → Move s (event.Step caller) (
-        Ok (outcome.Cursor (cursor (after_take s.allocator call.requested))),
-        record s {
-          allocator = after_take s.allocator call.requested;
-          calls = finite.insert s.calls caller (record {
-            requested = call.requested;
-            reply = Some (reply_to s.allocator call.requested);
-          });
-        },
-      ) (reserved_by_request s caller call.requested None)
-  answers : (caller : ℕ) (call : OpenCall) (reply : Reply) → caller < callers
-      → finite.get s.calls caller ≡ Some call → call.reply ≡ Some reply
-      → Move s (event.Answer caller)
-      (Ok (reported reply), record s { calls = finite.remove s.calls caller }) []
+      → s.allocator.pool ≡ h ∷ rest → Move s event.Alloc (alloc_front s (h ∷ rest)) []
+  frees : (h : Handle) → s.calls ≡ finite.empty → s.allocator.asked ≡ 0 → IsLive s.allocator h → Move s (event.Free h)
+      (Ok (outcome.Freed h (next s.allocator.limits h)), record s { allocator = after_free s.allocator h }) []
+  flushes : s.calls ≡ finite.empty → Move s event.Flush
+      (Ok (outcome.Born (born s.allocator)), record s { allocator = after_flush s.allocator; spent = finite.empty }) []
+  begins : (caller n : ℕ) (spent : FinMap nat_cmp ℕ) → caller < callers → finite.get s.calls caller ≡ None
+      → Move s (event.Begin caller n)
+      (Ok outcome.Open, with_call s spent caller (record { requested = n; reply = None })) []
+  steps : (caller : ℕ) (call : OpenCall) → caller < callers → finite.get s.calls caller ≡ Some call
+      → call.reply ≡ None → Move s (event.Step caller) (step_with s caller call.requested None)
+      (reserved_by_request s caller call.requested None)
+  answers : (caller : ℕ) (call : OpenCall) (reply : Reply) → caller < callers → finite.get s.calls caller ≡ Some call
+      → call.reply ≡ Some reply → Move s (event.Answer caller) (answer_with s caller (Some reply)) []
 
 -- what holds with no value and with any holds
 at_option : {X : Type 0} (P : Option X → Type 0) (o : Option X) → (o ≡ None → P None)
@@ -135,10 +118,9 @@ unfolding joined
 joined-more f g c zero lt none alike = absurd (omega arith)
 joined-more f g c (suc n) lt none alike = elim (cases_lt c n) [
   | inl below ↦
-      let rest = joined-more f g c n below none alike in
       let last : f n ≡ g n = alike n (λ same. absurd (omega arith)) in
       IsPermutation-trans _ _ _ (swapped (joined f n) (f n) (g c))
-      (rw (← last) (IsPermutation-append_left (f n) (joined f n ++ g c) (joined g n) rest))
+      (rw (← last) (IsPermutation-append_left _ _ _ (joined-more f g c n below none alike)))
   | inr past ↦
       let here : c ≡ n = omega arith in
       let rest = joined-alike f g n (λ q below. alike q (λ same. absurd (omega arith))) in
@@ -182,36 +164,27 @@ given-next s given h (allocates x rest none flushed pool) =
 given-next s given h (frees x none flushed lives) = search (rules, after_free-sound, append-nil, free-given)
 given-next s given h (flushes none) = search (rules, after_flush-sound, append-nil, flush-given)
 given-next s given h (begins caller n costs below none) =
-    let new : OpenCall = record { requested = n; reply = None } in
-    let kept = all_held-inserted s.calls caller below new (ap held none) in
-    record {
-      sound = h.sound;
-      once = rw append-nil (given-IsPermutation s.allocator _ _
-          (IsPermutation-append_right given _ _ (rw append-nil at kept)) h.once);
-    }
+    let kept = all_held-inserted s.calls caller below (record { requested = n; reply = None }) (ap held none) in
+    let order = IsPermutation-append_right given (all_held s.calls) _ (rw append-nil at kept) in
+    search (rules, append-nil, given-IsPermutation s.allocator (given ++ all_held s.calls), order, h.once)
 given-next s given h (steps caller call below some waits) =
     let n = call.requested in
     let new : OpenCall = record { requested = n; reply = Some (reply_to s.allocator n) } in
-    let hs = handles_in (reply_to s.allocator n) in
-    let kept = all_held-inserted s.calls caller below new (ap held some ∙ ap held_by waits) in
+    let kept = all_held-inserted _ _ below new (ap held some ∙ ap held_by waits) in
     record {
       sound = after_take-sound s.allocator n h.sound;
-      once = rw append-nil (given-IsPermutation _ _ _ (rw append_assoc
-          (IsPermutation-append_right given (all_held s.calls ++ hs) (all_held (finite.insert s.calls caller new))
-          kept)) (requested-given s.allocator n (given ++ all_held s.calls) h.sound h.once));
+      once = rw append-nil (given-IsPermutation _ _ _ (rw append_assoc (IsPermutation-append_right _ _ _ kept))
+          (requested-given s.allocator n _ h.sound h.once));
     }
 given-next s given h (answers caller call reply below some stepped) =
     let left = all_held (finite.remove s.calls caller) in
     let hs = handles_in reply in
     let kept : IsPermutation (left ++ hs) (all_held s.calls) = rw (some, stepped) at
     (all_held-removed s.calls caller below) in
-    record {
-      sound = h.sound;
-      once = rw given_by-reported (given-IsPermutation s.allocator _ _
-          (rw append_assoc (IsPermutation-append_right given _ _
-          (IsPermutation-sym _ _ (IsPermutation-trans (hs ++ left) (left ++ hs) (all_held s.calls)
-          (IsPermutation-append_comm hs left) kept)))) h.once);
-    }
+    let order : IsPermutation (all_held s.calls) (hs ++ left) = search
+    (rules, IsPermutation-sym, IsPermutation-trans, IsPermutation-append_comm, kept) in
+    let again = given-IsPermutation s.allocator (given ++ all_held s.calls) in
+    search (rules, given_by-reported, append_assoc, again, IsPermutation-append_right, order, h.once)
 
 -- ---- the handles that are kept for open calls, after one event
 
@@ -243,8 +216,7 @@ given_once s events sound once = given_run s events [] (record { sound = sound; 
 IsLegal-append : (s : Allocator) (calls more : List Call) → IsLegal s calls → IsLegal (after_history s calls) more
     → IsLegal s (calls ++ more)
 IsLegal-append s [] more h rest = rest
-IsLegal-append s (call ∷ calls) more h rest =
-    (h.0, h.1, IsLegal-append (after_take s call.requested) calls more h.2 rest)
+IsLegal-append s (call ∷ calls) more h rest = (h.0, h.1, IsLegal-append (after_take s _) calls more h.2 rest)
 
 after_history-append : (s : Allocator) (calls more : List Call) → after_history s (calls ++ more) ≡ after_history
     (after_history s calls) more
@@ -296,25 +268,17 @@ module _ (p : Phase) (s : MachineState) (h : IsFollowed p s) where
   -- one more call, which was told nothing
   one_more : (spent : FinMap nat_cmp ℕ) (caller : ℕ) (new : OpenCall)
       → ((r : Reply) → new.reply ≡ Some r → RequestedNone new.requested r)
-      → IsFollowed p (record s { spent = spent; calls = finite.insert s.calls caller new })
+      → IsFollowed p (with_call s spent caller new)
   one_more spent caller new none = record {
     legal = h.legal;
     reached = h.reached;
-    rest = λ zero_asked. on_inserted (Told (λ q. RequestedNone)) s.calls caller (λ q call _. h.rest zero_asked q call)
-        new none;
-    open_calls = on_inserted _ s.calls caller (λ q call _. h.open_calls q call) new (λ r told. inl (none r told));
+    rest = λ zero_asked. on_inserted _ _ _ (λ q call _. h.rest zero_asked q call) new none;
+    open_calls = on_inserted _ _ _ (λ q call _. h.open_calls q call) new (λ r told. inl (none r told));
   }
 
   -- a step of some request, as the request is
-  after_step : (caller n : ℕ) → IsFollowed (record {
-    start = p.start;
-    calls = p.calls
-        ++ reserved_by_request s caller n None;
-  }) (record s {
-    allocator = after_take s.allocator n;
-    calls = finite.insert
-        s.calls caller (record { requested = n; reply = Some (reply_to s.allocator n) });
-  })
+  after_step : (caller n : ℕ)
+      → IsFollowed (record p { calls = p.calls ++ reserved_by_request s caller n None }) (step_with s caller n None).1
   after_step caller zero = rw (append-nil, after_take-none, reply-none)
       (one_more s.spent caller _ (λ r told. (refl, sym (same_Some (Ok []) r told))))
   after_step caller (suc n) =
@@ -331,27 +295,22 @@ module _ (p : Phase) (s : MachineState) (h : IsFollowed p s) where
 
   -- the phase goes on, or nothing is asked for and no call is open
   goes_on : {e : Event} {x : Returned} {m : List Call} → Move s e x m
-      → IsFollowed (record { start = p.start; calls = p.calls ++ m }) x.1
-      ⊎ ((x.1.allocator.asked ≡ 0) × NothingTold x.1)
+      → IsFollowed (record p { calls = p.calls ++ m }) x.1 ⊎ ((x.1.allocator.asked ≡ 0) × NothingTold x.1)
   goes_on (stays r gives none) = inl (rw append-nil h)
-  goes_on (allocates x rest none flushed pool) = inr (flushed, λ q call at. absurd (nothing_in s.calls none q call at))
-  goes_on (frees x none flushed lives) = inr (flushed, λ q call at. absurd (nothing_in s.calls none q call at))
-  goes_on (flushes none) = inr (refl, λ q call at. absurd (nothing_in s.calls none q call at))
   goes_on (begins caller n spent below none) = inl (rw append-nil
       (one_more spent caller _ (λ r told. absurd (none-some r told))))
   goes_on (steps caller call below some waits) = inl (after_step caller call.requested)
-  goes_on (answers caller call reply below some stepped) = inl (rw append-nil (record {
-    legal = h.legal;
-    reached = h.reached;
-    rest = λ zero_asked. on_removed (Told (λ q. RequestedNone)) s.calls caller (λ q call _. h.rest zero_asked q call);
-    open_calls = on_removed (Told (IsOfHistory p.calls)) s.calls caller (λ q call _. h.open_calls q call);
-  }))
+  goes_on (answers caller call reply below some stepped) =
+      let rest = on_removed (Told (λ q. RequestedNone)) s.calls caller in
+      let open_calls = on_removed (Told (IsOfHistory p.calls)) s.calls caller in
+      inl (search (rules, append-nil, rest, open_calls, h.legal, h.reached, h.rest, h.open_calls))
+  goes_on (allocates x rest none flushed pool) = inr (flushed, λ q call at. absurd (nothing_in s.calls none q call at))
+  goes_on (frees x none flushed lives) = inr (flushed, λ q call at. absurd (nothing_in s.calls none q call at))
+  goes_on (flushes none) = inr (refl, λ q call at. absurd (nothing_in s.calls none q call at))
 
   pub followed-next : (e : Event) → IsFollowed (phase_after p s e) (after_event s e)
-  followed-next e = cond_both ((after_event s e).allocator.asked == 0) _ _ (λ q. IsFollowed q (after_event s e)) (λ is.
-      let zero_asked : (after_event s e).allocator.asked ≡ 0 = grind (arith, nat_tests) in
-      let quiet : NothingTold (after_event s e) = search (rules, zero_asked, goes_on (move s e)) in
-      search (rules, quiet)) (λ is. search (rules, nat_tests, goes_on (move s e)))
+  followed-next e = cond_both ((after_event s e).allocator.asked == 0) _ _ (λ q. IsFollowed q (after_event s e))
+      (λ is. search (rules, nat_tests, goes_on (move s e))) (λ is. search (rules, nat_tests, goes_on (move s e)))
 
 -- ---- what an answer tells
 

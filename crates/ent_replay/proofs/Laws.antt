@@ -11,16 +11,12 @@ use Rattle.std.specs.FinMap.{get-empty, get-insert, get-remove}
 use Rattle.ent_alloc.proofs.PoolLaw.{pool_at-cursor}
 use Rattle.ent_replay.proofs.Histories.{all_held-none, linear}
 use Rattle.ent_replay.proofs.Lineups.{IsFirstAt-head, IsFirstAt-unseen, Made-few, Made-next, Passing-least, Passing-passed, lined-least, lined-passed, started}
-use Rattle.ent_replay.proofs.MachineAnswers.{done, faulty, none_of, on_ok, some_of, told}
-use Rattle.ent_replay.proofs.MachineEvents.{alloc-flushed, alloc-given, alloc-needs_flush, answer-not_open, answer-not_stepped, begin-open, busy-alloc, busy-flush, busy-free, flush-consistent, flush-flushed, free-freed, free-needs_flush, free-not_alive, step-not_open, step-stepped}
-use Rattle.ent_replay.proofs.Maps.{from_entries-empty, from_entries-set, get-of_tree, map_values-empty, maps_alike, no_test, sum_below-none}
+use Rattle.ent_replay.proofs.MachineEvents.{done, faulty, none_of, on_ok, some_of, told, alloc-flushed, alloc-given, alloc-needs_flush, answer-not_open, answer-not_stepped, begin-open, busy-alloc, busy-flush, busy-free, flush-consistent, flush-flushed, free-freed, free-needs_flush, free-not_alive, step-not_open, step-stepped}
+use Rattle.ent_replay.proofs.Tables.{from_entries-empty, from_entries-set, get-of_tree, map_values-empty, maps_alike, no_test, sum_below-none, by_place-emptied, by_place-past, by_place-set, count_from_empty, get_by_place, get_or-padded, in_table, none_in, values_below}
 use Rattle.ent_replay.proofs.Orders.{run_more}
-use Rattle.ent_replay.proofs.Recorded.{Leads-all, on_differs, on_err}
+use Rattle.ent_replay.proofs.Recorded.{Leads-all, on_differs, on_err, Leads-popped}
 use Rattle.ent_replay.proofs.ScheduleLaws.{ends, schedule_again, stops}
-use Rattle.ent_replay.proofs.ScheduleWords.{fails_at, lines_first, lines_whole, one_after}
+use Rattle.ent_replay.proofs.ScheduleWords.{fails_at, lines_first, lines_whole, one_after, before_first_at, word_first, word_long, words_in-blanks, handles_text-cons, length-handles_text, none_after, no_comment}
 use Rattle.ent_replay.proofs.Sorted.{empty_keeps, lines}
-use Rattle.ent_replay.proofs.SpacedHandles.{handles_text-cons, length-handles_text}
-use Rattle.ent_replay.proofs.Tables.{by_place-emptied, by_place-past, by_place-set, count_from_empty, get_by_place, get_or-padded, in_table, none_in, values_below}
-use Rattle.ent_replay.proofs.WordParts.{before_first_at, word_first, word_long, words_in-blanks}
 
-pub ruleset laws = (common_steps, All-nil, IsFirstAt-head, IsFirstAt-unseen, IsPermutation-map, Leads-all, Made-few, Made-next, Passing-least, Passing-passed, all_held-none, alloc-flushed, alloc-given, alloc-needs_flush, answer-not_open, answer-not_stepped, append-nil, before_first_at, begin-open, busy-alloc, busy-flush, busy-free, by_place-emptied, by_place-past, by_place-set, count_from_empty, done, drop_all, empty_keeps, ends, eq_by_cmp_equiv, eqb-true, fails_at, faulty, flush-consistent, flush-flushed, free-freed, free-needs_flush, free-not_alive, from_entries-empty, from_entries-set, get-empty, get-insert, get-of_tree, get-remove, get_by_place, get_or-padded, handles_text-cons, in_table, ints, length-handles_text, linear, lined-least, lined-passed, lines, lines_first, lines_whole, map_values-empty, maps_alike, nil_from_length, no_test, none_in, none_of, on_differs, on_err, on_ok, one_after, pool_at-cursor, reverse-reverse, run_more, schedule_again, slice_get_read, some_of, started, step-not_open, step-stepped, stops, sum_below-none, sum_by-IsPermutation, take_all, told, values_below, word_first, word_long, words_in-blanks)
+pub ruleset laws = (common_steps, All-nil, IsFirstAt-head, IsFirstAt-unseen, IsPermutation-map, Leads-all, Leads-popped, Made-few, Made-next, Passing-least, Passing-passed, all_held-none, alloc-flushed, alloc-given, alloc-needs_flush, answer-not_open, answer-not_stepped, append-nil, before_first_at, begin-open, busy-alloc, busy-flush, busy-free, by_place-emptied, by_place-past, by_place-set, count_from_empty, done, drop_all, empty_keeps, ends, eq_by_cmp_equiv, eqb-true, fails_at, faulty, flush-consistent, flush-flushed, free-freed, free-needs_flush, free-not_alive, from_entries-empty, from_entries-set, get-empty, get-insert, get-of_tree, get-remove, get_by_place, get_or-padded, handles_text-cons, in_table, ints, length-handles_text, linear, lined-least, lined-passed, lines, lines_first, lines_whole, map_values-empty, maps_alike, nil_from_length, no_comment, no_test, none_after, none_in, none_of, on_differs, on_err, on_ok, one_after, pool_at-cursor, reverse-reverse, run_more, schedule_again, slice_get_read, some_of, started, step-not_open, step-stepped, stops, sum_below-none, sum_by-IsPermutation, take_all, told, values_below, word_first, word_long, words_in-blanks)

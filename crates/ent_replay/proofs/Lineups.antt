@@ -3,9 +3,9 @@
 use Rattle.ent_replay.proofs.Common.{add-one, rules, ◌≡◌, ℕ, suc, ◌+◌, ◌-◌, ◌<◌, ◌≤◌, ℤ, pos, ◌+ℤ◌, ◌-ℤ◌, ◌≤ℤ◌, List, [], ◌∷◌, ◌++◌, length, take, drop, slice_get, Some, arith, ints, drop-drop, append_assoc, length-append, Handle, Allocator, top, cursor, asked_at, pool_at, IsSound, ◌^◌, get_or, common_steps, drop-cons, sum_by-cons, after_take, asked-after_take, Placed, after_lines, reservations_of, requested_in, ◌≢◌, filter, None, refl, cases_eq, take_more, take-append-drop, length-take, filter-append, nat_cmp, IsFirstAt, is_of, sym, inl, inr, ◌⊎◌, available, reply_from, reply_to, cursor-after_take, made-after_take, reply-cursor, top-after_take, after_take-sound, available-after_take, Lineup, AreAnswered, FitsReserved, FitsAt, IsLineup, KeepsCallers, NoneFits, all_of, lines_of, reached, append-nil}
 use Rattle.std.specs.FinMap as finite
 use Rattle.ent_replay.proofs.Sorted.{lines, lines_append}
-use Rattle.ent_replay.proofs.Maps.{get-inserted, get-insert_other, nothing_in}
-use Rattle.ent_replay.proofs.Lifted.{other, total_append, total_is, keeps-forward, own}
-use Rattle.ent_replay.proofs.Legal.{asks, total}
+use Rattle.ent_replay.proofs.Tables.{get-inserted, get-insert_other, nothing_in}
+use Rattle.ent_replay.proofs.Settled.{other, total_append, total_is, keeps-forward, own}
+use Rattle.ent_replay.proofs.Complete.{asks, total}
 use Rattle.ent_replay.proofs.Orders.{AreAnswered-append, answered_back}
 use Rattle.ent_replay.proofs.Lists.{parted, no_middle}
 
@@ -92,10 +92,8 @@ pub record IsAfter (s t : Allocator) (run : List Placed) : Type 0 where
 pub is_after : (run : List Placed) (s : Allocator) → IsSound s → IsAfter s (after s run) run
 is_after [] s sound = search rules
 is_after (p ∷ run) s sound =
-    let n = asks p in
-    let more = is_after run (after_take s n) (after_take-sound s n sound) in
-    let later = more.asked_is in
-    search (rules, available-after_take, made-after_take, top-after_take)
+    let more = is_after run (after_take s (asks p)) (after_take-sound s (asks p) sound) in
+    search (rules, arith, available-after_take, made-after_take, top-after_take, asked-after_take, more)
 
 after-append : (xs ys : List Placed) (s : Allocator) → after s (xs ++ ys) ≡ after (after s xs) ys
 after-append [] ys s = refl
@@ -143,42 +141,7 @@ pub record Passing (s : Allocator) (start : Lineup) (placed left rest : List Pla
   pub whole : AreAnswered s (lines_of (all_of start))
       → (left ≡ []) × AreAnswered s (lines_of (placed ++ rest))
 
-module _ {s : Allocator} {start : Lineup} {placed left rest : List Placed} {p : Placed} {at : ℤ}
-    {blocked : finite.FinMap nat_cmp ℕ} (sound : IsSound s)
-    (h : Passing s start placed left (p ∷ rest) at blocked) where
-  -- it is its caller's next one, and fits
-  pub Passing-place : finite.get blocked p.reservation.caller ≡ None → FitsAt (after s placed) p
-      → Passing s start (placed ++ p ∷ []) left rest (at -ℤ pos (asks p)) blocked
-  Passing-place none fits = search
-      (rules, append_assoc, length-append, keeps-forward, lines_append, AreAnswered-append, at-next, total_append)
-
-  -- it isn't, or doesn't fit
-  pub Passing-leave : (key : ℕ)
-      → ((v : ℕ) × (finite.get blocked p.reservation.caller ≡ Some v)) ⊎ (FitsAt (after s placed) p → ⊥)
-      → Passing s start placed (left ++ p ∷ []) rest at (finite.insert blocked p.reservation.caller key)
-  Passing-leave key why = record {
-    keeps = rw (append_assoc left (p ∷ []) rest) h.keeps;
-    answered = h.answered;
-    at_is = h.at_is;
-    sum = rw (append_assoc left (p ∷ []) rest) h.sum;
-    count = omega (arith, length-append left (p ∷ []));
-    grown = h.grown;
-    free = search (rules, cases_eq, get-inserted, get-insert_other, filter-append, other, append-nil);
-    held = search (rules, cases_eq, no_middle, own, get-insert_other, filter-append, other, append-nil);
-    still = λ same. let before = h.still same in (
-      before.0,
-      λ front x more parts first. elim (parted left [] front more p x parts) [
-        | inl inside ↦ before.1 front x inside.more inside.front_is first
-        | inr (inl itself) ↦ λ fits. search (rules, itself, before, h.held)
-        | inr (inr behind) ↦ absurd (no_middle behind.more more x (sym behind.rest_is))
-      ],
-    );
-    whole = λ all. let before = h.whole all in let fits : FitsAt (after s placed) p =
-        (answered_back s (lines_of placed) (lines_of (p ∷ rest)) (rw (← lines_append placed (p ∷ rest)) before.1)).0 in
-        search (rules, h.held);
-  }
-
--- ---- the same for what a loop has
+-- ---- what a loop has
 
 module _ {s : Allocator} {start : Lineup} {placed left all : List Placed} {at : ℤ} {blocked : finite.FinMap nat_cmp ℕ}
     (begun : IsLineup s start) (h : Passing s start placed left all at blocked) where
@@ -193,28 +156,55 @@ module _ {s : Allocator} {start : Lineup} {placed left all : List Placed} {at : 
 
   module _ {rest : List Placed} {p : Placed} (parts : all ≡ p ∷ rest) where
     pub Passing-lower : pos (top s) ≤ℤ ((at -ℤ pos (asks p)) +ℤ pos (2 ^ 50))
-    Passing-lower =
-        let a : s.asked + total (placed ++ (left ++ p ∷ rest)) ≤ 2 ^ 50 = rw (← parts) few in
-        at-least s (placed ++ p ∷ []) _ begun.sound (at-next s placed at begun.sound h.at_is p)
-        (search (rules, total_append))
+    Passing-lower = at-least s (placed ++ p ∷ []) _ begun.sound (at-next s placed at begun.sound h.at_is p)
+        (search (rules, few, total_append))
 
     fits_here : FitsReserved p.reservation.reply (reply_from s.made (pool_at s at) (asks p)) ≡ FitsAt (after s placed) p
     fits_here = cc (reply-here s placed at begun.sound h.at_is (asks p))
 
+    -- it is its caller's next one, and fits
     pub placed_next : {items : List Placed} {below : ℤ} → items ≡ placed ++ p ∷ [] → below ≡ at -ℤ pos (asks p)
         → finite.get blocked p.reservation.caller ≡ None
         → FitsReserved p.reservation.reply (reply_from s.made (pool_at s at) (asks p))
         → Passing s start items left rest below blocked
-    placed_next {items} {below} is lower none fits = rw (is, lower)
-        (Passing-place begun.sound (rw parts at h) none (rw (← fits_here) fits))
+    placed_next {items} {below} is lower none fits =
+        let here : Passing s start placed left (p ∷ rest) at blocked = rw parts at h in
+        let fits : FitsAt (after s placed) p = rw (← fits_here) fits in
+        let sound = begun.sound in
+        rw (is, lower) (search
+        (rules, append_assoc, length-append, keeps-forward, lines_append, AreAnswered-append, at-next, total_append))
 
+    -- it isn't, or doesn't fit
     pub left_next : {items : List Placed} {now : finite.FinMap nat_cmp ℕ} (key : ℕ) → items ≡ left ++ p ∷ []
         → now ≡ finite.insert blocked p.reservation.caller key
         → ((v : ℕ) × (finite.get blocked p.reservation.caller ≡ Some v))
         ⊎ (FitsReserved p.reservation.reply (reply_from s.made (pool_at s at) (asks p)) → ⊥)
         → Passing s start placed items rest at now
-    left_next {items} {now} key is inserted why = rw (is, inserted) (Passing-leave begun.sound (rw parts at h) key
-        (rw (← fits_here) why))
+    left_next {items} {now} key is inserted why =
+        let h : Passing s start placed left (p ∷ rest) at blocked = rw parts at h in
+        let why : ((v : ℕ) × (finite.get blocked p.reservation.caller ≡ Some v)) ⊎ (FitsAt (after s placed) p → ⊥) =
+        rw (← fits_here) why in
+        rw (is, inserted) (record {
+          keeps = rw (append_assoc left (p ∷ []) rest) h.keeps;
+          answered = h.answered;
+          at_is = h.at_is;
+          sum = rw (append_assoc left (p ∷ []) rest) h.sum;
+          count = omega (arith, length-append left (p ∷ []));
+          grown = h.grown;
+          free = search (rules, cases_eq, get-inserted, get-insert_other, filter-append, other, append-nil);
+          held = search (rules, cases_eq, no_middle, own, get-insert_other, filter-append, other, append-nil);
+          still = λ same. let before = h.still same in (
+            before.0,
+            λ front x more parts first. elim (parted left [] front more p x parts) [
+              | inl inside ↦ before.1 front x inside.more inside.front_is first
+              | inr (inl itself) ↦ λ fits. search (rules, itself, before, h.held)
+              | inr (inr behind) ↦ absurd (no_middle behind.more more x (sym behind.rest_is))
+            ],
+          );
+          whole = λ all. let answered = rw (lines_append placed (p ∷ rest)) at (h.whole all).1 in
+              let fits = (answered_back s (lines_of placed) (lines_of (p ∷ rest)) answered).0 in
+              search (rules, h.held);
+        })
 
 -- nothing is left to go over
 module _ {s : Allocator} {start : Lineup} {all : List Placed} {blocked : finite.FinMap nat_cmp ℕ} (l : Lineup)

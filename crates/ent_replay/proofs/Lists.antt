@@ -5,22 +5,17 @@ use Rattle.ent_replay.specs.declared.trace.call.Call.TheVariants as line
 
 -- what holds of all
 module _ {X : Type 0} (P : X → Type 0) where
+  pub all_parts : (xs ys : List X) → AllByRecursion P (xs ++ ys) → AllByRecursion P xs × AllByRecursion P ys
+  all_parts [] ys all = (tt, all)
+  all_parts (x ∷ xs) ys all = let more = all_parts xs ys all.1 in ((all.0, more.0), more.1)
+
   pub all_at : (before after : List X) (x : X) → AllByRecursion P (before ++ x ∷ after) → P x
-  all_at [] after x all = all.0
-  all_at (b ∷ before) after x all = all_at before after x all.1
+  all_at before after x all = (all_parts before (x ∷ after) all).1.0
 
   pub all_without : (before after : List X) (x : X) → AllByRecursion P (before ++ x ∷ after)
       → AllByRecursion P (before ++ after)
   all_without [] after x all = all.1
   all_without (b ∷ before) after x all = (all.0, all_without before after x all.1)
-
-  pub all_left : (xs ys : List X) → AllByRecursion P (xs ++ ys) → AllByRecursion P xs
-  all_left [] ys all = tt
-  all_left (x ∷ xs) ys all = (all.0, all_left xs ys all.1)
-
-  pub all_right : (xs ys : List X) → AllByRecursion P (xs ++ ys) → AllByRecursion P ys
-  all_right [] ys all = all
-  all_right (x ∷ xs) ys all = all_right xs ys all.1
 
   pub all_push : (xs : List X) (x : X) → AllByRecursion P xs → P x → AllByRecursion P (xs ++ x ∷ [])
   all_push [] x all here = (here, tt)
@@ -105,11 +100,8 @@ module _ {X : Type 0} where
   pub itself_or : (P : X → Type 0) (front rest before after : List X) (x l : X)
       → front ++ x ∷ rest ≡ before ++ l ∷ after → AllByRecursion P (front ++ rest)
       → P l ⊎ Itself front rest before after x l
-  itself_or P front rest before after x l e all = elim (parted front rest before after x l e) [
-    | inl p ↦ inl (all_at P before p.more l (rw p.front_is at (all_left P front rest all)))
-    | inr (inl p) ↦ inr p
-    | inr (inr p) ↦ inl (all_at P p.more after l (rw p.rest_is at (all_right P front rest all)))
-  ]
+  itself_or P front rest before after x l e all = search
+      (rules, parted front rest before after x l e, all_at P, all_parts P front rest all)
 
 not_passed : (l x : Call) → IsAlone x → MayPass l x → ⊥
 not_passed l other alone p = search rules
@@ -138,10 +130,8 @@ parts front rest x (l ∷ order) reserves alone (before, after, is, passes, more
             first = l ∷ next.first;
             second = next.second;
             is = cc next.is;
-            first_is =
-                (before, p.more, p.front_is, passes, next.first_is);
+            first_is = (before, p.more, p.front_is, passes, next.first_is);
             second_is = next.second_is;
           }
-      | inr (inl p) ↦ search (rules, none_before)
-      | inr (inr p) ↦ absurd (not_passed l x alone (all_at (MayPass l) front p.more x (rw (← p.before_is) passes)))
+      | inr it ↦ search (rules, none_before, not_passed, all_at (MayPass l) front)
     ]

@@ -1,14 +1,85 @@
--- What events do to the fields of a `Machine`, and that they keep them in order.
-use Rattle.ent_replay.proofs.Common.{none, Step, cond-true, cond-false, All-nil, rules, ◌≡◌, sym, ap, ◌∙◌, ℕ, ◌+◌, ◌^◌, ◌<◌, ◌≤◌, true, false, slice_get, Some, Ok, Err, arith, inl, inr, unwrap_or, nat_cmp, FinMap, get-empty, len-empty, empty_of_len, nat_tests, Handle, quota, Allocator, next, born, after_alloc, after_free, after_flush, IsSound, after_alloc-sound, after_free-sound, after_flush-sound, StoredCall, OpenCall, is_busy, on_alloc, on_free, on_flush, alloc_front, event_takes_memory, callers, sum_below, all_held, map_values, open_call_of, machine_state, awaited, AreConsistent, cases_eq, get-remove, pos, ◌-ℤ◌, nat_lt, Option, None, ints, option_map, same_Some, none-some, ℕ_discrete, Span, cursor, reply_from, reply_to, pool_at, after_take, available-after_take, after_take-sound, made-after_take, asked-after_take, top-after_take, cursor-after_take, reply-cursor, on_begin, on_step, on_answer, left_of, reported, MachineState, unasked, HasPassed}
-use Rattle.std.specs.FinSet as set
+-- What a test of a machine's answer tells, and what a refusal for lack of memory has to be.
+use Rattle.ent_replay.proofs.Common.{allocator_is, rules, ◌≡◌, sym, ◌∙◌, ℕ, ◌<◌, true, false, List, ◌∷◌, drop, slice_get, Option, Some, None, Result, Ok, Err, arith, option_map, is_some, OnOk, OnErr, is_err, next, Allocator, Outcome, ReplayFault, MachineState, Returned, event_takes_memory, Makes, machine_state, AreConsistent, nat_cmp, StoredCall, none, Step, cond-true, cond-false, All-nil, ap, ◌+◌, ◌^◌, ◌≤◌, inl, inr, unwrap_or, FinMap, get-empty, len-empty, empty_of_len, nat_tests, Handle, quota, born, after_alloc, after_free, after_flush, IsSound, after_alloc-sound, after_free-sound, after_flush-sound, OpenCall, is_busy, on_alloc, on_free, on_flush, alloc_front, callers, sum_below, all_held, map_values, open_call_of, awaited, cases_eq, get-remove, pos, ◌-ℤ◌, nat_lt, ints, same_Some, none-some, ℕ_discrete, Span, cursor, reply_from, pool_at, after_take, available-after_take, after_take-sound, made-after_take, asked-after_take, top-after_take, cursor-after_take, reply-cursor, on_begin, on_step, on_answer, left_of, reported, unasked, HasPassed}
 use Rattle.std.specs.FinMap as finite
+use Rattle.ent_replay.specs.declared.fault.ReplayFault.TheVariants as fault
+use Rattle.ent_replay.proofs.Tables.{no_test, sum_below-bound, sum_below-none, maps_alike, get-map_values, map_values-empty, nothing_in, get-inserted, get-insert_other, get-removed, get-remove_other, map_values-insert, on_inserted, on_removed, sum_below-changed, sum_below-part}
+use Rattle.std.specs.FinSet as set
 use Rattle.ent_alloc.specs.Spent as given
 use Rattle.ent_replay.specs.declared.outcome.Outcome.TheVariants as outcome
-use Rattle.ent_replay.specs.declared.fault.ReplayFault.TheVariants as fault
 use Rattle.ent_replay.specs.declared.event.Event.TheVariants as event
 use Rattle.ent_replay.proofs.Histories.{all_held-none, all_held-next}
-use Rattle.ent_replay.proofs.Maps.{sum_below-bound, sum_below-none, maps_alike, get-map_values, map_values-empty, nothing_in, get-inserted, get-insert_other, get-removed, get-remove_other, map_values-insert, on_inserted, on_removed, sum_below-changed, sum_below-part}
-use Rattle.ent_replay.proofs.MachineAnswers.{front, none_is_none}
+
+-- The machine did what the step says, or refused for lack of memory: told of the values that a
+-- contract sees.
+pub done : (on : MachineState → Returned) {inside now : MachineState} → inside ≡ now
+    → {result answer : Result Outcome ReplayFault} → result ≡ answer → {after next : MachineState} → after ≡ next
+    → on inside ≡ (answer, next) → Makes (on now) now result after
+done on view is is_next step = search rules
+
+-- It found a fault, and changed nothing.
+pub faulty : (on : MachineState → Returned) {inside now : MachineState} → inside ≡ now → (why : ReplayFault)
+    → on inside ≡ (Err why, inside) → Makes (on now) now (Err why) now
+faulty on view why = search (rules, done)
+
+pub refused : (on : MachineState → Returned) {inside now : MachineState} → inside ≡ now
+    → {result : Result Outcome ReplayFault} → result ≡ Err fault.Memory → {after : MachineState} → after ≡ inside
+    → event_takes_memory inside (on inside).0 ≡ true → Makes (on now) now result after
+refused on view is unchanged takes = search rules
+
+-- The same of an event that the allocator alone decides.
+module _ (on : MachineState → Returned) (s : Allocator) (spent : finite.FinMap nat_cmp ℕ)
+    (calls : finite.FinMap nat_cmp StoredCall) (now : MachineState) (view : machine_state s spent calls ≡ now)
+    (result : Result Outcome ReplayFault) (new : Allocator) where
+  pub allocator_did : (answer : Result Outcome ReplayFault) → result ≡ answer → (next : Allocator) → new ≡ next
+      → on (machine_state s spent calls) ≡ (answer, machine_state next spent calls)
+      → Makes (on now) now result (machine_state new spent calls)
+  allocator_did answer is next is_next step = search rules
+
+  pub allocator_refused : result ≡ Err fault.Memory → new ≡ s → event_takes_memory (machine_state s spent calls) (on
+      (machine_state s spent calls)).0 ≡ true → Makes (on now) now result (machine_state new spent calls)
+  allocator_refused is unchanged takes = search rules
+
+-- what is consistent of an allocator is so under another name
+pub consistent_as : {s t : Allocator} {spent : finite.FinMap nat_cmp ℕ} {calls : finite.FinMap nat_cmp StoredCall}
+    → t ≡ s → AreConsistent s spent calls → AreConsistent t spent calls
+consistent_as {s} {t} {spent} {calls} is h = rw is h
+
+-- what a test of an answer tells
+pub some_of : {X : Type 0} (o : Option X) → true ≡ is_some o → (x : X) × (o ≡ Some x)
+some_of it is = search (rules, no_test)
+
+pub none_of : {X : Type 0} (o : Option X) → false ≡ is_some o → o ≡ None
+none_of it is = search (rules, no_test)
+
+pub on_ok : {T E : Type 0} {P : Type 0} (r : Result T E) → false ≡ is_err r → OnOk r P → P
+on_ok it is holds = search (rules, no_test)
+
+pub on_err : {T E : Type 0} {P : Type 0} (r : Result T E) → true ≡ is_err r → OnErr r P → P
+on_err it is holds = search (rules, no_test)
+
+-- nothing was asked for
+pub flushed : {asked : ℕ} → ¬ (0 < asked) → asked ≡ 0
+flushed none = omega arith
+
+-- an answer is no refusal
+pub ok_not_err : {T E : Type 0} (x : T) (e : E) → Ok x ≡ Err e → ⊥
+ok_not_err x e is = cc
+
+-- and one refusal is no other
+pub not_other : {T E : Type 0} (x why other : E) → x ≡ why → ¬ (why ≡ other) → ◌≡◌ {A = Result T E} (Err x) (Err other)
+    → ⊥
+not_other x why other is differ same = let also : x ≡ other = cc in differ (sym is ∙ also)
+
+-- what an event says that the allocator refused, or did
+pub ruleset told = (allocator_did, allocator_is, allocator_refused, flushed, not_other, ok_not_err)
+
+pub front : {X : Type 0} (xs : List X) (x : X) → slice_get xs 0 ≡ Some x → xs ≡ x ∷ drop 1 xs
+front ys x is = search rules
+
+pub none_is_none : {X Y : Type 0} (f : X → Y) (o : Option X) → option_map f o ≡ None → o ≡ None
+none_is_none f it is = search rules
+
+-- ---- what events do to the fields of a `Machine`, and that they keep them in order
 
 -- a call after its step
 abbrev pub stepped : Allocator → StoredCall → StoredCall
@@ -28,9 +99,10 @@ module _ (s : Allocator) (spent : FinMap nat_cmp ℕ) (calls : FinMap nat_cmp St
 
   pub busy : ¬ (calls ≡ finite.empty) → is_busy here ≡ true
   busy some = elim (cases_eq (finite.len (map_values (open_call_of s) calls)) 0) [
-    | inl is ↦ absurd (some (maps_alike calls finite.empty (λ q. none_is_none (open_call_of s) (finite.get calls q)
-        (sym (get-map_values (open_call_of s) calls q) ∙ ap (λ m. finite.get m q)
-        (empty_of_len (map_values (open_call_of s) calls) is) ∙ get-empty nat_cmp q) ∙ sym (get-empty nat_cmp q))))
+    | inl is ↦
+        let none = empty_of_len (map_values (open_call_of s) calls) is in
+        absurd (some (maps_alike calls finite.empty (λ q. none_is_none (open_call_of s) (finite.get calls q)
+        (cc (get-map_values (open_call_of s) calls q, none, get-empty {X = _} nat_cmp q)) ∙ sym (get-empty nat_cmp q))))
     | inr other ↦ grind (arith, nat_tests)
   ]
 
@@ -113,9 +185,8 @@ module _ (s : Allocator) (spent : FinMap nat_cmp ℕ) (calls : FinMap nat_cmp St
     -- what waits for this caller is counted
     pub awaited-bound : AreConsistent s spent calls → (call : StoredCall) → finite.get calls caller ≡ Some call
         → s.asked + unasked call.requested call.span ≤ 2 ^ 50
-    awaited-bound h call is =
-        let all = asked-bound h in
-        search (rules, sum_below-part (λ q. awaited (finite.get calls q)) caller callers below)
+    awaited-bound h call is = search
+        (rules, asked-bound h, sum_below-part (λ q. awaited (finite.get calls q)) _ _ below)
 
     -- what waits in all where this call is new
     waits-inserted : (new : StoredCall) → sum_below (λ q. awaited (finite.get calls q)) callers + awaited (Some new)
@@ -182,19 +253,14 @@ module _ (s : Allocator) (spent : FinMap nat_cmp ℕ) (calls : FinMap nat_cmp St
             Ok (outcome.Cursor (cursor s -ℤ pos call.requested)),
             machine_state (after_take s call.requested) spent (finite.insert calls caller (stepped s call)),
           )
-      step-taken sound waits = search (rules, is_caller, opened (Some call) is, cursor-after_take, inserted)
+      step-taken sound waits =
+          let made = made-after_take s call.requested in
+          let given = available-after_take s call.requested sound in
+          let fs : open_call_of s ≡ open_call_of (after_take s call.requested) = λ i c. same c i in
+          search (rules, is_caller, opened (Some call) is, cursor-after_take, reply-cursor, map_values-insert)
         where
-          -- what a span replies stays through the step
           same : (c : StoredCall) → open_call_of s c ≡ open_call_of (after_take s call.requested) c
           same c = simp (made-after_take, available-after_take)
-
-          inserted : finite.insert (map_values (open_call_of s) calls) caller
-              (record { requested = call.requested; reply = Some (reply_to s call.requested) })
-              ≡ map_values (open_call_of (after_take s call.requested)) (finite.insert calls caller (stepped s call))
-          inserted = ap (λ r. finite.insert (map_values (open_call_of s) calls) caller
-              (record { requested = call.requested; reply = Some r })) (sym (reply-cursor s call.requested sound))
-              ∙ sym (map_values-insert (open_call_of s) calls caller (stepped s call))
-              ∙ ap (λ f. map_values f (finite.insert calls caller (stepped s call))) (λ i c. same c i)
 
       pub step-consistent : AreConsistent s spent calls → call.span ≡ None → AreConsistent (after_take s call.requested)
           spent (finite.insert calls caller (stepped s call))
@@ -209,10 +275,9 @@ module _ (s : Allocator) (spent : FinMap nat_cmp ℕ) (calls : FinMap nat_cmp St
             omega (arith, asked-after_take);
         requests = search (rules, on_inserted (λ q (c : StoredCall). c.requested < 2 ^ 32), h.requests);
         spans = λ q other_call span at. on_inserted (λ q c. c.span ≡ Some span
-            → HasPassed (after_take s call.requested) c.requested span) calls caller
-            (λ q c _ at passed. search (rules, h.spans q c span at passed, top-after_take s call.requested h.sound))
-            (stepped s call) (λ passed. search (rules, same_Some _ span passed, asked-bound, top-after_take, ints)) q
-            other_call at;
+            → HasPassed (after_take s call.requested) c.requested span) _ _
+            (λ q c _ at passed. search (rules, h.spans q c span at passed, top-after_take s call.requested h.sound)) _
+            (λ passed. search (rules, same_Some _ span passed, asked-bound, top-after_take, ints)) q _ at;
         once = all_held-next here (event.Step caller) (step-taken h.sound waits) h.sound h.once;
       }
 

@@ -1,8 +1,82 @@
--- Orders that lines may have come in: of a front and a rest, and what they are answered.
-use Rattle.ent_replay.proofs.Common.{arith, rules, ◌≡◌, ℕ, List, [], ◌∷◌, ◌++◌, refl, ap, length, sym, inl, inr, common_steps, append_assoc, append-nil, length-append, Allocator, Call, Reservation, Fits, AreAnswered, after_line, after_lines, IsAlone, IsOrderOf, Checked, reserve_lines, AgreesWith, IsSettled, Follows, Reaches, Differs, IfReserve, Shows, HasNoOrder, NoneFollows, Difference}
+-- What lines request, and orders that lines may have come in: of a front and a rest, and what they are answered.
+use Rattle.ent_replay.proofs.Common.{rules, ◌≡◌, ℕ, ◌+◌, Bool, if◌then◌else◌, arith, List, [], ◌∷◌, ◌++◌, ap, sym, refl, sum_by-cons, sum_by_push, AllByRecursion, Handle, Allocator, after_free, asked-after_take, Call, Reservation, IsOrderOf, after_front, after_line, after_lines, Checked, IsSettled, Reaches, ReachesAll, requested_in, reserve_lines, length, common_steps, append_assoc, append-nil, length-append, Fits, AreAnswered, IsAlone, AgreesWith, Follows, Differs, IfReserve, Shows, HasNoOrder, NoneFollows, Difference}
 use Rattle.ent_replay.specs.declared.trace.call.Call.TheVariants as line
-use Rattle.ent_replay.proofs.Lists.{parts, parted, all_reserve, all_at}
-use Rattle.ent_replay.proofs.Requested.{reserves-ordered}
+use Rattle.ent_replay.proofs.Lists.{all_at, all_without, IsReserve, all_reserve, parts, parted}
+
+abbrev asks_line : Call → ℕ
+asks_line (line.Reserve r) = r.requested
+asks_line other = 0
+
+abbrev asks_in : List Call → ℕ
+asks_in [] = 0
+asks_in (l ∷ lines) = asks_line l + asks_in lines
+
+asks-run : (run : List Reservation) → asks_in (reserve_lines run) ≡ requested_in run
+asks-run [] = refl
+asks-run (r ∷ run) = search (rules, sum_by-cons, asks-run run)
+
+asks-middle : (before after : List Call) (l : Call) → asks_in (before ++ l ∷ after) ≡ asks_line l
+    + asks_in (before ++ after)
+asks-middle [] after l = refl
+asks-middle (b ∷ before) after l = omega (arith, asks-middle before after l)
+
+asks-ordered : (order lines : List Call) → IsOrderOf lines order → asks_in order ≡ asks_in lines
+asks-ordered [] lines is = ap asks_in (sym is)
+asks-ordered (l ∷ order) lines (before, after, parts, passes, more) = search
+    (rules, asks-ordered order (before ++ after) more, asks-middle, parts)
+
+pub reserves-ordered : (order lines : List Call) → IsOrderOf lines order → AllByRecursion IsReserve lines
+    → AllByRecursion IsReserve order
+reserves-ordered [] lines is all = tt
+reserves-ordered (l ∷ order) lines (before, after, parts, passes, more) all =
+    let here = rw parts at all in search (rules, all_at, all_without, reserves-ordered order (before ++ after) more)
+
+asked-reserves : (order : List Call) (s : Allocator) → AllByRecursion IsReserve order
+    → (after_lines s order).asked ≡ s.asked + asks_in order
+asked-reserves [] s all = omega arith
+asked-reserves (it ∷ order) s all = search (rules, arith, asked-after_take, asked-reserves order (after_line s it))
+
+-- the state after a run has asked for what the run requests
+pub asked-settled : (c : Checked) (at : Allocator) → IsSettled c at → at.asked ≡ c.allocator.asked + requested_in c.run
+asked-settled c at settled = search (rules, asked-reserves, reserves-ordered, all_reserve, asks-ordered, asks-run)
+
+-- ---- after one more line
+
+asked-front : (s : Allocator) (pool : List Handle) → (after_front s pool).asked ≡ s.asked
+asked-front s it = search rules
+
+asked-alloc : (b : Bool) (s : Allocator) → (if b then s else after_front s s.pool).asked ≡ s.asked
+asked-alloc it s = search (rules, asked-front)
+
+asked-free : (b c : Bool) (s : Allocator) (h : Handle) → (if b then s else (if c then after_free s h else s)).asked
+    ≡ s.asked
+asked-free it other s h = search rules
+
+-- how many are requested since the last flush, in the lines that were taken
+abbrev pub requested_by : Checked → ℕ
+requested_by c = c.allocator.asked + requested_in c.run
+
+-- and with one more line, if so many were before it
+abbrev pub requested_with : ℕ → Call → ℕ
+requested_with n (line.Reserve r) = n + r.requested
+requested_with n (line.Flush told) = 0
+requested_with n other = n
+
+pub requested-next : (old new : Checked) (l : Call) → Reaches old l new
+    → requested_by new ≡ requested_with (requested_by old) l
+requested-next old new (line.Reserve r) is = search (rules, sum_by_push)
+requested-next old new (line.Flush told) (at, settled, fits, is) = ap requested_by is
+requested-next old new l (at, settled, fits, is) = search
+    (rules, arith, is, asked-settled old at settled, asked-alloc, asked-free)
+
+-- one line after the others
+pub ReachesAll-next : (old middle new : Checked) (lines : List Call) (l : Call) → ReachesAll old lines middle
+    → Reaches middle l new → ReachesAll old (lines ++ l ∷ []) new
+ReachesAll-next old middle new [] l is next = (new, rw (← is) next, refl)
+ReachesAll-next old middle new (x ∷ lines) l (second, first, more) next =
+    (second, first, ReachesAll-next second middle new lines l more next)
+
+-- ---- orders of a front and a rest
 
 -- an order of the front and one of the rest are one of all
 pub IsOrderOf-append : (front rest first second : List Call) → IsOrderOf front first → IsOrderOf rest second
@@ -54,12 +128,10 @@ pub called-Follows : (c : Checked) (l : Call) (after : Allocator) → IsAlone l 
 called-Follows c l after alone settled fits = record {
   sound = λ rest agrees. record {
     order = settled.order ++ l ∷ agrees.order;
-    is_order = IsOrderOf-append (reserve_lines c.run) (l ∷ rest) settled.order (l ∷ agrees.order) settled.is_order
-        (IsOrderOf-cons l rest agrees.order agrees.is_order);
-    answered = AreAnswered-append c.allocator settled.order (l ∷ agrees.order) settled.answered
-        (rw (← settled.after_is) (fits, agrees.answered));
+    is_order = IsOrderOf-append _ _ _ _ settled.is_order (IsOrderOf-cons l _ _ agrees.is_order);
+    answered = AreAnswered-append c.allocator _ _ settled.answered (rw (← settled.after_is) (fits, agrees.answered));
   };
-  complete = λ rest agrees. search (rules, told c l rest alone agrees);
+  complete = λ rest agrees. search (rules, told c l _ alone agrees);
 }
 
 -- ---- where a trace doesn't agree
@@ -81,22 +153,17 @@ Shows-more c n l d alone shows = record {
   next = shows.next;
   left = shows.left ++ l ∷ [];
   is_order = rw (← append_assoc shows.placed (shows.next ∷ shows.left) (l ∷ []))
-      (IsOrderOf-append (reserve_lines c.run) (l ∷ []) (shows.placed ++ shows.next ∷ shows.left) (l ∷ [])
-      (rw append-nil at shows.is_order) (IsOrderOf-cons l [] [] refl));
+      (IsOrderOf-append _ _ _ _ (rw append-nil at shows.is_order) (IsOrderOf-cons l [] [] refl));
   answered = shows.answered;
   differs = shows.differs;
   blamed = shows.blamed;
-  stuck = λ x more is. let p = parts (reserve_lines c.run) [] l (shows.placed ++ x ∷ more) (all_reserve c.run) alone
-      is in let own = rw append-nil at shows.is_order in elim (parted shows.placed more p.first p.second x l p.is) [
-        | inl inside ↦ absurd (grind (arith, common_steps, not_in_run, append_assoc, own))
-        | inr (inl itself) ↦
-            let a = length-ordered p.first (reserve_lines c.run) p.first_is in
-            let b = length-ordered (shows.placed ++ shows.next ∷ shows.left) (reserve_lines c.run) own in
-            let e = length-append shows.placed (shows.next ∷ shows.left) in
-            let f : length p.first ≡ length shows.placed = ap length itself.before_is in
-            absurd (omega arith)
-        | inr (inr behind) ↦ shows.stuck x behind.more (rw (append-nil, ← behind.before_is) p.first_is)
-      ];
+  stuck = λ x more is.
+      let p = parts _ [] l (shows.placed ++ x ∷ more) (all_reserve _) alone is in
+      let own = rw append-nil at shows.is_order in
+      let stands = parted _ _ _ _ x l p.is in
+      let a = length-ordered _ _ p.first_is in
+      let b = length-ordered _ _ own in
+      grind (arith, common_steps, not_in_run, length-append, append_assoc, append-nil, shows.stuck);
 }
 
 none_blamed : (l : Call) (P : Type 0) → IsAlone l → IfReserve l P
@@ -109,7 +176,7 @@ called-Shows c l after n d alone settled differs = record {
   placed = settled.order;
   next = l;
   left = [];
-  is_order = search (rules, IsOrderOf-append, IsOrderOf-cons);
+  is_order = IsOrderOf-append _ _ _ _ settled.is_order (IsOrderOf-cons l [] [] refl);
   answered = settled.answered;
   differs = rw (← settled.after_is) differs;
   blamed = none_blamed l (HasNoOrder c) alone;

@@ -1,5 +1,5 @@
 -- What a checker takes, one call after the other, and what its answers say of all its calls together.
-use Rattle.ent_replay.proofs.Common.{rules, Result, IfOk, IfErr, OnOk, Difference, CheckError, OnDiffers, ◌≡◌, ◌+◌, List, [], ◌∷◌, ◌++◌, refl, reverse, append-nil, reverse-append, Call, Checker, Reservation, reserve_lines, Takes, TakesAll, Ok, Err, ap, subst, ◌∙◌, inl, inr, ◌⊎◌, IsOk, Limits, opening, AgreesWith, AllFollow, Checked, opened, Agrees, Compares, Finishes, numbered, numbered_after, one_more, OnErr}
+use Rattle.ent_replay.proofs.Common.{rules, Result, IfOk, IfErr, OnOk, Difference, CheckError, OnDiffers, ◌≡◌, ◌+◌, List, [], ◌∷◌, ◌++◌, refl, reverse, append-nil, reverse-append, Call, Checker, Reservation, reserve_lines, Takes, TakesAll, Ok, Err, ap, inl, inr, ◌⊎◌, IsOk, Limits, opening, AgreesWith, AllFollow, Checked, opened, Agrees, Compares, Finishes, numbered, numbered_after, one_more}
 use Rattle.ent_replay.specs.declared.trace.call.Call.TheVariants as line
 use Rattle.ent_replay.specs.declared.trace.check_error.CheckError.TheVariants as error
 
@@ -28,15 +28,10 @@ Leads old all now left = (final : Checker) → TakesAll now left final → Takes
 pub Leads-all : (old now : Checker) (all : List Call) → Leads old all now [] → TakesAll old all now
 Leads-all old now all leads = leads now refl
 
--- ---- a list from its end on
-
-reverse-push : (rs : List Reservation) (r : Reservation) → reverse (rs ++ r ∷ []) ≡ r ∷ reverse rs
-reverse-push rs r = reverse-append rs (r ∷ [])
-
 pub Leads-popped : (old now next : Checker) (all : List Call) (before after : List Reservation) (r : Reservation)
     → before ≡ after ++ r ∷ [] → Leads old all now (reserve_lines (reverse before)) → Takes now (line.Reserve r) next
     → Leads old all next (reserve_lines (reverse after))
-Leads-popped old now next all before after r is leads takes final more = search (rules, reverse-push)
+Leads-popped old now next all before after r is leads takes final more = search (rules, reverse-append)
 
 -- ---- logs
 
@@ -49,8 +44,7 @@ stopped-all : (lines : List Call) (old new : Checker) (e : CheckError) → old.c
     → new ≡ old
 stopped-all [] old new e is same = same
 stopped-all (l ∷ lines) old new e is (next, takes, more) =
-    let same : next ≡ old = subst (λ (r : Result Checked CheckError). OnErr r (next ≡ old)) is takes.stopped in
-    stopped-all lines next new e (ap (λ (c : Checker). c.comparer) same ∙ is) more ∙ same
+    let same = rw is at takes.stopped in search (rules, stopped-all lines next new e, same)
 
 -- one call that was taken
 compared : (old next : Checker) (l : Call) (c : Checked) (r : Result Checked CheckError) → old.comparer ≡ Ok c
@@ -66,7 +60,7 @@ pub all_follow : (lines : List Call) (old new : Checker) (c d : Checked) → old
 all_follow [] old new c d is new_is same = search rules
 all_follow (l ∷ lines) old new c d is new_is (next, takes, more) = elim (ok_or_err next.comparer) [
   | inl ok ↦ search (rules, counted, compared, all_follow lines next new ok.0 d ok.1 new_is more)
-  | inr bad ↦ let same = ap (λ (x : Checker). x.comparer) (stopped-all lines next new bad.0 bad.1 more) in absurd cc
+  | inr bad ↦ let same = stopped-all lines next new bad.0 bad.1 more in absurd cc
 ]
 
 -- it has stopped for a difference: no trace that begins so agrees
@@ -80,9 +74,8 @@ taken-differs (l ∷ lines) old new c d is new_is (next, takes, more) rest agree
       | inl ok ↦ taken-differs lines next new ok.0 d ok.1 new_is more rest
           ((compared old next l c (Ok ok.0) is ok.1 takes).follows.complete _ here)
       | inr bad ↦
-          let same = ap (λ (x : Checker). x.comparer) (stopped-all lines next new bad.0 bad.1 more) in
-          let named : bad.0 ≡ error.Differs d = cc in
-          (rw named at (compared old next l c (Err bad.0) is bad.1 takes).none) _ here
+          let same = stopped-all lines next new bad.0 bad.1 more in
+          search (rules, same, compared old next l c (Err bad.0) is bad.1 takes, here)
     ]
 
 -- ---- from the first call on
@@ -105,10 +98,8 @@ pub finished-differs : {A : Type 0} (limits : Limits) (start : Checker) (lines :
 finished-differs limits start lines answer d opens (taken, all, closes, stopped) named agrees =
     let whole = rw (← append-nil (numbered_after start.calls lines)) at agrees in
     elim (ok_or_err taken.comparer) [
-      | inl c ↦ (rw named at (rw c.1 at closes).none) ((all_follow lines start taken (opened limits) c.0 opens c.1
-          all).complete [] whole)
+      | inl c ↦ (rw named at (rw c.1 at closes).none) ((all_follow _ _ _ _ c.0 opens c.1 all).complete [] whole)
       | inr e ↦
           let kept : answer ≡ Err e.0 = rw e.1 at stopped in
-          let same : e.0 ≡ error.Differs d = cc in
-          taken-differs lines start taken _ d opens (e.1 ∙ ap (λ (x : CheckError). Err x) same) all [] whole
+          taken-differs lines start taken _ d opens (cc) all [] whole
     ]

@@ -1,10 +1,10 @@
 -- A sorted run is in an order that its reservations may have come in: a stable sort by keys that don't
 -- fall along a caller keeps each caller's order, and along a caller the keys of a run don't fall.
-use Rattle.ent_replay.proofs.Common.{rules, ◌≡◌, ℕ, suc, ◌≤◌, Bool, true, false, not, ◌&&◌, cond, nat_lt, List, [], ◌∷◌, ◌++◌, filter, All, refl, arith, true≢false, common_steps, AllByRecursion, ties, IsNonDecreasingBy, nat_cmp, is_lt, le-ltb, All-head, All-tail, All-cons, All-filter, All-from_recursion, recursion_from_All, Call, Placed, MayPass, reservations_of, reserve_lines, ComesAfter, AreSteady, sum_by_push, ◌+◌, ◌^◌, unwrap_or, cases_eq, requested_in, IsLatest, IsChecking, IsKeyed, AreKeyed, keys_after, raised, Handle, Allocator, available, eq-eqb, ne_eqb}
+use Rattle.ent_replay.proofs.Common.{rules, ◌≡◌, ℕ, suc, ◌≤◌, Bool, true, false, not, ◌&&◌, cond, nat_lt, List, [], ◌∷◌, ◌++◌, filter, All, refl, arith, true≢false, common_steps, AllByRecursion, ties, IsNonDecreasingBy, nat_cmp, is_lt, le-ltb, All-head, All-tail, All-filter, All-from_recursion, recursion_from_All, Call, Placed, MayPass, reservations_of, reserve_lines, ComesAfter, AreSteady, sum_by_push, ◌+◌, ◌^◌, unwrap_or, cases_eq, requested_in, IsLatest, IsChecking, IsKeyed, AreKeyed, keys_after, raised, Handle, Allocator, available, eq-eqb, ne_eqb}
 use Rattle.std.specs.FinMap as finite
 use Rattle.ent_replay.specs.declared.trace.call.Call.TheVariants as line
 use Rattle.ent_replay.proofs.Lists.{all_at, all_without, all_weaker, none_kept, kept_forward, kept_rest, all_push}
-use Rattle.ent_replay.proofs.Maps.{get-inserted, get-insert_other}
+use Rattle.ent_replay.proofs.Tables.{get-inserted, get-insert_other}
 
 abbrev pub lines : List Placed → List Call
 lines run = reserve_lines (reservations_of run)
@@ -60,7 +60,7 @@ pub least : (h : Placed) (sorted run : List Placed) → AllByRecursion (λ (p : 
 least h sorted run up alike =
     let Q : Placed → Type 0 = λ (p : Placed). h.key ≤ p.key in
     whole Q run (λ x. rw (← alike x) (All-filter (tie x) Q (h ∷ sorted)
-    (All-cons Q h sorted (omega arith) (All-from_recursion Q sorted up))))
+    (All-from_recursion Q (h ∷ sorted) (omega arith, up))))
 
 -- ---- steady callers
 
@@ -72,8 +72,7 @@ steady_before (b ∷ before) after h steady = (all_at _ before after h steady.0,
 pub steady_without : (before after : List Placed) (h : Placed) → AreSteady (before ++ h ∷ after)
     → AreSteady (before ++ after)
 steady_without [] after h steady = steady.1
-steady_without (b ∷ before) after h steady =
-    (all_without (ComesAfter b) before after h steady.0, steady_without before after h steady.1)
+steady_without (b ∷ before) after h steady = (all_without _ _ _ h steady.0, steady_without before after h steady.1)
 
 pub passes : (h : Placed) (before : List Placed) → AllByRecursion (λ b. tie h b ≡ false) before
     → AllByRecursion (λ (b : Placed). h.key ≤ b.key) before → AllByRecursion (λ (b : Placed). ComesAfter b h) before
@@ -134,7 +133,9 @@ module _ (latest : finite.FinMap nat_cmp ℕ) (p : Placed) (greatest : unwrap_or
       → wanted + p.reservation.requested ≤ 2 ^ 50 → IsKeyed (available s)
       (unwrap_or (finite.get latest p.reservation.caller) 0) p → IsChecking s (wanted + p.reservation.requested) (run
       ++ p ∷ []) now
-  IsChecking-push s wanted run is few keyed = search (rules, requested-push, steady_push, all_push, all_weaker (IsLatest latest) (IsLatest now) latest_kept, keyed_push, last_push, after_push, get-inserted)
+  IsChecking-push s wanted run is few keyed =
+      let kept = all_weaker (IsLatest latest) (IsLatest now) latest_kept in
+      search (rules, requested-push, steady_push, all_push, kept, keyed_push, last_push, after_push, get-inserted)
 
 -- an empty map keeps nothing
 pub empty_keeps : (latest : finite.FinMap nat_cmp ℕ) → latest ≡ finite.empty → (q : ℕ)

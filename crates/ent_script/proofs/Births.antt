@@ -37,14 +37,22 @@ birth_of_halves before text frame others e f h = search (rules, slice_split_none
 one_part : (before : ℕ) (frame system ordinal : List ℕ) (parts : List (List ℕ)) → slice_split is_dot ordinal ≡ parts
     → is_decimal ordinal ≡ false → birth_of_parts before (frame ∷ system ∷ parts) ≡ Err cause.Birth
 one_part before frame system ordinal [] e lacks = refl
-one_part before frame system ordinal (part ∷ []) e lacks = search
-    (rules, number_refused, join_with_byte-slice_split 46 ordinal)
-one_part before frame system ordinal (part ∷ more ∷ others) e lacks = refl
+one_part before frame system ordinal parts e lacks = search (rules, cond-false, join_with_byte-slice_split 46 ordinal)
 
 -- the parts round the first two dots are the numbers, or there is no birth
 pub birth_of_split : (before : ℕ) (text frame others system ordinal : List ℕ) → text ≡ frame ++ 46 ∷ others
     → others ≡ system ++ 46 ∷ ordinal → IsWithoutDot frame → IsWithoutDot system
     → birth_of before text ≡ birth_of_parts before (frame ∷ system ∷ ordinal ∷ [])
 unfolding birth_of
-birth_of_split before text frame others system ordinal e e' f s = rw (e, slice_split_at is_dot frame 46 others (fails frame f) refl, e', slice_split_at is_dot system 46 ordinal (fails system s) refl)
-    (search (rules, cases_Bool (is_decimal ordinal), slice_split_none, fails, decimal_without_dot, one_part, ordinal_refused, number_refused))
+birth_of_split before text frame others system ordinal e e' f s = rw
+    (e, slice_split_at is_dot frame 46 others (fails frame f) refl, e', slice_split_at is_dot system 46 ordinal (fails system s) refl)
+    (search (
+      rules,
+      cases_Bool (is_decimal ordinal),
+      slice_split_none,
+      fails,
+      decimal_without_dot,
+      one_part,
+      ordinal_refused,
+      number_refused,
+    ))

@@ -3,7 +3,7 @@ pub use Rattle.std.proofs.Common.{All, BTreeMap, Bool, Bor, Equal, Err, Global, 
 pub use Rattle.std.proofs.lemmas.Bool.{cases_Bool, cond-false, lt-leb, ne_eqb}
 pub use Rattle.std.proofs.lemmas.Cmp.{nat_list_cmp_total, tied_itself}
 pub use Rattle.std.proofs.lemmas.Grind.{common_steps}
-pub use Rattle.std.proofs.lemmas.List.{append-nil, get_or_default, length-map, map-append, take-map}
+pub use Rattle.std.proofs.lemmas.List.{append-nil, drop_more, get_or-map, get_or_default, length-map, map-append, take-map, take_more}
 pub use Rattle.std.proofs.lemmas.List.Splits.{join_with_byte-slice_split, slice_split_at, slice_split_none}
 pub use Rattle.std.proofs.lemmas.List.Sums.{fold-append}
 pub use Rattle.std.proofs.lemmas.Map.Text.{btree_map_updates_str, is_eq-slice_cmp}

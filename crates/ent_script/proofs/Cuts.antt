@@ -1,6 +1,5 @@
 -- Values that are cut, beside the members of an object as they are put in.
-use Rattle.ent_script.proofs.Common.{common_steps, ◌≡◌, ℕ, List, [], ◌∷◌, Some, String, Vec, BTreeMap, Global, string_bytes, string_cmp, refl, rules, ◌<◌, ◌-◌, length, arith, Ordering, Bor, nat_cmp, slice_cmp, match_ordering, leaf_data, leaves_of, Leaf, insert_entry, Token, value, items, members, value-begin_array, value-begin_object, of_json, of_items, of_members, converted, Data, array, object, Items, Members, no_members, member, put, view, items_view, members_view, Value, Array, Object, the_lemmas, cut, cut_members}
-use Rattle.ent_script.proofs.Turns.{converted-array, converted-object}
+use Rattle.ent_script.proofs.Common.{common_steps, ◌≡◌, ℕ, List, [], ◌∷◌, String, Vec, BTreeMap, Global, string_bytes, string_cmp, refl, rules, arith, Bor, nat_cmp, slice_cmp, leaf_data, leaves_of, Leaf, insert_entry, Data, array, object, Members, no_members, member, put, view, items_view, members_view, Value, Array, Object, the_lemmas, cut, cut_members}
 
 pub view-Array : (v : Vec Value Global) → view (Array v) ≡ array (items_view v.items)
 view-Array v = search (rules, the_lemmas)
@@ -13,30 +12,13 @@ pub members_view-insert_entry : (es : List (String Global × Value)) (k : String
 members_view-insert_entry [] k v = refl
 members_view-insert_entry (e ∷ es) k v = search (rules, members_view-insert_entry es k v)
 
-leaves_of-match_ordering : (o : Ordering) (a b c : List (Bor (List ℕ) × Leaf))
-    → leaves_of (match_ordering o a b c) ≡ match_ordering o (leaves_of a) (leaves_of b) (leaves_of c)
-leaves_of-match_ordering it a b c = search rules
-
 pub leaves_of-insert_entry : (es : List (Bor (List ℕ) × Leaf)) (k : Bor (List ℕ)) (leaf : Leaf)
     → leaves_of (insert_entry (λ x y. slice_cmp nat_cmp x.now y.now) es k leaf)
     ≡ put k.now (leaf_data leaf) (leaves_of es)
 leaves_of-insert_entry [] k leaf = refl
-leaves_of-insert_entry (e ∷ es) k leaf = search (rules, leaves_of-match_ordering, leaves_of-insert_entry es k leaf)
+leaves_of-insert_entry (e ∷ es) k leaf = search (rules, leaves_of-insert_entry es k leaf)
 
 pub cut_members-put : (levels : ℕ) (k : List ℕ) (d : Data) (ms : Members)
     → cut_members levels (put k d ms) ≡ put k (cut levels d) (cut_members levels ms)
 cut_members-put levels k d no_members = refl
 cut_members-put levels k d (member l e ms) = grind (arith, common_steps, cut_members-put levels k d ms)
-
-pub opened_array : (depth : ℕ) (ts r : List Token) (d : Data) → converted of_json (value depth (Token.begin_array ∷ ts))
-    ≡ Some (d, r) → (0 < depth) × ((ds : Items) × (d ≡ array ds)
-    × (converted of_items (items (value (depth - 1)) (length ts) ts) ≡ Some (ds, r)))
-unfolding value
-opened_array it ts r d e = search (rules, value-begin_array, converted-array)
-
-pub opened_object : (depth : ℕ) (ts r : List Token) (d : Data)
-    → converted of_json (value depth (Token.begin_object ∷ ts)) ≡ Some (d, r)
-    → (0 < depth) × ((ms : Members) × (d ≡ object ms) × (converted (λ ms. of_members ms no_members)
-    (members (value (depth - 1)) (length ts) ts) ≡ Some (ms, r)))
-unfolding value
-opened_object it ts r d e = search (rules, value-begin_object, converted-object)

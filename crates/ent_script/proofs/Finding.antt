@@ -1,5 +1,5 @@
--- Of a text that is read as a value: what each step of a reader finds.
-use Rattle.ent_script.proofs.Common.{rules, ◌≡◌, ℕ, ◌-◌, List, [], ◌∷◌, false, Option, Some, None, option_map, refl, sym, ap, ◌∙◌, Token, Parse, parse_map, after_end_array, read_key, items, members, value, value_is, Data, Items, no_items, item, Members, put, as_array, as_object, get, tokens, begins_object, of_json, of_items, of_members, converted, read}
+-- Of a text that is read as a value: what each step of a reader finds, and what it passed over.
+use Rattle.ent_script.proofs.Common.{rules, ◌≡◌, ℕ, ◌-◌, List, [], ◌∷◌, false, Option, Some, None, option_map, refl, sym, ap, ◌∙◌, Token, Parse, parse_map, after_end_array, read_key, items, members, value, value_is, Data, Items, no_items, item, Members, put, as_array, as_object, get, tokens, begins_object, of_json, of_items, of_members, converted, read, ◌+◌, length, list_of, left}
 use Rattle.json.specs.Json as json
 use Rattle.ent_script.proofs.Turns.{item_read, item_refused, member_read, member_refused, key_refused, converted-object, converted-array}
 
@@ -17,7 +17,7 @@ module _ (p : Parse json.Json) where
       → (d : Data) × (r : List Token) × (later : Items) × (ds ≡ item d later) × (converted of_json (p ts) ≡ Some (d, r))
       × (converted of_items (items p (n - 1) r) ≡ Some (later, rest))
   unfolding items
-  next_by it n ts rest ds first going e = search (rules, impossible, item_refused, item_read, mapped)
+  next_by it n ts rest ds first going e = search (rules, item_refused, item_read, mapped)
 
   pub next_item : (n : ℕ) (ts rest : List Token) (ds : Items) → after_end_array ts ≡ None
       → converted of_items (items p n ts) ≡ Some (ds, rest) → (d : Data) × (r : List Token) × (later : Items) × (ds
@@ -28,14 +28,14 @@ module _ (p : Parse json.Json) where
   pub last_item : (n : ℕ) (ts r rest : List Token) (ds : Items) → after_end_array ts ≡ Some r
       → converted of_items (items p n ts) ≡ Some (ds, rest) → (ds ≡ no_items) × (r ≡ rest)
   unfolding items
-  last_item n ts r rest ds over e = search (rules, impossible)
+  last_item n ts r rest ds over e = search rules
 
   member_by : (o : Option (Data × List Token)) (n : ℕ) (k : List ℕ) (ts s rest : List Token) (old ms : Members)
       → converted of_json (p s) ≡ o → read_key ts ≡ Some (Some k, s) → converted (λ ms. of_members ms old) (members p n
       ts) ≡ Some (ms, rest) → (d : Data) × (r : List Token) × (converted of_json (p s) ≡ Some (d, r))
       × (converted (λ ms. of_members ms (put k d old)) (members p (n - 1) r) ≡ Some (ms, rest))
   unfolding members
-  member_by it n k ts s rest old ms first key e = search (rules, impossible, member_refused, member_read)
+  member_by it n k ts s rest old ms first key e = search (rules, member_refused, member_read)
 
   pub next_member : (n : ℕ) (k : List ℕ) (ts s rest : List Token) (old ms : Members) → read_key ts ≡ Some (Some k, s)
       → converted (λ ms. of_members ms old) (members p n ts) ≡ Some (ms, rest)
@@ -46,7 +46,7 @@ module _ (p : Parse json.Json) where
   pub last_member : (n : ℕ) (ts r rest : List Token) (old ms : Members) → read_key ts ≡ Some (None, r)
       → converted (λ ms. of_members ms old) (members p n ts) ≡ Some (ms, rest) → (ms ≡ old) × (r ≡ rest)
   unfolding members
-  last_member n ts r rest old ms over e = search (rules, impossible)
+  last_member n ts r rest old ms over e = search rules
 
   pub no_key : (n : ℕ) (ts rest : List Token) (old ms : Members) {P : Type 0} → read_key ts ≡ None
       → converted (λ ms. of_members ms old) (members p n ts) ≡ Some (ms, rest) → P
@@ -88,3 +88,21 @@ no_object depth ts r d k other e = search (rules, impossible, mapped, converted-
 pub whole_text : (text : List ℕ) (d : Data) → read text ≡ Some d → converted of_json (value 127 (tokens text)) ≡ Some
     (d, [])
 whole_text text d e = search (rules, impossible)
+
+module _ (p : Parse json.Json) where
+  -- there is one item less
+  pub item_over : (n : ℕ) (ts over rest : List Token) (ds : Items) → after_end_array ts ≡ None
+      → left (converted of_json (p ts)) ≡ Some over → converted of_items (items p n ts) ≡ Some (ds, rest)
+      → (later : Items) × (length (list_of ds) ≡ length (list_of later) + 1)
+      × (converted of_items (items p (n - 1) over) ≡ Some (later, rest))
+  item_over n ts over rest ds going gone e = let next = next_item p n ts rest ds going e in search (rules, passed)
+
+  module _ (n : ℕ) (k : List ℕ) (ts s rest : List Token) (old ms : Members) (named : read_key ts ≡ Some (Some k, s))
+      (e : converted (λ ms. of_members ms old) (members p n ts) ≡ Some (ms, rest)) where
+    -- its name has some value
+    pub member_over : (over : List Token) → left (converted of_json (p s)) ≡ Some over
+        → (d : Data) × (converted (λ ms. of_members ms (put k d old)) (members p (n - 1) over) ≡ Some (ms, rest))
+    member_over over gone = search (rules, next_member, passed)
+
+    pub member_not_over : {P : Type 0} → left (converted of_json (p s)) ≡ None → P
+    member_not_over gone = search (rules, next_member, not_passed)

@@ -1,8 +1,8 @@
 -- The keys of an operation as they are put in, and what it is by them.
-use Rattle.ent_script.proofs.Common.{rules, ◌≡◌, ℕ, List, [], ◌∷◌, Bool, true, false, ◌&&◌, Option, Some, None, option_map, is_some, bytes_eq, refl, option_and_then, Err, ◌||◌, bytes_eq-Decides, list_any, Data, object, Members, no_members, member, put, as_object, data_of, Part, cut, IsUnder, AreAmong, AreFields, of_fields, keys_among, pairs_of, has_keys, is_spawn, is_spawn_many, is_insert, is_remove, is_despawn, of_kind, operation_of, bound_name, as_name, Fields, Kind, Bor, option_copied}
+use Rattle.ent_script.proofs.Common.{rules, ◌≡◌, ℕ, List, Bool, true, false, ◌&&◌, Option, Some, None, option_map, is_some, bytes_eq, refl, Err, bytes_eq-Decides, list_any, Data, object, Members, no_members, member, put, as_object, data_of, Part, cut, IsUnder, AreAmong, AreFields, of_fields, keys_among, pairs_of, has_keys, is_spawn, is_spawn_many, is_insert, is_remove, is_despawn, of_kind, operation_of, Fields, Kind, Bor, option_copied, ◌||◌}
 use Rattle.ent_script.specs.declared.cause.Cause.TheVariants as cause
 use Rattle.ent_script.specs.declared.kind.Kind.TheVariants as kinds
-use Rattle.ent_script.proofs.CutMeanings.{bundle-cut, with-cut, count-cut, binding-cut, removed-cut, target-cut, as_name-cut}
+use Rattle.ent_script.proofs.CutMeanings.{bundle-cut, with-cut, count-cut, binding-cut, removed-cut, target-cut}
 use Rattle.ent_script.proofs.Puts.{found_here, found_before, tied}
 
 -- ---- whether each key is one of some
@@ -44,39 +44,30 @@ under_before name k d ms f under e = search (rules, found_before)
 pub apart : (name other k : List ℕ) → bytes_eq k name ≡ true → bytes_eq name other ≡ false → bytes_eq k other ≡ false
 apart name other k e differ = search (rules, bytes_eq-Decides)
 
-there : (f : Option Part) (o : Option Data) → option_map data_of f ≡ option_map (cut 1) o → is_some f ≡ is_some o
-there f o e = search rules
-
 -- ---- what an operation is
 
-module _ (k : List ℕ) (allowed : List (List ℕ)) (ms : Members) (f : Option Part) (among : Bool) (under : IsUnder k f ms)
-    (are : AreAmong allowed among ms) where
-  pub one_there : is_some f ≡ true → among ≡ has_keys (k ∷ []) allowed (object ms)
-  unfolding has_keys
-  one_there is = search (rules, there)
+module _ (f : Fields) (ms : Members) (at : AreFields f ms) where
+  pub spawn_is : is_spawn (object ms) ≡ (is_some f.spawn && f.kinds.spawn)
+  unfolding is_spawn has_keys
+  spawn_is = search (rules, at.kinds)
 
-  pub one_absent : is_some f ≡ false → false ≡ has_keys (k ∷ []) allowed (object ms)
-  unfolding has_keys
-  one_absent is = search (rules, there)
+  pub spawn_many_is : is_spawn_many (object ms) ≡ (is_some f.spawn_many && f.kinds.spawn_many)
+  unfolding is_spawn_many has_keys
+  spawn_many_is = search (rules, at.kinds)
 
-module _ (k l : List ℕ) (allowed : List (List ℕ)) (ms : Members) (f g : Option Part) (among : Bool)
-    (under : IsUnder k f ms) (beside : IsUnder l g ms) (are : AreAmong allowed among ms) where
-  pub two_there : is_some f ≡ true → is_some g ≡ true → among ≡ has_keys (k ∷ l ∷ []) allowed (object ms)
-  unfolding has_keys
-  two_there is too = search (rules, there)
+  pub insert_is : is_insert (object ms) ≡ (is_some f.insert && (is_some f.on && f.kinds.insert))
+  unfolding is_insert has_keys
+  insert_is = search (rules, at.kinds)
 
-  pub two_first : is_some f ≡ false → false ≡ has_keys (k ∷ l ∷ []) allowed (object ms)
-  unfolding has_keys
-  two_first is = search (rules, there)
+  pub remove_is : is_remove (object ms) ≡ (is_some f.remove && (is_some f.on && f.kinds.remove))
+  unfolding is_remove has_keys
+  remove_is = search (rules, at.kinds)
 
-  pub two_second : is_some f ≡ true → is_some g ≡ false → false ≡ has_keys (k ∷ l ∷ []) allowed (object ms)
-  unfolding has_keys
-  two_second is too = search (rules, there)
+  pub despawn_is : is_despawn (object ms) ≡ (is_some f.despawn && f.kinds.despawn)
+  unfolding is_despawn has_keys
+  despawn_is = search (rules, at.kinds)
 
 -- ---- what its fields mean
-
-name-cut : (o : Option Data) → option_and_then as_name (option_map (cut 1) o) ≡ option_and_then as_name o
-name-cut it = search (rules, as_name-cut)
 
 pub lent : (r : Option (Bor Part)) → option_map (λ (v : Bor Part). data_of v.now) r
     ≡ option_map data_of (option_copied r)
@@ -92,9 +83,6 @@ module _ (components bound : List (List ℕ)) (before : Option ℕ) (f : Fields)
   of_fields-means kinds.Insert = search (rules, bundle-cut, target-cut, at)
   of_fields-means kinds.Remove = search (rules, removed-cut, target-cut, at)
   of_fields-means kinds.Despawn = search (rules, target-cut, at)
-
-  pub name_under : option_and_then as_name (option_map data_of f.binds) ≡ bound_name (object ms)
-  name_under = search (rules, name-cut)
 
 -- what is no object is no operation
 pub no_operation : (components bound : List (List ℕ)) (before : Option ℕ) (d : Data) → as_object d ≡ None

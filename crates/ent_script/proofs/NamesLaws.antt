@@ -1,5 +1,5 @@
 -- Names and their numbers.
-use Rattle.ent_script.proofs.Common.{length-map, map-append, rules, ◌≡◌, ℕ, ◌+◌, ◌<◌, Bool, false, List, [], ◌∷◌, ◌++◌, length, map, Option, Some, None, option_map, is_some, IfSome, cond, refl, sym, ◌∙◌, arith, bytes_eq, true≢false, suc, add-one, Bor, BTreeMap, common_steps, get_by, Updates, slice_cmp, btree_map_updates_str, bytes_eq-Decides, Data, as_name, number_among, with_name, new_name, HaveNumbers}
+use Rattle.ent_script.proofs.Common.{length-map, map-append, rules, ◌≡◌, ℕ, ◌<◌, Bool, false, List, [], ◌∷◌, ◌++◌, length, Option, Some, None, is_some, IfSome, cond, refl, sym, ◌∙◌, arith, bytes_eq, true≢false, Bor, BTreeMap, common_steps, get_by, Updates, slice_cmp, btree_map_updates_str, bytes_eq-Decides, Data, as_name, number_among, with_name, new_name, HaveNumbers}
 use Rattle.std.specs.Ordering.{nat_cmp}
 
 -- a name's number is less than how many there are
@@ -12,32 +12,27 @@ abbrev pub first_of : Option ℕ → Option ℕ → Option ℕ
 first_of None other = other
 first_of (Some n) other = Some n
 
-later : (found : Option ℕ) (b : Bool) (n : ℕ) → option_map (λ p. p + 1) (first_of found (cond b (Some n) None))
-    ≡ first_of (option_map (λ p. p + 1) found) (cond b (Some (suc n)) None)
-later it b n = search (rules, add-one)
-
 number_among-append : (text name : List ℕ) (names : List (List ℕ)) → number_among text (names ++ name ∷ []) ≡ first_of
     (number_among text names) (cond (bytes_eq name text) (Some (length names)) None)
 number_among-append text name [] = refl
-number_among-append text name (first ∷ others) = search (rules, later, number_among-append text name others)
+number_among-append text name (first ∷ others) = grind (arith, common_steps, number_among-append text name others)
 
 pub at_end : (text name : List ℕ) (names : List (List ℕ)) → number_among name names ≡ None
     → cond (bytes_eq name text) (Some (length names)) (number_among text names) ≡ number_among text (names ++ name ∷ [])
-at_end text name names none = search (rules, bytes_eq-Decides, number_among-append)
-
-map_now : (names : List (Bor (List ℕ))) (name : Bor (List ℕ)) → map (λ n. n.now) (names ++ name ∷ []) ≡ map (λ n. n.now)
-    names ++ name.now ∷ []
-map_now names name = search (rules, map-append)
-
-length_now : (names : List (Bor (List ℕ))) → length names ≡ length (map (λ n. n.now) names)
-length_now names = sym (length-map names (λ n. n.now))
+at_end text name names none = search (rules, number_among-append, bytes_eq-Decides)
 
 -- a new name goes last
 pub numbers_added : (names : List (Bor (List ℕ))) (numbers after : BTreeMap (Bor (List ℕ)) ℕ) (name : Bor (List ℕ))
     (n : ℕ) → n ≡ length names → HaveNumbers names numbers → get_by (λ k. slice_cmp nat_cmp name.now k.now) numbers
     ≡ None → Updates (λ x y. slice_cmp nat_cmp x.now y.now) numbers after name (Some n)
     → HaveNumbers (names ++ name ∷ []) after
-numbers_added names numbers after name n count old none updates = λ text. rw (btree_map_updates_str name.now numbers after (Some n) updates text, old text, count, length_now names, map_now names name) (at_end text name.now _ (sym (old name.now) ∙ none))
+numbers_added names numbers after name n count old none updates = λ text. rw (
+  btree_map_updates_str name.now numbers after (Some n) updates text,
+  old text,
+  count,
+  ← length-map names (λ n. n.now),
+  map-append,
+) (at_end text name.now _ (sym (old name.now) ∙ none))
 
 pub none_of : (found : Option ℕ) (b : Bool) → b ≡ is_some found → b ≡ false → found ≡ None
 none_of it b e h = search (rules, true≢false)

@@ -1,7 +1,20 @@
 -- What stands behind the bracket that a reader took, and behind a value that it passed over.
-use Rattle.ent_script.proofs.Common.{rules, ◌≡◌, ◌-◌, ℕ, [], ◌∷◌, List, length, Some, None, Bool, true, false, tokens, Token, items, members, value, left_some, Data, Items, Members, array, object, no_members, as_array, as_object, get, of_json, of_items, of_members, converted, read, left, BeginsObject, BeginsArray, begins_object, Ok}
-use Rattle.ent_script.proofs.Cuts.{opened_object}
+use Rattle.ent_script.proofs.Common.{rules, ◌≡◌, ◌-◌, ℕ, [], ◌∷◌, List, length, Some, None, Bool, true, false, tokens, Token, items, members, value, left_some, Data, Items, Members, array, object, no_members, as_array, as_object, get, of_json, of_items, of_members, converted, read, left, BeginsObject, BeginsArray, begins_object, Ok, ◌<◌}
+use Rattle.ent_script.proofs.Turns.{converted-array, converted-object}
 use Rattle.ent_script.proofs.Finding.{whole_text, no_object}
+
+pub opened_array : (depth : ℕ) (ts r : List Token) (d : Data) → converted of_json (value depth (Token.begin_array ∷ ts))
+    ≡ Some (d, r) → (0 < depth) × ((ds : Items) × (d ≡ array ds)
+    × (converted of_items (items (value (depth - 1)) (length ts) ts) ≡ Some (ds, r)))
+unfolding value
+opened_array it ts r d e = search (rules, converted-array)
+
+pub opened_object : (depth : ℕ) (ts r : List Token) (d : Data)
+    → converted of_json (value depth (Token.begin_object ∷ ts)) ≡ Some (d, r)
+    → (0 < depth) × ((ms : Members) × (d ≡ object ms) × (converted (λ ms. of_members ms no_members)
+    (members (value (depth - 1)) (length ts) ts) ≡ Some (ms, r)))
+unfolding value
+opened_object it ts r d e = search (rules, converted-object)
 
 -- whether the value was an array
 module _ (depth : ℕ) (b : Bool) (ts : List Token) (d : Data) (rest : List Token)

@@ -1,5 +1,5 @@
 -- What is kept of the top of a text means the same heading.
-use Rattle.ent_script.proofs.Common.{rules, ◌≡◌, ℕ, List, [], ◌∷◌, map, refl, false, Option, Some, None, option_map, codes, bytes_eq, Token, left_some, Data, null, object, Members, no_members, member, put, get, get_member, as_object, cut, pairs_of, keys_among, whole_within, heading_of, or_absent, left, head, heads}
+use Rattle.ent_script.proofs.Common.{rules, ◌≡◌, ℕ, List, [], ◌∷◌, map, refl, false, Option, Some, None, option_map, codes, bytes_eq, Token, left_some, Data, null, object, Members, no_members, member, put, get, get_member, as_object, cut, pairs_of, keys_among, heading_of, left, head, heads}
 use Rattle.ent_script.proofs.CutMeanings.{whole-cut}
 use Rattle.ent_script.proofs.Puts.{tied}
 
@@ -28,14 +28,9 @@ get_member-heads : (q : List ℕ) (ms : Members) → bytes_eq q (codes "componen
 get_member-heads q no_members other = refl
 get_member-heads q (member k d ms) other = search (rules, tied q k, get_member-heads q ms other)
 
-part-heads : (absent low high : ℕ) (q : List ℕ) (ms : Members) → bytes_eq q (codes "components") ≡ false
-    → or_absent absent (whole_within low high) (get_member q (heads ms))
-    ≡ or_absent absent (whole_within low high) (get_member q ms)
-part-heads absent low high q ms other = search (rules, get_member-heads, whole-cut)
-
 pub heading_of-heads : (ms : Members) → heading_of (object (heads ms)) ≡ heading_of (object ms)
 unfolding heading_of
-heading_of-heads ms = search (rules, pairs_of-heads, among-headed, part-heads)
+heading_of-heads ms = search (rules, pairs_of-heads, among-headed, get_member-heads, whole-cut)
 
 -- what is no object has no heading
 pub no_heading : (d : Data) → as_object d ≡ None → heading_of null ≡ heading_of d

@@ -1,5 +1,5 @@
--- The values in memory, and the lists that they are seen as.
-use Rattle.ent_script.proofs.Common.{rules, ◌≡◌, ℕ, List, [], ◌∷◌, map, Option, Some, None, option_map, String, Vec, BTreeMap, Global, string_bytes, Bor, refl, sym, ap, bytes_eq, length, arith, slice_get, Data, Items, Members, view, items_view, members_view, Value, length-map, list_all, list_any, keys_of, only, list_of, pairs_of, keys_among, leaf_data, leaves_of, Leaf}
+-- The values in memory, and the lists that they are seen as. And the members of a bundle, one after another.
+use Rattle.ent_script.proofs.Common.{rules, ◌≡◌, ℕ, List, [], ◌∷◌, map, Option, Some, None, option_map, String, Vec, BTreeMap, Global, string_bytes, Bor, refl, sym, ap, bytes_eq, length, arith, slice_get, Data, Items, Members, view, items_view, members_view, Value, length-map, list_all, list_any, keys_of, only, list_of, pairs_of, keys_among, leaf_data, leaves_of, Leaf, Result, Ok, Err, Bundle, with_put, Cause}
 
 abbrev pub pair_view : String Global × Value → List ℕ × Data
 pair_view m = (string_bytes m.0, view m.1)
@@ -9,7 +9,7 @@ leaf_view m = (m.0.now, leaf_data m.1)
 
 pub list_of-items_view : (vs : List Value) → list_of (items_view vs) ≡ map view vs
 list_of-items_view [] = refl
-list_of-items_view (v ∷ vs) = ap (λ (ds : List Data). view v ∷ ds) (list_of-items_view vs)
+list_of-items_view (v ∷ vs) = search (rules, list_of-items_view vs)
 
 pub pairs_of-members_view : (ms : List (String Global × Value)) → pairs_of (members_view ms) ≡ map pair_view ms
 pairs_of-members_view [] = refl
@@ -42,16 +42,20 @@ pub keys_lent : (ms : List (String Global × Value)) (allowed : List (Bor (List 
     → list_all (λ key. list_any (λ name. bytes_eq (string_bytes key) name.now) allowed) (keys_of ms)
     ≡ keys_among (map (λ name. name.now) allowed) (map pair_view ms)
 keys_lent [] allowed = refl
-keys_lent (m ∷ ms) allowed = rw (any_lent (string_bytes m.0) allowed, keys_lent ms allowed)
+keys_lent (m ∷ ms) allowed = search (rules, any_lent (string_bytes m.0) allowed, keys_lent ms allowed)
 
 -- the only member
 pub only_member : (ms : List (Bor (List ℕ) × Leaf)) (k : Bor (List ℕ)) (leaf : Leaf) → length ms ≡ 1
     → slice_get ms 0 ≡ Some (k, leaf) → Some (k.now, leaf_data leaf) ≡ only (pairs_of (leaves_of ms))
-only_member [] k leaf one e = absurd (omega (arith, one))
 only_member (m ∷ []) k leaf one e = sym (ap (option_map leaf_view) e)
-only_member (m ∷ n ∷ ms) k leaf one e = absurd (omega (arith, one))
+only_member _ k leaf one e = absurd (omega (arith, one))
 
 pub not_only : (ms : List (Bor (List ℕ) × Leaf)) → (length ms ≡ 1 → ⊥) → only (pairs_of (leaves_of ms)) ≡ None
 not_only [] other = refl
 not_only (m ∷ []) other = absurd (other refl)
 not_only (m ∷ n ∷ ms) other = refl
+
+-- the bundle so far, with what is read after it
+abbrev pub onto : Bundle → Result Bundle Cause → Result Bundle Cause
+onto bundle (Ok items) = Ok (with_put bundle items)
+onto bundle (Err c) = Err c

@@ -1,6 +1,5 @@
 -- The handles of the living entities that pass, by birth and then by handle.
-use Rattle.ent_storage.proofs.Common.{All-map, All-contains, Contains-append_right, rules, ◌≡◌, ◌≢◌, ℕ, zero, suc, ◌<◌, Bool, true, false, cond, List, [], ◌∷◌, map, length, get_or, Some, Contains, IsSomeAnd, IsTrue, refl, sym, ap, ◌∙◌, arith, common_steps, Less, is_lt, is_eq, eq_by_cmp, ordering_then, ordering_reverse, IsTotalOrder, then_total, on_total, eq_by_cmp_equiv, All, AllPairs, IsDistinct, get_or_default, sorted_far, ranks_by, All-permutation, Contains-permutation, All-filter, filter_passes, AllPairs-filter, IsDistinct-from_apart, IsDistinct-IsPermutation, apart_from_distinct, FinMap, Birth, birth_cmp_total, Handle, handle_cmp, handle_cmp_total, handle_cmp-IsAntisymmetric, LivingEntity, Entity, entity_of, map_of, IsIndexed, birth_order, pair_cmp, ListsByBirth, IsInOrder, Ordering, filter}
-use Rattle.std.specs.FinMap as finite
+use Rattle.ent_storage.proofs.Common.{All-map, All-contains, Contains-append_right, rules, ◌≡◌, ◌≢◌, ℕ, zero, suc, ◌<◌, Bool, true, false, cond, List, [], ◌∷◌, map, length, get_or, Some, Contains, IsSomeAnd, IsTrue, refl, ap, ◌∙◌, arith, common_steps, Less, is_lt, is_eq, eq_by_cmp, ordering_then, ordering_reverse, IsTotalOrder, then_total, on_total, eq_by_cmp_equiv, All, AllPairs, IsDistinct, get_or_default, sorted_far, ranks_by, All-permutation, Contains-permutation, All-filter, filter_passes, AllPairs-filter, IsDistinct-from_apart, IsDistinct-IsPermutation, apart_from_distinct, FinMap, Birth, birth_cmp_total, Handle, handle_cmp, handle_cmp_total, handle_cmp-IsAntisymmetric, LivingEntity, Entity, entity_of, map_of, IsIndexed, birth_order, pair_cmp, ListsByBirth, IsInOrder, Ordering, filter, fin_get}
 use Rattle.ent_storage.proofs.Keys.{apart, AllPairs-map}
 use Rattle.ent_storage.proofs.Indexed.{some_entity, get_placed, placed_from_get, distinct}
 
@@ -45,14 +44,14 @@ module _ (living : List LivingEntity) (index : FinMap handle_cmp ℕ) (indexed :
   -- an entity that passes has this birth and this handle
   pub record IsBorn (b : Birth × Handle) : Type 0 where
     pub entity : Entity
-    pub there : finite.get (map_of living) b.1 ≡ Some entity
+    pub there : fin_get (map_of living) b.1 ≡ Some entity
     pub birth : entity.birth ≡ b.0
     pub pass : passes entity ≡ true
 
   abbrev pub alike : Birth × Handle → Birth × Handle → Bool
   alike a b = eq_by_cmp handle_cmp a.1 b.1
 
-  pub all_there : All (λ entity. finite.get (map_of living) entity.handle ≡ Some (entity_of entity)) living
+  pub all_there : All (λ entity. fin_get (map_of living) entity.handle ≡ Some (entity_of entity)) living
   all_there k d l = search (rules, get_placed)
 
   -- the births are those of the entities that pass, each once
@@ -73,38 +72,30 @@ module _ (living : List LivingEntity) (index : FinMap handle_cmp ℕ) (indexed :
     in_order : (i j : ℕ) (b : Birth × Handle) → i < j → j < length sorted → birth_order (map_of living) (get_or sorted i
         b).1 (get_or sorted j b).1 ≡ Less
     in_order i j b l k =
-        let x = get_or sorted i b in
-        let y = get_or sorted j b in
         let born_x : IsBorn (get_or sorted i b) = all_sorted i b (omega arith) in
         let born_y : IsBorn (get_or sorted j b) = all_sorted j b k in
         let unturned = sorted_far (λ (p q : Birth × Handle). is_lt (pair_cmp p q)) (ranks_by pair_cmp_total (λ p. p))
         sorted ordered.in_order i j b (omega arith) k in
-        let turned = ap is_lt (sym (pair_cmp_total.antisymm y x)) ∙ unturned in
-        let differ = apart_from_distinct alike sorted i j b sorted_apart l k in
-        search (rules, strictly)
+        let turned = pair_cmp_total.antisymm (get_or sorted j b) (get_or sorted i b) in
+        search (rules, strictly, apart_from_distinct alike sorted i j b sorted_apart l k)
 
     rising : AllPairs (λ a b. birth_order (map_of living) a b ≡ Less) (map (λ (born : Birth × Handle). born.1) sorted)
-    rising = AllPairs-map (λ a b. birth_order (map_of living) a b ≡ Less) (λ (born : Birth × Handle). born.1) sorted
-        in_order
+    rising = AllPairs-map (λ a b. birth_order (map_of living) a b ≡ Less) (λ (born : Birth × Handle). born.1) _ in_order
 
     from_list : (h : Handle) → Contains (map (λ (born : Birth × Handle). born.1) sorted) h
-        → IsSomeAnd (finite.get (map_of living) h) (λ e. IsTrue (passes e))
-    from_list h at =
-        let holds = All-map (λ (h : Handle). IsSomeAnd (finite.get (map_of living) h) (λ e. IsTrue (passes e)))
-        (λ (born : Birth × Handle). born.1) sorted (λ k b l. let born : IsBorn (get_or sorted k b) = all_sorted k b l in
-        search (rules, born.there, born.pass)) in
-        All-contains (λ (h : Handle). IsSomeAnd (finite.get (map_of living) h) (λ e. IsTrue (passes e))) _ h holds at
+        → IsSomeAnd (fin_get (map_of living) h) (λ e. IsTrue (passes e))
+    from_list h at = All-contains (λ (h : Handle). IsSomeAnd (fin_get (map_of living) h) (λ e. IsTrue (passes e))) _ h
+        (All-map (λ (h : Handle). IsSomeAnd (fin_get (map_of living) h) (λ e. IsTrue (passes e)))
+        (λ (born : Birth × Handle). born.1) sorted (λ k b l. search (rules, all_sorted k b l))) at
 
-    of_entity : (h : Handle) (e : Entity) (i : ℕ) → finite.get (map_of living) h ≡ Some e → finite.get index h ≡ Some i
+    of_entity : (h : Handle) (e : Entity) (i : ℕ) → fin_get (map_of living) h ≡ Some e → fin_get index h ≡ Some i
         → passes e ≡ true → Contains (map (λ (born : Birth × Handle). born.1) sorted) h
     of_entity h e i found placed pass =
         let r : LivingEntity = some_entity h in
         let at = indexed.each_place h i placed in
-        let here = get_placed living index indexed h i r placed in
-        let entity : LivingEntity = get_or living i r in
-        let is : entity_of entity ≡ e = cc in
-        let listed = Contains-permutation births sorted (born_of entity) ordered.permutation
-        (complete i r at.0 (ap passes is ∙ pass)) in
+        let here = get_placed _ _ indexed h i r placed in
+        let is : entity_of (get_or living i r) ≡ e = cc in
+        let listed = Contains-permutation _ _ _ ordered.permutation (complete i r at.0 (ap passes is ∙ pass)) in
         grind (arith, common_steps, contains_map)
 
     pub lists_of : ListsByBirth passes (map_of living) handles
@@ -121,7 +112,7 @@ module _ (living : List LivingEntity) (index : FinMap handle_cmp ℕ) (indexed :
   all_born : All IsBorn births
   all_born = All-map IsBorn born_of chosen (λ k r below. record {
     entity = entity_of (get_or chosen k r);
-    there = All-filter (λ entity. passes (entity_of entity)) (λ entity. finite.get (map_of living) entity.handle
+    there = All-filter (λ entity. passes (entity_of entity)) (λ entity. fin_get (map_of living) entity.handle
         ≡ Some (entity_of entity)) living all_there k r below;
     birth = refl;
     pass = search (rules, filter_passes);
@@ -131,7 +122,7 @@ module _ (living : List LivingEntity) (index : FinMap handle_cmp ℕ) (indexed :
   births_apart = IsDistinct-from_apart alike births (AllPairs-map (λ a b. alike a b ≡ false) born_of chosen
       (λ i j r l k. apart handle_cmp_total handle_cmp-IsAntisymmetric _ _ (AllPairs-filter
       (λ (a b : LivingEntity). a.handle ≢ b.handle) (λ entity. passes (entity_of entity)) living
-      (λ i j d l k e. omega (arith, distinct living index indexed i j d (omega arith) k e)) i j r l k)))
+      (search (rules, arith, distinct)) i j r l k)))
 
   complete : (i : ℕ) (r : LivingEntity) → i < length living → passes (entity_of (get_or living i r)) ≡ true
       → Contains births (born_of (get_or living i r))

@@ -1,16 +1,36 @@
--- The components of the entity at a place are changed.
-use Rattle.ent_storage.proofs.Common.{rules, length-set, ◌≡◌, ℕ, zero, suc, ◌-◌, ◌<◌, List, [], ◌∷◌, length, get_or, set, Some, min, refl, ap, ◌∙◌, arith, get_or_default, FinMap, Handle, handle_cmp, Components, Store, with_components, LivingEntity, change_at, map_of, handles_by_place, counted, IsKeptIndex}
-use Rattle.std.specs.FinMap as finite
+-- The components or the birth of the entity at a place are changed.
+use Rattle.ent_storage.proofs.Common.{rules, length-set, ◌≡◌, ℕ, zero, suc, ◌-◌, ◌<◌, List, [], ◌∷◌, length, get_or, set, Some, refl, ap, ◌∙◌, arith, get_or_default, FinMap, Birth, Handle, handle_cmp, Components, Column, Resident, Store, with_components, with_birth, LivingEntity, change_at, with_birth_at, entities_from, map_of, handles_by_place, counted, IsKeptIndex, fin_get}
 use Rattle.ent_storage.proofs.Indexed.{some_entity, entities_set, get_placed}
 use Rattle.ent_storage.proofs.Counted.{kept_set}
 use Rattle.ent_storage.proofs.Placed.{handles_set}
 
-as_set : (living : List LivingEntity) (i : ℕ) (d : LivingEntity) (change : Components → Components) → i < length living
-    → change_at living i change
+-- the resident at the place is written again with another birth
+pub reborn_from : (n : ℕ) (residents : List Resident) (columns : List Column) (i : ℕ) (birth : Birth)
+    (resident : Resident) → i < length residents → resident ≡ get_or residents i resident
+    → entities_from n (set residents i (record resident { birth = birth })) columns
+    ≡ with_birth_at (entities_from n residents columns) i birth
+reborn_from n [] columns i birth resident l read = absurd (omega arith)
+reborn_from n (r ∷ residents) columns zero birth resident l read = search (rules)
+reborn_from n (r ∷ residents) columns (suc i) birth resident l read = search
+    (rules, reborn_from (suc n) residents columns i birth resident (omega arith) read)
+
+pub length_reborn : (living : List LivingEntity) (i : ℕ) (birth : Birth)
+    → length (with_birth_at living i birth) ≡ length living
+length_reborn (e ∷ living) (suc i) birth = ap suc (length_reborn living i birth)
+length_reborn living i birth = refl
+
+reborn_set : (living : List LivingEntity) (i : ℕ) (d : LivingEntity) (birth : Birth) → i < length living
+    → with_birth_at living i birth ≡ set living i (record (get_or living i d) { birth = birth })
+reborn_set [] i d birth l = absurd (omega arith)
+reborn_set (e ∷ living) zero d birth l = refl
+reborn_set (e ∷ living) (suc i) d birth l = ap (λ es. e ∷ es) (reborn_set living i d birth (omega arith))
+
+changed_set : (living : List LivingEntity) (i : ℕ) (d : LivingEntity) (change : Components → Components)
+    → i < length living → change_at living i change
     ≡ set living i (record (get_or living i d) { components = change (get_or living i d).components })
-as_set [] i d change l = absurd (omega arith)
-as_set (e ∷ living) zero d change l = refl
-as_set (e ∷ living) (suc i) d change l = ap (λ es. e ∷ es) (as_set living i d change (omega arith))
+changed_set [] i d change l = absurd (omega arith)
+changed_set (e ∷ living) zero d change l = refl
+changed_set (e ∷ living) (suc i) d change l = ap (λ es. e ∷ es) (changed_set living i d change (omega arith))
 
 -- the store in which the components of one entity are changed
 pub record IsChanged (s : Store) (h : Handle) (change : Components → Components)
@@ -20,25 +40,44 @@ pub record IsChanged (s : Store) (h : Handle) (change : Components → Component
   pub spare : room - length living ≡ s.spare
   pub kept : IsKeptIndex living index room
 
-module _ (living : List LivingEntity) (index : FinMap handle_cmp ℕ) (room others : ℕ) (s : Store)
-    (kept : IsKeptIndex living index (min room others)) (view : record
-    { entities = map_of living; places = handles_by_place living; spare = min room others - length living }
-    ≡ s) (h : Handle) (i : ℕ) (placed : finite.get (counted living index) h ≡ Some i) where
+module _ (living : List LivingEntity) (index : FinMap handle_cmp ℕ) (room : ℕ) (kept : IsKeptIndex living index room)
+    (h : Handle) (i : ℕ) (placed : fin_get (counted living index) h ≡ Some i) where
   abbrev was : LivingEntity
   was = get_or living i (some_entity h)
-
-  inside : i < length living
-  inside = (kept.indexed.each_place h i placed).0
 
   its_handle : was.handle ≡ h
   its_handle = (kept.indexed.each_place h i placed).1 (some_entity h)
 
-  at : finite.get (counted living index) was.handle ≡ Some i
-  at = ap (finite.get (counted living index)) its_handle ∙ placed
+  at : fin_get (counted living index) was.handle ≡ Some i
+  at = ap (fin_get (counted living index)) its_handle ∙ placed
 
-  pub changed : (change : Components → Components) (after : List LivingEntity) (now : ℕ)
-      → after ≡ change_at living i change → now ≡ room → IsChanged s h change after index (min now others)
-  changed change after now is same = rw (is, same, as_set living i (some_entity h) change inside, ← view) (record {
+  module _ (birth : Birth) where
+    is_set : with_birth_at living i birth ≡ set living i (record was { birth = birth })
+    is_set = search (rules, reborn_set, some_entity, kept.indexed)
+
+    pub reborn_entities : map_of (with_birth_at living i birth) ≡ with_birth (map_of living) h birth
+    reborn_entities = search (rules, is_set, entities_set, at, its_handle, get_placed)
+
+    pub reborn_handles : handles_by_place (with_birth_at living i birth) ≡ handles_by_place living
+    reborn_handles = search (rules, is_set, handles_set, get_or_default, some_entity)
+
+    pub reborn_kept : IsKeptIndex (with_birth_at living i birth) index room
+    reborn_kept = search (rules, is_set, kept_set, at)
+
+  pub changed : (s : Store) → record {
+    entities = map_of living;
+    places = handles_by_place living;
+    spare = room - length
+        living;
+  } ≡ s → (change : Components → Components) (after : List LivingEntity) (now : ℕ)
+      → after ≡ change_at living i change → now ≡ room → IsChanged s h change after index now
+  changed s view change after now is same = rw (
+    is,
+    same,
+    changed_set living i (some_entity h) change
+        (kept.indexed.each_place h i placed).0,
+    ← view,
+  ) (record {
     entities = search (rules, entities_set, at, its_handle, get_placed);
     places = search (rules, handles_set, get_or_default);
     spare = search (rules, length-set);

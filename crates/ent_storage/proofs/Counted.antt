@@ -1,6 +1,5 @@
 -- The places of an index that count.
-use Rattle.ent_storage.proofs.Common.{get_or-set_same, rules, AllPairs, ◌≡◌, ◌≢◌, ℕ, zero, suc, ◌<◌, ◌≤◌, Bool, true, false, cond, T, List, [], ◌∷◌, ◌+◌, ◌++◌, length, get_or, set, filter, Some, None, is_some, refl, sym, ap, ◌∙◌, arith, Less, Greater, tied_itself, false≢true, get_or_default, length-set, length_push, AllWithin, insert, IsGapFor, filter_passes, FinMap, is_sorted, Handle, handle_cmp, total, same, LivingEntity, IsMovedInto, IsFree, IsIndexed, IsKeptIndex, has_handle_at, counted, Keeps, HasAll}
-use Rattle.std.specs.FinMap as finite
+use Rattle.ent_storage.proofs.Common.{get_or-set_same, rules, AllPairs, ◌≡◌, ◌≢◌, ℕ, zero, suc, ◌<◌, ◌≤◌, Bool, true, false, cond, T, List, [], ◌∷◌, ◌+◌, ◌++◌, length, get_or, set, filter, Some, None, is_some, refl, sym, ap, ◌∙◌, arith, Less, Greater, tied_itself, false≢true, get_or_default, length-set, length_push, AllWithin, insert, IsGapFor, filter_passes, FinMap, is_sorted, Handle, handle_cmp, total, same, LivingEntity, IsMovedInto, IsFree, IsIndexed, IsKeptIndex, has_handle_at, counted, Keeps, HasAll, fin_from_sorted, fin_get, fin_get-from_sorted, fin_get-retain_keys, fin_insert, fin_remove, fin_same_map}
 use Rattle.ent_storage.proofs.Keys.{tied, insert_tells, remove_tells, few_apart}
 use Rattle.ent_storage.proofs.Indexed.{some_not_none, some_entity, indexed_set, indexed_push, indexed_none}
 use Rattle.ent_storage.proofs.Positions.{rising_at}
@@ -21,30 +20,30 @@ stands_from (x ∷ living) q zero d l e = tied total same x.handle q e
 stands_from (x ∷ living) q (suc i) d l e = search (rules, stands_from living)
 
 module _ (living : List LivingEntity) (index : FinMap handle_cmp ℕ) where
-  pub get_counted : (q : Handle) → finite.get (counted living index) q
-      ≡ cond (has_handle_at living q (finite.get index q)) (finite.get index q) None
-  get_counted q = finite.get-retain_keys index (λ h. has_handle_at living h (finite.get index h)) q
-      (λ x e. ap (λ h. has_handle_at living h (finite.get index h)) (sym (same q x e)))
+  pub get_counted : (q : Handle) → fin_get (counted living index) q
+      ≡ cond (has_handle_at living q (fin_get index q)) (fin_get index q) None
+  get_counted q = fin_get-retain_keys index (λ h. has_handle_at living h (fin_get index h)) q
+      (λ x e. ap (λ h. has_handle_at living h (fin_get index h)) (sym (same q x e)))
 
   -- a place that counts is in the index, and has the handle
-  pub counted_gives : (q : Handle) (i : ℕ) → finite.get (counted living index) q ≡ Some i
-      → (finite.get index q ≡ Some i) × (has_handle_at living q (Some i) ≡ true)
+  pub counted_gives : (q : Handle) (i : ℕ) → fin_get (counted living index) q ≡ Some i
+      → (fin_get index q ≡ Some i) × (has_handle_at living q (Some i) ≡ true)
   counted_gives q i e = grind (arith, get_counted q)
 
-  pub counted_has : (q : Handle) (i : ℕ) → finite.get index q ≡ Some i → has_handle_at living q (Some i) ≡ true
-      → finite.get (counted living index) q ≡ Some i
+  pub counted_has : (q : Handle) (i : ℕ) → fin_get index q ≡ Some i → has_handle_at living q (Some i) ≡ true
+      → fin_get (counted living index) q ≡ Some i
   counted_has q i at is = search (rules, get_counted)
 
-  pub counted_none : (q : Handle) → finite.get index q ≡ None → finite.get (counted living index) q ≡ None
+  pub counted_none : (q : Handle) → fin_get index q ≡ None → fin_get (counted living index) q ≡ None
   counted_none q at = search (rules, get_counted)
 
-  pub counted_not : (q : Handle) (i : ℕ) → finite.get index q ≡ Some i → has_handle_at living q (Some i) ≡ false
-      → finite.get (counted living index) q ≡ None
+  pub counted_not : (q : Handle) (i : ℕ) → fin_get index q ≡ Some i → has_handle_at living q (Some i) ≡ false
+      → fin_get (counted living index) q ≡ None
   counted_not q i at is = search (rules, get_counted)
 
   -- residents with an exact index are indexed by each index that has those places too
   pub indexed_counted : (exact : FinMap handle_cmp ℕ) → IsIndexed living exact
-      → ((q : Handle) (i : ℕ) → finite.get exact q ≡ Some i → finite.get index q ≡ Some i)
+      → ((q : Handle) (i : ℕ) → fin_get exact q ≡ Some i → fin_get index q ≡ Some i)
       → IsIndexed living (counted living index)
   indexed_counted exact indexed has = record {
     each_entity = λ i l d. counted_has _ i (has _ i (indexed.each_entity i l d)) (stands_from living _ i d l refl);
@@ -53,12 +52,12 @@ module _ (living : List LivingEntity) (index : FinMap handle_cmp ℕ) where
 
 -- the index after an entity has gone, and after the last one has moved
 pub removed_has : (living : List LivingEntity) (index : FinMap handle_cmp ℕ) (h : Handle) (q : Handle) (i : ℕ)
-    → finite.get (finite.remove (counted living index) h) q ≡ Some i → finite.get index q ≡ Some i
+    → fin_get (fin_remove (counted living index) h) q ≡ Some i → fin_get index q ≡ Some i
 removed_has living index h q i at = let old = counted_gives living index q i in grind (arith, remove_tells total same)
 
 -- a handle that is there without another one is in the index
 pub moved_counts : (living : List LivingEntity) (index : FinMap handle_cmp ℕ) (h m : Handle)
-    → is_some (finite.get (finite.remove (counted living index) h) m) ≡ true → is_some (finite.get index m) ≡ true
+    → is_some (fin_get (fin_remove (counted living index) h) m) ≡ true → is_some (fin_get index m) ≡ true
 moved_counts living index h m is = search (rules, false≢true, removed_has)
 
 -- what is left after a sweep counts still
@@ -78,8 +77,8 @@ kept_copied living old new room more kept all fits = search (rules, indexed_coun
 
 module _ (living : List LivingEntity) (index : FinMap handle_cmp ℕ) (room : ℕ)
     (kept : IsKeptIndex living index room) where
-  pub kept_push : (entity : LivingEntity) (new : FinMap handle_cmp ℕ) → finite.get (counted living index) entity.handle
-      ≡ None → length living < room → finite.get new entity.handle ≡ Some (length living)
+  pub kept_push : (entity : LivingEntity) (new : FinMap handle_cmp ℕ) → fin_get (counted living index) entity.handle
+      ≡ None → length living < room → fin_get new entity.handle ≡ Some (length living)
       → Keeps entity.handle (counted living index) new → IsKeptIndex (living ++ entity ∷ []) new room
   kept_push entity new none fits placed keeps = record {
     indexed = indexed_counted (living ++ entity ∷ []) new _ (indexed_push living (counted living index) kept.indexed
@@ -87,30 +86,27 @@ module _ (living : List LivingEntity) (index : FinMap handle_cmp ℕ) (room : �
     fits = omega (arith, length_push living entity, fits);
   }
 
-  pub kept_set : (i : ℕ) (entity : LivingEntity) → finite.get (counted living index) entity.handle ≡ Some i
+  pub kept_set : (i : ℕ) (entity : LivingEntity) → fin_get (counted living index) entity.handle ≡ Some i
       → IsKeptIndex (set living i entity) index room
   kept_set i entity at = record {
-    indexed = indexed_counted (set living i entity) index (counted living index)
-        (indexed_set living (counted living index) kept.indexed i entity at)
-        (λ q j there. (counted_gives living index q j there).0);
+    indexed = indexed_counted _ _ _ (indexed_set _ _ kept.indexed i _ at)
+        (λ q j there. (counted_gives _ _ q j there).0);
     fits = omega (arith, length-set living i entity, kept.fits);
   }
 
-  module _ (h : Handle) (i : ℕ) (placed : finite.get (counted living index) h ≡ Some i) where
+  module _ (h : Handle) (i : ℕ) (placed : fin_get (counted living index) h ≡ Some i) where
     module _ (left : List LivingEntity) (rest : IsMovedInto living i left) where
-      pub kept_moved : i < length left → (entity : LivingEntity) → entity ≡ get_or left i entity
-          → IsKeptIndex left (finite.insert index entity.handle i) room
-      kept_moved inside entity read = record {
-        indexed = indexed_counted left (finite.insert index entity.handle i)
-            (finite.insert (finite.remove (counted living index) h) entity.handle i) (search (rules, indexed_moved))
-            (λ q j at. grind (arith, insert_tells total same, removed_has));
+      pub kept_moved : i < length left → (m : Handle) → ((d : LivingEntity) → m ≡ (get_or left i d).handle)
+          → IsKeptIndex left (fin_insert index m i) room
+      kept_moved inside m is = record {
+        indexed = indexed_counted left (fin_insert index m i) (fin_insert (fin_remove (counted living index) h) m i)
+            (search (rules, indexed_moved)) (λ q j at. grind (arith, insert_tells total same, removed_has));
         fits = omega (arith, rest.one_less, kept.fits);
       }
 
       pub kept_popped : length left ≤ i → IsKeptIndex left index room
       kept_popped last = record {
-        indexed = indexed_counted left index _ (indexed_popped living (counted living index) kept.indexed h i placed
-            left rest last) (removed_has living index h);
+        indexed = indexed_counted _ _ _ (indexed_popped _ _ kept.indexed h i placed _ rest last) (removed_has _ _ h);
         fits = omega (arith, rest.one_less, kept.fits);
       }
 
@@ -123,22 +119,25 @@ module _ (living : List LivingEntity) (pairs : List (Handle × ℕ)) (rising : T
   abbrev left : List (Handle × ℕ)
   left = filter (counts living) pairs
 
-  pub from_sorted_left : finite.from_sorted {R = handle_cmp} (filter (counts living) pairs)
-      ≡ counted living (finite.from_sorted pairs)
-  from_sorted_left = finite.same_map total same _ _ (λ q. rw (get_counted living (finite.from_sorted pairs) q, finite.get-from_sorted handle_cmp left q (is_sorted-filter total same (counts living) pairs rising), finite.get-from_sorted handle_cmp pairs q rising, find-filter total same (counts living) pairs q rising)
+  pub from_sorted_left : fin_from_sorted {R = handle_cmp} (filter (counts living) pairs)
+      ≡ counted living (fin_from_sorted pairs)
+  from_sorted_left = fin_same_map total same _ _ (λ q. rw (
+    get_counted living (fin_from_sorted pairs) q,
+    fin_get-from_sorted handle_cmp left q (is_sorted-filter total same (counts living) pairs rising),
+    fin_get-from_sorted handle_cmp pairs q rising,
+    find-filter total same (counts living) pairs q rising,
+  )
       (search rules))
 
   at_home : (k : ℕ) (d : Handle × ℕ) → k < length left → ((get_or left k d).1 < length living)
       × ((e : LivingEntity) → (get_or living (get_or left k d).1 e).handle ≡ (get_or left k d).0)
-  at_home k d l = stands living _ _ (filter_passes (counts living) pairs k d l)
+  at_home k d l = search (rules, stands, filter_passes)
 
   -- no two of them have the same place
   apart_places : AllPairs (λ a b. a.1 ≢ b.1) left
   apart_places i j d l k e =
-      let one = (at_home i d (omega arith)).1 (some_entity d.0) in
-      let other = (at_home j d k).1 (some_entity d.0) in
       let less = rising_at total left i j d (is_sorted-filter total same (counts living) pairs rising) l k in
-      search rules
+      search (rules, (at_home i d (omega arith)).1 (some_entity d.0), (at_home j d k).1 (some_entity d.0))
 
   -- so there are no more of them than residents
   pub left_fits : length (filter (counts living) pairs) ≤ length living
@@ -150,8 +149,8 @@ module _ (living : List LivingEntity) (pairs : List (Handle × ℕ)) (rising : T
 pub record IsPut (living : List LivingEntity) (old new : List (Handle × ℕ)) (k : Handle) (v : ℕ)
     : Type 0 where
   pub sorted : T (is_sorted handle_cmp new)
-  pub placed : finite.get (finite.from_sorted {R = handle_cmp} new) k ≡ Some v
-  pub kept : Keeps k (counted living (finite.from_sorted old)) (finite.from_sorted new)
+  pub placed : fin_get (fin_from_sorted {R = handle_cmp} new) k ≡ Some v
+  pub kept : Keeps k (counted living (fin_from_sorted old)) (fin_from_sorted new)
 
 module _ (living : List LivingEntity) (pairs : List (Handle × ℕ)) (rising : T (is_sorted handle_cmp pairs)) (k : Handle)
     (v : ℕ) (p : ℕ) where
@@ -159,19 +158,26 @@ module _ (living : List LivingEntity) (pairs : List (Handle × ℕ)) (rising : T
       (p + 1) (length pairs) → IsFree living pairs p → IsPut living pairs (set pairs p (k, v)) k v
   put_over below above free = record {
     sorted = over_sorted;
-    placed = search (rules, get_at total same (set pairs p (k, v)) over_sorted k p (k, v), get_or-set_same, length-set, free.inside, tied_itself total k);
+    placed = search (
+      rules,
+      get_at total same (set pairs p (k, v)) over_sorted k p (k, v),
+      get_or-set_same,
+      length-set,
+      free.inside,
+      tied_itself total k,
+    );
     kept = λ q i n at.
-        let old = counted_gives living (finite.from_sorted pairs) q i at in
-        finite.get-from_sorted handle_cmp _ q over_sorted
+        let old = counted_gives living (fin_from_sorted pairs) q i at in
+        fin_get-from_sorted handle_cmp _ q over_sorted
         ∙ find-set_other total same k v pairs p q n (other_key q i old.0 old.1) free.inside
-        ∙ sym (finite.get-from_sorted handle_cmp pairs q rising) ∙ old.0;
+        ∙ sym (fin_get-from_sorted handle_cmp pairs q rising) ∙ old.0;
   }
     where
       over_sorted : T (is_sorted handle_cmp (set pairs p (k, v)))
       over_sorted = is_sorted-set total same k v pairs p rising free.inside below above
 
       -- a handle that counts is not the one put over
-      other_key : (q : Handle) (i : ℕ) → finite.get (finite.from_sorted {R = handle_cmp} pairs) q ≡ Some i
+      other_key : (q : Handle) (i : ℕ) → fin_get (fin_from_sorted {R = handle_cmp} pairs) q ≡ Some i
           → has_handle_at living q (Some i) ≡ true → (f : Handle × ℕ) → (get_or pairs p f).0 ≢ q
       other_key q i at is f e =
           let here : (g : Handle × ℕ) → get_or pairs p g ≡ get_or pairs p f = λ g. get_or_default pairs p g f
@@ -183,6 +189,6 @@ module _ (living : List LivingEntity) (pairs : List (Handle × ℕ)) (rising : T
   put_between gap = record {
     sorted = rising_insert total same pairs rising k p v gap;
     placed = grind (arith, map_insert total same pairs rising k p v gap, insert_tells total same);
-    kept = λ q i n at. let old = counted_gives living _ q i at in grind
-        (arith, map_insert total same pairs rising k p v gap, insert_tells total same);
+    kept = λ q i n at. grind
+        (arith, map_insert total same pairs rising k p v gap, insert_tells total same, counted_gives living (fin_from_sorted pairs) q i at);
   }

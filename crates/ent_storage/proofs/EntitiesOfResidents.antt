@@ -1,7 +1,5 @@
 -- The living entities that residents and columns stand for, after each change.
-use Rattle.ent_storage.proofs.Common.{rules, ◌≡◌, ◌≢◌, ℕ, zero, suc, ◌+◌, ◌-◌, ◌<◌, ◌≤◌, false, List, [], ◌∷◌, ◌++◌, map, length, get_or, Some, None, slice_get, take, drop, refl, ap, arith, common_steps, slice_get_past, slice_get-get_or, slice_get_cases, get_or_from_slice_get, cases_eq, option_map, eq_by_cmp, Birth, ComponentId, Handle, handle_cmp, Components, Column, IsMovedDown, Resident, LivingEntity, Living, IsMovedInto, AreColumnsOf, change_at, column_at, value_at, components_at, entities_from, born_at, has_handle_at}
-use Rattle.std.proofs.Common.{option_and_then}
-use Rattle.std.specs.FinMap as finite
+use Rattle.ent_storage.proofs.Common.{rules, ◌≡◌, ◌≢◌, ℕ, zero, suc, ◌+◌, ◌-◌, ◌<◌, ◌≤◌, false, List, [], ◌∷◌, ◌++◌, map, length, get_or, Some, None, slice_get, take, drop, refl, ap, arith, common_steps, slice_get_past, slice_get-get_or, slice_get_cases, get_or_from_slice_get, cases_eq, option_map, eq_by_cmp, Birth, ComponentId, Handle, handle_cmp, Components, Column, IsMovedDown, Resident, LivingEntity, Living, IsMovedInto, AreColumnsOf, change_at, column_at, value_at, components_at, entities_from, born_at, has_handle_at, fin_empty, fin_get, fin_get-empty, option_and_then}
 use Rattle.ent_storage.proofs.ColumnsAtPlaces.{same_components, no_components, get_components}
 
 -- ---- the entity at a place
@@ -24,10 +22,10 @@ entry_from n [] columns i = refl
 entry_from n (r ∷ residents) columns zero = search rules
 entry_from n (r ∷ residents) columns (suc i) = search (rules, entry_from (suc n) residents columns i)
 
-pub at_from : (n : ℕ) (residents : List Resident) (columns : List Column) (i : ℕ) (resident : Resident)
-    (d : LivingEntity) → i < length residents → get_or (entities_from n residents columns) i d
-    ≡ entity_at columns (n + i) (get_or residents i resident)
-at_from n residents columns i resident d l = search (rules, get_or_from_slice_get, entry_from, slice_get-get_or)
+pub at_from : (n : ℕ) (residents : List Resident) (columns : List Column) (i : ℕ) (d : LivingEntity)
+    → i < length residents → get_or (entities_from n residents columns) i d
+    ≡ entity_at columns (n + i) (get_or residents i (record { handle = d.handle; birth = d.birth }))
+at_from n residents columns i d l = search (rules, get_or_from_slice_get, entry_from, slice_get-get_or)
 
 -- and that at a place of what contracts see
 module _ (residents : List Resident) (columns : List Column) (room : ℕ) (living : Living) (i : ℕ)
@@ -36,9 +34,9 @@ module _ (residents : List Resident) (columns : List Column) (room : ℕ) (livin
   pub inside_from : i < length residents
   inside_from = search (rules, length_from)
 
-  pub read_from : (resident : Resident) (d : LivingEntity) → get_or living.entities i d ≡ entity_at columns i (get_or
-      residents i resident)
-  read_from resident d = search (rules, at_from, inside_from)
+  pub read_from : (d : LivingEntity) → get_or living.entities i d
+      ≡ entity_at columns i (get_or residents i (record { handle = d.handle; birth = d.birth }))
+  read_from d = search (rules, at_from, inside_from)
 
 -- ---- the columns are changed
 
@@ -63,7 +61,7 @@ changed_from n (resident ∷ residents) old new (suc i) p change e here others =
 pub pushed_from : (n : ℕ) (residents : List Resident) (columns : List Column) (resident : Resident)
     → ((id : ComponentId) → value_at columns (n + length residents) id ≡ None)
     → entities_from n (residents ++ resident ∷ []) columns ≡ entities_from n residents columns
-    ++ record { handle = resident.handle; birth = resident.birth; components = finite.empty } ∷ []
+    ++ record { handle = resident.handle; birth = resident.birth; components = fin_empty } ∷ []
 pushed_from n [] columns resident none = search (rules, no_components)
 pushed_from n (r ∷ residents) columns resident none = search (rules, pushed_from (suc n) residents columns resident)
 
@@ -76,15 +74,10 @@ module _ (residents left : List Resident) (i n m : ℕ) (whole : n ≡ length re
   moved_from : IsMovedInto (entities_from 0 residents old) i (entities_from 0 left new)
   moved_from = record {
     one_less = omega (arith, length_from 0 left new, length_from 0 residents old);
-    moved = λ d room. let below : i + 1 < n = omega (arith, length_from 0 residents old) in let last : length
-        (entities_from 0 residents old) - 1 ≡ n - 1 = omega (arith, length_from 0 residents old) in let resident :
-        Resident = record { handle = d.handle; birth = d.birth } in let now = at_from 0 left new i resident d
-        (omega arith) in let was = at_from 0 residents old (n - 1) resident d (omega arith) in search
-        (rules, by_index.0 resident below, same_components);
-    others = λ k d far room. let below : k + 1 < n = omega (arith, length_from 0 residents old) in let resident :
-        Resident = record { handle = d.handle; birth = d.birth } in let now = at_from 0 left new k resident d
-        (omega arith) in let was = at_from 0 residents old k resident d (omega arith) in search
-        (rules, by_index.1 k resident far below, same_components);
+    moved = λ d room.
+        let last : length (entities_from 0 residents old) - 1 ≡ n - 1 = omega (arith, length_from 0 residents old) in
+        search (rules, arith, at_from, length_from 0 residents old, by_index.0, same_components);
+    others = λ k d far room. search (rules, arith, at_from, length_from 0 residents old, by_index.1 k, same_components);
   }
 
   pub moved : length new ≡ length old → AreColumnsOf (length residents) old
@@ -94,7 +87,7 @@ module _ (residents left : List Resident) (i n m : ℕ) (whole : n ≡ length re
 -- ---- what stays within the residents
 
 pub none_within : AreColumnsOf 0 []
-none_within = record { none_beyond = λ p id l. finite.get-empty _ p; numbered = omega arith }
+none_within = record { none_beyond = λ p id l. fin_get-empty _ p; numbered = omega arith }
 
 pub changed_within : (count place : ℕ) (old new : List Column) → place < count → length new ≤ 256
     → ((p : ℕ) (id : ComponentId) → p ≢ place → value_at new p id ≡ value_at old p id) → AreColumnsOf count old
@@ -113,7 +106,7 @@ born_get residents columns n i = search (rules, entry_from)
 
 -- the value of a component of the entity at a place
 pub value_from : (residents : List Resident) (columns : List Column) (i : ℕ) (id : ComponentId)
-    → AreColumnsOf (length residents) columns → option_and_then (λ (e : LivingEntity). finite.get e.components id)
+    → AreColumnsOf (length residents) columns → option_and_then (λ (e : LivingEntity). fin_get e.components id)
     (slice_get (entities_from 0 residents columns) i) ≡ value_at columns i id
 value_from residents columns i id within = search
     (rules, slice_get_cases residents i, entry_from 0 residents columns i, get_components)

@@ -1,7 +1,5 @@
 -- The map that slots stand for: its entries, and what it has at each handle.
-use Rattle.ent_storage.proofs.Common.{rules, All-cons, ◌≡◌, ◌≢◌, ℕ, zero, suc, ◌+◌, ◌-◌, ◌<◌, ◌≤◌, false, cond, inl, inr, eqb, T, List, [], ◌∷◌, ◌++◌, length, get_or, set, replicate, None, Some, refl, arith, not, common_steps, AllPairs-cons, cases_eq, eq-eqb, nat_tests, get_or-set_same, get_or-set_other, eq_by_cmp, find, is_sorted, below_all, Handle, handle_cmp, handle_cmp_total, handle_cmp-IsAntisymmetric, HandleMap, HandleValues, without_slot, value_under, slot_at, value_in, entries_from, map_of_slots, padded, count_at, Slot, Vacant, Occupied}
-use Rattle.std.proofs.Common.{All, AllPairs}
-use Rattle.std.specs.FinMap as map
+use Rattle.ent_storage.proofs.Common.{rules, All-cons, ◌≡◌, ◌≢◌, ℕ, zero, suc, ◌+◌, ◌-◌, ◌<◌, ◌≤◌, false, cond, eqb, T, List, [], ◌∷◌, ◌++◌, length, get_or, set, replicate, None, Some, refl, arith, not, common_steps, AllPairs-cons, cases_eq, eq-eqb, nat_tests, get_or-set_same, get_or-set_other, eq_by_cmp, find, is_sorted, below_all, Handle, handle_cmp, handle_cmp_total, handle_cmp-IsAntisymmetric, HandleMap, HandleValues, without_slot, value_under, slot_at, value_in, entries_from, map_of_slots, padded, count_at, Slot, Vacant, Occupied, fin_empty, fin_empty_of_len, fin_entries, fin_entries-from_sorted, fin_get, fin_get-from_sorted, fin_get-insert, fin_get-remove, fin_get-retain_keys, fin_insert, fin_len, fin_len-entries, fin_remove, fin_same_map, All, AllPairs}
 
 -- ---- handles
 
@@ -49,56 +47,54 @@ module _ {X : Type 0} where
   find_from : (q : Handle) (index : ℕ) (slots : List (Slot X)) → index ≤ q.index
       → find handle_cmp q (entries_from index slots) ≡ value_under (get_or slots (q.index - index) Vacant) q.generation
   find_from q index [] l = search rules
-  find_from q index (slot ∷ slots) l = elim (cases_eq q.index index) [
-    | inl e ↦ search (rules, ties_here, find_before, eqb_sym, first_one)
-    | inr ne ↦ search (rules, ties_apart, later, find_from q (index + 1) slots (omega (arith, ne)))
-  ]
+  find_from q index (slot ∷ slots) l = search
+      (rules, arith, cases_eq q.index index, ties_here, ties_apart, find_before, eqb_sym, first_one, later, find_from q (index + 1) slots)
 
   -- what the map has at a handle
-  pub get_map : (slots : List (Slot X)) (q : Handle) → map.get (map_of_slots slots) q ≡ value_in slots q
-  get_map slots q = search (rules, map.get-from_sorted, rising, find_from q 0 slots (omega arith))
+  pub get_map : (slots : List (Slot X)) (q : Handle) → fin_get (map_of_slots slots) q ≡ value_in slots q
+  get_map slots q = search (rules, fin_get-from_sorted, rising, find_from q 0 slots (omega arith))
 
   -- the entries of the map
-  pub entries_map : (slots : List (Slot X)) → map.entries (map_of_slots slots) ≡ entries_from 0 slots
-  entries_map slots = search (rules, map.entries-from_sorted, rising)
+  pub entries_map : (slots : List (Slot X)) → fin_entries (map_of_slots slots) ≡ entries_from 0 slots
+  entries_map slots = search (rules, fin_entries-from_sorted, rising)
 
-  pub len_map : (slots : List (Slot X)) → map.len (map_of_slots slots) ≡ length (entries_from 0 slots)
-  len_map slots = search (rules, map.len-entries, entries_map)
+  pub len_map : (slots : List (Slot X)) → fin_len (map_of_slots slots) ≡ length (entries_from 0 slots)
+  len_map slots = search (rules, fin_len-entries, entries_map)
 
   -- no slots have no values
-  pub map_none : map_of_slots {T = X} [] ≡ map.empty
-  map_none = map.empty_of_len (map_of_slots []) (len_map [])
+  pub map_none : map_of_slots {T = X} [] ≡ fin_empty
+  map_none = fin_empty_of_len (map_of_slots []) (len_map [])
 
   pub map_emptied : (slots : List (Slot X)) (len room limit other : ℕ) → slots ≡ [] → len ≡ 0 → limit ≡ other
       → ◌≡◌ {A = HandleMap X} (record { values = map_of_slots slots; slots = len; room = room; limit = limit })
-      (record { values = map.empty; slots = 0; room = room; limit = other })
+      (record { values = fin_empty; slots = 0; room = room; limit = other })
   map_emptied slots len room limit other none no_slots same = search (rules, map_none)
 
   -- ---- a slot is set
 
   set_here : (slots : List (Slot X)) (h : Handle) (slot : Slot X) → h.index < length slots → (q : Handle)
-      → q.index ≡ h.index → map.get (map_of_slots (set slots h.index slot)) q ≡ value_under slot q.generation
+      → q.index ≡ h.index → fin_get (map_of_slots (set slots h.index slot)) q ≡ value_under slot q.generation
   set_here slots h slot within q e = search (rules, get_map, get_or-set_same)
 
   set_elsewhere : (slots : List (Slot X)) (h : Handle) (slot : Slot X) (q : Handle) → q.index ≢ h.index
-      → map.get (map_of_slots (set slots h.index slot)) q ≡ map.get (map_of_slots slots) q
+      → fin_get (map_of_slots (set slots h.index slot)) q ≡ fin_get (map_of_slots slots) q
   set_elsewhere slots h slot q ne = search (rules, get_map, get_or-set_other)
 
-  get-without : (m : HandleValues X) (h q : Handle) → map.get (without_slot m h.index) q
-      ≡ cond (not (eqb q.index h.index)) (map.get m q) None
-  get-without m h q = search (rules, map.get-retain_keys)
+  get-without : (m : HandleValues X) (h q : Handle) → fin_get (without_slot m h.index) q
+      ≡ cond (not (eqb q.index h.index)) (fin_get m q) None
+  get-without m h q = search (rules, fin_get-retain_keys)
 
   -- in the slot of h, the map has but the value of h
   abbrev pub IsAlone : HandleValues X → Handle → X → Type 0
-  IsAlone m h v = (q : Handle) → q.index ≡ h.index → map.get m q ≡ cond (eq_by_cmp handle_cmp q h) (Some v) None
+  IsAlone m h v = (q : Handle) → q.index ≡ h.index → fin_get m q ≡ cond (eq_by_cmp handle_cmp q h) (Some v) None
 
   -- two maps that differ in the slot of h alone
   module _ (m n : HandleValues X) (h : Handle) (elsewhere : (q : Handle) → q.index ≢ h.index
-      → map.get n q ≡ map.get m q) where
+      → fin_get n q ≡ fin_get m q) where
     -- a value is put into the slot
-    pub is_put : (v : X) → IsAlone n h v → n ≡ map.insert (without_slot m h.index) h v
-    is_put v here = map.same_map handle_cmp_total handle_cmp-IsAntisymmetric _ _
-        (λ q. let put = map.get-insert handle_cmp_total (without_slot m h.index) h v q in let less = get-without m h
+    pub is_put : (v : X) → IsAlone n h v → n ≡ fin_insert (without_slot m h.index) h v
+    is_put v here = fin_same_map handle_cmp_total handle_cmp-IsAntisymmetric _ _
+        (λ q. let put = fin_get-insert handle_cmp_total (without_slot m h.index) h v q in let less = get-without m h
         q in let tie = ties_apart q h in grind (arith, nat_tests, here q, elsewhere q))
 
   -- a slot has the value of the handle
@@ -114,19 +110,33 @@ module _ {X : Type 0} where
   alone_set slots h value within q e = search (rules, set_here, eqb_sym, ties_here)
 
   pub map-put : (slots : List (Slot X)) (h : Handle) (value : X) → h.index < length slots
-      → map_of_slots (set slots h.index (Occupied h.generation value)) ≡ map.insert (without_slot (map_of_slots slots)
+      → map_of_slots (set slots h.index (Occupied h.generation value)) ≡ fin_insert (without_slot (map_of_slots slots)
       h.index) h value
   map-put slots h value within = search (rules, is_put, set_elsewhere, alone_set)
 
   pub map-write : (slots : List (Slot X)) (h : Handle) (old value : X) → h.index < length slots → HasValue slots h old
-      → map_of_slots (set slots h.index (Occupied h.generation value)) ≡ map.insert (map_of_slots slots) h value
-  map-write slots h old value within has = map.same_map handle_cmp_total handle_cmp-IsAntisymmetric _ _ (λ q. grind
-      (arith, nat_tests, map.get-insert handle_cmp_total (map_of_slots slots) h value q, ties_apart q h, alone slots h old has q, alone_set slots h value within q, set_elsewhere slots h (Occupied h.generation value) q))
+      → map_of_slots (set slots h.index (Occupied h.generation value)) ≡ fin_insert (map_of_slots slots) h value
+  map-write slots h old value within has = fin_same_map handle_cmp_total handle_cmp-IsAntisymmetric _ _ (λ q. grind (
+    arith,
+    nat_tests,
+    fin_get-insert handle_cmp_total (map_of_slots slots) h value q,
+    ties_apart q h,
+    alone slots h old has q,
+    alone_set slots h value within q,
+    set_elsewhere slots h (Occupied h.generation value) q,
+  ))
 
   pub map-take : (slots : List (Slot X)) (h : Handle) (value : X) → h.index < length slots → HasValue slots h value
-      → map_of_slots (set slots h.index Vacant) ≡ map.remove (map_of_slots slots) h
-  map-take slots h value within has = map.same_map handle_cmp_total handle_cmp-IsAntisymmetric _ _ (λ q. grind
-      (arith, nat_tests, map.get-remove handle_cmp_total (map_of_slots slots) h q, ties_apart q h, alone slots h value has q, set_here slots h Vacant within q, set_elsewhere slots h Vacant q))
+      → map_of_slots (set slots h.index Vacant) ≡ fin_remove (map_of_slots slots) h
+  map-take slots h value within has = fin_same_map handle_cmp_total handle_cmp-IsAntisymmetric _ _ (λ q. grind (
+    arith,
+    nat_tests,
+    fin_get-remove handle_cmp_total (map_of_slots slots) h q,
+    ties_apart q h,
+    alone slots h value has q,
+    set_here slots h Vacant within q,
+    set_elsewhere slots h Vacant q,
+  ))
 
   -- how many there are after a slot is set
   pub length-set_slot : (index : ℕ) (slots : List (Slot X)) (at : ℕ) (slot : Slot X) → at < length slots

@@ -1,19 +1,17 @@
 -- The slot of a handle that has a value.
-use Rattle.ent_storage.proofs.Common.{common_steps, rules, ◌≡◌, ℕ, ◌+◌, ◌-◌, ◌<◌, ◌≤◌, ◌^◌, true, false, List, [], ◌∷◌, length, get_or, set, Some, is_some, refl, ap, arith, true≢false, cases_lt, eq-eqb, get_or_past, length-append, length-replicate, get_or_default, Handle, handle_cmp_total, handle_cmp-IsAntisymmetric, HandleValues, without_slot, HasLater, value_under, slot_at, entries_from, map_of_slots, count_at, AreCounted, padded, generation_of, Slot, Vacant, Occupied}
-use Rattle.std.proofs.Common.{length-set}
-use Rattle.std.specs.FinMap as map
+use Rattle.ent_storage.proofs.Common.{common_steps, rules, ◌≡◌, ℕ, ◌+◌, ◌-◌, ◌<◌, ◌≤◌, ◌^◌, true, false, List, [], ◌∷◌, length, get_or, set, Some, is_some, refl, ap, arith, true≢false, cases_lt, eq-eqb, get_or_past, length-append, length-replicate, get_or_default, Handle, handle_cmp_total, handle_cmp-IsAntisymmetric, HandleValues, without_slot, HasLater, value_under, slot_at, entries_from, map_of_slots, count_at, AreCounted, padded, generation_of, Slot, Vacant, Occupied, fin_get, fin_insert, fin_remove, fin_same_map, length-set}
 use Rattle.ent_storage.proofs.Entries.{HasValue, get_map, length-set_slot, map_padded, map-put, entries_padded}
 use Rattle.ent_storage.proofs.Keys.{remove_tells}
 
 module _ {X : Type 0} where
   -- a handle without a value
-  pub remove_absent : (m : HandleValues X) (h : Handle) → is_some (map.get m h) ≡ false → map.remove m h ≡ m
-  remove_absent m h none = map.same_map handle_cmp_total handle_cmp-IsAntisymmetric _ _
+  pub remove_absent : (m : HandleValues X) (h : Handle) → is_some (fin_get m h) ≡ false → fin_remove m h ≡ m
+  remove_absent m h none = fin_same_map handle_cmp_total handle_cmp-IsAntisymmetric _ _
       (λ q. grind (arith, remove_tells handle_cmp_total handle_cmp-IsAntisymmetric m h q))
 
   -- the slot of a handle that the map has
   pub found : (slots : List (Slot X)) (values : HandleValues X) (h : Handle) → map_of_slots slots ≡ values
-      → is_some (map.get values h) ≡ true → (value : X) × HasValue slots h value
+      → is_some (fin_get values h) ≡ true → (value : X) × HasValue slots h value
   found slots values h is some = search (rules, get_map slots h)
 
   -- it was made
@@ -22,7 +20,7 @@ module _ {X : Type 0} where
 
   -- what the map has at the handle
   pub had : (slots : List (Slot X)) (values : HandleValues X) (h : Handle) (value : X) → map_of_slots slots ≡ values
-      → HasValue slots h value → value_under (slot_at slots h.index) h.generation ≡ map.get values h
+      → HasValue slots h value → value_under (slot_at slots h.index) h.generation ≡ fin_get values h
   had slots values h value is has = search (rules, get_map slots h)
 
   -- one value fewer
@@ -47,18 +45,17 @@ module _ {X : Type 0} where
 
   -- the map has the value
   pub got : (slots : List (Slot X)) (values : HandleValues X) (h : Handle) (value : X) → map_of_slots slots ≡ values
-      → HasValue slots h value → map.get values h ≡ Some value
+      → HasValue slots h value → fin_get values h ≡ Some value
   got slots values h value is has = search (rules, had, eq-eqb)
 
   -- ---- a later occupant of the slot
 
   pub later : (slots : List (Slot X)) (values : HandleValues X) (h : Handle) → map_of_slots slots ≡ values
       → h.generation < generation_of (slot_at slots h.index) → HasLater values h
-  later slots values h is above =
-      elim (slot_at slots h.index) as (λ slot. slot_at slots h.index ≡ slot → HasLater values h) [
+  later slots values h is above = elim (slot_at slots h.index) as (λ slot. slot_at slots h.index ≡ slot → HasLater
+      values h) [
         | Vacant ↦ λ e. absurd (omega (arith, rw e at above))
-        | Occupied g value ↦ λ e.
-            (g, rw e at above, ap is_some (got slots values (record { index = h.index; generation = g }) value is e))
+        | Occupied g value ↦ λ e. (g, rw e at above, ap is_some (got _ _ _ _ is e))
       ] refl
 
   pub no_later : (slots : List (Slot X)) (values : HandleValues X) (h : Handle) → map_of_slots slots ≡ values
@@ -78,11 +75,11 @@ module _ {X : Type 0} where
       (at : index ≡ h.index) (is : all ≡ padded slots (index + 1)) (was : before ≡ get_or all index before)
       (written : after ≡ Occupied h.generation value) where
     pub put-map : (values : HandleValues X) → map_of_slots slots ≡ values
-        → map_of_slots (set all index after) ≡ map.insert (without_slot values h.index) h value
+        → map_of_slots (set all index after) ≡ fin_insert (without_slot values h.index) h value
     put-map values stands = search (rules, map-put, map_padded, length-append, length-replicate)
 
     pub put-before : (values : HandleValues X) → map_of_slots slots ≡ values
-        → value_under before h.generation ≡ map.get values h
+        → value_under before h.generation ≡ fin_get values h
     put-before values stands = grind (arith, common_steps, get_map, read, map_padded, length-append, length-replicate)
 
     pub put-counted : (count lacking : ℕ) → AreCounted 0 slots count → index < 2 ^ 32 - 1

@@ -1,6 +1,5 @@
 -- Entities, one by one: what is written of them tells them.
-use Rattle.ent_storage.proofs.Common.{same_Some, Contains-append_right, common_steps, rules, ◌≡◌, ◌≢◌, refl, sym, ap, ◌∙◌, ℕ, zero, suc, ℤ, ◌+◌, ◌*◌, ◌<◌, ◌≤◌, Bool, false, List, [], ◌∷◌, ◌++◌, length, arith, Option, None, Some, is_some, Contains, ◌⊎◌, flat_map, list_any, cases_eq, cases_lt, false≢true, append_assoc, length-append, Birth, ComponentId, component_cmp_total, component_cmp-IsAntisymmetric, Handle, handle_cmp_total, handle_cmp-IsAntisymmetric, Entity, EntityMap, birth_of, value_of, birth_bytes, values_bytes, component, entity_bytes, entities_bytes, is_held, width_below, width, IsBirth, IsStored, AreStored}
-use Rattle.std.specs.FinMap as map
+use Rattle.ent_storage.proofs.Common.{same_Some, Contains-append_right, common_steps, rules, ◌≡◌, ◌≢◌, refl, sym, ap, ◌∙◌, ℕ, zero, suc, ℤ, ◌+◌, ◌*◌, ◌<◌, ◌≤◌, Bool, false, List, [], ◌∷◌, ◌++◌, length, arith, Option, None, Some, is_some, Contains, ◌⊎◌, flat_map, list_any, cases_eq, cases_lt, false≢true, append_assoc, length-append, Birth, ComponentId, component_cmp_total, component_cmp-IsAntisymmetric, Handle, handle_cmp_total, handle_cmp-IsAntisymmetric, Entity, EntityMap, birth_of, value_of, birth_bytes, values_bytes, component, entity_bytes, entities_bytes, is_held, width_below, width, IsBirth, IsStored, AreStored, fin_get, fin_same_map}
 use Rattle.ent_storage.proofs.Keys.{none_from}
 use Rattle.ent_storage.proofs.ImageBytes.{length-word, length-long, same_words, same_longs}
 use Rattle.ent_storage.proofs.ImageValues.{AllFit, same_values}
@@ -40,9 +39,7 @@ pub entity_short : (n : ℕ) (m : EntityMap) (h : Handle) (bytes rest : List ℕ
     → bytes ≢ entity_bytes n m h ++ rest
 entity_short n m h bytes rest short is same =
     let birth = birth_known m h is in
-    let all = ap length (same ∙ entity_is n m h birth.0 rest birth.1.0) in
-    let long_enough = length-append (birth_bytes birth.0) (values_bytes (value_of m h) n ++ rest) in
-    omega (arith, length-birth_bytes birth.0)
+    grind (arith, common_steps, entity_is n m h birth.0 rest birth.1.0, length-birth_bytes birth.0)
 
 fit_all : (m : EntityMap) (h : Handle) → IsStored m h → AllFit (value_of m h)
 fit_all m h is id v at = is.values id v at
@@ -53,9 +50,7 @@ pub entity_refused : (n : ℕ) (m : EntityMap) (h : Handle) (b : Birth) (bytes l
     → left ≢ values_bytes value n ++ more) → IsStored m h → bytes ≢ entity_bytes n m h ++ rest
 entity_refused n m h b bytes left rest fits first none is same =
     let birth = birth_known m h is in
-    let parts = same_births b birth.0 left (values_bytes (value_of m h) n ++ rest) fits birth.1.1
-    (sym first ∙ same ∙ entity_is n m h birth.0 rest birth.1.0) in
-    search (rules, fit_all)
+    search (rules, fit_all, same_births b birth.0, entity_is n m h birth.0 rest birth.1.0)
 
 -- the two maps have the same birth under the handle, and the same first values
 pub record IsAlike (n : ℕ) (a b : EntityMap) (h : Handle) : Type 0 where
@@ -67,19 +62,17 @@ same_entity : (n : ℕ) (a b : EntityMap) (h : Handle) (xs ys : List ℕ) → Is
 same_entity n a b h xs ys is_a is_b same =
     let birth_a = birth_known a h is_a in
     let birth_b = birth_known b h is_b in
-    let births = same_births birth_a.0 birth_b.0 (values_bytes (value_of a h) n ++ xs)
-    (values_bytes (value_of b h) n ++ ys) birth_a.1.1 birth_b.1.1 (sym (entity_is n a h birth_a.0 xs birth_a.1.0) ∙ same
-    ∙ entity_is n b h birth_b.0 ys birth_b.1.0) in
-    let values = same_values (value_of a h) (value_of b h) n xs ys (fit_all a h is_a) (fit_all b h is_b) births.1 in
-    search rules
+    let births = same_births _ _ _ _ birth_a.1.1 birth_b.1.1
+    (rw (entity_is n a h _ xs birth_a.1.0, entity_is n b h _ ys birth_b.1.0) at same) in
+    search (rules, same_values, fit_all)
 
 -- what is written of an entity depends on it alone
-pub written_alike : (n : ℕ) (a b : EntityMap) (h : Handle) → map.get a h ≡ map.get b h
+pub written_alike : (n : ℕ) (a b : EntityMap) (h : Handle) → fin_get a h ≡ fin_get b h
     → entity_bytes n a h ≡ entity_bytes n b h
 unfolding entity_bytes
 written_alike n a b h same = search rules
 
-pub stored_alike : (a b : EntityMap) (h : Handle) → map.get a h ≡ map.get b h → IsStored a h → IsStored b h
+pub stored_alike : (a b : EntityMap) (h : Handle) → fin_get a h ≡ fin_get b h → IsStored a h → IsStored b h
 stored_alike a b h same is = search (rules)
 
 -- ---- entities
@@ -87,7 +80,7 @@ stored_alike a b h same is = search (rules)
 first_in : (h : Handle) (hs : List Handle) → Contains (h ∷ hs) h
 first_in h hs = (0, omega arith, refl)
 
-pub all_alike : (n : ℕ) (a b : EntityMap) (hs : List Handle) → ((h : Handle) → Contains hs h → map.get a h ≡ map.get b
+pub all_alike : (n : ℕ) (a b : EntityMap) (hs : List Handle) → ((h : Handle) → Contains hs h → fin_get a h ≡ fin_get b
     h) → flat_map (entity_bytes n a) hs ≡ flat_map (entity_bytes n b) hs
 all_alike n a b [] each = refl
 all_alike n a b (h ∷ hs) each =
@@ -100,11 +93,8 @@ listed_least : (n : ℕ) (m : EntityMap) (hs : List Handle) → ((h : Handle) �
 listed_least n m [] stored = omega arith
 listed_least n m (h ∷ hs) stored =
     let birth = birth_known m h (stored h (first_in h hs)) in
-    let here = ap length (entity_alone n m h birth.0 birth.1.0) in
-    let parts = length-append (birth_bytes birth.0) (values_bytes (value_of m h) n) in
     let rest = listed_least n m hs (λ g is. stored g (Contains-append_right (h ∷ []) hs g is)) in
-    let joined = length-append (entity_bytes n m h) (flat_map (entity_bytes n m) hs) in
-    omega (arith, length-birth_bytes birth.0)
+    grind (arith, common_steps, entity_alone n m h birth.0 birth.1.0, length-birth_bytes birth.0)
 
 pub entities_least : (m : EntityMap) (hs : List Handle) → AreStored m hs
     → 4 + 16 * length hs ≤ length (entities_bytes m hs)
@@ -120,10 +110,7 @@ pub same_listed : (n : ℕ) (a b : EntityMap) (hs : List Handle) (xs ys : List �
     → ((h : Handle) → Contains hs h → IsAlike n a b h) × (xs ≡ ys)
 same_listed n a b [] xs ys in_a in_b same = ((λ h is. absurd (omega (arith, is.1))), same)
 same_listed n a b (h ∷ hs) xs ys in_a in_b same =
-    let rest_a = flat_map (entity_bytes n a) hs in
-    let rest_b = flat_map (entity_bytes n b) hs in
-    let one = same_entity n a b h (rest_a ++ xs) (rest_b ++ ys) (in_a h (first_in h hs)) (in_b h (first_in h hs))
-    (sym (append_assoc (entity_bytes n a h) rest_a xs) ∙ same ∙ append_assoc (entity_bytes n b h) rest_b ys) in
+    let one = same_entity n a b h _ _ (in_a h (first_in h hs)) (in_b h (first_in h hs)) (simp append_assoc at same) in
     let rest = same_listed n a b hs xs ys (λ g is. in_a g (Contains-append_right (h ∷ []) hs g is))
     (λ g is. in_b g (Contains-append_right (h ∷ []) hs g is)) one.1 in
     search (rules, cases_in)
@@ -155,7 +142,7 @@ value_beyond m hs stored h is id least = none_from (value_of m h id)
 
 -- ---- all of them
 
-pub never_stored : (m : EntityMap) (h : Handle) → map.get m h ≡ None → IsStored m h → ⊥
+pub never_stored : (m : EntityMap) (h : Handle) → fin_get m h ≡ None → IsStored m h → ⊥
 never_stored m h none is = search rules
 
 module _ (a b : EntityMap) (hs : List Handle) (in_a : AreStored a hs) (in_b : AreStored b hs) (n : ℕ)
@@ -165,17 +152,16 @@ module _ (a b : EntityMap) (hs : List Handle) (in_a : AreStored a hs) (in_b : Ar
   same_values_of : (h : Handle) → Contains hs h → (id : ComponentId) → value_of a h id ≡ value_of b h id
   same_values_of h is id = search (rules, cases_lt)
 
-  same_at : (h : Handle) (o p : Option Entity) → map.get a h ≡ o → map.get b h ≡ p → o ≡ p
+  same_at : (h : Handle) (o p : Option Entity) → fin_get a h ≡ o → fin_get b h ≡ p → o ≡ p
   same_at h None None is_a is_b = refl
   same_at h None (Some f) is_a is_b = search (rules, never_stored)
   same_at h (Some e) None is_a is_b = search (rules, never_stored)
   same_at h (Some e) (Some f) is_a is_b =
       let listed = in_a.only h (ap (λ x. is_some x) is_a) in
       let births = same_Some _ _ (rw (is_a, is_b) at (alike h listed).birth) in
-      let components = map.same_map component_cmp_total component_cmp-IsAntisymmetric e.components f.components
+      let components = fin_same_map component_cmp_total component_cmp-IsAntisymmetric e.components f.components
       (λ id. rw (is_a, is_b) at (same_values_of h listed id)) in
       λ i. Some (record { birth = births i; components = components i })
 
   pub same_all : a ≡ b
-  same_all = map.same_map handle_cmp_total handle_cmp-IsAntisymmetric a b
-      (λ h. same_at h (map.get a h) (map.get b h) refl refl)
+  same_all = fin_same_map handle_cmp_total handle_cmp-IsAntisymmetric a b (λ h. same_at h _ _ refl refl)

@@ -1,7 +1,5 @@
 -- Entities that are read one by one, and where bytes are those of no entities.
-use Rattle.ent_storage.proofs.Common.{rules, ◌≡◌, ◌≢◌, sym, ap, ◌∙◌, subst, ℕ, ◌+◌, ◌^◌, ◌<◌, ◌≤◌, List, [], ◌∷◌, ◌++◌, length, take, drop, get_or, Contains, IsTrue, None, arith, inl, inr, is_some, common_steps, flat_map, append_assoc, append-nil, length-append, flat_map_more, take_all, take-append-drop, drop_more, take_more, length-take, get_or-take, flat_map-append, Contains-append_left, Contains-push, Contains-push_cases, ComponentId, Handle, handle_cmp_total, handle_cmp-IsAntisymmetric, EntityMap, value_of, word, entity_bytes, entities_bytes, width, IsStored, AreStored, AreFirst}
-use Rattle.std.proofs.Common.{AllPairs}
-use Rattle.std.specs.FinMap as map
+use Rattle.ent_storage.proofs.Common.{rules, ◌≡◌, ◌≢◌, sym, ap, ◌∙◌, subst, ℕ, ◌+◌, ◌^◌, ◌<◌, ◌≤◌, List, [], ◌∷◌, ◌++◌, length, take, drop, get_or, Contains, IsTrue, None, arith, inl, inr, is_some, common_steps, flat_map, append_assoc, append-nil, length-append, flat_map_more, take_all, take-append-drop, drop_more, take_more, length-take, get_or-take, flat_map-append, Contains-append_left, Contains-push, Contains-push_cases, ComponentId, Handle, handle_cmp_total, handle_cmp-IsAntisymmetric, EntityMap, value_of, word, entity_bytes, entities_bytes, width, IsStored, AreStored, AreFirst, fin_contains_key, fin_get, AllPairs}
 use Rattle.ent_storage.proofs.Keys.{none_from, same_or_apart}
 use Rattle.ent_storage.proofs.ImageBytes.{length-word, same_words}
 use Rattle.ent_storage.proofs.ImageEntities.{IsAlike, all_alike, same_listed, same_all, never_stored, value_beyond, width_few, stored_alike}
@@ -28,7 +26,7 @@ pub record AreRead (n : ℕ) (s : EntityMap) (hs : List Handle) (bytes rest : Li
   pub each : (h : Handle) → Contains hs h → IsStored s h
   pub beyond : (h : Handle) → Contains hs h → (id : ComponentId) → n ≤ id.0
       → value_of s h id ≡ None
-  pub only : (h : Handle) → IsTrue (map.contains_key s h) → Contains hs h
+  pub only : (h : Handle) → IsTrue (fin_contains_key s h) → Contains hs h
 
 module _ {n : ℕ} {old : EntityMap} {bytes rest : List ℕ} (hs : List Handle) (i : ℕ)
     (read : AreRead n old (take i hs) bytes rest) (h : Handle) (lt : i < length hs) (is : h ≡ get_or hs i h) where
@@ -40,13 +38,12 @@ module _ {n : ℕ} {old : EntityMap} {bytes rest : List ℕ} (hs : List Handle) 
       → rest ≢ entity_bytes n a h ++ more) → AreStored m hs → entities_bytes m hs ≢ bytes
   damaged m fits none stored same =
       let f = entity_bytes n m in
-      let parts = told m hs n bytes (flat_map (entity_bytes n old) before ++ rest) fits read.spelled same in
+      let parts = told m hs n _ _ fits read.spelled same in
       let more = flat_map f (drop (i + 1) hs) in
-      let split = sym (ap (flat_map f) (take-append-drop i hs)) ∙ flat_map-append f before (drop i hs)
+      let split = sym (ap (flat_map f) (take-append-drop i hs)) ∙ flat_map-append f _ _
       ∙ ap (λ xs. flat_map f before ++ flat_map f xs) (drop_more hs i h lt ∙ ap (◌∷ drop (i + 1) hs) (sym is)) in
-      let both = same_listed n old m before rest (f h ++ more) read.each
-      (λ g at. stored.each g (subst (λ xs. Contains xs g) (take-append-drop i hs) (Contains-append_left before _ g at)))
-      (sym parts.1 ∙ split) in
+      let both = same_listed n old m _ _ _ read.each (λ g at. stored.each g
+      (subst (λ xs. Contains xs g) (take-append-drop i hs) (Contains-append_left _ _ g at))) (sym parts.1 ∙ split) in
       search rules
 
   next : take (i + 1) hs ≡ before ++ h ∷ []
@@ -56,13 +53,13 @@ module _ {n : ℕ} {old : EntityMap} {bytes rest : List ℕ} (hs : List Handle) 
   places_more places after so_far is_after = is_after ∙ ap (◌++ h ∷ []) so_far ∙ sym next
 
   -- another entity is read
-  module _ (apart : AllPairs (λ a b. a ≢ b) hs) (new : EntityMap) (kept : (g : Handle) → g ≢ h → map.get new g ≡ map.get
+  module _ (apart : AllPairs (λ a b. a ≢ b) hs) (new : EntityMap) (kept : (g : Handle) → g ≢ h → fin_get new g ≡ fin_get
       old g) where
-    same_at : (g : Handle) → Contains before g → map.get old g ≡ map.get new g
+    same_at : (g : Handle) → Contains before g → fin_get old g ≡ fin_get new g
     same_at g at = search (rules, never_stored, none_from, length-take, get_or-take)
 
     -- what holds of each entity so far, and of this one
-    each_more : (P : EntityMap → Handle → Type 0) → ((g : Handle) → map.get old g ≡ map.get new g → P old g → P new g)
+    each_more : (P : EntityMap → Handle → Type 0) → ((g : Handle) → fin_get old g ≡ fin_get new g → P old g → P new g)
         → ((g : Handle) → Contains before g → P old g) → P new h → (g : Handle) → Contains (before ++ h ∷ []) g
         → P new g
     each_more P alike so_far last g at = grind (arith, common_steps, Contains-push_cases, same_at)
@@ -75,8 +72,7 @@ module _ {n : ℕ} {old : EntityMap} {bytes rest : List ℕ} (hs : List Handle) 
       beyond = search (rules, each_more);
       only = λ g there. elim (same_or_apart handle_cmp_total handle_cmp-IsAntisymmetric g h) [
         | inl same ↦ subst (Contains (before ++ h ∷ [])) (sym same) (Contains-push before h)
-        | inr other ↦ Contains-append_left before (h ∷ []) g
-            (read.only g (ap (λ o. is_some o) (sym (kept g other)) ∙ there))
+        | inr other ↦ Contains-append_left _ _ g (read.only g (ap (λ o. is_some o) (sym (kept g other)) ∙ there))
       ];
     })
 
@@ -95,15 +91,15 @@ first_read {n} {s} {bytes} {rest} hs k few read = record {
 
 -- ---- at the end
 
-pub all_read : {n : ℕ} {s : EntityMap} {bytes rest : List ℕ} (hs : List Handle) (i : ℕ) → length hs ≤ i
-    → AreRead n s (take i hs) bytes rest → AreRead n s hs bytes rest
-all_read {n} {s} {bytes} {rest} hs i all read = search (rules, take_all)
-
 pub width_placed : (s : EntityMap) {places : List Handle} (hs : List Handle) (i : ℕ) → length hs ≤ i
     → places ≡ take i hs → width s places ≡ width s hs
 width_placed s hs i all are = ap (width s) (are ∙ take_all i hs all)
 
-module _ {n : ℕ} {s : EntityMap} {hs : List Handle} {bytes rest : List ℕ} (read : AreRead n s hs bytes rest) where
+module _ {n : ℕ} {s : EntityMap} {bytes rest : List ℕ} (hs : List Handle) (i : ℕ) (all : length hs ≤ i)
+    (so_far : AreRead n s (take i hs) bytes rest) where
+  pub read : AreRead n s hs bytes rest
+  read = search (rules, take_all)
+
   -- the bytes begin with all entities
   abbrev pub all_first : n ≤ 256 → AreFirst hs bytes (length hs)
   all_first few = first_read hs (length hs) few (subst (λ xs. AreRead n s xs bytes rest)

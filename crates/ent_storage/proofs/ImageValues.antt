@@ -13,20 +13,15 @@ module _ (f : ℕ → List ℕ) where
   pieces_split : (a n k : ℕ) → k < n → (rest : List ℕ) × (flat_map f (range_with_len a n)
       ≡ flat_map f (range_with_len a k) ++ (f (a + k) ++ rest))
   pieces_split a zero k lt = absurd (omega arith)
-  pieces_split a (suc n) zero lt =
-      let at : a ≡ a + 0 = omega arith in
-      let rest = flat_map f (range_with_len (a + 1) n) in
-      (rest, ap (λ k. f k ++ rest) at)
+  pieces_split a (suc n) zero lt = (flat_map f (range_with_len (a + 1) n), search (rules, arith))
   pieces_split a (suc n) (suc k) lt = let inner = pieces_split (a + 1) n k (omega arith) in search (rules, append_assoc)
 
 -- pieces that are alike one by one
 pieces_alike : (f g : ℕ → List ℕ) (a n : ℕ) → ((k : ℕ) → a ≤ k → k < a + n → f k ≡ g k)
     → flat_map f (range_with_len a n) ≡ flat_map g (range_with_len a n)
 pieces_alike f g a zero each = refl
-pieces_alike f g a (suc n) each =
-    let rest = pieces_alike f g (a + 1) n (λ k least below. each k (omega arith) (omega arith)) in
-    let here = each a (omega arith) (omega arith) in
-    λ i. here i ++ rest i
+pieces_alike f g a (suc n) each = search
+    (rules, arith, each a, pieces_alike f g (a + 1) n (λ k least below. each k (omega arith) (omega arith)))
 
 -- ---- one value
 
@@ -48,10 +43,7 @@ piece value k = value_bytes (value (component k))
 
 pub values_more : (value : ComponentId → Option ℤ) (n : ℕ) → values_bytes value (n + 1) ≡ values_bytes value n
     ++ value_bytes (value (component n))
-values_more value n =
-    let at : 0 + n ≡ n = omega arith in
-    ap (values_bytes value) (add-one n) ∙ pieces_more (piece value) 0 n ∙ ap (λ k. values_bytes value n ++ piece value
-    k) at
+values_more value n = search (rules, arith, add-one, pieces_more (piece value) 0 n)
 
 same_pieces : (f g : ComponentId → Option ℤ) (a n : ℕ) (xs ys : List ℕ) → AllFit f → AllFit g
     → flat_map (piece f) (range_with_len a n) ++ xs ≡ flat_map (piece g) (range_with_len a n) ++ ys
@@ -96,9 +88,7 @@ pub none_next : (f g : ComponentId → Option ℤ) (width n : ℕ) (bytes rest m
     → rest ≢ value_bytes value ++ left) → bytes ≢ values_bytes g width ++ more
 none_next f g width n bytes rest more lt ff fg before none same =
     let split = pieces_split (piece g) 0 width n lt in
-    let whole : values_bytes f n ++ rest ≡ values_bytes g n ++ (piece g (0 + n) ++ (split.0 ++ more)) = search
-    (rules, append_assoc) in
-    let parts = same_values f g n rest (piece g (0 + n) ++ (split.0 ++ more)) ff fg whole in
+    let parts = same_values f g n rest (piece g (0 + n) ++ (split.0 ++ more)) ff fg (search (rules, append_assoc)) in
     none (g (component (0 + n))) (split.0 ++ more) parts.1
 
 pub below_more : (P : ComponentId → Type 0) (n : ℕ) → ((id : ComponentId) → id.0 < n → P id) → P (component n)

@@ -1,6 +1,5 @@
--- How a walk over the slots keeps some of their values.
-use Rattle.ent_storage.proofs.Common.{common_steps, rules, ◌≡◌, ℕ, ◌+◌, ◌<◌, ◌≤◌, Bool, true, false, MutBor, List, [], ◌∷◌, ◌++◌, length, get_or, set, take, drop, Some, arith, append-nil, append_assoc, take_all, take_more_set, drop_all, drop_more, drop-set-lt, length-take-le, Handle, CalledAt, Retains, RetainsSlot, entries_from, count_at, handle_in, any_value, generation_of, AreCounted, Slot, Vacant, Occupied}
-use Rattle.std.proofs.Common.{length-set}
+-- How a walk over the slots keeps some of their values, and one that goes backwards.
+use Rattle.ent_storage.proofs.Common.{common_steps, rules, ◌≡◌, ℕ, ◌+◌, ◌<◌, ◌≤◌, Bool, true, false, MutBor, List, [], ◌∷◌, ◌++◌, length, get_or, set, take, drop, Some, arith, append-nil, append_assoc, take_all, take_more_set, drop_all, drop_more, drop-set-lt, length-take-le, Handle, CalledAt, Retains, RetainsSlot, entries_from, count_at, handle_in, any_value, generation_of, AreCounted, Slot, Vacant, Occupied, length-set, ◌-◌, length_push}
 use Rattle.ent_storage.proofs.Entries.{length-set_slot}
 use Rattle.ent_storage.proofs.Found.{read}
 
@@ -74,5 +73,27 @@ module _ {X F : Type 0} (step : F → Handle → MutBor X → Bool → MutBor X 
       → RetainedBelow first old f now index → Retains step first (entries_from 0 old) (entries_from 0 now)
   retained-done first old now f index past below =
       let all = take_all index now (omega (arith, below.long)) in
-      let done = below.done [] (search (rules, drop_all)) in
-      rw (append-nil, all) at done
+      rw (append-nil, all) at (below.done [] (search (rules, drop_all)))
+
+-- ---- the last of some slots, from which a walk goes backwards
+
+module _ {X : Type 0} where
+  -- the last slot has a value: what is left before it
+  pub record LastGone (index left : ℕ) (front : List (Slot X)) (entry : Handle × X)
+      (all : List (Handle × X))
+      : Type 0 where
+    pub one : 1 ≤ left
+    pub counted : AreCounted index front (left - 1)
+    pub entries : all ≡ entries_from index front ++ entry ∷ []
+    pub fewer : length all ≡ length (entries_from index front) + 1
+
+  pub last_occupied : (slots front : List (Slot X)) (index left generation : ℕ) (value : X) (all : List (Handle × X))
+      → slots ≡ front ++ Occupied generation value ∷ [] → AreCounted index slots left × (entries_from index slots ≡ all)
+      → LastGone index left front (record { index = index + length front; generation = generation }, value) all
+  last_occupied slots front index left generation value all split kept = search (rules, entries-append, length_push)
+
+  -- it is vacant
+  pub last_vacant : (slots front : List (Slot X)) (index left : ℕ) (all : List (Handle × X))
+      → slots ≡ front ++ Vacant ∷ [] → AreCounted index slots left × (entries_from index slots ≡ all)
+      → AreCounted index front left × (entries_from index front ≡ all)
+  last_vacant slots front index left all split kept = search (rules, entries-append, append-nil, length_push)

@@ -1,7 +1,6 @@
 -- Keys of a map that are the same or apart, and what a map has at them after a change.
-use Rattle.ent_storage.proofs.Common.{All-map, All-contains, [], ◌∷◌, Option, is_some, false≢true, ◌≡◌, ◌≢◌, Bool, true, false, ◌⊎◌, Some, None, Ordering, refl, rules, arith, eq_by_cmp, IsTotalOrder, false_from_ne_true, FinMap, IsAntisymmetric, ℕ, ◌<◌, ◌≤◌, List, length, mapped, All, AllPairs, eqb, eqb-true, get_or-map, length-map, length-le_from_distinct_below, IsDistinct-from_apart, Contains-from_any}
+use Rattle.ent_storage.proofs.Common.{All-map, All-contains, [], ◌∷◌, Option, is_some, false≢true, ◌≡◌, ◌≢◌, Bool, true, false, ◌⊎◌, Some, None, Ordering, refl, rules, arith, eq_by_cmp, IsTotalOrder, false_from_ne_true, FinMap, IsAntisymmetric, ℕ, ◌<◌, ◌≤◌, List, length, mapped, All, AllPairs, eqb, eqb-true, get_or-map, length-map, length-le_from_distinct_below, IsDistinct-from_apart, Contains-from_any, fin_get, fin_get-insert, fin_get-remove, fin_insert, fin_remove, fin_same_map}
 use Rattle.ent_storage.proofs.Rising.{equal}
-use Rattle.std.specs.FinMap as map
 
 pub some_value : {X : Type 0} (o : Option X) → is_some o ≡ true → (v : X) × (o ≡ Some v)
 some_value o e = search (rules, false≢true)
@@ -23,30 +22,30 @@ module _ {K : Type 0} {R : K → K → Ordering} (o : IsTotalOrder R) (same : Is
   same_or_apart a b = by_test a b _ refl
 
   module _ {X : Type 0} (m : FinMap R X) (k : K) where
-    pub get-insert_same : (v : X) (q : K) → q ≡ k → map.get (map.insert m k v) q ≡ Some v
-    get-insert_same v q e = search (rules, map.get-insert o m k v q, tied q k e)
+    pub get-insert_same : (v : X) (q : K) → q ≡ k → fin_get (fin_insert m k v) q ≡ Some v
+    get-insert_same v q e = search (rules, fin_get-insert o m k v q, tied q k e)
 
-    pub get-insert_other : (v : X) (q : K) → q ≢ k → map.get (map.insert m k v) q ≡ map.get m q
-    get-insert_other v q n = search (rules, map.get-insert o m k v q, apart q k n)
+    pub get-insert_other : (v : X) (q : K) → q ≢ k → fin_get (fin_insert m k v) q ≡ fin_get m q
+    get-insert_other v q n = search (rules, fin_get-insert o m k v q, apart q k n)
 
     -- both, for `grind`
-    pub insert_tells : (v : X) (q : K) → ((q ≡ k) × (map.get (map.insert m k v) q ≡ Some v))
-        ⊎ ((q ≢ k) × (map.get (map.insert m k v) q ≡ map.get m q))
+    pub insert_tells : (v : X) (q : K) → ((q ≡ k) × (fin_get (fin_insert m k v) q ≡ Some v))
+        ⊎ ((q ≢ k) × (fin_get (fin_insert m k v) q ≡ fin_get m q))
     insert_tells v q = search (rules, same_or_apart q k, get-insert_same, get-insert_other)
 
-    pub get-remove_same : (q : K) → q ≡ k → map.get (map.remove m k) q ≡ None
-    get-remove_same q e = search (rules, map.get-remove o m k q, tied q k e)
+    pub get-remove_same : (q : K) → q ≡ k → fin_get (fin_remove m k) q ≡ None
+    get-remove_same q e = search (rules, fin_get-remove o m k q, tied q k e)
 
-    pub get-remove_other : (q : K) → q ≢ k → map.get (map.remove m k) q ≡ map.get m q
-    get-remove_other q n = search (rules, map.get-remove o m k q, apart q k n)
+    pub get-remove_other : (q : K) → q ≢ k → fin_get (fin_remove m k) q ≡ fin_get m q
+    get-remove_other q n = search (rules, fin_get-remove o m k q, apart q k n)
 
-    pub remove_tells : (q : K) → ((q ≡ k) × (map.get (map.remove m k) q ≡ None))
-        ⊎ ((q ≢ k) × (map.get (map.remove m k) q ≡ map.get m q))
+    pub remove_tells : (q : K) → ((q ≡ k) × (fin_get (fin_remove m k) q ≡ None))
+        ⊎ ((q ≢ k) × (fin_get (fin_remove m k) q ≡ fin_get m q))
     remove_tells q = search (rules, same_or_apart q k, get-remove_same, get-remove_other)
 
     -- what is not there stays out
-    pub remove_absent : map.get m k ≡ None → map.remove m k ≡ m
-    remove_absent none = map.same_map o same _ _ (λ q. grind (arith, remove_tells q))
+    pub remove_absent : fin_get m k ≡ None → fin_remove m k ≡ m
+    remove_absent none = fin_same_map o same _ _ (λ q. grind (arith, remove_tells q))
 
 -- what holds of the images of each two elements
 pub AllPairs-map : {X Y : Type 0} (R : Y → Y → Type 0) (f : X → Y) (xs : List X)

@@ -1,6 +1,5 @@
 -- The least handle of a birth, among pairs and in the map.
-use Rattle.ent_storage.proofs.Common.{common_steps, rules, ◌≡◌, ◌≢◌, ◌⊎◌, inl, inr, List, [], ◌∷◌, ◌++◌, map, length, Option, Some, None, IfSome, IfNone, IsSomeAnd, Contains, true, ℕ, false, ◌<◌, refl, sym, subst, ◌∙◌, arith, Greater, eq_by_cmp, option_map, false≢true, same_Some, none-some, get_or-map, length-map, Contains-push, Contains-push_cases, FinMap, Birth, birth_cmp, Handle, handle_cmp, LivingEntity, Entity, birth_of, map_of, IsIndexed, IsLeastOf}
-use Rattle.std.specs.FinMap as finite
+use Rattle.ent_storage.proofs.Common.{common_steps, rules, ◌≡◌, ◌≢◌, ◌⊎◌, inl, inr, List, [], ◌∷◌, ◌++◌, map, length, Option, Some, None, IfSome, IfNone, IsSomeAnd, Contains, true, ℕ, false, ◌<◌, refl, subst, arith, Greater, eq_by_cmp, option_map, false≢true, same_Some, none-some, get_or-map, length-map, Contains-push, Contains-push_cases, FinMap, Birth, birth_cmp, Handle, handle_cmp, LivingEntity, Entity, birth_of, map_of, IsIndexed, IsLeastOf, fin_get}
 use Rattle.ent_storage.proofs.ByBirth.{born_of}
 use Rattle.ent_storage.proofs.Indexed.{some_entity, get_placed, placed_from_get}
 use Rattle.ent_storage.proofs.Keys.{apart, same_or_apart}
@@ -42,14 +41,13 @@ module _ (living : List LivingEntity) (index : FinMap handle_cmp ℕ) (indexed :
       let below : at.0 < length living = omega (arith, length-map {B = Birth × Handle} living born_of, at.1) in
       search (rules, get_or-map born_of living at.0 r (birth, h) below, get_placed, r, below)
 
-  found : (h : Handle) (o : Option Entity) → finite.get (map_of living) h ≡ o → option_map (λ e. e.birth) o ≡ Some birth
+  found : (h : Handle) (o : Option Entity) → fin_get (map_of living) h ≡ o → option_map (λ e. e.birth) o ≡ Some birth
       → Contains (map born_of living) (birth, h)
   found h None at is = absurd (none-some birth is)
   found h (Some e) at is =
       let place = placed_from_get living index indexed h e at in
-      let same = same_Some _ _ (sym (get_placed living index indexed h place.0 (some_entity h) place.1) ∙ at) in
-      let born = same_Some _ _ is in
-      search (rules, length-map, born_of, get_or-map)
+      let there = get_placed living index indexed h place.0 (some_entity h) place.1 in
+      search (rules, length-map, born_of, get_or-map, same_Some)
 
   pub from_map : (h : Handle) → birth_of (map_of living) h ≡ Some birth → Contains (map born_of living) (birth, h)
   from_map h is = found h _ refl is

@@ -26,8 +26,8 @@ module _ {X : Type 0} (R : X → X → Type 0) (asym : (a b : X) → R a b → �
   pub same_list : (xs ys : List X) → AllPairs R xs → AllPairs R ys → ((z : X) → Contains xs z → Contains ys z)
       → ((z : X) → Contains ys z → Contains xs z) → xs ≡ ys
   same_list [] [] p q f g = refl
-  same_list [] (y ∷ ys) p q f g = let c = g y (0, omega arith, refl) in absurd (omega (arith, c.1))
-  same_list (x ∷ xs) [] p q f g = let c = f x (0, omega arith, refl) in absurd (omega (arith, c.1))
+  same_list [] (y ∷ ys) p q f g = absurd (omega (arith, (g y (0, omega arith, refl)).1))
+  same_list (x ∷ xs) [] p q f g = absurd (omega (arith, (f x (0, omega arith, refl)).1))
   same_list (x ∷ xs) (y ∷ ys) p q f g =
       let same : x ≡ y = front x y xs ys p q (f x (0, omega arith, refl)) (g y (0, omega arith, refl)) in
       search (rules, same_list xs ys (others x xs p) (others y ys q) (within x y xs ys same p f) (within y x ys xs (sym same) q g))

@@ -12,8 +12,12 @@ module _ {K X : Type 0} {R : K → K → Ordering} (o : IsTotalOrder R) (same : 
   -- keys of which each is below all later ones rise
   sorted_from : (es : List (K × X)) → AllPairs (λ a b. R a.0 b.0 ≡ Less) es → T (is_sorted R es)
   sorted_from [] all = tt
-  sorted_from (e ∷ es) all = both _ _ (below_all_from e.0 es (λ j d l. all zero (suc j) d (omega arith) (omega arith)))
-      (sorted_from es (λ i j d l m. all (suc i) (suc j) d (omega arith) (omega arith)))
+  sorted_from (e ∷ es) all = search (
+    rules,
+    both,
+    below_all_from e.0 es (λ j d l. all zero (suc j) d (omega arith) (omega arith)),
+    sorted_from es (λ i j d l m. all (suc i) (suc j) d (omega arith) (omega arith)),
+  )
 
   -- ---- one pair is overwritten
   module _ (k : K) (v : X) where

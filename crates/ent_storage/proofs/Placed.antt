@@ -1,6 +1,5 @@
 -- The handles at the places of the residents.
-use Rattle.ent_storage.proofs.Common.{common_steps, rules, ◌≡◌, ℕ, zero, suc, ◌-◌, ◌<◌, List, [], ◌∷◌, length, get_or, set, Some, None, is_some, slice_get, refl, ap, arith, length-map, get_or-map, FinMap, Handle, handle_cmp, LivingEntity, IsMovedInto, Store, IsIndexed, entity_of, map_of, handles_by_place, AreWithout, slice_get-get_or}
-use Rattle.std.specs.FinMap as finite
+use Rattle.ent_storage.proofs.Common.{Places, common_steps, rules, ◌≡◌, ℕ, zero, suc, ◌-◌, ◌<◌, List, [], ◌∷◌, length, get_or, set, Some, None, is_some, slice_get, refl, ap, arith, length-map, get_or-map, FinMap, Handle, handle_cmp, LivingEntity, IsMovedInto, Store, IsIndexed, entity_of, map_of, handles_by_place, AreWithout, slice_get-get_or, fin_get}
 use Rattle.ent_storage.proofs.ElementsAt.{filled, filled_map}
 use Rattle.ent_storage.proofs.Indexed.{some_entity, some_not_none, get_placed, get_unplaced}
 
@@ -17,30 +16,38 @@ from_place living i d l = search (rules, slice_get-get_or (handles_by_place livi
 module _ (living : List LivingEntity) (index : FinMap handle_cmp ℕ) (indexed : IsIndexed living index) (h : Handle)
     (i : ℕ) where
   -- the index has the place at which the handle stands, and no other one
-  pub placed_from_place : slice_get (handles_by_place living) i ≡ Some h → finite.get index h ≡ Some i
+  pub placed_from_place : slice_get (handles_by_place living) i ≡ Some h → fin_get index h ≡ Some i
   placed_from_place e =
       let at = at_place living i h e in search (rules, at.1 (some_entity h), indexed.each_entity i at.0 (some_entity h))
 
-  pub place_from_placed : finite.get index h ≡ Some i → slice_get (handles_by_place living) i ≡ Some h
-  place_from_placed e =
-      let at = indexed.each_place h i e in search (rules, from_place living i (some_entity h) at.0, at)
+  pub place_from_placed : fin_get index h ≡ Some i → slice_get (handles_by_place living) i ≡ Some h
+  place_from_placed e = search (rules, from_place living i (some_entity h), some_entity h)
 
 -- the entity whose handle stands at a place
-pub record IsEntityAt (living : List LivingEntity) (s : Store) (h : Handle) (i : ℕ) : Type 0 where
-  pub inside : i < length living
-  pub found : finite.get s.entities h ≡ Some (entity_of (get_or living i (some_entity h)))
-
 module _ (living : List LivingEntity) (index : FinMap handle_cmp ℕ) (spare : ℕ) (s : Store)
     (indexed : IsIndexed living index) (view : record {
       entities = map_of living;
       places = handles_by_place living;
       spare = spare;
     } ≡ s) (h : Handle) where
-  pub placed_at : (i : ℕ) → slice_get s.places i ≡ Some h → finite.get index h ≡ Some i
+  pub placed_at : (i : ℕ) → slice_get s.places i ≡ Some h → fin_get index h ≡ Some i
   placed_at i at = search (rules, placed_from_place)
 
-  pub entity_at : (i : ℕ) → slice_get s.places i ≡ Some h → IsEntityAt living s h i
-  entity_at i at = search (rules, placed_at, get_placed, some_entity)
+  pub inside_at : (i : ℕ) → slice_get s.places i ≡ Some h → i < length living
+  inside_at i at = search (rules, placed_at)
+
+  pub found_at : (i : ℕ) → slice_get s.places i ≡ Some h
+      → fin_get s.entities h ≡ Some (entity_of (get_or living i (some_entity h)))
+  found_at i at = search (rules, placed_at, get_placed)
+
+  -- the last one has moved into the place
+  pub places_without : (i : ℕ) → slice_get s.places i ≡ Some h → (left : List LivingEntity) → IsMovedInto living i left
+      → AreWithout i s.places (handles_by_place left)
+  places_without i at left rest =
+      let inside = inside_at i at in
+      let taken = filled_map (λ (e : LivingEntity). e.handle) living left i (filled living left i _ _ (some_entity h)
+      refl refl rest.one_less (rest.moved, rest.others)) in
+      search rules
 
 -- an entity that keeps its handle
 pub handles_set : (living : List LivingEntity) (i : ℕ) (entity : LivingEntity)
@@ -52,13 +59,10 @@ handles_set (x ∷ living) (suc i) entity is = search (rules, handles_set living
 
 -- a handle has a place if it is in the map
 pub placed_known : (living : List LivingEntity) (index : FinMap handle_cmp ℕ) → IsIndexed living index → (h : Handle)
-    → is_some (finite.get index h) ≡ is_some (finite.get (map_of living) h)
-placed_known living index indexed h = grind (arith, common_steps, get_unplaced living index indexed h, λ (i : ℕ). get_placed living index indexed h i (some_entity h))
+    → is_some (fin_get index h) ≡ is_some (fin_get (map_of living) h)
+placed_known living index indexed h = grind
+    (arith, common_steps, get_unplaced living index indexed h, λ (i : ℕ). get_placed living index indexed h i (some_entity h))
 
--- the last one has moved into the place
-pub handles_without : (living left : List LivingEntity) (i : ℕ) (h : Handle) → i < length living
-    → IsMovedInto living i left → AreWithout i (handles_by_place living) (handles_by_place left)
-handles_without living left i h inside rest =
-    let taken = filled_map (λ (e : LivingEntity). e.handle) living left i (filled living left i _ _ (some_entity h) refl
-    refl rest.one_less (rest.moved, rest.others)) in
-    search rules
+-- two values of `Places` with the same parts are the same
+pub same_places : (p q : Places) → p.by_handle ≡ q.by_handle → p.room ≡ q.room → p ≡ q
+same_places p q by_handle room = λ i. record { by_handle = by_handle i; room = room i }

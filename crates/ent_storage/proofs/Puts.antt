@@ -1,5 +1,5 @@
 -- Components that are put one after the other.
-use Rattle.ent_storage.proofs.Common.{common_steps, rules, ◌≡◌, ◌∙◌, refl, ap, arith, ◌+◌, ◌<◌, ◌≤◌, ℕ, ℤ, List, [], ◌∷◌, length, reverse, T, cond, is_some, Some, None, reverse_aux, put, find, is_sorted, find-put, length-put, is_sorted-put, eq_by_cmp, ComponentId, component_cmp, component_cmp_total, Bundle, with_put, bundle_of}
+use Rattle.ent_storage.proofs.Common.{common_steps, rules, ◌≡◌, ◌∙◌, refl, ap, arith, ◌+◌, ◌<◌, ◌≤◌, ℕ, ℤ, List, [], ◌∷◌, length, reverse, T, cond, is_some, Some, None, reverse_aux, put, find, is_sorted, find-put, length-put, is_sorted-put, eq_by_cmp, ComponentId, component_cmp, component_cmp_total, Bundle, with_put, bundle_of, ◌^◌, Ordering, All, refill, All-nil, All-head, All-tail, All-cons, take-append_seam, Less, Equal, Greater, w64, FitsSigned, by_order, IsItem, IsBundle}
 
 -- A later item counts before an earlier one, and before what was held.
 find_with : (id : ComponentId) (held earlier items : List (ComponentId × ℤ))
@@ -36,3 +36,31 @@ pub more_than : (n : ℕ) (held : Bundle) (id : ComponentId) (value : ℤ) (item
     → T (is_sorted component_cmp held) → n ≤ length held → find component_cmp id held ≡ None
     → n < length (with_put (put component_cmp id value held) items)
 more_than n held id value items rising full absent = search (rules, grown, no_shorter, still_rising)
+
+-- ---- a bundle stays one when a component is put
+
+module _ (id : ComponentId) (value : ℤ) where
+  abbrev putting : ComponentId × ℤ → Bundle → Ordering → Bundle
+  putting item items r = by_order r ((id, value) ∷ item ∷ items) ((item.0, value) ∷ items)
+      (item ∷ put component_cmp id value items)
+
+  all_put : id.0 < 2 ^ 8 → FitsSigned w64 value → (items : Bundle) → All IsItem items
+      → All IsItem (put component_cmp id value items)
+  all_put small fits [] all = search (rules, All-cons, All-nil)
+  all_put small fits (item ∷ items) all =
+      let first = All-head IsItem item items all in
+      let rest = all_put small fits items (All-tail IsItem item items all) in
+      elim (component_cmp id item.0) as (λ r. All IsItem (putting item items r)) [
+        | Less ↦ search (rules, All-cons)
+        | Equal ↦ search (rules, All-cons, All-tail)
+        | Greater ↦ search (rules, All-cons)
+      ]
+
+  -- a bundle stays one
+  pub bundle_put : id.0 < 2 ^ 8 → FitsSigned w64 value → (items : Bundle) → IsBundle items
+      → IsBundle (put component_cmp id value items)
+  bundle_put small fits items is = search (rules, is_sorted-put, all_put)
+
+-- what is written back where a slice of all was lent
+pub refill_whole : (xs ws : Bundle) → length ws ≡ length xs → refill (length xs) xs ws ≡ ws
+refill_whole xs ws e = search (rules, take-append_seam)

@@ -1,8 +1,6 @@
 -- Lists of pairs whose keys strictly rise, as maps: what an edit at a position leaves.
-use Rattle.ent_storage.proofs.Common.{common_steps, rules, ◌≡◌, ℕ, zero, suc, ◌+◌, ◌-◌, ◌<◌, ◌≤◌, inl, inr, Bool, T, ◌&&◌, List, [], ◌∷◌, length, get_or, set, Some, None, Ordering, refl, sym, ap, subst, ◌∙◌, arith, Less, Equal, Greater, is_eq, IsTotalOrder, insert, HoldsAt, cases_lt, IsAntisymmetric, find, put, is_sorted, is_sorted-put, IsAt, IsGapFor}
-use Rattle.std.specs.FinMap as map
-use Rattle.ent_storage.proofs.Positions.{second, turn, rising_at}
-use Rattle.ent_storage.proofs.Putting.{above_head, find_in_gap, inserted, written}
+use Rattle.ent_storage.proofs.Common.{common_steps, rules, ◌≡◌, ℕ, zero, suc, ◌+◌, ◌-◌, ◌<◌, ◌≤◌, inl, inr, Bool, T, ◌&&◌, List, [], ◌∷◌, length, get_or, set, Some, None, Ordering, refl, sym, ap, subst, ◌∙◌, arith, Less, Equal, Greater, is_eq, IsTotalOrder, insert, HoldsAt, cases_lt, IsAntisymmetric, find, put, is_sorted, is_sorted-put, IsAt, IsGapFor, fin_empty, fin_empty_of_len, fin_entries-from_sorted, fin_entries-insert, fin_from_sorted, fin_get, fin_get-from_sorted, fin_insert, fin_len-entries, fin_same_entries_map}
+use Rattle.ent_storage.proofs.Positions.{second, turn, rising_at, above_head, find_in_gap, inserted, written}
 
 pub both : (a b : Bool) → T a → T b → T (a && b)
 both a b x y = search rules
@@ -21,9 +19,9 @@ module _ {K X : Type 0} {R : K → K → Ordering} (o : IsTotalOrder R) where
 
   -- the maps of the edited lists
   pub from_sorted-put : (es : List (K × X)) (k : K) (v : X) → T (is_sorted R es)
-      → map.from_sorted {R = R} (put R k v es) ≡ map.insert (map.from_sorted es) k v
-  from_sorted-put es k v h = map.same_entries_map _ _ (map.entries-from_sorted R _ (is_sorted-put R o k v es h)
-      ∙ sym (map.entries-insert o (map.from_sorted es) k v ∙ ap (put R k v) (map.entries-from_sorted R es h)))
+      → fin_from_sorted {R = R} (put R k v es) ≡ fin_insert (fin_from_sorted es) k v
+  from_sorted-put es k v h = fin_same_entries_map _ _ (fin_entries-from_sorted R _ (is_sorted-put R o k v es h)
+      ∙ sym (fin_entries-insert o (fin_from_sorted es) k v ∙ ap (put R k v) (fin_entries-from_sorted R es h)))
 
 -- a key between two neighbours is between all pairs before and all after
 pub gap_from_neighbours : {K X : Type 0} {R : K → K → Ordering} (o : IsTotalOrder R) (es : List (K × X)) (k : K) (p : ℕ)
@@ -32,35 +30,33 @@ pub gap_from_neighbours : {K X : Type 0} {R : K → K → Ordering} (o : IsTotal
 gap_from_neighbours {K = K} {X = X} {R = R} o es k p rising l before after = record {
   in_range = l;
   smaller_before = λ j d low high. elim (cases_lt (j + 1) p) [
-    | inl far ↦ o.trans _ _ _ (rising_at o es j (p - 1) d rising (omega arith) (omega arith))
-        (before (p - 1) (omega arith) d)
+    | inl far ↦ search (rules, arith, o.trans, rising_at o es j (p - 1) d rising, before (p - 1))
     | inr near ↦ before j (omega arith) d
   ];
   greater_after = λ j d low high. elim (cases_lt p j) [
-    | inl far ↦ turn o k (get_or es j d).0 Less (o.trans _ _ _
-        (turn o (get_or es p d).0 k Greater (after (omega arith) d)) (rising_at o es p j d rising far high))
+    | inl far ↦ search (rules, arith, turn o, o.trans, after, rising_at o es p j d rising)
     | inr near ↦ let same : j ≡ p = omega arith in rw same (after (omega arith) d)
   ];
 }
 
-pub from_sorted-nil : {K X : Type 0} (R : K → K → Ordering) → map.from_sorted {X = X} {R = R} [] ≡ map.empty
-from_sorted-nil R = map.empty_of_len _ (map.len-entries _ ∙ ap length (map.entries-from_sorted R [] tt))
+pub from_sorted-nil : {K X : Type 0} (R : K → K → Ordering) → fin_from_sorted {X = X} {R = R} [] ≡ fin_empty
+from_sorted-nil R = fin_empty_of_len _ (fin_len-entries _ ∙ ap length (fin_entries-from_sorted R [] tt))
 
 -- what an edit leaves, if the pairs stand for a map
 module _ {K X : Type 0} {R : K → K → Ordering} (o : IsTotalOrder R) (same : IsAntisymmetric R) (es : List (K × X))
     (h : T (is_sorted R es)) (k : K) (i : ℕ) where
-  pub get_at : (d : K × X) → IsAt R es k i → map.get (map.from_sorted {R = R} es) k ≡ Some (get_or es i d).1
-  get_at d at = map.get-from_sorted R es k h ∙ find_at o es k i d h at.in_range (at.has_key d)
+  pub get_at : (d : K × X) → IsAt R es k i → fin_get (fin_from_sorted {R = R} es) k ≡ Some (get_or es i d).1
+  get_at d at = fin_get-from_sorted R es k h ∙ find_at o es k i d h at.in_range (at.has_key d)
 
-  pub get_in_gap : IsGapFor R es k i → map.get (map.from_sorted {R = R} es) k ≡ None
-  get_in_gap gap = map.get-from_sorted R es k h ∙ find_in_gap o es k i gap
+  pub get_in_gap : IsGapFor R es k i → fin_get (fin_from_sorted {R = R} es) k ≡ None
+  get_in_gap gap = fin_get-from_sorted R es k h ∙ find_in_gap o es k i gap
 
   pub rising_insert : (v : X) → IsGapFor R es k i → T (is_sorted R (insert es i (k, v)))
   rising_insert v gap = subst (λ fs. T (is_sorted R fs)) (sym (inserted o es k v i v gap refl))
       (is_sorted-put R o k v es h)
 
-  pub map_insert : (v : X) → IsGapFor R es k i → map.from_sorted {R = R} (insert es i (k, v))
-      ≡ map.insert (map.from_sorted es) k v
+  pub map_insert : (v : X) → IsGapFor R es k i → fin_from_sorted {R = R} (insert es i (k, v))
+      ≡ fin_insert (fin_from_sorted es) k v
   map_insert v gap = search (rules, inserted o es k v i v gap refl, from_sorted-put o es k v h)
 
   put_over : (v : X) → IsAt R es k i → put R k v es ≡ set es i (k, v)
@@ -69,6 +65,6 @@ module _ {K X : Type 0} {R : K → K → Ordering} (o : IsTotalOrder R) (same : 
   pub rising_set : (v : X) → IsAt R es k i → T (is_sorted R (set es i (k, v)))
   rising_set v at = subst (λ fs. T (is_sorted R fs)) (put_over v at) (is_sorted-put R o k v es h)
 
-  pub map_set : (v : X) → IsAt R es k i → map.from_sorted {R = R} (set es i (k, v))
-      ≡ map.insert (map.from_sorted es) k v
+  pub map_set : (v : X) → IsAt R es k i → fin_from_sorted {R = R} (set es i (k, v))
+      ≡ fin_insert (fin_from_sorted es) k v
   map_set v at = search (rules, put_over v, from_sorted-put o es k v h)

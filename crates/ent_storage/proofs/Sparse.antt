@@ -1,7 +1,5 @@
 -- The entries of a sparse map and the positions of slots: what they stand for, after each change.
-use Rattle.ent_storage.proofs.Common.{rules, ◌≡◌, ◌≢◌, ℕ, zero, suc, ◌+◌, ◌<◌, ◌≤◌, ◌^◌, true, false, cond, ◌⊎◌, List, [], ◌∷◌, ◌++◌, length, map, set, get_or, Option, Some, None, slice_get, refl, sym, ap, subst, ◌∙◌, arith, is_some, cases_lt, false≢true, nat_tests, length-set, same_Some, some_pair_parts, none-some, slice_get_within, slice_get-get_or, get_or_from_slice_get, eq_by_cmp, Handle, handle_cmp, handle_eq, total, same, HandleValues, HasLater, without_slot, error_of, AllZip, Later, Memory, Uninserted, values_of, IsPositioned, AreEntries, IsEntryClone, AreCloned, Result, Ok, Err, OnErr, IfOk, IfErr}
-use Rattle.std.specs.FinMap as finite
-use Rattle.ent_storage.specs.SparseMap.{IsFree}
+use Rattle.ent_storage.proofs.Common.{rules, ◌≡◌, ◌≢◌, ℕ, zero, suc, ◌+◌, ◌<◌, ◌≤◌, ◌^◌, true, false, cond, ◌⊎◌, List, [], ◌∷◌, ◌++◌, length, map, set, get_or, Option, Some, None, slice_get, refl, sym, ap, subst, ◌∙◌, arith, is_some, cases_lt, false≢true, nat_tests, length-set, same_Some, some_pair_parts, none-some, slice_get_within, slice_get-get_or, get_or_from_slice_get, eq_by_cmp, Handle, handle_cmp, handle_eq, total, same, HandleValues, HasLater, without_slot, error_of, AllZip, Later, Memory, Uninserted, values_of, IsPositioned, AreEntries, IsEntryClone, AreCloned, Result, Ok, Err, OnErr, IfOk, IfErr, fin_get, fin_insert, fin_len, fin_remove, IsFreeSlot as IsFree}
 use Rattle.ent_storage.proofs.ElementsAt.{at_set, at_set_same, at_set_other, at_push_before, at_push_end, same_option, at_pushed, IsFilled, IsOnce, entry_at, has_entry, len_once, values_set, values_taken}
 use Rattle.ent_storage.proofs.Entries.{is_put}
 use Rattle.ent_storage.proofs.Keys.{some_value, same_or_apart, tied, apart, few_apart}
@@ -10,7 +8,7 @@ module _ {X : Type 0} where
   -- ---- what the entries stand for
 
   module _ (D : List (Handle × X)) (h : Handle) where
-    at : (v : X) → finite.get (values_of D) h ≡ Some v → (k : ℕ) × (slice_get D k ≡ Some (h, v))
+    at : (v : X) → fin_get (values_of D) h ≡ Some v → (k : ℕ) × (slice_get D k ≡ Some (h, v))
     at v e = entry_at total same D h v e
 
   module _ (D : List (Handle × X)) (S : List ℕ) (is : IsPositioned D S) where
@@ -21,39 +19,38 @@ module _ {X : Type 0} where
     once : IsOnce D
     once j k h v w a b = one_slot j k h h v w a b refl
 
-    pub has : (k : ℕ) (h : Handle) (v : X) → slice_get D k ≡ Some (h, v) → finite.get (values_of D) h ≡ Some v
+    pub has : (k : ℕ) (h : Handle) (v : X) → slice_get D k ≡ Some (h, v) → fin_get (values_of D) h ≡ Some v
     has k h v e = has_entry total same D once k h v e
 
     -- what the map has at a handle of a slot that has an entry
     pub got : (k : ℕ) (h : Handle) (v : X) → slice_get D k ≡ Some (h, v) → (q : Handle) → q.index ≡ h.index
-        → finite.get (values_of D) q ≡ cond (eq_by_cmp handle_cmp q h) (Some v) None
+        → fin_get (values_of D) q ≡ cond (eq_by_cmp handle_cmp q h) (Some v) None
     got k h v e q slot = search
         (rules, same_or_apart, has, tied, apart, one_slot, some_pair_parts, same_option, at, none-some)
 
     -- and at a handle of a slot without one
-    pub none_free : (q : Handle) → IsFree D q.index → finite.get (values_of D) q ≡ None
+    pub none_free : (q : Handle) → IsFree D q.index → fin_get (values_of D) q ≡ None
     none_free q free = search (rules, same_option, at, none-some)
 
     -- a handle without an entry where the position of its slot says has no value
     pub missing : (h : Handle) → ((k : ℕ) (v : X) → slice_get S h.index ≡ Some k → slice_get D k ≢ Some (h, v))
-        → finite.get (values_of D) h ≡ None
+        → fin_get (values_of D) h ≡ None
     missing h none = search (rules, same_option, at, none-some)
 
   -- how many there are
-  pub counted : (D : List (Handle × X)) (S : List ℕ) → IsPositioned D S → finite.len (values_of D) ≡ length D
+  pub counted : (D : List (Handle × X)) (S : List ℕ) → IsPositioned D S → fin_len (values_of D) ≡ length D
   counted D S is = len_once total same D (once D S is)
 
   -- no more entries than slots
   pub fits : (D : List (Handle × X)) (S : List ℕ) → IsPositioned D S → Handle × X → length D ≤ length S
-  fits D S is unused = few_apart (λ (e : Handle × X). e.0.index) D (length S)
-      (λ i j d l k e. omega (arith, one_slot D S is i j (get_or D i d).0 (get_or D j d).0 (get_or D i d).1 (get_or D j d).1 (slice_get-get_or D i d (omega arith)) (slice_get-get_or D j d k) e))
-      (λ k d l. slice_get_within S _ k (is.entry k _ _ (slice_get-get_or D k d l)))
+  fits D S is unused = search
+      (rules, arith, few_apart (λ (e : Handle × X). e.0.index) D (length S), one_slot, slice_get-get_or, slice_get_within)
 
   -- two lists with the same entries of a handle
   module _ (D E : List (Handle × X)) (S U : List ℕ) (is : IsPositioned D S) (to : IsPositioned E U) (q : Handle)
       (there : (k : ℕ) (v : X) → slice_get D k ≡ Some (q, v) → (j : ℕ) × (slice_get E j ≡ Some (q, v)))
       (back : (k : ℕ) (v : X) → slice_get E k ≡ Some (q, v) → (j : ℕ) × (slice_get D j ≡ Some (q, v))) where
-    pub same_at : finite.get (values_of D) q ≡ finite.get (values_of E) q
+    pub same_at : fin_get (values_of D) q ≡ fin_get (values_of E) q
     same_at = search (rules, same_option, at, has)
 
   -- an entry is written over, with a handle of the same slot
@@ -65,13 +62,13 @@ module _ {X : Type 0} where
     pub over_positioned : IsPositioned (set D i (h, v)) S
     over_positioned = search (rules, at_set, inside)
 
-    pub over_values : values_of (set D i (h, v)) ≡ finite.insert (without_slot (values_of D) h.index) h v
+    pub over_values : values_of (set D i (h, v)) ≡ fin_insert (without_slot (values_of D) h.index) h v
     over_values = is_put _ _ h (λ q ne. search (rules, same_at, over_positioned, at_set, inside)) v
         (got (set D i (h, v)) S over_positioned i h v (at_set_same D i (h, v) inside))
 
     -- the same handle
-    pub written_values : p ≡ h → values_of (set D i (h, v)) ≡ finite.insert (values_of D) h v
-    written_values eq = subst (λ q. values_of (set D i (q, v)) ≡ finite.insert (values_of D) q v) eq
+    pub written_values : p ≡ h → values_of (set D i (h, v)) ≡ fin_insert (values_of D) h v
+    written_values eq = subst (λ q. values_of (set D i (q, v)) ≡ fin_insert (values_of D) q v) eq
         (values_set total same D (once D S is) i p u here v)
 
   -- a slot without an entry gets one
@@ -85,16 +82,15 @@ module _ {X : Type 0} where
         → slice_get (D ++ (h, v) ∷ []) k ≡ Some (q, w) → (j : ℕ) × (slice_get D j ≡ Some (q, w))
     not_pushed q ne k w c e = search (rules, at_push_before, at_push_end, some_pair_parts)
 
-    pub pushed_values : values_of (D ++ (h, v) ∷ []) ≡ finite.insert (without_slot (values_of D) h.index) h v
-    pushed_values = is_put _ _ h (λ q ne. same_at (D ++ (h, v) ∷ []) D (set S h.index (length D)) S pushed_positioned is
-        q (λ k w e. not_pushed q ne k w (cases_lt k (length D)) e)
-        (λ k w e. (k, at_push_before D (h, v) k (slice_get_within D k (q, w) e) ∙ e))) v
+    pub pushed_values : values_of (D ++ (h, v) ∷ []) ≡ fin_insert (without_slot (values_of D) h.index) h v
+    pushed_values = is_put _ _ h (λ q ne. search
+        (rules, same_at, pushed_positioned, not_pushed q ne, cases_lt, at_push_before, slice_get_within)) v
         (got _ _ pushed_positioned (length D) h v (at_pushed D (h, v)))
 
   -- an entry is taken out, and the last one moves to its position
   module _ (D : List (Handle × X)) (S : List ℕ) (is : IsPositioned D S) (i : ℕ) (h : Handle) (u : X)
       (here : slice_get D i ≡ Some (h, u)) (L : List (Handle × X)) (rest : IsFilled D i L) where
-    pub taken_values : (U : List ℕ) → IsPositioned L U → values_of L ≡ finite.remove (values_of D) h
+    pub taken_values : (U : List ℕ) → IsPositioned L U → values_of L ≡ fin_remove (values_of D) h
     taken_values U to = values_taken total same D (once D S is) i h u here L (once L U to) rest
 
     -- the last entry itself was taken out
@@ -125,14 +121,14 @@ not_handle a b e eq = search (rules, false≢true)
 -- the entry of a handle, at a position
 pub record IsStanding {X : Type 0} (D : List (Handle × X)) (h : Handle) (p : ℕ) : Type 0 where
   pub v : X
-  pub has : finite.get (values_of D) h ≡ Some v
+  pub has : fin_get (values_of D) h ≡ Some v
   pub entry : slice_get D p ≡ Some (h, v)
 
 module _ {X : Type 0} (D : List (Handle × X)) (S : List ℕ) (is : IsPositioned D S) where
   -- ---- a handle that has a value
 
   module _ (values : HandleValues X) (view : values_of D ≡ values) (h : Handle)
-      (some : is_some (finite.get values h) ≡ true) where
+      (some : is_some (fin_get values h) ≡ true) where
     pub in_slots : h.index < length S
     in_slots = search (rules, at, slice_get_within, some_value)
 
@@ -149,16 +145,16 @@ module _ {X : Type 0} (D : List (Handle × X)) (S : List ℕ) (is : IsPositioned
   few_entries unused = omega (arith, is.few, fits D S is unused)
 
   pub full_for : (room index : ℕ) → (length S ≤ index) ⊎ (room ≤ length D)
-      → (length S ≤ index) ⊎ (room ≤ finite.len (values_of D))
+      → (length S ≤ index) ⊎ (room ≤ fin_len (values_of D))
   full_for room index full = search (rules, counted)
 
   -- ---- an entry that is read at a position
 
   module _ (k : ℕ) (x : Handle × X) (here : slice_get D k ≡ Some (x.0, x.1)) (h : Handle) where
-    pub had : x.0 ≡ h → finite.get (values_of D) h ≡ Some x.1
+    pub had : x.0 ≡ h → fin_get (values_of D) h ≡ Some x.1
     had e = has D S is k h x.1 (here ∙ (λ i. Some (e i, x.1)))
 
-    pub had_other : x.0.index ≡ h.index → x.0 ≢ h → finite.get (values_of D) h ≡ None
+    pub had_other : x.0.index ≡ h.index → x.0 ≢ h → fin_get (values_of D) h ≡ None
     had_other slot ne = got D S is k x.0 x.1 here h (sym slot) ∙ ap (λ b. cond b (Some x.1) None) (apart total same h
         x.0 (λ e. ne (sym e)))
 

@@ -1,7 +1,6 @@
 -- An entity is taken out of the living, and the last one moves into its place: the index and what
 -- the two stand for.
-use Rattle.ent_storage.proofs.Common.{map, ◌≡◌, ◌≢◌, ℕ, ◌+◌, ◌-◌, ◌<◌, ◌≤◌, true, List, length, get_or, Some, None, is_some, refl, sym, ap, ◌∙◌, arith, rules, get_or_default, cases_lt, FinMap, Handle, handle_cmp, total, same, LivingEntity, IsMovedInto, map_of, IsIndexed}
-use Rattle.std.specs.FinMap as finite
+use Rattle.ent_storage.proofs.Common.{map, ◌≡◌, ◌≢◌, ℕ, ◌+◌, ◌-◌, ◌<◌, ◌≤◌, true, List, length, get_or, Some, None, is_some, refl, arith, rules, cases_lt, FinMap, Handle, handle_cmp, total, same, LivingEntity, IsMovedInto, map_of, IsIndexed, fin_get, fin_insert, fin_remove}
 use Rattle.ent_storage.proofs.ElementsAt.{filled, filled_map, values_taken}
 use Rattle.ent_storage.proofs.Keys.{same_or_apart, insert_tells, remove_tells}
 use Rattle.ent_storage.proofs.Indexed.{entry, once, entry_placed, some_not_none, same_number, some_entity, same_place}
@@ -11,20 +10,18 @@ use Rattle.ent_storage.proofs.Indexed.{entry, once, entry_placed, some_not_none,
 -- the index without the handle of that entity
 pub record IsIndexWithout (index : FinMap handle_cmp ℕ) (living : List LivingEntity) (h : Handle)
     (i : ℕ) (left : FinMap handle_cmp ℕ) : Type 0 where
-  pub gone : finite.get left h ≡ None
-  pub stay : (q : Handle) (k : ℕ) → q ≢ h → k + 1 < length living → finite.get index q ≡ Some k
-      → finite.get left q ≡ Some k
+  pub gone : fin_get left h ≡ None
+  pub stay : (q : Handle) (k : ℕ) → q ≢ h → k + 1 < length living → fin_get index q ≡ Some k
+      → fin_get left q ≡ Some k
   pub move : (q : Handle) (k : ℕ) → q ≢ h → i + 1 < length living → k + 1 ≡ length living
-      → finite.get index q ≡ Some k → finite.get left q ≡ Some i
-  pub missing : (q : Handle) → finite.get index q ≡ None → finite.get left q ≡ None
+      → fin_get index q ≡ Some k → fin_get left q ≡ Some i
+  pub missing : (q : Handle) → fin_get index q ≡ None → fin_get left q ≡ None
 
 module _ (living : List LivingEntity) (index : FinMap handle_cmp ℕ) (indexed : IsIndexed living index) (h : Handle)
-    (i : ℕ) (placed : finite.get index h ≡ Some i) where
+    (i : ℕ) (placed : fin_get index h ≡ Some i) where
   -- another handle has another place
-  elsewhere : (q : Handle) (k : ℕ) (d : LivingEntity) → q ≢ h → finite.get index q ≡ Some k → k ≢ i
-  elsewhere q k d n at e =
-      let h_is = (indexed.each_place h i placed).1 d in
-      n (sym ((indexed.each_place q k at).1 d) ∙ ap (λ (j : ℕ). (get_or living j d).handle) e ∙ h_is)
+  elsewhere : (q : Handle) (k : ℕ) (d : LivingEntity) → q ≢ h → fin_get index q ≡ Some k → k ≢ i
+  elsewhere q k d n at e = n (cc ((indexed.each_place h i placed).1 d, (indexed.each_place q k at).1 d))
 
   module _ (left : List LivingEntity) (without : FinMap handle_cmp ℕ) (rest : IsMovedInto living i left)
       (now : IsIndexWithout index living h i without) where
@@ -33,31 +30,26 @@ module _ (living : List LivingEntity) (index : FinMap handle_cmp ℕ) (indexed :
         (rules, same_number, same_or_apart, some_not_none, same_place, elsewhere, some_entity, cases_lt)
 
     -- the map is without that handle
-    pub entities_without : map_of left ≡ finite.remove (map_of living) h
+    pub entities_without : map_of left ≡ fin_remove (map_of living) h
     entities_without = values_taken total same (map entry living) (once living index indexed) i h _
         (entry_placed living index indexed h i (some_entity h) placed) (map entry left)
         (once left without indexed_without) (filled_map entry living left i
         (filled living left i _ _ (some_entity h) refl refl rest.one_less (rest.moved, rest.others)))
 
   -- the index, if the entity was the last
-  pub without_last : i + 1 ≡ length living → IsIndexWithout index living h i (finite.remove index h)
-  without_last last = record {
-    gone = grind (arith, remove_tells total same);
-    stay = λ q k n l at. grind (arith, remove_tells total same);
-    move = λ q k n room is at. absurd (omega arith);
-    missing = λ q none. grind (arith, remove_tells total same);
-  }
+  pub without_last : i + 1 ≡ length living → IsIndexWithout index living h i (fin_remove index h)
+  without_last last = search (rules, arith, remove_tells total same index h)
 
   -- the index, if the last entity has moved
   module _ (room : i + 1 < length living) (m : Handle) (is : (d : LivingEntity)
       → (get_or living (length living - 1) d).handle ≡ m) where
-    placed_last : finite.get index m ≡ Some (length living - 1)
-    placed_last = let last = is (some_entity h) in search (rules, last)
+    placed_last : fin_get index m ≡ Some (length living - 1)
+    placed_last = search (rules, is (some_entity h))
 
     not_gone : h ≢ m
     not_gone e = search (rules, same_place, placed_last)
 
-    pub without_moved : IsIndexWithout index living h i (finite.insert (finite.remove index h) m i)
+    pub without_moved : IsIndexWithout index living h i (fin_insert (fin_remove index h) m i)
     without_moved = record {
       gone = grind (arith, insert_tells total same, remove_tells total same, not_gone);
       stay = λ q k n l at. grind (arith, insert_tells total same, remove_tells total same, placed_last);
@@ -68,27 +60,30 @@ module _ (living : List LivingEntity) (index : FinMap handle_cmp ℕ) (indexed :
 
 -- the entity was the last, or not
 module _ (living : List LivingEntity) (index : FinMap handle_cmp ℕ) (indexed : IsIndexed living index) (h : Handle)
-    (i : ℕ) (placed : finite.get index h ≡ Some i) (left : List LivingEntity) (rest : IsMovedInto living i left) where
-  module _ (room : i < length left) (entity : LivingEntity) (read : entity ≡ get_or left i entity) where
+    (i : ℕ) (placed : fin_get index h ≡ Some i) (left : List LivingEntity) (rest : IsMovedInto living i left) where
+  module _ (room : i < length left) (m : Handle) (is : (d : LivingEntity) → m ≡ (get_or left i d).handle) where
     not_the_last : i + 1 < length living
     not_the_last = omega (arith, rest.one_less)
 
-    was_last : (d : LivingEntity) → (get_or living (length living - 1) d).handle ≡ entity.handle
-    was_last d = search (rules, not_the_last, get_or_default)
+    was_last : (d : LivingEntity) → (get_or living (length living - 1) d).handle ≡ m
+    was_last d = let moved = rest.moved d not_the_last in cc (is d)
 
-    pub moved_is_there : is_some (finite.get (finite.remove index h) entity.handle) ≡ true
-    moved_is_there = grind (arith, remove_tells total same)
+    pub moved_is_there : is_some (fin_get (fin_remove index h) m) ≡ true
+    moved_is_there =
+        let last = placed_last living index indexed h i placed not_the_last m was_last in
+        let other = not_gone living index indexed h i placed not_the_last m was_last in
+        grind (arith, remove_tells total same index h m)
 
-    pub indexed_moved : IsIndexed left (finite.insert (finite.remove index h) entity.handle i)
+    pub indexed_moved : IsIndexed left (fin_insert (fin_remove index h) m i)
     indexed_moved = search (rules, indexed_without, without_moved, not_the_last, was_last)
 
-    pub entities_moved : map_of left ≡ finite.remove (map_of living) h
+    pub entities_moved : map_of left ≡ fin_remove (map_of living) h
     entities_moved = entities_without living index indexed h i placed left _ rest
-        (without_moved living index indexed h i placed not_the_last entity.handle was_last)
+        (without_moved living index indexed h i placed not_the_last m was_last)
 
   module _ (last : length left ≤ i) where
-    pub indexed_popped : IsIndexed left (finite.remove index h)
+    pub indexed_popped : IsIndexed left (fin_remove index h)
     indexed_popped = search (rules, indexed_without, without_last)
 
-    pub entities_popped : map_of left ≡ finite.remove (map_of living) h
+    pub entities_popped : map_of left ≡ fin_remove (map_of living) h
     entities_popped = search (rules, entities_without, without_last)

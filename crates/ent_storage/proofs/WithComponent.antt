@@ -1,7 +1,5 @@
 -- The entities that have a component, by the pairs of its dense vector.
-use Rattle.ent_storage.proofs.Common.{false, All-map, get_or-map, same_lists, option_and_then_some, rules, ◌≡◌, ◌≢◌, ℕ, ℤ, ◌<◌, Bool, true, List, length, get_or, map, Option, IsSome, [], ◌∷◌, Some, slice_get, pos, Contains, inl, inr, refl, sym, ap, subst, ◌∙◌, arith, All, AllPairs, IsDistinct, cases_lt, length-map, get_or_default, none-some, same_Some, slice_get-map, slice_get-get_or, slice_get_past, IsDistinct-from_apart, FinMap, Birth, ComponentId, Handle, handle_cmp, handle_cmp_total, handle_cmp-IsAntisymmetric, Entity, value_of, ListsWith, IsInOrder, LivingEntity, IsValueAt, born_at, entity_of, map_of, handles_by_place, IsIndexed}
-use Rattle.std.proofs.Common.{option_and_then}
-use Rattle.std.specs.FinMap as finite
+use Rattle.ent_storage.proofs.Common.{false, All-map, get_or-map, same_lists, option_and_then_some, rules, ◌≡◌, ◌≢◌, ℕ, ℤ, ◌<◌, Bool, true, List, length, get_or, map, Option, IsSome, [], ◌∷◌, Some, slice_get, pos, Contains, inl, inr, refl, sym, ap, subst, ◌∙◌, arith, All, AllPairs, IsDistinct, cases_lt, length-map, get_or_default, none-some, same_Some, slice_get-map, slice_get-get_or, slice_get_past, IsDistinct-from_apart, FinMap, Birth, ComponentId, Handle, handle_cmp, handle_cmp_total, handle_cmp-IsAntisymmetric, Entity, value_of, ListsWith, IsInOrder, LivingEntity, IsValueAt, born_at, entity_of, map_of, handles_by_place, IsIndexed, fin_contains_key, fin_get, option_and_then}
 use Rattle.ent_storage.proofs.Keys.{apart, some_value, AllPairs-map}
 use Rattle.ent_storage.proofs.Indexed.{some_entity, distinct, get_placed}
 use Rattle.ent_storage.proofs.Placed.{from_place}
@@ -16,20 +14,18 @@ pub pair_inside : (living : List LivingEntity) (id : ComponentId) (pairs : List 
     → ((p : ℕ) (v : ℤ) → Contains pairs (p, v) → IsValueAt living p id v) → (k : ℕ) (d : ℕ × ℤ) → k < length pairs
     → (get_or pairs k d).0 < length living
 pair_inside living id pairs has k d l =
-    let pair = get_or pairs k d in
-    value_inside living pair.0 id pair.1 (has pair.0 pair.1 (k, l, get_or_default pairs k (pair.0, pair.1) d l))
+    let pair = get_or pairs k d in value_inside _ _ id _ (has pair.0 pair.1 (k, l, get_or_default _ k _ d l))
 
 -- the map has at a place's handle what the entity there has
 pub same_value : (living : List LivingEntity) (index : FinMap handle_cmp ℕ) → IsIndexed living index
-    → (id : ComponentId) (p : ℕ) → option_and_then (λ (e : LivingEntity). finite.get e.components id)
+    → (id : ComponentId) (p : ℕ) → option_and_then (λ (e : LivingEntity). fin_get e.components id)
     (slice_get living p) ≡ option_and_then (λ (h : Handle). value_of (map_of living) h id)
     (slice_get (handles_by_place living) p)
 same_value living index indexed id p = elim (cases_lt p (length living)) [
   | inl l ↦
       let r : LivingEntity = some_entity (record { index = 0; generation = 0 }) in
-      let there = get_placed living index indexed (get_or living p r).handle p r (indexed.each_entity p l r) in
-      rw (slice_get-get_or living p r l, from_place living p r l, there)
-  | inr past ↦ rw (slice_get-map (λ (e : LivingEntity). e.handle) living p, slice_get_past living p past)
+      search (rules, get_placed, indexed.each_entity p l r, slice_get-get_or living p r l, from_place living p r l)
+  | inr past ↦ search (rules, slice_get-map (λ (e : LivingEntity). e.handle) living p, slice_get_past living p past)
 ]
 
 -- there are as many births as pairs
@@ -45,7 +41,7 @@ module _ (living : List LivingEntity) (index : FinMap handle_cmp ℕ) (indexed :
     (all : (p : ℕ) (v : ℤ) → IsValueAt living p id v → Contains pairs (p, v))
     (once : AllPairs (λ a b. a.0 ≢ b.0) pairs) where
   abbrev passes : Entity → Bool
-  passes e = finite.contains_key e.components id
+  passes e = fin_contains_key e.components id
 
   abbrev unused : LivingEntity
   unused = some_entity (record { index = 0; generation = 0 })
@@ -67,12 +63,14 @@ module _ (living : List LivingEntity) (index : FinMap handle_cmp ℕ) (indexed :
   all_born = rw births_are (All-map (IsBorn living index indexed passes) born pairs (λ k d l.
       let pair = get_or pairs k d in
       let inside = pair_inside living id pairs has k d l in
-      let value = has pair.0 pair.1 (k, l, get_or_default pairs k (pair.0, pair.1) d l) in
+      let value = has pair.0 pair.1 (k, l, get_or_default _ k _ d l) in
       record {
         entity = entity_of (get_or living pair.0 unused);
-        there = all_there living index indexed passes pair.0 unused inside;
+        there = all_there living index indexed passes
+            pair.0 unused inside;
         birth = refl;
-        pass = search (rules, slice_get-get_or living pair.0 unused inside, value);
+        pass = search
+            (rules, slice_get-get_or living pair.0 unused inside, value);
       }))
 
   births_apart : IsDistinct (alike living index indexed passes) births
@@ -86,8 +84,8 @@ module _ (living : List LivingEntity) (index : FinMap handle_cmp ℕ) (indexed :
       → Contains births (born_of (get_or living i r))
   complete i r l pass =
       let value = some_value _ pass in
-      let at = all i value.0 (search (rules, slice_get-get_or living i r l, value.1)) in
-      rw (births_are, get_or_default living i r unused l) (contains_map born pairs (i, value.0) at)
+      rw (births_are, get_or_default living i r unused l) (contains_map born pairs (i, value.0)
+      (all i value.0 (search (rules, slice_get-get_or living i r l, value.1))))
 
   pub lists_with : (handles : List Handle) → IsInOrder births handles → ListsWith id (map_of living) handles
   lists_with = lists_of living index indexed passes births all_born births_apart complete
@@ -99,7 +97,6 @@ pub some_with : (living : List LivingEntity) (index : FinMap handle_cmp ℕ) →
     → (id : ComponentId) (pairs : List (ℕ × ℤ)) → ((p : ℕ) (v : ℤ) → Contains pairs (p, v) → IsValueAt living p id v)
     → 0 < length pairs → (h : Handle) × IsSome (value_of (map_of living) h id)
 some_with living index indexed id [] has some = absurd (omega arith)
-some_with living index indexed id (pair ∷ pairs) has some = option_and_then_some
-    (λ (h : Handle). value_of (map_of living) h id) (slice_get (handles_by_place living) pair.0) pair.1
-    (sym (same_value living index indexed id pair.0) ∙ has pair.0 pair.1 (0, omega arith, refl))
+some_with living index indexed id (pair ∷ pairs) has some = option_and_then_some (λ (h : Handle). value_of _ h id) _ _
+    (sym (same_value _ _ indexed id _) ∙ has pair.0 pair.1 (0, omega arith, refl))
     (λ h _ at. (h, subst IsSome (sym at) refl))

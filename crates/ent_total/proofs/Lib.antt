@@ -1,5 +1,4 @@
 pub mod Recorded
-pub mod Replied
 pub mod Unused
 pub mod Walking
 mod Held

@@ -1,30 +1,25 @@
 -- The names that proofs of this crate cite, of std, of the crates below and of its own specs. Declares nothing.
-pub use Rattle.std.proofs.Common.{All, AllPairs, Bool, Contains, Err, IfErr, IfOk, IfSome, IsErrAnd, IsSomeAnd, IsTrue, List, None, Ok, OnErr, OnOk, Option, Result, Some, T, [], ap, append-nil, arith, cond, drop, eq-eqb, eqb, false, filter, get_or, inl, inr, is_err, is_none, is_some, length, map, min, not, option_map, refl, rules, slice_get, suc, sym, take, true, true≢false, unwrap_or, vec_capacity, vec_len, zero, ℕ, ℤ, ◌&&◌, ◌*◌, ◌++◌, ◌+◌, ◌-◌, ◌<◌, ◌^◌, ◌∙◌, ◌∷◌, ◌≡◌, ◌≢◌, ◌≤◌, ◌⊎◌}
-pub use Rattle.std.proofs.Math.ListN.{drop_of_length-le}
+pub use Rattle.std.proofs.Common.{All, AllPairs, Bool, Contains, Err, FitsSigned, IfErr, IfOk, IfSome, IsErrAnd, IsSomeAnd, IsTrue, Less, List, None, Ok, OnErr, OnOk, Option, Ordering, Result, Some, T, [], ap, append-nil, arith, cond, drop, drop_of_length-le, eq-eqb, eqb, false, filter, get_or, inl, inr, is_err, is_none, is_some, length, map, max, min, not, option_map, refl, rules, slice_get, suc, sym, take, true, true≢false, unwrap_or, vec_capacity, vec_len, w64, zero, ℕ, ℤ, ◌&&◌, ◌*◌, ◌++◌, ◌+◌, ◌-◌, ◌<◌, ◌^◌, ◌∙◌, ◌∷◌, ◌≡◌, ◌≢◌, ◌≤◌, ◌⊎◌}
 pub use Rattle.std.proofs.lemmas.Bool.{cases_lt, false_from_ne_true, or_left, or_right}
 pub use Rattle.std.proofs.lemmas.Bool.Decides.{nat_tests}
 pub use Rattle.std.proofs.lemmas.Cmp.{eq_by_cmp_equiv, tied_itself}
 pub use Rattle.std.proofs.lemmas.Grind.{common_steps}
-pub use Rattle.std.proofs.lemmas.List.{append_assoc, drop_more, get_or_default, length-append, length-drop, length-take, map-append, take-append-drop, take-take, take_more}
+pub use Rattle.std.proofs.lemmas.List.{append_assoc, drop_at, drop_more, get_or_default, length-append, length-drop, length-take, map-append, nil_from_length, same_lists, take-append-drop, take-take, take_more}
 pub use Rattle.std.proofs.lemmas.List.Concat.{flat_map-cons}
 pub use Rattle.std.proofs.lemmas.List.Elements.{All-append, All-cons, All-contains, All-contains_itself, All-head, All-nil, All-tail, filter_passes}
 pub use Rattle.std.proofs.lemmas.List.Folds.{Any-from_list_any, list_any-append, list_any-from_Any}
 pub use Rattle.std.proofs.lemmas.List.Sorted.{Contains-permutation, length_permutation, list_any-IsPermutation}
 pub use Rattle.std.proofs.lemmas.List.Sums.{sum_by-cons}
+pub use Rattle.std.proofs.lemmas.Map.Keys.{any_passes_from_place}
 pub use Rattle.std.proofs.lemmas.Map.Views.{Contains-from_any, any-filter_same, tells_apart}
 pub use Rattle.std.proofs.lemmas.Option.{none-some, same_Some, slice_get-get_or, slice_get_past, slice_get_within}
 pub use Rattle.std.proofs.lemmas.Result.{err_from_is_err_and}
 pub use Rattle.std.proofs.lemmas.Slice.Zip.{all_zipped_more}
 pub use Rattle.std.specs.Cmp.{IsTotalOrder}
 pub use Rattle.std.specs.FinMap.{IsAntisymmetric, find, is_sorted, put}
-pub use Rattle.std.specs.FinMap.Entries.{below_all, find-put, find-where_key, is_some-find, is_sorted-put, is_sorted-where_key, same_entries}
-pub use Rattle.std.specs.Int.{w64}
-pub use Rattle.std.specs.Int.RustNames.{FitsSigned}
+pub use Rattle.std.specs.FinMap.Entries.{below_all, find-put, find-where_key, is_sorted-put, is_sorted-where_key, same_entries}
 pub use Rattle.std.specs.List.{AllZip, flat_map, list_any, position_from, sum_by}
 pub use Rattle.std.specs.Ordering.{eq_by_cmp, is_lt}
-pub use Rattle.std.specs.Prelude.{max}
-pub use Rattle.std.specs.declared.cmp.Ordering.{Ordering}
-pub use Rattle.std.specs.declared.cmp.Ordering.TheVariants.{Less}
 pub use Rattle.ent_alloc.proofs.Flushes.{born-IsPermutation, born-apart, born-lives, born-not_live, live-after_flush, live-stays}
 pub use Rattle.ent_alloc.proofs.GivenOnce.{flush-given, free-given, refused-given, take-given}
 pub use Rattle.ent_alloc.proofs.HandleSets.{Contains-from_stands_in, itself, same_handle, stands_in-from_Contains}
@@ -47,7 +42,7 @@ pub use Rattle.ent_alloc.specs.Sound.{AreApart, IsLive, IsSound}
 pub use Rattle.ent_alloc.specs.Spent.{AreSpent}
 pub use Rattle.ent_alloc.specs.declared.space.Space.{Space}
 pub use Rattle.ent_blocks.proofs.Dealing.{dealt_from}
-pub use Rattle.ent_blocks.specs.Blocks.{Blocks, blocks_from, dealt, lesser}
+pub use Rattle.ent_blocks.specs.Blocks.{blocks_from, dealt, lesser}
 pub use Rattle.ent_handle.specs.Birth.{birth_cmp, birth_cmp-IsAntisymmetric, birth_cmp_total}
 pub use Rattle.ent_handle.specs.Component.{component_cmp, component_cmp-IsAntisymmetric, component_cmp_total}
 pub use Rattle.ent_handle.specs.Handle.{Handle, handle_cmp, handle_cmp-IsAntisymmetric, handle_cmp-IsAntisymmetric as same, handle_cmp_total, handle_cmp_total as total}
@@ -65,7 +60,7 @@ pub use Rattle.ent_storage.proofs.Overwritten.{find-filter, is_sorted-filter, pa
 pub use Rattle.ent_storage.specs.BirthOrder.{ListsByBirth, birth_order}
 pub use Rattle.ent_storage.specs.Bundle.{Bundle, with_put}
 pub use Rattle.ent_storage.specs.Components.{Components, missing, with_items}
-pub use Rattle.ent_storage.specs.EntityMap.{AreBare, Entity, EntityMap, Store, birth_of, components_of, newborn, value_of, with_birth, with_components}
+pub use Rattle.ent_storage.specs.EntityMap.{AreBare, Entity, EntityMap, birth_of, components_of, newborn, value_of, with_birth, with_components}
 pub use Rattle.ent_storage.specs.Image.{AreStored, IsBirth, component, entities_bytes, entity_bytes, width_below, word}
 unfoldable pub use Rattle.ent_storage.specs.Image.{long, width}
 pub use Rattle.ent_storage.specs.Places.{AreWithout}
@@ -75,15 +70,13 @@ pub use Rattle.ent_world.specs.Entering.{AreNew, birth_after, first_birth, is_un
 pub use Rattle.ent_world.specs.FirstFault.{AreFramed, HaveAllocator, MayTakeMemory}
 pub use Rattle.ent_world.specs.Image.{HasImage, allocator_of, framed, image, least, living, magic, version}
 unfoldable pub use Rattle.ent_world.specs.Image.{header_bytes}
-pub use Rattle.ent_world.specs.InBlocks.{IsKeptInBlocks}
 pub use Rattle.ent_world.specs.Memory.{TakesMemoryIn, command_takes_memory, insert_takes_memory, one_takes_memory}
 pub use Rattle.ent_world.specs.Named.{AreBelow, AreListed, AreNamed, AreNamedAfter, AreNamedBy, AreNames, IsNamedBy, IsSameFault, IsThere}
 pub use Rattle.ent_world.specs.Read.{IsRead}
-pub use Rattle.ent_world.specs.Rest.{IsLater, IsLaterIn, after_left, after_left_queues, last_part, left_commands}
+pub use Rattle.ent_world.specs.Rest.{HasStoppedSo, IsLater, IsLaterIn, after_left, after_left_queues, last_part, left_commands}
 pub use Rattle.ent_world.specs.Rows.{ArePlaces, AreRows, Rows, with_moved, with_rows}
-pub use Rattle.ent_world.specs.Sync.{after_births, birth_in, cut, cut_commands, first_part, handles_listed, listed_birth, listed_by, no_system, ordinal, stops, sync, unlisted, with_born}
+pub use Rattle.ent_world.specs.Sync.{after_births, birth_in, cut, cut_commands, first_part, handles_listed, listed_birth, listed_by, no_system, ordinal, stops, sync, sync_until, unlisted, unlisted_birth, with_born}
 pub use Rattle.ent_world.specs.World.{AreLiving, IsWorld, World, first_world, lives_in}
 pub use Rattle.ent_world.specs.declared.fault.Fault.{Fault}
-pub use Rattle.ent_world.specs.declared.fault.FaultKind.{FaultKind}
 pub use Rattle.ent_world.specs.declared.image_fault.WorldImageFault.{WorldImageFault}
 pub use Rattle.ent_world.specs.declared.image_fault.WorldImageFault.TheVariants.{Memory}

@@ -1,5 +1,5 @@
 -- Commands in order: what was applied so far, one more, where it stopped, and where it may take memory.
-use Rattle.ent_world.proofs.Common.{[], rules, ◌≡◌, refl, ℕ, ◌+◌, ◌<◌, List, ◌∷◌, ◌++◌, length, take, drop, arith, common_steps, take_more, drop_more, length-drop, Handle, Command, World, Applied, on_entity, on_each, after_command, after_commands, after_queues, first_part, true, slice_get, Some, zero, suc, max, nat_tests, slice_get-get_or, Bundle, insert_takes_memory, one_takes_memory, command_takes_memory, TakesMemoryIn}
+use Rattle.ent_world.proofs.Common.{[], rules, ◌≡◌, refl, ℕ, ◌+◌, ◌<◌, List, ◌∷◌, ◌++◌, length, take, drop, arith, common_steps, take_more, drop_more, length-drop, Handle, Command, World, Applied, on_each, after_command, after_commands, after_queues, first_part, true, slice_get, Some, zero, suc, max, nat_tests, slice_get-get_or, Bundle, insert_takes_memory, one_takes_memory, command_takes_memory, TakesMemoryIn}
 
 -- the next element of a list, of which the first ones are done
 module _ {X : Type 0} (xs rest : List X) (k : ℕ) (x : X) (left : drop k xs ≡ x ∷ rest) where
@@ -24,8 +24,7 @@ some_left xs k lt none = grind (arith, common_steps, length-drop k xs)
 pub on_each-append : (system command : ℕ) (change : Handle → World → World) (xs ys : List Handle) (a : Applied)
     → on_each system command change (xs ++ ys) a ≡ on_each system command change ys (on_each system command change xs a)
 on_each-append system command change [] ys a = refl
-on_each-append system command change (x ∷ xs) ys a = on_each-append system command change xs ys
-    (on_entity system command change x a)
+on_each-append system command change (x ∷ xs) ys a = on_each-append _ _ _ xs ys _
 
 -- Commands.
 

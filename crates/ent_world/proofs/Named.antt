@@ -1,6 +1,5 @@
--- One induction over queues, and so one file of more than 400 lines: queues do to a world what the
--- same queues by births do to births alone. If the births told what the world was, they tell what
--- it is afterwards, and the faults are the same.
+-- Queues do to a world what the same queues by births do to births alone. If the births told what the world was, they
+-- tell what it is afterwards, and the faults are the same.
 use Rattle.ent_world.proofs.Common.{◌⊎◌, inl, inr, [], arith, rules, ◌≡◌, refl, ap, ◌∙◌, ℕ, ◌+◌, true, cond, not, T, true≢false, List, ◌∷◌, map, filter, All, Option, Some, None, is_some, option_map, common_steps, AllZip, eq_by_cmp, Ordering, IsTotalOrder, find, put, is_sorted, IsAntisymmetric, find-put, find-where_key, is_sorted-put, is_sorted-where_key, same_entries, eq_by_cmp_equiv, tells_apart, none-some, same_Some, All-head, All-tail, all_zipped_more, Birth, ComponentId, birth_cmp, birth_cmp_total, birth_cmp-IsAntisymmetric, component_cmp, component_cmp_total, component_cmp-IsAntisymmetric, Handle, handle_cmp, handle_cmp_total, same_handle, itself, Components, with_items, Entity, EntityMap, birth_of, with_components, Bundle, with_put, Command, Spawn, SpawnMany, Insert, Remove, Despawn, Refused, World, lives_in, Applied, on_entity, on_each, after_insert, after_remove, after_despawn, after_command, after_commands, after_queues, BirthMap, BirthCommand, AppliedAlone, held_by, inserted, removed, despawned, on_birth, on_each_birth, after_birth_command, after_birth_commands, after_birth_queues, AreNamed, AreNames, IsThere, IsNamedBy, AreNamedBy, IsSameFault, AreNamedAfter}
 use Rattle.std.specs.FinMap as finite
 
@@ -99,11 +98,10 @@ module _ (start : EntityMap) (name : Handle → Birth) (distinct : AreDistinct n
       let later : Entity = record e { components = change e.components } in
       let items : Bundle = alike_change (held_by births (name h)) in
       let items_are : items ≡ finite.entries later.components = grind (arith, common_steps) in
-      rw found.1 (changed h (Some later) m (finite.insert m h later) births (put birth_cmp (name h) items births) before
-      here (λ f is. search (rules, before.named h e found.1, same_Some))
-      (finite.get-insert handle_cmp_total m h later)
-      (is_sorted-put birth_cmp birth_cmp_total (name h) items births before.rising)
-      (λ b. rw items_are (find-put birth_cmp birth_cmp_total b (name h) (finite.entries later.components) births)))
+      rw found.1 (changed h _ m _ _ _ before here (λ f is. search (rules, before.named h e found.1, same_Some))
+      (finite.get-insert handle_cmp_total m h later) (is_sorted-put birth_cmp birth_cmp_total (name h) items births
+      before.rising) (λ b. rw items_are (find-put birth_cmp birth_cmp_total b (name h) (finite.entries later.components)
+      births)))
 
   -- ---- commands
 
@@ -127,11 +125,10 @@ module _ (start : EntityMap) (name : Handle → Birth) (distinct : AreDistinct n
       (λ held. entries-remove component_cmp_total component_cmp-IsAntisymmetric held id) h w.entities births here before
 
   gone-told : IsToldBy after_despawn despawned
-  gone-told h w births here before = changed h None w.entities (finite.remove w.entities h) births
-      (despawned (name h) births) before here (λ e is. absurd (none-some e is))
+  gone-told h w births here before = changed h _ _ _ _ _ before here (λ e is. absurd (none-some e is))
       (λ g. finite.get-remove handle_cmp_total w.entities h g)
       (is_sorted-where_key birth_cmp (λ x. not (eq_by_cmp birth_cmp x (name h))) births before.rising)
-      (λ b. find-without birth_cmp_total birth_cmp-IsAntisymmetric (name h) b births)
+      (λ b. find-without birth_cmp_total birth_cmp-IsAntisymmetric _ b _)
 
   module _ (system command : ℕ) where
     module _ (change : Handle → World → World) (change_alone : Birth → BirthMap → BirthMap)
@@ -149,8 +146,7 @@ module _ (start : EntityMap) (name : Handle → Birth) (distinct : AreDistinct n
           → AreAppliedTold (on_each system command change hs a) (on_each_birth system command change_alone (map name hs)
           b)
       each-told [] a b there before = before
-      each-told (h ∷ hs) a b there before = each-told hs (on_entity system command change h a)
-          (on_birth system command change_alone (name h) b) (All-tail (IsThere start) h hs there)
+      each-told (h ∷ hs) a b there before = each-told hs _ _ (All-tail (IsThere start) h hs there)
           (entity-told h a b (All-head (IsThere start) h hs there) before)
 
     -- a command

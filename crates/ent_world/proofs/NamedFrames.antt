@@ -1,12 +1,9 @@
--- The steps of one law, and so one file of more than 400 lines: a whole frame does to births alone
--- what it does to the world, if its queues list just what was reserved. Each handle has one birth,
--- by where it stands in a queue.
-use Rattle.ent_world.proofs.Common.{list_any-IsPermutation, common_steps, [], rules, ◌≡◌, refl, sym, ap, ◌∙◌, ℕ, ◌+◌, ◌^◌, ◌<◌, ◌≤◌, Bool, true, cond, List, ◌∷◌, map, length, All, Some, None, is_some, arith, AllZip, list_any, position_from, eq_by_cmp, find, map-append, list_any-append, All-head, All-tail, none-some, Birth, birth_cmp, Handle, handle_cmp, handle_cmp_total, stands_in, born, same_handle, itself, born-IsPermutation, EntityMap, newborn, Command, World, IsWorld, listed_by, handles_listed, listed_birth, birth_in, after_births, sync, BirthMap, BirthCommand, births_of, births_in, entered_alone, frame_alone, AreNamed, AreNames, IsNamedBy, AreNamedBy, AreNamedAfter, AreBelow, AreListed, applied, false, T, true≢false, ℤ, ◌⊎◌, option_map, or_right, put, is_sorted, find-put, is_sorted-put, eq_by_cmp_equiv, tells_apart, same_Some, ComponentId, birth_cmp_total, component_cmp, Entity, birth_of, Bundle, with_born}
-use Rattle.std.proofs.Common.{flat_map}
+-- A whole frame does to births alone what it does to the world, if its queues list just what was reserved. Each handle
+-- has one birth, by where it stands in a queue.
+use Rattle.ent_world.proofs.Common.{list_any-IsPermutation, common_steps, [], rules, ◌≡◌, refl, sym, ap, ◌∙◌, ℕ, ◌+◌, ◌^◌, ◌<◌, ◌≤◌, Bool, true, cond, List, ◌∷◌, map, length, All, Some, None, is_some, arith, AllZip, list_any, position_from, eq_by_cmp, find, map-append, list_any-append, All-head, All-tail, none-some, Birth, birth_cmp, Handle, handle_cmp, handle_cmp_total, stands_in, born, same_handle, itself, born-IsPermutation, EntityMap, newborn, Command, World, IsWorld, listed_by, handles_listed, listed_birth, birth_in, after_births, sync, BirthMap, BirthCommand, births_of, births_in, entered_alone, frame_alone, AreNamed, AreNames, IsNamedBy, AreNamedBy, AreNamedAfter, AreBelow, AreListed, applied, false, T, true≢false, ℤ, ◌⊎◌, option_map, or_right, put, is_sorted, find-put, is_sorted-put, eq_by_cmp_equiv, tells_apart, same_Some, birth_cmp_total, component_cmp, Entity, birth_of, Bundle, with_born, nil_from_length, flat_map, unwrap_or, unlisted_birth, unlisted}
 use Rattle.ent_world.proofs.Kept.{IsKept, after_queues-keeps}
-use Rattle.ent_world.proofs.Numbered.{some_position}
+use Rattle.ent_world.proofs.Born.{some_position, get-with_born, no_entity, born-absent}
 use Rattle.ent_world.proofs.Named.{some_there, entity_there, entity_with, queues-named}
-use Rattle.ent_world.proofs.Born.{get-with_born, no_entity, born-absent}
 use Rattle.std.specs.FinMap as finite
 
 -- ---- what enters
@@ -20,15 +17,11 @@ find-entered b (c ∷ bs) m = grind
 rising-entered : (bs : List Birth) (m : BirthMap) → T (is_sorted birth_cmp m)
     → T (is_sorted birth_cmp (entered_alone bs m))
 rising-entered [] m rising = rising
-rising-entered (b ∷ bs) m rising = rising-entered bs (put birth_cmp b [] m)
-    (is_sorted-put birth_cmp birth_cmp_total b [] m rising)
-
-no_items : (es : List (ComponentId × ℤ)) → length es ≡ 0 → es ≡ []
-no_items es none = grind (arith, common_steps)
+rising-entered (b ∷ bs) m rising = rising-entered bs _ (is_sorted-put birth_cmp birth_cmp_total b [] m rising)
 
 entries-empty : finite.entries (finite.empty {X = ℤ} {R = component_cmp}) ≡ []
 entries-empty = search
-    (rules, no_items, finite.len-entries (finite.empty {X = ℤ} {R = component_cmp}), finite.len-empty)
+    (rules, nil_from_length, finite.len-entries (finite.empty {X = ℤ} {R = component_cmp}), finite.len-empty)
 
 -- ---- a list of handles, and of their births
 
@@ -56,27 +49,14 @@ module _ (birth : Handle → Birth) (born listed : List Handle) (m : EntityMap) 
     (fresh : (h : Handle) → stands_in born h ≡ true → finite.get m h ≡ None)
     (new : (h : Handle) → stands_in born h ≡ true → find birth_cmp (birth h) births ≡ None)
     (own : (g h : Handle) → stands_in born g ≡ true → stands_in born h ≡ true → birth g ≡ birth h → g ≡ h) where
-  abbrev after : EntityMap
-  after = with_born m birth born
-
-  abbrev entered : BirthMap
-  entered = entered_alone (map birth listed) births
-
-  abbrev among : Birth → Bool
-  among b = list_any (eq_by_cmp birth_cmp b) (map birth listed)
-
-  found : (b : Birth) → find birth_cmp b entered ≡ cond (among b) (Some []) (find birth_cmp b births)
-  found b = find-entered b (map birth listed) births
-
   -- an entity was born, or was there
-  abbrev IsBornOrOld : Handle → Entity → Type 0
-  IsBornOrOld h e = ((stands_in born h ≡ true) × (newborn (birth h) ≡ e)) ⊎ (finite.get m h ≡ Some e)
-
-  of_entity : (h : Handle) (e : Entity) → finite.get after h ≡ Some e → IsBornOrOld h e
+  of_entity : (h : Handle) (e : Entity) → finite.get (with_born m birth born) h ≡ Some e
+      → ((stands_in born h ≡ true) × (newborn (birth h) ≡ e)) ⊎ (finite.get m h ≡ Some e)
   of_entity h e is = grind (arith, common_steps, get-with_born, same_Some)
 
   -- births that were there are not among the new ones
-  not_among : (b : Birth) (items : Bundle) → find birth_cmp b births ≡ Some items → among b ≡ false
+  not_among : (b : Birth) (items : Bundle) → find birth_cmp b births ≡ Some items
+      → list_any (eq_by_cmp birth_cmp b) (map birth listed) ≡ false
   not_among b items is = grind (arith, common_steps, owner, none-some)
 
   birth_from : (h : Handle) (e : Entity) → finite.get m h ≡ Some e → birth_of m h ≡ Some e.birth
@@ -85,9 +65,11 @@ module _ (birth : Handle → Birth) (born listed : List Handle) (m : EntityMap) 
   pub entered-named : AreNamed (with_born m birth born) (entered_alone (map birth listed) births)
   entered-named = record {
     rising = rising-entered (map birth listed) births named.rising;
-    there = λ h e is. search (rules, found, owned, entries-empty, not_among, of_entity h e is);
+    there = λ h e is. search (rules, find-entered, owned, entries-empty, not_among, of_entity h e is);
     apart = λ g h b g_is h_is. search (rules, entity_with, birth_from, of_entity);
-    only = λ b items is. search (rules, found b, owner birth listed b, entity_with, get-with_born, none-some, same);
+    only = λ b items is.
+        let found = find-entered b (map birth listed) births in
+        search (rules, found, owner birth listed b, entity_with, get-with_born, none-some, same);
   }
 
 -- ---- positions in a list
@@ -110,7 +92,13 @@ position_own g h i (x ∷ hs) k g_is h_is = grind
 listed_some : (phase system : ℕ) (queues : List (List Command)) (h : Handle)
     → is_some (listed_birth phase system queues h) ≡ stands_in (flat_map handles_listed queues) h
 listed_some phase system [] h = refl
-listed_some phase system (q ∷ queues) h = grind (arith, common_steps, some_position (eq_by_cmp handle_cmp h) 0 (handles_listed q), listed_some phase (system + 1) queues h, list_any-append (eq_by_cmp handle_cmp h) (handles_listed q) (flat_map handles_listed queues))
+listed_some phase system (q ∷ queues) h = grind (
+  arith,
+  common_steps,
+  some_position (eq_by_cmp handle_cmp h) 0 (handles_listed q),
+  listed_some phase (system + 1) queues h,
+  list_any-append (eq_by_cmp handle_cmp h) (handles_listed q) (flat_map handles_listed queues),
+)
 
 -- the frame of such a birth, and a system that is not before the first of these
 listed_parts : (phase system : ℕ) (queues : List (List Command)) (h : Handle) (b : Birth)
@@ -123,7 +111,17 @@ listed_own : (phase system : ℕ) (queues : List (List Command)) (g h : Handle) 
     → All (λ q. length (handles_listed q) ≤ 2 ^ 32) queues → listed_birth phase system queues g ≡ Some b
     → listed_birth phase system queues h ≡ Some b → g ≡ h
 listed_own phase system [] g h b fits g_is h_is = absurd (none-some b g_is)
-listed_own phase system (q ∷ queues) g h b fits g_is h_is = grind (arith, common_steps, position_bounds (eq_by_cmp handle_cmp g) 0 (handles_listed q), position_bounds (eq_by_cmp handle_cmp h) 0 (handles_listed q), position_own g h 0 (handles_listed q), listed_parts phase (system + 1) queues g b, listed_parts phase (system + 1) queues h b, listed_own phase (system + 1) queues g h b (All-tail (λ q. length (handles_listed q) ≤ 2 ^ 32) q queues fits), All-head (λ q. length (handles_listed q) ≤ 2 ^ 32) q queues fits)
+listed_own phase system (q ∷ queues) g h b fits g_is h_is = grind (
+  arith,
+  common_steps,
+  position_bounds (eq_by_cmp handle_cmp g) 0 (handles_listed q),
+  position_bounds (eq_by_cmp handle_cmp h) 0 (handles_listed q),
+  position_own g h 0 (handles_listed q),
+  listed_parts phase (system + 1) queues g b,
+  listed_parts phase (system + 1) queues h b,
+  listed_own phase (system + 1) queues g h b (All-tail (λ q. length (handles_listed q) ≤ 2 ^ 32) q queues fits),
+  All-head (λ q. length (handles_listed q) ≤ 2 ^ 32) q queues fits,
+)
 
 -- ---- queues by names list the names of what the queues list
 
@@ -154,7 +152,7 @@ map_alike f g (h ∷ hs) alike = grind (arith, common_steps, itself, map_alike f
 module _ (queues : List (List Command)) (w : World) (view : BirthMap) (is_world : IsWorld w)
     (named : AreNamed w.entities view) (below : AreBelow w.phase w.entities)
     (listed : AreListed queues w.allocator) where
-  birth : Handle → Birth
+  abbrev birth : Handle → Birth
   birth = birth_in w.phase queues (born w.allocator)
 
   abbrev IsBorn : Handle → Type 0
@@ -162,18 +160,15 @@ module _ (queues : List (List Command)) (w : World) (view : BirthMap) (is_world 
 
   -- what is listed is what is born
   listed_born : (h : Handle) → stands_in (flat_map handles_listed queues) h ≡ stands_in (born w.allocator) h
-  listed_born h = sym (list_any-IsPermutation (eq_by_cmp handle_cmp h) w.allocator.taken
-      (flat_map handles_listed queues) listed.listed) ∙ list_any-IsPermutation (eq_by_cmp handle_cmp h)
-      w.allocator.taken (born w.allocator) (born-IsPermutation w.allocator)
-
-  -- a handle that is listed has the birth by the queues
-  birth_is : (h : Handle) (b : Birth) → listed_birth w.phase 0 queues h ≡ Some b → birth h ≡ b
-  unfolding birth
-  birth_is h b is = search rules
+  listed_born h = sym (list_any-IsPermutation _ _ _ listed.listed) ∙ list_any-IsPermutation _ _ _ (born-IsPermutation
+      w.allocator)
 
   -- who is born has the birth of its position
   placed : (h : Handle) → IsBorn h → (b : Birth) × ((listed_birth w.phase 0 queues h ≡ Some b) × (birth h ≡ b))
-  placed h there = search (rules, some_there, listed_some w.phase 0 queues, listed_born, birth_is)
+  placed h there =
+      let some : is_some (listed_birth w.phase 0 queues h) ≡ true = search (rules, listed_some, listed_born) in
+      let b = some_there (listed_birth w.phase 0 queues h) some in
+      (b.0, (b.1, ap (λ o. unwrap_or o (unlisted_birth w.phase (unlisted queues (born w.allocator)) h)) b.1))
 
   was_not_there : (h : Handle) → IsBorn h → finite.get w.entities h ≡ None
   was_not_there h there = search (rules, no_entity, born-absent)
@@ -186,19 +181,16 @@ module _ (queues : List (List Command)) (w : World) (view : BirthMap) (is_world 
 
   births-named : AreNamed (after_births queues w).entities (entered_alone (map birth (flat_map handles_listed queues))
       view)
-  unfolding birth
   births-named = search (rules, entered-named, listed_born, was_not_there, is_new, of_its_own)
 
   module _ (name : Handle → Birth) (names : AreNames name (after_births queues w).entities)
       (births : List (List BirthCommand)) (are : AreNamedBy name (after_births queues w).entities queues births) where
     named_birth : (h : Handle) → IsBorn h → birth h ≡ name h
-    unfolding birth
     named_birth h there = search (rules, names h (newborn (birth h)), get-with_born)
 
     -- the births of the queues by names are those with which the handles enter
     births_are : map birth (flat_map handles_listed queues) ≡ births_in births
-    births_are = rw (queues_births name (after_births queues w).entities queues births are)
-        (map_alike birth name (flat_map handles_listed queues) (λ h there. search (rules, named_birth, listed_born)))
+    births_are = rw (queues_births _ _ _ _ are) (map_alike _ _ _ (λ h there. search (rules, named_birth, listed_born)))
 
     -- Births that are those of a world tell what a frame does to it.
     pub frame-named : AreNamedAfter name (sync queues w) (frame_alone births view)
@@ -209,7 +201,8 @@ module _ (queues : List (List Command)) (w : World) (view : BirthMap) (is_world 
 
 below-kept : (phase : ℕ) → IsKept (λ w. AreBelow phase w.entities)
 below-kept phase = record {
-  components = λ change h w there before g e is. grind (arith, common_steps, entity_there w.entities h there, finite.get-insert handle_cmp_total w.entities h, before h, before g e);
+  components = λ change h w there before g e is. grind
+      (arith, common_steps, entity_there w.entities h there, finite.get-insert handle_cmp_total w.entities h, before h, before g e);
   despawn = λ h w there before g e is. grind
       (arith, common_steps, finite.get-remove handle_cmp_total w.entities h g, before g e);
 }

@@ -1,7 +1,7 @@
 -- The entities of a world in the order of births are those of the births that tell it, in order.
 use Rattle.ent_world.proofs.Common.{common_steps, [], arith, rules, ◌≡◌, refl, sym, ap, ◌∙◌, Bool, true, T, true≢false, List, ◌∷◌, map, filter, All, AllPairs, Option, Some, None, is_some, option_map, unwrap_or, IsSomeAnd, IsTrue, or_right, is_lt, Less, find, is_sorted, below_all, same_entries, tied_itself, eq_by_cmp_equiv, All-head, All-tail, All-contains_itself, tells_apart, Birth, birth_cmp, birth_cmp_total, birth_cmp-IsAntisymmetric, Handle, handle_cmp_total, stands_in, itself, same_handle, Contains-from_stands_in, stands_in-from_Contains, AllPairs-head, AllPairs-tail, is_sorted-filter, find-filter, passed, birth_order, ListsByBirth, Entity, EntityMap, Bundle, BirthMap, AreNamed, AreNames, IsThere}
 use Rattle.std.specs.FinMap as finite
-use Rattle.ent_world.proofs.ImageKeys.{both}
+use Rattle.ent_world.proofs.ImageRead.{both}
 use Rattle.ent_world.proofs.Named.{entity_with, birth_by_name, names_apart}
 
 -- ---- handles in the order of births
@@ -17,7 +17,15 @@ module _ (name : Handle → Birth) (m : EntityMap) (births : BirthMap) (named : 
 
   name_less : (g h : Handle) → IsThere m g → IsThere m h → birth_order m g h ≡ Less
       → T (is_lt (birth_cmp (name g) (name h)))
-  name_less g h g_there h_there less = grind (arith, common_steps, birth_by_name name m g names g_there, birth_by_name name m h names h_there, names_apart name m births named names g h g_there h_there, birth_cmp-IsAntisymmetric (name g) (name h), tied_itself handle_cmp_total h)
+  name_less g h g_there h_there less = grind (
+    arith,
+    common_steps,
+    birth_by_name name m g names g_there,
+    birth_by_name name m h names h_there,
+    names_apart name m births named names g h g_there h_there,
+    birth_cmp-IsAntisymmetric (name g) (name h),
+    tied_itself handle_cmp_total h,
+  )
 
   below-names : (h : Handle) → IsThere m h → (hs : List Handle) → All (λ g. birth_order m h g ≡ Less) hs
       → All (IsThere m) hs → T (below_all birth_cmp (name h) (map entry_of hs))
@@ -28,10 +36,9 @@ module _ (name : Handle → Birth) (m : EntityMap) (births : BirthMap) (named : 
       → T (is_sorted birth_cmp (map entry_of hs))
   sorted-names [] rising all = tt
   sorted-names (h ∷ hs) rising all =
-      let tail = All-tail (IsThere m) h hs all in
       let less = AllPairs-head (λ g h. birth_order m g h ≡ Less) h hs rising in
-      let rest = sorted-names hs (AllPairs-tail (λ g h. birth_order m g h ≡ Less) h hs rising) tail in
-      search (rules, both, below-names h, All-head, less, rest, tail)
+      let rest = sorted-names hs (AllPairs-tail (λ g h. birth_order m g h ≡ Less) h hs rising) in
+      search (rules, both, below-names h, All-head, All-tail, less, rest)
 
   -- a birth that is found is the name of one of the handles
   found_name : (hs : List Handle) (q : Birth) (o : Option Bundle) → find birth_cmp q (map entry_of hs) ≡ o
@@ -60,9 +67,6 @@ module _ (name : Handle → Birth) (m : EntityMap) (births : BirthMap) (named : 
     abbrev kept : Birth → Option Bundle → Option Bundle
     kept q o = passed birth_cmp_total birth_cmp-IsAntisymmetric (λ e. test e.1) q o
 
-    all_there : All (IsThere m) handles
-    all_there = search (rules, All-contains_itself handles)
-
     -- nothing is found where no handle is found
     none_kept : (q : Birth) → find birth_cmp q (map entry_of handles) ≡ None → (p : Option Bundle)
         → find birth_cmp q births ≡ p → kept q p ≡ None
@@ -88,7 +92,9 @@ module _ (name : Handle → Birth) (m : EntityMap) (births : BirthMap) (named : 
             grind (arith, common_steps, named.there one.0 old.0, names one.0 old.0, alike old.0)
 
     pub listed-named : map entry_of handles ≡ filter (λ entry. test entry.1) births
-    listed-named = same_entries birth_cmp birth_cmp_total birth_cmp-IsAntisymmetric _ _
-        (sorted-names handles lists.rising all_there) (is_sorted-filter birth_cmp_total birth_cmp-IsAntisymmetric
+    listed-named =
+        let all : All (IsThere m) handles = search (rules, All-contains_itself handles) in
+        same_entries birth_cmp birth_cmp_total birth_cmp-IsAntisymmetric _ _
+        (sorted-names handles lists.rising all) (is_sorted-filter birth_cmp_total birth_cmp-IsAntisymmetric
         (λ e. test e.1) births named.rising) (λ q. found_alike q
         ∙ sym (find-filter birth_cmp_total birth_cmp-IsAntisymmetric (λ e. test e.1) births q named.rising))

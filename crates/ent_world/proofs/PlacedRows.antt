@@ -1,11 +1,84 @@
--- The rows of entities stay their places, after each change of the two, and there are as many places
--- as handles live.
-use Rattle.ent_world.proofs.Common.{false_from_ne_true, cases_lt, common_steps, [], rules, ◌≡◌, ◌≢◌, refl, sym, ap, ◌∙◌, ℕ, suc, ◌+◌, ◌-◌, ◌<◌, ◌≤◌, ◌^◌, true, false, true≢false, ◌⊎◌, inl, inr, List, ◌∷◌, ◌++◌, length, slice_get, Option, Some, None, is_some, arith, append-nil, append_assoc, none-some, same_Some, slice_get_within, slice_get-get_or, Birth, Handle, handle_cmp, total, same, Allocator, stands_in, born, after_flush, IsSound, retired-rest, after_flush-sound, Entity, EntityMap, newborn, AreWithout, at_push_before, at_push_end, at_pushed, same_number, same_or_apart, get-insert_same, get-insert_other, get-remove_same, get-remove_other, AreLiving, with_born, AreNew, first_birth, Rows, ArePlaces, AreRows, with_rows, with_moved, zero, drop, handle_cmp_total, same_handle, itself}
-use Rattle.std.proofs.Common.{length-append}
-use Rattle.ent_world.proofs.Born.{born-new, living-after}
-use Rattle.ent_world.proofs.Numbered.{AreDistinct}
+-- An entity that is made or taken back; and the rows of entities stay their places after each change of the two, and
+-- there are as many places as handles live.
+use Rattle.ent_world.proofs.Common.{[], ap, ◌∙◌, ◌≢◌, handle_cmp, rules, ◌≡◌, refl, ℕ, ◌<◌, true, false, true≢false, List, ◌∷◌, ◌++◌, length, slice_get, arith, suc, ℤ, ◌⊎◌, Some, None, IfSome, Result, Ok, Err, OnOk, OnErr, is_err, common_steps, none-some, same_Some, Birth, Handle, handle_cmp_total, handle_cmp-IsAntisymmetric, Space, Allocator, listed_alone, reply_to, reply_from, pool_at, cursor, IsSound, same_handle, itself, reply-cursor, reply-not_live, with_items, missing, Entity, EntityMap, newborn, with_components, components_of, AreWithout, at_push_before, Bundle, spawned, false_from_ne_true, sym, ◌+◌, ◌-◌, ◌≤◌, ◌^◌, inl, inr, Option, append-nil, append_assoc, slice_get_within, slice_get-get_or, total, same, stands_in, born, after_flush, retired-rest, after_flush-sound, at_push_end, at_pushed, same_number, same_or_apart, get-insert_same, get-insert_other, get-remove_same, get-remove_other, AreLiving, with_born, AreNew, first_birth, Rows, ArePlaces, AreRows, with_rows, with_moved, zero, drop, unwrap_or, length-append, same_lists, any_passes_from_place, Contains-from_stands_in, eq_by_cmp}
 use Rattle.std.specs.FinSet as set
 use Rattle.std.specs.FinMap as map
+use Rattle.ent_world.proofs.Born.{born-new, living-after, AreDistinct}
+
+-- what a test of a result tells
+pub on_ok : {X E : Type 0} {P : Type 0} (r : Result X E) → is_err r ≡ false → OnOk r P → P
+on_ok it test p = search (rules, true≢false)
+
+pub on_err : {X E : Type 0} {P : Type 0} (r : Result X E) → is_err r ≡ true → OnErr r P → P
+on_err it test p = search (rules, true≢false)
+
+-- one of the two holds
+pub on_either : {X E P Q : Type 0} (r : Result X E) → OnOk r P → OnErr r Q → P ⊎ Q
+on_either it p q = search rules
+
+-- what is so anyhow is so after a refusal
+pub anyhow : {T E : Type 0} (r : Result T E) (P : Type 0) → P → OnErr r P
+anyhow it P so = search rules
+
+pub some_entity : (m : EntityMap) (len : ℕ) → len ≡ map.len m → len ≢ 0 → m ≢ map.empty
+some_entity m len is some none = some (is ∙ ap map.len none ∙ map.len-empty handle_cmp Entity)
+
+-- Of one handle.
+
+-- a request for one is given the front of the pool
+pub one_given : (s : Allocator) (h : Handle) → reply_to s 1 ≡ Ok (h ∷ []) → slice_get s.pool 0 ≡ Some h
+one_given s h is = grind (arith, common_steps)
+
+pub given_new : (s : Allocator) (h : Handle) → IsSound s → reply_to s 1 ≡ Ok (h ∷ []) → set.contains s.live h ≡ false
+given_new s h sound is = search (rules, reply-not_live s 1 (h ∷ []) is sound)
+
+pub none_given : (s : Allocator) (space : Space) → reply_to s 1 ≡ Err space → s.pool ≡ []
+none_given s space is = grind (arith, common_steps)
+
+pub pool_some : (s : Allocator) (h : Handle) → reply_to s 1 ≡ Ok (h ∷ []) → s.pool ≡ [] → ⊥
+pool_some s h is none = grind (arith, common_steps)
+
+-- the reply where nothing is requested
+pub reply_at_top : (s : Allocator) (high : ℤ) (reply : Result Handle Space) → IsSound s → high ≡ cursor s
+    → listed_alone reply ≡ reply_from s.made (pool_at s high) 1 → listed_alone reply ≡ reply_to s 1
+reply_at_top s high reply sound at is = search (rules, reply-cursor s 1 sound)
+
+-- An entity.
+
+-- the second of two entities under one handle
+insert_twice : (m : EntityMap) (h : Handle) (e f : Entity) → map.insert (map.insert m h e) h f ≡ map.insert m h f
+insert_twice m h e f = map.same_map handle_cmp_total handle_cmp-IsAntisymmetric _ _ (λ q.
+    let get = map.get-insert {X = Entity} handle_cmp_total in
+    grind (arith, common_steps, get (map.insert m h e) h f q, get m h e q, get m h f q))
+
+pub get_inserted : (m : EntityMap) (h : Handle) (e : Entity) → map.get (map.insert m h e) h ≡ Some e
+get_inserted m h e = grind (arith, common_steps, map.get-insert handle_cmp_total m h e h, itself h)
+
+-- a newborn entity lacks no component if there are no items
+pub some_items : (m n : EntityMap) (h : Handle) (birth : Birth) (items : Bundle) → n ≡ map.insert m h (newborn birth)
+    → IfSome (components_of n h) (λ held. 0 < missing held items) → 0 < length items
+some_items m n h birth items made some = grind (arith, common_steps, get_inserted)
+
+-- a newborn entity and its components
+pub made_whole : (m : EntityMap) (h : Handle) (birth : Birth) (items : Bundle)
+    → with_components (map.insert m h (newborn birth)) h (λ held. with_items held items)
+    ≡ map.insert m h (spawned birth items)
+made_whole m h birth items = search (rules, get_inserted, insert_twice)
+
+-- an entity that came and went
+pub taken_back : (m : EntityMap) (h : Handle) (e : Entity) → map.get m h ≡ None → map.remove (map.insert m h e) h ≡ m
+taken_back m h e none = map.same_map handle_cmp_total handle_cmp-IsAntisymmetric _ _ (λ q.
+    let get = map.get-remove handle_cmp_total (map.insert m h e) h q in
+    grind (arith, common_steps, map.get-insert handle_cmp_total m h e q, same_handle q h))
+
+-- a handle that came to the end of the places and went
+pub end_taken_back : (places left : List Handle) (h : Handle) → AreWithout (length places) (places ++ h ∷ []) left
+    → left ≡ places
+end_taken_back places left h without =
+    same_lists left places (omega (arith, without.one_less, length-append places (h ∷ []))) (λ k d lt.
+    let old = slice_get-get_or places k d in
+    let new = slice_get-get_or left k d in
+    grind (arith, common_steps, without.others k, at_push_before places h k, length-append places (h ∷ [])))
 
 -- the others are new still
 pub new_later : (h : Handle) (e : Entity) (hs : List Handle) (m : EntityMap) → stands_in hs h ≡ false → AreNew hs m
@@ -22,15 +95,11 @@ slice_get-drop [] (suc n) i = refl
 slice_get-drop (x ∷ places) (suc n) i = search (rules, slice_get-drop places n i)
 
 pub stands_at : (places : List Handle) (i : ℕ) (h : Handle) → slice_get places i ≡ Some h → stands_in places h ≡ true
-stands_at [] i h is = absurd (none-some h is)
-stands_at (x ∷ places) zero h is = search (rules, same_Some, itself)
-stands_at (x ∷ places) (suc i) h is = search (rules, stands_at places i h is)
+stands_at places i h is = any_passes_from_place (eq_by_cmp handle_cmp h) places i h is (itself h)
 
 pub place_of : (places : List Handle) (h : Handle) → stands_in places h ≡ true → (i : ℕ) × (slice_get places i ≡ Some h)
-place_of [] h none = absurd (true≢false (sym none))
-place_of (x ∷ places) h there =
-    let either : (x ≡ h) ⊎ (stands_in places h ≡ true) = grind (arith, common_steps, same_handle h x) in
-    elim either [ inl is ↦ (0, ap Some is) | inr rest ↦ let one = place_of places h rest in (suc one.0, one.1) ]
+place_of places h there =
+    let at = Contains-from_stands_in places h there in (at.0, slice_get-get_or places at.0 h at.1 ∙ ap Some at.2)
 
 pub stands_from : (places : List Handle) (n i : ℕ) (h : Handle) → slice_get places i ≡ Some h → n ≤ i
     → stands_in (drop n places) h ≡ true
@@ -51,37 +120,34 @@ pub rows-empty : AreRows map.empty [] map.empty
 rows-empty = search (rules, none-some, map.get-empty)
 
 -- one entity more, at the next place
-module _ (rows : Rows) (places : List Handle) (m : EntityMap) (h : Handle) (e : Entity) (are : AreRows rows places m)
+module _ {rows : Rows} {places : List Handle} {m : EntityMap} (h : Handle) (e : Entity) (are : AreRows rows places m)
     (new : map.contains_key m h ≡ false) where
   abbrev with_one : Rows
   with_one = map.insert rows h (length places)
 
-  has_row : (g : Handle) (place : ℕ) → map.get with_one g ≡ Some place → (g ≡ h) ⊎ (g ≢ h)
-      → slice_get (places ++ h ∷ []) place ≡ Some g
-  has_row g place is which = search
-      (rules, get-insert_same total same, get-insert_other total same, at_pushed, at_push_before, slice_get_within)
-
-  stands : (g : Handle) (place : ℕ) → slice_get (places ++ h ∷ []) place ≡ Some g
-      → (place < length places) ⊎ (length places ≤ place) → map.get with_one g ≡ Some place
-  stands g place is (inl below) = search (rules, at_push_before, get-insert_other total same, true≢false)
-  stands g place is (inr past) = search (rules, at_push_end, get-insert_same total same)
-
   pub rows-insert : AreRows with_one (places ++ h ∷ []) (map.insert m h e)
-  rows-insert = record {
-    at = search (rules, has_row, stands, same_or_apart total same, cases_lt);
-    each = λ g. grind
-        (arith, common_steps, are.each g, map.get-insert total rows h (length places), map.get-insert total m h e);
-  }
+  rows-insert =
+      let row = map.get-insert total rows h (length places) in
+      record {
+        at = λ g k.
+            let old = are.at g k in
+            let apart = same_handle g h in
+            let before = at_push_before places h k in
+            let end = at_pushed places h in (
+              λ is. grind (arith, common_steps, row g, slice_get_within places k g),
+              λ is. grind (arith, common_steps, row g, at_push_end places h k, none-some),
+            );
+        each = λ g. grind (arith, common_steps, are.each g, row, map.get-insert total m h e);
+      }
 
 -- all that are born, one after the other
-pub rows-born : (birth : Handle → Birth) (hs : List Handle) (rows : Rows) (places : List Handle) (m : EntityMap)
+pub rows-born : (birth : Handle → Birth) (hs : List Handle) {rows : Rows} {places : List Handle} {m : EntityMap}
     → AreRows rows places m → AreNew hs m → AreRows (with_rows rows (length places) hs) (places ++ hs)
     (with_born m birth hs)
-rows-born birth [] rows places m are new = search (rules, append-nil)
-rows-born birth (h ∷ hs) rows places m are new =
+rows-born birth [] are new = search (rules, append-nil)
+rows-born birth (h ∷ hs) are new =
     let e = newborn (birth h) in
-    let one = rows-insert rows places m h e are new.0 in
-    let rest = rows-born birth hs _ (places ++ h ∷ []) _ one (new_later h e hs m new.1 new.2) in
+    let rest = rows-born birth hs (rows-insert h e are new.0) (new_later h e hs _ new.1 new.2) in
     search (rules, length-append, append_assoc)
 
 -- an entity is taken out, and the last one moves into its place
@@ -98,11 +164,9 @@ module _ (rows : Rows) (places left : List Handle) (m : EntityMap) (h : Handle) 
   other_handle : (g : Handle) (k : ℕ) → slice_get places k ≡ Some g → k ≢ place → g ≢ h
   other_handle g k is apart e = apart (once h k place (is ∙ ap Some e) here)
 
-  other_place : (g : Handle) (k : ℕ) → slice_get places k ≡ Some g → g ≢ h → k ≢ place
-  other_place g k is apart e = search rules
-
   -- who had a row and is not taken out
-  was : (g : Handle) (k : ℕ) → map.get gone g ≡ Some k → (g ≡ h) ⊎ (g ≢ h) → (g ≢ h) × (slice_get places k ≡ Some g)
+  was : (g : Handle) (k : ℕ) → map.get gone g ≡ Some k → (g ≡ h) ⊎ (g ≢ h)
+      → (g ≢ h) × (k ≢ place) × (slice_get places k ≡ Some g)
   was g k is which = search (rules, none-some, get-remove_same total same, get-remove_other total same)
 
   stays : (g : Handle) (k : ℕ) → slice_get left k ≡ Some g → k ≢ place
@@ -116,25 +180,26 @@ module _ (rows : Rows) (places left : List Handle) (m : EntityMap) (h : Handle) 
   rows-last : slice_get left place ≡ None → AreRows gone left (map.remove m h)
   rows-last none = record {
     at = λ g k. (
-      λ is. let before = was g k is (same_or_apart total same g h) in let apart = other_place g k before.1 before.0 in
-          let below = slice_get_within places k g before.1 in let inside = slice_get_within places place h here in let
-          end : length left ≤ place = grind (arith, common_steps, slice_get-get_or left place h) in without.others k
-          apart (omega (arith, without.one_less)) ∙ before.1,
-      λ is. (stays g k is (λ e. none-some g (sym none ∙ ap (slice_get left) (sym e) ∙ is))).2,
+      λ is.
+          let before = was g k is (same_or_apart total same g h) in
+          let below = slice_get_within places k g before.2 in
+          let end : length left ≤ place = grind (arith, common_steps, slice_get-get_or left place h) in
+          let inside = slice_get_within places place h here in
+          search (rules, arith, without.others k),
+      λ is. search (rules, none-some, stays g k is),
     );
     each = each_gone;
   }
 
   -- the last one moves
   module _ (x : Handle) (moved : slice_get left place ≡ Some x) where
-    not_last : place + 1 < length places
-    not_last = search (rules, slice_get_within)
-
-    last : slice_get places (length places - 1) ≡ Some x
-    last = sym (without.moved not_last) ∙ moved
+    last : (place + 1 < length places) × (slice_get places (length places - 1) ≡ Some x)
+    last =
+        let below : place + 1 < length places = search (rules, slice_get_within) in
+        (below, sym (without.moved below) ∙ moved)
 
     other : x ≢ h
-    other = search (rules, other_handle, last, not_last)
+    other = search (rules, other_handle, last)
 
     had_row : map.get gone x ≡ Some (length places - 1)
     had_row = search (rules, get-remove_other total same rows h x other, last)
@@ -144,7 +209,7 @@ module _ (rows : Rows) (places left : List Handle) (m : EntityMap) (h : Handle) 
     row_there g k is (inl e) = search (rules, get-insert_same total same gone x place g e)
     row_there g k is (inr n) =
         let before = was g k (sym (get-insert_other total same gone x place g n) ∙ is) (same_or_apart total same g h) in
-        grind (arith, common_steps, other_place, slice_get_within, same_Some)
+        grind (arith, common_steps, slice_get_within, same_Some)
 
     there_row : (g : Handle) (k : ℕ) → slice_get left k ≡ Some g → (k ≡ place) ⊎ (k ≢ place)
         → map.get (map.insert gone x place) g ≡ Some k
@@ -162,12 +227,6 @@ module _ (rows : Rows) (places left : List Handle) (m : EntityMap) (h : Handle) 
       m h)
   rows-remove it is = search (rules, rows-last, rows-moved)
 
--- who has a row lives
-pub has_row-lives : (live : set.FinSet handle_cmp) (rows : Rows) (places : List Handle) (m : EntityMap)
-    → AreRows rows places m → ((h : Handle) → map.contains_key m h ≡ set.contains live h) → (h : Handle) (row : ℕ)
-    → map.get rows h ≡ Some row → set.contains live h ≡ true
-has_row-lives live rows places m are living h row is = search rules
-
 -- Each handle of the places stands there once.
 distinct_places : (xs : List Handle) → ((h : Handle) (i j : ℕ) → slice_get xs i ≡ Some h → slice_get xs j ≡ Some h
     → i ≡ j) → AreDistinct xs
@@ -184,29 +243,23 @@ len_distinct (x ∷ xs) once = search (rules, len_distinct xs, set.contains-from
 -- who has a row stands among the places
 pub rows_stand : (rows : Rows) (places : List Handle) → ArePlaces rows places → (h : Handle)
     → map.contains_key rows h ≡ stands_in places h
-rows_stand rows places at h = by_row (map.get rows h) refl
-  where
-    by_row : (o : Option ℕ) → map.get rows h ≡ o → is_some o ≡ stands_in places h
-    by_row (Some place) is = sym (stands_at places place h ((at h place).0 is))
-    by_row None is = grind (arith, common_steps, place_of places h, none-some, at h)
+rows_stand rows places at h =
+    let row = unwrap_or (map.get rows h) 0 in
+    grind (arith, common_steps, at h row, stands_at places row h, place_of places h, at h, none-some)
 
 -- as many live as there are places
-pub rows-count : (s : Allocator) (rows : Rows) (places : List Handle) (m : EntityMap) → AreRows rows places m
+pub rows-count : (s : Allocator) {rows : Rows} {places : List Handle} {m : EntityMap} → AreRows rows places m
     → AreLiving s m → set.len s.live ≡ length places
-rows-count s rows places m are living =
+rows-count s {rows} {places} are living =
     let listed : s.live ≡ set.from_list places = set.same_set total same _ _ (λ q.
     cc (are.each q, living q, rows_stand rows places are.at q, set.contains-from_list total places q)) in
     rw listed (len_distinct places (distinct_places places (λ h i j. search (rules, same_Some, are.at h))))
 
--- no more live than there are slots
-few_live : (s : Allocator) → IsSound s → set.len s.live < 2 ^ 32
-few_live s sound = search (rules, retired-rest)
-
 -- and there will be no more once all that is reserved is born
-pub born-fit : (s : Allocator) (rows : Rows) (places : List Handle) (m : EntityMap) → IsSound s → AreLiving s m
+pub born-fit : (s : Allocator) {rows : Rows} {places : List Handle} {m : EntityMap} → IsSound s → AreLiving s m
     → AreRows rows places m → length places + length (born s) < 2 ^ 32
-born-fit s rows places m sound living are =
-    let after = rows-born (λ _. first_birth 0 0) (born s) rows places m are (born-new s m sound living) in
-    let count = rows-count (after_flush s) _ _ _ after (living-after s m sound living (λ _. first_birth 0 0)) in
-    let few = few_live (after_flush s) (after_flush-sound s sound) in
+born-fit s sound living are =
+    let after = rows-born (λ _. first_birth 0 0) (born s) are (born-new s _ sound living) in
+    let count = rows-count (after_flush s) after (living-after s _ sound living (λ _. first_birth 0 0)) in
+    let few : set.len (after_flush s).live < 2 ^ 32 = search (rules, retired-rest, after_flush-sound s sound) in
     search (rules, length-append)

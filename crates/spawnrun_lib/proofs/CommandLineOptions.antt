@@ -1,7 +1,8 @@
 -- What the words of a subcommand give: the values of its options.
-use Rattle.spawnrun_lib.proofs.Common.{rules, ◌≡◌, ℕ, Bool, true, false, List, [], ◌∷◌, cond, refl, ◌<◌, lit<, inl, inr, codes, Option, Some, None, is_some, IfSome, option_map, ExplainsUnsignedError, HasUnsignedDigitsIfOk, ParsesUnsigned, ParseIntError, ReadsOne, one_text, one_text-rows, first_value-rows, option_number, HasNumber, generations_option, number_option, slots_option, number_read, option_map_or, AllByRecursion, slice_index_or, Row, Rule, Shape, Text, built, fault_of, subcommand_of, rows_of, first_of, first_value, Found, new_shape, entered, filled, help_rule, label_of, rows_at, finished, walk, answers_to, nothing_held, stop_after, check_fault, entered_fault, level_fault, accepts-Accepts, Show, Births, Handles, bytes_eq, HasShow, MayHaveBlocks, blocks_option, most_handles, optional_number, program, references_to, show_option, show_text, shown, workers_option, Result, Bor}
+use Rattle.spawnrun_lib.proofs.Common.{rules, ◌≡◌, ℕ, Bool, true, false, List, [], ◌∷◌, cond, refl, ◌<◌, lit<, inl, inr, codes, Option, Some, None, is_some, IfSome, option_map, ExplainsUnsignedError, HasUnsignedDigitsIfOk, ParsesUnsigned, ParseIntError, ReadsOne, one_text, one_text-rows, first_value-rows, option_number, HasNumber, generations_option, number_option, slots_option, number_read, option_map_or, AllByRecursion, slice_index_or, Row, Rule, Shape, Text, built, fault_of, subcommand_of, rows_of, first_of, first_value, Found, new_shape, entered, filled, help_rule, label_of, rows_at, finished, walk, answers_to, nothing_held, stop_after, check_fault, entered_fault, level_fault, accepts-Accepts, Show, Births, Handles, bytes_eq, HasShow, MayHaveBlocks, blocks_option, most_handles, optional_number, program, references_to, show_option, show_text, shown, workers_option, Result, Bor, ◌∙◌, App, app_of, rule_of, with_rule, AddsArg, Arg}
 use Rattle.clap.specs.Simple.{names_of}
 use Rattle.spawnrun_lib.proofs.ParsedOptions.{none_of, Fits, HasValue, MayHaveValue, option-has_value, optional-has_value}
+use Rattle.clap.specs.declared.builder.Command.{Command}
 
 -- the options as building leaves them
 abbrev replay_rules : List Rule
@@ -15,9 +16,6 @@ blocks_rule = filled blocks_option
 
 abbrev run_rules : List Rule
 run_rules = filled workers_option ∷ blocks_rule ∷ show_rule ∷ filled help_rule ∷ []
-
-replay-fits : AllByRecursion (Fits replay_rules) replay_rules
-replay-fits = search rules
 
 run-fits : AllByRecursion (Fits run_rules) run_rules
 run-fits = search rules
@@ -53,7 +51,7 @@ pub data IsAsked (found : Option (Text × List Row)) : Type 0 where
 replay_options : (words : List Text) → level_fault replay_shape [] nothing_held words false [] ≡ []
     → IsAsked (Some (rows_at replay_shape words))
 replay_options words e =
-    let value = option-has_value replay_rules replay-fits replay_shape words e in
+    let value = option-has_value replay_rules (search rules) replay_shape words e in
     asks_replay _ refl (number_from _ _ _ _ (value (filled slots_option) refl (search rules) (inl refl)))
     (number_from _ _ _ _ (value (filled generations_option) refl (search rules) (inr (inl refl))))
 
@@ -114,4 +112,11 @@ number_gives text r = ParsesUnsigned 32 10 text r × ExplainsUnsignedError 10 te
 pub blocks_read : (found : Found) (r : Option ℕ) → MayHaveBlocks (rows_of found)
     → (one_text found (codes "blocks") ≡ None → r ≡ None) → ((text : Text) → one_text found (codes "blocks") ≡ Some text
     → ReadsOne number_gives text r) → (option_number (codes "blocks") (rows_of found) ≡ r) × IfSome r (λ size. 0 < size)
-blocks_read found r it none reads = search (rules, one_text-rows, number_read 32 (codes "blocks") most_handles found r (lit< tt))
+blocks_read found r it none reads =
+    search (rules, one_text-rows, number_read 32 (codes "blocks") most_handles found r (lit< tt))
+
+-- ---- a command of clap's with one more option, as the program's words have it
+
+pub with_option : {old new : Command} {option : Arg} {app : App} {rule : Rule} → AddsArg old option new
+    → option.global ≡ false → app_of old ≡ app → rule_of option ≡ rule → app_of new ≡ with_rule app rule
+with_option adds own is rule_is = adds.shape own ∙ (λ i. with_rule (is i) (rule_is i))

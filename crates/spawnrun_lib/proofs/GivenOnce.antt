@@ -7,15 +7,18 @@ more_given : (workers : ℕ) (w : World) (frames : List (List (List Operation)))
     → AllPairs (λ g h. g ≢ h) (given ++ handles_in_run executions)
 more_given workers w frames [] given sound living went once = search (rules, append-nil)
 more_given workers w [] (e ∷ executions) given sound living went once = absurd went
-more_given workers w (systems ∷ frames) (e ∷ executions) given sound living went once = rw
-    (← append_assoc given (given_in e.history) (handles_in_run executions))
-    (more_given workers (synced w e).world frames executions (given ++ given_in e.history)
-    (frame-sound e.queues e.history w sound living) (frame-living e.queues e.history w sound living) went.1
-    (frame-given e.queues e.history w given sound living went.0.legal once))
+more_given workers w (systems ∷ frames) (e ∷ executions) given sound living went once =
+    rw (← append_assoc) (search
+    (rules, frame-sound, frame-living, frame-given, more_given workers (synced w e).world frames executions (given ++ given_in e.history)))
 
 pub given_once : (script : Script) (workers : ℕ) (show : Show) (executions : List Execution) (text : List ℕ)
     → AreLimits script.limits → IsReportOf script workers show executions text
     → AreGivenOnce (handles_in_run executions)
-given_once script workers show executions text limits report = more_given workers (first_world script.limits)
-    script.frames executions [] (first_world-sound script.limits limits) (first_world-living script.limits)
-    report.frames (opening-given script.limits)
+given_once script workers show executions text limits report =
+    search (
+      rules,
+      more_given workers (first_world script.limits) script.frames executions [],
+      first_world-sound,
+      first_world-living,
+      opening-given,
+    )

@@ -1,31 +1,21 @@
-pub mod Binding
 pub mod OneCourse
 mod WorkedSystems
 pub mod SystemRunning
-pub mod Targeted
 pub mod Rolls
 pub mod QueuesAlone
-pub mod FramesAlone
 pub mod Parts
-pub mod OneText
 pub mod NextFrame
-pub mod NextInBlocks
 pub mod OneTextInBlocks
 pub mod GivenOnce
 pub mod NoRefusal
-pub mod Requested
 pub mod Enough
 pub mod TextsAlone
-pub mod SameText
 pub mod WorkedPremises
 pub mod Fronts
-pub mod Letters
-pub mod Pieces
 pub mod Firsts
 pub mod ParsedOptions
 pub mod MovedNames
 pub mod CommandLineOptions
-mod Commands
 pub mod TaskOfWords
 pub mod Common
 pub mod Laws

@@ -1,8 +1,7 @@
 -- Clap reads the names that an option takes, and not where they stand in memory: the rows that it makes of words, the
 -- faults that it finds in them and which words it takes stay the same if they move.
-use Rattle.spawnrun_lib.proofs.Common.{rules, ◌≡◌, ℕ, Bool, List, [], ◌∷◌, cond, zero, suc, refl, sym, map, Option, fold, find, option_map, turn_fault, step_fault, list_any, Row, Rule, Shape, Text, Kinds, or_else, same_text, Held, Names, Outcome, Waiting, Walk, bundle_met, long_met, reacted, rows_after, settled, texts, used, walked, walked_from, with_default, word_met, ValueParser, find-map, references_to, Bor, ◌&&◌, not, Some, None, is_given, Step, walk, action_fault, check_fault, defaults_fault, flags_fault, level_fault, long_fault, option_fault, react_fault, settle_fault, short_fault, walk_fault, ArgAction, list_any-map, common_steps, arith, ◌||◌, list_all, action_passes, count_passes, default_passes, flags_pass, is_valid, level_passes, long_passes, option_passes, react_passes, settle_passes, short_passes, step_passes, values_pass, walk_passes}
+use Rattle.spawnrun_lib.proofs.Common.{rules, ◌≡◌, ℕ, Bool, List, [], ◌∷◌, cond, zero, suc, refl, sym, map, Option, fold, find, option_map, turn_fault, step_fault, list_any, Row, Rule, Shape, Text, Kinds, or_else, same_text, Held, Names, Outcome, Waiting, Walk, bundle_met, long_met, reacted, rows_after, settled, texts, used, walked, walked_from, with_default, word_met, ValueParser, find-map, references_to, Bor, ◌&&◌, not, Some, None, is_given, Step, action_fault, check_fault, defaults_fault, flags_fault, level_fault, long_fault, option_fault, react_fault, settle_fault, short_fault, walk_fault, ArgAction, list_all-map, list_any-map, ◌||◌, list_all, action_passes, default_passes, flags_pass, is_valid, level_passes, long_passes, option_passes, react_passes, settle_passes, short_passes, step_passes, values_pass, walk_passes}
 use Rattle.clap.specs.declared.builder.value_parser.ValueParser.TheVariants as vp
-use Rattle.clap.specs.declared.builder.ArgAction.TheVariants as action
 
 abbrev pub moved : ValueParser → ValueParser
 moved (vp.Names names) = vp.Names (references_to (texts names.now))
@@ -59,11 +58,13 @@ module _ (c : List Rule) where
       → bundle_met m k flags skip so_far h ≡ bundle_met c k flags skip so_far h
   unfolding bundle_met
   bundle_met-moved zero flags skip so_far h = refl
-  bundle_met-moved (suc k) flags skip so_far h = search (rules, found-moved, bundle_met-moved k, both_arms, settled-moved, reacted-moved)
+  bundle_met-moved (suc k) flags skip so_far h =
+      search (rules, found-moved, bundle_met-moved k, both_arms, settled-moved, reacted-moved)
 
   pub word_met-moved : (names : Names) (is_trailing : Bool) (waiting : Waiting) (position : ℕ) (word : Text) (h : Held)
       → word_met m names is_trailing waiting position word h ≡ word_met c names is_trailing waiting position word h
-  word_met-moved names is_trailing waiting position word h = search (rules, both_arms, found-moved, long_met-moved, bundle_met-moved)
+  word_met-moved names is_trailing waiting position word h =
+      search (rules, both_arms, found-moved, long_met-moved, bundle_met-moved)
 
   walked_from-moved : (names : Names) (stopped : Option (Text × List Text)) (w : Walk) (word : Text)
       → walked_from m names stopped w word ≡ walked_from c names stopped w word
@@ -101,27 +102,13 @@ both_hold {first} {second} {before} {after} same also = search rules
 values_pass-moved : (a : Rule) (values : List Text) → values_pass (moved_rule a) values ≡ values_pass a values
 values_pass-moved a vs = search (rules, both_hold, any_name-moved)
 
-count_passes-moved : (a : Rule) (values : List Text) (rows : List Row)
-    → count_passes (moved_rule a) values rows ≡ count_passes a values rows
-count_passes-moved a vs rows = grind (arith, common_steps, any_name-moved, values_pass-moved)
-
 action_passes-moved : (x : ArgAction) (again : Bool) (a : Rule) (values : List Text) (rows : List Row)
     → action_passes x again (moved_rule a) values rows ≡ action_passes x again a values rows
-action_passes-moved action.Set again a values rows = both_hold refl (values_pass-moved a values)
-action_passes-moved action.SetTrue again a values rows = both_hold refl (values_pass-moved a values)
-action_passes-moved action.SetFalse again a values rows = both_hold refl (values_pass-moved a values)
-action_passes-moved action.Append again a values rows = values_pass-moved a values
-action_passes-moved action.Count again a values rows = count_passes-moved a values rows
-action_passes-moved _ again a values rows = refl
+action_passes-moved it again a values rows = search (rules, both_hold, any_name-moved, values_pass-moved)
 
 all_defaults-moved : (xs : List Rule) → list_all default_passes (map moved_rule xs) ≡ list_all default_passes xs
 all_defaults-moved [] = refl
 all_defaults-moved (x ∷ xs) = both_hold (search (rules, values_pass-moved)) (all_defaults-moved xs)
-
-list_all-moved : (test : Rule → Bool) (xs : List Rule) → list_all (λ x. test (moved_rule x)) xs ≡ list_all test (map
-    moved_rule xs)
-list_all-moved test [] = refl
-list_all-moved test (x ∷ xs) = both_hold refl (list_all-moved test xs)
 
 -- ---- an argument where it stands in words: its faults, and whether it passes
 
@@ -134,7 +121,8 @@ module _ (c : List Rule) (again : Bool) where
 
   react_fault-moved : (a : Rule) (values : List Text) (h : Held)
       → react_fault n again (moved_rule a) values h ≡ react_fault c again a values h
-  react_fault-moved a values h = search (rules, either, settle_fault-moved, settled-moved, moved_rule, action_fault-moved)
+  react_fault-moved a values h =
+      search (rules, either, settle_fault-moved, settled-moved, moved_rule, action_fault-moved)
 
   option_fault-moved : (a : Rule) (v : Option Text) (h : Held) → option_fault n again (moved_rule a) v h ≡ option_fault
       c again a v h
@@ -150,7 +138,8 @@ module _ (c : List Rule) (again : Bool) where
       → ((held : Held) → after held ≡ before held) → short_fault n again (option_map moved_rule o) rest h after
       ≡ short_fault c again o rest h before
   short_fault-moved None rest h after before same = refl
-  short_fault-moved (Some a) rest h after before same = search (rules, both_arms, option_fault-moved, either, react_fault-moved, reacted-moved)
+  short_fault-moved (Some a) rest h after before same =
+      search (rules, both_arms, option_fault-moved, either, react_fault-moved, reacted-moved)
 
   flags_fault-moved : (k : ℕ) (flags : Text) (skip : ℕ) (h : Held) → flags_fault n again k flags skip h ≡ flags_fault c
       again k flags skip h
@@ -163,7 +152,8 @@ module _ (c : List Rule) (again : Bool) where
 
   react_passes-moved : (a : Rule) (values : List Text) (h : Held)
       → react_passes n again (moved_rule a) values h ≡ react_passes c again a values h
-  react_passes-moved a values h = search (rules, both_hold, settle_passes-moved, settled-moved, moved_rule, action_passes-moved)
+  react_passes-moved a values h =
+      search (rules, both_hold, settle_passes-moved, settled-moved, moved_rule, action_passes-moved)
 
   option_passes-moved : (a : Rule) (v : Option Text) (h : Held)
       → option_passes n again (moved_rule a) v h ≡ option_passes c again a v h
@@ -179,7 +169,8 @@ module _ (c : List Rule) (again : Bool) where
       → ((held : Held) → after held ≡ before held) → short_passes n again (option_map moved_rule o) rest h after
       ≡ short_passes c again o rest h before
   short_passes-moved None rest h after before same = refl
-  short_passes-moved (Some a) rest h after before same = search (rules, both_arms, option_passes-moved, both_hold, react_passes-moved, reacted-moved)
+  short_passes-moved (Some a) rest h after before same =
+      search (rules, both_arms, option_passes-moved, both_hold, react_passes-moved, reacted-moved)
 
   flags_pass-moved : (k : ℕ) (flags : Text) (skip : ℕ) (h : Held) → flags_pass n again k flags skip h ≡ flags_pass c
       again k flags skip h
@@ -196,20 +187,24 @@ module _ (s : Shape) where
   step_fault-moved position h it = search (rules, found-moved, both_arms, settle_fault-moved)
 
   turn_fault-moved : (names : Names) (w : Walk) (word : Text) → turn_fault t names w word ≡ turn_fault s names w word
-  turn_fault-moved names w word = search (rules, both_arms, either, word_met-moved, step_fault-moved, found-moved, long_fault-moved, flags_fault-moved)
+  turn_fault-moved names w word = search
+      (rules, both_arms, either, word_met-moved, step_fault-moved, found-moved, long_fault-moved, flags_fault-moved)
 
   walk_fault-moved : (names : Names) (words : List Text) (w : Walk) → walk_fault t names w words ≡ walk_fault s names w
       words
   unfolding walk_fault
   walk_fault-moved names [] w = refl
-  walk_fault-moved names (word ∷ rest) w = search (rules, either, turn_fault-moved, walked-moved, walk_fault-moved names rest)
+  walk_fault-moved names (word ∷ rest) w =
+      search (rules, either, turn_fault-moved, walked-moved, walk_fault-moved names rest)
 
   check_fault-moved : (rows : List Row) (has : Bool) → check_fault t rows has ≡ check_fault s rows has
-  check_fault-moved rows has = cc (list_any-map (λ (a : Rule). a.required && not (is_given a.id rows)) moved_rule s.rules)
+  check_fault-moved rows has =
+      cc (list_any-map (λ (a : Rule). a.required && not (is_given a.id rows)) moved_rule s.rules)
 
   pub level_fault-moved : (names : Names) (h : Held) (words : List Text) (has : Bool) (below : Kinds)
       → level_fault t names h words has below ≡ level_fault s names h words has below
-  level_fault-moved names h words has below = search (rules, walk-moved, walk_fault-moved, settle_fault-moved, settled-moved, defaults_fault-moved, check_fault-moved, defaults-moved)
+  level_fault-moved names h words has below = search
+      (rules, walk-moved, walk_fault-moved, settle_fault-moved, settled-moved, defaults_fault-moved, check_fault-moved, defaults-moved)
 
   step_passes-moved : (position : ℕ) (h : Held) (step : Step) → step_passes t position h step ≡ step_passes s position h
       step
@@ -219,11 +214,34 @@ module _ (s : Shape) where
       w words
   unfolding walk_passes
   walk_passes-moved names [] w = refl
-  walk_passes-moved names (word ∷ rest) w = search (rules, both_hold, walked-moved, walk_passes-moved names rest, word_met-moved, step_passes-moved, found-moved, long_passes-moved, flags_pass-moved)
+  walk_passes-moved names (word ∷ rest) w = search (
+    rules,
+    both_hold,
+    walked-moved,
+    walk_passes-moved names rest,
+    word_met-moved,
+    step_passes-moved,
+    found-moved,
+    long_passes-moved,
+    flags_pass-moved,
+  )
 
   is_valid-moved : (rows : List Row) (has : Bool) → is_valid t rows has ≡ is_valid s rows has
-  is_valid-moved rows has = cc (list_all-moved (λ (a : Rule). a.is_free) s.rules, list_all-moved (λ (a : Rule). not a.required || is_given a.id rows) s.rules)
+  is_valid-moved rows has = cc (
+    list_all-map (λ (a : Rule). a.is_free) moved_rule s.rules,
+    list_all-map (λ (a : Rule). not a.required || is_given a.id rows) moved_rule s.rules,
+  )
 
   pub level_passes-moved : (names : Names) (h : Held) (words : List Text) (has : Bool)
       → level_passes t names h words has ≡ level_passes s names h words has
-  level_passes-moved names h words has = search (rules, walk-moved, both_hold, walk_passes-moved, settle_passes-moved, all_defaults-moved, is_valid-moved, settled-moved, defaults-moved)
+  level_passes-moved names h words has = search (
+    rules,
+    walk-moved,
+    both_hold,
+    walk_passes-moved,
+    settle_passes-moved,
+    all_defaults-moved,
+    is_valid-moved,
+    settled-moved,
+    defaults-moved,
+  )

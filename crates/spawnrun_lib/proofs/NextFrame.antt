@@ -1,5 +1,5 @@
--- A run whose first frames are done goes on by one frame, and ends in a report.
-use Rattle.spawnrun_lib.proofs.Common.{rules, ◌≡◌, refl, subst, ℕ, ◌+◌, ◌≤◌, List, [], ◌∷◌, ◌++◌, length, arith, append_assoc, append-nil, length-append, All-tail, Handle, Command, World, Fault, IsFrame, Ends, Operation, MayIssue, Show, frame_text, Execution, AreExecutions, synced, born_in, last_world, frames_text, AreFew, HaveGone}
+-- A run whose first frames are done goes on by one frame, and ends in a report, or in blocks in the text of its script.
+use Rattle.spawnrun_lib.proofs.Common.{rules, ◌≡◌, refl, subst, ℕ, ◌+◌, ◌≤◌, List, [], ◌∷◌, ◌++◌, length, append_assoc, append-nil, length-append, All-tail, Handle, Command, World, Fault, IsFrame, Ends, Operation, MayIssue, Show, frame_text, Execution, AreExecutions, synced, born_in, last_world, frames_text, AreFew, HaveGone, first_world, Script, EndsInBlocks, HaveGoneInBlocks, IsTextInBlocks, sizes_of, IsWorldText}
 
 -- ---- one frame more
 
@@ -23,7 +23,8 @@ text_on : (workers : ℕ) (show : Show) (number : ℕ) (w : World) (frames : Lis
     ++ frame_text show (number + length frames) (born_in (last_world w executions) e)
     (synced (last_world w executions) e).faults
 text_on workers show number w [] [] e went = search (rules, append-nil)
-text_on workers show number w (s ∷ frames) (x ∷ executions) e went = search (rules, append_assoc, text_on workers show (number + 1) (synced w x).world frames executions e went.1)
+text_on workers show number w (s ∷ frames) (x ∷ executions) e went =
+    search (rules, append_assoc, text_on workers show (number + 1) (synced w x).world frames executions e went.1)
 text_on workers show number w _ _ e went = absurd went
 
 module _ (workers : ℕ) (show : Show) (first now after : World) (frames : List (List (List Operation)))
@@ -34,15 +35,13 @@ module _ (workers : ℕ) (show : Show) (first now after : World) (frames : List 
       (text ++ frame_text show (length frames) births faults)
   has_gone_on run ends =
       let e : Execution = record { queues = queues; history = ends.history } in
-      let frame = rw run.world_is at ends.frame in
-      let zero : 0 + length frames ≡ length frames = omega arith in
-      let on = rw zero at (text_on workers show 0 first frames run.executions e run.went) in
-      record {
-        executions = run.executions ++ e ∷ [];
-        went = went_on workers first frames run.executions systems e run.went frame;
-        world_is = rw (world_on, ← run.world_is) ends.world;
-        text_is = rw (on, run.text_is, ends.born_are, ends.faults_are, run.world_is);
-      }
+      search (
+        rules,
+        run.executions ++ e ∷ [],
+        went_on workers first frames run.executions systems e,
+        world_on first run.executions e,
+        text_on workers show 0 first frames run.executions e run.went,
+      )
 
 -- ---- a list of frames of which the first are taken away one by one
 
@@ -56,3 +55,27 @@ module _ (gone old rest : List (List (List Operation))) (systems : List (List Op
 
   pub others_are_few : AreFew old → AreFew rest
   others_are_few few = All-tail (λ systems. length systems ≤ 256) systems rest (subst AreFew front few)
+
+-- ---- in blocks
+
+module _ (names : List (List ℕ)) (size : ℕ) (show : Show) (first : World) where
+  pub has_begun_in_blocks : HaveGoneInBlocks names size show first first [] []
+  has_begun_in_blocks = record { rest = λ frames others is. is }
+
+  pub has_gone_on_in_blocks : (now after : World) (gone : List (List (List Operation)))
+      (systems : List (List Operation)) (text : List ℕ) (queues : List (List Command)) (came : List Handle)
+      (faults : List Fault) → HaveGoneInBlocks names size show first now gone text
+      → EndsInBlocks (sizes_of size systems) systems now queues after came faults
+      → HaveGoneInBlocks names size show first after (gone ++ systems ∷ [])
+      (text ++ frame_text show (length gone) came faults)
+  has_gone_on_in_blocks now after gone systems text queues came faults run ends =
+      search (rules, length-append, append_assoc)
+
+-- the text of all frames, and of the world that they leave, is that of the script
+pub text_in_blocks : (script : Script) (size : ℕ) (show : Show) (first now : World)
+    (frames : List (List (List Operation))) (names : List (List ℕ)) (text others all : List ℕ)
+    → ((names : List (List ℕ)) → HaveGoneInBlocks names size show first now frames text)
+    → first ≡ first_world script.limits → frames ≡ script.frames → names ≡ script.components
+    → IsWorldText names show now.entities others → all ≡ text ++ others → IsTextInBlocks script size show all
+text_in_blocks script size show first now frames names text others all run first_is frames_are names_are is all_is =
+    let whole = (run names).rest [] others is in search (rules, append-nil)

@@ -1,6 +1,6 @@
 -- A report by births that tells of no refusal: no request of the run was refused. A request that
 -- was refused is a fault of its frame, faults are only appended, and each has its line in the text.
-use Rattle.spawnrun_lib.proofs.Common.{common_steps, rules, arith, ◌≡◌, refl, ◌∙◌, inl, inr, ℕ, ◌+◌, List, [], ◌∷◌, ◌++◌, length, All, append_assoc, append-nil, decimal, flat_map, All-nil, All-cons, All-head, Handle, All-left, All-right, Command, Refused, Fault, FaultKind, World, first_world, Applied, on_entity, on_each, with_fault, after_command, after_commands, after_queues, sync, reserved_by, Script, IsGranted, AreGranted, Births, kind_text, fault_line, frame_line, Execution, synced, born_in, frames_text, IsReportOf, IsRefusedRequest, IsLines, TellsNoRefusal, codes}
+use Rattle.spawnrun_lib.proofs.Common.{rules, ◌≡◌, refl, ◌∙◌, inl, inr, ℕ, ◌+◌, List, [], ◌∷◌, ◌++◌, length, All, append_assoc, append-nil, decimal, flat_map, All-nil, All-cons, All-head, Handle, All-left, All-right, Command, Refused, Fault, FaultKind, World, first_world, Applied, on_entity, on_each, with_fault, after_command, after_commands, after_queues, sync, reserved_by, Script, IsGranted, AreGranted, Births, kind_text, fault_line, frame_line, Execution, synced, born_in, frames_text, IsReportOf, IsRefusedRequest, IsLines, TellsNoRefusal, codes}
 use Rattle.ent_alloc.specs.declared.refused.Refused.TheVariants as refusal
 use Rattle.ent_world.specs.declared.fault.FaultKind.TheVariants as kind
 
@@ -27,19 +27,22 @@ module _ (system command : ℕ) where
     before_each (h ∷ hs) a none = before_one h a (before_each hs (on_entity system command change h a) none)
 
   before_command : (c : Command) (a : Applied) → AreNone (after_command system command c a) → AreNone a × IsGranted c
-  before_command (Refused wanted (refusal.Space same left)) a none = search (rules, before_fault (kind.Space same left) a none)
+  before_command (Refused wanted (refusal.Space same left)) a none =
+      search (rules, before_fault (kind.Space same left) a none)
   before_command (Refused wanted (refusal.Quota left)) a none = search (rules, before_fault (kind.Quota left) a none)
   before_command _ a none = (search (before_one, before_each), tt)
 
 before_commands : (system command : ℕ) (q : List Command) (a : Applied) → AreNone (after_commands system command q a)
     → AreNone a × All IsGranted q
 before_commands system command [] a none = (none, All-nil IsGranted)
-before_commands system command (c ∷ q) a none = search (rules, All-cons, before_command system command c a, before_commands system (command + 1) q (after_command system command c a) none)
+before_commands system command (c ∷ q) a none = search
+    (rules, All-cons, before_command system command c a, before_commands system (command + 1) q (after_command system command c a) none)
 
 before_queues : (system : ℕ) (queues : List (List Command)) (a : Applied) → AreNone (after_queues system queues a)
     → AreNone a × AreGranted queues
 before_queues system [] a none = (none, All-nil (All IsGranted))
-before_queues system (q ∷ queues) a none = search (rules, before_commands, All-cons, before_queues (system + 1) queues (after_commands system 0 q a) none)
+before_queues system (q ∷ queues) a none =
+    search (rules, before_commands, All-cons, before_queues (system + 1) queues (after_commands system 0 q a) none)
 
 pub sync-granted : (queues : List (List Command)) (w : World) → All IsNoRefusal (sync queues w).faults
     → AreGranted queues
@@ -84,8 +87,14 @@ module _ (text : List ℕ) (none : TellsNoRefusal text) where
       let line = fault_line Births fault in
       let here : text ≡ (before ++ line) ++ (flat_map (fault_line Births) faults ++ after) = rw is
       (simp append_assoc) in
-      All-cons IsNoRefusal fault faults (grind (arith, common_steps, here))
-      (faults_told (before ++ line) faults after (lines_after before line lines (inr (fault_line-end fault))) here)
+      search (
+        rules,
+        All-cons,
+        here,
+        none fault,
+        lines_after before line lines (inr (fault_line-end fault)),
+        faults_told (before ++ line) faults after,
+      )
 
   frames_told : (number : ℕ) (w : World) (executions : List Execution) (before after : List ℕ) → IsLines before
       → text ≡ before ++ (frames_text Births number w executions ++ after) → All WereGranted executions

@@ -1,10 +1,8 @@
 -- A frame of scripted systems on one worker has one course: its queues and its history follow from
--- the systems and the world.
-use Rattle.spawnrun_lib.proofs.Common.{rules, ◌≡◌, refl, sym, ◌∙◌, arith, append-nil, ℕ, ◌<◌, ℤ, List, [], ◌∷◌, ◌++◌, length, Some, Ok, Result, common_steps, if◌then◌else◌, nat_lt, slice_get, AllPairs, flat_map, range_with_len, IsPermutation, cond-true, cond-false, lt-ltb, le-ltb, ext_get_or, All-nil, All-cons, All-head, All-tail, length-range_with_len, get_or-range_with_len, All-permutation, IsPermutation-sym, ComponentId, Birth, Handle, OutOfSpace, quota, Allocator, reply_to, Call, reply-none, Quota, one_list_with, Command, Spawn, SpawnMany, Refused, World, View, IsFrame, view_of, queue_at, commands_of, at_within, all_below, calls_back, Operation, Target, Bindings, unbound, names_after, IsOfBirth, IsTargeted, OnEach, IsSpawn, IsSpawnMany, Issues, IssuesAll, MayIssue, All, Contains-permutation, same_list, ◌-◌, map, flat_map-append, map-append, after_take, IsLegal, after_history, stands_for, cost, FitQuota, first_call, first_world, Script, Show, Execution, AreExecutions, synced, last_world, IsReport, Err}
-use Rattle.ent_alloc.specs.declared.refused.Refused.TheVariants.{Space}
+-- the systems and the world. And a world has one text.
+use Rattle.spawnrun_lib.proofs.Common.{rules, ◌≡◌, refl, sym, ◌∙◌, arith, append-nil, ℕ, ◌<◌, List, [], ◌∷◌, ◌++◌, length, Some, common_steps, slice_get, AllPairs, flat_map, range_with_len, IsPermutation, ext_get_or, All-nil, All-cons, All-head, All-tail, length-range_with_len, get_or-range_with_len, All-permutation, IsPermutation-sym, Birth, Handle, quota, Allocator, Call, one_list_with, Command, Spawn, SpawnMany, World, View, IsFrame, view_of, queue_at, commands_of, at_within, all_below, calls_back, Operation, Target, Bindings, unbound, names_after, IsTargeted, OnEach, Issues, IssuesAll, MayIssue, All, Contains-permutation, same_list, ◌-◌, map, flat_map-append, map-append, after_take, IsLegal, after_history, stands_for, cost, FitQuota, first_call, first_world, Script, Show, Execution, AreExecutions, synced, last_world, IsReport, EntityMap, one_list_of_all, IsWorldText}
 use Rattle.ent_script.specs.declared.operation.Operation.TheVariants as operation
 use Rattle.ent_script.specs.declared.target.Target.TheVariants as target
-use Rattle.spawnrun_lib.proofs.OneText.{one_text}
 
 -- ---- commands whose reservations an allocator has replied to, and the quota has allowed
 
@@ -37,10 +35,10 @@ legal_parts s [] more legal = (tt, legal)
 legal_parts s (call ∷ calls) more legal = search (rules, legal_parts (after_take s call.requested) calls more)
 
 -- what is served is served up to any command, and the others are served after it
-pub served_first : (s : Allocator) (left : ℕ) (cs ds : List Command) → IsServed s left (cs ++ ds) → IsServed s left cs
+served_first : (s : Allocator) (left : ℕ) (cs ds : List Command) → IsServed s left (cs ++ ds) → IsServed s left cs
 served_first s left cs ds served = search (rules, legal_parts, flat_map-append, map-append, within_parts)
 
-pub served_rest : (s : Allocator) (left : ℕ) (cs ds : List Command) → IsServed s left (cs ++ ds)
+served_rest : (s : Allocator) (left : ℕ) (cs ds : List Command) → IsServed s left (cs ++ ds)
     → IsServed (state_after s cs) (left_after left cs) ds
 served_rest s left cs ds served = search (rules, legal_parts, flat_map-append, map-append, within_parts)
 
@@ -52,41 +50,11 @@ one_rising ms ns all a b p q =
 
 -- ---- one operation
 
--- what a request for so many handles issues: a refusal if the quota is too small, else what is
--- issued at the reply
-abbrev requested : Allocator → ℕ → (ℕ → Result (List Handle) OutOfSpace → List Command) → ℕ → List Command
-requested s left issue wanted = if nat_lt left wanted then Refused wanted (Quota left)
-    ∷ [] else issue wanted (reply_to s wanted)
-
--- what a spawn of one and a spawn of many issue at this reply
-abbrev spawned : List (ComponentId × ℤ) → ℕ → Result (List Handle) OutOfSpace → List Command
-spawned bundle wanted (Ok (h ∷ hs)) = Spawn h bundle ∷ []
-spawned bundle wanted (Ok []) = []
-spawned bundle wanted (Err space) = Refused wanted (Space space.wanted space.left) ∷ []
-
-abbrev many_spawned : List (ComponentId × ℤ) → ℕ → Result (List Handle) OutOfSpace → List Command
-many_spawned bundle wanted (Ok hs) = SpawnMany hs bundle ∷ []
-many_spawned bundle wanted (Err space) = Refused wanted (Space space.wanted space.left) ∷ []
-
-module _ (s : Allocator) (left : ℕ) (bundle : List (ComponentId × ℤ)) where
-  spawn_is : (issued : List Command) → IsSpawn bundle issued → IsServed s left issued
-      → issued ≡ requested s left (spawned bundle) 1
-  spawn_is it is served = search (rules, cond-false, le-ltb, cond-true, lt-ltb)
-
-  many_is : (count : ℕ) (issued : List Command) → IsSpawnMany count bundle issued → IsServed s left issued
-      → issued ≡ requested s left (many_spawned bundle) count
-  many_is count hs is served = search (rules, cond-false, le-ltb, reply-none, cond-true, lt-ltb)
-
--- an entity's birth tells its handle
-same_of_birth : (view : View) (birth : Birth) (hs ks : List Handle) → IsOfBirth view birth hs → IsOfBirth view birth ks
-    → hs ≡ ks
-same_of_birth view birth hs ks a b = grind (arith, common_steps)
-
 -- a target means one list of handles
 same_targets : (view : View) (names : Bindings) (on : Target) (hs ks : List Handle) → IsTargeted view names on hs
     → IsTargeted view names on ks → hs ≡ ks
 same_targets view names (target.Each id) hs ks a b = one_list_with id view.entities hs ks a b
-same_targets view names (target.Birth birth) hs ks a b = same_of_birth view birth hs ks a b
+same_targets view names (target.Birth birth) hs ks a b = grind (arith, common_steps)
 same_targets view names _ hs ks a b = a ∙ sym b
 
 pub same_on_each : (view : View) (names : Bindings) (on : Target) (command : Handle → Command) (cs ds : List Command)
@@ -95,8 +63,8 @@ same_on_each view names on command cs ds a b = search (rules, same_targets)
 
 same_operation : (view : View) (names : Bindings) (op : Operation) (s : Allocator) (left : ℕ) (cs ds : List Command)
     → Issues view names op cs → Issues view names op ds → IsServed s left cs → IsServed s left ds → cs ≡ ds
-same_operation view names (operation.Spawn bundle binds) s left cs ds a b p q = search (rules, spawn_is)
-same_operation view names (operation.SpawnMany count bundle binds) s left cs ds a b p q = search (rules, many_is)
+same_operation view names (operation.Spawn bundle binds) s left cs ds a b p q = grind (arith, common_steps)
+same_operation view names (operation.SpawnMany count bundle binds) s left cs ds a b p q = grind (arith, common_steps)
 same_operation view names _ s left cs ds a b p q = same_on_each view names _ _ cs ds a b
 
 -- ---- one system
@@ -106,10 +74,14 @@ same_operation view names _ s left cs ds a b p q = same_on_each view names _ _ c
 same_queue : (view : View) (names : Bindings) (ops : List Operation) (s : Allocator) (left : ℕ) (cs ds : List Command)
     → IssuesAll view names ops cs → IssuesAll view names ops ds → IsServed s left cs → IsServed s left ds → cs ≡ ds
 same_queue view names [] s left cs ds a b p q = a ∙ sym b
-same_queue view names (op ∷ ops) s left cs ds (first, rest, cs_are, may, others) (first', rest', ds_are, may', others') p q =
-    let later = same_queue view (names_after names op first) ops (state_after s first) (left_after left first) rest
-    rest' others in
-    search (rules, same_operation view names op s left first first', served_first, served_rest, later)
+same_queue view names (op ∷ ops) s left cs ds (first, rest, cs_are, may, others) (first', rest', ds_are, may', others')
+    p q = search (
+      rules,
+      same_operation view names op s left first first',
+      served_first,
+      served_rest,
+      same_queue view (names_after names op first) ops (state_after s first) (left_after left first) rest rest' others,
+    )
 
 -- ---- one worker
 
@@ -146,9 +118,16 @@ same_queues : (view : View) (systems : List (List Operation)) (q r : List (List 
 same_queues view systems q r [] s left below may may' served served' = search (rules, All-nil)
 same_queues view systems q r (n ∷ ns) s left below may may' served served' =
     let system = at_within systems n (All-head (λ n. n < length systems) n ns below) in
-    let here = same_queue view unbound system.0 s left _ _ (may n system.0 system.1) (may' n system.0 system.1) in
-    let later = same_queues view systems q r ns (state_after s (queue_at q n)) (left_after left (queue_at q n)) in
-    search (rules, All-tail, All-cons, here, later, may, may', served_first, served_rest)
+    search (
+      rules,
+      All-tail,
+      All-cons,
+      same_queue view unbound system.0 s left _ _ (may n system.0 system.1) (may' n system.0 system.1),
+      served_first,
+      served_rest,
+      same_queues view systems q r ns (state_after s (queue_at q n)) (left_after left (queue_at q n))
+          (All-tail (λ n. n < length systems) n ns below) may may',
+    )
 
 -- ---- one course
 
@@ -161,16 +140,14 @@ pub one_course : (systems : List (List Operation)) (w : World) (q r : List (List
 one_course systems w q r h k first second =
     let a = is_alone systems w q h first in
     let b = is_alone systems w r k second in
-    let numbers : List ℕ = range_with_len 0 (length systems) in
-    let mine : a.mine ≡ b.mine = one_rising a.mine b.mine numbers a.rising b.rising a.once b.once in
-    let below : All (λ n. n < length systems) a.mine = All-permutation (λ n. n < length systems) numbers a.mine
-    (IsPermutation-sym a.mine numbers a.once) (all_below (length systems)) in
+    let mine : a.mine ≡ b.mine = one_rising _ _ _ a.rising b.rising a.once b.once in
+    let below = All-permutation (λ n. n < length systems) _ _ (IsPermutation-sym _ _ a.once)
+    (all_below (length systems)) in
     let each = same_queues (view_of w) systems q r a.mine w.allocator quota below first.each_system second.each_system
     a.served (rw (← mine) at b.served) in
-    let at = All-permutation (λ n. queue_at q n ≡ queue_at r n) a.mine numbers a.once each in
-    let queues : q ≡ r = ext_get_or [] q r (first.count ∙ sym second.count)
-    (λ n less. below_each (λ n. queue_at q n ≡ queue_at r n) (length systems) at n
-    (omega (arith, less, first.count))) in
+    let at = All-permutation (λ n. queue_at q n ≡ queue_at r n) _ _ a.once each in
+    let queues = ext_get_or [] q r (first.count ∙ sym second.count) (λ n less.
+    below_each (λ n. queue_at q n ≡ queue_at r n) _ at n (omega (arith, less, first.count))) in
     search rules
 
 -- ---- one report
@@ -178,14 +155,22 @@ one_course systems w q r h k first second =
 same_executions : (w : World) (frames : List (List (List Operation))) (es fs : List Execution)
     → AreExecutions 1 w frames es → AreExecutions 1 w frames fs → es ≡ fs
 same_executions w [] [] [] a b = refl
-same_executions w (systems ∷ frames) (e ∷ es) (f ∷ fs) a b = grind (arith, common_steps, one_course systems w e.queues f.queues e.history f.history a.0 b.0, same_executions (synced w e).world frames es fs a.1)
+same_executions w (systems ∷ frames) (e ∷ es) (f ∷ fs) a b = grind (
+  arith,
+  common_steps,
+  one_course systems w e.queues f.queues e.history f.history a.0 b.0,
+  same_executions (synced w e).world frames es fs a.1,
+)
 same_executions w _ _ _ a b = search rules
+
+-- no other list has the entities of a world in the order of births
+pub one_text : (names : List (List ℕ)) (s : Show) (m : EntityMap) (t u : List ℕ) → IsWorldText names s m t
+    → IsWorldText names s m u → t ≡ u
+one_text names s m t u a b = search (rules, one_list_of_all m a.handles b.handles a.lists b.lists)
 
 pub one_report : (script : Script) (show : Show) (text other : List ℕ) → IsReport script 1 show text
     → IsReport script 1 show other → text ≡ other
 one_report script show text other a b =
     let first = first_world script.limits in
     let same = same_executions first script.frames a.0 b.0 a.1.frames b.1.frames in
-    let one = one_text script.components show (last_world first a.0).entities a.1.world_text b.1.world_text a.1.world
-    (rw (← same) at b.1.world) in
-    search rules
+    search (rules, same, one_text script.components show (last_world first a.0).entities a.1.world_text b.1.world_text a.1.world)

@@ -1,9 +1,8 @@
 -- In blocks a script has one text: its queues, its handles and its world follow from the script and the
 -- size of the blocks.
-use Rattle.spawnrun_lib.proofs.Common.{rules, ◌≡◌, refl, sym, ap, ◌∙◌, arith, ℕ, suc, ◌+◌, ◌-◌, ◌<◌, ◌≤◌, List, [], ◌∷◌, ◌++◌, length, take, common_steps, filter, ext_get_or, length-append, Handle, Allocator, is_old, is_fresh, listed, Block, rest_of, after_use, blocks_from, lesser, Command, Spawn, SpawnMany, AreDrawnBy, left_of, used_by, View, sync, World, view_of, queue_at, at_within, Script, Operation, Bindings, unbound, names_after, Issues, IssuesAll, AreQueues, IsTextFrom, IsTextInBlocks, sizes_of, blocks_of_frame, reserved_in, Show}
+use Rattle.spawnrun_lib.proofs.Common.{rules, ◌≡◌, refl, sym, ap, ◌∙◌, arith, ℕ, suc, ◌+◌, ◌-◌, ◌<◌, ◌≤◌, List, [], ◌∷◌, ◌++◌, length, take, common_steps, filter, ext_get_or, length-append, Handle, Allocator, is_old, is_fresh, listed, Block, rest_of, after_use, blocks_from, lesser, Command, Spawn, SpawnMany, AreDrawnBy, left_of, used_by, View, sync, World, view_of, at_within, Script, Operation, Bindings, unbound, names_after, Issues, IssuesAll, AreQueues, IsTextFrom, IsTextInBlocks, sizes_of, blocks_of_frame, reserved_in, Show}
 use Rattle.ent_script.specs.declared.operation.Operation.TheVariants as operation
-use Rattle.spawnrun_lib.proofs.OneCourse.{same_on_each}
-use Rattle.spawnrun_lib.proofs.OneText.{one_text}
+use Rattle.spawnrun_lib.proofs.OneCourse.{one_text, same_on_each}
 
 -- ---- what a block has
 
@@ -26,7 +25,8 @@ too_few s b hs is less = grind (arith, common_steps, few_parts, length-append)
 same_operation : (view : View) (names : Bindings) (op : Operation) (s : Allocator) (b : Block) (cs ds : List Command)
     → Issues view names op cs → Issues view names op ds → AreDrawnBy s b cs → AreDrawnBy s b ds → cs ≡ ds
 same_operation view names (operation.Spawn bundle binds) s b cs ds is is' drawn drawn' = search (rules, none_left)
-same_operation view names (operation.SpawnMany count bundle binds) s b cs ds is is' drawn drawn' = search (rules, too_few)
+same_operation view names (operation.SpawnMany count bundle binds) s b cs ds is is' drawn drawn' =
+    search (rules, too_few)
 same_operation view names _ s b cs ds is is' drawn drawn' = same_on_each view names _ _ cs ds is is'
 
 -- ---- one system
@@ -50,9 +50,8 @@ same_queue : (view : View) (names : Bindings) (ops : List Operation) (s : Alloca
     → IssuesAll view names ops cs → IssuesAll view names ops ds → AreDrawnBy s b cs → AreDrawnBy s b ds → cs ≡ ds
 same_queue view names [] s b cs ds is is' drawn drawn' = is ∙ sym is'
 same_queue view names (op ∷ ops) s b cs ds (first, rest, cs_are, may, others) (first', rest', ds_are, may', others')
-    drawn drawn' =
-    let later = same_queue view (names_after names op first) ops s (used_on b first) rest rest' others in
-    search (rules, same_operation, drawn_first, drawn_rest, later)
+    drawn drawn' = search
+    (rules, same_operation, drawn_first, drawn_rest, same_queue view (names_after names op first) ops s (used_on b first) rest rest' others)
 
 -- ---- one frame
 
@@ -67,26 +66,28 @@ count_sizes size (system ∷ systems) = ap suc (count_sizes size systems)
 same_queues : (size : ℕ) (w : World) (systems : List (List Operation)) (q r : List (List Command))
     → AreQueues size w systems q → AreQueues size w systems r → q ≡ r
 same_queues size w systems q r a b =
-    let blocks = blocks_of_frame size w systems in
-    let many : length blocks ≡ length systems = search (rules, count_from, count_sizes) in
+    let many : length (blocks_of_frame size w systems) ≡ length systems = search (rules, count_from, count_sizes) in
     ext_get_or [] q r (a.each_queue ∙ sym b.each_queue) (λ n less.
     let system = at_within systems n (omega (arith, less, a.each_queue)) in
-    let block = at_within blocks n (omega (arith, less, a.each_queue, many)) in
-    same_queue (view_of w) unbound system.0 w.allocator block.0 (queue_at q n) (queue_at r n)
-    (a.each_system n system.0 system.1) (b.each_system n system.0 system.1) (a.draws n block.0 block.1)
-    (b.draws n block.0 block.1))
+    let block = at_within (blocks_of_frame size w systems) n (omega (arith, less, a.each_queue, many)) in
+    search (
+      rules,
+      same_queue (view_of w) unbound system.0 w.allocator block.0,
+      a.each_system n system.0,
+      b.each_system n system.0,
+      a.draws n block.0,
+      b.draws n block.0,
+    ))
 
 -- ---- one text
 
 same_text : (names : List (List ℕ)) (size : ℕ) (show : Show) (number : ℕ) (w : World)
     (frames : List (List (List Operation))) (text other : List ℕ) → IsTextFrom names size show number w frames text
     → IsTextFrom names size show number w frames other → text ≡ other
-same_text names size show number w [] text other is is' = one_text names show w.entities text other is is'
+same_text names size show number w [] text other is is' = search (rules, one_text)
 same_text names size show number w (systems ∷ frames) text other (q, rest, are, more, text_is)
     (r, rest', are', more', other_is) =
-    let later = same_text names size show (number + 1) (sync q (reserved_in size w systems q)).world frames rest rest'
-    more in
-    search (rules, same_queues, later)
+    search (rules, same_queues, same_text names size show (number + 1) (sync q (reserved_in size w systems q)).world frames rest rest' more)
 
 pub one_text_in_blocks : (script : Script) (size : ℕ) (show : Show) (text other : List ℕ)
     → IsTextInBlocks script size show text → IsTextInBlocks script size show other → text ≡ other

@@ -1,15 +1,12 @@
--- One induction over clap's walk, and so one file of more than 400 lines: where clap's parse of a
--- command of options doesn't fail, each option has one value, which it accepts.
-use Rattle.spawnrun_lib.proofs.Common.{common_steps, rules, ◌≡◌, ◌⊎◌, ℕ, Bool, true, false, List, [], ◌∷◌, ◌++◌, length, cond, zero, suc, refl, arith, append-nil, Option, Some, None, IfSome, fold, find, AllByRecursion, option_map_or, bytes_eq-Decides, Row, Rule, Shape, Text, first_of, one_of, read_as, Kinds, or_else, range_kinds, is_request, value_passes, nothing_held, long_or_other, Held, Outcome, Waiting, Walk, action_of, arg_by_id, at_row, bundle_met, has_row, long_met, option_met, reacted, reading_by, rows_after, settled, short_met, used, used_as, used_by_id, values_or_missing, walked, with_default, without, set_fault, flag_word_fault, flags_fault, level_fault, long_fault, option_fault, react_fault, settle_fault, short_fault, turn_fault, use_fault, walk_fault, Set, ErrorKind, ValueSource, ◌==◌}
+-- One induction over clap's walk: where clap's parse of a command of options doesn't fail, each option has one value,
+-- which it accepts.
+use Rattle.spawnrun_lib.proofs.Common.{list_any-append, common_steps, rules, ◌≡◌, ◌⊎◌, ℕ, Bool, true, false, List, [], ◌∷◌, ◌++◌, length, zero, suc, refl, arith, append-nil, Option, Some, None, IfSome, fold, find, AllByRecursion, option_map_or, bytes_eq-Decides, Row, Rule, Shape, Text, first_of, one_of, read_as, Kinds, or_else, range_kinds, is_request, value_passes, nothing_held, long_or_other, Held, Outcome, Waiting, Walk, action_of, arg_by_id, at_row, bundle_met, has_row, long_met, option_met, reacted, reading_by, rows_after, settled, short_met, used_as, used_by_id, values_or_missing, walked, with_default, set_fault, flag_word_fault, flags_fault, level_fault, long_fault, option_fault, react_fault, settle_fault, short_fault, turn_fault, use_fault, walk_fault, Set, ◌==◌}
 
 -- ---- kinds of errors
 
 -- two steps in turn fail in no way where neither does
 pub none_of : (first second : Kinds) → or_else first second ≡ [] → (first ≡ []) × (second ≡ [])
 none_of ks second e = search rules
-
-passed : (test : Bool) (k : ErrorKind) → cond test [] (k ∷ []) ≡ [] → test ≡ true
-passed b k e = search rules
 
 -- ---- rows
 
@@ -18,16 +15,6 @@ at_row-absent : (id : Text) (change : Row → List Row) (missing rows : List Row
     → at_row id change missing rows ≡ rows ++ missing
 at_row-absent id change missing [] e = refl
 at_row-absent id change missing (r ∷ rs) e = grind (arith, common_steps, at_row-absent id change missing rs)
-
--- the row of an argument with one value
-abbrev new_row : Rule → Text → ValueSource → Row
-new_row a text source = record {
-  id = a.id;
-  values = text ∷ [];
-  count = None;
-  source = Some source;
-  reading = reading_by a;
-}
 
 -- ---- the arguments of a command
 
@@ -81,7 +68,7 @@ module _ (c : List Rule) where
   set-good : (a : Rule) → arg_by_id c a.id ≡ Some a → (values : List Text) (rows : List Row) → Good rows
       → or_else (range_kinds 1 1 (length values)) (set_fault false a (values_or_missing a values) rows) ≡ []
       → Good (used_as Set a.id (reading_by a) (values_or_missing a values) rows)
-  set-good a own (text ∷ []) rows good e = search (rules, none_of, passed, Good-append, at_row-absent, append-nil)
+  set-good a own (text ∷ []) rows good e = search (rules, none_of, Good-append, at_row-absent, append-nil)
   set-good a own _ rows good e = search rules
 
   used_by_id-good : (found : Option Rule) → IfSome found Fits → (values : List Text) (rows : List Row) → Good rows
@@ -117,7 +104,8 @@ module _ (c : List Rule) where
     short-good : (o : Option Rule) → IfSome o Fits → (rest : Text) (h : Held) (fault : Held → Kinds)
         (met : Held → Held × Outcome) → GoesOn fault met → Good h.rows → short_fault c false o rest h fault ≡ []
         → Good (short_met c o rest h met).0.rows
-    short-good it rest h fault met goes_on good e = grind (arith, common_steps, option-good, none_of, reacted-good, goes_on)
+    short-good it rest h fault met goes_on good e =
+        grind (arith, common_steps, option-good, none_of, reacted-good, goes_on)
 
     bundle-good : (k : ℕ) (flags : Text) (skip : ℕ) (so_far : Outcome) (h : Held) → Good h.rows
         → flags_fault c false k flags skip h ≡ [] → Good (bundle_met c k flags skip so_far h).0.rows
@@ -144,24 +132,19 @@ module _ (c : List Rule) where
     defaults-good [] fits rows good = good
     defaults-good (x ∷ xs) fits rows good = search (rules, defaults-good xs, default-good)
 
-    has_row-append : (id : Text) (xs ys : List Row) → has_row id xs ≡ true → has_row id (xs ++ ys) ≡ true
-    has_row-append id [] ys e = cc
-    has_row-append id (x ∷ xs) ys e = search (rules, has_row-append id xs ys)
-
-    has_row-last : (a : Rule) (text : Text) (source : ValueSource) (rows : List Row)
-        → has_row a.id (rows ++ new_row a text source ∷ []) ≡ true
-    has_row-last a text source [] = search (rules, bytes_eq-Decides)
-    has_row-last a text source (x ∷ xs) = search (rules, has_row-last a text source xs)
+    has_row-last : (id : Text) (r : Row) (rows : List Row) → r.id ≡ id → has_row id (rows ++ r ∷ []) ≡ true
+    has_row-last id r rows own = grind (arith, common_steps, bytes_eq-Decides)
 
     defaults-keep : (xs : List Rule) → AllByRecursion Fits xs → (id : Text) (rows : List Row) → has_row id rows ≡ true
         → has_row id (fold with_default rows xs) ≡ true
     defaults-keep [] fits id rows e = e
-    defaults-keep (x ∷ xs) fits id rows e = search (rules, defaults-keep xs, at_row-absent, has_row-append)
+    defaults-keep (x ∷ xs) fits id rows e = search (rules, defaults-keep xs, at_row-absent, list_any-append)
 
     defaults-add : (xs : List Rule) → AllByRecursion Fits xs → (a : Rule) → HasDefault a → Among a xs
         → (rows : List Row) → has_row a.id (fold with_default rows xs) ≡ true
     defaults-add [] fits a default among rows = absurd among
-    defaults-add (x ∷ xs) fits a default among rows = search (rules, defaults-add xs, defaults-keep, at_row-absent, has_row-last, default.1)
+    defaults-add (x ∷ xs) fits a default among rows =
+        search (rules, defaults-add xs, defaults-keep, at_row-absent, has_row-last, default.1)
 
     -- ---- the walk, and what the rows give
 
@@ -193,7 +176,8 @@ module _ (c : List Rule) where
           (own : arg_by_id c a.id ≡ Some a) where
         -- each option of a parse that doesn't fail has one value, which it accepts
         pub option-has_value : HasDefault a → Among a c → HasValue a (rows_after c [] words)
-        option-has_value default among = search (rules, value-found, defaults-add, walk-good, none_of, settle-good, defaults-good)
+        option-has_value default among =
+            search (rules, value-found, defaults-add, walk-good, none_of, settle-good, defaults-good)
 
         -- and one without a default has one at most
         pub optional-has_value : MayHaveValue a (rows_after c [] words)

@@ -1,16 +1,11 @@
 -- Texts following one another.
 use Rattle.spawnrun_lib.proofs.Common.{◌≡◌, ℕ, ◌+◌, ◌<◌, ◌≤◌, List, ◌∷◌, ◌++◌, length, get_or, drop, ap, append_assoc, arith, common_steps, flat_map, length-append}
 
--- the texts from a part on begin with its own
-pub length-parts : {X : Type 0} (g : X → List ℕ) (xs : List X) (i : ℕ) (x : X) → i < length xs → x ≡ get_or xs i x
-    → length (flat_map g (drop i xs)) ≡ length (g x) + length (flat_map g (drop (i + 1) xs))
-length-parts g xs i x lt is = grind (arith, common_steps)
-
 -- what is written and the next part are no longer than all
 pub part_fits : {X : Type 0} (g : X → List ℕ) (old now : List ℕ) (xs : List X) (i : ℕ) (x : X) → i < length xs
     → x ≡ get_or xs i x → now ++ flat_map g (drop i xs) ≡ old ++ flat_map g xs
     → length now + length (g x) ≤ length old + length (flat_map g xs)
-part_fits g old now xs i x lt is e = grind (arith, common_steps, length-parts g xs i x lt is, ap length e)
+part_fits g old now xs i x lt is e = grind (arith, common_steps, ap length e)
 
 -- the same if the next part is the first of those that are left
 pub first_fits : {X : Type 0} (g : X → List ℕ) (old now : List ℕ) (all left rest : List X) (x : X) → left ≡ x ∷ rest

@@ -1,5 +1,5 @@
 -- A birth that is looked up in the list of all entities.
-use Rattle.spawnrun_lib.proofs.Common.{rules, ◌≡◌, ◌≢◌, ◌⊎◌, inl, inr, ℕ, ◌<◌, ◌≤◌, true, false, List, length, get_or, Option, Some, ap, ◌∙◌, arith, Contains, Ordering, Less, Equal, Greater, eq_by_cmp, is_lt, option_cmp, option_eq, IsTotalOrder, tied_itself, options_total, IsPartitionedBy, cases_lt, false≢true, get_or_default, Birth, birth_cmp, birth_cmp_total, birth_cmp-IsAntisymmetric, Handle, handle_cmp, handle_cmp_total, birth_order, ListsAll, EntityMap, birth_of, same_birth, View, is_before, IsFirstFrom}
+use Rattle.spawnrun_lib.proofs.Common.{rules, ◌≡◌, ◌≢◌, ◌⊎◌, ℕ, ◌<◌, ◌≤◌, true, false, List, length, get_or, Option, Some, arith, Contains, Ordering, Less, Equal, Greater, eq_by_cmp, is_lt, option_cmp, option_eq, IsTotalOrder, tied_itself, options_total, IsPartitionedBy, cases_lt, false≢true, get_or_default, Birth, birth_cmp, birth_cmp_total, birth_cmp-IsAntisymmetric, Handle, handle_cmp, handle_cmp_total, birth_order, ListsAll, EntityMap, birth_of, same_birth, View, is_before, IsFirstFrom}
 
 abbrev key_cmp : Option Birth → Option Birth → Ordering
 key_cmp = option_cmp birth_cmp
@@ -31,16 +31,17 @@ module _ (view : View) (birth : Birth) where
 
   -- who stands before an earlier birth has an earlier birth
   before_too : (a b : Handle) → birth_order m a b ≡ Less → is_before view birth b ≡ true → is_before view birth a ≡ true
-  before_too a b e is = elim (in_order a b e) [
-    | inl first ↦ ap is_lt (key_total.trans (birth_of m a) _ (Some birth) first (less_if _ is))
-    | inr tie ↦ ap is_lt (key_total.congr (birth_of m a) _ (Some birth) tie.0 ∙ less_if _ is)
-  ]
+  before_too a b e is = search (
+    rules,
+    in_order a b e,
+    key_total.trans (birth_of m a) (birth_of m b) (Some birth),
+    key_total.congr (birth_of m a) (birth_of m b) (Some birth),
+    less_if,
+  )
 
   pub parted : (handles : List Handle) → ListsAll m handles → IsPartitionedBy (is_before view birth) handles
-  parted handles lists i j d le lt is = elim (cases_lt i j) [
-    | inl less ↦ before_too _ _ (lists.rising i j d less lt) is
-    | inr not ↦ search rules
-  ]
+  parted handles lists i j d le lt is =
+      search (rules, arith, cases_lt i j, before_too (get_or handles i d) (get_or handles j d), lists.rising i j d)
 
   -- who has a birth is listed
   listed : (handles : List Handle) → ListsAll m handles → (h : Handle) → birth_of m h ≡ Some birth → Contains handles h
@@ -59,19 +60,18 @@ module _ (view : View) (birth : Birth) where
         after : (g : Handle) → birth_of m g ≡ Some birth → (g ≡ h) ⊎ (birth_order m h g ≡ Less)
         after g is =
             let at = listed handles lists g is in
-            let le : index ≤ at.0 = at_or_after g at.0 at.1 at.2 is in
-            let same = get_or_default handles index g h within in
-            elim (cases_lt index at.0) [
-              | inl less ↦ inr (search (rules, lists.rising index at.0 g less at.1))
-              | inr not ↦ let k : at.0 ≡ index = omega (arith, le, not) in inl (cc at.2)
-            ]
+            search (
+              rules,
+              arith,
+              at_or_after g at.0 at.1 at.2,
+              get_or_default handles index g h within,
+              cases_lt index at.0,
+              lists.rising index at.0 g,
+            )
 
         pub least_here : birth_of m h ≡ Some birth → (g : Handle) → birth_of m g ≡ Some birth → handle_cmp h g ≢ Greater
-        least_here own g is greater =
-            let itself = tied_itself handle_cmp_total h in
-            elim (after g is) [ inl same ↦ absurd cc | inr less ↦ search (rules, in_order h g less) ]
+        least_here own g is greater = search (rules, after g is, in_order h g, tied_itself handle_cmp_total h)
 
         pub none_here : birth_of m h ≢ Some birth → (g : Handle) → birth_of m g ≢ Some birth
         none_here other g is =
-            let not = rw here at (first.1 index h (omega arith) within) in
-            search (rules, after g is, in_order, false≢true, birth_cmp-IsAntisymmetric)
+            search (rules, arith, first.1 index h, after g is, in_order, false≢true, birth_cmp-IsAntisymmetric)

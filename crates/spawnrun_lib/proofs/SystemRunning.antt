@@ -1,5 +1,6 @@
--- A system whose first operations have run.
-use Rattle.spawnrun_lib.proofs.Common.{rules, ◌≡◌, refl, ◌∙◌, ℕ, ◌+◌, ◌<◌, List, [], ◌∷◌, ◌++◌, length, get_or, drop, inr, append_assoc, append-nil, arith, drop_more, Handle, Command, View, Operation, Bindings, unbound, IssuesAll, MayIssue, StopsAmong, names_of, HasIssued, common_steps}
+-- A system whose first operations have run: what they have issued, the names that they bound, and their targets.
+use Rattle.spawnrun_lib.proofs.Common.{rules, ◌≡◌, refl, ◌∙◌, ℕ, ◌+◌, ◌<◌, List, [], ◌∷◌, ◌++◌, length, get_or, drop, inr, append_assoc, append-nil, arith, drop_more, Handle, Command, View, Operation, Bindings, unbound, IssuesAll, MayIssue, StopsAmong, names_of, HasIssued, common_steps, set, eqb-suc-zero, eqb-zero-suc, eqb-suc-suc, bound, map, Result, OnOk, OnErr, Memory, Target, IsTargeted, StopsOnEach, Stops, HasIssuedOn, HasStoppedOn, HasStopped}
+use Rattle.ent_script.specs.declared.target.Target.TheVariants as target
 
 -- The first i operations have issued what was added; whatever the others may issue, all may issue
 -- both.
@@ -33,4 +34,44 @@ has_gone_on view ops i op start before after lists lists_after within is run ste
 
 pub has_ended : (view : View) (ops : List Operation) (i : ℕ) (names : Bindings) (start now : List Command)
     → drop i ops ≡ [] → HasRun view ops i names start now → start ≡ [] → MayIssue ops view now
-has_ended view ops i names start now none run empty = grind (arith, common_steps, append-nil run.added, run.added, run.queue, run.rest)
+has_ended view ops i names start now none run empty =
+    grind (arith, common_steps, append-nil run.added, run.added, run.queue, run.rest)
+
+-- ---- the lists of names as a function of the number
+
+-- an empty list that is added binds nothing
+added_at : (lists : List (List Handle)) (n : ℕ) → names_of (lists ++ [] ∷ []) n ≡ names_of lists n
+added_at [] n = search rules
+added_at (hs ∷ lists) n = search (rules, added_at lists)
+
+pub names_added : (lists : List (List Handle)) → names_of (lists ++ [] ∷ []) ≡ names_of lists
+names_added lists = λ i n. added_at lists n i
+
+-- a list that is put where another one stood
+set_at : (lists : List (List Handle)) (hs : List Handle) (n : ℕ) → n < length lists → (m : ℕ)
+    → names_of (set lists n hs) m ≡ bound n hs (names_of lists) m
+set_at [] hs n within m = absurd (omega arith)
+set_at (xs ∷ lists) hs n within m = search (rules, arith, eqb-suc-zero, eqb-zero-suc, eqb-suc-suc, set_at lists hs)
+
+pub names_set : (lists : List (List Handle)) (hs : List Handle) (n : ℕ) → n < length lists
+    → names_of (set lists n hs) ≡ bound n hs (names_of lists)
+names_set lists hs n within = λ i m. set_at lists hs n within m i
+
+-- ---- commands for the handles of a target
+
+pub issued_on : (view : View) (names : Bindings) (on : Target) (command : Handle → Command)
+    (before after : List Command) (hs : List Handle) (result : Result (Unit {0}) Memory) → IsTargeted view names on hs
+    → OnOk result (after ≡ before ++ map command hs) → OnOk result (HasIssuedOn view names on command before after)
+issued_on view names on command before after hs it targeted queue = search rules
+
+-- what holds anyway holds of an error
+pub on_error : (result : Result (Unit {0}) Memory) (P : Type 0) → P → OnErr result P
+on_error it P holds = search rules
+
+-- the operation is a change of its target
+pub stopped_in : (view : View) (lists : List (List Handle)) (op : Operation) (on : Target) (command : Handle → Command)
+    (before after : List Command) (result : Result (Unit {0}) Memory)
+    → ((issued : List Command) → StopsOnEach view (names_of lists) on command issued
+    → Stops view (names_of lists) op issued) → OnErr result (HasStoppedOn view (names_of lists) on command before after)
+    → OnErr result (HasStopped view op before after lists)
+stopped_in view lists op on command before after it is stopped = search rules

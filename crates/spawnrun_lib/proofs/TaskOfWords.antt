@@ -24,7 +24,8 @@ entered_fault-moved : (names : TextRefs) (stop : Option (Text × List Text))
     → entered_fault (built (program_of (references_to (texts names.now)))) stop
     ≡ entered_fault (built (program_of names)) stop
 entered_fault-moved names None = refl
-entered_fault-moved names (Some p) = search (rules, level_fault-moved (run_shape_of names) [] nothing_held p.1 false [], replay_shape)
+entered_fault-moved names (Some p) =
+    search (rules, level_fault-moved (run_shape_of names) [] nothing_held p.1 false [], replay_shape)
 
 fault_of-moved : (names : TextRefs) (words : List Text) → fault_of (program_of (references_to (texts names.now))) words
     ≡ fault_of (program_of names) words
@@ -34,7 +35,8 @@ entered_passes-moved : (names : TextRefs) (stop : Option (Text × List Text))
     → entered_passes (built (program_of (references_to (texts names.now)))) stop
     ≡ entered_passes (built (program_of names)) stop
 entered_passes-moved names None = refl
-entered_passes-moved names (Some p) = search (rules, level_passes-moved (run_shape_of names) [] nothing_held p.1 false, replay_shape)
+entered_passes-moved names (Some p) =
+    search (rules, level_passes-moved (run_shape_of names) [] nothing_held p.1 false, replay_shape)
 
 built_takes-moved : (names : TextRefs) (words : List Text)
     → built_takes (built (program_of (references_to (texts names.now)))) nothing_held words
@@ -49,34 +51,21 @@ pub record IsProgram (app : App) : Type 0 where
   pub subcommand : (words : List Text) → subcommand_of app words ≡ subcommand_of program words
   pub taken : (words : List Text) → takes program words ≡ true → takes app words ≡ true
 
-program_of-simple : (names : TextRefs) → is_simple (program_of names) ≡ true
-unfolding clap_on_literals
-program_of-simple names = refl
-
-program_of-free : (names : TextRefs) → is_simple_and_free (program_of names) ≡ true
-unfolding clap_on_literals
-program_of-free names = refl
-
 program_of-takes : (names : TextRefs) (words : List Text) → takes (program_of names) words ≡ built_takes (built
     (program_of names)) nothing_held words
 program_of-takes names words = search rules
 
-program_of-IsProgram : (names : TextRefs) → texts names.now ≡ shown → IsProgram (program_of names)
-program_of-IsProgram names same = record {
-  simple = program_of-simple names;
-  free = program_of-free names;
-  fault = λ words. sym (fault_of-moved names words) ∙ ap (λ known. fault_of (program_of (references_to known)) words)
-      same;
-  subcommand = λ words. sym (entered-moved names (stop_after (built (program_of names)).top.rules
-      (names_of (built (program_of names))) words)) ∙ ap (λ known. subcommand_of (program_of (references_to known))
-      words) same;
-  taken = λ words yes. program_of-takes names words ∙ (sym (built_takes-moved names words)
-      ∙ (sym (program_of-takes (references_to (texts names.now)) words)
-      ∙ (ap (λ known. takes (program_of (references_to known)) words) same ∙ yes)));
-}
-
 pub IsProgram-names : (app : App) (names : TextRefs) → app ≡ program_of names → texts names.now ≡ shown → IsProgram app
-IsProgram-names app names is same = search (rules, program_of-IsProgram)
+unfolding clap_on_literals
+IsProgram-names app names is same = rw is (record {
+  simple = refl;
+  free = refl;
+  fault = λ words. rw same at (sym (fault_of-moved names words));
+  subcommand = λ words. rw same at (sym (entered-moved names (stop_after (built (program_of names)).top.rules
+      (names_of (built (program_of names))) words)));
+  taken = λ words yes. rw same at (program_of-takes names words ∙ sym (built_takes-moved names words)
+      ∙ sym (program_of-takes (references_to (texts names.now)) words)) ∙ yes;
+})
 
 -- what a parse by the program's command met
 pub record MeetsTask (words : List Text) (m : ArgMatches) : Type 0 where
@@ -89,12 +78,8 @@ pub MeetsTask-parse : (app : App) (words : List Text) (m : ArgMatches) → IsPro
     → (is_simple_and_free app ≡ true → fault_of app words ≡ []) → HasMatchesOf app words m → MeetsTask words m
 MeetsTask-parse app words m is faults matches =
     let no_fault : fault_of program words ≡ [] = sym (is.fault words) ∙ faults is.free in
-    let met = (matches is.simple).1 ∙ is.subcommand words in record {
-      no_fault = no_fault;
-      asked = IsAsked-no_fault words no_fault;
-      rows = met;
-      name = subcommand_name-rows m ∙ ap (option_map (λ p. p.0)) met;
-    }
+    let met = (matches is.simple).1 ∙ is.subcommand words in
+    search (rules, IsAsked-no_fault, subcommand_name-rows m ∙ ap (option_map (λ p. p.0)) met)
 
 -- the subcommand that clap's getter returns is the one that the words name
 pub subcommand_met-named : (words : List Text) (m : ArgMatches) → MeetsTask words m

@@ -58,13 +58,7 @@ module _ (view : View) (h k : Handle) (why : Refusal) where
     [],
     refl,
     refl,
-    inl (inr (record {
-      done = [];
-      missing = h;
-      others = [];
-      target = refl;
-      commands = refl;
-    })),
+    inl (inr (record { done = []; missing = h; others = []; target = refl; commands = refl })),
   )
 
   -- a spawn that is refused for lack of slots is not where a system stops

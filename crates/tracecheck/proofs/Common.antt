@@ -42,7 +42,9 @@ pub use Rattle.ent_alloc.specs.Limits.{Limits}
 pub use Rattle.ent_alloc.specs.Sequential.{Allocator, cursor, opening}
 pub use Rattle.ent_alloc.specs.declared.space.Space.{Space}
 pub use Rattle.ent_handle.specs.Handle.{Handle}
-pub use Rattle.ent_replay.proofs.Requested.{ReachesAll-next, requested-alloc, requested-flush, requested-free, requested-len, requested-reserve, requested-state, requested_by}
+pub use Rattle.ent_replay.proofs.Lists.{no_middle}
+pub use Rattle.ent_replay.proofs.MachineEvents.{some_of}
+pub use Rattle.ent_replay.proofs.Orders.{ReachesAll-next, requested-next, requested_by}
 pub use Rattle.ent_replay.proofs.ScheduleWords.{parts_first, parts_nonempty, parts_whole}
 pub use Rattle.ent_replay.specs.Checker.{AgreesWith, AllFollow, Checked, Follows, IsTooMany, NoneFollows, Reaches, Shows}
 pub use Rattle.ent_replay.specs.Text.{ended, line_of, lines_of, without_return, words_of}

@@ -1,5 +1,5 @@
 -- What is said of a trace whose first line can't be. The edits in must-fail/ say something else of it.
-use Rattle.tracecheck.proofs.Common.{rules, ◌≡◌, ℕ, ◌+◌, ◌^◌, ◌<◌, List, [], ◌∷◌, ◌++◌, length, take, None, Some, Ok, Err, refl, arith, if◌then◌else◌, common_steps, Handle, Space, Limits, Allocator, cursor, opening, Difference, Call, Reservation, AreAnswered, Fits, FitsReserved, IsOrderOf, after_line, line_of, words_of, calls_from, requested_from, HasTaken, IsVerdict, asks_too_many, differs, Checking, Bool, true}
+use Rattle.tracecheck.proofs.Common.{no_middle, rules, ◌≡◌, ℕ, ◌+◌, ◌^◌, ◌<◌, List, [], ◌∷◌, ◌++◌, length, take, None, Some, Ok, Err, refl, arith, if◌then◌else◌, common_steps, Handle, Space, Limits, Allocator, cursor, opening, Difference, Call, Reservation, AreAnswered, Fits, FitsReserved, IsOrderOf, after_line, line_of, words_of, calls_from, requested_from, HasTaken, IsVerdict, asks_too_many, differs, Checking, Bool, true}
 use Rattle.ent_replay.specs.declared.trace.call.Call.TheVariants as line
 use Rattle.ent_replay.specs.declared.trace.reply.ReserveReply.TheVariants as reserve
 use Rattle.tracecheck.specs.declared.verdict.Verdict.TheVariants as verdict
@@ -39,11 +39,7 @@ only_first : (s : Allocator) (next : Call) (left : List Call) → IsOrderOf (lin
     (next ∷ left) → Fits s next → ⊥
 only_first s next left ([], after, parts, passes, more) fits = search (rules, never_fits)
 only_first s next left (b ∷ [], after, parts, passes, more) fits = search rules
-only_first s next left (b ∷ d ∷ before, after, parts, passes, more) fits = none_in before after next cc
-  where
-    none_in : (before after : List Call) (l : Call) → [] ≡ before ++ l ∷ after → ⊥
-    none_in [] after l is = cc
-    none_in (x ∷ before) after l is = cc
+only_first s next left (b ∷ d ∷ before, after, parts, passes, more) fits = no_middle before after next cc
 
 -- the state in which it is compared
 abbrev state : Limits → Allocator

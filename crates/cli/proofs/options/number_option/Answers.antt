@@ -16,7 +16,15 @@ returns-clause-rule c =
     let narrow = rw c.value_parser.ensures at c.range-range.ensures in
     let parser : c.value_parser-2.result.value_parser ≡ Some (Signed (pos 1) (pos c.args.most)) = search
     (rules, narrowed) in
-    rw (c.help.ensures, c.default_value.ensures, c.value_parser-2.ensures.others, parser, c.value_name.ensures, c.action.ensures, c.long.ensures) (ap (λ (rule : Rule). record rule {
+    rw (
+      c.help.ensures,
+      c.default_value.ensures,
+      c.value_parser-2.ensures.others,
+      parser,
+      c.value_name.ensures,
+      c.action.ensures,
+      c.long.ensures,
+    ) (ap (λ (rule : Rule). record rule {
       long = Some c.args.name.now;
       action = Some Set;
       value_names = 1;

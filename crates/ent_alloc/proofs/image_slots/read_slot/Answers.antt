@@ -1,5 +1,5 @@
 use Rattle.ent_alloc.proofs.Common.{rules}
-use Rattle.ent_alloc.proofs.ImageRefused.{living_bytes}
+use Rattle.ent_alloc.proofs.ImageFaults.{living_bytes}
 use Rattle.ent_alloc.proofs.image_slots.read_slot.Goals as goal
 
 pub returns-then-kind_and_number-eq-LIVING-clause-bytes : goal.returns-then-kind_and_number-eq-LIVING-clause-bytes

@@ -1,8 +1,7 @@
 use Rattle.ent_alloc.proofs.Common.{rules, ◌≡◌, ◌+◌, ◌*◌, ◌<◌, ◌++◌, ℕ, List, [], length, arith, sym, ap, ◌∙◌, drop, get_or, flat_map, append_assoc, flat_map_more, SlotRecord, record_bytes, with_waiting}
 use Rattle.ent_alloc.proofs.ImageWords.{pieces, before_end, length-piece, cut, none_cut}
-use Rattle.ent_alloc.proofs.ImageFaults.{no_row_next, no_place_next, no_fault, position_free}
-use Rattle.ent_alloc.proofs.ImageRead.{read_more, length-with_waiting, written_back}
-use Rattle.ent_alloc.proofs.ImageRefused.{no_slot_next, next_slot, can_wait, position_taken}
+use Rattle.ent_alloc.proofs.ImageFaults.{no_row_next, no_place_next, no_fault, position_free, no_slot_next, next_slot, can_wait, position_taken}
+use Rattle.ent_alloc.proofs.ImageLinked.{read_more, length-with_waiting, written_back}
 use Rattle.ent_alloc.proofs.image_slots.read_slots.Goals.{After-len-index, After-deref}
 use Rattle.ent_alloc.proofs.image_slots.read_slots.Goals as goal
 
@@ -77,7 +76,8 @@ returns-then-not-admit-clause-fault c not_memory =
     let here = (goal.at.returns-then-not-admit-clause-fault c).After-len-index in
     let loop = c.loop-slot.invariant in
     let slot = c.in-Some.record in
-    rw (← loop.waiting, c.slot_fault-then-not-admit.ensures, ← index_is here) (no_place_next c.args.limits (search rules)
+    rw (← loop.waiting, c.slot_fault-then-not-admit.ensures, ← index_is here) (no_place_next c.args.limits (search
+    rules)
     _ c.loop-slot.pending.items _ (bytes here) c.loop-slot.live loop.read loop.bytes c.args.made slot (more here)
     (slot_first here slot _ c.in-Some.ensures.bytes) c.in-Some.ensures.within c.in-Some.ensures.fits
     (λ can. c.admit.ensures.refused c.if-not-admit.true (rw c.deref_mut.ensures.value can)) (below_made here))
@@ -126,5 +126,10 @@ returns-in-Some-vacant_position-clause-fault c not_memory =
     c.requires.few (rw lent at found.some) (rw lent at found.is) (rw lent at found.first))
 
 pub returns-in-None-clause-faultless : goal.returns-in-None-clause-faultless
-returns-in-None-clause-faultless c = search
-    (rules, no_fault, read_all (goal.at.returns-in-None-clause-faultless c).After-deref, c.loop-slot.invariant.waiting, c.in-None.ensures.none)
+returns-in-None-clause-faultless c = search (
+  rules,
+  no_fault,
+  read_all (goal.at.returns-in-None-clause-faultless c).After-deref,
+  c.loop-slot.invariant.waiting,
+  c.in-None.ensures.none,
+)

@@ -1,5 +1,5 @@
 use Rattle.ent_alloc.proofs.Common.{rules, ◌≡◌, ◌++◌, length, word}
-use Rattle.ent_alloc.proofs.ImageRefused.{spelled, none_spelled, no_row}
+use Rattle.ent_alloc.proofs.ImageFaults.{spelled, none_spelled, no_row}
 use Rattle.ent_alloc.proofs.image_slots.read_words.Goals.{After-record_of}
 use Rattle.ent_alloc.proofs.image_slots.read_words.Goals as goal
 

@@ -1,6 +1,6 @@
 use Rattle.ent_alloc.proofs.Common.{rules}
 use Rattle.ent_alloc.proofs.Meaning.{allocator_is}
-use Rattle.ent_alloc.proofs.MeaningOfRequests.{cancelled_reserved}
+use Rattle.ent_alloc.proofs.MeaningOfSteps.{cancelled_reserved}
 use Rattle.ent_alloc.proofs.requesting.cancel_requests.Goals as goal
 
 pub invariant_of-entities : goal.invariant_of-entities

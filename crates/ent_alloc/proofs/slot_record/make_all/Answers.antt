@@ -9,8 +9,5 @@ loop-index-init c =
 
 pub loop-index-preserved : goal.loop-index-preserved
 loop-index-preserved c =
-    let made = c.len-made.result in
-    let index = c.loop-index.index in
-    let at : made + (index - made) ≡ index = omega arith in
-    let more : index - made + 1 ≡ index + 1 - made = omega arith in
-    search (rules, c.first_occupant.ensures, append_assoc, replicate-push, fresh-push, at, more)
+    let at : c.len-made.result + (c.loop-index.index - c.len-made.result) ≡ c.loop-index.index = omega arith in
+    search (rules, arith, c.first_occupant.ensures, append_assoc, replicate-push, fresh-push, at)

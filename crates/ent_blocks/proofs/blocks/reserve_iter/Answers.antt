@@ -1,5 +1,5 @@
 use Rattle.ent_blocks.proofs.Common.{rules, arith}
-use Rattle.ent_blocks.proofs.Phases.{lies_in}
+use Rattle.ent_blocks.proofs.Dealing.{lies_in}
 use Rattle.ent_blocks.proofs.blocks.reserve_iter.Goals as goal
 
 pub take_many-requires : goal.take_many-requires

@@ -1,7 +1,7 @@
-use Rattle.ent_blocks.proofs.Common.{rules, ◌≡◌, sym, ap, ◌∙◌, ◌+◌, ◌-ℤ◌, pos, Ok, arith, take, ints, length-take-le, reply_from, listed, cursor, Span, rest_of}
+use Rattle.ent_blocks.proofs.Common.{rules, ◌≡◌, ap, ◌∙◌, ◌+◌, ◌-ℤ◌, pos, Ok, arith, take, ints, length-take-le, reply_from, listed, cursor, Span, rest_of}
 use Rattle.ent_blocks.proofs.Positions.{served_many, served, pool_there, length-rest, length-listed}
-use Rattle.ent_blocks.proofs.taking.take_many.Goals.{After-reply}
 use Rattle.ent_blocks.proofs.taking.take_many.Goals as goal
+use Rattle.ent_blocks.proofs.taking.take_many.Goals.{After-reply}
 
 pub reply-requires : goal.reply-requires
 reply-requires c = search rules
@@ -15,22 +15,19 @@ replied c =
     let n = c.args.n in
     let at : c.new-span.result.high ≡ cursor s -ℤ pos (r.before + r.used) = ap (λ (s : Span). s.high)
     c.new-span.ensures.value ∙ (omega (arith, ints, c.requires.few, c.requires.flushed)) in
-    c.reply.ensures n
-    (ap (λ (s : Span). s.low) c.new-span.ensures.value ∙ sym
-    (ap (λ (s : Span). s.high -ℤ pos n) c.new-span.ensures.value)) ∙ ap (λ pool. reply_from s.made pool n) (pool_there s
-    c.cursor-cursor.ensures.sound c.requires.flushed (r.before + r.used) c.new-span.result.high at)
+    let long = length-rest s.pool r (omega (arith, c.requires.left)) c.requires.within in
+    let pool =
+    pool_there s c.cursor-cursor.ensures.sound c.requires.flushed (r.before + r.used) c.new-span.result.high at in
+    c.reply.ensures n (search rules) ∙ ap (λ pool. reply_from s.made pool n) pool
     ∙ served_many s.made n s.pool r c.requires.left c.requires.within
-    ∙ served s.made n (rest_of s.pool r)
-    (omega (arith, length-rest s.pool r (omega (arith, c.requires.left)) c.requires.within, c.requires.left))
+    ∙ served s.made n (rest_of s.pool r) (omega (arith, long, c.requires.left))
 
 pub unreachable-requires : goal.unreachable-requires
 unreachable-requires c =
     let is = replied (goal.at.unreachable-requires c).After-reply in search (rules, is)
 
 pub returns-clause-given : goal.returns-clause-given
-returns-clause-given c = let is = replied (goal.at.returns-clause-given c).After-reply in search (rules, is)
+returns-clause-given c = search (rules, replied)
 
 pub returns-clause-length : goal.returns-clause-length
-returns-clause-length c =
-    let is = replied (goal.at.returns-clause-length c).After-reply in
-    search (rules, is, length-listed, length-take-le, length-rest)
+returns-clause-length c = search (rules, replied, length-listed, length-take-le, length-rest)

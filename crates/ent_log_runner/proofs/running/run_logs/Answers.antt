@@ -1,71 +1,54 @@
-use Rattle.ent_log_runner.proofs.Common.{rules, ◌≡◌, ◌∙◌, ◌++◌, ap, length, take, drop, subst, refl, length-map, IsSound, Reserver, records_of, opened_records, written_back, none_weaker, done_seen, broken_off_seen}
-use Rattle.ent_log_runner.proofs.Logged.{Logs, logged, broken_off}
+use Rattle.ent_log_runner.proofs.Common.{rules, ◌≡◌, ◌∙◌, ap, length, refl, length-map, IfSome, IfNone, Reserver, records_of, written_back, none_weaker, some_weaker, done_seen, broken_off_seen, HaveLogged, IsBrokenOff}
+use Rattle.ent_log_runner.proofs.Logged.{Logs, ran}
 use Rattle.ent_log_runner.proofs.Nothing.{logged_nothing}
 use Rattle.ent_log_runner.proofs.Reserved.{reserved_all}
 use Rattle.ent_log_runner.proofs.running.run_logs.Given as given
-use Rattle.ent_log_runner.proofs.running.run_logs.Goals.{After-work-logs, After-close}
+use Rattle.ent_log_runner.proofs.running.run_logs.Goals.{After-close}
 use Rattle.ent_log_runner.proofs.running.run_logs.Goals as goal
-
--- the reservers are written back
-back : (g : given.Over) (c : After-work-logs g) → take c.in-Ok-share.made.1.len
-    (c.work-logs.new.lent ++ drop (length c.work-logs.new.lent) c.in-Ok-share.made.1.items) ≡ c.work-logs.new.lent
-back g c = written_back _ _ _ c.in-Ok-share.made.1.ok.0
-    (c.work-logs.ensures.count ∙ ap length c.deref_mut.ensures.value)
-
-back_end : (g : given.Over) (c : After-close g) → take c.in-Ok-share.made.1.len
-    (c.work-logs.new.lent ++ drop (length c.work-logs.new.lent) c.in-Ok-share.made.1.items) ≡ c.work-logs.new.lent
-back_end g c = written_back _ _ _ c.in-Ok-share.made.1.ok.0
-    (c.work-logs.ensures.count ∙ ap length c.deref_mut.ensures.value)
 
 -- the allocator that was shared is the one before
 same : (g : given.Over) (c : After-close g) → c.in-Ok-share.made.0.start ≡ c.args.entities.now.allocator
 same g c = search rules
 
-opened : (g : given.Over) (c : After-close g) → records_of c.deref_mut.result.now
-    ≡ opened_records c.args.entities.now.allocator 0 c.args.workers
-opened g c = rw c.deref_mut.ensures.value (search rules)
-
-many : (g : given.Over) (c : After-close g) → length c.deref_mut.result.now ≡ c.args.workers
-many g c = rw c.deref_mut.ensures.value (search rules)
+-- the crew has worked, and the allocator was closed
+closed : (g : given.Over) (c : After-close g) → IfSome c.work-logs.result
+    (λ logs. HaveLogged g.S.LogSystem.may_log c.args.systems.now c.args.workers c.args.entities.now.allocator
+    logs.items c.close.result.allocator) × IfNone c.work-logs.result (IsBrokenOff g.S.LogSystem.may_log
+    g.S.LogSystem.may_leave c.args.systems.now c.args.workers c.args.entities.now.allocator c.close.result.allocator)
+closed g c =
+    let own = λ (r : Reserver). r.own in
+    let e = c.close.ensures in
+    let w = c.work-logs.ensures in
+    let may = Logs g.S.LogSystem.may_log c.args.systems.now in
+    let leave = Logs g.S.LogSystem.may_leave c.args.systems.now in
+    let back = written_back _ _ c.work-logs.new.lent c.in-Ok-share.made.1.ok.0
+    (w.count ∙ ap length c.deref_mut.ensures.value) in
+    let many : length c.deref_mut.result.now ≡ c.args.workers = rw c.deref_mut.ensures.value (search rules) in
+    ran c.args.entities.now.allocator c.close.result.allocator c.args.workers (records_of c.deref_mut.result.now)
+    (records_of c.work-logs.new.lent) (rw c.deref_mut.ensures.value (search rules))
+    (length-map c.deref_mut.result.now own ∙ many) (length-map c.work-logs.new.lent own ∙ (w.count ∙ many))
+    (rw (back, same g c) at e.legal) (rw back at e.respects) (rw (back, same g c) at e.after) g.S.LogSystem.may_log
+    g.S.LogSystem.may_leave c.args.systems.now c.work-logs.result _ (search rules)
+    (some_weaker c.work-logs.result (λ logs. done_seen own may leave _ c.deref_mut.result.now logs.items
+    c.work-logs.new.lent) w.done) (none_weaker c.work-logs.result
+    (broken_off_seen own may leave _ c.deref_mut.result.now c.work-logs.new.lent) w.broken_off)
 
 pub returns-clause-ok : goal.returns-clause-ok
-returns-clause-ok g c =
-    let a = (goal.at.returns-clause-ok g c).After-close in
-    let own = λ (r : Reserver). r.own in
-    let e = c.close.ensures in
-    let w = c.work-logs.ensures in
-    let legal = rw (back_end g a, same g a) at e.legal in
-    let done = rw c.in-Some.is at w.done in
-    logged c.args.entities.now.allocator c.close.result.allocator c.args.workers (records_of c.deref_mut.result.now)
-    (records_of c.work-logs.new.lent) (opened g a) (length-map c.deref_mut.result.now own ∙ many g a)
-    (length-map c.work-logs.new.lent own ∙ (w.count ∙ many g a)) legal (rw (back_end g a) at e.respects)
-    (rw (back_end g a, same g a) at e.after) g.S.LogSystem.may_log g.S.LogSystem.may_leave c.args.systems.now
-    c.in-Some.logs.items
-    (search (rules, done_seen own (Logs g.S.LogSystem.may_log c.args.systems.now) (Logs g.S.LogSystem.may_leave c.args.systems.now) _ c.deref_mut.result.now c.in-Some.logs.items c.work-logs.new.lent done))
+returns-clause-ok g c = rw c.in-Some.is at ((closed g (goal.at.returns-clause-ok g c).After-close).0)
 
 pub returns-in_default-logs-clause-lost : goal.returns-in_default-logs-clause-lost
-returns-in_default-logs-clause-lost g c lost =
-    let a = (goal.at.returns-in_default-logs-clause-lost g c).After-close in
-    let own = λ (r : Reserver). r.own in
-    let e = c.close.ensures in
-    let w = c.work-logs.ensures in
-    let legal = rw (back_end g a, same g a) at e.legal in
-    broken_off c.args.entities.now.allocator c.close.result.allocator c.args.workers (records_of c.deref_mut.result.now)
-    (records_of c.work-logs.new.lent) (opened g a) (length-map c.deref_mut.result.now own ∙ many g a)
-    (length-map c.work-logs.new.lent own ∙ (w.count ∙ many g a)) legal (rw (back_end g a) at e.respects)
-    (rw (back_end g a, same g a) at e.after) g.S.LogSystem.may_log g.S.LogSystem.may_leave c.args.systems.now
-    (search (rules, none_weaker c.work-logs.result (broken_off_seen own (Logs g.S.LogSystem.may_log c.args.systems.now) (Logs g.S.LogSystem.may_leave c.args.systems.now) _ c.deref_mut.result.now c.work-logs.new.lent) w.broken_off))
+returns-in_default-logs-clause-lost g c lost = search
+    (rules, (closed g (goal.at.returns-in_default-logs-clause-lost g c).After-close).1)
 
 pub returns-clause-reserved : goal.returns-clause-reserved
-returns-clause-reserved g c =
-    let a = (goal.at.returns-clause-reserved g c).After-close in
-    let run = (returns-clause-ok g c).run in
-    reserved_all c.args.entities.now.allocator c.close.result.allocator c.args.workers (length c.args.systems.now)
-    c.in-Some.logs.items run (subst IsSound (same g a) c.in-Ok-share.ensures.sound) c.requires.flushed
+returns-clause-reserved g c = reserved_all _ _ _ _ _ (returns-clause-ok g c).run
+    (rw (same g (goal.at.returns-clause-reserved g c).After-close) at c.in-Ok-share.ensures.sound) c.requires.flushed
 
 pub close-requires-clause-own : goal.close-requires-clause-own
-close-requires-clause-own g c = rw (back g (goal.at.close-requires-clause-own g c).After-work-logs)
-    c.work-logs.ensures.lent
+close-requires-clause-own g c =
+    let w = c.work-logs.ensures in
+    rw (written_back _ _ c.work-logs.new.lent c.in-Ok-share.made.1.ok.0
+    (w.count ∙ ap length c.deref_mut.ensures.value)) w.lent
 
 pub returns-then-is_empty-clause-ok : goal.returns-then-is_empty-clause-ok
 returns-then-is_empty-clause-ok g c = logged_nothing _ _ _ _ _ _ (search rules) (search rules) refl

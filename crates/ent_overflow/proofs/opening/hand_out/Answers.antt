@@ -1,4 +1,4 @@
-use Rattle.ent_overflow.proofs.Common.{◌≡◌, ◌∙◌, [], ◌∷◌, ◌++◌, ap, arith, length, length-append, All-push, after_meeting, Reserver, unused, Phase, Caller, IsOf}
+use Rattle.ent_overflow.proofs.Common.{◌≡◌, ◌∙◌, [], ◌∷◌, ◌++◌, ap, arith, length, length-append, All-push, after_meeting, unused, Phase, Caller, IsOf, rules}
 use Rattle.ent_overflow.proofs.Dealers.{IsUnused, of_block, unused_of_block, last_fresh, others_fresh, blocks_more}
 use Rattle.ent_overflow.proofs.opening.hand_out.Goals as goal
 
@@ -12,11 +12,9 @@ loop-part-preserved c =
     let front = c.in-Some.ensures.items in
     let fresh = last_fresh c.args.shared.now _ _ _ front i.fresh in
     let met : c.meet.new.a ≡ record c.in-Some.past { own = after_meeting c.in-Some.past.own c.args.dealer.now.own } =
-    c.meet.ensures.meets ∙ ap (λ (d : Reserver). record c.in-Some.past { own = after_meeting c.in-Some.past.own d.own })
-    i.dealer in
+    search (rules, i.dealer) in
     let more : Caller = record { block = unused c.part-item.result; past = c.meet.new.a } in
-    let next : c.push_reserved.new.self.items ≡ c.loop-part.callers.items ++ more ∷ [] = c.push_reserved.ensures.items
-    ∙ (λ j. c.loop-part.callers.items ++ record { block = c.with_used.ensures j; past = c.meet.new.a } ∷ []) in
+    let next : c.push_reserved.new.self.items ≡ c.loop-part.callers.items ++ more ∷ [] = search rules in
     let laid = c.requires.phase.lie.laid in
     let lt = c.loop-part-test.true in
     let of = of_block p laid _ _ lt c.part-item.is _ _ fresh c.meet.ensures.first met in

@@ -1,14 +1,11 @@
-use Rattle.ent_overflow.proofs.Common.{rules, ◌∙◌, ◌<◌, ◌^◌, sym, ap, subst, List, Block, dealt}
+use Rattle.ent_overflow.proofs.Common.{rules, ◌∙◌, dealt}
 use Rattle.ent_overflow.proofs.Dealers.{opened, all_fresh, others_fresh}
 use Rattle.ent_overflow.proofs.opening.open_with_overflow.Goals as goal
 
 pub hand_out-requires-clause-phase : goal.hand_out-requires-clause-phase
-hand_out-requires-clause-phase c =
-    let is = c.deref-2.ensures.value ∙ c.in-Ok.ensures.blocks in
-    opened _ _ _ _ _ _ c.requires.flushed c.in_ok-shared.ensures.sound c.in_ok-shared.ensures.shared.0
-    c.in_ok-shared.ensures.shared.1 is
-    (subst (λ (bs : List Block). dealt bs < 2 ^ 32) (sym c.deref-2.ensures.value) c.in-Ok.ensures.few) c.deal.ensures.of
-    (c.dealt.ensures ∙ ap dealt (c.deref.ensures.value ∙ sym c.deref-2.ensures.value)) c.deal.ensures.dealt
+hand_out-requires-clause-phase c = opened c.args.entities.allocator c.args.sizes.now _ _ _ _ c.requires.flushed
+    c.in_ok-shared.ensures.sound (search rules) (search rules) (search rules) (search rules) c.deal.ensures.of
+    (search rules) c.deal.ensures.dealt
 
 pub hand_out-requires-clause-fresh : goal.hand_out-requires-clause-fresh
 hand_out-requires-clause-fresh c = others_fresh _ _ _ _ c.in-Some.ensures.items
@@ -18,7 +15,5 @@ pub new-requires-clause-phase : goal.new-requires-clause-phase
 new-requires-clause-phase c =
     let is = c.deref-2.ensures.value ∙ c.in-Ok.ensures.blocks in
     let phase = opened _ _ _ _ _ _ c.requires.flushed c.in_ok-shared.ensures.sound c.in_ok-shared.ensures.shared.0
-    c.in_ok-shared.ensures.shared.1 is
-    (subst (λ (bs : List Block). dealt bs < 2 ^ 32) (sym c.deref-2.ensures.value) c.in-Ok.ensures.few) c.deal.ensures.of
-    (c.dealt.ensures ∙ ap dealt (c.deref.ensures.value ∙ sym c.deref-2.ensures.value)) c.deal.ensures.dealt in
+    c.in_ok-shared.ensures.shared.1 is (search rules) c.deal.ensures.of (search rules) c.deal.ensures.dealt in
     search rules

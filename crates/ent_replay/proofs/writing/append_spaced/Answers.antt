@@ -1,16 +1,12 @@
 use Rattle.ent_replay.proofs.Common.{common_steps, rules, length, arith, ◌+◌, ◌≤◌, err_from_is_err_and, handle_text, spaced, length-append}
-use Rattle.ent_replay.proofs.SpacedHandles.{spaced_fits}
+use Rattle.ent_replay.proofs.ScheduleWords.{spaced_fits}
 use Rattle.ent_replay.proofs.writing.append_spaced.Goals as goal
-use Rattle.ent_replay.proofs.writing.append_spaced.Goals.{After-append}
-
--- the text so far, a space and this handle's text are no longer than the whole
-fits : (c : After-append) → length c.loop-handle.out.items + (1 + length (handle_text c.handle-item.result))
-    ≤ length c.args.out.now.items + length (spaced c.args.handles.now)
-fits c = search (rules, spaced_fits)
 
 pub returns-in_err-append-clause-full : goal.returns-in_err-append-clause-full
 returns-in_err-append-clause-full c =
-    let fits = fits (goal.at.returns-in_err-append-clause-full c).After-append in
+    -- the text so far, a space and this handle's text are no longer than the whole
+    let fits : length c.loop-handle.out.items + (1 + length (handle_text c.handle-item.result))
+    ≤ length c.args.out.now.items + length (spaced c.args.handles.now) = search (rules, spaced_fits) in
     let p = err_from_is_err_and c.from_residual.result c.from_residual.ensures.1 in
     search (rules, fits, c.in_err-append.ensures.full, c.loop-handle.out.ok, c.args.out.now.ok)
 

@@ -1,7 +1,7 @@
 use Rattle.ent_script.proofs.Common.{common_steps, members_end, value_is, value-begin_object, read_key-shorter, ◌≡◌, ◌-◌, ◌∷◌, length, Some, refl, ap, ◌∙◌, arith, rules, suc, Token, read_key, value, token_of, null, boolean, number, string, object, no_members, put, number_view, members_view, the_lemmas, cut, cut_members}
 use Rattle.ent_script.proofs.Turns.{converted-object, member_read, member_refused, key_refused}
-use Rattle.ent_script.proofs.Cuts.{view-Array, view-Object, members_view-insert_entry, cut_members-put, opened_array, opened_object}
-use Rattle.ent_script.proofs.Openings.{passed_nested}
+use Rattle.ent_script.proofs.Cuts.{view-Array, view-Object, members_view-insert_entry, cut_members-put}
+use Rattle.ent_script.proofs.Openings.{opened_array, opened_object, passed_nested}
 use Rattle.ent_script.proofs.cutting.+read.Goals as goal
 
 pub read_cut-returns-in_err-token-clause-json : goal.read_cut-returns-in_err-token-clause-json

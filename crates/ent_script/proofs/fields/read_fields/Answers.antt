@@ -1,6 +1,6 @@
 use Rattle.ent_script.proofs.Common.{◌≡◌, ◌-◌, Some, arith, read_key-shorter, read_key, value, put, data_of}
 use Rattle.ent_script.proofs.Finding.{next_member, last_member, no_key}
-use Rattle.ent_script.proofs.Operations.{cut_read}
+use Rattle.ent_script.proofs.Listing.{cut_read}
 use Rattle.ent_script.proofs.fields.read_fields.Goals as goal
 
 pub returns-in_err-key-clause-value : goal.returns-in_err-key-clause-value

@@ -1,7 +1,6 @@
 use Rattle.ent_script.proofs.Common.{rules, ◌≡◌, ◌+◌, ◌-◌, length, None, ap, ◌∙◌, arith, after_end_array, value, list_of, system_of, operation_at}
 use Rattle.ent_script.specs.declared.read_fault.ReadFault.TheVariants as fault
-use Rattle.ent_script.proofs.Listing.{at_end, at_most_many, at_fault, fault_streams}
-use Rattle.ent_script.proofs.Operations.{reached_next, listed_among}
+use Rattle.ent_script.proofs.Listing.{at_end, at_most_many, at_fault, fault_streams, reached_next, listed_among}
 use Rattle.ent_script.proofs.frames.operations.Goals as goal
 
 pub returns-then-number-eq-OPERATIONS-clause-value : goal.returns-then-number-eq-OPERATIONS-clause-value

@@ -1,5 +1,5 @@
 use Rattle.ent_script.proofs.Common.{◌≡◌, ℕ, ◌≤◌, List, length, Some, Token, items, value, Items, of_items, converted, list_of, operation_at}
-use Rattle.ent_script.proofs.Operations.{Reached}
+use Rattle.ent_script.proofs.Listing.{Reached}
 use Rattle.ent_script.proofs.frames.operations.Given as goal
 
 abbrev pub invariant-operations : goal.invariant-operations

@@ -1,6 +1,5 @@
 use Rattle.ent_script.proofs.Common.{value_is, refl, ap, arith, rules, token_of, null, boolean, number, string, number_view}
-use Rattle.ent_script.proofs.Cuts.{opened_array, opened_object}
-use Rattle.ent_script.proofs.Openings.{passed_nested}
+use Rattle.ent_script.proofs.Openings.{opened_array, opened_object, passed_nested}
 use Rattle.ent_script.proofs.leaf.read_leaf.Goals as goal
 
 pub returns-in-String-clause-ok : goal.returns-in-String-clause-ok

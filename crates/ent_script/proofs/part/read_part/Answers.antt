@@ -1,7 +1,6 @@
 use Rattle.ent_script.proofs.Common.{common_steps, value_is, value-begin_object, ◌≡◌, ◌∷◌, refl, ap, arith, rules, Token, value, token_of, null, boolean, number, string, object, number_view}
 use Rattle.ent_script.proofs.Turns.{converted-object}
-use Rattle.ent_script.proofs.Cuts.{opened_array}
-use Rattle.ent_script.proofs.Openings.{passed_nested}
+use Rattle.ent_script.proofs.Openings.{opened_array, passed_nested}
 use Rattle.ent_script.proofs.part.read_part.Goals as goal
 
 pub returns-then-depth-eq0-clause-json : goal.returns-then-depth-eq0-clause-json

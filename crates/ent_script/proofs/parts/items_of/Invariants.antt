@@ -1,6 +1,5 @@
 use Rattle.ent_script.proofs.Common.{◌≡◌, map, items_of, bundle_by}
-use Rattle.ent_script.proofs.Bundles.{onto}
-use Rattle.ent_script.proofs.Values.{leaf_view}
+use Rattle.ent_script.proofs.Values.{onto, leaf_view}
 use Rattle.ent_script.proofs.parts.items_of.Given as goal
 
 abbrev pub invariant-loop-key : goal.invariant-loop-key

@@ -1,6 +1,5 @@
 use Rattle.ent_script.proofs.Common.{common_steps, members_end, left-parse_map, value_is, value-begin_array, value-begin_object, read_key-shorter, rules, ◌≡◌, ◌-◌, ◌<◌, ◌∷◌, length, Some, None, refl, ◌∙◌, arith, after_end_array, read_key, value, token_of, no_members}
-use Rattle.ent_script.proofs.Turns.{converted-array, converted-object, items_over, key_refused}
-use Rattle.ent_script.proofs.Stepping.{item_passed, item_stuck, member_passed, member_stuck}
+use Rattle.ent_script.proofs.Turns.{converted-array, converted-object, items_over, key_refused, item_passed, item_stuck, member_passed, member_stuck}
 use Rattle.ent_script.proofs.passing.+pass.Goals as goal
 
 pub pass_items-loop-reader-preserved : goal.pass_items-loop-reader-preserved

@@ -1,6 +1,5 @@
 use Rattle.ent_script.proofs.Common.{◌≡◌, ◌-◌, Some, None, codes, sym, ◌∙◌, refl, arith, read_key, value, no_members, put}
-use Rattle.ent_script.proofs.Finding.{next_member, last_member, no_key}
-use Rattle.ent_script.proofs.PassedOver.{member_over, member_not_over}
+use Rattle.ent_script.proofs.Finding.{next_member, last_member, no_key, member_over, member_not_over}
 use Rattle.ent_script.proofs.Listing.{streamed_list}
 use Rattle.ent_script.proofs.Puts.{found_here, found_before}
 use Rattle.ent_script.proofs.reading.frames_inside.Goals as goal

@@ -1,5 +1,5 @@
 use Rattle.ent_script.proofs.Common.{◌≡◌, ◌∙◌, ℕ, List, Some, sym, ap, rules, token_of, Data, read, view, Value, heading_of, in_script, Heading}
-use Rattle.ent_script.proofs.Headings.{headed, whole}
+use Rattle.ent_script.proofs.Texts.{headed, whole}
 use Rattle.ent_script.proofs.reading.front_in.Goals as goal
 
 meant : (text : List ℕ) (was : Data) (v : Value) → read text ≡ Some was → heading_of (view v) ≡ heading_of was

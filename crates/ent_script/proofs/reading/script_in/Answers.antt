@@ -1,6 +1,5 @@
 use Rattle.ent_script.proofs.Common.{◌≡◌, Option, codes, map, rules, Data, get, view, numbered, component_at, component_names, in_script, IsFront, ReadFault}
-use Rattle.ent_script.proofs.Faults.{passes_on, passes_from_list, returned}
-use Rattle.ent_script.proofs.Whole.{no_names, names_meant, names_refused, script_is}
+use Rattle.ent_script.proofs.Whole.{passes_on, passes_from_list, returned, no_names, names_meant, names_refused, script_is}
 use Rattle.ent_script.proofs.reading.script_in.Goals.{After-deref}
 use Rattle.ent_script.proofs.reading.script_in.Goals as goal
 

@@ -1,6 +1,6 @@
 use Rattle.ent_script.proofs.Common.{common_steps, ◌≡◌, ℕ, ◌+◌, List, ◌++◌, length, map, None, arith, rules, append_assoc, true, false, le-leb, Bool, ap, option_map, [], ◌∙◌, Option, Vec, Global, lt-leb, map-append, append-nil, nat_le, Token, after_end_array, items, value, Data, Items, view, Value, cut, list_of, left, PassesAtMost, Json, Ok, Err}
 use Rattle.ent_script.proofs.Finding.{next_item, last_item}
-use Rattle.ent_script.proofs.Stepping.{goes_on, goes_stuck, goes_over, passes_refused}
+use Rattle.ent_script.proofs.Turns.{goes_on, goes_stuck, goes_over, passes_refused}
 use Rattle.ent_script.proofs.streaming.elements_cut.Goals as goal
 
 lengths : (levels : ℕ) (all later : List Data) (front : List Value) → map (cut levels) all ≡ map view front ++ map (cut

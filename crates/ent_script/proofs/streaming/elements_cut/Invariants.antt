@@ -1,5 +1,5 @@
 use Rattle.ent_script.proofs.Common.{◌≡◌, ℕ, ◌≤◌, List, ◌++◌, length, map, Some, Token, items, value, Items, of_items, converted, view, cut, list_of, left}
-use Rattle.ent_script.proofs.Stepping.{Goes}
+use Rattle.ent_script.proofs.Turns.{Goes}
 use Rattle.ent_script.proofs.streaming.elements_cut.Given as goal
 
 abbrev pub invariant-elements : goal.invariant-elements

@@ -1,7 +1,6 @@
 use Rattle.ent_script.proofs.Common.{rules, ◌≡◌, ℕ, ◌+◌, ◌<◌, List, length, Bool, true, false, refl, [], None, arith, after_end_array, value, Token, Items, list_of, PassesAtMost, Ok}
-use Rattle.ent_script.proofs.Finding.{last_item}
-use Rattle.ent_script.proofs.PassedOver.{item_over}
-use Rattle.ent_script.proofs.Stepping.{goes_on, goes_stuck, goes_over}
+use Rattle.ent_script.proofs.Finding.{last_item, item_over}
+use Rattle.ent_script.proofs.Turns.{goes_on, goes_stuck, goes_over}
 use Rattle.ent_script.proofs.streaming.passes_at_most.Goals as goal
 
 few : (fits : Bool) (all room most later : ℕ) → room ≡ 0 → 0 < later → (fits ≡ true → all + room ≡ most + later)

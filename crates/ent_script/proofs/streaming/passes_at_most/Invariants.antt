@@ -1,5 +1,5 @@
 use Rattle.ent_script.proofs.Common.{◌≡◌, ℕ, ◌+◌, ◌<◌, ◌≤◌, List, length, true, false, Some, Token, items, value, Items, of_items, converted, list_of, left}
-use Rattle.ent_script.proofs.Stepping.{Goes}
+use Rattle.ent_script.proofs.Turns.{Goes}
 use Rattle.ent_script.proofs.streaming.passes_at_most.Given as goal
 
 abbrev pub invariant-loop-reader : goal.invariant-loop-reader

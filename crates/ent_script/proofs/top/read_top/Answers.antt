@@ -1,9 +1,8 @@
 use Rattle.ent_script.proofs.Common.{common_steps, value-begin_object, ◌≡◌, ◌∷◌, refl, ap, ◌∙◌, arith, rules, None, Token, value, object, as_object, the_lemmas, heading_of}
 use Rattle.ent_script.proofs.Finding.{no_object_at}
 use Rattle.ent_script.proofs.Openings.{passed_nested}
-use Rattle.ent_script.proofs.Stepping.{if_ok}
+use Rattle.ent_script.proofs.Turns.{if_ok, converted-object}
 use Rattle.ent_script.proofs.Tops.{heading_of-heads, no_heading, no_member}
-use Rattle.ent_script.proofs.Turns.{converted-object}
 use Rattle.ent_script.proofs.top.read_top.Goals as goal
 
 pub returns-then-depth-eq0-clause-json : goal.returns-then-depth-eq0-clause-json

@@ -1,6 +1,5 @@
 use borrow.Author.Count.{below_more}
-use Rattle.ent_storage.proofs.Common.{rules, ◌≡◌, ℕ, ap, ◌∙◌, arith, get_or_default, Column, HasRoomFor, no_column, column_at}
-use Rattle.std.specs.FinMap as map
+use Rattle.ent_storage.proofs.Common.{rules, ◌≡◌, ℕ, ap, ◌∙◌, arith, get_or_default, Column, HasRoomFor, no_column, column_at, fin_empty}
 use Rattle.ent_storage.proofs.Missing.{on_err}
 use Rattle.ent_storage.proofs.columns.reserve_for.Goals.{After-index-source-number}
 use Rattle.ent_storage.proofs.columns.reserve_for.Goals as goal
@@ -13,7 +12,7 @@ here c = c.index-source-number.is ∙ get_or_default c.args.source.now c.loop-nu
 pub returns-in_err-reserve_one_for-clause-memory : goal.returns-in_err-reserve_one_for-clause-memory
 returns-in_err-reserve_one_for-clause-memory c =
     let at = here (goal.at.returns-in_err-reserve_one_for-clause-memory c).After-index-source-number in
-    let some : ((n : ℕ) → (column_at c.args.source.now n).values ≡ map.empty) → ⊥ =
+    let some : ((n : ℕ) → (column_at c.args.source.now n).values ≡ fin_empty) → ⊥ =
     λ none. c.in_err-reserve_one_for.ensures.memory (ap (λ (m : Column). m.values) at ∙ none c.loop-number.number) in
     on_err _ some
 

@@ -1,9 +1,6 @@
 use Rattle.ent_storage.proofs.Common.{rules, arith}
-use Rattle.ent_storage.proofs.InUse.{passed_all, passed_more}
+use Rattle.ent_storage.proofs.InUse.{passed_more, passed_all}
 use Rattle.ent_storage.proofs.columns.swap_remove.Goals as goal
-
-pub returns-clause-moved : goal.returns-clause-moved
-returns-clause-moved c = search (rules, passed_all)
 
 pub loop-number-preserved : goal.loop-number-preserved
 loop-number-preserved c = record {
@@ -11,3 +8,6 @@ loop-number-preserved c = record {
       c.swap_remove.ensures c.loop-number.invariant.passed;
   len = search rules;
 }
+
+pub returns-clause-moved : goal.returns-clause-moved
+returns-clause-moved c = search (rules, passed_all)

@@ -1,23 +1,18 @@
-use Rattle.ent_storage.proofs.Common.{◌≡◌, ◌≢◌, ◌++◌, refl, ap, sym, ◌∙◌, List, [], ◌∷◌, length, Some, Option, slice_get, subst, is_some, IsSomeAnd, option_map, option_and_then, Birth, component_cmp, Handle, total, same, Entity, EntityMap, birth_of, IsBirth}
-use Rattle.std.specs.FinMap as map
+use Rattle.ent_storage.proofs.Common.{◌≡◌, ◌≢◌, refl, ap, sym, ◌∙◌, Some, Option, slice_get, subst, is_some, IsSomeAnd, option_map, option_and_then, Birth, component_cmp, Handle, total, same, Entity, EntityMap, birth_of, IsBirth, fin_get, fin_get-empty}
+use Rattle.ent_storage.proofs.ElementsAt.{at_pushed}
 use Rattle.ent_storage.proofs.Keys.{get-insert_same, get-insert_other}
 use Rattle.ent_storage.proofs.ImageEntities.{entity_short, entity_read, entity_refused}
 use Rattle.ent_storage.proofs.image.read_entity.Goals.{In-Ok}
 use Rattle.ent_storage.proofs.image.read_entity.Goals as goal
-
--- what goes to the end of a list is at its length
-at_end : (xs : List Handle) (h : Handle) → slice_get (xs ++ h ∷ []) (length xs) ≡ Some h
-at_end [] h = refl
-at_end (x ∷ xs) h = at_end xs h
 
 -- the entity was born
 born : (c : In-Ok) → birth_of c.born_within.new.self.entities c.args.handle ≡ Some c.read_birth.result.0
 born c = ap (λ (n : EntityMap). birth_of n c.args.handle) c.in-Ok.ensures.ok
     ∙ ap (option_map (λ (e : Entity). e.birth)) (get-insert_same total same _ _ _ _ refl)
 
-others : (c : In-Ok) (q : Handle) → q ≢ c.args.handle → map.get c.born_within.new.self.entities q
-    ≡ map.get c.args.storage.now.entities q
-others c q apart = ap (λ (n : EntityMap). map.get n q) c.in-Ok.ensures.ok
+others : (c : In-Ok) (q : Handle) → q ≢ c.args.handle → fin_get c.born_within.new.self.entities q
+    ≡ fin_get c.args.storage.now.entities q
+others c q apart = ap (λ (n : EntityMap). fin_get n q) c.in-Ok.ensures.ok
     ∙ get-insert_other total same _ _ _ q apart
 
 pub returns-then-bytes-lt16-clause-none : goal.returns-then-bytes-lt16-clause-none
@@ -25,12 +20,12 @@ returns-then-bytes-lt16-clause-none c m rest is = entity_short _ m _ _ rest c.if
 
 pub read_values-requires-clause-at : goal.read_values-requires-clause-at
 read_values-requires-clause-at c = (λ i. slice_get (c.in-Ok.ensures.places i) (c.len-place.ensures.places i))
-    ∙ at_end c.args.storage.now.places c.args.handle
+    ∙ at_pushed c.args.storage.now.places c.args.handle
 
 pub read_values-requires-clause-free : goal.read_values-requires-clause-free
-read_values-requires-clause-free c id = ap (λ (m : EntityMap). option_and_then (λ (e : Entity). map.get e.components id)
-    (map.get m c.args.handle)) c.in-Ok.ensures.ok ∙ ap (option_and_then (λ (e : Entity). map.get e.components id))
-    (get-insert_same total same _ _ _ _ refl) ∙ map.get-empty component_cmp id
+read_values-requires-clause-free c id = ap (λ (m : EntityMap). option_and_then (λ (e : Entity). fin_get e.components id)
+    (fin_get m c.args.handle)) c.in-Ok.ensures.ok ∙ ap (option_and_then (λ (e : Entity). fin_get e.components id))
+    (get-insert_same total same _ _ _ _ refl) ∙ fin_get-empty component_cmp id
 
 pub read_values-requires-clause-there : goal.read_values-requires-clause-there
 read_values-requires-clause-there c = ap is_some (born (goal.at.read_values-requires-clause-there c).In-Ok)

@@ -1,20 +1,17 @@
-use Rattle.ent_storage.proofs.Common.{rules, ◌≡◌, ◌≢◌, ◌<◌, ◌++◌, ℕ, ℤ, List, Option, None, Some, ◌∷◌, length, ap, ◌∙◌, arith, get_or, w64, cast_unsigned, length-append, value_bytes, long}
+use Rattle.ent_storage.proofs.Common.{rules, ◌≡◌, ◌≢◌, ◌<◌, ◌++◌, ℕ, ℤ, List, Option, None, Some, ◌∷◌, length, ap, ◌∙◌, arith, get_or, w64, cast_unsigned, length-append, value_bytes}
 use Rattle.ent_storage.proofs.ImageBytes.{length-long}
 use Rattle.ent_storage.proofs.image.read_value.Goals as goal
 
 -- a value begins with a 0 or a 1, and nine bytes have one
 other_flag : (flag : ℕ) (bytes : List ℕ) (value : Option ℤ) (rest : List ℕ) → flag ≢ 0 → flag ≢ 1
     → flag ∷ bytes ≢ value_bytes value ++ rest
-other_flag flag bytes None rest not_0 not_1 same = not_0 (ap (λ xs. get_or xs 0 0) same)
-other_flag flag bytes (Some v) rest not_0 not_1 same = not_1 (ap (λ xs. get_or xs 0 0) same)
+other_flag flag bytes value rest not_0 not_1 same = search rules
 
 too_short : (flag : ℕ) (bytes : List ℕ) (value : Option ℤ) (rest : List ℕ) → flag ≢ 0 → length bytes < 8
     → flag ∷ bytes ≢ value_bytes value ++ rest
 too_short flag bytes None rest not_0 short same = not_0 (ap (λ xs. get_or xs 0 0) same)
-too_short flag bytes (Some v) rest not_0 short same =
-    let long_enough = length-append (long (cast_unsigned w64 v)) rest in
-    let all = ap length same in
-    omega (arith, length-long (cast_unsigned w64 v))
+too_short flag bytes (Some v) rest not_0 short same = omega
+    (arith, length-long (cast_unsigned w64 v), simp length-append at (ap length same))
 
 pub returns-then-flag-ne1-clause-none : goal.returns-then-flag-ne1-clause-none
 returns-then-flag-ne1-clause-none c value rest same =

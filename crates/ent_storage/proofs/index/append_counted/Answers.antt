@@ -15,7 +15,13 @@ push_reserved-requires c =
     search (rules, c.has_key_at.ensures, c.if-has_key_at.true, c.pair-item.is) in
     let more = length-filter_more test source i c.pair-item.result inside
     ∙ ap (λ (b : Bool). length (filter test (take i source)) + cond b 1 0) counted in
-    omega (arith, more, first_fit test source (i + 1), left_fits c.args.living.now.entities source c.requires.sorted, ap length c.loop-pair.invariant.items)
+    omega (
+      arith,
+      more,
+      first_fit test source (i + 1),
+      left_fits c.args.living.now.entities source c.requires.sorted,
+      ap length c.loop-pair.invariant.items,
+    )
 
 -- all pairs were passed
 pub returns-clause-sorted : goal.returns-clause-sorted
@@ -25,7 +31,4 @@ returns-clause-sorted c =
     rw whole (is_sorted-filter total same (counts c.args.living.now.entities) _ c.requires.sorted)
 
 pub returns-clause-counted : goal.returns-clause-counted
-returns-clause-counted c =
-    let whole = c.loop-pair.invariant.items ∙ ap (filter (counts c.args.living.now.entities))
-    (take_all c.loop-pair.pair-index c.args.source.now (omega (arith, c.loop-pair-test.false))) in
-    rw whole (from_sorted_left c.args.living.now.entities _ c.requires.sorted)
+returns-clause-counted c = search (rules, arith, take_all, from_sorted_left, c.loop-pair.invariant.items)

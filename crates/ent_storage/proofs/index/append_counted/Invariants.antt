@@ -1,5 +1,4 @@
-use Rattle.ent_storage.proofs.Common.{◌≡◌, filter, take}
-use Rattle.std.proofs.Common.{vec_capacity}
+use Rattle.ent_storage.proofs.Common.{◌≡◌, filter, take, vec_capacity}
 use Rattle.ent_storage.proofs.Counted.{counts}
 use Rattle.ent_storage.proofs.index.append_counted.Given as goal
 

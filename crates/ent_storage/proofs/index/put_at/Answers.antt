@@ -1,5 +1,4 @@
-use Rattle.ent_storage.proofs.Common.{ap, refl, ◌∙◌, total, same}
-use Rattle.std.specs.FinMap as map
+use Rattle.ent_storage.proofs.Common.{ap, refl, ◌∙◌, total, same, fin_get}
 use Rattle.ent_storage.proofs.Keys.{get-insert_same, get-insert_other}
 use Rattle.ent_storage.proofs.Counted.{counted_gives}
 use Rattle.ent_storage.proofs.Rising.{rising_set, map_set}
@@ -13,12 +12,12 @@ returns-in-Ok-clause-sorted c =
 pub returns-in-Ok-clause-placed : goal.returns-in-Ok-clause-placed
 returns-in-Ok-clause-placed c =
     let at = rw c.in-Ok.is at c.requires.found in
-    ap (λ m. map.get m c.args.pair.0) (map_set total same _ c.requires.sorted _ _ _ at)
+    ap (λ m. fin_get m c.args.pair.0) (map_set total same _ c.requires.sorted _ _ _ at)
     ∙ get-insert_same total same _ _ _ _ refl
 
 -- what counted counts still
 pub returns-in-Ok-clause-kept : goal.returns-in-Ok-clause-kept
 returns-in-Ok-clause-kept c q i n old =
     let at = rw c.in-Ok.is at c.requires.found in
-    ap (λ m. map.get m q) (map_set total same _ c.requires.sorted _ _ _ at) ∙ get-insert_other total same _ _ _ q n
+    ap (λ m. fin_get m q) (map_set total same _ c.requires.sorted _ _ _ at) ∙ get-insert_other total same _ _ _ q n
     ∙ (counted_gives _ _ q i old).0

@@ -15,6 +15,5 @@ pub returns-clause-counted : goal.returns-clause-counted
 returns-clause-counted c = rw (left c) (from_sorted_left c.args.living.now.entities _ c.requires)
 
 pub returns-clause-len : goal.returns-clause-len
-returns-clause-len c =
-    let fits = left_fits c.args.living.now.entities c.args.pairs.now.items c.requires in
-    omega (arith, ap length (left c), fits, c.retain.new.self.ok.0)
+returns-clause-len c = omega
+    (arith, ap length (left c), left_fits c.args.living.now.entities c.args.pairs.now.items c.requires, c.retain.new.self.ok.0)

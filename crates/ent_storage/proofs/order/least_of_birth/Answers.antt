@@ -1,6 +1,5 @@
 use Rattle.ent_storage.proofs.Common.{common_steps, ◌≡◌, [], ◌∷◌, ◌++◌, map, take, sym, ◌∙◌, arith, rules, eq_by_cmp, map_more, Birth, birth_cmp, Handle, Resident}
 use Rattle.ent_storage.proofs.OfBirth.{same_birth, other_birth, least_other, least_this}
-use Rattle.ent_storage.proofs.order.least_of_birth.Goals.{then-eq, else-eq}
 use Rattle.ent_storage.proofs.order.least_of_birth.Goals as goal
 
 abbrev pair_of : Resident → Birth × Handle
@@ -16,9 +15,9 @@ loop-resident-preserved c =
     let more = map_more pair_of _ _ _ (omega arith) ∙ (λ j. before ++ pair_of (sym c.resident-item.is j) ∷ []) in
     let tests : c.eq.result ≡ eq_by_cmp birth_cmp resident.birth c.args.birth = search rules in
     elim c.if-eq.branch [
-      | then-eq w ↦
+      | goal.then-eq w ↦
           let same = same_birth resident.birth birth (sym tests ∙ w.if-eq.true) in
           grind (arith, common_steps, least_this, c.loop-resident.least, c.loop-resident.invariant)
-      | else-eq w ↦ rw (w.least-is, more) (least_other birth before c.loop-resident.least c.loop-resident.invariant
+      | goal.else-eq w ↦ rw (w.least-is, more) (least_other birth before c.loop-resident.least c.loop-resident.invariant
           (pair_of resident) (other_birth resident.birth birth (sym tests ∙ w.if-eq.false)))
     ]

@@ -1,5 +1,4 @@
-use Rattle.ent_storage.proofs.Common.{rules, ◌≡◌, ◌≤◌, ◌∙◌, Some, refl, sym, ap, get_or, slice_get, arith, List, ℕ, slice_get_read, none-some, same_Some, Handle}
-use Rattle.ent_storage.specs.SparseMap.{IsFree}
+use Rattle.ent_storage.proofs.Common.{rules, ◌≡◌, ◌≤◌, ◌∙◌, Some, refl, sym, ap, get_or, slice_get, arith, List, ℕ, slice_get_read, none-some, same_Some, Handle, IsFreeSlot as IsFree}
 use Rattle.ent_storage.proofs.Sparse.{none_free, free_no_later, before_none, not_later, has_later, has_no_later, had, had_other, is_handle, not_handle, over_positioned, over_values}
 use Rattle.ent_storage.proofs.sparse_map.put.Given.{Over}
 use Rattle.ent_storage.proofs.sparse_map.put.Goals.{After-replace-standing}
@@ -22,11 +21,10 @@ pub returns-then-generation-clause-later : goal.returns-then-generation-clause-l
 returns-then-generation-clause-later g c =
     let k = c.in-Some.position in
     let x = c.index.result.now in
-    let inside = rw c.deref.ensures.value at c.in-Some.ensures.inside in
-    let found = rw c.deref.ensures.value at c.in-Some.ensures.found in
-    let here = slice_get_read _ _ _ _ refl inside c.index.ensures in
+    let at = rw c.deref.ensures.value at c.in-Some.ensures in
+    let here = slice_get_read _ _ _ _ refl at.inside c.index.ensures in
     let slot : x.0.index ≡ c.args.handle.index = ap (λ (y : Handle × g.row.T.Denot). y.0.index) c.index.ensures
-    ∙ found x ∙ c.index_of-index.ensures.value in (
+    ∙ at.found x ∙ c.index_of-index.ensures.value in (
       λ _. has_later c.args.entries.now.items c.args.positions.now.items c.requires.positioned k x here c.args.handle
           slot (omega arith),
       λ _. refl,
@@ -44,16 +42,15 @@ stood g c =
     let D = c.args.entries.now.items in
     let k = c.in-Some.position in
     let x = c.replace-standing.result in
-    let inside = rw c.deref.ensures.value at c.in-Some.ensures.inside in
-    let found = rw c.deref.ensures.value at c.in-Some.ensures.found in
+    let at = rw c.deref.ensures.value at c.in-Some.ensures in
     let was : x ≡ get_or D k x = c.replace-standing.ensures.value ∙ c.index_mut.ensures.value
     ∙ ap (get_or D k) (sym c.replace-standing.ensures.value) in
-    let here = slice_get_read _ _ _ _ refl inside was in
-    let read = slice_get_read _ _ _ _ refl inside c.index.ensures in
+    let here = slice_get_read _ _ _ _ refl at.inside was in
+    let read = slice_get_read _ _ _ _ refl at.inside c.index.ensures in
     let generation = ap (λ (y : Handle × g.row.T.Denot). y.0.generation) (same_Some _ _ (sym read ∙ here)) in
     record {
       here = here;
-      slot = ap (λ (y : Handle × g.row.T.Denot). y.0.index) was ∙ found x ∙ c.index_of-index.ensures.value;
+      slot = ap (λ (y : Handle × g.row.T.Denot). y.0.index) was ∙ at.found x ∙ c.index_of-index.ensures.value;
       least = omega arith;
     }
 

@@ -57,4 +57,11 @@ returns-else-position-len-clause-value g c =
 pub returns-else-position-len-clause-values : goal.returns-else-position-len-clause-values
 returns-else-position-len-clause-values g c =
     let at = goal.at.returns-else-position-len-clause-values g c in
-    search (rules, taken_values, popped_positioned, here g at.After-index-position, rest g at.After-swap_remove-value, last g at.Else-position-len)
+    search (
+      rules,
+      taken_values,
+      popped_positioned,
+      here g at.After-index-position,
+      rest g at.After-swap_remove-value,
+      last g at.Else-position-len,
+    )

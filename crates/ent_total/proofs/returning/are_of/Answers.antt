@@ -1,4 +1,4 @@
-use Rattle.ent_total.proofs.Common.{rules, arith, refl, ◌≡◌, take_all, All-more, AreOf}
+use Rattle.ent_total.proofs.Common.{rules, arith, refl, ◌≡◌, take_all, All-more}
 use Rattle.ent_total.specs.Sharing.{Reserver}
 use Rattle.ent_total.proofs.returning.are_of.Goals as goal
 
@@ -9,6 +9,6 @@ loop-reserver-preserved g c = All-more (λ (d : Reserver). d.number ≡ c.args.n
 
 pub returns : goal.returns
 returns g c =
-    let all : AreOf c.args.number c.args.reservers.now = rw
-    (take_all c.loop-reserver.reserver-index c.args.reservers.now (omega arith)) at c.loop-reserver.invariant in
+    let all = rw (take_all c.loop-reserver.reserver-index c.args.reservers.now (omega arith)) at
+    c.loop-reserver.invariant in
     (λ _. all, λ _. refl)

@@ -1,4 +1,4 @@
-use Rattle.ent_total.proofs.Common.{rules, arith, refl, ◌≡◌, take_all, All-more, Commands, AreCommandsOf}
+use Rattle.ent_total.proofs.Common.{rules, arith, refl, ◌≡◌, take_all, All-more, Commands}
 use Rattle.ent_total.proofs.world_returning.are_of.Goals as goal
 
 pub loop-one-preserved : goal.loop-one-preserved
@@ -7,6 +7,5 @@ loop-one-preserved g c = All-more (λ (i : Commands). i.number ≡ c.args.number
 
 pub returns : goal.returns
 returns g c =
-    let all : AreCommandsOf c.args.number c.args.queues.now = rw (take_all c.loop-one.one-index c.args.queues.now
-    (omega arith)) at c.loop-one.invariant in
+    let all = rw (take_all c.loop-one.one-index c.args.queues.now (omega arith)) at c.loop-one.invariant in
     (λ _. all, λ _. refl)

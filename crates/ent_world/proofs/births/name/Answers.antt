@@ -1,5 +1,5 @@
 use Rattle.ent_world.proofs.Common.{rules, sym, ◌∙◌, drop}
-use Rattle.ent_world.proofs.Numbered.{named_now, named_before, keeps_name}
+use Rattle.ent_world.proofs.Born.{named_now, named_before, keeps_name}
 use Rattle.ent_world.proofs.PlacedRows.{stands_from, stands_before}
 use Rattle.ent_world.proofs.births.name.Goals.{else-before-place-via-then-before-place+else-birth_at, else-before-place-via-else-before-place}
 use Rattle.ent_world.proofs.births.name.Goals as goal
@@ -7,10 +7,7 @@ use Rattle.ent_world.proofs.births.name.Goals as goal
 -- it is born now, and has no birth of a system
 pub returns-then-birth_at-clause-named : goal.returns-then-birth_at-clause-named
 returns-then-birth_at-clause-named c =
-    let places = c.args.storage.now.places in
-    let at = (c.requires c.args.handle c.in-Some.place).0 (sym c.place_of.ensures ∙ c.in-Some.is) in
-    let there = stands_from places c.args.before c.in-Some.place c.args.handle at c.if-before-place.true in
-    search (rules, named_now, there)
+    search (rules, named_now, stands_from, c.requires c.args.handle c.in-Some.place)
 
 -- it has one, or was born before
 pub returns-else-before-place-clause-named : goal.returns-else-before-place-clause-named

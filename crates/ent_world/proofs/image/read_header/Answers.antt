@@ -1,5 +1,5 @@
 use Rattle.ent_world.proofs.Common.{rules, ◌++◌, arith, word}
-use Rattle.ent_world.proofs.ImageHeader.{header_is, too_short, other_magic, other_version, part_missing, begins, other_letters}
+use Rattle.ent_world.proofs.ImageRead.{header_is, too_short, other_magic, other_version, part_missing, begins, other_letters}
 use Rattle.ent_world.proofs.image.read_header.Goals as goal
 
 pub returns-then-magic-ne-MAGIC-clause-refused : goal.returns-then-magic-ne-MAGIC-clause-refused

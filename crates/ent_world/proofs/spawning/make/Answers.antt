@@ -1,5 +1,5 @@
 use Rattle.ent_world.proofs.Common.{rules, sym, ◌∙◌, inr}
-use Rattle.ent_world.proofs.Making.{on_ok, on_err, made_whole, some_items}
+use Rattle.ent_world.proofs.PlacedRows.{on_ok, on_err, made_whole, some_items}
 use Rattle.ent_world.proofs.spawning.make.Goals as goal
 
 pub returns-then-is_err-2-clause-memory : goal.returns-then-is_err-2-clause-memory

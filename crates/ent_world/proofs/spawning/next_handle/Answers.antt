@@ -1,5 +1,5 @@
 use Rattle.ent_world.proofs.Common.{rules, ◌≡◌, listed_alone, reply_to}
-use Rattle.ent_world.proofs.Making.{one_given, given_new, none_given, pool_some, reply_at_top}
+use Rattle.ent_world.proofs.PlacedRows.{one_given, given_new, none_given, pool_some, reply_at_top}
 use Rattle.ent_world.proofs.spawning.next_handle.Goals.{After-reply_one}
 use Rattle.ent_world.proofs.spawning.next_handle.Goals as goal
 

@@ -15,9 +15,6 @@ nth_later n text line others some e h = search (rules, lines_first)
 nth_only : (text : List ℕ) → IsWithout 10 text → nth 0 text ≡ text
 nth_only text h = search (rules, cases_lt, lines_whole, nil_from_length)
 
-none_left : (n : ℕ) → slice_index_or {A = List ℕ} [] n [] ≡ []
-none_left n = search rules
-
 nth_past : (n : ℕ) (text : List ℕ) → 0 < n → IsWithout 10 text → nth n text ≡ []
 nth_past n text past h = search (rules, cases_lt, lines_whole, nil_from_length)
 

@@ -1,4 +1,4 @@
-use Rattle.spawnrun_lib.proofs.Pieces.{passes, decimal-printable, three}
+use Rattle.spawnrun_lib.proofs.Fronts.{decimal-printable, passes, three}
 use Rattle.spawnrun_lib.proofs.Common.{rules, ◌≡◌, ℕ, ◌++◌, List, sym, subst, codes, decimal, inline_text, ArePrintable}
 use Rattle.spawnrun_lib.proofs.schedule.schedule_found.Goals as goal
 

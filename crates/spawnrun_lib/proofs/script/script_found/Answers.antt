@@ -1,5 +1,5 @@
 use Rattle.spawnrun_lib.proofs.Common.{rules, ◌≡◌, ◌++◌, List, [], ℕ, codes, All-nil, ArePrintable}
-use Rattle.spawnrun_lib.proofs.Pieces.{added, both}
+use Rattle.spawnrun_lib.proofs.Fronts.{added, both}
 use Rattle.spawnrun_lib.proofs.script.script_found.Goals as goal
 
 -- the words before what is found

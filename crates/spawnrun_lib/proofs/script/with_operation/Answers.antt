@@ -1,5 +1,5 @@
 use Rattle.spawnrun_lib.proofs.Common.{rules}
-use Rattle.spawnrun_lib.proofs.Pieces.{counted}
+use Rattle.spawnrun_lib.proofs.Fronts.{counted}
 use Rattle.spawnrun_lib.proofs.script.with_operation.Goals as goal
 
 pub returns-clause-printable : goal.returns-clause-printable

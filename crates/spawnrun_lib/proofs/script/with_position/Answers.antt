@@ -1,5 +1,5 @@
 use Rattle.spawnrun_lib.proofs.Common.{rules, arith, ◌≡◌, ◌++◌, List, ℕ, append_assoc, refl, common_steps}
-use Rattle.spawnrun_lib.proofs.Pieces.{added}
+use Rattle.spawnrun_lib.proofs.Fronts.{added}
 use Rattle.spawnrun_lib.proofs.script.with_position.Goals as goal
 
 seven : (s a b c d e f g : List ℕ) → s ++ a ++ b ++ c ++ d ++ e ++ f ++ g ≡ s ++ (a ++ b ++ c ++ d ++ e ++ f ++ g)

@@ -1,7 +1,7 @@
 use Rattle.spawnrun_lib.proofs.OneCourse.{one_report}
 use Rattle.spawnrun_lib.proofs.Common.{rules, IfOk-weaker}
 use Rattle.spawnrun_lib.proofs.GivenOnce.{given_once}
-use Rattle.spawnrun_lib.proofs.SameText.{enough_text, same_text}
+use Rattle.spawnrun_lib.proofs.TextsAlone.{enough_text, same_text}
 use Rattle.spawnrun_lib.proofs.script_run.run_script.Goals as goal
 
 pub returns-clause-only : goal.returns-clause-only

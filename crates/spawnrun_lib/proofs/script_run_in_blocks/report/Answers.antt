@@ -1,8 +1,13 @@
 use Rattle.spawnrun_lib.proofs.Common.{rules, map, string_bytes}
-use Rattle.spawnrun_lib.proofs.NextInBlocks.{text_in_blocks}
+use Rattle.spawnrun_lib.proofs.NextFrame.{text_in_blocks}
 use Rattle.spawnrun_lib.proofs.script_run_in_blocks.report.Goals as goal
 
 pub returns : goal.returns
 returns g c =
     let wrote = c.in_ok-write_world.ensures.ok in
-    search (rules, text_in_blocks c.args.script c.args.size c.args.show c.new-world.result c.in_ok-world.world c.into_parts-limits.result.2.items (map string_bytes c.deref.result.now) c.in_ok-world.text.items wrote.0 c.write_world.new.out.items c.in_ok-world.ensures.went)
+    search (
+      rules,
+      text_in_blocks c.args.script c.args.size c.args.show c.new-world.result c.in_ok-world.world
+          c.into_parts-limits.result.2.items (map string_bytes c.deref.result.now) c.in_ok-world.text.items wrote.0
+          c.write_world.new.out.items c.in_ok-world.ensures.went,
+    )

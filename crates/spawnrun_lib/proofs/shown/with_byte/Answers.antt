@@ -6,4 +6,12 @@ escaped : (byte : ℕ) → is_printable byte ≡ false → byte_text byte ≡ 92
 escaped byte not_printable = search (rules, cond-false)
 
 pub returns-clause-text : goal.returns-clause-text
-returns-clause-text c = simp (escaped c.args.byte (grind (arith, nat_tests)), c.with_digit.ensures.text, c.with_digit-shown.ensures.text, c.with_letter-shown-2.ensures.text, c.with_letter-shown.ensures.text, front-more, append_assoc)
+returns-clause-text c = simp (
+  escaped c.args.byte (grind (arith, nat_tests)),
+  c.with_digit.ensures.text,
+  c.with_digit-shown.ensures.text,
+  c.with_letter-shown-2.ensures.text,
+  c.with_letter-shown.ensures.text,
+  front-more,
+  append_assoc,
+)

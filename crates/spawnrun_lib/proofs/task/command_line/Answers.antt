@@ -1,4 +1,4 @@
-use Rattle.spawnrun_lib.proofs.Common.{rules, ◌≡◌, ℕ, List, codes, true, refl, map, subst, Some, HasKind, fault_of, rows_of, found_of, takes, subcommand_of, program, found_fault, only_memory}
+use Rattle.spawnrun_lib.proofs.Common.{rules, ◌≡◌, ℕ, List, codes, true, refl, map, Some, rows_of, found_of, takes, subcommand_of, program, found_fault, only_memory}
 use Rattle.spawnrun_lib.proofs.TaskOfWords.{IsProgram-names, MeetsTask-parse, none_other, replay_asked, run_asked, run_task, subcommand_met-named, MeetsTask}
 use Rattle.spawnrun_lib.proofs.task.command_line.Given as given
 use Rattle.spawnrun_lib.proofs.task.command_line.Goals.{After-unwrap}
@@ -19,18 +19,14 @@ named g c =
 
 pub returns-in_err-matches-clause-refused : goal.returns-in_err-matches-clause-refused
 returns-in_err-matches-clause-refused g c =
-    let words : List (List ℕ) = map g.S.AsStr.text c.args.words.now in
     let is = IsProgram-names _ _ c.in_ok-program.ensures refl in
-    only_memory _ _ (takes program words ≡ true) c.from_residual-in_err-matches.ensures.1
-    (λ yes. c.in_err-matches.ensures.passes (is.taken words yes))
+    only_memory _ _ (takes program (map g.S.AsStr.text c.args.words.now) ≡ true)
+    c.from_residual-in_err-matches.ensures.1 (λ yes. c.in_err-matches.ensures.passes (is.taken _ yes))
 
 pub returns-in_err-matches-clause-fault : goal.returns-in_err-matches-clause-fault
 returns-in_err-matches-clause-fault g c =
-    let words : List (List ℕ) = map g.S.AsStr.text c.args.words.now in
     let is = IsProgram-names _ _ c.in_ok-program.ensures refl in
-    let kind = c.in_err-matches.ensures.kinds is.free in
-    found_fault _ c.in_err-matches.field-0.0 (fault_of program words) c.from_residual-in_err-matches.ensures.1
-    (subst (λ kinds. HasKind kinds c.in_err-matches.field-0.0) (is.fault words) kind)
+    found_fault _ _ _ c.from_residual-in_err-matches.ensures.1 (rw is.fault at (c.in_err-matches.ensures.kinds is.free))
 
 pub limits_of-requires : goal.limits_of-requires
 limits_of-requires g c =
@@ -47,23 +43,16 @@ run_of-requires g c =
 pub returns-in-replay : goal.returns-in-replay
 returns-in-replay g c =
     let named = named g (goal.at.returns-in-replay g c).After-unwrap in
-    let is = named.1 (codes "replay") c.in-replay.is in
-    let made = c.limits_of.ensures in
-    record {
-      asked = (_, is, made.slots, made.generations, made.within);
-      taken = named.0.no_fault;
-      fault = tt;
-      refused = tt;
-    }
+    search (rules, named.0.no_fault, named.1 (codes "replay") c.in-replay.is, c.limits_of.ensures)
 
 pub returns-in-run : goal.returns-in-run
 returns-in-run g c =
-    let named = named g (goal.at.returns-in-run g c).After-unwrap in record {
-      asked = run_task (map g.S.AsStr.text c.args.words.now) _ _ (named.1 (codes "run") c.in-run.is) c.run_of.ensures;
-      taken = named.0.no_fault;
-      fault = tt;
-      refused = tt;
-    }
+    let named = named g (goal.at.returns-in-run g c).After-unwrap in
+    search (
+      rules,
+      named.0.no_fault,
+      run_task (map g.S.AsStr.text c.args.words.now) _ _ (named.1 (codes "run") c.in-run.is) c.run_of.ensures,
+    )
 
 pub unreachable-requires : goal.unreachable-requires
 unreachable-requires g c = search (rules, named, none_other)

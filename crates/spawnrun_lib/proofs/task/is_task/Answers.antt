@@ -1,4 +1,4 @@
-use Rattle.spawnrun_lib.proofs.Common.{rules, kind_of}
+use Rattle.spawnrun_lib.proofs.Common.{kind_of}
 use Rattle.spawnrun_lib.proofs.task.is_task.Goals as goal
 
 -- clap's error is of a kind that its rules find

@@ -22,4 +22,5 @@ returns-in-Ok-clause-gives g c = made_of_read (g.W.Work.gives c.args.work) (g.W.
     (omega (arith, c.in-Ok.bytes.ok.0, c.in-Ok.ensures.within)) c.in_ok-make-in-Ok.ensures
 
 pub returns-in-Err-TooLong-clause-gives : goal.returns-in-Err-TooLong-clause-gives
-returns-in-Err-TooLong-clause-gives g c = search (rules, refused_too_long (g.W.Work.gives c.args.work) (g.W.Work.fails c.args.work))
+returns-in-Err-TooLong-clause-gives g c =
+    search (rules, refused_too_long (g.W.Work.gives c.args.work) (g.W.Work.fails c.args.work))

@@ -1,5 +1,5 @@
 use Rattle.spawnrun_lib.proofs.Common.{refl, ◌∙◌, on_ok_weaker}
-use Rattle.spawnrun_lib.proofs.OneText.{one_text}
+use Rattle.spawnrun_lib.proofs.OneCourse.{one_text}
 use Rattle.spawnrun_lib.proofs.world_text.write_world.Goals as goal
 
 pub returns-else-is_err-clause-only : goal.returns-else-is_err-clause-only

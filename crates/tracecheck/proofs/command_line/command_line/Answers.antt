@@ -1,6 +1,5 @@
 use Rattle.tracecheck.proofs.Common.{rules, ◌≡◌, ◌∙◌, List, ℕ, true, ap, map, takes, only_memory, is_taken, App}
-use Rattle.tracecheck.proofs.Beginnings.{both_not_taken, clap_fault, faultless_of_one, faulty_of_both, is_taken-takes}
-use Rattle.tracecheck.proofs.OptionsGiven.{generations-given, slots-given}
+use Rattle.tracecheck.proofs.Beginnings.{both_not_taken, clap_fault, faultless_of_one, faulty_of_both, is_taken-takes, generations-given, slots-given}
 use Rattle.tracecheck.proofs.command_line.command_line.Goals as goal
 
 pub returns-in_err-matches-clause-refused : goal.returns-in_err-matches-clause-refused

@@ -1,5 +1,5 @@
 use Rattle.tracecheck.proofs.Common.{rules, ◌≡◌, ◌++◌, err_from_is_err_and, without_return}
-use Rattle.tracecheck.proofs.LinesRead.{cut_line, HasRead-line}
+use Rattle.tracecheck.proofs.Taking.{cut_line, HasRead-line}
 use Rattle.tracecheck.proofs.lines.end_line.Goals.{After-without_return}
 use Rattle.tracecheck.proofs.lines.end_line.Goals as goal
 

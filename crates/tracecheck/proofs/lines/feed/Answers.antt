@@ -1,5 +1,5 @@
 use Rattle.tracecheck.proofs.Common.{common_steps, arith, rules, ◌++◌, ◌∷◌, [], List, ℕ, subst, sym, append_assoc, err_from_is_err_and, HasRead}
-use Rattle.tracecheck.proofs.LinesRead.{piece_front, piece_rest}
+use Rattle.tracecheck.proofs.Taking.{piece_front, piece_rest}
 use Rattle.tracecheck.proofs.lines.feed.Goals as goal
 
 pub returns-in_err-checking-clause-ends : goal.returns-in_err-checking-clause-ends

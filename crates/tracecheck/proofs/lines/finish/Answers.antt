@@ -1,5 +1,5 @@
 use Rattle.tracecheck.proofs.Common.{rules, ◌++◌, List, ℕ, sym, ap, ◌∙◌, eqb-true, append-nil}
-use Rattle.tracecheck.proofs.LinesRead.{lines_at_end, lines_none, lines_now}
+use Rattle.tracecheck.proofs.Taking.{lines_at_end, lines_none, lines_now}
 use Rattle.tracecheck.proofs.lines.finish.Goals as goal
 
 pub returns-then-is_empty : goal.returns-then-is_empty

@@ -1,8 +1,8 @@
 use Rattle.ent_alloc.proofs.Common.{rules, ◌≡◌, ℕ, ◌-◌, ◌<◌, [], length, Result, Ok, Err, ap, ◌∙◌, IsErrAnd, IsErrOf, nil_from_length, Handle, AllocFault, Roster}
 use Rattle.ent_alloc.specs.declared.fault.AllocFault.TheVariants.{Memory, Space}
 use Rattle.ent_alloc.proofs.Meaning.{allocator_is, IsAtRest, at_rest}
-use Rattle.ent_alloc.proofs.MeaningOfAlloc.{IsGiven, made_roster, length_pool, reused_given, made_given}
-use Rattle.ent_alloc.proofs.Asked.{first_within}
+use Rattle.ent_alloc.proofs.MeaningOfSteps.{IsGiven, made_roster, length_pool, reused_given, made_given}
+use Rattle.ent_alloc.proofs.OneReply.{first_within}
 use Rattle.ent_alloc.proofs.entities.Entities.alloc.Goals.{Else-needs_flush, Then-room-gt0, In-Some, In_ok-make_one}
 use Rattle.ent_alloc.proofs.entities.Entities.alloc.Goals as goal
 
@@ -48,16 +48,12 @@ invariant_of-self-then-room-gt0 c = (made (goal.at.invariant_of-self-then-room-g
 
 pub returns-in-Some : goal.returns-in-Some
 returns-in-Some c =
-    let at = goal.at.returns-in-Some c in
-    let given = reused at.In-Some in
-    let rest = rest at.Else-needs_flush in
+    let given = reused (goal.at.returns-in-Some c).In-Some in
     search (rules, given, rest, first_within)
 
 pub returns-in_ok-make_one : goal.returns-in_ok-make_one
 returns-in_ok-make_one c =
-    let at = goal.at.returns-in_ok-make_one c in
-    let given = made at.In_ok-make_one in
-    let rest = rest at.Else-needs_flush in
+    let given = made (goal.at.returns-in_ok-make_one c).In_ok-make_one in
     search (rules, given, rest, none_left, first_within)
 
 pub returns-in_err-make_one-clause-space : goal.returns-in_err-make_one-clause-space

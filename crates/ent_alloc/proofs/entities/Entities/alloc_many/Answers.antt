@@ -1,10 +1,9 @@
-use Rattle.ent_alloc.proofs.Common.{rules, arith, ◌≡◌, ◌∙◌, subst, ◌+◌, ◌-◌, ◌≤◌, length, drop, fresh, after_take, after_flush, IsSound, Entities, HasRowsOfLiving}
+use Rattle.ent_alloc.proofs.Common.{rules, subst, ◌+◌, ◌-◌, ◌≤◌, length, drop, fresh, after_take, after_flush, IsSound, Entities, HasRowsOfLiving}
 use Rattle.ent_alloc.proofs.FreshHandles.{length-fresh}
 use Rattle.ent_alloc.proofs.Meaning.{allocator_is, IsAtRest, at_rest, StandFor}
-use Rattle.ent_alloc.proofs.MeaningOfAlloc.{length_pool}
-use Rattle.ent_alloc.proofs.GivenMany.{front_no_row, front_is, many_given, ordered}
-use Rattle.ent_alloc.proofs.Asked.{front_within}
-use Rattle.ent_alloc.proofs.OneByOne.{one_by_one}
+use Rattle.ent_alloc.proofs.MeaningOfSteps.{length_pool}
+use Rattle.ent_alloc.proofs.OneByOne.{front_no_row, front_is, many_given, ordered, one_by_one}
+use Rattle.ent_alloc.proofs.OneReply.{front_within}
 use Rattle.ent_alloc.proofs.entities.Entities.alloc_many.Goals.{Else-needs_flush, Else-n-left, In_ok-bring_to_life}
 use Rattle.ent_alloc.proofs.entities.Entities.alloc_many.Goals as goal
 
@@ -39,12 +38,15 @@ returns-clause-handles c =
     let at = goal.at.returns-clause-handles c in
     let r = c.self.inside.slots in
     let n = c.args.n in
-    let news_is : c.fresh-fresh.result ≡ n - length r.pending = search (rules) in
-    let long = length-fresh r.made (n - length r.pending) in
-    ordered (fresh r.made (n - length r.pending)) (drop (length r.pending - n) r.pending) c.bring_to_life.new.out.items
-    c.in_order.new.handles c.fresh-fresh.result c.bring_to_life.new.out.len (search (rules, news_is)) (omega arith)
-    (search (rules)) (search (rules)) ∙ front_is r c.self.inside.requests c.args.self.now.allocator
-    (rest at.Else-needs_flush) n (enough at.Else-n-left (rest at.Else-needs_flush))
+    let front = front_is r c.self.inside.requests c.args.self.now.allocator (rest at.Else-needs_flush) n (enough
+    at.Else-n-left (rest at.Else-needs_flush)) in
+    search (
+      rules,
+      front,
+      length-fresh,
+      ordered (fresh r.made (n - length r.pending)) (drop (length r.pending - n) r.pending)
+          c.bring_to_life.new.out.items c.in_order.new.handles c.fresh-fresh.result c.bring_to_life.new.out.len,
+    )
 
 pub returns-clause-calls : goal.returns-clause-calls
 returns-clause-calls c = search (rules, rest, enough, given, one_by_one)

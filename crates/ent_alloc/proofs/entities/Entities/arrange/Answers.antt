@@ -1,4 +1,4 @@
-use Rattle.ent_alloc.proofs.Common.{rules, ◌≡◌, sym, ◌∙◌, slots_of, count_of, reach_of, front_of}
+use Rattle.ent_alloc.proofs.Common.{rules, ◌≡◌, ◌∙◌, slots_of, front_of}
 use Rattle.ent_alloc.proofs.Meaning.{allocator_is}
 use Rattle.ent_alloc.proofs.PortionPools.{front_slots, order_few, order_slots, order_is}
 use Rattle.ent_alloc.proofs.entities.Entities.arrange.Goals.{After-deref}
@@ -14,8 +14,6 @@ pub set_front-requires : goal.set_front-requires
 set_front-requires c = search (rules, order_few, order_slots, are_front)
 
 pub returns-clause-ok : goal.returns-clause-ok
-returns-clause-ok c =
-    let short = λ (all : count_of c.args.portions.now ≡ reach_of c.args.portions.now). c.if-count-reach.false
-    (c.requires.count ∙ all ∙ sym c.reach_of-reach.ensures) in
-    order_is _ _ c.requires.used c.requires.within _ (are_front (goal.at.returns-clause-ok c).After-deref) _ short
+returns-clause-ok c = order_is _ _ c.requires.used c.requires.within _
+    (are_front (goal.at.returns-clause-ok c).After-deref) _ (search (rules, c.if-count-reach.false))
     c.in_ok-set_front.ensures.ok

@@ -1,8 +1,8 @@
 use Rattle.ent_alloc.proofs.Common.{rules, Result, Ok, Err, OnErr, ◌-◌, length, ap, subst, ◌∙◌, length-take-le, after_flush, IsSound, Entities, HasRowsOfLiving}
 use Rattle.ent_alloc.proofs.Soundness.{after_flush-sound}
 use Rattle.ent_alloc.proofs.Meaning.{allocator_is, length-idle, closed, StandFor}
-use Rattle.ent_alloc.proofs.MeaningOfFlush.{flushed_roster, made_at_flush_is, flush_is}
-use Rattle.ent_alloc.proofs.RowsOfLiving.{rows-joined, born-no_row}
+use Rattle.ent_alloc.proofs.MeaningOfSteps.{flushed_roster, made_at_flush_is, flush_is}
+use Rattle.ent_alloc.proofs.Flushes.{rows-joined, born-no_row}
 use Rattle.ent_alloc.proofs.entities.Entities.flush.Goals.{After-none-self-inside}
 use Rattle.ent_alloc.proofs.entities.Entities.flush.Goals as goal
 
@@ -35,11 +35,10 @@ pub returns-clause-ok : goal.returns-clause-ok
 returns-clause-ok c = search (rules, left)
 
 pub returns-clause-no_rows : goal.returns-clause-no_rows
-returns-clause-no_rows c k d below =
+returns-clause-no_rows c =
     let view = c.self.view_is in
-    let inv = c.self.invariant in
-    let none = born-no_row c.args.self.now (subst HasRowsOfLiving view inv.rows)
-    (subst (λ (e : Entities). IsSound e.allocator) view inv.sound) k d below in
+    let none = born-no_row c.args.self.now (subst HasRowsOfLiving view c.self.invariant.rows)
+    (subst (λ (e : Entities). IsSound e.allocator) view c.self.invariant.sound) in
     search (rules, none, c.in_ok-bring_to_life.ensures.ok, view)
 
 pub returns-clause-rows_of_living : goal.returns-clause-rows_of_living

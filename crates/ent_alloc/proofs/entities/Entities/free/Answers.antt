@@ -1,8 +1,8 @@
-use Rattle.ent_alloc.proofs.Common.{arith, rules, ◌≡◌, ◌≢◌, true, inl, inr, common_steps, cases_eq, after_free, allocator_of, freed_roster, retired_roster}
+use Rattle.ent_alloc.proofs.Common.{arith, rules, ◌≡◌, ◌≢◌, true, common_steps, cases_eq, after_free, allocator_of, freed_roster, retired_roster}
 use Rattle.std.specs.FinSet as sets
 use Rattle.ent_alloc.proofs.Soundness.{after_free-sound}
 use Rattle.ent_alloc.proofs.Meaning.{allocator_is, at_rest, closed, StandFor}
-use Rattle.ent_alloc.proofs.RowsOfLiving.{rows-removed}
+use Rattle.ent_alloc.proofs.Flushes.{rows-removed}
 use Rattle.ent_alloc.proofs.entities.Entities.free.Goals.{In_ok-next}
 use Rattle.ent_alloc.proofs.entities.Entities.free.Goals as goal
 
@@ -25,18 +25,21 @@ lives c = grind (arith, common_steps)
 left : (c : In_ok-next) → StandFor c.free.new.self c.self.inside.requests
     (after_free c.args.self.now.allocator c.args.handle)
 left c =
-    let r = c.self.inside.slots in
-    let h = c.args.handle in
     let rest = at_rest _ _ _ _ c.self.invariant (allocator_is c.self.view_is) c.needs_flush.ensures
     c.if-needs_flush.false in
-    let sound = after_free-sound c.args.self.now.allocator h rest.sound rest.asked (lives c) in
-    let rows = rows-removed r.live h r.rows rest.rows in
-    elim (cases_eq h.generation r.limits.generations) [
-      | inl last ↦ closed _ (retired_roster r h) _ _ (c.in_ok-next.ensures.retired last) rest.requests_is
-          (retired_is c last) sound rows
-      | inr before ↦ closed _ (freed_roster r h) _ _ (c.in_ok-next.ensures.waits before) rest.requests_is
-          (freed_is c before) sound rows
-    ]
+    search (
+      rules,
+      cases_eq c.args.handle.generation c.self.inside.slots.limits.generations,
+      closed,
+      rest,
+      c.in_ok-next.ensures.retired,
+      c.in_ok-next.ensures.waits,
+      retired_is c,
+      freed_is c,
+      after_free-sound,
+      lives c,
+      rows-removed,
+    )
 
 pub invariant_of-self-2 : goal.invariant_of-self-2
 invariant_of-self-2 c = (left (goal.at.invariant_of-self-2 c).In_ok-next).reserved

@@ -1,7 +1,7 @@
 use Rattle.ent_alloc.proofs.Common.{rules, ◌≡◌, ◌+◌, subst, sym, arith, length, inl, inr, ℕ, ◌-◌, ints, cases_lt, Requests, Roster, Allocator, AreReserved, IsSpanOf, IsSound, pos, ◌^◌, ◌<◌, ◌≤◌, ◌-ℤ◌, cursor, after_take}
 use Rattle.ent_alloc.proofs.PoolLaw.{top-after_take}
 use Rattle.ent_alloc.proofs.Meaning.{allocator_is, length_available}
-use Rattle.ent_alloc.proofs.MeaningOfRequests.{served_view, served_reserved, refused_view, refused_reserved}
+use Rattle.ent_alloc.proofs.MeaningOfSteps.{served_view, served_reserved, refused_view, refused_reserved}
 use Rattle.ent_alloc.proofs.entities.Entities.lower.Goals.{After-available-available}
 use Rattle.ent_alloc.proofs.entities.Entities.lower.Goals as goal
 

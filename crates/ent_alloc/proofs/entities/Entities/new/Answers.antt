@@ -1,7 +1,7 @@
 use Rattle.ent_alloc.proofs.Common.{rules}
 use Rattle.ent_alloc.proofs.Soundness.{opening-sound}
 use Rattle.ent_alloc.proofs.Meaning.{opening_is}
-use Rattle.ent_alloc.proofs.RowsOfLiving.{no_rows}
+use Rattle.ent_alloc.proofs.Flushes.{no_rows}
 use Rattle.ent_alloc.proofs.entities.Entities.new.Goals as goal
 
 pub invariant_of-result : goal.invariant_of-result

@@ -1,8 +1,7 @@
-use Rattle.ent_alloc.proofs.Common.{rules, ◌≡◌, ◌+◌, ◌-◌, ◌*◌, length, sym, ap, ◌∙◌, subst, arith, inl, inr, refl, length-append, false≢true, Limits, Entities, header, image, HasImage, slots_bytes, roster, AreServed, Header, first_fault, first_failing, slots_tests}
+use Rattle.ent_alloc.proofs.Common.{rules, ◌≡◌, ◌+◌, ◌-◌, ◌*◌, length, ◌∙◌, subst, arith, false≢true, Entities, header, image, HasImage, slots_bytes, roster, AreServed, Header, first_fault, first_failing, slots_tests}
 use Rattle.ent_alloc.proofs.ImageSound.{roster_slots}
 use Rattle.ent_alloc.proofs.ImageOf.{told, served, few_wait, length-slots_bytes, reserved_are, has_image, image_is, numbers, top_as, handed_on}
-use Rattle.ent_alloc.proofs.ImageHeader.{length-header_bytes}
-use Rattle.ent_alloc.proofs.ImageFront.{to_numbers, later_tests, limits_fault, header_passes, no_header_fault, counts_fault, requests_fault, whole_length_fault, to_slots}
+use Rattle.ent_alloc.proofs.ImageFront.{limits_fault, no_header_fault, counts_fault, requests_fault, whole_length_fault, to_slots, long_is}
 use Rattle.ent_alloc.proofs.entities.Entities.of_image.Goals.{In_ok-header, In-Some-requests_of, In_ok-slots}
 use Rattle.ent_alloc.proofs.entities.Entities.of_image.Goals as goal
 
@@ -10,9 +9,6 @@ use Rattle.ent_alloc.proofs.entities.Entities.of_image.Goals as goal
 told_of : (c : In_ok-header) (e : Entities) → HasImage e → image e ≡ c.args.bytes.now
     → (header e ≡ c.in_ok-header.header) × (slots_bytes (roster e) ≡ c.in_ok-header.slots.now)
 told_of c e has same = search (rules, told)
-
-abbrev limits_in : Header → Limits
-limits_in h = record { slots = h.slots; generations = h.generations }
 
 pub returns-in_default-clause-refused : goal.returns-in_default-clause-refused
 returns-in_default-clause-refused c not_memory e has same = search (rules, told, told_of, false≢true)
@@ -47,52 +43,27 @@ invariant_of-result c = search (rules, reserved_are, are_served)
 
 -- ---- the first fault
 
--- the tests that are left after those of the letters, the length and the version
-to_later : (c : In_ok-header) → first_fault c.args.bytes.now ≡ first_failing (later_tests c.in_ok-header.header
-    (length c.args.bytes.now) c.in_ok-header.slots.now)
-to_later c = search (rules, to_numbers)
-
--- where the requests may have been made: the length, and what is left if it is that of the slots
-long_is : (c : In-Some-requests_of) → length c.args.bytes.now ≡ 40 + length c.in_ok-header.slots.now
-long_is c = search (rules, length-append, length-header_bytes)
-
+-- where the requests may have been made, what is left if the length is that of the slots
 to_slots_of : (c : In-Some-requests_of) → length c.in_ok-header.slots.now ≡ 12 * c.in_ok-header.header.made
     → first_fault c.args.bytes.now ≡ first_failing (slots_tests c.in-Some.limits.generations c.in_ok-header.header.made
     c.in_ok-header.header.waiting c.in_ok-header.slots.now)
-to_slots_of c whole =
-    let h = c.in_ok-header.header in
-    let slots = c.in_ok-header.slots.now in
-    let limits : c.in-Some.limits ≡ limits_in h = c.in-Some.ensures.value in
-    let header = c.in_ok-header.ensures in
-    to_numbers _ _ _ header.fits header.found header.faultless ∙ to_slots _ _ slots (c.in-Some.ensures.in_range.0 refl)
-    (omega arith) (omega arith) c.in-Some-requests_of.ensures.some (omega (arith, long_is c))
-    ∙ ap (λ (l : Limits). first_failing (slots_tests l.generations h.made h.waiting slots)) (sym limits)
+to_slots_of c whole = search (rules, to_slots c.args.bytes.now c.in_ok-header.header c.in_ok-header.slots.now)
 
 pub returns-in_default-clause-fault : goal.returns-in_default-clause-fault
-returns-in_default-clause-fault c not_memory = to_later (goal.at.returns-in_default-clause-fault c).In_ok-header
-    ∙ limits_fault c.in_ok-header.header (length c.args.bytes.now) c.in_ok-header.slots.now
-    c.in_ok-header.ensures.fits.slots (λ are. false≢true (c.in_default.ensures.in_range.1 are))
+returns-in_default-clause-fault c not_memory = search
+    (rules, limits_fault c.args.bytes.now c.in_ok-header.header c.in_ok-header.slots.now, false≢true)
 
 pub returns-then-header-clause-fault : goal.returns-then-header-clause-fault
-returns-then-header-clause-fault c not_memory = to_later (goal.at.returns-then-header-clause-fault c).In_ok-header
-    ∙ counts_fault c.in_ok-header.header (length c.args.bytes.now) c.in_ok-header.slots.now
-    (c.in-Some.ensures.in_range.0 refl) (elim c.then-header.either [
-      | inl more ↦ inl (omega arith)
-      | inr wait ↦ inr
-          (omega (arith, wait.1))
-    ])
+returns-then-header-clause-fault c not_memory = search
+    (rules, arith, counts_fault c.args.bytes.now c.in_ok-header.header c.in_ok-header.slots.now)
 
 pub returns-in_default-requests_of-clause-fault : goal.returns-in_default-requests_of-clause-fault
-returns-in_default-requests_of-clause-fault c not_memory = to_later (goal.at.returns-in_default-requests_of-clause-fault
-    c).In_ok-header ∙ requests_fault c.in_ok-header.header (length c.args.bytes.now) c.in_ok-header.slots.now
-    (c.in-Some.ensures.in_range.0 refl) (omega arith) (omega arith) c.in_default-requests_of.ensures.none
+returns-in_default-requests_of-clause-fault c not_memory = search
+    (rules, requests_fault c.args.bytes.now c.in_ok-header.header c.in_ok-header.slots.now)
 
 pub returns-then-slots-header-clause-fault : goal.returns-then-slots-header-clause-fault
-returns-then-slots-header-clause-fault c not_memory =
-    let at = goal.at.returns-then-slots-header-clause-fault c in
-    to_later at.In_ok-header ∙ whole_length_fault c.in_ok-header.header (length c.args.bytes.now)
-    c.in_ok-header.slots.now (c.in-Some.ensures.in_range.0 refl) (omega arith) (omega arith)
-    c.in-Some-requests_of.ensures.some (λ same. c.if-slots-header.true (omega (arith, long_is at.In-Some-requests_of)))
+returns-then-slots-header-clause-fault c not_memory = search
+    (rules, whole_length_fault c.args.bytes.now c.in_ok-header.header c.in_ok-header.slots.now)
 
 -- and those of the slots
 pub returns-in_err-slots-clause-fault : goal.returns-in_err-slots-clause-fault
@@ -110,16 +81,12 @@ returns c =
 -- ---- memory
 
 pub returns-in_err-slots-clause-memory : goal.returns-in_err-slots-clause-memory
-returns-in_err-slots-clause-memory c =
-    let header = c.in_ok-header.ensures in
-    let long = long_is (goal.at.returns-in_err-slots-clause-memory c).In-Some-requests_of in
-    handed_on c.from_residual-in_err-slots.result c.in_err-slots.field-0.0 _ c.from_residual-in_err-slots.ensures.1
-    (λ _. no_header_fault _ _ _ header.fits header.found header.faultless (header_passes c.in_ok-header.header
-    (length c.args.bytes.now) c.in_ok-header.slots.now (c.in-Some.ensures.in_range.0 refl) (omega arith) (omega arith)
-    c.in-Some-requests_of.ensures.some (omega (arith, long, c.if-slots-header.false))))
+returns-in_err-slots-clause-memory c = search
+    (rules, handed_on, no_header_fault c.args.bytes.now c.in_ok-header.header c.in_ok-header.slots.now)
 
 pub returns-in_err-slots-clause-slots : goal.returns-in_err-slots-clause-slots
 returns-in_err-slots-clause-slots c =
-    let long = long_is (goal.at.returns-in_err-slots-clause-slots c).In-Some-requests_of in
+    let header = c.in_ok-header.ensures in
+    let long = long_is _ _ _ header.fits header.found header.faultless in
     handed_on c.from_residual-in_err-slots.result c.in_err-slots.field-0.0 _ c.from_residual-in_err-slots.ensures.1
     (λ is. omega (arith, c.in_err-slots.ensures.memory is, long, c.if-slots-header.false))

@@ -3,7 +3,7 @@ use Rattle.ent_alloc.proofs.Looked.{fresh_no}
 use Rattle.ent_alloc.proofs.Meaning.{allocator_is, available_is, length-idle}
 use Rattle.ent_alloc.proofs.FreshHandles.{length-fresh, get_or-fresh}
 use Rattle.ent_alloc.proofs.HandleSets.{Contains-from_stands_in}
-use Rattle.ent_alloc.proofs.Reversed.{list_any-reverse}
+use Rattle.ent_alloc.proofs.ListLaws.{list_any-reverse}
 use Rattle.ent_alloc.proofs.entities.Entities.place.Goals.{In-Some-Pending}
 use Rattle.ent_alloc.proofs.entities.Entities.place.Goals as goal
 
@@ -35,7 +35,8 @@ waiting_place r h n within is =
 -- a fresh one stands after all that wait
 fresh_place : (r : Roster) (h : Handle) → stands_in (fresh r.made (r.limits.slots - r.made)) h ≡ true
     → (r.made ≤ h.index) × (slice_get (idle r) (length r.pending + (h.index - r.made)) ≡ Some h)
-fresh_place r h stands = search (rules, Contains-from_stands_in, length-fresh, get_or-fresh, length-reverse, length-idle, slice_get-get_or, get_or-append-add)
+fresh_place r h stands = search
+    (rules, Contains-from_stands_in, length-fresh, get_or-fresh, length-reverse, length-idle, slice_get-get_or, get_or-append-add)
 
 -- it neither waits nor is it fresh
 nowhere : (r : Roster) (asked given : ℕ) (s : Allocator) (h : Handle) → AreReserved r asked given

@@ -25,7 +25,10 @@ returns-then-index-from c =
 pub returns-else-index-from : goal.returns-else-index-from
 returns-else-index-from c =
     let at = lies (goal.at.returns-else-index-from c).After-self in
-    let slots = slots_is (goal.at.returns-else-index-from c).After-slots in
-    one_refused _ _ _ _ _ c.self.invariant (allocator_is c.self.view_is) (c.from.result + nat_abs
-    (to_z w64 (of_z w64 (pos 0 -ℤ to_z w64 (of_z w64 c.args.high))))) at.within (omega (arith, ints)) (omega arith)
-    (omega arith)
+    search (
+      rules,
+      ints,
+      slots_is,
+      one_refused _ _ _ _ _ c.self.invariant (allocator_is c.self.view_is)
+          (c.from.result + nat_abs (to_z w64 (of_z w64 (pos 0 -ℤ to_z w64 (of_z w64 c.args.high))))) at.within,
+    )

@@ -1,5 +1,5 @@
 use Rattle.ent_alloc.proofs.Common.{rules, ◌≡◌, listed_alone, reply_to}
-use Rattle.ent_alloc.proofs.Asked.{told_one, of_front, of_refused, none_left, space_is}
+use Rattle.ent_alloc.proofs.OneReply.{told_one, of_front, of_refused, none_left, space_is}
 use Rattle.ent_alloc.proofs.entities.Entities.request_any.Goals.{After-reply_one}
 use Rattle.ent_alloc.proofs.entities.Entities.request_any.Goals as goal
 

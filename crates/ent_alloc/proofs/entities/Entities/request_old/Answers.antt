@@ -1,8 +1,7 @@
-use Rattle.ent_alloc.proofs.Common.{rules, ◌≡◌, ◌+◌, ◌-◌, ◌<◌, ◌^◌, subst, sym, ap, refl, arith, length, Ok, ints, Allocator, after_take, cursor, top, IsSound}
-use Rattle.ent_alloc.proofs.Asked.{told_one}
+use Rattle.ent_alloc.proofs.Common.{rules, ◌≡◌, ◌+◌, ◌-◌, ◌<◌, subst, sym, ap, refl, arith, length, Ok, ints, Allocator, after_take, cursor, top, IsSound}
+use Rattle.ent_alloc.proofs.OneReply.{told_one, one_pending}
 use Rattle.ent_alloc.proofs.Meaning.{allocator_is, top_view, StandFor}
-use Rattle.ent_alloc.proofs.MeaningOfRequests.{served_view, served_reserved}
-use Rattle.ent_alloc.proofs.OneReply.{one_pending}
+use Rattle.ent_alloc.proofs.MeaningOfSteps.{served_view, served_reserved}
 use Rattle.ent_alloc.proofs.entities.Entities.request_old.Goals.{In_ok-handle}
 use Rattle.ent_alloc.proofs.entities.Entities.request_old.Goals as goal
 
@@ -11,13 +10,16 @@ asks : (c : In_ok-handle) → StandFor c.self.inside.slots
     (record { asked = c.self.inside.requests.asked + 1; served = c.self.inside.requests.asked + 1 })
     (after_take c.args.self.now.allocator 1)
 asks c =
-    let below : c.self.inside.requests.asked < length c.self.inside.slots.pending = c.in_ok-handle.ensures.enough in
-    let few : length c.self.inside.slots.pending < 2 ^ 32 = c.in_ok-handle.ensures.few in
+    let ensures = c.in_ok-handle.ensures in
     let view = allocator_is c.self.view_is in
-    record {
-      view = served_view _ _ _ 1 _ c.self.invariant view (omega arith);
-      reserved = served_reserved _ _ _ 1 _ c.self.invariant view (omega arith) (omega arith);
-    }
+    search (
+      rules,
+      arith,
+      ensures.enough,
+      ensures.few,
+      served_view _ _ _ 1 _ c.self.invariant view,
+      served_reserved _ _ _ 1 _ c.self.invariant view,
+    )
 
 pub invariant_of-self : goal.invariant_of-self
 invariant_of-self c = search (rules, asks)

@@ -1,7 +1,7 @@
 use Rattle.ent_alloc.proofs.Common.{arith, rules, ◌≡◌, ℕ, true, common_steps, Handle, Roster, AreReserved}
 use Rattle.std.specs.FinSet as sets
 use Rattle.std.specs.FinMap as maps
-use Rattle.ent_alloc.proofs.RowsOfLiving.{rows-inserted}
+use Rattle.ent_alloc.proofs.Flushes.{rows-inserted}
 use Rattle.ent_alloc.proofs.entities.Entities.set_row.Goals.{After-set_row}
 use Rattle.ent_alloc.proofs.entities.Entities.set_row.Goals as goal
 

@@ -1,7 +1,7 @@
 use Rattle.ent_alloc.proofs.Common.{rules, ◌≡◌, ◌-◌, ℕ, ℤ, length, ap, subst, ◌∙◌, arith, common_steps, ints, top, asked_at, Allocator, IsSound}
 use Rattle.ent_alloc.proofs.Settled.{length-all, settled-requests}
 use Rattle.ent_alloc.proofs.Meaning.{allocator_is, asked_at-is, top_view}
-use Rattle.ent_alloc.proofs.MeaningOfRequests.{settled_view, settled_reserved}
+use Rattle.ent_alloc.proofs.MeaningOfSteps.{settled_view, settled_reserved}
 use Rattle.ent_alloc.proofs.entities.Entities.settle.Goals.{After-distance-2}
 use Rattle.ent_alloc.proofs.entities.Entities.settle.Goals as goal
 

@@ -2,7 +2,7 @@ use Rattle.ent_alloc.proofs.Common.{rules, ◌≡◌, ℕ, ◌-◌, ◌||◌, Bo
 use Rattle.std.specs.FinSet as sets
 use Rattle.ent_alloc.proofs.Looked.{fresh_no}
 use Rattle.ent_alloc.proofs.Meaning.{allocator_is}
-use Rattle.ent_alloc.proofs.MeaningOfFlush.{stands_in_taken}
+use Rattle.ent_alloc.proofs.MeaningOfSteps.{stands_in_taken}
 use Rattle.ent_alloc.proofs.entities.Entities.state.Goals as goal
 use Rattle.ent_alloc.proofs.entities.Entities.state.Goals.{Joined-occupancy_of}
 

@@ -1,4 +1,4 @@
-use Rattle.ent_alloc.proofs.Common.{rules, ◌≡◌, ℕ, ◌+◌, ◌-◌, ◌≤◌, List, ◌++◌, length, map, take, drop, replicate, ap, ◌∙◌, arith, common_steps, append_assoc, with_items_is, take_rest, drop-map, SlotRecord, fresh, Roster, roster_of, handle_at, new_record, reused, AreLinked}
+use Rattle.ent_alloc.proofs.Common.{rules, ◌≡◌, ℕ, ◌+◌, ◌-◌, ◌≤◌, List, ◌++◌, length, map, take, drop, replicate, arith, common_steps, append_assoc, with_items_is, take_rest, drop-map, SlotRecord, fresh, roster_of, handle_at, new_record, reused, AreLinked}
 use Rattle.std.specs.FinSet as sets
 use Rattle.ent_alloc.proofs.Linked.{make_keeps_links, roster_of-make, reuse_keeps_links, roster_of-reuse}
 use Rattle.ent_alloc.proofs.slots.Slots.bring_to_life.Goals.{After-reuse_all}
@@ -40,25 +40,39 @@ pub invariant_of-self-2 : goal.invariant_of-self-2
 invariant_of-self-2 c =
     let at = (goal.at.invariant_of-self-2 c).After-reuse_all in
     let all = all_written at in
-    let long = with_items_is c.make_all.new.records c.reuse_all.new.records all.long in
-    let keeps = reuse_keeps_links _ _ _ _ c.args.kept (linked at) all.within in
-    search (rules, long, all.written_is, c.truncate.ensures.items, keeps)
+    search (
+      rules,
+      with_items_is c.make_all.new.records c.reuse_all.new.records all.long,
+      all.written_is,
+      c.truncate.ensures.items,
+      reuse_keeps_links _ _ _ _ c.args.kept (linked at) all.within,
+    )
 
 pub returns-clause-ok : goal.returns-clause-ok
 returns-clause-ok c =
     let at = (goal.at.returns-clause-ok c).After-reuse_all in
     let all = all_written at in
-    let long = with_items_is c.make_all.new.records c.reuse_all.new.records all.long in
-    rw (long, all.written_is, c.truncate.ensures.items) (roster_of-reuse _ _ _ _ c.args.kept (linked at) all.within
-    ∙ search (rules, grown_roster))
+    search (
+      rules,
+      with_items_is c.make_all.new.records c.reuse_all.new.records all.long,
+      all.written_is,
+      c.truncate.ensures.items,
+      roster_of-reuse _ _ _ _ c.args.kept (linked at) all.within,
+      grown_roster at,
+    )
 
 pub returns-clause-born : goal.returns-clause-born
 returns-clause-born c =
-    let kept = c.args.kept in
     let at = (goal.at.returns-clause-born c).After-reuse_all in
-    let first : c.reserve.new.self.len ≡ c.args.self.now.made = search (rules, c.self.view_is) in
-    let roster = ap (λ (r : Roster). drop kept r.pending) (grown_roster at) in
-    let old : map (handle_at c.deref_mut.result.now) (take (length c.deref.result.now - kept)
-    (drop kept c.deref.result.now)) ≡ drop kept c.args.self.now.pending = search
-    (rules, waited, (all_written at).grown_is, c.deref_mut.ensures.value, c.deref.ensures.value) in
-    search (rules, old, c.reuse_all.ensures.listed, c.in_ok-reserve-2.ensures.items, append_assoc)
+    search (
+      rules,
+      grown_roster at,
+      waited,
+      all_written at,
+      c.deref_mut.ensures.value,
+      c.deref.ensures.value,
+      c.self.view_is,
+      c.reuse_all.ensures.listed,
+      c.in_ok-reserve-2.ensures.items,
+      append_assoc,
+    )

@@ -1,8 +1,7 @@
-use Rattle.ent_alloc.proofs.Common.{rules, ◌≡◌, ◌≢◌, ◌≤◌, true, length, arith, false≢true}
+use Rattle.ent_alloc.proofs.Common.{rules, ◌≡◌, ◌≢◌, ◌≤◌, true, arith, false≢true}
 use Rattle.std.specs.FinSet as sets
-use Rattle.ent_alloc.proofs.Occupants.{is_occupant, contains_occupants}
-use Rattle.ent_alloc.proofs.LivingOccupant.{occupant_generation}
-use Rattle.ent_alloc.proofs.Released.{one_lives, release_keeps_links, roster_of-release, retire_keeps_links, roster_of-retire}
+use Rattle.ent_alloc.proofs.Occupants.{is_occupant, contains_occupants, occupant_generation}
+use Rattle.ent_alloc.proofs.Looked.{one_lives, release_keeps_links, roster_of-release, retire_keeps_links, roster_of-retire}
 use Rattle.ent_alloc.proofs.slots.Slots.leave.Goals.{Else-not-is_occupied_by, After-is_occupied_by, Else-generation-generations}
 use Rattle.ent_alloc.proofs.slots.Slots.leave.Goals as goal
 
@@ -36,14 +35,17 @@ overflow_sub-self-2 c = search (rules, some_live)
 pub invariant_of-self-then-generation-generations : goal.invariant_of-self-then-generation-generations
 invariant_of-self-then-generation-generations c =
     let lives = lives (goal.at.invariant_of-self-then-generation-generations c).Else-not-is_occupied_by in
-    let same = occupant_generation c.self.inside.records.items c.args.handle lives in
-    search (rules, same, retire_keeps_links _ _ _ _ _ c.self.invariant lives)
+    search (rules, occupant_generation c.self.inside.records.items c.args.handle lives, retire_keeps_links _ _ _ _ _ c.self.invariant lives)
 
 pub returns-then-generation-generations-clause-retired : goal.returns-then-generation-generations-clause-retired
 returns-then-generation-generations-clause-retired c last =
     let lives = lives (goal.at.returns-then-generation-generations-clause-retired c).Else-not-is_occupied_by in
-    let same = occupant_generation c.self.inside.records.items c.args.handle lives in
-    search (rules, same, roster_of-retire _ _ _ _ _ c.self.invariant lives, c.self.view_is)
+    search (
+      rules,
+      occupant_generation c.self.inside.records.items c.args.handle lives,
+      roster_of-retire _ _ _ _ _ c.self.invariant lives,
+      c.self.view_is,
+    )
 
 pub returns-then-generation-generations-clause-lived : goal.returns-then-generation-generations-clause-lived
 returns-then-generation-generations-clause-lived c = search (rules, living, lives)
@@ -55,20 +57,17 @@ pub returns-then-is_err-clause-not_alive : goal.returns-then-is_err-clause-not_a
 returns-then-is_err-clause-not_alive c = search (rules, living, lives, false≢true)
 
 pub pending-requires-clause-few : goal.pending-requires-clause-few
-pending-requires-clause-few c =
-    let some = some_live (goal.at.pending-requires-clause-few c).Else-not-is_occupied_by in omega arith
+pending-requires-clause-few c = search (rules, arith, some_live)
 
 pub invariant_of-self-2 : goal.invariant_of-self-2
 invariant_of-self-2 c =
     let at = goal.at.invariant_of-self-2 c in
-    let position_is : c.len-position.result ≡ length c.self.inside.pending.items = omega arith in
     let keeps = release_keeps_links _ _ _ _ _ c.self.invariant (lives at.Else-not-is_occupied_by)
     (not_last at.Else-generation-generations) in
     search (rules, keeps, c.push.ensures.items)
 
 pub returns-clause-waits : goal.returns-clause-waits
 returns-clause-waits c before =
-    let position_is : c.len-position.result ≡ length c.self.inside.pending.items = omega arith in
     let whole = roster_of-release _ _ _ _ _ c.self.invariant
     (lives (goal.at.returns-clause-waits c).Else-not-is_occupied_by) in
     search (rules, whole, c.self.view_is, c.index-index.ensures, c.push.ensures.items)

@@ -1,4 +1,4 @@
-use Rattle.ent_alloc.proofs.Common.{rules, ◌-◌, ap, arith, Roster}
+use Rattle.ent_alloc.proofs.Common.{rules, ◌-◌, arith}
 use Rattle.ent_alloc.proofs.FreshHandles.{fresh-next, fresh-none}
 use Rattle.ent_alloc.proofs.Linked.{make_keeps_links, roster_of-make}
 use Rattle.ent_alloc.proofs.slots.Slots.make_one.Goals as goal
@@ -7,8 +7,13 @@ pub invariant_of-self-2 : goal.invariant_of-self-2
 invariant_of-self-2 c = search (rules, make_keeps_links _ _ _ _ 1 c.self.invariant)
 
 pub returns-clause-ok : goal.returns-clause-ok
-returns-clause-ok c =
-    let room = ap (λ (r : Roster). r.limits.slots - r.made) c.self.view_is in
-    let whole = roster_of-make _ _ _ _ 1 c.self.invariant (omega arith) in
-    let one = fresh-next c.args.self.now.made 0 in
-    search (rules, whole, c.new.ensures, c.self.view_is, c.made.ensures.value, fresh-none, one)
+returns-clause-ok c = search (
+  rules,
+  arith,
+  roster_of-make _ _ _ _ 1 c.self.invariant,
+  c.new.ensures,
+  c.self.view_is,
+  c.made.ensures.value,
+  fresh-none,
+  fresh-next c.args.self.now.made 0,
+)

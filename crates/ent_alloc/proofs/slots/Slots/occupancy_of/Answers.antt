@@ -1,7 +1,6 @@
 use Rattle.ent_alloc.proofs.Common.{arith, rules, ◌≡◌, common_steps, occupancy_of}
-use Rattle.ent_alloc.proofs.Occupants.{contains_occupants}
+use Rattle.ent_alloc.proofs.Occupants.{contains_occupants, get_rows}
 use Rattle.ent_alloc.proofs.Looked.{is_occupant-occupancy, row_at-occupancy, waits_at-occupancy, stands_in-pending}
-use Rattle.ent_alloc.proofs.KeptRows.{get_rows}
 use Rattle.ent_alloc.proofs.slots.Slots.occupancy_of.Goals as goal
 
 pub returns : goal.returns

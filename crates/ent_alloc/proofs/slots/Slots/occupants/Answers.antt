@@ -1,6 +1,5 @@
 use Rattle.ent_alloc.proofs.Common.{rules}
-use Rattle.ent_alloc.proofs.Occupants.{len_occupants}
-use Rattle.ent_alloc.proofs.InOrder.{rising_occupants}
+use Rattle.ent_alloc.proofs.Occupants.{len_occupants, rising_occupants}
 use Rattle.ent_alloc.proofs.slots.Slots.occupants.Goals as goal
 
 pub returns : goal.returns

@@ -1,6 +1,5 @@
 use Rattle.ent_alloc.proofs.Common.{rules}
-use Rattle.ent_alloc.proofs.ImageLinked.{AreTied, are_slots, slots_bytes_are}
-use Rattle.ent_alloc.proofs.ImageRead.{read_all}
+use Rattle.ent_alloc.proofs.ImageLinked.{AreTied, are_slots, slots_bytes_are, read_all}
 use Rattle.ent_alloc.proofs.ImageSound.{linked}
 use Rattle.ent_alloc.proofs.slots.Slots.read_image.Goals.{In_ok-records}
 use Rattle.ent_alloc.proofs.slots.Slots.read_image.Goals as goal

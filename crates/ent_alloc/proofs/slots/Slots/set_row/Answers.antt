@@ -1,7 +1,6 @@
 use Rattle.ent_alloc.proofs.Common.{rules, ◌≡◌, true, arith}
-use Rattle.ent_alloc.proofs.Occupants.{is_occupant}
+use Rattle.ent_alloc.proofs.Occupants.{is_occupant, occupant_made, occupant_generation, lives_in}
 use Rattle.ent_alloc.proofs.Looked.{set_row_keeps_links, roster_of-set_row}
-use Rattle.ent_alloc.proofs.LivingOccupant.{occupant_made, occupant_generation, lives_in}
 use Rattle.ent_alloc.proofs.slots.Slots.set_row.Goals.{After-self}
 use Rattle.ent_alloc.proofs.slots.Slots.set_row.Goals as goal
 
@@ -16,11 +15,18 @@ index_mut-requires c = omega
 pub invariant_of-self : goal.invariant_of-self
 invariant_of-self c =
     let lives = lives (goal.at.invariant_of-self c).After-self in
-    let same = occupant_generation c.self.inside.records.items c.args.handle lives in
-    search (rules, same, set_row_keeps_links _ _ _ _ _ c.args.row c.self.invariant lives)
+    search (
+      rules,
+      occupant_generation c.self.inside.records.items c.args.handle lives,
+      set_row_keeps_links _ _ _ _ _ c.args.row c.self.invariant lives,
+    )
 
 pub returns : goal.returns
 returns c =
     let lives = lives (goal.at.returns c).After-self in
-    let same = occupant_generation c.self.inside.records.items c.args.handle lives in
-    search (rules, same, roster_of-set_row _ _ _ _ _ c.args.row c.self.invariant lives, c.self.view_is)
+    search (
+      rules,
+      occupant_generation c.self.inside.records.items c.args.handle lives,
+      roster_of-set_row _ _ _ _ _ c.args.row c.self.invariant lives,
+      c.self.view_is,
+    )

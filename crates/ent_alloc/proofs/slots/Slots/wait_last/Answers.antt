@@ -24,15 +24,23 @@ written c = search (rules, length-moved, length-placed)
 pub invariant_of-self : goal.invariant_of-self
 invariant_of-self c =
     let all = written (goal.at.invariant_of-self c).After-wait_last in
-    let records = with_items_is c.self.inside.records c.wait_last.new.records all.made_are in
-    let pending = with_items_is c.self.inside.pending c.wait_last.new.pending all.waiting_are in
-    rw (records, pending, all.records_are, all.pending_are)
-    (links_in _ _ _ _ _ c.args.self.now c.self.invariant c.self.view_is c.requires.few c.requires.same)
+    search (
+      rules,
+      with_items_is c.self.inside.records c.wait_last.new.records all.made_are,
+      with_items_is c.self.inside.pending c.wait_last.new.pending all.waiting_are,
+      all.records_are,
+      all.pending_are,
+      links_in _ _ _ _ _ c.args.self.now c.self.invariant c.self.view_is c.requires.few c.requires.same,
+    )
 
 pub returns : goal.returns
 returns c slots =
     let all = written (goal.at.returns c).After-wait_last in
-    let records = with_items_is c.self.inside.records c.wait_last.new.records all.made_are in
-    let pending = with_items_is c.self.inside.pending c.wait_last.new.pending all.waiting_are in
-    rw (records, pending, all.records_are, all.pending_are)
-    (roster_in _ _ _ _ _ c.args.self.now c.self.invariant c.self.view_is c.requires.few slots)
+    search (
+      rules,
+      with_items_is c.self.inside.records c.wait_last.new.records all.made_are,
+      with_items_is c.self.inside.pending c.wait_last.new.pending all.waiting_are,
+      all.records_are,
+      all.pending_are,
+      roster_in _ _ _ _ _ c.args.self.now c.self.invariant c.self.view_is c.requires.few slots,
+    )

@@ -1,6 +1,6 @@
 use Rattle.ent_alloc.proofs.Common.{rules, subst, Roster, AreSlots}
 use Rattle.std.specs.FinMap as maps
-use Rattle.ent_alloc.proofs.ImageRowless.{rowless_slots, rowless_bytes_are}
+use Rattle.ent_alloc.proofs.ImageLinked.{rowless_slots, rowless_bytes_are}
 use Rattle.ent_alloc.proofs.slots.Slots.write_image_without_rows.Goals as goal
 
 pub returns : goal.returns

@@ -1,19 +1,14 @@
-use Rattle.ent_block_runner.proofs.Common.{◌≡◌, subst, OnErr, Filling, Extends}
 use Rattle.ent_block_runner.proofs.Drawn.{extends_spawn, refused_still, same_err}
 use Rattle.ent_block_runner.proofs.commands.BlockCommands.spawn.Goals as goal
 
 pub returns-clause-extends : goal.returns-clause-extends
 returns-clause-extends g c =
     let s = c.spawn.ensures in
-    let after : Filling g.row.C.Denot = record { source = c.spawn.new.source; log = c.spawn.new.self } in
-    subst (λ (before : Filling g.row.C.Denot). Extends before after) c.self.view_is
-    (extends_spawn (record { source = c.self.inside.source; log = c.self.inside.log }) after c.spawn.result s.ok s.err
-    s.replies (refused_still c.self.inside.source c.spawn.new.source c.spawn.result s.replies s.memory))
+    rw (← c.self.view_is) (extends_spawn _ _ c.spawn.result s.ok s.err s.replies
+    (refused_still c.self.inside.source c.spawn.new.source c.spawn.result s.replies s.memory))
 
 pub returns-clause-err : goal.returns-clause-err
 returns-clause-err g c =
     let s = c.spawn.ensures in
-    let after : Filling g.row.C.Denot = record { source = c.spawn.new.source; log = c.spawn.new.self } in
-    subst (λ (before : Filling g.row.C.Denot). OnErr c.spawn.result (after ≡ before)) c.self.view_is
-    (same_err (record { source = c.self.inside.source; log = c.self.inside.log }) after c.spawn.result s.err
+    rw (← c.self.view_is) (same_err _ _ c.spawn.result s.err
     (refused_still c.self.inside.source c.spawn.new.source c.spawn.result s.replies s.memory))

@@ -1,7 +1,6 @@
 use Rattle.ent_blocks.proofs.Common.{rules, blocks_of}
-use Rattle.ent_blocks.proofs.Accounts.{unused_accounted}
+use Rattle.ent_blocks.proofs.Accounts.{closing, unused_accounted}
 use Rattle.ent_blocks.proofs.Dealing.{dealt-unused}
-use Rattle.ent_blocks.proofs.Phases.{closing}
 use Rattle.ent_blocks.proofs.Waiting.{waiting}
 use Rattle.ent_blocks.proofs.Given.{used-distinct, used-not_live, used-live}
 use Rattle.ent_blocks.proofs.blocks.Blocks.end_with.Goals as goal

@@ -1,5 +1,5 @@
 use Rattle.ent_blocks.proofs.Common.{rules, arith}
-use Rattle.ent_blocks.proofs.Phases.{lies_in}
+use Rattle.ent_blocks.proofs.Dealing.{lies_in}
 use Rattle.ent_blocks.proofs.blocks.Blocks.reserve_into.Goals as goal
 
 pub take_many-given-requires : goal.take_many-given-requires

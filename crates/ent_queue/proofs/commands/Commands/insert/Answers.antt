@@ -1,5 +1,5 @@
 use Rattle.ent_queue.proofs.Common.{refl, Insert, queue_of, reserver_of}
-use Rattle.ent_queue.proofs.Issuing.{extends_added, added_none}
+use Rattle.ent_queue.proofs.Gaining.{extends_added, added_none}
 use Rattle.ent_queue.proofs.commands.Commands.insert.Goals as goal
 
 pub returns-clause-extends : goal.returns-clause-extends

@@ -1,5 +1,5 @@
 use Rattle.ent_queue.proofs.Common.{refl, queue_of, reserver_of, shared_of}
-use Rattle.ent_queue.proofs.Issuing.{extends_added, added_spawn}
+use Rattle.ent_queue.proofs.Gaining.{extends_added, added_spawn}
 use Rattle.ent_queue.proofs.commands.Commands.spawn.Goals as goal
 
 pub returns-clause-extends : goal.returns-clause-extends

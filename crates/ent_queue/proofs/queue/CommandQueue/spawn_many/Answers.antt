@@ -1,5 +1,5 @@
 use Rattle.ent_queue.proofs.Common.{rules, ◌++◌, ap, sym, subst, ◌∙◌, length, ◌<◌, ◌^◌, SpawnMany, Refused, command_bytes, bundle_bytes}
-use Rattle.ent_queue.proofs.Pushes.{Pushed, pushed, many_written}
+use Rattle.ent_queue.proofs.Queues.{Pushed, pushed, many_written}
 use Rattle.ent_queue.proofs.Gaining.{is_refusal, refused_by_fault}
 use Rattle.ent_queue.proofs.queue.CommandQueue.spawn_many.Goals.{After-write_bundle, After-write_refused}
 use Rattle.ent_queue.proofs.queue.CommandQueue.spawn_many.Given as given

@@ -1,14 +1,14 @@
 use Rattle.ent_replay.proofs.Common.{rules, ◌≡◌, refl, sym, ap, ◌∙◌, Ok, arith, common_steps, ints, reply_from, pool_at, on_answer, reported, machine_state, Outcome}
 use Rattle.std.specs.FinMap as finite
-use Rattle.ent_replay.proofs.MachineAnswers.{done, refused}
-use Rattle.ent_replay.proofs.MachineEvents.{answer-answered, answer-consistent}
+use Rattle.ent_replay.proofs.MachineEvents.{done, refused, answer-answered, answer-consistent}
 use Rattle.ent_replay.proofs.machine.Machine.answer.Goals as goal
 use Rattle.ent_replay.proofs.machine.Machine.answer.Goals.{After-reply, After-remove}
 
 pub reply-requires : goal.reply-requires
 reply-requires c =
     let at = sym c.get.ensures ∙ c.in-Some.is in
-    search (rules, ints, c.self.invariant.spans c.args.caller c.in-Some.call c.in-Some-span.span at c.in-Some-span.is, c.self.invariant.requests c.args.caller c.in-Some.call at)
+    let span = c.self.invariant.spans c.args.caller c.in-Some.call c.in-Some-span.span at c.in-Some-span.is in
+    search (rules, ints, span, c.self.invariant.requests c.args.caller c.in-Some.call at)
 
 -- the reply is what the positions tell that the call passed
 told : (c : After-reply) → c.reply.result ≡ reply_from c.self.inside.entities.allocator.made

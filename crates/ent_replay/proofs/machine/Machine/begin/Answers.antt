@@ -1,8 +1,7 @@
 use Rattle.ent_replay.proofs.Common.{get-insert, get-remove, nat_tests, rules, ◌≡◌, ◌+◌, sym, ap, ◌∙◌, None, arith, unwrap_or, quota}
-use Rattle.ent_replay.proofs.Maps.{maps_alike}
+use Rattle.ent_replay.proofs.Tables.{maps_alike}
 use Rattle.std.specs.FinMap as finite
-use Rattle.ent_replay.proofs.MachineAnswers.{done, refused, none_of, on_ok, on_err}
-use Rattle.ent_replay.proofs.MachineEvents.{begin-quota, begin-begun, begin-takes_memory, begin-consistent}
+use Rattle.ent_replay.proofs.MachineEvents.{done, refused, none_of, on_ok, on_err, begin-quota, begin-begun, begin-takes_memory, begin-consistent}
 use Rattle.ent_replay.proofs.machine.Machine.begin.Goals as goal
 use Rattle.ent_replay.proofs.machine.Machine.begin.Goals.{Else-is_some, After-unwrap_or-spent, After-remove, Else-is_err-2}
 

@@ -1,6 +1,5 @@
 use Rattle.ent_replay.proofs.Common.{common_steps, rules, ◌<◌, Bool, List, length, arith, allocator_is, filter, length_permutation, born-IsPermutation}
-use Rattle.ent_replay.proofs.MachineAnswers.{refused, on_err}
-use Rattle.ent_replay.proofs.MachineEvents.{flush-flushed}
+use Rattle.ent_replay.proofs.MachineEvents.{refused, on_err, flush-flushed}
 use Rattle.ent_replay.proofs.machine.Machine.flush.Goals as goal
 
 -- what has an element that passes has an element

@@ -1,6 +1,5 @@
 use Rattle.ent_replay.proofs.Common.{none, rules, refl, allocator_is}
-use Rattle.ent_replay.proofs.MachineAnswers.{consistent_as, ok_not_err, told}
-use Rattle.ent_replay.proofs.MachineEvents.{free-needs_flush, free-not_alive, free-freed, free-consistent}
+use Rattle.ent_replay.proofs.MachineEvents.{consistent_as, ok_not_err, told, free-needs_flush, free-not_alive, free-freed, free-consistent}
 use Rattle.ent_replay.proofs.machine.Machine.free.Goals as goal
 
 pub invariant_of-self : goal.invariant_of-self

@@ -1,7 +1,7 @@
 use Rattle.ent_replay.proofs.Common.{rules, ◌≡◌, ◌≢◌, ◌+◌, ◌++◌, ◌∷◌, [], Err, take, take_more, take_all}
 use Rattle.ent_replay.proofs.Histories.{given_once}
 use Rattle.ent_replay.specs.declared.fault.ReplayFault.TheVariants as fault
-use Rattle.ent_replay.proofs.Maps.{no_test}
+use Rattle.ent_replay.proofs.Tables.{no_test}
 use Rattle.ent_replay.proofs.Schedules.{after_events-append, outcomes_of-append}
 use Rattle.ent_replay.proofs.machine.Machine.run.Goals as goal
 

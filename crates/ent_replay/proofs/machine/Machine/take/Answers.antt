@@ -1,7 +1,6 @@
 use Rattle.ent_replay.proofs.Common.{rules, ◌≡◌, sym, ◌∙◌, arith, ints}
 use Rattle.std.specs.FinMap as finite
-use Rattle.ent_replay.proofs.MachineAnswers.{done, faulty, some_of, none_of}
-use Rattle.ent_replay.proofs.MachineEvents.{stepped, awaited-bound, step-stepped, step-taken, step-consistent}
+use Rattle.ent_replay.proofs.MachineEvents.{done, faulty, some_of, none_of, stepped, awaited-bound, step-stepped, step-taken, step-consistent}
 use Rattle.ent_replay.proofs.machine.Machine.take.Goals as goal
 use Rattle.ent_replay.proofs.machine.Machine.take.Goals.{After-replace}
 

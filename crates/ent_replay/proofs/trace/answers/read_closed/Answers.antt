@@ -1,5 +1,5 @@
 use Rattle.ent_replay.proofs.Common.{sym, ◌∙◌, rules, eqb-true}
-use Rattle.ent_replay.proofs.WordParts.{never_closed, closed_early, closed}
+use Rattle.ent_replay.proofs.ScheduleWords.{never_closed, closed_early, closed}
 use Rattle.ent_replay.proofs.trace.answers.read_closed.Goals as goal
 
 pub returns-in_default : goal.returns-in_default

@@ -1,4 +1,4 @@
-use Rattle.ent_replay.proofs.Maps.{get-inserted, get-insert_other}
+use Rattle.ent_replay.proofs.Tables.{get-inserted, get-insert_other}
 use Rattle.ent_replay.proofs.Common.{rules, cases_eq}
 use Rattle.ent_replay.proofs.Lineups.{others}
 use Rattle.ent_replay.proofs.trace.suspect.suspect.Goals as goal

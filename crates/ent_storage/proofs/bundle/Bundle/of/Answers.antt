@@ -1,6 +1,6 @@
 use Rattle.ent_storage.proofs.Common.{◌≡◌, ◌∙◌, ap, arith, rules, get_or, pos, to_z-of_z, drop_all, drop_more, put, component_cmp, w64, FitsSigned}
 use Rattle.ent_storage.proofs.Puts.{last_value, more_than, still_rising}
-use Rattle.ent_storage.proofs.Results.{OnErr-always}
+use Rattle.ent_storage.proofs.Missing.{on_err}
 use Rattle.ent_storage.proofs.bundle.Bundle.of.Goals as goal
 
 pub loop-id-preserved : goal.loop-id-preserved
@@ -20,7 +20,7 @@ returns-in_err-put-clause-memory g c =
     let next = drop_more _ _ (record { 0 = 0 }, pos 0) c.loop-id-test.true in
     let needs = c.in_err-put.ensures.memory in
     let rising = c.loop-id.invariant.rising in
-    search (rules, c.loop-id.invariant.left, OnErr-always, c.from_residual.result, more_than)
+    search (rules, c.loop-id.invariant.left, on_err, c.from_residual.result, more_than)
 
 pub returns-clause-last : goal.returns-clause-last
 returns-clause-last g c id =

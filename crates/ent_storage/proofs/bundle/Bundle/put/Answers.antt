@@ -1,7 +1,6 @@
-use Rattle.ent_storage.proofs.Common.{◌≡◌, ◌+◌, ◌≤◌, ap, sym, subst, ◌∙◌, arith, length, get_or, set, pos, inl, inr, refl, rules, refill, w64, cast_signed, cast_unsigned, to_z-of_z, put, component_cmp, Bundle, IsBundle, IsAt, IsGapFor, cases_lt, false≢true, length-set}
-use Rattle.ent_handle.specs.Component.{component_cmp_total as total}
-use Rattle.ent_storage.proofs.Putting.{find_in_gap, written, inserted}
-use Rattle.ent_storage.proofs.Bundles.{bundle_put, refill_whole}
+use Rattle.ent_storage.proofs.Common.{◌≡◌, ◌+◌, ◌≤◌, ap, sym, subst, ◌∙◌, arith, length, get_or, set, pos, refl, rules, refill, w64, cast_signed, cast_unsigned, to_z-of_z, put, component_cmp, Bundle, IsBundle, IsAt, IsGapFor, cases_lt, false≢true, length-set, component_cmp_total as total}
+use Rattle.ent_storage.proofs.Positions.{find_in_gap, written, inserted}
+use Rattle.ent_storage.proofs.Puts.{bundle_put, refill_whole}
 use Rattle.ent_storage.proofs.bundle.Bundle.put.Goals as goal
 use Rattle.ent_storage.proofs.bundle.Bundle.put.Given.{Over}
 
@@ -41,10 +40,7 @@ added g c =
     gap (to_z-of_z w64 c.args.value c.ranges.value)
 
 pub invariant_of-self-in-Continue-1 : goal.invariant_of-self-in-Continue-1
-invariant_of-self-in-Continue-1 g c = (
-  subst IsBundle (sym (added g c)) (bundle_put _ _ (search rules) c.ranges.value _ c.self.invariant.0),
-  search (rules, c.insert.ensures.capacity, c.self.invariant.1),
-)
+invariant_of-self-in-Continue-1 g c = search (rules, added, bundle_put, c.insert.ensures.capacity, c.self.invariant)
 
 pub returns-in_ok-insert-in-Err-clause-ok : goal.returns-in_ok-insert-in-Err-clause-ok
 returns-in_ok-insert-in-Err-clause-ok g c = added g c ∙ ap (put component_cmp c.args.id c.args.value) c.self.view_is
@@ -55,11 +51,9 @@ returns-in_err-insert-in-Err-clause-memory g c =
     let gap = subst (λ (b : Bundle). IsGapFor component_cmp b c.args.id c.in-Err.index) c.as_slice.ensures
     c.in-Err.ensures.absent in
     let none = find_in_gap total es c.args.id c.in-Err.index gap in
-    let full : g.row.INLINE ≤ length es = elim (cases_lt c.self.inside.items.capacity (length es + 1)) [
-      | inl below ↦ omega (arith, below, c.self.invariant.1)
-      | inr room ↦ absurd
-          (false≢true (c.in_err-insert-in-Err.ensures.succeeds room))
-    ] in
+    let room = cases_lt c.self.inside.items.capacity (length es + 1) in
+    let full : g.row.INLINE ≤ length es =
+    search (rules, arith, false≢true, c.in_err-insert-in-Err.ensures.succeeds, c.self.invariant.1) in
     search (rules, c.from_residual.result, c.args.id, c.self.view_is, none, full)
 
 pub search-requires : goal.search-requires

@@ -1,5 +1,5 @@
 use Rattle.ent_storage.proofs.Common.{rules, ◌≡◌, get_or, refl, sym, ap, ◌∙◌, arith, common_steps, HandleMap, value_under, generation_of, slot_at}
-use Rattle.ent_storage.proofs.Found.{later, no_later, few_values, put-before, put-counted}
+use Rattle.ent_storage.proofs.Found.{later, no_later, put-before, put-counted, few_values}
 use Rattle.ent_storage.proofs.handle_map.HandleMap.insert.Goals as goal
 
 pub returns-then-generation-standing-clause-later : goal.returns-then-generation-standing-clause-later
@@ -9,9 +9,6 @@ returns-then-generation-standing-clause-later g c =
     (slot_at c.self.inside.slots.items c.args.handle.index) = search rules in
     let is = later c.self.inside.slots.items _ c.args.handle values (omega (arith, stands)) in
     (λ _. (λ beyond. grind (arith, common_steps), is), λ _. refl)
-
-pub overflow_add-self : goal.overflow_add-self
-overflow_add-self g c = search (rules, few_values)
 
 pub invariant_of-self-2 : goal.invariant_of-self-2
 invariant_of-self-2 g c =
@@ -39,3 +36,6 @@ returns-clause-later g c =
     (slot_at c.self.inside.slots.items c.args.handle.index) = search rules in
     let none = no_later c.self.inside.slots.items _ c.args.handle values (omega (arith, stands)) in
     (λ e. absurd cc, λ is. absurd (none is.1))
+
+pub overflow_add-self : goal.overflow_add-self
+overflow_add-self g c = search (rules, few_values)

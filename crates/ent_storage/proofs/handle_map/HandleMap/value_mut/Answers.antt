@@ -1,6 +1,6 @@
-use Rattle.ent_storage.proofs.Common.{ap, arith, common_steps, HandleMap}
+use Rattle.ent_storage.proofs.Common.{ap, HandleMap, arith, common_steps}
+use Rattle.ent_storage.proofs.Found.{found, counted-write, read_of, made, got}
 use Rattle.ent_storage.proofs.Entries.{map-write}
-use Rattle.ent_storage.proofs.Found.{found, made, got, counted-write, read_of}
 use Rattle.ent_storage.proofs.handle_map.HandleMap.value_mut.Goals as goal
 
 pub invariant_of-self-lent : goal.invariant_of-self-lent

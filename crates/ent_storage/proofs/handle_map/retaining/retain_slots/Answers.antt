@@ -1,9 +1,6 @@
-use Rattle.ent_storage.proofs.Common.{rules, arith}
-use Rattle.ent_storage.proofs.Kept.{counts_one, counted-slot, retained-more, retained-done}
+use Rattle.ent_storage.proofs.Common.{arith, rules}
+use Rattle.ent_storage.proofs.Kept.{counted-slot, retained-more, retained-done, counts_one}
 use Rattle.ent_storage.proofs.handle_map.retaining.retain_slots.Goals as goal
-
-pub retain_slot-keep-requires-clause-counted : goal.retain_slot-keep-requires-clause-counted
-retain_slot-keep-requires-clause-counted g c = search (rules, counts_one)
 
 pub loop-index-preserved : goal.loop-index-preserved
 loop-index-preserved g c =
@@ -20,3 +17,6 @@ loop-index-preserved g c =
 
 pub returns-clause-retained : goal.returns-clause-retained
 returns-clause-retained g c = retained-done (goal.F-step g) _ _ _ _ _ (omega arith) c.loop-index.invariant.below
+
+pub retain_slot-keep-requires-clause-counted : goal.retain_slot-keep-requires-clause-counted
+retain_slot-keep-requires-clause-counted g c = search (rules, counts_one)

@@ -1,5 +1,4 @@
-use Rattle.ent_storage.proofs.Common.{ap, ◌∙◌, total, same, Places}
-use Rattle.std.specs.FinMap as map
+use Rattle.ent_storage.proofs.Common.{ap, ◌∙◌, total, same, Places, fin_get}
 use Rattle.ent_storage.proofs.Keys.{get-insert_other}
 use Rattle.ent_storage.proofs.Rising.{rising_set, map_set}
 use Rattle.ent_storage.proofs.index.Index.forget.Goals as goal
@@ -12,6 +11,6 @@ invariant_of-self c =
 pub returns-in-Some-clause-kept : goal.returns-in-Some-clause-kept
 returns-in-Some-clause-kept c q i n old =
     let at = rw (← c.of.ensures, c.deref.ensures.value) at c.in-Some.ensures in
-    ap (λ m. map.get m q) (map_set total same _ c.self.invariant _ _ 4294967295 at)
+    ap (λ m. fin_get m q) (map_set total same _ c.self.invariant _ _ 4294967295 at)
     ∙ get-insert_other total same _ _ 4294967295 q (λ is. n (is ∙ c.of.ensures))
-    ∙ ap (λ (p : Places). map.get p.by_handle q) c.self.view_is ∙ old
+    ∙ ap (λ (p : Places). fin_get p.by_handle q) c.self.view_is ∙ old

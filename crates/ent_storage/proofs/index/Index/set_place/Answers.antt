@@ -1,6 +1,6 @@
 use Rattle.ent_storage.proofs.Common.{rules, false≢true, total, same}
 use Rattle.ent_storage.proofs.Rising.{get_in_gap, rising_set, map_set}
-use Rattle.ent_storage.proofs.SamePlaces.{same_places}
+use Rattle.ent_storage.proofs.Placed.{same_places}
 use Rattle.ent_storage.proofs.index.Index.set_place.Goals as goal
 
 pub invariant_of-self : goal.invariant_of-self

@@ -1,5 +1,5 @@
 use Rattle.ent_storage.proofs.Common.{rules, ◌≡◌, AllZip, IsCopy}
-use Rattle.ent_storage.proofs.Copies.{columns_copied, in_use_copied}
+use Rattle.ent_storage.proofs.Copied.{columns_copied, in_use_copied}
 use Rattle.ent_storage.proofs.living.Living.try_clone.Goals as goal
 
 pub invariant_of-result : goal.invariant_of-result

@@ -5,5 +5,5 @@ use Rattle.ent_storage.proofs.living.Living.value.Goals as goal
 
 pub returns : goal.returns
 returns c d =
-    let read = read_from _ _ _ _ _ c.self.view_is c.requires (record { handle = d.handle; birth = d.birth }) d in
+    let read = read_from _ _ _ _ _ c.self.view_is c.requires d in
     search (rules, read, get_components, c.value.ensures, c.deref.ensures.value)

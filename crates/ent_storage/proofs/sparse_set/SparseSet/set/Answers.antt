@@ -1,18 +1,16 @@
-use Rattle.ent_storage.proofs.Common.{◌≡◌, ◌<◌, length, None, refl, rules, to_z-of_z, nat_cmp, w64}
-use Rattle.std.specs.FinMap as map
+use Rattle.ent_storage.proofs.Common.{◌≡◌, ◌<◌, length, None, refl, rules, to_z-of_z, nat_cmp, w64, fin_from_entries, fin_get}
 use Rattle.ent_storage.proofs.Dense.{pair_here, over_values, pushed_dense, pushed_values}
 use Rattle.ent_storage.proofs.sparse_set.SparseSet.set.Goals as goal
 
 pub returns-in-Some : goal.returns-in-Some
 returns-in-Some c =
     let is = to_z-of_z w64 c.args.value (search rules) in
-    let at = rw c.deref.ensures.value at c.in-Some.ensures.found in
-    let inside = rw c.deref.ensures.value at c.in-Some.ensures.inside in
-    let here = pair_here c.self.inside.dense.items _ _ inside at (c.args.place, c.args.value) in
+    let here = pair_here _ _ _ _ c.deref.ensures.value c.in-Some.ensures.inside c.in-Some.ensures.found
+    (c.args.place, c.args.value) in
     search (rules, is, over_values, here, c.self.view_is)
 
 -- the place has no value
-none_there : (c : goal.After-push_reserved) → map.get (map.from_entries {R = nat_cmp} c.self.inside.dense.items)
+none_there : (c : goal.After-push_reserved) → fin_get (fin_from_entries {R = nat_cmp} c.self.inside.dense.items)
     c.args.place ≡ None
 none_there c = rw c.deref.ensures.value at (c.in-None.ensures.absent refl)
 

@@ -1,11 +1,10 @@
-use Rattle.ent_storage.proofs.Common.{rules, ◌≢◌, ◌∙◌, ap, Column, Fits}
-use Rattle.std.specs.FinMap as map
+use Rattle.ent_storage.proofs.Common.{rules, ◌≢◌, ◌∙◌, ap, Column, Fits, fin_empty}
 use Rattle.ent_storage.proofs.Copied.{some_values, fits}
 use Rattle.ent_storage.proofs.sparse_set.SparseSet.take_over.Goals.{Then-not-is_empty}
 use Rattle.ent_storage.proofs.sparse_set.SparseSet.take_over.Goals as goal
 
 -- the source has values
-some : (c : Then-not-is_empty) → c.args.source.now.values ≢ map.empty
+some : (c : Then-not-is_empty) → c.args.source.now.values ≢ fin_empty
 some c none = some_values _ _ c.source.invariant (λ zero. search
     (rules, zero, c.source.inside.dense.ok.0, c.if-not-is_empty.true)) (ap (λ (m : Column). m.values) c.source.view_is
     ∙ none)

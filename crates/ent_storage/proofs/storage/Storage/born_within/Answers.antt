@@ -1,23 +1,20 @@
-use Rattle.ent_storage.proofs.Common.{rules, ◌≡◌, ◌<◌, length, min, Some, None, Option, is_none, is_some, true, false, refl, sym, ap, ◌∙◌, arith, false≢true, LivingEntity, Store}
-use Rattle.std.specs.FinMap as map
+use Rattle.ent_storage.proofs.Common.{rules, ◌≡◌, ◌<◌, length, min, None, Option, is_none, is_some, true, false, sym, ap, ◌∙◌, arith, false≢true, LivingEntity, Store, fin_empty}
 use Rattle.ent_storage.proofs.Indexed.{entities_push}
 use Rattle.ent_storage.proofs.Counted.{kept_push}
 use Rattle.ent_storage.proofs.Placed.{placed_known}
 use Rattle.ent_storage.proofs.storage.Storage.born_within.Goals as goal
 
 none_from_test : {A : Type 0} (o : Option A) → is_none o ≡ true → o ≡ None
-none_from_test None e = refl
-none_from_test (Some x) e = absurd (false≢true e)
+none_from_test o e = search rules
 
 some_from_test : {A : Type 0} (o : Option A) → is_none o ≡ false → is_some o ≡ true
-some_from_test None e = absurd (false≢true (sym e))
-some_from_test (Some x) e = refl
+some_from_test o e = search rules
 
 -- the handle is new, and there is room
 pub invariant_of-self : goal.invariant_of-self
 invariant_of-self c =
     let new = none_from_test _ (sym c.put.ensures.new ∙ c.if-put.true) in
-    let entity : LivingEntity = record { handle = c.args.handle; birth = c.args.birth; components = map.empty } in
+    let entity : LivingEntity = record { handle = c.args.handle; birth = c.args.birth; components = fin_empty } in
     let room = ap (λ (s : Store). s.spare) c.self.view_is in
     let fits : length c.self.inside.living.entities < min c.self.inside.living.room c.self.inside.index.room = omega
     arith in

@@ -1,5 +1,4 @@
-use Rattle.ent_storage.proofs.Common.{rules, ◌≡◌, ◌≢◌, ◌<◌, ℕ, List, length, true, mapped, ap, sym, ◌∙◌, length-map, handle_cmp, LivingEntity, Entity, EntityMap, Store, map_of, IsIndexed}
-use Rattle.std.specs.FinMap as map
+use Rattle.ent_storage.proofs.Common.{rules, ◌≡◌, ◌≢◌, ◌<◌, ℕ, List, length, true, mapped, ap, sym, ◌∙◌, length-map, handle_cmp, LivingEntity, Entity, EntityMap, Store, map_of, IsIndexed, FinMap, fin_empty, fin_len, fin_len-empty}
 use Rattle.ent_storage.proofs.Missing.{on_err}
 use Rattle.ent_storage.proofs.Indexed.{len_living}
 use Rattle.ent_storage.proofs.ByBirth.{filter-all, lists}
@@ -14,10 +13,10 @@ returns-clause-ok c =
     rw (← are) (lists _ _ c.self.invariant.indexed (λ _. true) _ (rw births at c.in_ok-handles_in_order.ensures.ok))
 
 -- a map of somebody is not the empty one
-not_empty : (living : List LivingEntity) (index : map.FinMap handle_cmp ℕ) → IsIndexed living index → (m : EntityMap)
-    → map_of living ≡ m → 0 < length living → m ≢ map.empty
+not_empty : (living : List LivingEntity) (index : FinMap handle_cmp ℕ) → IsIndexed living index → (m : EntityMap)
+    → map_of living ≡ m → 0 < length living → m ≢ fin_empty
 not_empty living index indexed m view some none =
-    let len : map.len m ≡ 0 = ap map.len none ∙ map.len-empty handle_cmp Entity in search (rules, len_living)
+    let len : fin_len m ≡ 0 = ap fin_len none ∙ fin_len-empty handle_cmp Entity in search (rules, len_living)
 
 pub returns-in_err-births-clause-memory : goal.returns-in_err-births-clause-memory
 returns-in_err-births-clause-memory c = search (rules, on_err, not_empty)

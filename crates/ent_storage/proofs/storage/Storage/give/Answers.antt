@@ -1,24 +1,18 @@
-use Rattle.ent_storage.proofs.Common.{rules, ◌≡◌, ap, sym, subst, refl, ℤ, [], ◌∷◌, ◌∙◌, Result, Ok, Err, OnOk, OnErr, ComponentId, with_items, EntityMap, Store, birth_of, value_of, with_components, to_z-of_z}
-use Rattle.std.specs.FinMap as map
+use Rattle.ent_storage.proofs.Common.{rules, ◌≡◌, ap, sym, subst, refl, ◌∙◌, Result, OnOk, OnErr, EntityMap, Store, birth_of, value_of, to_z-of_z, fin_get}
 use Rattle.ent_storage.proofs.ImageGiven.{given, given_value, given_others, given_birth, given_rest}
 use Rattle.ent_storage.proofs.storage.Storage.give.Goals.{After-give_one}
 use Rattle.ent_storage.proofs.storage.Storage.give.Goals as goal
 
 either : {T E A B : Type 0} (P : Type 0) (r : Result T E) → (A → P) → (B → P) → OnOk r A → OnErr r B → P
-either P (Ok x) f g a b = f a
-either P (Err e) f g a b = g b
+either P r f g a b = search rules
 
 if_ok : {T E A B : Type 0} (r : Result T E) → (A → B) → OnOk r A → OnOk r B
-if_ok (Ok x) f a = f a
-if_ok (Err e) f a = tt
+if_ok r f a = search rules
 
 -- the entity was given the component, if there was memory
 is_given : (c : After-give_one) → OnOk c.give_one.result (c.give_one.new.self.entities ≡ given c.args.self.now.entities
     c.args.handle c.args.id c.in-Some.value)
-is_given c =
-    let pair : c.item_of-item.result ≡ (c.args.id, c.in-Some.value) = search (rules, to_z-of_z) in
-    if_ok c.give_one.result (λ is. is ∙ ap (λ (it : ComponentId × ℤ). with_components c.args.self.now.entities
-    c.args.handle (λ held. with_items held (it ∷ []))) pair) c.give_one.ensures.ok
+is_given c = search (rules, if_ok, to_z-of_z)
 
 -- what holds with the component and without it
 holds : (c : After-give_one) (P : EntityMap → Type 0) → P (given c.args.self.now.entities c.args.handle c.args.id
@@ -44,4 +38,4 @@ returns-in-Some-clause-birth c = holds (goal.at.returns-in-Some-clause-birth c).
 
 pub returns-in-Some-clause-rest : goal.returns-in-Some-clause-rest
 returns-in-Some-clause-rest c h apart = holds (goal.at.returns-in-Some-clause-rest c).After-give_one
-    (λ m. map.get m h ≡ map.get c.args.self.now.entities h) (given_rest _ _ _ _ h apart) refl
+    (λ m. fin_get m h ≡ fin_get c.args.self.now.entities h) (given_rest _ _ _ _ h apart) refl

@@ -1,5 +1,5 @@
 use Rattle.ent_storage.proofs.Common.{arith, common_steps}
-use Rattle.ent_storage.proofs.ImageHeld.{held}
+use Rattle.ent_storage.proofs.ImageWidth.{held}
 use Rattle.ent_storage.proofs.storage.Storage.is_held.Goals as goal
 
 pub returns : goal.returns

@@ -1,11 +1,6 @@
-use Rattle.ent_storage.proofs.Common.{rules, ◌≡◌, sym, ap, ◌∙◌, arith, length, subst, is_some, false, inl, inr, refl, false≢true, get_or_default, nil_from_length, length-take-le, common_steps, handle_cmp, EntityMap, IsNoEntity, HasFault}
-use Rattle.std.specs.FinMap as map
-use Rattle.ent_storage.specs.declared.image_fault.StorageImageFault.TheVariants.{Entity}
-use Rattle.ent_storage.proofs.ImageRead.{too_wide, damaged, read_more, places_more, first_read, all_read, all_first, are_stored, is_read, nothing_left, width_told, width_placed}
+use Rattle.ent_storage.proofs.Common.{rules, ◌≡◌, sym, ap, ◌∙◌, arith, length, subst, is_some, false, inl, inr, refl, false≢true, get_or_default, nil_from_length, length-take-le, common_steps, handle_cmp, EntityMap, IsNoEntity, HasFault, fin_get, fin_get-empty, NoEntity}
+use Rattle.ent_storage.proofs.ImageRead.{damaged, read_more, places_more, first_read, all_first, are_stored, is_read, nothing_left, width_told, width_placed, too_wide}
 use Rattle.ent_storage.proofs.storage.Storage.read_image.Goals as goal
-
-pub returns-then-width-gt256-clause-refused : goal.returns-then-width-gt256-clause-refused
-returns-then-width-gt256-clause-refused c other m stored same = search (rules, too_wide)
 
 pub loop-handle-init : goal.loop-handle-init
 loop-handle-init c =
@@ -15,8 +10,8 @@ loop-handle-init c =
         spelled = c.read_word-width.ensures.bytes;
         each = λ h is. absurd (omega (arith, is.1));
         beyond = λ h is. absurd (omega (arith, is.1));
-        only = λ h is. absurd (false≢true (sym (ap (λ (m : EntityMap). is_some (map.get m h)) none
-            ∙ ap is_some (map.get-empty handle_cmp h)) ∙ is));
+        only = λ h is. absurd (false≢true (sym (ap (λ (m : EntityMap). is_some (fin_get m h)) none
+            ∙ ap is_some (fin_get-empty handle_cmp h)) ∙ is));
       };
       places = c.in_ok-reserve.ensures.places ∙ c.new-storage.ensures.places;
       spare = omega (arith, c.in_ok-reserve.ensures.ok);
@@ -32,37 +27,31 @@ pub loop-handle-preserved : goal.loop-handle-preserved
 loop-handle-preserved c =
     let loop = c.loop-handle.invariant in
     let lt = c.loop-handle-test.true in
-    let found = rw c.in-Some.is at c.in_ok-left.ensures.found in
-    let stored = rw c.in-Some.is at c.in_ok-left.ensures.stored in
-    let beyond = rw c.in-Some.is at c.in_ok-left.ensures.beyond in
-    let places = rw c.in-Some.is at c.in_ok-left.ensures.places in
-    let spare = rw c.in-Some.is at c.in_ok-left.ensures.spare in
+    let told = rw c.in-Some.is at c.in_ok-left.ensures in
     record {
-      read = read_more _ _ loop.read _ lt c.handle-item.is c.requires.apart _ c.in_ok-left.ensures.rest _ found stored
-          beyond;
-      places = places_more _ _ loop.read _ lt c.handle-item.is _ _ loop.places places;
-      spare = omega arith;
+      read = read_more _ _ loop.read _ lt c.handle-item.is c.requires.apart _ c.in_ok-left.ensures.rest _ told.found
+          told.stored told.beyond;
+      places = places_more _ _ loop.read _ lt c.handle-item.is _ _ loop.places told.places;
+      spare = omega (arith, told.spare);
     }
 
 pub returns-then-not-is_empty-clause-refused : goal.returns-then-not-is_empty-clause-refused
 returns-then-not-is_empty-clause-refused c other m stored same =
-    let read = all_read _ _ c.loop-handle-test.false c.loop-handle.invariant.read in
-    let zeros = ap length (nothing_left read m (search rules) stored same) in
+    let none = nothing_left _ _ c.loop-handle-test.false c.loop-handle.invariant.read m (search rules) stored same in
+    let zeros = ap length none in
     grind (arith, common_steps, zeros, c.is_empty.ensures, c.if-not-is_empty.true)
 
 pub returns-then-width-clause-refused : goal.returns-then-width-clause-refused
 returns-then-width-clause-refused c other m stored same =
-    let read = all_read _ _ c.loop-handle-test.false c.loop-handle.invariant.read in
     c.if-width.true (c.width.ensures.value ∙ width_placed _ _ _ c.loop-handle-test.false c.loop-handle.invariant.places
-    ∙ width_told read m (search rules) stored same)
+    ∙ width_told _ _ c.loop-handle-test.false c.loop-handle.invariant.read m (search rules) stored same)
 
 pub returns-clause-stored : goal.returns-clause-stored
-returns-clause-stored c = are_stored (all_read _ _ c.loop-handle-test.false c.loop-handle.invariant.read)
+returns-clause-stored c = are_stored _ _ c.loop-handle-test.false c.loop-handle.invariant.read
 
 pub returns-clause-exact : goal.returns-clause-exact
 returns-clause-exact c m stored same =
-    let read = all_read _ _ c.loop-handle-test.false c.loop-handle.invariant.read in
-    is_read read m (search rules) stored same
+    is_read _ _ c.loop-handle-test.false c.loop-handle.invariant.read m (search rules) stored same
 
 -- ---- the first fault
 
@@ -82,7 +71,7 @@ returns-in_default-clause-fault c other =
     let none = rw c.in_default.is at c.in_ok-left.ensures.none in
     let at : c.len-place.result ≡ i = c.len-place.ensures.places ∙ ap length loop.places
     ∙ length-take-le _ _ (omega arith) in
-    subst (λ place. HasFault hs c.args.bytes.now (Entity place)) (sym at) (
+    subst (λ place. HasFault hs c.args.bytes.now (NoEntity place)) (sym at) (
       lt,
       (
         first_read _ _ c.if-width-gt256.false loop.read,
@@ -92,21 +81,20 @@ returns-in_default-clause-fault c other =
     )
 
 pub returns-then-not-is_empty-clause-fault : goal.returns-then-not-is_empty-clause-fault
-returns-then-not-is_empty-clause-fault c other =
-    let read = all_read _ _ c.loop-handle-test.false c.loop-handle.invariant.read in
-    inr (
-      all_first read c.if-width-gt256.false,
-      λ none. let zeros : length c.loop-handle.rest.now ≡ 0 = ap length none in grind
-          (arith, common_steps, zeros, c.is_empty.ensures, c.if-not-is_empty.true),
-    )
+returns-then-not-is_empty-clause-fault c other = inr (
+  all_first _ _ c.loop-handle-test.false c.loop-handle.invariant.read c.if-width-gt256.false,
+  λ none. let zeros : length c.loop-handle.rest.now ≡ 0 = ap length none in grind
+      (arith, common_steps, zeros, c.is_empty.ensures, c.if-not-is_empty.true),
+)
 
 pub returns-then-width-clause-fault : goal.returns-then-width-clause-fault
-returns-then-width-clause-fault c other =
-    let read = all_read _ _ c.loop-handle-test.false c.loop-handle.invariant.read in
-    inr (
-      all_first read c.if-width-gt256.false,
-      nil_from_length _ (grind (arith, common_steps, c.is_empty.ensures, c.if-not-is_empty.false)),
-      refl,
-      λ same. c.if-width.true (c.width.ensures.value ∙ width_placed _ _ _ c.loop-handle-test.false
-          c.loop-handle.invariant.places ∙ same),
-    )
+returns-then-width-clause-fault c other = inr (
+  all_first _ _ c.loop-handle-test.false c.loop-handle.invariant.read c.if-width-gt256.false,
+  nil_from_length _ (grind (arith, common_steps, c.is_empty.ensures, c.if-not-is_empty.false)),
+  refl,
+  λ same. c.if-width.true (c.width.ensures.value ∙ width_placed _ _ _ c.loop-handle-test.false
+      c.loop-handle.invariant.places ∙ same),
+)
+
+pub returns-then-width-gt256-clause-refused : goal.returns-then-width-gt256-clause-refused
+returns-then-width-gt256-clause-refused c other m stored same = search (rules, too_wide)

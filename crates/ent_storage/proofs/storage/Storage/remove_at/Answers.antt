@@ -1,27 +1,22 @@
-use Rattle.ent_storage.proofs.Common.{rules, Option, min, ap, sym, ◌∙◌, Entity, option_and_then}
-use Rattle.std.specs.FinMap as map
+use Rattle.ent_storage.proofs.Common.{rules, min, fin_remove, ap, ℕ}
 use Rattle.ent_storage.proofs.Indexed.{some_entity}
-use Rattle.ent_storage.proofs.Placed.{entity_at, placed_at}
+use Rattle.ent_storage.proofs.Placed.{found_at, placed_at}
 use Rattle.ent_storage.proofs.Changed.{IsChanged, changed}
 use Rattle.ent_storage.proofs.storage.Storage.remove_at.Goals.{After-remove}
 use Rattle.ent_storage.proofs.storage.Storage.remove_at.Goals as goal
 
-pub remove-requires : goal.remove-requires
-remove-requires c =
-    let at = entity_at _ _ _ _ c.self.invariant.indexed c.self.view_is c.args.handle c.args.place c.requires in
-    at.inside
-
 -- the entity has the new components
-after : (c : After-remove) → IsChanged c.args.self.now c.args.handle (λ held. map.remove held c.args.id)
+after : (c : After-remove) → IsChanged c.args.self.now c.args.handle (λ held. fin_remove held c.args.id)
     c.remove.new.self.entities c.self.inside.index.by_handle (min c.remove.new.self.room c.self.inside.index.room)
-after c = search (rules, changed, placed_at)
+after c = changed _ _ _ c.self.invariant _ _ (placed_at _ _ _ _ c.self.invariant.indexed c.self.view_is _ _ c.requires)
+    _ c.self.view_is _ _ _ c.remove.ensures.entities (ap (λ (room : ℕ). min room c.self.inside.index.room)
+    c.remove.ensures.room)
 
 -- the component is that of the entity
 pub returns-clause-value : goal.returns-clause-value
 returns-clause-value c =
-    let at = entity_at _ _ _ _ c.self.invariant.indexed c.self.view_is c.args.handle c.args.place c.requires in
-    c.remove.ensures.value (some_entity _) ∙ sym (ap (λ (o : Option Entity). option_and_then
-    (λ e. map.get e.components c.args.id) o) at.found)
+    let at = found_at _ _ _ _ c.self.invariant.indexed c.self.view_is c.args.handle c.args.place c.requires in
+    search (rules, at, c.remove.ensures.value (some_entity c.args.handle))
 
 pub returns-clause-entities : goal.returns-clause-entities
 returns-clause-entities c = (after (goal.at.returns-clause-entities c).After-remove).entities

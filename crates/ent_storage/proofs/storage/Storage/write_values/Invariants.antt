@@ -1,5 +1,4 @@
-use Rattle.ent_storage.proofs.Common.{◌≡◌, ◌≤◌, ◌<◌, ◌+◌, ◌-◌, ◌*◌, ◌++◌, IfSome, vec_len, w64, FitsSigned, ComponentId, value_of, values_bytes}
-use Rattle.std.proofs.Common.{vec_capacity}
+use Rattle.ent_storage.proofs.Common.{◌≡◌, ◌≤◌, ◌<◌, ◌+◌, ◌-◌, ◌*◌, ◌++◌, IfSome, vec_len, w64, FitsSigned, ComponentId, value_of, values_bytes, vec_capacity}
 use Rattle.ent_storage.proofs.storage.Storage.write_values.Given as goal
 
 abbrev pub invariant-loop-number : goal.invariant-loop-number

@@ -1,8 +1,7 @@
-use Rattle.ent_total.proofs.Common.{rules, ◌≡◌, All, List, Contains, subst, Reserver, handles_given, all_returned}
+use Rattle.ent_total.proofs.Common.{rules, ◌≡◌, all_returned}
 use Rattle.ent_total.proofs.shared.Shared.close_lost.Goals as goal
 
 pub returns-in-Ok-clause-given : goal.returns-in-Ok-clause-given
 returns-in-Ok-clause-given g c =
     let all : c.in-Ok.returned.items ≡ all_returned c.args.self c.args.reservers.items = search rules in
-    subst (λ (rs : List Reserver). All (λ (r : Reserver). All (Contains c.close_lost.result.allocator.taken)
-    (handles_given r.own)) rs) all c.close_lost.ensures.given
+    rw all at c.close_lost.ensures.given

@@ -1,6 +1,5 @@
 use Rattle.ent_world.proofs.Common.{records_of, history_of, IsWorld}
-use Rattle.ent_world.proofs.SpareRoom.{top-after_history}
-use Rattle.ent_world.proofs.Worlds.{after_history-world}
+use Rattle.ent_world.proofs.Worlds.{top-after_history, after_history-world}
 use Rattle.ent_world.proofs.open_world.OpenWorld.close.Goals.{After-close}
 use Rattle.ent_world.proofs.open_world.OpenWorld.close.Goals as goal
 

@@ -1,8 +1,6 @@
-use Rattle.ent_world.proofs.Common.{common_steps, rules, ◌≡◌, ◌<◌, ◌≤◌, sym, ◌∙◌, arith, Some, Handle, top, get-insert_same, IsWorld, AreRows, with_moved}
-use Rattle.std.specs.FinMap as map
-use Rattle.ent_world.proofs.PlacedRows.{rows-remove, has_row-lives}
-use Rattle.ent_world.proofs.SpareRoom.{room-after_free}
-use Rattle.ent_world.proofs.Worlds.{after_despawn-world}
+use Rattle.ent_world.proofs.Common.{rules, ◌≡◌, sym, ◌∙◌, arith, get-insert_same, IsWorld, AreRows, with_moved, common_steps}
+use Rattle.ent_world.proofs.PlacedRows.{rows-remove}
+use Rattle.ent_world.proofs.Worlds.{room-after_free, after_despawn-world}
 use Rattle.ent_world.proofs.world.World.despawn.Goals.{After-despawn_at, in-Some-despawn_at, in_default-despawn_at}
 use Rattle.ent_world.proofs.world.World.despawn.Goals as goal
 
@@ -13,9 +11,7 @@ gone : (c : After-despawn_at) → IsWorld (record {
   entities = c.despawn_at.new.self.entities;
 })
 gone c =
-    let none : 0 < c.self.inside.entities.allocator.asked → ⊥ = λ some. let refused =
-    c.in_ok-freed.ensures.needs_flush.1 some in cc in
-    let flushed : c.self.inside.entities.allocator.asked ≡ 0 = omega arith in
+    let flushed : c.self.inside.entities.allocator.asked ≡ 0 = grind (arith, common_steps) in
     rw (c.despawn_at.ensures.entities, c.in_ok-freed.ensures.ok)
     (after_despawn-world c.args.handle _ c.self.invariant.world flushed
     (c.self.invariant.world.living c.args.handle ∙ c.in_ok-freed.ensures.lived))
@@ -28,36 +24,26 @@ placed c =
     (sym c.row-row.ensures.value ∙ c.in-Some.is) in
     rw (c.despawn_at.ensures.entities, c.in_ok-freed.ensures.row) (search (rules, rows-remove, here))
 
--- an entity moved
-moved_placed : (c : After-despawn_at) (moved : Handle) → c.despawn_at.result ≡ Some moved
-    → AreRows (map.insert c.free.new.self.rows moved c.in-Some.row) c.despawn_at.new.self.places
-    c.despawn_at.new.self.entities
-moved_placed c moved is = let at = placed c in grind (arith, common_steps)
-
--- the slot that waits now has the place of the entity that is gone
-left_room : (c : After-despawn_at) → top c.free.new.self.allocator ≤ c.despawn_at.new.self.spare
-left_room c = search (rules, room-after_free)
-
 pub set_row-requires : goal.set_row-requires
 set_row-requires c =
     let at = (goal.at.set_row-requires c).After-despawn_at in
-    let moved = c.in-Some-despawn_at.moved in
-    let rows = moved_placed at moved c.in-Some-despawn_at.is in
+    let rows = rw c.in-Some-despawn_at.is at (placed at) in
     let is = gone at in
-    search (rules, has_row-lives, get-insert_same, rows, is)
+    search (rules, get-insert_same, rows.each c.in-Some-despawn_at.moved, is.living c.in-Some-despawn_at.moved)
 
 pub invariant_of-self-in-Some-despawn_at : goal.invariant_of-self-in-Some-despawn_at
 invariant_of-self-in-Some-despawn_at c =
     let at = (goal.at.invariant_of-self-in-Some-despawn_at c).After-despawn_at in
-    let rows = moved_placed at c.in-Some-despawn_at.moved c.in-Some-despawn_at.is in
+    let rows = rw c.in-Some-despawn_at.is at (placed at) in
     rw (c.set_row.ensures.allocator, c.set_row.ensures.row)
-    (record { world = gone at; rows = rows; room = left_room at })
+    (record { world = gone at; rows = rows; room = search (rules, room-after_free) })
 
 -- none moved
 pub invariant_of-self-in_default-despawn_at : goal.invariant_of-self-in_default-despawn_at
 invariant_of-self-in_default-despawn_at c =
     let at = (goal.at.invariant_of-self-in_default-despawn_at c).After-despawn_at in
-    record { world = gone at; rows = rw c.in_default-despawn_at.is at (placed at); room = left_room at }
+    let rows = rw c.in_default-despawn_at.is at (placed at) in
+    record { world = gone at; rows = rows; room = search (rules, room-after_free) }
 
 pub returns-clause-world : goal.returns-clause-world
 returns-clause-world c =

@@ -1,5 +1,5 @@
 use Rattle.ent_world.proofs.Common.{common_steps, arith, rules}
-use Rattle.ent_world.proofs.Making.{on_ok, on_err}
+use Rattle.ent_world.proofs.PlacedRows.{on_ok, on_err}
 use Rattle.ent_world.proofs.Folds.{next_left, next_takes_memory}
 use Rattle.ent_world.proofs.Left.{each_left-next}
 use Rattle.ent_world.proofs.world.World.insert_each.Goals as goal

@@ -1,6 +1,6 @@
-use Rattle.ent_world.proofs.Living.{keys-components, same_keys-components}
+use Rattle.ent_world.proofs.Kept.{keys-components, same_keys-components}
 use Rattle.ent_world.proofs.Common.{rules, inl, inr}
-use Rattle.ent_world.proofs.Making.{on_either}
+use Rattle.ent_world.proofs.PlacedRows.{on_either}
 use Rattle.ent_world.proofs.world.World.insert_items.Goals as goal
 
 pub invariant_of-self : goal.invariant_of-self

@@ -1,9 +1,8 @@
 use Rattle.ent_world.proofs.Common.{rules, ◌≡◌, ◌+◌, ◌<◌, ◌∙◌, ap, sym, arith, List, AllPairs, length, Handle, top, AreStored, World, allocator_of, image, HasImage, AreFramed, HaveAllocator, MayTakeMemory}
 use Rattle.std.specs.FinMap as map
 use Rattle.std.specs.FinSet as set
-use Rattle.ent_world.proofs.ImageRead.{allocator_has, AreParts, told, memory_from_not, read_is, refused_is, handed, listed, no_rows, stored_living, rows_read, all_live, living_is, handed_on, slots_made, framed_by}
+use Rattle.ent_world.proofs.ImageRead.{allocator_has, AreParts, told, memory_from_not, read_is, refused_is, handed, living_keys, no_rows, stored_living, rows_read, all_live, handed_on, slots_made, framed_by, rising_apart}
 use Rattle.ent_world.proofs.world.World.of_image.Goals.{In_ok-phase, In_ok-entities, In_ok-handles, In_ok-storage}
-use Rattle.ent_world.proofs.ImageKeys.{rising_apart}
 use Rattle.ent_world.proofs.world.World.of_image.Goals as goal
 
 -- what the bytes tell of a world whose image they are
@@ -43,7 +42,8 @@ returns-in_err-storage-clause-exact c w has is =
     let at = goal.at.returns-in_err-storage-clause-exact c in
     let parts = told_of at.In_ok-phase w has is in
     let e = allocator_is at.In_ok-entities w has parts in
-    let same = listed w has _ e _ (rising at.In_ok-handles) (lists at.In_ok-handles) ∙ sym c.deref.ensures.value in
+    let same = living_keys w.entities _ (rising at.In_ok-handles) (rw e at (lists at.In_ok-handles)) has.world.living
+    ∙ sym c.deref.ensures.value in
     handed _ _ c.from_residual-in_err-storage.ensures.1
     (c.in_err-storage.ensures.refused w.entities (rw same at has.stored) (rw same at parts.rest_is)) w
 
@@ -62,10 +62,10 @@ invariant_of-result c =
     record {
       world = rw c.set_rows.ensures.allocator (record {
         sound = c.in_ok-entities.ensures.has_image.sound;
-        living = stored_living _ _ entities _ (lists at.In_ok-handles);
+        living = stored_living entities (lists at.In_ok-handles);
       });
       rows = rw (c.set_rows.ensures.rows, bare at.In_ok-handles, c.deref-2.ensures.value, places)
-          (rows_read _ _ entities (rising at.In_ok-handles));
+          (rows_read entities (rising at.In_ok-handles));
       room = rw c.set_rows.ensures.allocator
           (omega (arith, c.in_ok-storage.ensures.room, c.top.ensures, c.len.ensures, ap length c.deref.ensures.value));
     }
@@ -73,10 +73,9 @@ invariant_of-result c =
 pub returns-clause-found : goal.returns-clause-found
 returns-clause-found c =
     let at = goal.at.returns-clause-found c in
-    let keys = living_is c.in_ok-storage.storage.entities _ _ (stored at.In_ok-storage) (rising at.In_ok-handles)
-    (lists at.In_ok-handles) in
-    let none = bare at.In_ok-handles in
-    search (rules, keys, none)
+    let lives = stored_living (stored at.In_ok-storage) (lists at.In_ok-handles) in
+    let keys = living_keys _ _ (rising at.In_ok-handles) (lists at.In_ok-handles) lives in
+    search (rules, keys, bare at.In_ok-handles)
 
 pub returns-clause-has_image : goal.returns-clause-has_image
 returns-clause-has_image c =
@@ -84,13 +83,12 @@ returns-clause-has_image c =
     let e = c.in_ok-entities in
     let allocator = c.set_rows.ensures.allocator in
     let entities = stored at.In_ok-storage in
-    let lives = stored_living _ _ entities e.entities.allocator.live (lists at.In_ok-handles) in
-    let keys = living_is _ _ e.entities.allocator.live entities (rising at.In_ok-handles) (lists at.In_ok-handles) in
+    let lives = stored_living entities (lists at.In_ok-handles) in
     record {
       world = rw allocator (record { sound = e.ensures.has_image.sound; living = lives });
       asked = rw allocator e.ensures.has_image.asked;
       phase = c.in_ok-phase.ensures.phase;
-      stored = rw keys entities;
+      stored = rw (living_keys _ _ (rising at.In_ok-handles) (lists at.In_ok-handles) lives) entities;
     }
 
 pub returns-clause-exact : goal.returns-clause-exact
@@ -98,7 +96,8 @@ returns-clause-exact c w has is =
     let at = goal.at.returns-clause-exact c in
     let parts = told_of at.In_ok-phase w has is in
     let e = allocator_is at.In_ok-entities w has parts in
-    let same = listed w has _ e _ (rising at.In_ok-handles) (lists at.In_ok-handles) ∙ sym c.deref.ensures.value in
+    let same = living_keys w.entities _ (rising at.In_ok-handles) (rw e at (lists at.In_ok-handles)) has.world.living
+    ∙ sym c.deref.ensures.value in
     let entities = c.in_ok-storage.ensures.exact w.entities (rw same at has.stored) (rw same at parts.rest_is) in
     search (rules, parts.phase_is, e, entities)
 
@@ -117,9 +116,11 @@ returns-in_err-entities-clause-fault c =
 pub returns-in_err-entities-clause-memory : goal.returns-in_err-entities-clause-memory
 returns-in_err-entities-clause-memory c =
     let parts = parts_of (goal.at.returns-in_err-entities-clause-memory c).In_ok-phase in
-    let err = c.in_err-entities.ensures in
-    handed_on _ _ _ c.from_residual-in_err-entities.ensures.1
-    (λ is. record { parts = parts; faultless = err.memory is; slots = err.slots is })
+    handed_on _ _ _ c.from_residual-in_err-entities.ensures.1 (λ is. record {
+      parts = parts;
+      faultless = c.in_err-entities.ensures.memory is;
+      slots = c.in_err-entities.ensures.slots is;
+    })
 
 abbrev parts_in : (c : In_ok-entities) → AreFramed c.args.bytes.now
 parts_in c = framed_by c.args.bytes.now c.in_ok-phase.phase c.in_ok-phase.part.now c.in_ok-phase.rest.now

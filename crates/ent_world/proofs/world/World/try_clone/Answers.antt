@@ -1,5 +1,5 @@
 use Rattle.ent_world.proofs.Common.{rules}
-use Rattle.ent_world.proofs.SpareRoom.{room_copied}
+use Rattle.ent_world.proofs.Worlds.{room_copied}
 use Rattle.ent_world.proofs.world.World.try_clone.Goals as goal
 
 pub invariant_of-result : goal.invariant_of-result

@@ -1,6 +1,6 @@
-use Rattle.ent_world.proofs.Common.{rules, ◌≢◌, refl, ◌<◌, ◌⊎◌, inl, inr, arith, Allocator, top, IsSound}
+use Rattle.ent_world.proofs.Common.{rules, ◌≢◌, refl, ◌<◌, ◌⊎◌, arith, Allocator, top, IsSound, inl, inr}
 use Rattle.std.specs.FinMap as map
-use Rattle.ent_world.proofs.SpareRoom.{room_copied, some_made}
+use Rattle.ent_world.proofs.Worlds.{room_copied, some_made}
 use Rattle.ent_world.proofs.world.World.try_clone_from.Goals as goal
 
 -- an allocator that has made or holds back more than another has made some slot

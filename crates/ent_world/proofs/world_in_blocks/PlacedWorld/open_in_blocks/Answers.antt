@@ -1,5 +1,5 @@
-use Rattle.ent_world.proofs.Common.{◌≡◌, ◌<◌, ◌≤◌, length, arith, ◌^◌, min, common_steps}
-use Rattle.ent_world.proofs.SpareRoom.{kept}
+use Rattle.ent_world.proofs.Common.{rules, ◌≡◌, ◌<◌, ◌≤◌, length, arith, ◌^◌, min, common_steps}
+use Rattle.ent_world.proofs.Worlds.{enough}
 use Rattle.ent_world.proofs.world_in_blocks.PlacedWorld.open_in_blocks.Goals.{else-not-needs_flush-via-then-not-needs_flush+else-is_err, else-not-needs_flush-via-else-not-needs_flush}
 use Rattle.ent_world.proofs.world_in_blocks.PlacedWorld.open_in_blocks.Goals as goal
 
@@ -11,9 +11,6 @@ invariant_of-result g c =
     elim c.else-not-needs_flush.branch [
       | else-not-needs_flush-via-then-not-needs_flush+else-is_err w ↦
           let spare : min c.wanted.result (length s.pool) ≤ w.reserve.new.self.spare = grind (arith, common_steps) in
-          rw w.storage-is (kept c.in-Ok.deal s c.self.inside.entities.rows c.self.inside.phase c.self.inside.storage
-          w.reserve.new.self c.args.sizes.now c.wanted.result c.in-Ok.ensures.start c.in-Ok.ensures.rows
-          c.in-Ok.ensures.blocks c.self.invariant.world c.self.invariant.rows_are c.self.invariant.room flushed
-          w.reserve.ensures.entities w.reserve.ensures.places w.reserve.ensures.grows spare few c.wanted.ensures.enough)
+          rw w.storage-is (search (rules, enough, flushed, few, spare))
       | else-not-needs_flush-via-else-not-needs_flush w ↦ absurd (grind (arith, common_steps, flushed))
     ]

@@ -1,5 +1,5 @@
 use Rattle.spawnrun_lib.proofs.Common.{map-append}
-use Rattle.spawnrun_lib.proofs.Binding.{names_added}
+use Rattle.spawnrun_lib.proofs.SystemRunning.{names_added}
 use Rattle.spawnrun_lib.proofs.bindings.Bindings.reach.Goals as goal
 
 pub loop-self-preserved : goal.loop-self-preserved

@@ -1,5 +1,5 @@
 use Rattle.spawnrun_lib.proofs.Common.{rules, ◌∷◌, [], IsTargeted, names_of}
-use Rattle.spawnrun_lib.proofs.Targeted.{issued_on}
+use Rattle.spawnrun_lib.proofs.SystemRunning.{issued_on}
 use Rattle.spawnrun_lib.proofs.change.Change.on_target.Given as given
 use Rattle.spawnrun_lib.proofs.change.Change.on_target.Goals.{After-drop-branch}
 use Rattle.spawnrun_lib.proofs.change.Change.on_target.Goals as goal

@@ -1,9 +1,9 @@
 use Rattle.ent_replay.proofs.Common.{nil_from_length, IsPermutation-map, sum_by-IsPermutation, IsNonDecreasingBy-from_sort_by_key, answers_always, ◌≡◌, ◌≢◌, ◌++◌, [], rules, all_of}
 use Rattle.ent_replay.proofs.Sorted.{key, empty_keeps}
-use Rattle.ent_replay.proofs.Requested.{asked-settled}
+use Rattle.ent_replay.proofs.Orders.{asked-settled}
 use Rattle.ent_replay.proofs.Settled.{IsLinedUp, all-settled, some-none, some-Shows}
 use Rattle.ent_replay.proofs.trace.comparer.Comparer.settle.Goals as goal
-use Rattle.ent_replay.proofs.trace.comparer.Comparer.settle.Goals.{In_ok-lineup, After-difference, After-make_all}
+use Rattle.ent_replay.proofs.trace.comparer.Comparer.settle.Goals.{In_ok-lineup}
 
 pub new-requires : goal.new-requires
 new-requires c = search (rules, sum_by-IsPermutation, IsPermutation-map)
@@ -26,30 +26,22 @@ lined c =
       whole = rw (← all) c.in_ok-lineup.ensures.whole;
     }
 
-some : (c : After-difference) → c.in_ok-lineup.lineup.rest.items ≢ []
-some c = search rules
-
 pub returns-then-not-is_empty-clause-differs : goal.returns-then-not-is_empty-clause-differs
 returns-then-not-is_empty-clause-differs c =
-    let at = goal.at.returns-then-not-is_empty-clause-differs c in
-    rw (← c.self.view_is) (some-Shows (lined at.In_ok-lineup) (some at.After-difference) c.in_ok-lineup.ensures.stuck _
-    c.in_ok-difference.ensures)
+    let lined = lined (goal.at.returns-then-not-is_empty-clause-differs c).In_ok-lineup in
+    rw (← c.self.view_is) (some-Shows lined (search rules) c.in_ok-lineup.ensures.stuck _ c.in_ok-difference.ensures)
 
 pub returns-then-not-is_empty-clause-none : goal.returns-then-not-is_empty-clause-none
-returns-then-not-is_empty-clause-none c = search (rules, some-none, lined, some)
-
-none_left : (c : After-make_all) → c.in_ok-lineup.lineup.rest.items ≡ []
-none_left c = search (rules, nil_from_length)
+returns-then-not-is_empty-clause-none c = search (rules, some-none, lined)
 
 pub invariant_of-result : goal.invariant_of-result
 invariant_of-result c =
-    let at = goal.at.invariant_of-result c in
-    let settled = all-settled (lined at.In_ok-lineup) (none_left at.After-make_all) _ c.deref.ensures.value _
-    c.make_all.ensures in
+    let lined = lined (goal.at.invariant_of-result c).In_ok-lineup in
+    let settled = all-settled lined (search (rules, nil_from_length)) c.deref.ensures.value c.make_all.ensures in
     search (rules, asked-settled _ _ settled, empty_keeps)
 
 pub returns-clause-settled : goal.returns-clause-settled
 returns-clause-settled c =
-    let at = goal.at.returns-clause-settled c in
-    rw (← c.self.view_is) (all-settled (lined at.In_ok-lineup) (none_left at.After-make_all) _ c.deref.ensures.value _
-    c.make_all.ensures)
+    let lined = lined (goal.at.returns-clause-settled c).In_ok-lineup in
+    rw (← c.self.view_is)
+    (all-settled lined (search (rules, nil_from_length)) c.deref.ensures.value c.make_all.ensures)

@@ -1,5 +1,5 @@
 use Rattle.ent_storage.proofs.Common.{rules}
-use Rattle.ent_storage.proofs.Backwards.{last_occupied, last_vacant}
+use Rattle.ent_storage.proofs.Kept.{last_occupied, last_vacant}
 use Rattle.ent_storage.proofs.handle_map.iter.IterDoubleEndedIterator.next_back.Goals as goal
 
 pub overflow_sub-self : goal.overflow_sub-self
