@@ -3,36 +3,21 @@ ghost use Rattle.ent_alloc.specs.declared.fault.AllocFault.TheVariants.{Memory a
 ghost use Rattle.ent_alloc.specs.declared.fault.FreeFault.TheVariants.{Memory as FreeMemory};
 
 use ent_handle::{Handle, Memory};
-use std::error::Error;
-use std::fmt;
+use thiserror::Error;
 
 /// Why [`Entities::alloc`](crate::Entities::alloc) gave no handle. Nothing has changed.
-#[derive(Clone, Copy, Debug, PartialEq, Eq, Hash)]
+#[derive(Clone, Copy, Debug, PartialEq, Eq, Hash, Error)]
 pub enum AllocFault {
     /// Handles were requested since the last flush, even if the request was refused.
+    #[error("a flush is needed first")]
     NeedsFlush,
     /// Every slot has a living entity or is retired.
+    #[error("no slot is free")]
     Space,
     /// Out of memory.
+    #[error("out of memory")]
     Memory,
 }
-
-impl fmt::Display for AllocFault {
-    ghost use Rattle.std.specs.Prelude.{Some};
-    ghost use Rattle.ent_alloc.specs.Fault.{alloc_fault_text};
-
-    ghost output = { λ fault. Some (alloc_fault_text fault) };
-
-    fn fmt<W: fmt::Write>(&self, f: &mut fmt::Formatter<W>) -> fmt::Result {
-        match self {
-            AllocFault::NeedsFlush => f.write_str("a flush is needed first"),
-            AllocFault::Space => f.write_str("no slot is free"),
-            AllocFault::Memory => f.write_str("out of memory"),
-        }
-    }
-}
-
-impl Error for AllocFault {}
 
 impl From<Memory> for AllocFault {
     ghost from_gives = { λ _ fault. fault ≡ AllocMemory };
@@ -43,32 +28,18 @@ impl From<Memory> for AllocFault {
 }
 
 /// Why [`Entities::free`](crate::Entities::free) freed nothing. Nothing has changed.
-#[derive(Clone, Copy, Debug, PartialEq, Eq, Hash)]
+#[derive(Clone, Copy, Debug, PartialEq, Eq, Hash, Error)]
 pub enum FreeFault {
     /// Handles were requested since the last flush, even if the request was refused.
+    #[error("a flush is needed first")]
     NeedsFlush,
     /// The handle isn't alive.
+    #[error("the entity is not alive")]
     NotAlive,
     /// Out of memory.
+    #[error("out of memory")]
     Memory,
 }
-
-impl fmt::Display for FreeFault {
-    ghost use Rattle.std.specs.Prelude.{Some};
-    ghost use Rattle.ent_alloc.specs.Fault.{free_fault_text};
-
-    ghost output = { λ fault. Some (free_fault_text fault) };
-
-    fn fmt<W: fmt::Write>(&self, f: &mut fmt::Formatter<W>) -> fmt::Result {
-        match self {
-            FreeFault::NeedsFlush => f.write_str("a flush is needed first"),
-            FreeFault::NotAlive => f.write_str("the entity is not alive"),
-            FreeFault::Memory => f.write_str("out of memory"),
-        }
-    }
-}
-
-impl Error for FreeFault {}
 
 impl From<Memory> for FreeFault {
     ghost from_gives = { λ _ fault. fault ≡ FreeMemory };

@@ -252,6 +252,23 @@ fn image_of(count: usize, waiting: usize, given: usize, items: &[(ComponentId, i
     image
 }
 
+/// No room is asked for where fewer handles are left than are requested: memory can't run out there.
+#[test]
+fn a_request_for_more_than_is_left() {
+    let limits = Limits::new(5, 1).expect("limits");
+    for wanted in [6, 1 << 20, u32::MAX] {
+        let refusal = ReserveError::Space { wanted, left: 5 };
+        let mut entities = Entities::with_limits(limits);
+        assert_eq!(asked(|| entities.request_many(wanted)), (Err(refusal), 0));
+        assert_eq!(entities.left(), 0);
+
+        let (mut entities, mut handles) = (Entities::with_limits(limits), vec![]);
+        let request = || entities.request_into(&mut handles, wanted);
+        assert_eq!(asked(request), (Err(refusal), 0));
+        assert_eq!((entities.left(), handles.len()), (0, 0));
+    }
+}
+
 #[test]
 fn a_flush_of_requests() {
     let wanted: Vec<Handle> = (3..100).map(|index| handle(index, 1)).collect();
