@@ -43,16 +43,18 @@ pub use Rattle.ent_alloc.specs.Limits.{AreLimits, Limits}
 pub use Rattle.ent_alloc.specs.Portions.{AreUsed, after_portions, arranged, count_of, front_of, left_of, reach_of, size_of, used_of}
 pub use Rattle.ent_alloc.specs.Reserved.{AreToList, handles_of, reserved_handles}
 pub use Rattle.ent_alloc.specs.Roster.{Roster, freed_roster, retired_roster}
+pub use Rattle.ent_alloc.specs.Runs.{IsRun, MayCome, Step, after_run, after_step, given_in_run, given_in_step}
 pub use Rattle.ent_alloc.specs.Sequential.{Allocator, after_alloc, after_allocs, after_flush, after_free, after_take, asked_at, available, before_requests, born, cursor, following, has_slot, in_front, is_fresh, is_old, listed, listed_alone, made_at_flush, next, opening, pool_at, reply_from, reply_to, retired, settled, stands_in, state_of, top}
 unfoldable pub use Rattle.ent_alloc.specs.Sequential.{fresh}
 pub use Rattle.ent_alloc.specs.Slots.{AreLinked, handle_at, is_alive, is_pending_from, lives, new_record, no_slot, occupancy_of, occupants, record_at, reuse, reused, roster_of, row_kept, row_of, rows_from, waits_from}
 pub use Rattle.ent_alloc.specs.Sound.{AreApart, IsLive, IsSound, IsWithin}
 pub use Rattle.ent_alloc.specs.Span.{IsSpanOf}
 pub use Rattle.ent_alloc.specs.Spent.{AreSpent, IsSpent}
+pub use Rattle.ent_alloc.specs.Within.{IsBeyond, allowed, slots_after_flush, within}
 pub use Rattle.ent_alloc.specs.declared.fault.AllocFault.{AllocFault}
 pub use Rattle.ent_alloc.specs.declared.image.Header.{Header}
 pub use Rattle.ent_alloc.specs.declared.image_fault.ImageFault.{ImageFault}
-pub use Rattle.ent_alloc.specs.declared.image_fault.ImageFault.TheVariants.{Counts, Length, Limits as BadLimits, Magic, Memory, Position, Slot, Version}
+pub use Rattle.ent_alloc.specs.declared.image_fault.ImageFault.TheVariants.{Bound, Counts, Length, Limits as BadLimits, Magic, Memory, Position, Slot, Version}
 pub use Rattle.ent_alloc.specs.declared.portion.Portion.{Portion}
 pub use Rattle.ent_alloc.specs.declared.refused.Refused.{Refused}
 pub use Rattle.ent_alloc.specs.declared.requests.Requests.{Requests}

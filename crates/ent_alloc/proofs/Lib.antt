@@ -28,6 +28,8 @@ pub mod ImageHeader
 pub mod ImageFront
 pub mod ImageFaults
 pub mod ImageOf
+pub mod Runs
+pub mod Within
 pub mod Fronts
 pub mod Waits
 pub mod FrontPools

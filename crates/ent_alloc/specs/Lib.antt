@@ -17,3 +17,5 @@ pub mod FirstFault
 pub mod Fault
 pub mod Spent
 pub mod History
+pub mod Runs
+pub mod Within

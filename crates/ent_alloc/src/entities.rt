@@ -1,6 +1,6 @@
 ghost use Rattle.std.specs.Prelude.{◌≡◌, ◌≢◌, ◌+◌, ◌-◌, ◌^◌, ◌<◌, ◌≤◌, ◌↔◌, ◌⊎◌, ◌||◌};
 ghost use Rattle.std.specs.Prelude.{IsTrue, IfOk, OnOk, OnSome, OnErr, IsErrOf, IfSome, IfNone, Some, None};
-ghost use Rattle.std.specs.Prelude.{true, false};
+ghost use Rattle.std.specs.Prelude.{true, false, List};
 ghost use Rattle.std.specs.Prelude.{[], ◌++◌, All, AllPairs, length, slice_get, vec_len, vec_capacity};
 ghost use Rattle.std.specs.FinSet as set;
 ghost use Rattle.std.specs.FinMap as map;
@@ -11,6 +11,9 @@ ghost use Rattle.ent_alloc.specs.Sequential.{after_alloc, after_free};
 ghost use Rattle.ent_alloc.specs.Limits.{without_placeholder};
 ghost use Rattle.ent_alloc.specs.Sound.{IsSound, IsWithin};
 ghost use Rattle.ent_alloc.specs.Entities.{HasRowsOfLiving};
+ghost use Rattle.ent_alloc.specs.Runs.{Step, IsRun, after_run, given_in_run};
+ghost use Rattle.ent_alloc.specs.Spent.{AreSpent};
+ghost use Rattle.ent_alloc.specs.Within.{slots_after_flush};
 
 use crate::absent::Absent;
 use crate::fault::{AllocFault, FreeFault, Freed};
@@ -72,6 +75,10 @@ impl Entities {
         ensures allocator { result.allocator ≡ opening limits }
         ensures rows { result.rows ≡ map.empty }
         ensures rows_of_living { HasRowsOfLiving result }
+
+        // Whatever calls come then, no handle is given twice, and none that was given is given again.
+        ensures given_once { (steps : List Step) → IsRun result.allocator steps
+            → AreSpent (after_run result.allocator steps) (given_in_run result.allocator steps) }
     {
         Entities {
             slots: Slots::new(alloc, limits),
@@ -97,6 +104,10 @@ impl Entities {
         ensures allocator { result.allocator ≡ opening (without_placeholder limits) }
         ensures rows { result.rows ≡ map.empty }
         ensures rows_of_living { HasRowsOfLiving result }
+
+        // Whatever calls come then, no handle is given twice, and none that was given is given again.
+        ensures given_once { (steps : List Step) → IsRun result.allocator steps
+            → AreSpent (after_run result.allocator steps) (given_in_run result.allocator steps) }
     {
         Entities::new(alloc, limits.keeping_placeholder())
     }
@@ -123,6 +134,24 @@ impl Entities {
         ensures { result ≡ self.now.allocator.made }
     {
         self.slots.made()
+    }
+
+    /// How many slots there are after the next [`flush`](Self::flush): those that were made, and one for
+    /// each reserved handle of a new slot.
+    ///
+    /// ```
+    /// use forgeni::Entities;
+    ///
+    /// let mut entities = Entities::new();
+    /// entities.request_many(5)?;
+    /// assert_eq!((entities.total(), entities.total_after_flush()), (0, 5));
+    /// # Ok::<(), Box<dyn std::error::Error>>(())
+    /// ```
+    #[must_use]
+    pub fn total_after_flush(&self) -> u32
+        ensures { result ≡ slots_after_flush self.now.allocator }
+    {
+        self.total() + self.requests.fresh(self.slots.waiting())
     }
 
     /// How many slots can still be made.

@@ -47,6 +47,13 @@ pub enum ImageFault {
         /// The position, counted from that of the slot that is given last.
         position: u32,
     },
+    /// After its next flush the allocator would have more slots than
+    /// [`read_image_within`](crate::Entities::read_image_within) was allowed.
+    #[error("{slots} slots are more than are allowed")]
+    Bound {
+        /// How many slots it would have.
+        slots: u32,
+    },
     /// Out of memory.
     #[error("out of memory")]
     Memory,
