@@ -5,7 +5,7 @@ use Rattle.std.specs.FinMap as map
 use mir.Syntax.{named}
 use Rattle.ent_handle.specs.Handle.{Handle}
 use Rattle.ent_storage.specs.HandleMap.{HasLater, IsBeyond, without_slot}
-use Rattle.ent_storage.specs.SparseMap.{SparseMap, IsFullFor, with_written_in, some_written}
+use Rattle.ent_storage.specs.SparseMap.{SparseMap, IsFullFor, HasNone, with_written_in, some_written}
 use Rattle.ent_storage.specs.declared.sparse_map.entry.Entry.{Entry}
 pub use Rattle.ent_storage.specs.declared.sparse_map.entry.Entry.TheVariants.{Occupied, Vacant}
 use Rattle.ent_storage.specs.declared.sparse_map.entry.OccupiedEntry.{OccupiedEntry}
@@ -59,6 +59,7 @@ module _ {T : Type 0} where
     pub later : (error ≡ Some why.TheVariants.Later)
         ↔ (¬ (IsBeyond m.limit h) × HasLater m.values h)
     pub memory : error ≡ Some why.TheVariants.Memory → IsFullFor m h.index
+    pub memory_for_a_new_slot : error ≡ Some why.TheVariants.Memory → HasNone m.values h.index
 
   -- the occupied entry, once it has the value
   abbrev pub with_value : OccupiedEntry T → T → OccupiedEntry T

@@ -48,6 +48,10 @@ module _ {T : Type 0} where
   abbrev pub IsFullFor : SparseMap T → ℕ → Type 0
   IsFullFor m index = (m.slots ≤ index) ⊎ (m.room ≤ map.len m.values)
 
+  -- no occupant of the slot has a value
+  abbrev pub HasNone : HandleValues T → ℕ → Type 0
+  HasNone m index = (h : Handle) → h.index ≡ index → map.get m h ≡ None
+
   -- the map after a write to the value of a handle
   abbrev pub with_written_in : SparseMap T → Handle → T → SparseMap T
   with_written_in m h value = record m { values = map.insert m.values h value }

@@ -8,7 +8,7 @@ ghost use Rattle.std.specs.Borrow.{sem};
 ghost use Rattle.std.specs.FinMap as map;
 ghost use Rattle.ent_handle.specs.Handle.{Handle};
 ghost use Rattle.ent_storage.specs.HandleMap.{no_limit, IsBeyond, without_slot, HasLater, error_of};
-ghost use Rattle.ent_storage.specs.SparseMap.{AreEntries, IsFullFor, IsPositioned, values_of};
+ghost use Rattle.ent_storage.specs.SparseMap.{AreEntries, HasNone, IsFullFor, IsPositioned, values_of};
 ghost use Rattle.ent_storage.specs.SparseMap.{AreCloned, IsEntryClone, IsFree};
 
 mod entry;
@@ -302,7 +302,8 @@ impl<T: Drop> SparseMap<T> {
     /// - `Limit`: the handle's slot is at or above the [`limit`](Self::limit), or the handle is
     ///   [`Handle::PLACEHOLDER`], which no map takes.
     /// - `Later`: a later occupant of the slot has a value.
-    /// - `Memory`: memory ran out. There may be more room than before.
+    /// - `Memory`: memory ran out, and no occupant of the slot has a value. There may be more room
+    ///   than before.
     pub fn insert(&mut self, handle: Handle, value: T) -> Result<Option<T>, Uninserted<T>>
         ensures ok { OnOk result (self.new.values
             ≡ map.insert (without_slot self.old.values handle.index) handle value) }
@@ -317,6 +318,8 @@ impl<T: Drop> SparseMap<T> {
             ↔ (¬ (IsBeyond self.old.limit handle) × HasLater self.old.values handle) }
         ensures memory { error_of result ≡ Some InsertError.Memory
             → IsFullFor self.old handle.index }
+        ensures memory_for_a_new_slot { error_of result ≡ Some InsertError.Memory
+            → HasNone self.old.values handle.index }
         ensures back { IfErr result (λ refused. refused.value ≡ value) }
         ensures err { OnErr result (self.new.values ≡ self.old.values) }
     {
@@ -430,7 +433,7 @@ impl<T: Clone> SparseMap<T> {
     /// # Errors
     ///
     /// Out of memory. Nothing has changed if there wasn't room for the source. If there was, no
-    /// values are left.
+    /// values are left, and the limit is as before.
     ///
     /// # Panics
     ///
@@ -443,7 +446,13 @@ impl<T: Clone> SparseMap<T> {
         ensures memory { OnErr result (0 < source.now.slots) }
         ensures refused { OnErr result (self.old.room < map.len source.now.values
             → self.new ≡ self.old) }
-        ensures left { OnErr result ((self.new ≡ self.old) ⊎ (self.new.values ≡ map.empty)) }
+        ensures left { OnErr result ((self.new ≡ self.old)
+            ⊎ (self.new ≡ record self.old {
+              values = map.empty;
+              slots = source.now.slots;
+              room = self.new.room;
+            })) }
+        ensures room { OnErr result (self.old.room ≤ self.new.room) }
     {
         let values = source.entries.len();
         let slots = source.positions.len();
@@ -499,6 +508,8 @@ fn put<T: Drop>(
     ensures memory { error_of result ≡ Some InsertError.Memory
         → (length positions.old.items ≤ handle.index)
         ⊎ (vec_capacity entries.old ≤ length entries.old.items) }
+    ensures memory_for_a_new_slot { error_of result ≡ Some InsertError.Memory
+        → IsFree entries.old.items handle.index }
     ensures back { IfErr result (λ refused. refused.value ≡ value) }
     ensures err { OnErr result (entries.new.items ≡ entries.old.items) }
 {
