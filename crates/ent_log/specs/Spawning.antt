@@ -17,10 +17,12 @@ returned (Err why) = Err (as_reserve_error why)
 pub record Requests (before : Entities) (reply : Result Handle Refused) (after : Entities)
     : Type 0 where
   pub given : IfOk reply (λ h. reply_to before.allocator 1 ≡ Ok (h ∷ []))
-  pub refused_of : IfErr reply (λ why. (why ≡ refused.Space 1 0) ⊎ (why ≡ refused.Quota 0))
+  -- it is refused only if no handle is left, or too many were requested since the last flush
+  pub refused_of : IfErr reply (λ why. ((why ≡ refused.Space 1 0) × (before.allocator.pool ≡ []))
+      ⊎ ((why ≡ refused.Quota 0) × (2 ^ 50 ≤ before.allocator.asked)))
   pub empty : before.allocator.asked < 2 ^ 50 → before.allocator.pool ≡ []
       → reply ≡ Err (refused.Space 1 0)
-  -- it counts, unless too many were requested since the last flush
+  -- it counts, unless too many were requested
   pub step : before.allocator.asked < 2 ^ 50 → after.allocator ≡ after_take before.allocator 1
   pub full : 2 ^ 50 ≤ before.allocator.asked → reply ≡ Err (refused.Quota 0)
   pub unchanged : 2 ^ 50 ≤ before.allocator.asked → after ≡ before
