@@ -24,7 +24,7 @@ pub use Rattle.ent_log.specs.Logs.{entries_of, first_unreserved, is_reserved, sp
 pub use Rattle.ent_log.specs.Spawning.{returned}
 pub use Rattle.ent_log.specs.declared.entry.Entry.{Entry}
 pub use Rattle.ent_log.specs.declared.entry.Entry.TheVariants.{Command, Spawn}
-pub use Rattle.ent_runner.proofs.Adding.{added_at, all_either, each_may, ended_by, ours, own_mapped, stopped_last}
+pub use Rattle.ent_runner.proofs.Adding.{added_at, all_either, each_may, ended_by, of_each, ours, own_mapped, stopped_last}
 pub use Rattle.ent_runner.proofs.Conducting.{none_weaker, some_weaker, written_back}
 pub use Rattle.ent_runner.proofs.EachOutput.{broken_off_seen, done_seen, everywhere}
 pub use Rattle.ent_runner.proofs.ListedOnce.{flat_flat}

@@ -4,7 +4,12 @@ use Rattle.ent_alloc.specs.declared.refused.Refused.TheVariants as refused
 use Rattle.ent_alloc.specs.declared.reserve_error.ReserveError.TheVariants as failed
 
 abbrev gained_nothing : (r : Record) → HasGained r r
-gained_nothing r = record { number = refl; reservations = []; entries = sym (append-nil r.entries) }
+gained_nothing r = record {
+  number = refl;
+  reservations = [];
+  entries = sym (append-nil r.entries);
+  one_each = All-nil (λ (c : Reservation). c.requested ≡ 1);
+}
 
 module _ {C : Type 0} where
   -- entries for which nothing was reserved
@@ -28,7 +33,13 @@ module _ {C : Type 0} where
         let g = r.gains some in
         let one = reservation_at before.own g.high 1 in
         rw g.after (record {
-          gained = record { number = refl; reservations = one ∷ []; entries = refl };
+          gained = record {
+            number = refl;
+            reservations = one ∷ [];
+            entries = refl;
+            one_each = All-cons (λ (c : Reservation). c.requested ≡ 1) one [] refl
+                (All-nil (λ (c : Reservation). c.requested ≡ 1));
+          };
           callers = All-cons (λ (c : Reservation). c.caller ≡ before.own.number) one [] refl
               (All-nil (λ (c : Reservation). c.caller ≡ before.own.number));
           given = rw g.after at given;
@@ -92,6 +103,8 @@ log_gains_then a b c xs ys first second = record {
     number = second.gained.number ∙ first.gained.number;
     reservations = first.gained.reservations ++ second.gained.reservations;
     entries = search (rules, append_assoc, map-append);
+    one_each = All-append (λ (r : Reservation). r.requested ≡ 1) first.gained.reservations second.gained.reservations
+        first.gained.one_each second.gained.one_each;
   };
   callers = All-append (λ (r : Reservation). r.caller ≡ a.number) first.gained.reservations second.gained.reservations
       first.callers (rw first.gained.number at second.callers);

@@ -1,5 +1,5 @@
 -- What a crew did whose jobs are systems that fill logs, and the history of its reservers.
-use Rattle.ent_log_runner.proofs.Common.{rules, All, slice_get, List, Some, Option, Vec, Global, IfSome, IfNone, none_weaker, some_weaker, ap, length, sym, ℕ, ◌<◌, ◌∙◌, ◌≡◌, slice_get_within, AllPairs, flat_map, range_with_len, IsPermutation, ◌==◌, Call, IsLegal, after_history, given_in, Allocator, spawned_in, Entry, added_at, all_either, each_may, ended_by, ours, own_mapped, stopped_last, each_of_all, filter_map_is, AreBrokenOff, AreDone, DidAll, OfEach, Respects, as_call, handles_of, history_of, reservations_of, opened_records, Record, LogGains, HaveLogged, HaveRun, IsBrokenOff, SystemMayHaveLogged, SystemMayLog, entries_by, given_to, log_at}
+use Rattle.ent_log_runner.proofs.Common.{rules, All, slice_get, List, Some, Option, Vec, Global, IfSome, IfNone, none_weaker, some_weaker, ap, length, sym, ℕ, ◌<◌, ◌∙◌, ◌≡◌, slice_get_within, AllPairs, flat_map, range_with_len, IsPermutation, ◌==◌, Call, IsLegal, after_history, given_in, Allocator, spawned_in, Entry, added_at, all_either, each_may, ended_by, of_each, ours, own_mapped, stopped_last, each_of_all, filter_map_is, AreBrokenOff, AreDone, DidAll, OfEach, Respects, as_call, handles_of, history_of, reservations_of, opened_records, Record, LogGains, HaveLogged, HaveRun, IsBrokenOff, SystemMayHaveLogged, SystemMayLog, entries_by, given_to, log_at}
 use Rattle.ent_log_runner.proofs.Gaining.{log_gains_nothing, log_gains_then}
 
 -- what a system may do as a job
@@ -26,6 +26,11 @@ module _ {C : Type 0} (start after : Allocator) (workers : ℕ) (opens records :
         ap given_in (filter_map_is (λ (call : Call). call.caller == k) as_call (reservations_of records))
         ∙ (ap handles_of (rw r.2.gained.number at own.own) ∙ r.2.given)
 
+    one_each : All (λ (call : Call). call.requested ≡ 1) (history_of records)
+    one_each = of_each LogGains log_gains_nothing log_gains_then P logs start workers opens records opened_are many
+        long ran each did (λ call. call.requested ≡ 1)
+        (λ k xs r less g. rw (g.gained.entries, own_mapped g.gained.reservations) g.gained.one_each)
+
     run_is : HaveRun workers count start logs after
     run_is = search (
       rules,
@@ -39,6 +44,7 @@ module _ {C : Type 0} (start after : Allocator) (workers : ℕ) (opens records :
       each_log,
       ours LogGains log_gains_nothing log_gains_then P logs start workers opens records opened_are many long ran each
           did (λ k xs r g. rw (g.gained.entries, own_mapped g.gained.reservations) g.callers),
+      one_each,
     )
 
     each_holds : (n : ℕ) → n < count → P n (log_at logs n)

@@ -9,6 +9,7 @@ logged_none may workers s = record {
     legal = tt;
     after_is = refl;
     callers = All-nil (λ (call : Call). call.caller < workers);
+    one_each = All-nil (λ (call : Call). call.requested ≡ 1);
     ran = replicate workers no_jobs;
     each_worker = length-replicate workers no_jobs;
     once = none_once workers;

@@ -9,11 +9,12 @@ use Rattle.ent_log.specs.declared.entry.Entry.{Entry}
 use Rattle.ent_log.specs.Logs.{spawned_in}
 use Rattle.ent_log_runner.specs.declared.commands.LogCommands.{LogCommands}
 
--- The reserver has made these reservations more, and has met nobody.
+-- The reserver has made these reservations more, of one handle each, and has met nobody.
 pub record HasGained (before after : Record) : Type 0 where
   pub number : after.number ≡ before.number
   pub reservations : List Reservation
   pub entries : after.entries ≡ before.entries ++ map Own reservations
+  pub one_each : All (λ (r : Reservation). r.requested ≡ 1) reservations
 
 abbrev pub Filled : Type 0 → Type 0
 Filled C = LogCommands (List (Entry C))

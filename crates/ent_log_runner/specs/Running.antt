@@ -44,6 +44,8 @@ module _ {C : Type 0} where
     pub legal : IsLegal before history
     pub after_is : after ≡ after_history before history
     pub callers : All (λ (call : Call). call.caller < workers) history
+    -- Also a call that was refused requested one handle: no others used the pool up.
+    pub one_each : All (λ (call : Call). call.requested ≡ 1) history
     -- for each worker the systems that it ran
     pub ran : List (List ℕ)
     pub each_worker : length ran ≡ workers

@@ -90,17 +90,23 @@ module _ {E : Type 0} (Adds : Record → List E → Record → Type 0) where
                 (did k mine (opened start k) r.0 at (search (rules, opened_get, slice_get_within ran k mine at)) r.1),
           )
 
+      -- what is so of each worker's own reservations is so of all
+      pub of_each : (Q : Call → Type 0) → ((k : ℕ) (xs : List E) (r : Record) → k < workers
+          → Adds (opened start k) xs r → All (λ c. Q (as_call c)) (own_reservations r.entries))
+          → All Q (history_of records)
+      of_each Q own = All-map Q as_call (reservations_of records) (all_sorted (λ c. Q (as_call c)) (own_of_all records)
+          (all_flat (λ c. Q (as_call c)) (λ (r : Record). own_reservations r.entries) records (λ k d within i e inner.
+          let mine = at_within ran k (omega (arith, teams, many, long)) in
+          let r = added_at k mine.0 mine.1 in
+          let less : k < workers = omega (arith, many, teams, slice_get_within ran k mine.0 mine.1) in
+          search (rules, get_or_from_slice_get records k r.0 d r.1, own k _ r.0 less r.2 i e))))
+
       -- the history has no calls of others
       pub ours : ((k : ℕ) (xs : List E) (r : Record) → Adds (opened start k) xs r
           → All (λ (c : Reservation). c.caller ≡ k) (own_reservations r.entries))
           → All (λ (call : Call). call.caller < workers) (history_of records)
-      ours own = All-map (λ (call : Call). call.caller < workers) as_call (reservations_of records)
-          (all_sorted (λ (c : Reservation). c.caller < workers) (own_of_all records)
-          (all_flat (λ (c : Reservation). c.caller < workers) (λ (r : Record). own_reservations r.entries) records
-          (λ k d within i e inner.
-          let mine = at_within ran k (omega (arith, teams, many, long)) in
-          let r = added_at k mine.0 mine.1 in
-          search (rules, get_or_from_slice_get records k r.0 d r.1, own k _ r.0 r.2 i e))))
+      ours own = of_each (λ call. call.caller < workers)
+          (λ k xs r less adds i e within. rw (own k xs r adds i e within) less)
 
       -- each output is as it may be
       pub each_may : (jobs : ℕ) → IsPermutation (flat_map (λ mine. mine) ran) (range_with_len 0 jobs) → (n : ℕ)
