@@ -81,7 +81,8 @@ impl Ended {
     ///
     /// # Errors
     ///
-    /// The same phase, if memory runs out. It can be tried again.
+    /// The same phase, if an allocation fails, and for no other reason. It can be tried again. A
+    /// phase without blocks in which nothing came from the shared cursor takes no memory.
     pub fn into_entities(self, alloc: Global) -> Result<Entities, Self>
         ensures after { IfOk result (λ entities. entities.allocator
             ≡ after_blocks self.phase.start self.phase.blocks) }
@@ -99,6 +100,9 @@ impl Ended {
             IsLive (after_flush entities.allocator) h
             ↔ (IsLive self.phase.start h ⊎ Contains entities.allocator.taken h)) }
         ensures handed_back { IfErr result (λ ended. ended ≡ self) }
+
+        // Without a block there is nothing to allocate. If there is one, only a test shows that
+        // ending succeeds.
         ensures memory { OnErr result (0 < length self.phase.blocks) }
     {
         let Ended {

@@ -23,7 +23,8 @@ use std::alloc::Global;
 ///
 /// # Errors
 ///
-/// [`Memory`], with the allocator as it was.
+/// [`Memory`], with the allocator as it was, if an allocation fails, and for no other reason. Some
+/// memory is for the cursor, so it may run out without blocks too.
 pub fn open_with_overflow(
     alloc: Global,
     entities: Entities,

@@ -66,10 +66,11 @@ impl Walk<'_> {
         while source.is_word(begin - 1) || [".", "]"].contains(&source.before(begin)) {
             begin = source.partner(begin - 1).min(begin - 1);
         }
+        let is_returned = source.at(begin) == "return";
         let is_dropped = source.has(begin - 2, &["_", "="]);
         let is_statement = [";", "{", "}"].contains(&source.before(begin));
         let ends = source.at(source.partner(open) + 1) == ";";
-        !(ends && (is_dropped || is_statement))
+        is_returned || !(ends && (is_dropped || is_statement))
     }
 
     /// Whether the value whose last token stands here is a list, if that is known.

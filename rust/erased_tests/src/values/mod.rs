@@ -8,6 +8,7 @@ mod faults;
 mod handles;
 mod inputs;
 mod maps;
+mod overflow;
 mod queues;
 mod replays;
 mod storages;
