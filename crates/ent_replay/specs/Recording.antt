@@ -13,6 +13,7 @@ use Rattle.ent_replay.specs.declared.trace.checker.Checker.{Checker}
 use Rattle.ent_replay.specs.Checker.{Checked, Follows, Reaches, AgreesWith, IsSettled}
 use Rattle.ent_replay.specs.Checker.{OnDiffers, Shows, NoneFollows, OnTooMany, IsTooMany}
 use Rattle.ent_replay.specs.Checker.{reserve_lines}
+use Rattle.ent_replay.specs.Trace.{IsAlone}
 use Rattle.ent_replay.specs.Logs.{Log}
 
 -- ---- one call
@@ -38,6 +39,7 @@ pub record Compares (old : Checked) (number : ℕ) (l : Call) (new : Result Chec
   pub reaches : IfOk new (Reaches old l)
   pub differs : IfErr new (λ e. OnDiffers e (Shows old number (l ∷ [])))
   pub none : IfErr new (λ e. OnDiffers e (λ d. NoneFollows old l))
+  pub alone : IfErr new (λ e. OnDiffers e (λ d. IsAlone l))
   pub too_many : IfErr new (λ e. OnTooMany e (IsTooMany old l))
   pub few : OnOk new (¬ (IsTooMany old l))
 

@@ -31,8 +31,8 @@ rows_asked app words m is matches = search (rules, program-simple)
 
 pub name_asked : (words : List Text) (f : Found) (r : Option (Bor Text))
     → option_map (λ s. s.now) r ≡ first_value f (codes "from") → rows_of f ≡ matches_of program words
-    → IfSome r (λ name. image_in words ≡ Some name.now)
-name_asked words f it reads are = search (rules, first_value-rows)
+    → option_map (λ s. s.now) r ≡ image_in words
+name_asked words f r reads are = sym (text-rows f (codes "from") reads refl) ∙ ap (first_of (codes "from")) are
 
 left_true : (a b : Bool) → (a && b) ≡ true → a ≡ true
 left_true a b e = search rules

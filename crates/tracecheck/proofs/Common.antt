@@ -42,24 +42,25 @@ pub use Rattle.ent_alloc.specs.Limits.{Limits}
 pub use Rattle.ent_alloc.specs.Sequential.{Allocator, cursor, opening}
 pub use Rattle.ent_alloc.specs.declared.space.Space.{Space}
 pub use Rattle.ent_handle.specs.Handle.{Handle}
-pub use Rattle.ent_replay.proofs.Lists.{no_middle}
+pub use Rattle.ent_replay.proofs.Lists.{no_middle, parted}
 pub use Rattle.ent_replay.proofs.MachineEvents.{some_of}
-pub use Rattle.ent_replay.proofs.Orders.{ReachesAll-next, requested-next, requested_by}
+pub use Rattle.ent_replay.proofs.Orders.{ReachesAll-next, called-Follows, requested-next, requested_by, run_more}
 pub use Rattle.ent_replay.proofs.ScheduleWords.{parts_first, parts_nonempty, parts_whole}
-pub use Rattle.ent_replay.specs.Checker.{AgreesWith, AllFollow, Checked, Follows, IsTooMany, NoneFollows, Reaches, Shows}
+pub use Rattle.ent_replay.specs.Checker.{AgreesWith, AllFollow, Checked, Follows, IsTooMany, NoneFollows, Reaches, ReachesAll, Shows}
 pub use Rattle.ent_replay.specs.Text.{ended, line_of, lines_of, without_return, words_of}
-pub use Rattle.ent_replay.specs.Trace.{AreAnswered, Fits, FitsReserved, IsOrderOf, after_line}
+pub use Rattle.ent_replay.specs.Trace.{Agrees, AreAnswered, Fits, FitsReserved, IsAlone, IsOrderOf, after_line}
 pub use Rattle.ent_replay.specs.declared.trace.call.Call.{Call}
 pub use Rattle.ent_replay.specs.declared.trace.difference.Difference.{Difference}
 pub use Rattle.ent_replay.specs.declared.trace.read_fault.Cause.{Cause}
 pub use Rattle.ent_replay.specs.declared.trace.reservation.Reservation.{Reservation}
 pub use Rattle.tracecheck.specs.Beginning.{IsImageOf, begun}
-pub use Rattle.tracecheck.specs.Calls.{Refused, calls_from, given_in, goes_on, requested_after, requested_from}
+pub use Rattle.tracecheck.specs.Calls.{AskFew, Refused, calls_from, given_in, goes_on, requested_after, requested_from}
 pub use Rattle.tracecheck.specs.Checking.{HasRead, HasTaken}
 pub use Rattle.tracecheck.specs.CommandLine.{IsFaultIn, both_fault, fault_in, has_both, has_limits, image_in, is_taken, program}
 pub use Rattle.tracecheck.specs.Status.{HasSaidFrom, IsSaidOf}
-pub use Rattle.tracecheck.specs.Verdict.{IsVerdict, MayEnd, StandsAt, agrees, asks_too_many, differs, differs_in_all, is_none}
+pub use Rattle.tracecheck.specs.Verdict.{AsksAt, DiffersAt, IsVerdict, MayEnd, StandsAt, agrees, asks_too_many, differs, differs_in_all, is_none}
 pub use Rattle.tracecheck.specs.declared.checking.Checking.{Checking}
 pub use Rattle.tracecheck.specs.declared.checking.End.{End}
 pub use Rattle.tracecheck.specs.declared.command_line.Beginning.{Beginning}
 pub use Rattle.tracecheck.specs.declared.status.Status.{Status}
+pub use Rattle.tracecheck.specs.declared.verdict.Verdict.{Verdict}

@@ -1,5 +1,5 @@
 -- What is said of a trace whose first line can't be. The edits in must-fail/ say something else of it.
-use Rattle.tracecheck.proofs.Common.{no_middle, rules, ◌≡◌, ℕ, ◌+◌, ◌^◌, ◌<◌, List, [], ◌∷◌, ◌++◌, length, take, None, Some, Ok, Err, refl, arith, if◌then◌else◌, common_steps, Handle, Space, Limits, Allocator, cursor, opening, Difference, Call, Reservation, AreAnswered, Fits, FitsReserved, IsOrderOf, after_line, line_of, words_of, calls_from, requested_from, HasTaken, IsVerdict, asks_too_many, differs, Checking, Bool, true}
+use Rattle.tracecheck.proofs.Common.{no_middle, rules, ◌≡◌, ℕ, ◌+◌, ◌^◌, ◌<◌, List, [], ◌∷◌, ◌++◌, length, take, None, Some, Ok, Err, refl, arith, if◌then◌else◌, common_steps, Handle, Space, Limits, Allocator, cursor, opening, Difference, Call, Reservation, AreAnswered, Fits, FitsReserved, IsOrderOf, after_line, line_of, words_of, calls_from, requested_from, AskFew, HasTaken, IsVerdict, asks_too_many, differs, Checking, Bool, true}
 use Rattle.ent_replay.specs.declared.trace.call.Call.TheVariants as line
 use Rattle.ent_replay.specs.declared.trace.reply.ReserveReply.TheVariants as reserve
 use Rattle.tracecheck.specs.declared.verdict.Verdict.TheVariants as verdict
@@ -55,6 +55,9 @@ said limits = record {
 }
 
 module _ (limits : Limits) (one two : List ℕ) (read : calls_from 1 (one ∷ []) ≡ Ok (line.Reserve first ∷ [])) where
+  few : AskFew 0 (line.Reserve first ∷ [])
+  few = (omega arith, omega arith)
+
   pub names_the_first : line_of 2 (words_of two) ≡ Ok (Some (line.Flush None))
       → IsVerdict (opening limits) (one ∷ two ∷ []) (verdict.Differs (said limits))
   names_the_first is = differs (said limits) (record {
@@ -62,6 +65,8 @@ module _ (limits : Limits) (one two : List ℕ) (read : calls_from 1 (one ∷ []
     calls = line.Reserve first ∷ [];
     next = line.Flush None;
     stands = record { before = one ∷ []; text = two; after = []; is = refl; number_is = refl; read = read; named = is };
+    alone = tt;
+    few = few;
     checked = record { allocator = state limits; run = named ∷ [] };
     reached = (record { allocator = opening limits; run = first ∷ [] }, refl, refl);
     shows = record {

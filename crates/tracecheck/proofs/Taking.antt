@@ -1,6 +1,6 @@
 -- Lines that end with a line feed, and the last, which may have no end. One more line is taken, or shows what is to
 -- be said of the trace.
-use Rattle.tracecheck.proofs.Common.{rules, ◌≡◌, ◌≢◌, ℕ, ◌<◌, eqb, false, List, [], ◌∷◌, ◌++◌, length, All, refl, sym, ap, ◌∙◌, append_assoc, arith, common_steps, cond-false, ne_eqb, append-nil, nil_from_length, All-append, parts_whole, parts_first, parts_nonempty, Allocator, ended, lines_of, without_return, HasRead, HasTaken, Checking, cases_lt, ◌+◌, ◌^◌, ◌≤◌, Option, Some, None, Result, Ok, Err, length-append, sum_by_push, AgreesWith, Checked, Follows, IsTooMany, NoneFollows, Reaches, AllFollow, Shows, begun, ReachesAll-next, requested_by, requested-next, IsVerdict, StandsAt, agrees, asks_too_many, differs, differs_in_all, is_none, line_of, words_of, Difference, Call, Cause, Refused, calls_from, goes_on, given_in, requested_after, requested_from}
+use Rattle.tracecheck.proofs.Common.{rules, ◌≡◌, ◌≢◌, ℕ, ◌<◌, eqb, false, List, [], ◌∷◌, ◌++◌, length, All, refl, sym, ap, ◌∙◌, append_assoc, arith, common_steps, cond-false, ne_eqb, append-nil, nil_from_length, All-append, parts_whole, parts_first, parts_nonempty, Allocator, ended, lines_of, without_return, HasRead, HasTaken, Checking, cases_lt, ◌+◌, ◌^◌, ◌≤◌, Option, Some, None, Result, Ok, Err, length-append, sum_by_push, AgreesWith, Checked, Follows, IsTooMany, NoneFollows, Reaches, AllFollow, Shows, begun, ReachesAll-next, requested_by, requested-next, IsVerdict, StandsAt, agrees, asks_too_many, differs, differs_in_all, is_none, line_of, words_of, Difference, Call, Cause, Refused, calls_from, goes_on, given_in, requested_after, requested_from, AskFew, IsAlone}
 use Rattle.tracecheck.specs.declared.verdict.Verdict.TheVariants as verdict
 use Rattle.tracecheck.specs.declared.verdict.Refusal.TheVariants as refusal
 
@@ -111,10 +111,21 @@ pub AllFollow-call : (old middle new : Checked) (calls : List Call) (l : Call) �
 AllFollow-call old middle new calls l follow next = grind (arith, common_steps)
 
 -- what is requested with one more call
-requested_from-append : (n : ℕ) (calls : List Call) (l : Call) → requested_from n (calls ++ l ∷ []) ≡ requested_after
+pub requested_from-append : (n : ℕ) (calls : List Call) (l : Call) → requested_from n (calls ++ l ∷ []) ≡ requested_after
     (requested_from n calls) l
 requested_from-append n [] l = refl
 requested_from-append n (x ∷ calls) l = requested_from-append (requested_after n x) calls l
+
+-- so many are requested after all calls
+pub AskFew-all : (n : ℕ) (calls : List Call) → AskFew n calls → requested_from n calls ≤ 2 ^ 50
+AskFew-all n [] few = few
+AskFew-all n (x ∷ calls) few = AskFew-all (requested_after n x) calls few.1
+
+-- one more call
+AskFew-next : (n : ℕ) (calls : List Call) (l : Call) → AskFew n calls
+    → requested_after (requested_from n calls) l ≤ 2 ^ 50 → AskFew n (calls ++ l ∷ [])
+AskFew-next n [] l few next = (few, next)
+AskFew-next n (x ∷ calls) l few next = (few.0, AskFew-next (requested_after n x) calls l few.1 next)
 
 requested_next : (old new : Checked) (l : Call) → Reaches old l new → requested_by new ≡ requested_after (requested_by
     old) l
@@ -161,7 +172,9 @@ module _ (begin : Allocator) (texts : List (List ℕ)) (text : List ℕ) (old : 
     reached = ReachesAll-next (begun begin) old.comparer new.comparer h.calls l h.reached reaches;
     requested = requested_next old.comparer new.comparer l reaches ∙ ap (λ n. requested_after n l) h.requested
         ∙ sym (requested_from-append begin.asked h.calls l);
-    few = search (rules, requested_from-append, few_next);
+    few =
+        let few : requested_by old.comparer ≤ 2 ^ 50 = rw h.requested (AskFew-all begin.asked h.calls h.few) in
+        AskFew-next begin.asked h.calls l h.few (rw h.requested at (few_next old.comparer l few more));
     lines = omega (arith, h.lines, length-append texts (text ∷ []));
     given = omega (arith, h.given, given, sum_by_push given_in h.calls l);
   }
@@ -170,13 +183,15 @@ module _ (begin : Allocator) (texts : List (List ℕ)) (text : List ℕ) (old : 
     stands : StandsAt (texts ++ text ∷ after) number h.calls l
     stands = search rules
 
-    pub differs_here : (d : Difference) → Shows old.comparer number (l ∷ []) d → NoneFollows old.comparer l
-        → IsVerdict begin (texts ++ text ∷ after) (verdict.Differs d)
-    differs_here d shows none = differs d (record {
+    pub differs_here : (d : Difference) → IsAlone l → Shows old.comparer number (l ∷ []) d
+        → NoneFollows old.comparer l → IsVerdict begin (texts ++ text ∷ after) (verdict.Differs d)
+    differs_here d alone shows none = differs d (record {
       number = number;
       calls = h.calls;
       next = l;
       stands = stands;
+      alone = alone;
+      few = h.few;
       checked = old.comparer;
       reached = h.reached;
       shows = shows;
@@ -206,6 +221,7 @@ module _ (begin : Allocator) (texts : List (List ℕ)) (text : List ℕ) (old : 
         number_is = omega (arith, h.lines);
         calls = h.calls;
         read = h.read;
+        few = h.few;
         checked = old.comparer;
         reached = h.reached;
       })
@@ -222,6 +238,7 @@ pub differs_at_end : (begin : Allocator) (texts : List (List ℕ)) (old : Checki
 differs_at_end begin texts old d shows none h = differs_in_all d (record {
   calls = h.calls;
   read = h.read;
+  few = h.few;
   checked = old.comparer;
   reached = h.reached;
   shows = shows;

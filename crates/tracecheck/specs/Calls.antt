@@ -1,5 +1,6 @@
 -- The calls of a text, line by line, and how many handles they say were given out.
-use Rattle.std.specs.Prelude.{ℕ, ◌+◌, List, [], ◌∷◌, length, Option, Some, None, Result, Ok, Err}
+use Rattle.std.specs.Prelude.{ℕ, ◌+◌, ◌^◌, ◌≤◌, List, [], ◌∷◌, length}
+use Rattle.std.specs.Prelude.{Option, Some, None, Result, Ok, Err}
 use Rattle.ent_replay.specs.Text.{line_of, lines_of, words_of}
 use Rattle.ent_replay.specs.declared.trace.read_fault.Cause.{Cause}
 use Rattle.ent_replay.specs.declared.trace.call.Call.{Call}
@@ -50,3 +51,8 @@ requested_after n other = n
 abbrev pub requested_from : ℕ → List Call → ℕ
 requested_from n [] = n
 requested_from n (l ∷ calls) = requested_from (requested_after n l) calls
+
+-- after none of these calls more was requested since the last flush than an allocator counts
+abbrev pub AskFew : ℕ → List Call → Type 0
+AskFew n [] = n ≤ 2 ^ 50
+AskFew n (l ∷ calls) = (n ≤ 2 ^ 50) × AskFew (requested_after n l) calls

@@ -1,12 +1,12 @@
 -- What was taken of a trace so far.
-use Rattle.std.specs.Prelude.{◌≡◌, ◌≢◌, ℕ, ◌+◌, ◌^◌, ◌≤◌, List, ◌++◌, length, All, Ok}
+use Rattle.std.specs.Prelude.{◌≡◌, ◌≢◌, ℕ, ◌+◌, List, ◌++◌, length, All, Ok}
 use Rattle.std.specs.List.{sum_by}
 use Rattle.ent_alloc.specs.Sequential.{Allocator}
 use Rattle.ent_replay.specs.Checker.{AllFollow, ReachesAll, requested_in}
 use Rattle.tracecheck.specs.Beginning.{begun}
 use Rattle.ent_replay.specs.Text.{lines_of}
 use Rattle.ent_replay.specs.declared.trace.call.Call.{Call}
-use Rattle.tracecheck.specs.Calls.{calls_from, given_in, requested_from}
+use Rattle.tracecheck.specs.Calls.{AskFew, calls_from, given_in, requested_from}
 use Rattle.tracecheck.specs.declared.checking.Checking.{Checking}
 
 -- these lines were taken, from the first on
@@ -16,7 +16,7 @@ pub record HasTaken (begin : Allocator) (texts : List (List ℕ)) (c : Checking)
   pub follow : AllFollow (begun begin) calls c.comparer
   pub reached : ReachesAll (begun begin) calls c.comparer
   pub requested : c.comparer.allocator.asked + requested_in c.comparer.run ≡ requested_from begin.asked calls
-  pub few : requested_from begin.asked calls ≤ 2 ^ 50
+  pub few : AskFew begin.asked calls
   pub lines : c.lines ≡ length texts
   pub given : c.given ≡ sum_by given_in calls
 

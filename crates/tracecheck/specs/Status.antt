@@ -37,24 +37,24 @@ IsSaidOf begin ended text written = (v : Verdict) × IsVerdict begin (lines_of t
     × (status_of v ≡ ended) × (written ≡ verdict_text v)
 
 -- A line was written that may be said of the trace, which begins in the state that has this image. Or
--- the bytes are no image, and their first fault was written.
-abbrev pub HasSaidFrom : List ℕ → Status → Option (List ℕ) → Option (List ℕ) → Option (List ℕ)
-    → Type 0
-HasSaidFrom bytes ended input old new =
+-- the bytes are no image, their first fault was written, and the trace is unread.
+abbrev pub HasSaidFrom : List ℕ → Status → Type 0 → Option (List ℕ) → Option (List ℕ)
+    → Option (List ℕ) → Type 0
+HasSaidFrom bytes ended unread input old new =
     ((e : Entities) × IsImageOf bytes e × Writes (IsSaidOf e.allocator ended) input old new)
     ⊎ ((fault : ImageFault) × (first_fault bytes ≡ Some fault) × (ended ≡ status.Refused)
-    × Appends old new (refused_image_text fault))
+    × unread × Appends old new (refused_image_text fault))
 
 -- the trace begins so, with the bytes of the image that is named, if the devices tell
-abbrev pub HasSaidOf : Beginning → Status → Option (List ℕ) → Option (List ℕ) → Option (List ℕ)
-    → Option (List ℕ) → Type 0
-HasSaidOf (Limits limits) ended image input old new =
+abbrev pub HasSaidOf : Beginning → Status → Type 0 → Option (List ℕ) → Option (List ℕ)
+    → Option (List ℕ) → Option (List ℕ) → Type 0
+HasSaidOf (Limits limits) ended unread image input old new =
     Writes (IsSaidOf (opening limits) ended) input old new
-HasSaidOf Image ended image input old new =
-    IfSome image (λ bytes. HasSaidFrom bytes ended input old new)
+HasSaidOf Image ended unread image input old new =
+    IfSome image (λ bytes. HasSaidFrom bytes ended unread input old new)
 
 -- and the words ask for this
-abbrev pub HasSaid : List Text → Status → Option (List ℕ) → Option (List ℕ) → Option (List ℕ)
-    → Option (List ℕ) → Type 0
-HasSaid words ended image input old new =
-    (begin : Beginning) × AsksFor words begin × HasSaidOf begin ended image input old new
+abbrev pub HasSaid : List Text → Status → Type 0 → Option (List ℕ) → Option (List ℕ)
+    → Option (List ℕ) → Option (List ℕ) → Type 0
+HasSaid words ended unread image input old new =
+    (begin : Beginning) × AsksFor words begin × HasSaidOf begin ended unread image input old new

@@ -1,5 +1,5 @@
 -- What is said of a trace, and when.
-use Rattle.std.specs.Prelude.{⊤, ◌≡◌, ℕ, ◌+◌, ◌^◌, ◌<◌, ◌≤◌, ℤ, List, [], ◌∷◌, ◌++◌, length, map, codes}
+use Rattle.std.specs.Prelude.{⊤, ◌≡◌, ℕ, ◌+◌, ◌^◌, ◌<◌, ℤ, List, [], ◌∷◌, ◌++◌, length, map, codes}
 use Rattle.std.specs.Prelude.{◌==◌, if◌then◌else◌, Some, Ok, Err}
 use Rattle.std.specs.Fmt.{decimal, signed_decimal}
 use Rattle.std.specs.List.{sum_by}
@@ -8,7 +8,7 @@ use Rattle.ent_handle.specs.Text.{handle_text}
 use Rattle.ent_alloc.specs.Sequential.{Allocator}
 use Rattle.ent_replay.specs.Checker.{Checked, ReachesAll, Shows}
 use Rattle.tracecheck.specs.Beginning.{begun}
-use Rattle.ent_replay.specs.Trace.{Agrees}
+use Rattle.ent_replay.specs.Trace.{Agrees, IsAlone}
 use Rattle.ent_replay.specs.Text.{Word, cause_text, difference_text, line_of, spaced}
 use Rattle.ent_replay.specs.Text.{words_of}
 use Rattle.ent_replay.specs.declared.trace.difference.Difference.{Difference}
@@ -16,7 +16,7 @@ use Rattle.ent_replay.specs.declared.trace.check_error.CheckError.{CheckError}
 use Rattle.ent_replay.specs.declared.trace.check_error.CheckError.TheVariants as stop
 use Rattle.ent_replay.specs.declared.trace.call.Call.{Call}
 use Rattle.ent_replay.specs.declared.trace.read_fault.Cause.{Cause}
-use Rattle.tracecheck.specs.Calls.{calls_from, given_in, requested_from}
+use Rattle.tracecheck.specs.Calls.{AskFew, calls_from, given_in, requested_from}
 use Rattle.tracecheck.specs.declared.checking.End.{End}
 use Rattle.tracecheck.specs.declared.checking.End.TheVariants as end
 use Rattle.tracecheck.specs.declared.verdict.Refusal.{Refusal}
@@ -43,16 +43,19 @@ pub record AreTaken (begin : Allocator) (lines : List (List ℕ)) (number : ℕ)
   pub number_is : number ≡ length before + 1
   pub calls : List Call
   pub read : calls_from 1 before ≡ Ok calls
+  pub few : AskFew begin.asked calls
   pub checked : Checked
   pub reached : ReachesAll (begun begin) calls checked
 
--- The calls before this line were taken. With its call the difference shows, and no trace that goes on
--- after it agrees.
+-- The calls before this line were taken. With its call, which is no reservation, the difference shows,
+-- and no trace that goes on after it agrees.
 pub record DiffersAt (begin : Allocator) (lines : List (List ℕ)) (d : Difference) : Type 0 where
   pub number : ℕ
   pub calls : List Call
   pub next : Call
   pub stands : StandsAt lines number calls next
+  pub alone : IsAlone next
+  pub few : AskFew begin.asked calls
   pub checked : Checked
   pub reached : ReachesAll (begun begin) calls checked
   pub shows : Shows checked number (next ∷ []) d
@@ -62,6 +65,7 @@ pub record DiffersAt (begin : Allocator) (lines : List (List ℕ)) (d : Differen
 pub record DiffersInAll (begin : Allocator) (lines : List (List ℕ)) (d : Difference) : Type 0 where
   pub calls : List Call
   pub read : calls_from 1 lines ≡ Ok calls
+  pub few : AskFew begin.asked calls
   pub checked : Checked
   pub reached : ReachesAll (begun begin) calls checked
   pub shows : Shows checked 0 [] d
@@ -75,13 +79,15 @@ pub record AsksAt (begin : Allocator) (lines : List (List ℕ)) (number : ℕ) :
   pub stands : StandsAt lines number calls next
   pub checked : Checked
   pub reached : ReachesAll (begun begin) calls checked
-  pub few : requested_from begin.asked calls ≤ 2 ^ 50
+  pub few : AskFew begin.asked calls
   pub many : 2 ^ 50 < requested_from begin.asked (calls ++ next ∷ [])
 
--- what may be said of the trace of these lines
+-- What may be said of the trace of these lines. Nothing else is said once more was requested than an
+-- allocator counts.
 pub data IsVerdict (begin : Allocator) (lines : List (List ℕ)) : Verdict → Type 0 where
   -- they are a trace, and it agrees
-  agrees : (calls : List Call) → calls_from 1 lines ≡ Ok calls → Agrees (begin) calls
+  agrees : (calls : List Call) → calls_from 1 lines ≡ Ok calls → AskFew begin.asked calls
+      → Agrees (begin) calls
       → IsVerdict begin lines (verdict.Agrees (length lines) (sum_by given_in calls))
   differs : (d : Difference) → DiffersAt begin lines d → IsVerdict begin lines (verdict.Differs d)
   differs_in_all : (d : Difference) → DiffersInAll begin lines d

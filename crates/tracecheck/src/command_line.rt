@@ -1,6 +1,6 @@
 //! Where a trace begins, by the words after the program's name.
-ghost use Rattle.std.specs.Prelude.{◌≡◌, ◌≢◌, ◌∷◌, [], IfOk, IfErr, IfSome, OnOk, OnErr, Ok, Some};
-ghost use Rattle.std.specs.Prelude.{codes, map, true, false};
+ghost use Rattle.std.specs.Prelude.{◌≡◌, ◌≢◌, ◌⊎◌, ◌∷◌, [], IfOk, IfErr, IfSome, OnOk, OnErr, Ok, Some};
+ghost use Rattle.std.specs.Prelude.{None, codes, map, option_map, true, false};
 ghost use Rattle.clap.specs.Words.{app_of, kind_of, rule_of};
 ghost use Rattle.clap.specs.declared.error.kind.ErrorKind.TheVariants.{ArgumentConflict};
 ghost use Rattle.cli.specs.Fault.{IsFaultAmong};
@@ -171,7 +171,8 @@ pub fn ask_for_a_check<S: AsStr>(alloc: Global, words: &[S]) -> Result<bool, All
     }
 }
 
-/// The file of the image that the words ask to begin with, if they do.
+/// The file of the image that the words ask to begin with, if they do. Words that are no command line
+/// ask for none.
 ///
 /// # Errors
 ///
@@ -180,8 +181,10 @@ pub fn image_name<'a, S: AsStr>(
     alloc: Global,
     words: &'a [S],
 ) -> Result<Option<&'a str>, AllocError>
-    ensures { IfOk result (λ name. IfSome name (λ name.
+    ensures named { IfOk result (λ name. IfSome name (λ name.
         image_in (map S.text words.now) ≡ Some name.now)) }
+    ensures none { result ≡ Ok None → IsFaulty (map S.text words.now)
+        ⊎ (image_in (map S.text words.now) ≡ None) }
 {
     match command_line(alloc, words) {
         Ok(Beginning::Image) => named_image(alloc, words),
@@ -192,8 +195,8 @@ pub fn image_name<'a, S: AsStr>(
 
 // The file that a command line names.
 fn named_image<'a, S: AsStr>(alloc: Global, words: &'a [S]) -> Result<Option<&'a str>, AllocError>
-    ensures { IfOk result (λ name. IfSome name (λ name.
-        image_in (map S.text words.now) ≡ Some name.now)) }
+    ensures { IfOk result (λ name. option_map (λ text. text.now) name
+        ≡ image_in (map S.text words.now)) }
 {
     match program(alloc)?.try_get_matches_from(words) {
         Ok(options) => Ok(options.get_str("from")),
