@@ -8,7 +8,7 @@ pub use Rattle.std.specs.Prelude.{IfOk, IsErrOf, OnErr, OnOk, if◌then◌else�
 pub use Rattle.ent_alloc.specs.Sequential.{listed, reply_from}
 pub use Rattle.ent_alloc.specs.declared.refused.Refused.{Refused}
 pub use Rattle.ent_alloc.specs.declared.reserve_error.ReserveError.{ReserveError}
-pub use Rattle.ent_blocks.specs.Blocks.{Block, Phase, Reserver, after_use, are_among, blocks_of, is_same, unused}
+pub use Rattle.ent_blocks.specs.Blocks.{Block, Phase, Reserver, after_refusal, after_use, are_among, blocks_of, is_same, unused}
 pub use Rattle.ent_blocks.specs.Faults.{IsMissing}
 pub use Rattle.ent_blocks.specs.declared.unended.EndError.{EndError}
 pub use Rattle.ent_handle.specs.Handle.{Handle}

@@ -2,6 +2,7 @@
 -- its own block, in the pool's order, whatever the others do.
 use Rattle.std.specs.Prelude.{◌≡◌, ℕ, ◌+◌, ◌-◌, ◌^◌, ◌<◌, ◌≤◌, nat_le, ◌==◌, ◌&&◌, Bool}
 use Rattle.std.specs.Prelude.{if◌then◌else◌, true, false, List, [], ◌∷◌, ◌++◌, length, take, drop, map, refl}
+use Rattle.std.specs.Prelude.{max, min}
 use Rattle.std.specs.List.{flat_map, Contains}
 use Rattle.std.specs.Coded.{Coded, code_by, coded×, coded_ℕ, coded_list}
 use Rattle.std.specs.FinMap as maps
@@ -97,10 +98,21 @@ pub record Phase : Type 0 where
   pub number : ℕ
   pub phase : Blocks
 
--- the number of its phase, and its block
+-- the number of its phase, its block, and how many handles the largest of its refused requests was
+-- for
 pub record Reserver : Type 0 where
   pub number : ℕ
   pub block : Block
+  pub refused : ℕ
+
+-- after a request for so many that the block didn't have
+abbrev pub after_refusal : Reserver → ℕ → Reserver
+after_refusal r n = record r { refused = max r.refused n }
+
+-- How many handles would have been enough: those that were used, and the largest request that was
+-- refused. A number of 32 bits holds it.
+abbrev pub wanted_by : Reserver → ℕ
+wanted_by r = min (r.block.used + r.refused) (2 ^ 32 - 1)
 
 abbrev pub blocks_of : List Reserver → List Block
 blocks_of reservers = map (λ (r : Reserver). r.block) reservers
@@ -161,5 +173,6 @@ phase_code =
 
 abbrev pub reserver_code : Coded Reserver
 reserver_code =
-    code_by (ℕ × Block) (coded× coded_ℕ block_code) (λ r. (r.number, r.block))
-    (λ p. record { number = p.0; block = p.1 }) (λ _. refl)
+    code_by (ℕ × (Block × ℕ)) (coded× coded_ℕ (coded× block_code coded_ℕ))
+    (λ r. (r.number, (r.block, r.refused)))
+    (λ p. record { number = p.0; block = p.1.0; refused = p.1.1 }) (λ _. refl)

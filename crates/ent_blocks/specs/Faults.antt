@@ -1,5 +1,8 @@
 -- What is said of a refusal.
 use Rattle.std.specs.Prelude.{ℕ, ◌≡◌, Result, Ok, Err}
+use Rattle.ent_blocks.specs.Blocks.{Reserver, after_refusal}
+use Rattle.ent_blocks.specs.declared.block_error.BlockError.{BlockError}
+use Rattle.ent_blocks.specs.declared.block_error.BlockError.TheVariants as block
 use Rattle.ent_blocks.specs.declared.unended.EndError.{EndError}
 use Rattle.ent_blocks.specs.declared.unended.EndError.TheVariants as failed
 
@@ -14,3 +17,10 @@ IsMissing n failed.OtherPhase = ⊥
 IsMissing n failed.Order = ⊥
 IsMissing n (failed.Missing count) = count ≡ n
 IsMissing n failed.Memory = ⊥
+
+-- what a request that was refused leaves of its reserver: only if its block has too few, it remembers
+-- how many were wanted
+abbrev pub after_error : Reserver → BlockError → Reserver
+after_error r (block.Space wanted left) = after_refusal r wanted
+after_error r block.OtherPhase = r
+after_error r block.Memory = r

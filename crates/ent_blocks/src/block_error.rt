@@ -6,7 +6,8 @@ use ent_handle::Memory;
 use std::alloc::AllocError;
 use thiserror::Error;
 
-/// Why no handle of a block was reserved. Nothing has changed then.
+/// Why no handle of a block was reserved. Nothing has changed then, but that the reserver
+/// [remembers](crate::BlockReserver::wanted) a request for more than is left.
 #[derive(Clone, Copy, Debug, PartialEq, Eq, Hash, Error)]
 #[non_exhaustive]
 pub enum BlockError {

@@ -1,5 +1,6 @@
 ghost use Rattle.std.specs.Prelude.{◌≡◌};
 
+use crate::block_error::BlockError;
 use crate::blocks::Blocks;
 use crate::numbering::BlockNumbering;
 use crate::part::Part;
@@ -22,6 +23,8 @@ use std::marker::{Model, PhantomData};
 #[derive(Drop)]
 pub struct BlockReserver<J: BlockNumbering> {
     pub(crate) part: Part,
+    /// How many handles the largest of the refused requests was for.
+    pub(crate) refused: u32,
     pub(crate) number: u64,
     pub(crate) of: PhantomData<J>,
 }
@@ -33,7 +36,7 @@ impl<J: BlockNumbering> Model for BlockReserver<J> {
 
     ghost coded = { reserver_code };
 
-    ghost view = { λ r. record { number = r.number; block = r.part } };
+    ghost view = { λ r. record { number = r.number; block = r.part; refused = r.refused } };
 
     // Its block is one of those of the phase.
     ghost invariant = { λ r. IsOf (J.blocks_of r.number) r.part };
@@ -41,6 +44,8 @@ impl<J: BlockNumbering> Model for BlockReserver<J> {
 
 impl<J: BlockNumbering> BlockReserver<J> {
     ghost use Rattle.std.specs.Prelude.{◌≡◌, ◌↔◌, ◌-◌, ◌≤◌, IsTrue};
+    ghost use Rattle.ent_blocks.specs.Blocks.{after_refusal, wanted_by};
+    ghost use Rattle.ent_blocks.specs.declared.block_error.BlockError.TheVariants as why;
 
     /// How many handles the block has. It is less than what was wanted if the pool ended.
     #[must_use]
@@ -68,6 +73,35 @@ impl<J: BlockNumbering> BlockReserver<J> {
         self.part.left()
     }
 
+    /// How many handles would have been enough: those that are used, and the largest request that was
+    /// refused. A [`BlockSize`](crate::BlockSize) adapts to it. At most 4,294,967,295.
+    ///
+    /// ```
+    /// use forgeni::Entities;
+    ///
+    /// let (blocks, mut reservers) = Entities::new().open_in_blocks(&[64])?;
+    /// blocks.reserve_many(&mut reservers[0], 10)?;
+    /// assert_eq!(reservers[0].wanted(), 10);
+    /// assert!(blocks.reserve_many(&mut reservers[0], 100).is_err());
+    /// assert_eq!((reservers[0].used(), reservers[0].wanted()), (10, 110));
+    /// # Ok::<(), Box<dyn std::error::Error + Send + Sync>>(())
+    /// ```
+    #[must_use]
+    pub fn wanted(&self) -> u32
+        ensures { result ≡ wanted_by self.now }
+    {
+        self.part.used().saturating_add(self.refused)
+    }
+
+    /// Remembers a request for `wanted` handles, of which only `left` are left.
+    pub(crate) fn refuse(&mut self, wanted: u32, left: u32) -> BlockError
+        ensures remembers { self.new ≡ after_refusal self.old wanted }
+        ensures error { result ≡ why.Space wanted left }
+    {
+        self.refused = self.refused.max(wanted);
+        BlockError::Space { wanted, left }
+    }
+
     /// Whether it is of this phase.
     #[must_use]
     pub fn is_of(&self, blocks: &Blocks<J>) -> bool
@@ -85,6 +119,7 @@ pub fn again<J: BlockNumbering>(reserver: &BlockReserver<J>) -> BlockReserver<J>
 {
     BlockReserver {
         part: reserver.part.with_used(reserver.part.used()),
+        refused: reserver.refused,
         number: reserver.number,
         of: PhantomData,
     }

@@ -1,20 +1,23 @@
-ghost use Rattle.std.specs.Prelude.{◌≡◌, ◌*◌, min, max};
+ghost use Rattle.std.specs.Prelude.{◌≡◌, ◌*◌, ◌≤◌, min, max};
 
-/// How large a caller's block is in the next phase: twice what it used in this one, at least 64,
-/// and at most a limit. So a size follows from the phases before, and is the same on every machine.
+/// How large a caller's block is in the next phase: twice what it [wanted](crate::BlockReserver::wanted)
+/// in this one, at least 64, and at most a limit. So a size follows from the phases before, and is the
+/// same on every machine.
 ///
-/// A caller that was refused has used its block up, and gets one of twice the size.
+/// What a caller wanted is what it used, and the largest request that it was refused. So the next block
+/// has enough for that request too, unless the limit is less.
 ///
 /// ```
 /// use forgeni::{BlockSize, Entities};
 ///
 /// let mut sizes = [BlockSize::new(1000); 2];
 /// let (blocks, mut reservers) = Entities::new().open_in_blocks(&sizes.map(|it| it.size()))?;
-/// blocks.reserve_many(&mut reservers[1], 50)?;
+/// blocks.reserve_many(&mut reservers[0], 50)?;
+/// assert!(blocks.reserve_many(&mut reservers[1], 100).is_err());
 /// for (size, reserver) in sizes.iter_mut().zip(&reservers) {
-///     size.adapt(reserver.used());
+///     size.adapt(reserver.wanted());
 /// }
-/// assert_eq!(sizes.map(|it| it.size()), [64, 100]);
+/// assert_eq!(sizes.map(|it| it.size()), [100, 200]);
 /// # Ok::<(), Box<dyn std::error::Error + Send + Sync>>(())
 /// ```
 #[derive(Clone, Copy, Debug, PartialEq, Eq, Hash)]
@@ -51,24 +54,27 @@ impl BlockSize {
         self.limit
     }
 
-    /// Sets the size to the one that follows from how many handles were used in this phase.
-    pub fn adapt(&mut self, used: u32)
-        ensures { self.new ≡ record self.old { size = min (max 64 (2 * used)) self.old.limit } }
+    /// Sets the size to the one that follows from how many handles were
+    /// [wanted](crate::BlockReserver::wanted) in this phase.
+    pub fn adapt(&mut self, wanted: u32)
+        ensures next { self.new
+            ≡ record self.old { size = min (max 64 (2 * wanted)) self.old.limit } }
+        ensures enough { min wanted self.old.limit ≤ self.new.size }
     {
-        self.size = next_size(used, self.limit);
+        self.size = next_size(wanted, self.limit);
     }
 }
 
 /// The least size, unless the limit is less.
 const LEAST: u64 = 64;
 
-fn next_size(used: u32, limit: u32) -> u32
-    ensures { result ≡ min (max 64 (2 * used)) limit }
+fn next_size(wanted: u32, limit: u32) -> u32
+    ensures { result ≡ min (max 64 (2 * wanted)) limit }
 {
-    let twice = 2 * u64::from(used);
-    let wanted = if twice <= LEAST { LEAST } else { twice };
-    if wanted <= u64::from(limit) {
-        wanted as u32
+    let twice = 2 * u64::from(wanted);
+    let size = if twice <= LEAST { LEAST } else { twice };
+    if size <= u64::from(limit) {
+        size as u32
     } else {
         limit
     }

@@ -10,7 +10,7 @@ ghost use Rattle.ent_alloc.specs.Sound.{IsLive};
 ghost use Rattle.ent_alloc.specs.Entities.{HasRowsOfLiving};
 ghost use Rattle.ent_blocks.specs.Blocks.{rest_of, unused, blocks_of, are_among, accounted};
 ghost use Rattle.ent_blocks.specs.Blocks.{after_use, dealt};
-ghost use Rattle.ent_blocks.specs.Faults.{IsErrWith, IsMissing};
+ghost use Rattle.ent_blocks.specs.Faults.{IsErrWith, IsMissing, after_error};
 ghost use Rattle.ent_blocks.specs.declared.block_error.BlockError.TheVariants as refused;
 ghost use Rattle.ent_blocks.specs.declared.unended.EndError.TheVariants as failed;
 
@@ -22,7 +22,7 @@ use crate::numbering::BlockNumbering;
 use crate::part::Part;
 use crate::taking::{append, take_many, take_one};
 use crate::unended::{EndError, Unended};
-use ent_alloc::{Entities, Reserved};
+use ent_alloc::{Entities, Reserved, Space};
 use ent_handle::Handle;
 use std::alloc::Global;
 use std::marker::{Model, PhantomData};
@@ -145,8 +145,9 @@ impl<J: BlockNumbering> Blocks<J> {
     ///
     /// # Errors
     ///
-    /// Nothing has changed then. [`BlockError::OtherPhase`] if the reserver is of another phase.
-    /// [`BlockError::Space`], with 1 wanted and 0 left, if the block is used up.
+    /// No handle is used then. [`BlockError::OtherPhase`] if the reserver is of another phase.
+    /// [`BlockError::Space`], with 1 wanted and 0 left, if the block is used up: the reserver
+    /// [remembers](BlockReserver::wanted) it.
     #[inline]
     pub fn reserve(&self, reserver: &mut BlockReserver<J>) -> Result<Handle, BlockError>
         ensures reply { IfOk result (λ handle. reply_from self.now.phase.start.made
@@ -158,12 +159,16 @@ impl<J: BlockNumbering> Blocks<J> {
             ↔ (reserver.old.number ≢ self.now.number) }
         ensures err { IfErr result (λ error. (error ≡ refused.OtherPhase)
             ⊎ ((error ≡ refused.Space 1 0) × (reserver.old.block.used ≡ reserver.old.block.size))) }
-        ensures unchanged { OnErr result (reserver.new ≡ reserver.old) }
+        ensures remembers { IfErr result (λ error.
+            reserver.new ≡ after_error reserver.old error) }
     {
         if reserver.number != self.number {
             return Err(BlockError::OtherPhase);
         }
-        Ok(take_one(&self.entities, &mut reserver.part)?)
+        match take_one(&self.entities, &mut reserver.part) {
+            Ok(handle) => Ok(handle),
+            Err(Space { wanted, left }) => Err(reserver.refuse(wanted, left)),
+        }
     }
 
     /// Reserves the next `n` handles of the reserver's block, all of them or none. They are listed
@@ -185,10 +190,10 @@ impl<J: BlockNumbering> Blocks<J> {
     ///
     /// # Errors
     ///
-    /// Nothing has changed then. The error is the first of these that holds:
+    /// No handle is used then. The error is the first of these that holds:
     /// [`BlockError::OtherPhase`] if the reserver is of another phase; [`BlockError::Space`] if the
-    /// block has fewer than `n` handles left; [`BlockError::Memory`] if there is no memory for the
-    /// list.
+    /// block has fewer than `n` handles left, and the reserver [remembers](BlockReserver::wanted)
+    /// how many were wanted; [`BlockError::Memory`] if there is no memory for the list.
     pub fn reserve_many(
         &self,
         reserver: &mut BlockReserver<J>,
@@ -207,7 +212,8 @@ impl<J: BlockNumbering> Blocks<J> {
         ensures err { let left = reserver.old.block.size - reserver.old.block.used in
             IfErr result (λ error. (error ≡ refused.OtherPhase)
             ⊎ ((error ≡ refused.Space n left) ⊎ ((error ≡ refused.Memory) × (0 < n)))) }
-        ensures unchanged { OnErr result (reserver.new ≡ reserver.old) }
+        ensures remembers { IfErr result (λ error.
+            reserver.new ≡ after_error reserver.old error) }
     {
         let mut handles = Vec::new(self.alloc);
         self.reserve_into(reserver, &mut handles, n)?;
@@ -253,7 +259,8 @@ impl<J: BlockNumbering> Blocks<J> {
             IfErr result (λ error. (error ≡ refused.OtherPhase)
             ⊎ ((error ≡ refused.Space n left) ⊎ ((error ≡ refused.Memory)
             × (vec_capacity handles.old < vec_len handles.old + n)))) }
-        ensures unchanged { OnErr result (reserver.new ≡ reserver.old) }
+        ensures remembers { IfErr result (λ error.
+            reserver.new ≡ after_error reserver.old error) }
         ensures kept { OnErr result (handles.new.items ≡ handles.old.items) }
     {
         if reserver.number != self.number {
@@ -261,7 +268,7 @@ impl<J: BlockNumbering> Blocks<J> {
         }
         let left = reserver.part.left();
         if n > left {
-            return Err(BlockError::Space { wanted: n, left });
+            return Err(reserver.refuse(n, left));
         }
         handles.reserve(n as usize)?;
         let given = take_many(&self.entities, &mut reserver.part, n);
@@ -488,14 +495,15 @@ pub fn reserve_iter<'b, J: BlockNumbering>(
         ↔ ((reserver.old.number ≡ blocks.now.number) × (left < n)) }
     ensures err { let left = reserver.old.block.size - reserver.old.block.used in
         IfErr result (λ error. (error ≡ refused.OtherPhase) ⊎ (error ≡ refused.Space n left)) }
-    ensures unchanged { OnErr result (reserver.new ≡ reserver.old) }
+    ensures remembers { IfErr result (λ error.
+        reserver.new ≡ after_error reserver.old error) }
 {
     if reserver.number != blocks.number {
         return Err(BlockError::OtherPhase);
     }
     let left = reserver.part.left();
     if n > left {
-        return Err(BlockError::Space { wanted: n, left });
+        return Err(reserver.refuse(n, left));
     }
     Ok(take_many(&blocks.entities, &mut reserver.part, n))
 }

@@ -118,6 +118,7 @@ impl<J: BlockNumbering> Deal<J> {
         ensures phase { result.0 ≡ record { number = number; phase = self } }
         ensures reservers { blocks_of result.1.items ≡ self.blocks }
         ensures of { All (λ r. r.number ≡ number) result.1.items }
+        ensures none_refused { All (λ r. r.refused ≡ 0) result.1.items }
     {
         let Deal {
             alloc,
@@ -138,10 +139,12 @@ fn hand_out<J: BlockNumbering>(parts: &[Part], number: u64, reservers: &mut Vec<
     requires room { length parts.now ≤ vec_capacity reservers.old }
     ensures reservers { blocks_of reservers.new.items ≡ parts.now }
     ensures of { All (λ r. r.number ≡ number) reservers.new.items }
+    ensures none_refused { All (λ r. r.refused ≡ 0) reservers.new.items }
 {
     for part in parts {
         reservers.push_reserved(BlockReserver {
             part: part.with_used(0),
+            refused: 0,
             number,
             of: PhantomData,
         });

@@ -5,6 +5,7 @@ abbrev pub invariant-loop-part : goal.invariant-loop-part
 invariant-loop-part g l = record {
   reservers : blocks_of l.reservers.items ≡ take l.part-index l.parts;
   of : All (λ (r : Reserver). r.number ≡ l.number) l.reservers.items;
+  none_refused : All (λ (r : Reserver). r.refused ≡ 0) l.reservers.items;
   len : vec_len l.reservers ≡ l.part-index;
   room : length l.parts ≤ vec_capacity l.reservers;
 }

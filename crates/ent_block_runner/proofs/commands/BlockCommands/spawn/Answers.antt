@@ -1,4 +1,4 @@
-use Rattle.ent_block_runner.proofs.Drawn.{extends_spawn, refused_still, same_err}
+use Rattle.ent_block_runner.proofs.Drawn.{extends_spawn, no_handle, refused_still, same_memory}
 use Rattle.ent_block_runner.proofs.commands.BlockCommands.spawn.Goals as goal
 
 pub returns-clause-extends : goal.returns-clause-extends
@@ -7,8 +7,12 @@ returns-clause-extends g c =
     rw (← c.self.view_is) (extends_spawn _ _ c.spawn.result s.ok s.err s.replies
     (refused_still c.self.inside.source c.spawn.new.source c.spawn.result s.replies s.memory))
 
-pub returns-clause-err : goal.returns-clause-err
-returns-clause-err g c =
+pub returns-clause-none_used : goal.returns-clause-none_used
+returns-clause-none_used g c =
     let s = c.spawn.ensures in
-    rw (← c.self.view_is) (same_err _ _ c.spawn.result s.err
+    rw (← c.self.view_is) (no_handle c.self.inside.source c.spawn.new.source c.spawn.result
     (refused_still c.self.inside.source c.spawn.new.source c.spawn.result s.replies s.memory))
+
+pub returns-clause-memory : goal.returns-clause-memory
+returns-clause-memory g c =
+    let s = c.spawn.ensures in rw (← c.self.view_is) (same_memory _ _ c.spawn.result s.err s.memory)
