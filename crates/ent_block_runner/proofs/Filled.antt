@@ -1,5 +1,5 @@
 -- Systems that filled lists as the jobs of a crew, each from its own block. The lists are logs or queues.
-use Rattle.ent_block_runner.proofs.Common.{get_or, slice_get, [], zero, suc, All, All-map, List, Some, rules, arith, inl, inr, length, map, refl, sym, ℕ, ⊎_elim, ◌<◌, ◌∙◌, ◌∷◌, ◌≡◌, ◌⊎◌, length-map, get_or_from_slice_get, slice_get-get_or, slice_get_within, Block, Phase, Reserver, after_use, blocks_of, spawned_in, Entry, Command, after_commands, HoldsAt, at_within, get_mapped, mapped_at, each_done, each_either, AreBrokenOff, AreDone, Draws, AreReady, FillsAt, HaveFilled, IsBrokenOff, SystemMayLog, blocks_after, SystemMayIssue, View, HaveIssued, HaveStopped, IssuesAt, blocks_after_queues}
+use Rattle.ent_block_runner.proofs.Common.{AllPairs, All-nil, All-cons, all_pairs_push, common_steps, last_pushed, DidAll, DidUntil, ◌++◌, ◌-◌, get_or, slice_get, [], zero, suc, All, All-map, List, Some, rules, arith, inl, inr, length, map, refl, sym, ℕ, ⊎_elim, ◌<◌, ◌∙◌, ◌∷◌, ◌≡◌, ◌⊎◌, length-map, get_or_from_slice_get, slice_get-get_or, slice_get_within, Block, Phase, Reserver, after_use, blocks_of, spawned_in, Entry, Command, after_commands, HoldsAt, at_within, get_mapped, mapped_at, each_done, each_either, AreBrokenOff, AreDone, Draws, AreReady, FillsAt, HaveFilled, IsBrokenOff, SystemMayLog, blocks_after, SystemMayIssue, View, HaveIssued, HaveStopped, IssuesAt, blocks_after_queues}
 use Rattle.ent_queue.specs.Drawing.{AreDrawnBy}
 
 module _ {E : Type 0} where
@@ -82,13 +82,47 @@ module _ {E : Type 0} where
               All-map (λ (r : Reserver). r.number ≡ number) (λ (one : List E × Reserver). one.1) all of_phase,
             )
 
+        -- what a worker's systems filled, each of which had ended
+        all_ended : (outputs : List (List E × Reserver)) (a : L) (mine : List ℕ) (b : L)
+            → DidAll (λ n a one b. Fits n one) outputs a mine b
+            → All (λ n. May n (get_or (filled_of outputs) n [])) mine
+        all_ended outputs a [] b same = All-nil (λ n. May n (get_or (filled_of outputs) n []))
+        all_ended outputs a (n ∷ mine) b (j, (one, at, does), rest) = search (
+          rules,
+          All-cons,
+          filled_is outputs n one at,
+          (fits n one does).0,
+          all_ended outputs j mine b rest,
+        )
+
+        -- A worker ran a system after another one only if that one had ended.
+        in_turn : (outputs : List (List E × Reserver)) (a : L) (mine : List ℕ) (b : L)
+            → DidAll (λ n a one b. Fits n one) outputs a mine b
+            ⊎ DidUntil (λ n a one b. Fits n one) (λ n a one b. Left n one) outputs a mine b
+            → AllPairs (λ earlier later. May earlier (get_or (filled_of outputs) earlier [])) mine
+        in_turn outputs a mine b (inl did) = search (rules, all_ended outputs a mine b did)
+        in_turn outputs a mine b (inr did) = grind (
+          arith,
+          common_steps,
+          all_pairs_push,
+          all_ended outputs a did.earlier did.between did.ended,
+        )
+
+        -- the last system of a worker stopped
+        abbrev LastLeft : List (List E) → List (List ℕ) → Type 0
+        LastLeft lists ran = (worker : ℕ) × (mine : List ℕ) × (last : ℕ)
+            × (slice_get ran worker ≡ Some mine) × (slice_get mine (length mine - 1) ≡ Some last)
+            × Leave last (get_or lists last [])
+
         lost_all : (done : AreBrokenOff (λ n a one b. Fits n one) (λ n a one b. Left n one) jobs before after)
             → (length (filled_of done.outputs) ≡ done.count)
             × ((n : ℕ) → n < done.count → May n (get_or (filled_of done.outputs) n [])
             ⊎ Leave n (get_or (filled_of done.outputs) n []))
             × ((n : ℕ) (block : Block) → n < done.count → slice_get (blocks_of reservers) n ≡ Some block
             → Drawn block (get_or (filled_of done.outputs) n []))
-            × (((n : ℕ) × (n < done.count) × Leave n (get_or (filled_of done.outputs) n [])) ⊎ (done.count < jobs))
+            × ((worker : ℕ) (mine : List ℕ) → slice_get done.ran worker ≡ Some mine
+            → AllPairs (λ earlier later. May earlier (get_or (filled_of done.outputs) earlier [])) mine)
+            × (LastLeft (filled_of done.outputs) done.ran ⊎ (done.count < jobs))
         lost_all done =
             let Either : ℕ → List E → Type 0 = λ n l. May n l ⊎ Leave n l in
             let each : (n : ℕ) → n < done.count → HoldsAt (Fills Either) done.outputs n = λ n less one at. ⊎_elim
@@ -98,14 +132,21 @@ module _ {E : Type 0} where
               λ n less. may_at Either done.outputs n (omega (arith, less, done.each_output)) (each n less),
               λ n block less. drawn_at Either done.outputs n (omega (arith, less, done.each_output)) (each n less)
                   block,
+              λ worker mine at.
+                  let within = slice_get_within done.ran worker mine at in
+                  let a = at_within before worker (omega (arith, within, done.each_worker)) in
+                  let b = at_within after worker (omega (arith, within, done.each_worker, same)) in
+                  in_turn done.outputs a.0 mine b.0 (done.did worker mine a.0 b.0 at a.1 b.1),
               ⊎_elim (λ s.
-                  let last = s.7.stopped in
-                  let within = slice_get_within done.outputs s.7.last last.0 last.1 in
+                  let d = s.7 in
+                  let last = d.stopped in
                   inl (
-                    s.7.last,
-                    omega (arith, done.each_output),
-                    rw (filled_is done.outputs s.7.last last.0 last.1)
-                        ((left s.7.last last.0 last.2).0),
+                    s.0,
+                    s.1,
+                    d.last,
+                    s.4,
+                    rw d.numbers_are (last_pushed d.earlier d.last),
+                    rw (filled_is done.outputs d.last last.0 last.1) ((left d.last last.0 last.2).0),
                   )) inr done.why,
             )
 
@@ -133,13 +174,29 @@ module _ {C S L : Type 0} (may leave : S → List (Entry C) → Type 0) (systems
       ready.count _ _ _ _ (fits_log may) (fits_log leave) all done in
       (search (rules, d.0, d.1, d.2, done.count, length-map, slice_get_within), d.3)
 
-  pub lost_off : AreBrokenOff (λ n a one b. FillsAt may systems phase reservers n one)
+  pub lost_off : (workers : ℕ) → length before ≡ workers
+      → AreBrokenOff (λ n a one b. FillsAt may systems phase reservers n one)
       (λ n a one b. FillsAt leave systems phase reservers n one) (length systems) before after
-      → IsBrokenOff may leave systems phase.phase.start.pool (blocks_of reservers)
-  lost_off done =
+      → IsBrokenOff may leave systems workers phase.phase.start.pool (blocks_of reservers)
+  lost_off workers team done =
       let d = lost_all DrawsLog uses blocks_after refl (λ b bs l ls. refl) phase.number reservers before after same _
       ready.count _ _ _ _ (fits_log may) (fits_log leave) done in
-      search (rules, d.0, d.1, d.2, d.3, done.within, done.some)
+      record {
+        ran = done.ran;
+        each_worker = done.each_worker ∙ team;
+        count = done.count;
+        within = done.within;
+        some = done.some;
+        once = done.once;
+        rising = done.rising;
+        logs = filled_of done.outputs;
+        each_log = d.0;
+        each_system = d.1;
+        draws = d.2;
+        ended = d.3;
+        why = d.4;
+        busy = done.busy;
+      }
 
 -- queues
 module _ {S L : Type 0} (may leave : S → View → List Command → Type 0) (systems : List S) (view : View) (phase : Phase)
@@ -159,10 +216,26 @@ module _ {S L : Type 0} (may leave : S → View → List Command → Type 0) (sy
       phase.number reservers before after same _ ready.count _ _ _ _ (fits_queue may) (fits_queue leave) all done in
       (search (rules, d.0, d.1, d.2, done.count, length-map, slice_get_within), d.3)
 
-  pub issued_lost : AreBrokenOff (λ n a one b. IssuesAt may systems view phase reservers n one)
+  pub issued_lost : (workers : ℕ) → length before ≡ workers
+      → AreBrokenOff (λ n a one b. IssuesAt may systems view phase reservers n one)
       (λ n a one b. IssuesAt leave systems view phase reservers n one) (length systems) before after
-      → HaveStopped may leave systems view phase.phase.start (blocks_of reservers)
-  issued_lost done =
+      → HaveStopped may leave systems workers view phase.phase.start (blocks_of reservers)
+  issued_lost workers team done =
       let d = lost_all (AreDrawnBy phase.phase.start) after_commands blocks_after_queues refl (λ b bs l ls. refl)
       phase.number reservers before after same _ ready.count _ _ _ _ (fits_queue may) (fits_queue leave) done in
-      search (rules, d.0, d.1, d.2, d.3, done.within, done.some)
+      record {
+        ran = done.ran;
+        each_worker = done.each_worker ∙ team;
+        count = done.count;
+        within = done.within;
+        some = done.some;
+        once = done.once;
+        rising = done.rising;
+        queues = filled_of done.outputs;
+        each_queue = d.0;
+        each_system = d.1;
+        draws = d.2;
+        ended = d.3;
+        why = d.4;
+        busy = done.busy;
+      }

@@ -1,5 +1,5 @@
 -- Reservers of all blocks, in their order, still are so after systems have used the blocks.
-use Rattle.ent_block_runner.proofs.Common.{rules, ◌≡◌, refl, ap, subst, arith, ℕ, suc, ◌-◌, ◌<◌, List, [], ◌∷◌, length, map, true, IsTrue, if◌then◌else◌, common_steps, length-map, Block, unused, is_same, are_among, IsMissing, EndError, Command, blocks_after_queues}
+use Rattle.ent_block_runner.proofs.Common.{◌↔◌, IsWhyUnended, rules, ◌≡◌, refl, ap, subst, arith, ℕ, suc, ◌-◌, ◌<◌, List, [], ◌∷◌, length, map, true, IsTrue, if◌then◌else◌, common_steps, length-map, Block, unused, is_same, are_among, IsMissing, EndError, Command, blocks_after_queues}
 use Rattle.ent_blocks.specs.declared.unended.EndError.TheVariants as unended
 
 among_used : (blocks before : List Block) (queues : List (List Command))
@@ -40,14 +40,34 @@ only_memory unended.Order phase order none = absurd (order refl)
 only_memory (unended.Missing count) phase order none = absurd (none count refl)
 only_memory unended.Memory phase order none = refl
 
--- so they are refused for nothing but memory
-pub whole : (blocks before left : List Block) (queues : List (List Command)) (e : EndError) (count : ℕ)
-    (OfPhase : Type 0) → OfPhase → map unused before ≡ blocks → left ≡ blocks_after_queues before queues
-    → length left ≡ count → (e ≡ unended.OtherPhase → OfPhase → ⊥) → (e ≡ unended.Order → IsTrue (are_among blocks left)
-    → ⊥) → ((n : ℕ) → IsMissing n e → n ≡ length blocks - count) → (IsMissing (length blocks - count) e → count < length
-    blocks) → e ≡ unended.Memory
-whole blocks before left queues e count OfPhase of_phase all used long phase order counts missing =
-    let among : are_among blocks left ≡ true = search (rules, among_used blocks before queues, among_all before) in
-    let same : length blocks ≡ count = search (rules, length_used before queues, length-map before unused) in
-    only_memory e (λ is. phase is of_phase) (λ is. order is among)
-    (λ n is. absurd (omega (arith, same, missing (subst (λ m. IsMissing m e) (counts n is) is))))
+-- Why the world was not closed with what is left is why with what was handed in: the systems change only how many
+-- handles were used.
+pub why_unended : (blocks before left : List Block) (queues : List (List Command)) (e : EndError) (count : ℕ)
+    (OfPhase : Type 0) → OfPhase → left ≡ blocks_after_queues before queues → length left ≡ count
+    → ((e ≡ unended.OtherPhase) ↔ ¬ OfPhase)
+    → ((e ≡ unended.Order) ↔ (OfPhase × ¬ (IsTrue (are_among blocks left))))
+    → (IsMissing (length blocks - count) e
+    ↔ (OfPhase × (IsTrue (are_among blocks left) × (count < length blocks))))
+    → ((n : ℕ) → IsMissing n e → n ≡ length blocks - count) → (e ≡ unended.Memory → 0 < length blocks)
+    → IsWhyUnended blocks before e
+why_unended blocks before left queues e count OfPhase of_phase used long phase order missing counts memory =
+    let among : are_among blocks left ≡ are_among blocks before = search (rules, among_used blocks before queues) in
+    let same : count ≡ length before = search (rules, length_used before queues) in
+    let counted = rw (among, same) at missing in
+    let ordered = rw among at order in
+    record {
+      of_phase = λ is. phase.0 is of_phase;
+      order = (λ is. (ordered.0 is).1, λ not. ordered.1 (of_phase, not));
+      missing = (λ is. (counted.0 is).1, λ so. counted.1 (of_phase, so));
+      missing_count = rw same at counts;
+      memory = memory;
+    }
+
+-- so reservers of all blocks, in their order, are refused for nothing but memory
+pub whole : (blocks before : List Block) (e : EndError) → IsWhyUnended blocks before e
+    → map unused before ≡ blocks → e ≡ unended.Memory
+whole blocks before e why all =
+    let among : are_among blocks before ≡ true = search (rules, among_all before) in
+    let same : length blocks ≡ length before = search (rules, length-map before unused) in
+    only_memory e why.of_phase (λ is. why.order.0 is among)
+    (λ n is. absurd (omega (arith, same, (why.missing.0 (subst (λ m. IsMissing m e) (why.missing_count n is) is)).1)))

@@ -1,8 +1,10 @@
 -- Systems that fill logs, each from a block of its own. What comes of it depends on the blocks and on
--- the systems alone: there is no history, and no word of workers.
-use Rattle.std.specs.Prelude.{◌≡◌, ℕ, ◌<◌, ◌≤◌, ◌⊎◌, List, [], ◌∷◌, length, slice_get, slice_index_or}
-use Rattle.std.specs.Prelude.{Some}
-use Rattle.std.specs.List.{All}
+-- the systems alone: there is no history. Workers appear only in how far the systems came if they were
+-- broken off.
+use Rattle.std.specs.Prelude.{◌≡◌, ℕ, ◌<◌, ◌≤◌, ◌-◌, ◌⊎◌, List, [], ◌∷◌, length, slice_get}
+use Rattle.std.specs.Prelude.{Some, slice_index_or}
+use Rattle.std.specs.List.{All, AllPairs, flat_map, range_with_len}
+use Rattle.std.specs.List.Sorted.{IsPermutation}
 use Rattle.ent_handle.specs.Handle.{Handle}
 use Rattle.ent_blocks.specs.Blocks.{Block, Phase, Reserver, after_use}
 use Rattle.ent_log.specs.declared.entry.Entry.{Entry}
@@ -45,21 +47,39 @@ module _ {C : Type 0} where
         → Draws pool block (log_at logs n) (after_use block (length (spawned_in (log_at logs n))))
     pub used : after ≡ blocks_after before logs
 
-  -- Some systems have run, at least one if there are any, and the workers stopped. A log is what the
-  -- system had entered when it ended or stopped.
+  -- The system that one of these workers ran last ran out of memory, and left its log so.
+  abbrev pub HasStopped : {S : Type 0} → (S → List (Entry C) → Type 0) → List S
+      → List (List (Entry C)) → List (List ℕ) → Type 0
+  HasStopped leave systems logs ran =
+      (worker : ℕ) × (mine : List ℕ) × (last : ℕ) × (slice_get ran worker ≡ Some mine)
+      × (slice_get mine (length mine - 1) ≡ Some last)
+      × SystemMayLog leave systems last (log_at logs last)
+
+  -- That many workers have run some of the systems, and stopped.
   pub record IsBrokenOff {S : Type 0} (may leave : S → List (Entry C) → Type 0) (systems : List S)
-      (pool : List Handle) (before : List Block) : Type 0 where
+      (workers : ℕ) (pool : List Handle) (before : List Block) : Type 0 where
+    -- for each worker the systems that it ran: together they are the first ones, each once, and at
+    -- least one if there are any
+    pub ran : List (List ℕ)
+    pub each_worker : length ran ≡ workers
     pub count : ℕ
     pub within : count ≤ length systems
     pub some : 0 < length systems → 0 < count
+    pub once : IsPermutation (flat_map (λ mine. mine) ran) (range_with_len 0 count)
+    pub rising : All (AllPairs (λ m n. m < n)) ran
+    -- what each of them had entered when it ended or stopped
     pub logs : List (List (Entry C))
     pub each_log : length logs ≡ count
     pub each_system : (n : ℕ) → n < count → SystemMayHaveLogged may leave systems n (log_at logs n)
     pub draws : (n : ℕ) (block : Block) → n < count → slice_get before n ≡ Some block
         → Draws pool block (log_at logs n) (after_use block (length (spawned_in (log_at logs n))))
-    -- Why: a system ran out of memory, or some are left that no worker has room for.
-    pub why : ((n : ℕ) × (n < count) × SystemMayLog leave systems n (log_at logs n))
-        ⊎ (count < length systems)
+    -- A worker ran a system after another one only if that one had ended.
+    pub ended : (worker : ℕ) (mine : List ℕ) → slice_get ran worker ≡ Some mine
+        → AllPairs (λ earlier later. SystemMayLog may systems earlier (log_at logs earlier)) mine
+    -- Why: a system ran out of memory, or some are left that no worker has room for. If some are
+    -- left, each worker has run at least one, for whose log it had room from the beginning.
+    pub why : HasStopped leave systems logs ran ⊎ (count < length systems)
+    pub busy : count < length systems → All (λ mine. 0 < length mine) ran
 
 -- For private contracts: each system has a reserver of the phase.
 pub record AreReady (phase : Phase) (systems : ℕ) (reservers : List Reserver) : Type 0 where

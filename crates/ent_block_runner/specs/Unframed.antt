@@ -1,7 +1,9 @@
 -- What is said of a frame in blocks that didn't end.
-use Rattle.std.specs.Prelude.{◌≡◌, ℕ, List, Err}
-use Rattle.ent_blocks.specs.Blocks.{Reserver}
+use Rattle.std.specs.Prelude.{◌≡◌, ◌≢◌, ℕ, ◌<◌, ◌-◌, ◌↔◌, IsTrue, List, length, Err}
+use Rattle.ent_blocks.specs.Blocks.{Block, Reserver, are_among}
+use Rattle.ent_blocks.specs.Faults.{IsMissing}
 use Rattle.ent_blocks.specs.declared.unended.EndError.{EndError}
+use Rattle.ent_blocks.specs.declared.unended.EndError.TheVariants as unended
 use Rattle.ent_queue.specs.Command.{Command}
 use Rattle.ent_world.specs.InBlocks.{WorldInBlocks}
 use Rattle.ent_world.specs.Sync.{IfStopped}
@@ -44,3 +46,13 @@ abbrev pub IfStoppedAt : {J : Type 0} → (World → ℕ → ℕ → ℕ → Lis
 IfStoppedAt {J} P unframed = IfSyncStopped {J = J} (λ world fault queues.
     IfStopped {X = World} (Err fault) (λ system command done so_far.
     P world system command done queues)) unframed
+
+-- Why a world was not closed whose blocks are the first, with reservers of its phase whose blocks are
+-- the second.
+pub record IsWhyUnended (blocks reservers : List Block) (error : EndError) : Type 0 where
+  pub of_phase : error ≢ unended.OtherPhase
+  pub order : (error ≡ unended.Order) ↔ ¬ (IsTrue (are_among blocks reservers))
+  pub missing : IsMissing (length blocks - length reservers) error
+      ↔ (IsTrue (are_among blocks reservers) × (length reservers < length blocks))
+  pub missing_count : (n : ℕ) → IsMissing n error → n ≡ length blocks - length reservers
+  pub memory : error ≡ unended.Memory → 0 < length blocks

@@ -5,7 +5,7 @@ ghost use Rattle.ent_blocks.specs.Faults.{IsErrWith};
 ghost use Rattle.ent_block_runner.specs.FrameInBlocks.{EndsInBlocks, StopsInBlocks, view_in_blocks};
 ghost use Rattle.ent_block_runner.specs.Queues.{HaveStopped, HaveIssued};
 ghost use Rattle.ent_block_runner.specs.Unframed.{IsUnrun, IfUnrun, IfUnended, IfSyncStopped};
-ghost use Rattle.ent_block_runner.specs.Unframed.{IfStoppedAt};
+ghost use Rattle.ent_block_runner.specs.Unframed.{IfStoppedAt, IsWhyUnended};
 ghost use Rattle.ent_block_runner.specs.declared.run_error.RunError.TheVariants as failed;
 ghost use Rattle.ent_world.specs.Memory.{TakesMemoryAt};
 ghost use Rattle.ent_world.specs.World.{IsWorld};
@@ -104,7 +104,7 @@ where
 
     // What is left if the systems were broken off.
     ensures lost { IfErr result (IfUnrun (λ _ _ error. error ≡ failed.Lost
-        → HaveStopped S.may_issue S.may_leave systems.now (view_in_blocks opened)
+        → HaveStopped S.may_issue S.may_leave systems.now workers (view_in_blocks opened)
         opened.blocks.phase.start (blocks_of reservers.items))) }
     ensures lost_some { IfErr result (IfUnrun (λ _ _ error. error ≡ failed.Lost
         → 0 < length systems.now)) }
@@ -119,11 +119,15 @@ where
     ensures unended_of { IfErr result (IfUnended (λ _ left _ _.
         All (λ r. r.number ≡ opened.blocks.number) left)) }
 
-    // If the reservers are those of all blocks, in their order, the world is closed unless memory runs out.
+    // Why not. If the reservers are those of all blocks, in their order, it is because memory ran out.
+    ensures unended_why { IfErr result (IfUnended (λ _ _ error _.
+        IsWhyUnended opened.blocks.phase.blocks (blocks_of reservers.items) error)) }
     ensures whole { map unused (blocks_of reservers.items) ≡ opened.blocks.phase.blocks
         → IfErr result (IfUnended (λ _ _ error _. error ≡ unended.Memory)) }
 
-    // All systems ran, and the sync point stopped.
+    // All systems ran, and the sync point stopped. The reservers were those of all blocks.
+    ensures stopped_all { IfErr result (IfSyncStopped (λ _ _ _.
+        map unused (blocks_of reservers.items) ≡ opened.blocks.phase.blocks)) }
     ensures stopped { IfErr result (IfSyncStopped (λ world fault queues.
         StopsInBlocks S.may_issue systems.now opened (blocks_of reservers.items) queues world fault)) }
     ensures stopped_flushed { IfErr result (IfStoppedAt (λ world _ _ _ _. world.allocator.asked ≡ 0)) }

@@ -17,7 +17,7 @@ opened_get start number (suc count) zero less = ap (λ n. Some (opened start n))
 opened_get start number (suc count) (suc k) less = opened_get start (number + 1) count k (omega arith)
     ∙ ap (λ n. Some (opened start n)) (omega arith)
 
-last_pushed : {X : Type 0} (xs : List X) (y : X) → slice_get (xs ++ y ∷ []) (length (xs ++ y ∷ []) - 1) ≡ Some y
+pub last_pushed : {X : Type 0} (xs : List X) (y : X) → slice_get (xs ++ y ∷ []) (length (xs ++ y ∷ []) - 1) ≡ Some y
 last_pushed xs y =
     search (rules, arith, length-append xs (y ∷ []), slice_get-get_or (xs ++ y ∷ []) (length xs) y, get_or_push xs y y)
 

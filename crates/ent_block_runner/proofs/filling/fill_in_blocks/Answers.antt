@@ -24,5 +24,5 @@ returns-clause-of g c = rw c.split.ensures.second ((issued_done g.S.SystemInBloc
 pub returns-in_default-work-clause-lost : goal.returns-in_default-work-clause-lost
 returns-in_default-work-clause-lost g c lost = rw (sym c.deref-2.ensures.value)
     (issued_lost g.S.SystemInBlocks.may_issue g.S.SystemInBlocks.may_leave c.args.systems.now _ c.args.blocks.now _
-    (ready g (goal.at.returns-in_default-work-clause-lost g c).After-work) _ _ c.in_default-work.ensures.count
-    (rw c.in-Ok.ensures.crew.0 at c.in_default-work.ensures.broken_off))
+    (ready g (goal.at.returns-in_default-work-clause-lost g c).After-work) _ _ c.in_default-work.ensures.count c.args.workers
+    (search rules) (rw c.in-Ok.ensures.crew.0 at c.in_default-work.ensures.broken_off))

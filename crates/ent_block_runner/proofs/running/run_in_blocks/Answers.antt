@@ -23,5 +23,5 @@ returns-clause-of g c = rw c.split.ensures.second ((filled_done g.S.BlockSystem.
 pub returns-in_default-work-clause-lost : goal.returns-in_default-work-clause-lost
 returns-in_default-work-clause-lost g c lost = rw (sym c.deref-2.ensures.value)
     (lost_off g.S.BlockSystem.may_log g.S.BlockSystem.may_leave c.args.systems.now c.args.blocks.now _
-    (ready g (goal.at.returns-in_default-work-clause-lost g c).After-work) _ _ c.in_default-work.ensures.count
-    (rw c.in-Ok.ensures.crew.0 at c.in_default-work.ensures.broken_off))
+    (ready g (goal.at.returns-in_default-work-clause-lost g c).After-work) _ _ c.in_default-work.ensures.count c.args.workers
+    (search rules) (rw c.in-Ok.ensures.crew.0 at c.in_default-work.ensures.broken_off))
