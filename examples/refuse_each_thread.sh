@@ -1,7 +1,8 @@
 #!/bin/sh
-# Runs a script of frames on eight workers with each of its threads refused in turn, and with all of them. Each run must end as one on one
-# worker does: a worker whose thread can't be started runs on another thread, and the report by births doesn't tell. It needs `cc` on the
-# path, and the program as `.ci/run` or `prove.sh` built it. If it wasn't built, `rt`, which then proves it first.
+# Runs a script of frames on eight workers, in blocks too, with each of its threads refused in turn, and with all of them. Each run must end
+# as one on one worker does: a worker whose thread can't be started runs on another thread, and the report doesn't tell. There must be just
+# as many threads as the systems need, since no contract says that `run` starts any. It needs `cc` on the path, and the program as `.ci/run`
+# or `prove.sh` built it. If it wasn't built, `rt`, which then proves it first.
 set -eu
 here=$(cd "$(dirname "$0")" && pwd)
 room=$(mktemp -d)
@@ -10,22 +11,32 @@ program=${PROGRAMS:-$here/../crates/spawnrun/out}/spawnrun
 script=$here/data/spawners.json
 [ -x "$program" ] || (cd "$here/../crates/spawnrun" && rt run >"$room/built" 2>&1)
 cc -O2 -shared -fPIC -o "$room/refuse.so" "$here/refuse_thread.c" -ldl
-"$program" run <"$script" >"$room/wanted"
 
-# run NUMBER: the script with that thread refused. It makes the file refused if it came so far.
+# run NUMBER WORDS..: the script with that thread refused. It makes the file refused if it came so far.
 run() {
+    number=$1
+    shift
     rm -f "$room/refused"
-    LD_PRELOAD=$room/refuse.so REFUSE=$1 REFUSED=$room/refused "$program" run --workers 8 <"$script" >"$room/printed"
+    LD_PRELOAD=$room/refuse.so REFUSE=$number REFUSED=$room/refused "$program" run "$@" <"$script" >"$room/printed"
     cmp "$room/printed" "$room/wanted"
 }
 
-thread=1
-run "$thread"
-while [ -e "$room/refused" ]; do
-    thread=$((thread + 1))
-    run "$thread"
-done
-[ "$thread" -gt 1 ]
-run all
-[ -e "$room/refused" ]
-echo "each of $((thread - 1)) threads refused in turn, and all: undisturbed"
+# each WHAT WORDS..: the script with each of its threads refused in turn, and with all. Its frames have 3, 1 and 2 systems. A frame has
+# a worker for each system, and one of them runs in the thread that is there already.
+each() {
+    what=$1 threads=3
+    shift
+    "$program" run "$@" <"$script" >"$room/wanted"
+    for thread in $(seq "$threads"); do
+        run "$thread" "$@" --workers 8
+        [ -e "$room/refused" ] || { echo "$what: there is no thread $thread"; exit 1; }
+    done
+    run $((threads + 1)) "$@" --workers 8
+    [ ! -e "$room/refused" ] || { echo "$what: there are more than $threads threads"; exit 1; }
+    run all "$@" --workers 8
+    echo "$what: each of $threads threads refused in turn, and all: undisturbed"
+}
+
+each 'a script'
+each 'a script in blocks' --blocks 64
+each 'a script in blocks, with handles' --blocks 64 --show handles

@@ -39,8 +39,10 @@ schedule="cat '$here/one_caller.txt'"
 frames="cat '$here/data/reuse.json'"
 tells 'a schedule' '' "$schedule" replay
 tells 'a script' '' "$frames" run
+tells 'a script in blocks' '' "$frames" run --blocks 64
 tells 'a schedule after 1.1 seconds' '\r0 of 7 done\r\033[K' "sleep 1.1; $schedule" replay
 tells 'a script after 1.1 seconds' '\r0 of 3 done\r\033[K' "sleep 1.1; $frames" run
+tells 'a script in blocks after 1.1 seconds' '\r0 of 3 done\r\033[K' "sleep 1.1; $frames" run --blocks 64
 
 # A terminal writes each line feed as a carriage return and a line feed.
 built tracecheck

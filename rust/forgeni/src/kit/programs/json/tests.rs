@@ -159,6 +159,10 @@ fn where_a_string_ends_is_found_at_each_place_of_eight_bytes() {
             let text = format!("\"{}{mark}", "x".repeat(before));
             assert_eq!(tokens(&text).0 != "bad", wanted, "{text:?}");
         }
+        for letter in '\0'..='!' {
+            let text = format!("\"{}{letter}xxxxxxxx\"", "x".repeat(before));
+            assert_eq!(tokens(&text).0 != "bad", letter >= ' ', "{text:?}");
+        }
     }
 }
 
