@@ -1,10 +1,8 @@
-//! A reserver that is lent.
+//! A reserver that is lent, and how anything is.
 
 use crate::sharing::{OtherPhase, Reserver};
 use crate::{Handle, Refused, ReserveError};
 use alloc::vec::Vec;
-use core::fmt;
-use core::ops::Deref;
 
 /// A [`Reserver`] that is lent by a [`phase`](crate::Entities::phase) or by a pool of reservers. It
 /// reserves as the reserver does, at no extra cost.
@@ -15,45 +13,59 @@ pub struct Lent<'a> {
     reserver: &'a mut Reserver,
 }
 
-impl<'a> Lent<'a> {
-    pub(crate) fn of(reserver: &'a mut Reserver) -> Self {
-        Self { reserver }
-    }
+/// What is lent has these calls, as what it borrows has them, and all that can be read of that.
+macro_rules! lends {
+    ($Lent:ident.$field:ident: $Of:ident; $($call:ident($($name:ident: $type:ty),*) -> $returns:ty;)*) => {
+        impl<'a> $Lent<'a> {
+            pub(crate) fn of($field: &'a mut $Of) -> Self {
+                Self { $field }
+            }
 
+            $(
+                #[doc = concat!("As [`", stringify!($Of), "::", stringify!($call), "`].")]
+                ///
+                /// # Errors
+                ///
+                /// As there.
+                #[inline]
+                pub fn $call(&mut self, $($name: $type),*) -> $returns {
+                    self.$field.$call($($name),*)
+                }
+            )*
+        }
+
+        /// What can be read of it.
+        impl core::ops::Deref for $Lent<'_> {
+            type Target = $Of;
+
+            #[inline]
+            fn deref(&self) -> &$Of {
+                self.$field
+            }
+        }
+
+        impl core::fmt::Debug for $Lent<'_> {
+            fn fmt(&self, out: &mut core::fmt::Formatter<'_>) -> core::fmt::Result {
+                self.$field.fmt(out)
+            }
+        }
+    };
+}
+
+pub(crate) use lends;
+
+lends! {
+    Lent.reserver: Reserver;
+    reserve() -> Result<Handle, Refused>;
+    reserve_many(n: u32) -> Result<Vec<Handle>, ReserveError>;
+    reserve_into(handles: &mut Vec<Handle>, n: u32) -> Result<(), ReserveError>;
+}
+
+impl Lent<'_> {
     /// The same, for less long.
     #[cfg(feature = "std")]
     pub(crate) fn again(&mut self) -> Lent<'_> {
         Lent::of(self.reserver)
-    }
-
-    /// As [`Reserver::reserve`].
-    ///
-    /// # Errors
-    ///
-    /// As there.
-    #[inline]
-    pub fn reserve(&mut self) -> Result<Handle, Refused> {
-        self.reserver.reserve()
-    }
-
-    /// As [`Reserver::reserve_many`].
-    ///
-    /// # Errors
-    ///
-    /// As there.
-    #[inline]
-    pub fn reserve_many(&mut self, n: u32) -> Result<Vec<Handle>, ReserveError> {
-        self.reserver.reserve_many(n)
-    }
-
-    /// As [`Reserver::reserve_into`].
-    ///
-    /// # Errors
-    ///
-    /// As there.
-    #[inline]
-    pub fn reserve_into(&mut self, handles: &mut Vec<Handle>, n: u32) -> Result<(), ReserveError> {
-        self.reserver.reserve_into(handles, n)
     }
 
     /// As [`Reserver::meet`].
@@ -64,21 +76,5 @@ impl<'a> Lent<'a> {
     #[inline]
     pub fn meet(&mut self, other: &mut Lent<'_>) -> Result<(), OtherPhase> {
         self.reserver.meet(other.reserver)
-    }
-}
-
-/// What can be read of the reserver.
-impl Deref for Lent<'_> {
-    type Target = Reserver;
-
-    #[inline]
-    fn deref(&self) -> &Reserver {
-        self.reserver
-    }
-}
-
-impl fmt::Debug for Lent<'_> {
-    fn fmt(&self, out: &mut fmt::Formatter<'_>) -> fmt::Result {
-        self.reserver.fmt(out)
     }
 }

@@ -62,8 +62,10 @@ use std::thread_local;
 /// and two of them are on a word that only few threads touch. With as many reservers as running threads, a
 /// thread mostly finds the first one free.
 ///
-/// If no reserver is free, [`with`](Self::with) sleeps, and takes the first one that becomes free.
-/// [`try_with`](Self::try_with) never waits.
+/// If no reserver is free, [`with`](Self::with) sleeps until one is. Threads that sleep get one in the order in
+/// which they came. A thread that comes when a reserver is just given back may take it at once, before the
+/// first of them is awake: but only until that one was woken once and found none. From then on all others
+/// wait for it. [`try_with`](Self::try_with) never waits, and returns `None` meanwhile.
 pub struct Reservers<R = Reserver> {
     places: Vec<Place<R>>,
     waiting: Waiting,
@@ -137,8 +139,8 @@ impl<R: Lends> Reservers<R> {
         self.places.len()
     }
 
-    /// Lends a reserver to `run`, and returns what `run` returns. If no reserver is free, it waits for the
-    /// first one that becomes free.
+    /// Lends a reserver to `run`, and returns what `run` returns. If no reserver is free, it waits for one, behind
+    /// the threads that wait already.
     ///
     /// A `with` within a `with` takes another reserver. If threads have all reservers and each waits for
     /// another one, they wait for good. So use [`try_with`](Self::try_with) within a `with`.
@@ -152,7 +154,8 @@ impl<R: Lends> Reservers<R> {
         run(&mut loan.reserver.lend())
     }
 
-    /// Lends a reserver to `run`, and returns what `run` returns, or `None` at once if none was free.
+    /// Lends a reserver to `run`, and returns what `run` returns, or `None` at once if none was free, or if the
+    /// next one is for a thread that waits.
     ///
     /// # Panics
     ///
@@ -162,8 +165,13 @@ impl<R: Lends> Reservers<R> {
         Some(run(&mut loan.reserver.lend()))
     }
 
-    /// The first reserver that is free, from that with the thread's number on.
+    /// A free reserver, unless it is owed to a thread that waits.
     fn free(&self) -> Option<Loan<'_, R>> {
+        (!self.waiting.is_overtaken()).then(|| self.found())?
+    }
+
+    /// The first reserver that is free, from that with the thread's number on.
+    fn found(&self) -> Option<Loan<'_, R>> {
         let start = own_number() % self.places.len().max(1);
         let (before, from) = self.places.split_at(start);
         let reserver = from.iter().chain(before).find_map(Place::try_take)?;
@@ -171,11 +179,11 @@ impl<R: Lends> Reservers<R> {
         Some(Loan { reserver, _wakes })
     }
 
-    /// The first reserver that becomes free.
+    /// The first reserver that becomes free when all threads that came before have one.
     #[cold]
     fn awaited(&self) -> Loan<'_, R> {
         assert!(!self.places.is_empty(), "the pool has no reservers");
-        self.waiting.until(|| self.free())
+        self.waiting.until(|| self.found())
     }
 }
 
@@ -264,5 +272,23 @@ impl<R> fmt::Debug for Reservers<R> {
         out.debug_struct("Reservers")
             .field("count", &self.places.len())
             .finish_non_exhaustive()
+    }
+}
+
+#[cfg(test)]
+mod tests {
+    use super::*;
+
+    /// Once a thread that waits was overtaken, the next reserver is for it.
+    #[test]
+    fn a_reserver_that_is_owed() {
+        let shared = crate::Entities::new().share(1);
+        let (_shared, reservers) = shared.expect("memory");
+        let pool = Reservers::new(reservers).expect("memory");
+        assert_eq!(pool.try_with(|_| 1), Some(1));
+        pool.waiting.set_overtaken();
+        assert_eq!(pool.try_with(|_| 2), None);
+        assert_eq!(pool.with(|_| 3), 3);
+        assert_eq!(pool.try_with(|_| 4), Some(4));
     }
 }

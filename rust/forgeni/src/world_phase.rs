@@ -1,11 +1,10 @@
 //! A phase on a borrow of the world.
 
 use crate::lending::Lending;
+use crate::lent::lends;
 use crate::{Commands, ComponentId, Handle, OpenWorld, OutOfMemory, Queues};
 use crate::{ReserveError, ShareError, Unopened, World};
 use alloc::vec::Vec;
-use core::fmt;
-use core::ops::Deref;
 
 impl World {
     /// Opens the world for `count` systems, 1 to 1,024, for as long as `run` takes. Then the world is
@@ -59,7 +58,6 @@ impl World {
             .map_err(|_| ShareError::Memory)?;
         lent.extend(systems.iter_mut().map(LentCommands::of));
         let done = run(open, &mut lent);
-        drop(lent);
         Ok((done, lending.end(closed)))
     }
 }
@@ -79,82 +77,11 @@ pub struct LentCommands<'a> {
     commands: &'a mut Commands,
 }
 
-impl<'a> LentCommands<'a> {
-    fn of(commands: &'a mut Commands) -> Self {
-        Self { commands }
-    }
-
-    /// As [`Commands::spawn`].
-    ///
-    /// # Errors
-    ///
-    /// As there.
-    #[inline]
-    pub fn spawn(&mut self, components: &[(ComponentId, i64)]) -> Result<Handle, ReserveError> {
-        self.commands.spawn(components)
-    }
-
-    /// As [`Commands::spawn_many`].
-    ///
-    /// # Errors
-    ///
-    /// As there.
-    #[inline]
-    pub fn spawn_many(
-        &mut self,
-        n: u32,
-        components: &[(ComponentId, i64)],
-    ) -> Result<Vec<Handle>, ReserveError> {
-        self.commands.spawn_many(n, components)
-    }
-
-    /// As [`Commands::insert`].
-    ///
-    /// # Errors
-    ///
-    /// As there.
-    #[inline]
-    pub fn insert(
-        &mut self,
-        handle: Handle,
-        components: &[(ComponentId, i64)],
-    ) -> Result<(), OutOfMemory> {
-        self.commands.insert(handle, components)
-    }
-
-    /// As [`Commands::remove`].
-    ///
-    /// # Errors
-    ///
-    /// As there.
-    #[inline]
-    pub fn remove(&mut self, handle: Handle, id: ComponentId) -> Result<(), OutOfMemory> {
-        self.commands.remove(handle, id)
-    }
-
-    /// As [`Commands::despawn`].
-    ///
-    /// # Errors
-    ///
-    /// As there.
-    #[inline]
-    pub fn despawn(&mut self, handle: Handle) -> Result<(), OutOfMemory> {
-        self.commands.despawn(handle)
-    }
-}
-
-/// What can be read of the world.
-impl Deref for LentCommands<'_> {
-    type Target = Commands;
-
-    #[inline]
-    fn deref(&self) -> &Commands {
-        self.commands
-    }
-}
-
-impl fmt::Debug for LentCommands<'_> {
-    fn fmt(&self, out: &mut fmt::Formatter<'_>) -> fmt::Result {
-        self.commands.fmt(out)
-    }
+lends! {
+    LentCommands.commands: Commands;
+    spawn(components: &[(ComponentId, i64)]) -> Result<Handle, ReserveError>;
+    spawn_many(n: u32, components: &[(ComponentId, i64)]) -> Result<Vec<Handle>, ReserveError>;
+    insert(handle: Handle, components: &[(ComponentId, i64)]) -> Result<(), OutOfMemory>;
+    remove(handle: Handle, id: ComponentId) -> Result<(), OutOfMemory>;
+    despawn(handle: Handle) -> Result<(), OutOfMemory>;
 }

@@ -234,6 +234,8 @@ mod pools {
     use forgeni::{Lent, Reservers};
     use std::sync::atomic::{AtomicUsize, Ordering};
     use std::sync::{Arc, Barrier};
+    use std::thread::sleep;
+    use std::time::Duration;
 
     fn all_of(reserver: &mut Lent<'_>, n: u32) -> Vec<Handle> {
         reserver.reserve_many(n).expect("handles")
@@ -366,6 +368,34 @@ mod pools {
         });
         let entities = shared.close(pool.into_inner()).expect("closed");
         assert_eq!(entities.reserved(), 16 * 50);
+    }
+
+    /// A thread gives the only reserver back, and comes again at once. While another one waits, it has a turn or two: that it has
+    /// had one more when the other one wakes makes it wait too.
+    #[test]
+    fn who_waits_is_not_overtaken_for_good() {
+        let (shared, reservers) = Entities::new().share(1).expect("shared");
+        let pool = Reservers::new(reservers).expect("memory");
+        let (turns, served) = (AtomicUsize::new(0), AtomicUsize::new(0));
+        std::thread::scope(|scope| {
+            scope.spawn(|| {
+                while served.load(Ordering::SeqCst) < 10 && turns.load(Ordering::SeqCst) < 500 {
+                    pool.with(|_| {
+                        turns.fetch_add(1, Ordering::SeqCst);
+                        sleep(Duration::from_millis(1));
+                    });
+                }
+            });
+            let mut meanwhile = 0;
+            for _ in 0..10 {
+                sleep(Duration::from_millis(1));
+                let before = turns.load(Ordering::SeqCst);
+                meanwhile += pool.with(|_| turns.load(Ordering::SeqCst)) - before;
+                served.fetch_add(1, Ordering::SeqCst);
+            }
+            assert!(meanwhile <= 60, "{meanwhile} turns while ten waited");
+        });
+        assert!(shared.close(pool.into_inner()).is_ok());
     }
 
     /// Threads of any number find each reserver.
