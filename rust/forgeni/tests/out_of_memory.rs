@@ -3,6 +3,8 @@
 //! say, and do the same as with ample memory when it is made again.
 
 mod common;
+#[path = "out_of_memory/hidden.rs"]
+mod hidden;
 #[path = "common/refusing_allocator.rs"]
 mod refusing;
 
