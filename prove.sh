@@ -9,6 +9,9 @@ copy=$(mktemp -d)
 trap 'rm -rf "$copy"' EXIT
 trap 'exit 1' HUP INT TERM
 
+for crate in "$@"; do
+    grep -q "^$crate[: ]" "$top/crates.txt" || { echo "crates.txt names no crate $crate"; exit 1; }
+done
 # The lines of these crates, and of all that they use.
 awk -F: -v wanted="$*" '
     function take(name, used, count, i) {

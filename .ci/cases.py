@@ -35,6 +35,8 @@ import subprocess
 import sys
 import tempfile
 
+import picks
+
 # The status that each program ends with, by the first word of its output, where that is not 0.
 STATUSES = {"spawnrun": {"refused": 1}, "tracecheck": {"differs": 1, "refused": 2}}
 # Those that say on the error stream what a refused input lacks.
@@ -225,6 +227,8 @@ def main():
     if not programs:
         sys.exit(f"{built[0]} isn't built: .ci/run or ./prove.sh builds it")
     files = given.files or sorted(folder.glob("cases/*.cases"))
+    if not given.files:
+        picks.compare(".ci/cases.py", f"files of {given.crate}", [it.name for it in files])
     cases = [(file, cases_of(given.crate, file)) for file in files]
     failed = False
     with concurrent.futures.ThreadPoolExecutor(os.cpu_count()) as pool:

@@ -90,7 +90,7 @@ def main():
     with concurrent.futures.ThreadPoolExecutor(os.cpu_count()) as pool:
         faults = [it for it in pool.map(lambda run: fault_of(*run), runs) if it]
     print(*faults, f"changed replies: {len(rows)} traces, {len(runs)} changes, {len(faults)} not found", sep="\n")
-    return 1 if faults or len(rows) < 10 else 0
+    return 1 if faults or len(rows) < 10 or len(runs) < 100 else 0
 
 
 if __name__ == "__main__":

@@ -35,7 +35,7 @@ def checks(script):
     is_outside = True
     for line in script.read_text().splitlines():
         is_outside = (is_outside and not line.endswith("() {")) or line == "}"
-        if is_outside and re.match(r"\s*(at_most|each|ends|fails|full|prints|reads|refused|spared|takes|tested|unused|written)( |$)", line):
+        if is_outside and re.match(r"\s*(answered|at_most|each|ends|fails|full|given_back|prints|reads|refused|spared|takes|targets|tells|tested|unread|unused|written)( |$)", line):
             yield line
 
 

@@ -21,12 +21,13 @@ for test in tests/*.rs; do
 done
 cargo test --offline --locked
 # The stand-ins for the kit, as optimised code that checks for overflow.
-CARGO_PROFILE_RELEASE_OVERFLOW_CHECKS=true cargo test --offline --release --quiet --lib kit::
+CARGO_PROFILE_RELEASE_OVERFLOW_CHECKS=true ../../.ci/tested.sh .ci/forgeni.sh --release --lib kit::
 RUSTDOCFLAGS="-D warnings" cargo doc --offline --no-deps
 if cargo clippy --version >/dev/null 2>&1; then
     cargo clippy --offline --all-targets -- -D warnings
     cargo clippy --offline --all-targets --no-default-features -- -D warnings
 fi
+printf '%s\n' examples/*.rs | sed 's,.*/,,' | python3 ../../.ci/picks.py .ci/forgeni.sh examples
 for example in examples/*.rs; do
     name=$(basename "$example" .rs)
     diff <(sed -n '/^\/\/! ```text$/,/^\/\/! ```$/p' "$example" | sed '1d; $d; s,^//! \{0\,1\},,') \

@@ -155,7 +155,7 @@ def main():
             if fault:
                 faults.append(f"{page}:{at}: the block {fault}")
     faults += [*faults_of_schedule(), *faults_of_refusals(), *faults_of_touched()]
-    print(*faults, f"pages: {count} blocks compared, {len(faults)} faults", sep="\n")
+    print(*faults, f"pages: {count} blocks of {len(pages)} pages compared, {len(faults)} faults", sep="\n")
     return 1 if faults else 0
 
 

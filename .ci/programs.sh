@@ -19,7 +19,7 @@ cargo build --offline --quiet --profile programs --features programs --manifest-
     cargo run --offline --quiet --release --features programs --bin spawnrun -- draw < ../../examples/two_callers.txt |
         cmp - ../../docs/pictures/two_callers.svg
 )
-(cd rust/forgeni && cargo test --offline --quiet --features programs --lib -- drawing:: kit::)
+(cd rust/forgeni && ../../.ci/tested.sh .ci/programs.sh --features programs --lib -- drawing:: kit::)
 if cargo clippy --version >/dev/null 2>&1; then
     (cd rust/forgeni && cargo clippy --offline --quiet --all-targets --features programs -- -D warnings)
 fi
@@ -31,10 +31,11 @@ python3 .ci/cases.py --crate tracecheck --program "$PROGRAMS/tracecheck"
 python3 .ci/changed_replies.py --program "$PROGRAMS/tracecheck"
 python3 .ci/changed_answers.py --program "$PROGRAMS/tracecheck"
 python3 .ci/pictures.py --check
-for name in at_size exit_statuses fail_each_device refuse_at_once refuse_each_allocation refuse_each_thread refuse_in_little_memory \
-    scripts_in_bounded_memory tells_a_terminal; do
-    echo "== examples/$name.sh"
-    sh "examples/$name.sh"
+scripts=$(grep -l 'PROGRAMS:-' examples/*.sh)
+printf '%s\n' "$scripts" | sed 's,.*/,,' | python3 .ci/picks.py .ci/programs.sh scripts
+for script in $scripts; do
+    echo "== $script"
+    sh "$script"
 done
 if [ -x crates/spawnrun/out/spawnrun ] && [ -x crates/tracecheck/out/tracecheck ]; then
     python3 .ci/both_builds.py --cases "$cases"

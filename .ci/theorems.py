@@ -24,6 +24,7 @@ import sys
 import textwrap
 
 import pages
+import picks
 
 PAGE = pathlib.Path("docs/PROVED.md")
 READ = re.compile(r"<!-- read (\S+) (\S+): (.*) -->$")
@@ -282,6 +283,8 @@ def main():
         PAGE.write_text(page)
     elif page != PAGE.read_text():
         faults.append(f"{PAGE}: its lists are not what the sources give: `.ci/theorems.py write`")
+    if what == "check":
+        picks.compare(".ci/theorems.py", "theorems", [it[2] for it in map(READ.match, PAGE.read_text().splitlines()) if it])
     print(*faults, f"theorems: {len(faults)} faults", sep="\n")
     return 1 if faults else 0
 

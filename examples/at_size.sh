@@ -13,18 +13,25 @@ for name in spawnrun tracecheck; do
     [ -x "${PROGRAMS:-$here/../crates/$name/out}/$name" ] || (cd "$here/../crates/$name" && rt run >"$out/built" 2>&1)
 done
 
-# tested WORDS..: tests of the package. All that is named has to be there and to pass.
+# tested MODULE WORDS..: the tests of that module or program of the package, by these words. All that cargo lists have to pass, and one at
+# least.
 tested() {
+    module=$1
+    shift
+    (cd "$here/../rust/forgeni" && cargo test --offline "$@" -- --list) >"$out/printed" 2>"$out/said" || { cat "$out/said"; exit 1; }
+    sed -n 's/: test$//p' "$out/printed" | sort >"$out/listed"
     (cd "$here/../rust/forgeni" && cargo test --offline "$@") >"$out/printed" 2>&1 || { cat "$out/printed"; exit 1; }
-    passed=$(sed -n 's/^test \(.*\) \.\.\. ok$/\1/p' "$out/printed")
-    [ -n "$passed" ] || { echo "cargo test $*: no test ran"; exit 1; }
-    for test in $passed; do echo "forgeni, $test: passed"; done
+    sed -n 's/^test \(.*\) \.\.\. ok$/\1/p' "$out/printed" | sort >"$out/passed"
+    [ -s "$out/passed" ] && cmp "$out/listed" "$out/passed" || { echo "cargo test $*: no test ran, or not all"; exit 1; }
+    sed 's/.*/forgeni, &: passed/' "$out/passed"
+    echo "$module" >>"$out/modules"
 }
 
 # The first are for optimised code, as their file says. The second take no time. What cargo has built is tested alone.
 if [ -z "${PROGRAMS:-}" ]; then
-    tested --release --test sizes
-    tested --lib room::
+    tested sizes --release --test sizes
+    tested room --lib room::
+    python3 "$here/../.ci/picks.py" examples/at_size.sh 'modules of tests' <"$out/modules"
 fi
 
 python3 - "$out" <<'END'

@@ -1,6 +1,6 @@
 #!/bin/sh
 # Counts what runs of two sizes do, under callgrind, and compares. So the times that the pages promise are seen on a machine that does other
-# work beside: a count is the same on every run. It needs `valgrind`, `cargo` and `awk` on the path, and the program as `.ci/run` or
+# work beside: a count is the same on every run. It needs `valgrind`, `cargo`, `python3` and `awk` on the path, and the program as `.ci/run` or
 # `prove.sh` built it. If it wasn't built, `rt`, which then proves it first. Without valgrind nothing is counted.
 set -eu
 here=$(cd "$(dirname "$0")" && pwd)
@@ -63,6 +63,7 @@ tests=$here/../rust/forgeni/$(sed -n 's/.*Executable tests\/counted.rs (\(.*\)).
 # counted FILE ENTITIES TEST WORDS..: a test of the package with so many entities.
 counted() {
     file=$1 test=$3
+    echo "$test" >>"$out/counted"
     export FORGENI_ENTITIES="$2"
     shift 3
     count "$file" "$@" "$tests" --exact "$test" --test-threads 1
@@ -103,3 +104,8 @@ done
 few=$(($(instructions lists_4096) / 4096))
 many=$(($(instructions lists_65536) / 65536))
 at_most "instructions a handle in the lists of a phase, of 65,536 beside 4,096 ($few)" "$many" $((few + few / 10))
+
+# All tests of that program, and no other.
+"$tests" --list | sed -n 's/: test$//p' | sort >"$out/listed"
+sort -u "$out/counted" | cmp - "$out/listed"
+python3 "$here/../.ci/picks.py" examples/counted_runs.sh tests <"$out/listed"

@@ -1,12 +1,11 @@
 #!/bin/sh
 # Runs 100,000 frames, each in a world of its own, under a limit on the address space: what a hundred of them take, which is measured first,
 # and 1 MiB more. So frames give back the memory that they took, also those that are lost. If each kept one piece of memory, they would take
-# 3 MB more. It needs `timeout` on the path, a shell with `ulimit -v`, and the program of the cases as `.ci/run` built it. If it wasn't built,
-# nothing is run.
+# 3 MB more. It needs `timeout` on the path, a shell with `ulimit -v`, and the program of the cases as `.ci/run` built it.
 set -eu
 here=$(cd "$(dirname "$0")" && pwd)
 program=$here/../crates/cases_and_examples/out/cases_and_examples
-[ -x "$program" ] || { echo "the cases are not built, .ci/run builds them"; exit 0; }
+[ -x "$program" ] || { echo "the cases are not built, .ci/run builds them"; exit 1; }
 out=$(mktemp -d)
 trap 'rm -rf "$out"' EXIT
 program=$(cd "$(dirname "$program")" && pwd)/cases_and_examples

@@ -24,6 +24,10 @@ compiler() {
     return 1
 }
 
+# A test that is skipped by its name has to be there.
+skipped=commands_at_the_end_of_a_quota
+grep -rqx "fn $skipped() {" "$here/../rust/forgeni/tests" || { echo "there is no test $skipped to skip"; exit 1; }
+
 # lacking PROCESSOR: prints what is missing.
 lacking() {
     for tool in "qemu-$1" "$1-linux-gnu-gcc"; do
@@ -46,7 +50,7 @@ try() {
         export "${variable}_RUNNER=qemu-$1" "${variable}_LINKER=$1-linux-gnu-gcc" "${variable}_RUSTFLAGS=-Ctarget-feature=+crt-static"
         # With the tests of sizes, which are for optimised code. The skipped one asks 16,384 times for a list of a gigabyte that it
         # never fills. The emulator keeps what it has mapped for each.
-        cargo test --offline --tests --no-fail-fast --target "$target" -- --include-ignored --skip commands_at_the_end_of_a_quota
+        cargo test --offline --tests --no-fail-fast --target "$target" -- --include-ignored --skip "$skipped"
     ) >"$out/printed" 2>&1 || status=$?
     [ "$status" = 0 ] || { cat "$out/printed"; exit 1; }
     passed=$(awk '/^test result: ok/ { passed += $4 } END { print passed + 0 }' "$out/printed")

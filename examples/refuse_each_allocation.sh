@@ -2,12 +2,12 @@
 # Runs the programs with each of their allocations refused in turn: schedules, scripts on one worker and on eight, with a bundle that takes
 # memory and with many births as targets, a script that is refused, and traces that agree, differ or are none, also with an image. Each run
 # must end as an undisturbed one does (the program may do without that piece of memory), or with status 3, `memory` on standard error and
-# nothing else. Then it runs each test of running out of memory in the same way, and the files `*_out_of_memory.txt` of `crates/cases_and_examples`: they
-# must pass, whichever allocation is refused, and each of their lines must be run in at least one of these runs. It also counts what tests
-# of things that take no memory ask for. With `PROGRAMS`, a folder of programs that cargo has built, it runs these, and no tests: each
-# allocation is refused with all after it, and Rust's runtime may end a program as it starts, or as a thread does. It needs `cc` on the
-# path, and the programs, the tests and the cases as `.ci/run` built them. If a program wasn't built, it needs `rt`, which then proves it
-# first; anything else that wasn't built is left out.
+# nothing else. Then it runs each test `out_of_memory_*` in the same way, and the files `*_out_of_memory.txt` of `crates/cases_and_examples`:
+# they must pass, whichever allocation is refused, and each of their lines must be run in at least one of these runs. It also counts what
+# tests `*_takes_no_memory` ask for. Which tests and files these are is in `.ci/picks.txt`; a test whose name or module speaks of memory must
+# be one of them. With `PROGRAMS`, a folder of programs that cargo has built, it runs these, and no tests: each allocation is refused with
+# all after it, and Rust's runtime may end a program as it starts, or as a thread does. It needs `cc` and `python3` on the path, and the
+# programs, the tests and the cases as `.ci/run` built them. If a program wasn't built, it needs `rt`, which then proves it first.
 set -eu
 here=$(cd "$(dirname "$0")" && pwd)
 top=$(cd "$here/.." && pwd)
@@ -190,21 +190,41 @@ passes() {
     [ "$passed" -gt 0 ]
 }
 
-# tested CRATE: each test of the crate that takes whichever allocation is refused, as it was compiled.
-tested() {
+# tests_of CRATE: the tests of the crate whose names, or those of their modules, speak of memory.
+tests_of() {
     tests=$top/crates/$1/out/$1_tests
-    [ -x "$tests" ] || { echo "$1: its tests are not built, .ci/run builds them"; return; }
-    for test in $("$tests" --list 2>/dev/null | sed -n 's/: test$//p' | grep -E 'refused_(memory|opening)'); do
-        passes "$1 $test" "$tests" "$test"
-    done
+    [ -x "$tests" ] || { echo "$1: its tests are not built, .ci/run builds them" >&2; exit 1; }
+    "$tests" --list 2>/dev/null | sed -n 's/: test$//p' | grep memory || true
+}
+
+# tested CRATE TEST: a test that takes whichever allocation is refused, as it was compiled.
+tested() {
+    passes "$1 $2" "$top/crates/$1/out/$1_tests" "$2"
+}
+
+# spared CRATE TEST: a test that makes thousands of things without memory. It must not ask for so many as 1,000 pieces.
+spared() {
+    next_refused
+    LD_PRELOAD=$room/refuse.so REFUSE=1000 REFUSED=$refused "$top/crates/$1/out/$1_tests" "$2" >"$room/printed" 2>&1 || {
+        cat "$room/printed"
+        exit 1
+    }
+    [ ! -e "$refused" ] || { echo "$1 $2: it takes memory"; exit 1; }
+    echo "$1 $2: takes none"
+}
+
+# picked WHAT: compares the names that it reads with those that .ci/picks.txt has.
+picked() {
+    python3 "$top/.ci/picks.py" examples/refuse_each_allocation.sh "$1"
 }
 
 # answered: the files of calls that must pass whichever allocation is refused. Which of two workers takes a system differs from run to run,
 # so there are up to ten rounds until each line was run.
 answered() {
     cases=$top/crates/cases_and_examples/out/cases_and_examples
-    [ -x "$cases" ] || { echo "the cases are not built, .ci/run builds them"; return; }
+    [ -x "$cases" ] || { echo "the cases are not built, .ci/run builds them"; exit 1; }
     cd "$top/crates/cases_and_examples/data"
+    printf '%s\n' *_out_of_memory.txt | picked 'files of cases'
     for file in *_out_of_memory.txt; do
         : >"$room/left_out"
         for round in 1 2 3 4 5 6 7 8 9 10; do
@@ -216,25 +236,20 @@ answered() {
     done
 }
 
-# spared CRATE: each test of the crate that makes thousands of things without memory. It must not ask for so many as 1,000 pieces.
-spared() {
-    tests=$top/crates/$1/out/$1_tests
-    [ -x "$tests" ] || return 0
-    for test in $("$tests" --list 2>/dev/null | sed -n 's/: test$//p' | grep takes_no_memory); do
-        next_refused
-        LD_PRELOAD=$room/refuse.so REFUSE=1000 REFUSED=$refused "$tests" "$test" >"$room/printed" 2>&1 || {
-            cat "$room/printed"
-            exit 1
-        }
-        [ ! -e "$refused" ] || { echo "$1 $test: it takes memory"; exit 1; }
-        echo "$1 $test: takes none"
-    done
-}
-
 # The tests are those of the kit's build alone.
 [ -z "${PROGRAMS:-}" ] || exit 0
-for tests in "$top"/crates/*_tests; do
-    tested "$(basename "$tests")"
-    spared "$(basename "$tests")"
+: >"$room/tests"
+for crate in "$top"/crates/*_tests; do
+    crate=$(basename "$crate")
+    found=$(tests_of "$crate")
+    [ -z "$found" ] || printf '%s\n' "$found" | sed "s/^/$crate /" >>"$room/tests"
 done
+picked 'tests of memory' <"$room/tests"
+while read -r crate test; do
+    case $test in
+    *::out_of_memory_*) tested "$crate" "$test" ;;
+    *_takes_no_memory) spared "$crate" "$test" ;;
+    *) echo "$crate $test: its name says neither out_of_memory nor takes_no_memory, so it isn't run"; exit 1 ;;
+    esac
+done <"$room/tests"
 answered

@@ -6,9 +6,9 @@ use ent_handle::Memory;
 use ent_runner::{Claimer, Claims};
 use std::process::Abort;
 
-/// Passes whichever single allocation is refused.
+/// An opening that runs out of memory can be tried again.
 #[test]
-fn a_refused_opening_can_be_tried_again(rt: HostRuntime) {
+fn out_of_memory_of_an_opening(rt: HostRuntime) {
     let alloc = rt.alloc();
     let opened = match Claims::open(alloc, 2, 2) {
         Ok(opened) => Ok(opened),

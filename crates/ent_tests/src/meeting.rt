@@ -3,7 +3,7 @@ use std::thread;
 
 /// How often a thread looks for the others before it goes on without them. It lets another thread
 /// run each time, so that all get on also if the processors are busy.
-const TURNS: u32 = 10_000_000;
+const TURNS: u32 = 200_000_000;
 
 /// Where threads look for one another before they begin, so that they do overlap.
 #[derive(Drop)]

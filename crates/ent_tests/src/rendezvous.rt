@@ -4,7 +4,7 @@ use std::thread;
 
 /// How often a system looks for the others before it goes on without them. It lets another thread
 /// run each time, so that all get on also if they are more than the processors.
-const TURNS: u32 = 10_000_000;
+const TURNS: u32 = 200_000_000;
 
 /// A gate at which the first systems of a frame wait until all have entered, though not for ever.
 #[derive(Drop)]

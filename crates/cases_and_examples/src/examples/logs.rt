@@ -11,7 +11,7 @@ use std::thread;
 use std::thread::Threads;
 
 /// How often a system looks for the other one before it goes on without it.
-const TURNS: u32 = 10_000_000;
+const TURNS: u32 = 200_000_000;
 
 /// What a system has to say at the sync point: it met the other one.
 #[derive(Clone, Copy, Drop)]

@@ -5,6 +5,14 @@ use spawnrun_lib::Status;
 const TWO: &str = "{\"components\":[\"hp\"],\"frames\":[[[{\"spawn\":{\"hp\":5}}],\
     [{\"spawn\":{\"hp\":7}}]]]}";
 
+const GONE: &str = "{\"components\":[\"hp\"],\"frames\":[[[{\"spawn\":{\"hp\":1}}]],\
+    [[{\"despawn\":{\"handle\":\"0v1\"}}],[{\"insert\":{\"hp\":9},\
+    \"on\":{\"handle\":\"0v1\"}}]]]}";
+
+const AGAIN: &str = "{\"components\":[\"hp\"],\"frames\":[[[{\"spawn\":{\"hp\":1},\"as\":\"a\"},\
+    {\"despawn\":{\"name\":\"a\"}},{\"remove\":\"hp\",\"on\":{\"name\":\"a\"}}]],\
+    [[{\"spawn\":{\"hp\":2}}]]]}";
+
 /// A script in which components are taken from and given to all that have one.
 pub const EACH: &str = "{\"components\":[\"hp\",\"mp\"],\"frames\":[[[{\"spawn_many\":2,\
     \"with\":{\"hp\":1},\"as\":\"g\"},{\"insert\":{\"mp\":4},\
@@ -38,25 +46,50 @@ pub const SCRIPTS: &[Row] = &[
         status: Status::Done,
         output: "frame 0 born 2 faults 0\n0.0.0 hp=5\n0.1.0 hp=7\nalive 2\n",
     },
-    // A command on an entity that the system before has despawned.
+    // A command on an entity that the system before has despawned, on one worker, on two and on
+    // eight.
     Row {
         words: &["run", "--show", "handles"],
-        input: "{\"components\":[\"hp\"],\"frames\":[[[{\"spawn\":{\"hp\":1}}]],\
-            [[{\"despawn\":{\"handle\":\"0v1\"}}],[{\"insert\":{\"hp\":9},\
-            \"on\":{\"handle\":\"0v1\"}}]]]}",
+        input: GONE,
         status: Status::Done,
         output: "frame 0 born 1 faults 0\nframe 1 born 0 faults 1\nfault 1 0 not alive 0v1\n\
             alive 0\n",
     },
-    // A slot is given again, in its next generation.
+    Row {
+        words: &["run", "--workers", "2"],
+        input: GONE,
+        status: Status::Done,
+        output: "frame 0 born 1 faults 0\nframe 1 born 0 faults 1\nfault 1 0 not alive\n\
+            alive 0\n",
+    },
+    Row {
+        words: &["run", "--workers", "8"],
+        input: GONE,
+        status: Status::Done,
+        output: "frame 0 born 1 faults 0\nframe 1 born 0 faults 1\nfault 1 0 not alive\n\
+            alive 0\n",
+    },
+    // A slot is given again, in its next generation, on one worker, on two and on eight.
     Row {
         words: &["run", "--show", "handles"],
-        input: "{\"components\":[\"hp\"],\"frames\":[[[{\"spawn\":{\"hp\":1},\"as\":\"a\"},\
-            {\"despawn\":{\"name\":\"a\"}},{\"remove\":\"hp\",\"on\":{\"name\":\"a\"}}]],\
-            [[{\"spawn\":{\"hp\":2}}]]]}",
+        input: AGAIN,
         status: Status::Done,
         output: "frame 0 born 1 faults 1\nfault 0 2 not alive 0v1\nframe 1 born 1 faults 0\n\
             1.0.0 0v2 hp=2\nalive 1\n",
+    },
+    Row {
+        words: &["run", "--workers", "2"],
+        input: AGAIN,
+        status: Status::Done,
+        output: "frame 0 born 1 faults 1\nfault 0 2 not alive\nframe 1 born 1 faults 0\n\
+            1.0.0 hp=2\nalive 1\n",
+    },
+    Row {
+        words: &["run", "--workers", "8"],
+        input: AGAIN,
+        status: Status::Done,
+        output: "frame 0 born 1 faults 1\nfault 0 2 not alive\nframe 1 born 1 faults 0\n\
+            1.0.0 hp=2\nalive 1\n",
     },
     // Spawns for which too few slots are left.
     Row {
