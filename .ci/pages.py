@@ -10,8 +10,8 @@ Above each fenced block stands a line that says what the block is:
 
 A block without such a line is refused, so nothing that a page quotes goes uncompared. The Rust in the package's README is the front page of its
 docs, and `cargo test` runs it. Two tables of docs/FORMATS.md are compared too: the steps of its first schedule with what the program prints, and
-the refusals of scripts, script by script. Links and paths lead to what is there, and so do the files that CONTRIBUTING lists for a change. Words
-that only the sources use occur in code alone.
+the refusals of scripts, script by script. Links and paths lead to what is there, and so do the files that CONTRIBUTING lists for a change. The forms
+that were replaced are those of .ci/replaced.txt. Words that only the sources use occur in code alone.
 """
 
 import pathlib
@@ -22,6 +22,8 @@ import sys
 PROGRAM = "crates/spawnrun/out/spawnrun"
 FRONT_PAGE = pathlib.Path("rust/forgeni/README.md")
 FORMATS = pathlib.Path("docs/FORMATS.md")
+DECISIONS = pathlib.Path("docs/DECISIONS.md")
+REPLACED = pathlib.Path(".ci/replaced.txt")
 MARK = re.compile(r"<!-- (from|prints|ran by the gate|picture)(?: (.*))? -->$")
 
 # Words of the sources for which the pages have one that readers know.
@@ -131,6 +133,15 @@ def faults_of_touched():
                     yield f"{page}: {path} isn't there"
 
 
+def faults_of_replaced():
+    """Each form that was replaced has its row on the page of decisions, and no other form has; what replaces it is in its file."""
+    listed = [it.split("; ") for it in REPLACED.read_text().splitlines() if it and not it.startswith("#")]
+    forms, rows = [it[0] for it in listed], [it[0] for it in cells_of(DECISIONS, "| Form | What replaces it, and why |")]
+    yield from (f"{DECISIONS}: no row says what replaces this form: {it}" for it in forms if it not in rows)
+    yield from (f"{DECISIONS}: this form isn't in {REPLACED}: {it}" for it in rows if it not in forms)
+    yield from (f"{REPLACED}: {file} doesn't have {it}" for _, file, it in listed if it not in pathlib.Path(file).read_text())
+
+
 def faults_of_text(page):
     """Each link of a page leads to a file, and so does each path of a folder that is at the top or beside the page. No word is internal."""
     text = re.sub(r"```.*?```|<!--.*?-->", "", page.read_text(), flags=re.S)
@@ -154,7 +165,7 @@ def main():
             fault = fault_of(mark, block)
             if fault:
                 faults.append(f"{page}:{at}: the block {fault}")
-    faults += [*faults_of_schedule(), *faults_of_refusals(), *faults_of_touched()]
+    faults += [*faults_of_schedule(), *faults_of_refusals(), *faults_of_touched(), *faults_of_replaced()]
     print(*faults, f"pages: {count} blocks of {len(pages)} pages compared, {len(faults)} faults", sep="\n")
     return 1 if faults else 0
 
