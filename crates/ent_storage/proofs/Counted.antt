@@ -1,9 +1,9 @@
 -- The places of an index that count.
-use Rattle.ent_storage.proofs.Common.{get_or-set_same, rules, AllPairs, ◌≡◌, ◌≢◌, ℕ, zero, suc, ◌<◌, ◌≤◌, Bool, true, false, cond, T, List, [], ◌∷◌, ◌+◌, ◌++◌, length, get_or, set, filter, Some, None, is_some, refl, sym, ap, ◌∙◌, arith, Less, Greater, tied_itself, false≢true, get_or_default, length-set, length_push, AllWithin, insert, IsGapFor, filter_passes, FinMap, is_sorted, Handle, handle_cmp, total, same, LivingEntity, IsMovedInto, IsFree, IsIndexed, IsKeptIndex, has_handle_at, counted, Keeps, HasAll, fin_from_sorted, fin_get, fin_get-from_sorted, fin_get-retain_keys, fin_insert, fin_remove, fin_same_map}
+use Rattle.ent_storage.proofs.Common.{get_or-set_same, rules, AllPairs, ◌≡◌, ◌≢◌, ℕ, zero, suc, ◌<◌, ◌≤◌, Bool, true, false, cond, T, List, [], ◌∷◌, ◌+◌, ◌++◌, length, get_or, set, filter, Some, None, is_some, refl, sym, ap, ◌∙◌, arith, Less, Greater, tied_itself, false≢true, get_or_default, length-set, length_push, AllWithin, insert, subst, IsAt, IsGapFor, filter_passes, FinMap, is_sorted, Handle, handle_cmp, total, same, LivingEntity, IsMovedInto, IsFree, IsIndexed, IsKeptIndex, has_handle_at, counted, Keeps, HasAll, IsTrue, fin_from_sorted, fin_get, fin_get-from_sorted, fin_get-retain_keys, fin_insert, fin_remove, fin_same_map}
 use Rattle.ent_storage.proofs.Keys.{tied, insert_tells, remove_tells, few_apart}
 use Rattle.ent_storage.proofs.Indexed.{some_not_none, some_entity, indexed_set, indexed_push, indexed_none}
 use Rattle.ent_storage.proofs.Positions.{rising_at}
-use Rattle.ent_storage.proofs.Rising.{equal, get_at, map_insert, rising_insert}
+use Rattle.ent_storage.proofs.Rising.{equal, get_at, map_insert, map_set, rising_insert, rising_set}
 use Rattle.ent_storage.proofs.Overwritten.{is_sorted-filter, find-filter, is_sorted-set, find-set_other}
 use Rattle.ent_storage.proofs.TakenOut.{indexed_moved, indexed_popped}
 
@@ -64,6 +64,29 @@ moved_counts living index h m is = search (rules, false≢true, removed_has)
 pub swept_has : (living : List LivingEntity) (index : FinMap handle_cmp ℕ)
     → HasAll (counted living index) (counted living (counted living index))
 swept_has living index q i at = counted_has living (counted living index) q i at (counted_gives living index q i at).1
+
+-- what counted is there still, once a pair that did not count has come
+module _ (living : List LivingEntity) (first old : FinMap handle_cmp ℕ) (all : HasAll (counted living first) old) where
+  pub counted_still : (q : Handle) (i : ℕ) → fin_get (counted living first) q ≡ Some i
+      → fin_get (counted living old) q ≡ Some i
+  counted_still q i at = counted_has living old q i (all q i at) (counted_gives living first q i at).1
+
+  all_with_one : (new : FinMap handle_cmp ℕ) (k : Handle) → fin_get (counted living old) k ≡ None → Keeps k (counted living old) new
+      → HasAll (counted living first) new
+  all_with_one new k none keeps q i at = keeps q i
+      (λ same. some_not_none i _ (subst (λ h. fin_get (counted living old) h ≡ Some i) same (counted_still q i at)) none)
+      (counted_still q i at)
+
+-- a pair was put, or nothing has changed
+pub all_after : (living : List LivingEntity) (first : FinMap handle_cmp ℕ) (old new : List (Handle × ℕ)) (k : Handle)
+    (put : Bool) → HasAll (counted living first) (fin_from_sorted old)
+    → (IsTrue put → fin_get (counted living (fin_from_sorted old)) k ≡ None)
+    → (IsTrue put → Keeps k (counted living (fin_from_sorted old)) (fin_from_sorted new))
+    → (¬ (IsTrue put) → new ≡ old) → HasAll (counted living first) (fin_from_sorted new)
+all_after living first old new k true all none keeps same = all_with_one living first (fin_from_sorted old)
+    all (fin_from_sorted new) k (none refl) (keeps refl)
+all_after living first old new k false all none keeps same =
+    rw (same false≢true) all
 
 -- ---- the residents and their index, after each change
 
@@ -192,3 +215,20 @@ module _ (living : List LivingEntity) (pairs : List (Handle × ℕ)) (rising : T
     kept = λ q i n at. grind
         (arith, map_insert total same pairs rising k p v gap, insert_tells total same, counted_gives living (fin_from_sorted pairs) q i at);
   }
+
+  -- over the pair of the same handle
+  pub put_same : IsAt handle_cmp pairs k p → IsPut living pairs (set pairs p (k, v)) k v
+  put_same at = record {
+    sorted = rising_set total same pairs rising k p v at;
+    placed = grind (arith, map_set total same pairs rising k p v at, insert_tells total same);
+    kept = λ q i n old. grind
+        (arith, map_set total same pairs rising k p v at, insert_tells total same, counted_gives living (fin_from_sorted pairs) q i old);
+  }
+
+  -- which did not count
+  pub same_not_counted : IsAt handle_cmp pairs k p → IsFree living pairs p
+      → fin_get (counted living (fin_from_sorted pairs)) k ≡ None
+  same_not_counted at free =
+      let d : Handle × ℕ = (k, v) in
+      counted_not living (fin_from_sorted pairs) k (get_or pairs p d).1 (get_at total same pairs rising k p d at)
+      (subst (λ h. has_handle_at living h (Some (get_or pairs p d).1) ≡ false) (same _ _ (at.has_key d)) (free.gone d))

@@ -18,6 +18,10 @@ use std::marker::Model;
 /// handles, so that a look-up is a binary search at most. If each slot has one pair, as with an
 /// allocator's handles, the pair stands at the slot's number, where it is looked for first.
 ///
+/// So that each slot has one, a pair that comes behind all others and past its slot's number brings
+/// pairs that don't count for the slots between, if there is room for them. Births in those slots
+/// then go over these, in any order, and move nothing.
+///
 /// A pair counts only if its place has the pair's handle. So to take an entity out, nothing is
 /// moved here. The pair of the slot's next occupant takes over the one before it, because it comes
 /// next in the order. Where the place is one that nobody has, no entity has to be looked at for
@@ -98,8 +102,9 @@ impl Index {
     /// Writes down that the entity has the next place, after all the living, and returns whether it
     /// did: not if the living have the entity already. It takes no memory.
     ///
-    /// An allocator's handles come behind the pair of their slot's last occupant, or behind all. So
-    /// these two places are tried first, and only then is the handle looked for.
+    /// An allocator's handles come behind the pair of their slot's last occupant, or behind all, or
+    /// over a pair that was made for their slot before it had an occupant. So these places are tried
+    /// first, and only then is the handle looked for.
     #[inline(always)]
     pub fn put(&mut self, living: &Living, handle: Handle) -> bool
         requires room { length living.now.entities < self.old.room }
@@ -115,6 +120,7 @@ impl Index {
         let place = living.len();
         if put_over_last(&mut self.pairs, living, (Key::of(handle), place as u32))
             || put_behind(&mut self.pairs, living, (Key::of(handle), place as u32))
+            || put_over_first(&mut self.pairs, living, (Key::of(handle), place as u32))
         {
             return true;
         }
@@ -139,9 +145,27 @@ impl Index {
         if place_found(&self.pairs, living, handle, found).is_some() {
             return false;
         }
-        let place = living.len() as u32;
-        put_found(&mut self.pairs, living, found, (Key::of(handle), place));
+        let pair = (Key::of(handle), living.len() as u32);
+        if self.lacks_slots_before(handle, found) {
+            fill_up(&mut self.pairs, living, handle.index());
+            let filled = search_slot(&self.pairs, handle);
+            put_found(&mut self.pairs, living, filled, pair);
+        } else {
+            put_found(&mut self.pairs, living, found, pair);
+        }
         true
+    }
+
+    /// Whether the handle comes after all others, slots before its own have no pair, and there is
+    /// room for one of each.
+    fn lacks_slots_before(&self, handle: Handle, found: Result<usize, usize>) -> bool {
+        let slot = handle.index() as usize;
+        match found {
+            Ok(_) => false,
+            Err(position) => {
+                position == self.pairs.len() && position < slot && slot < self.pairs.capacity()
+            }
+        }
     }
 
     /// Changes the place of an entity that is there.
@@ -286,8 +310,8 @@ fn put_over_last(pairs: &mut Vec<(Key, u32)>, living: &Living, pair: (Key, u32))
     }
 }
 
-/// Puts a pair behind all others, and returns whether it did: only if there is room for it, and it
-/// belongs there.
+/// Puts a pair behind all others, and returns whether it did: only if there is room for it, it
+/// belongs there, and it is no further than its slot's number.
 #[inline(always)]
 fn put_behind(pairs: &mut Vec<(Key, u32)>, living: &Living, pair: (Key, u32)) -> bool
     requires { T (map.is_sorted handle_cmp pairs.old.items) }
@@ -303,7 +327,8 @@ fn put_behind(pairs: &mut Vec<(Key, u32)>, living: &Living, pair: (Key, u32)) ->
     ensures capacity { vec_capacity pairs.new ≡ vec_capacity pairs.old }
 {
     let end = pairs.len();
-    if end < pairs.capacity() && is_gap(pairs, end, pair.0.handle()) {
+    let slot = pair.0.index() as usize;
+    if slot <= end && end < pairs.capacity() && is_gap(pairs, end, pair.0.handle()) {
         pairs.push_reserved(pair);
         true
     } else {
@@ -311,8 +336,52 @@ fn put_behind(pairs: &mut Vec<(Key, u32)>, living: &Living, pair: (Key, u32)) ->
     }
 }
 
+/// Puts a pair over that of the same handle, and returns whether it did: only if that one stands at
+/// the slot's number, and doesn't count. A slot that had no occupant yet may have such a pair.
+#[inline(always)]
+fn put_over_first(pairs: &mut Vec<(Key, u32)>, living: &Living, pair: (Key, u32)) -> bool
+    requires { T (map.is_sorted handle_cmp pairs.old.items) }
+    ensures sorted { T (map.is_sorted handle_cmp pairs.new.items) }
+    ensures new { IsTrue result → map.get (counted living.now.entities
+        (map.from_sorted {R = handle_cmp} pairs.old.items)) pair.0 ≡ None }
+    ensures placed { IsTrue result → map.get (map.from_sorted {R = handle_cmp} pairs.new.items)
+        pair.0 ≡ Some pair.1 }
+    ensures kept { IsTrue result → Keeps pair.0
+        (counted living.now.entities (map.from_sorted pairs.old.items))
+        (map.from_sorted pairs.new.items) }
+    ensures refused { ¬ (IsTrue result) → pairs.new.items ≡ pairs.old.items }
+    ensures capacity { vec_capacity pairs.new ≡ vec_capacity pairs.old }
+{
+    let Some(position) = at_slot(pairs, pair.0.handle()) else {
+        return false;
+    };
+    if is_free(pairs, living, position) {
+        pairs[position] = pair;
+        true
+    } else {
+        false
+    }
+}
+
+/// Gives a pair that doesn't count to each slot below this one that comes after all pairs. So the
+/// next births in these slots move nothing, whatever their order. It takes no memory.
+#[inline(never)]
+fn fill_up(pairs: &mut Vec<(Key, u32)>, living: &Living, slot: u32)
+    requires { T (map.is_sorted handle_cmp pairs.old.items) }
+    ensures sorted { T (map.is_sorted handle_cmp pairs.new.items) }
+    ensures kept { HasAll (counted living.now.entities (map.from_sorted pairs.old.items))
+        (map.from_sorted pairs.new.items) }
+    ensures capacity { vec_capacity pairs.new ≡ vec_capacity pairs.old }
+{
+    for index in pairs.len()..slot as usize {
+        if let Some(first) = Handle::new(index as u32, 1) {
+            let _ = put_behind(pairs, living, (Key::of(first), NOWHERE));
+        }
+    }
+}
+
 /// Puts a pair where its handle was found, or into the gap for it. If there is no room for one pair
-/// more, some pairs don't count. Then it drops those, and looks for the handle again.
+/// more in the gap, some pairs don't count. Then it drops those, and looks for the handle again.
 #[inline(always)]
 fn put_found(
     pairs: &mut Vec<(Key, u32)>,
@@ -331,7 +400,7 @@ fn put_found(
         (map.from_sorted pairs.new.items) }
     ensures capacity { vec_capacity pairs.new ≡ vec_capacity pairs.old }
 {
-    if pairs.len() < pairs.capacity() {
+    if found.is_ok() || pairs.len() < pairs.capacity() {
         put_at(pairs, living, found, pair);
     } else {
         sweep(pairs, living);
@@ -340,7 +409,7 @@ fn put_found(
     }
 }
 
-/// Puts a pair where its handle was found, or into the gap for it.
+/// Puts a pair where its handle was found, or into the gap for it, where there is room.
 #[inline(always)]
 fn put_at(
     pairs: &mut Vec<(Key, u32)>,
@@ -351,7 +420,7 @@ fn put_at(
     requires sorted { T (map.is_sorted handle_cmp pairs.old.items) }
     requires found { IfOk found (IsAt handle_cmp pairs.old.items pair.0) }
     requires absent { IfErr found (IsGapFor handle_cmp pairs.old.items pair.0) }
-    requires room { vec_len pairs.old < vec_capacity pairs.old }
+    requires room { IfErr found (λ _. vec_len pairs.old < vec_capacity pairs.old) }
     ensures sorted { T (map.is_sorted handle_cmp pairs.new.items) }
     ensures placed { map.get (map.from_sorted {R = handle_cmp} pairs.new.items) pair.0
         ≡ Some pair.1 }

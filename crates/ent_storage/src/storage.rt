@@ -261,14 +261,49 @@ impl Storage {
         Ok(())
     }
 
+    /// Makes room in the index for a pair of each of the first `slots` slots. If an allocator gives
+    /// the handles, births in these slots then take constant time each, in any order. If there is
+    /// that room already, it takes no memory. Each slot takes twelve bytes.
+    ///
+    /// It is for a storage whose first births may be in the greatest slots, as with blocks. A
+    /// [`World`](forgeni::World) does it itself.
+    ///
+    /// ```
+    /// use forgeni::{Birth, Entities, Storage};
+    ///
+    /// let mut entities = Entities::new();
+    /// let mut storage = Storage::new();
+    /// let all = entities.alloc_many(1000)?;
+    /// storage.reserve_slots(entities.total() as usize)?;
+    /// for (ordinal, handle) in all.into_iter().rev().enumerate() {
+    ///     storage.born(handle, Birth { frame: 0, system: 0, ordinal: ordinal as u32 })?;
+    /// }
+    /// assert_eq!(storage.len(), 1000);
+    /// # Ok::<(), Box<dyn std::error::Error + Send + Sync>>(())
+    /// ```
+    ///
+    /// # Errors
+    ///
+    /// Out of memory, or more than 4,294,967,296 slots. Nothing has changed.
+    pub fn reserve_slots(&mut self, slots: usize) -> Result<(), Memory>
+        ensures kept { self.new ≡ record self.old { spare = self.new.spare } }
+        ensures grows { self.old.spare ≤ self.new.spare }
+        ensures succeeds { slots ≤ length self.old.places + self.old.spare → IsOk result }
+        ensures err { OnErr result (self.new ≡ self.old) }
+    {
+        self.index.reserve(slots)?;
+        Ok(())
+    }
+
     /// Adds an entity without components. With `spare` above 0 it takes no memory, and `spare` is
     /// then less by 1.
     ///
-    /// The time is that of one look-up, if the handle comes after all others, or if the index still
-    /// has the pair of an entity that is gone where the new pair goes, or beside it. With an
-    /// allocator's handles that is the pair of the slot's last occupant. Else the later pairs of the
-    /// index move up by one. If the index is full, the pairs of all that are gone are dropped first,
-    /// in one pass.
+    /// The time is that of one look-up, if the handle comes after all others, or if the index has a
+    /// pair that doesn't count where the new pair goes, or beside it. With an allocator's handles
+    /// that is the pair of the slot's last occupant, or of a slot that was passed over: the index
+    /// makes those as far as it has room ([`reserve_slots`](Self::reserve_slots)). Else the later
+    /// pairs of the index move up by one. If the index is full, the pairs of all that are gone are
+    /// dropped first, in one pass.
     ///
     /// # Errors
     ///

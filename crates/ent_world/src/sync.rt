@@ -16,8 +16,10 @@ use crate::fault::{SyncFault, SyncReport};
 use crate::rows::set_rows;
 use crate::stop::{At, Stop};
 use crate::world::World;
+use ent_alloc::Entities;
 use ent_handle::{Handle, Memory};
 use ent_queue::CommandQueue;
+use ent_storage::Storage;
 
 impl World {
     /// The sync point: brings to life what is reserved, each entity with its birth by these queues,
@@ -160,7 +162,7 @@ impl World {
         ensures world { IsWorld self.new }
     {
         let mut handles = Vec::new(self.alloc);
-        self.storage.reserve(self.entities.reserved() as usize)?;
+        reserve_births(&self.entities, &mut self.storage)?;
         let first = self.entities.len();
         self.entities.flush(&mut handles)?;
         let before = first as usize;
@@ -177,4 +179,24 @@ impl World {
         self.phase = self.phase.saturating_add(1);
         Ok(handles)
     }
+}
+
+/// Makes room for what is reserved, and in the storage's index for each slot that is made by then. If
+/// nothing is reserved, it takes no memory.
+fn reserve_births(entities: &Entities, storage: &mut Storage) -> Result<(), Memory>
+    ensures entities { storage.new.entities ≡ storage.old.entities }
+    ensures places { storage.new.places ≡ storage.old.places }
+    ensures ok { OnOk result (length entities.now.allocator.taken ≤ storage.new.spare) }
+    ensures grows { storage.old.spare ≤ storage.new.spare }
+    ensures memory { OnErr result (0 < length entities.now.allocator.taken) }
+{
+    let reserved = entities.reserved();
+    if reserved == 0 {
+        return Ok(());
+    }
+    storage.reserve(reserved as usize)?;
+    // The old slots come first.
+    let fresh = reserved.saturating_sub(entities.top());
+    storage.reserve_slots(entities.total() as usize + fresh as usize)?;
+    Ok(())
 }

@@ -17,6 +17,7 @@ mod frames;
 mod images;
 mod layouts;
 mod logs;
+mod orders;
 mod peers;
 #[path = "../plain/mod.rs"]
 mod plain;
@@ -95,6 +96,10 @@ fn main() {
     }
     if wanted("births") {
         births::table();
+        println!();
+    }
+    if wanted("orders") {
+        orders::table();
         println!();
     }
     if wanted("components") {

@@ -404,7 +404,8 @@ impl<T> SparseMap<T> {
     /// - `Limit`: the handle's slot is at or above the [`limit`](Self::limit), or the handle is
     ///   [`Handle::PLACEHOLDER`], which no map takes.
     /// - `Later`: a later occupant of the slot has a value.
-    /// - `Memory`: memory ran out. There may be more room than before.
+    /// - `Memory`: memory ran out, and no occupant of the slot has a value. There may be more room
+    ///   than before.
     ///
     /// <details><summary>Contract</summary>
     ///
@@ -424,6 +425,8 @@ impl<T> SparseMap<T> {
     ///     ↔ (¬ (IsBeyond self.old.limit handle) × HasLater self.old.values handle) }
     /// ensures memory { error_of result ≡ Some InsertError.Memory
     ///     → IsFullFor self.old handle.index }
+    /// ensures memory_for_a_new_slot { error_of result ≡ Some InsertError.Memory
+    ///     → HasNone self.old.values handle.index }
     /// ensures back { IfErr result (λ refused. refused.value ≡ value) }
     /// ensures err { OnErr result (self.new.values ≡ self.old.values) }
     /// ```
@@ -577,7 +580,7 @@ impl<T: Clone> SparseMap<T> {
     /// # Errors
     ///
     /// Out of memory. Nothing has changed if there wasn't room for the source. If there was, no
-    /// values are left.
+    /// values are left, and the limit is as before.
     ///
     /// # Panics
     ///
@@ -595,7 +598,13 @@ impl<T: Clone> SparseMap<T> {
     /// ensures memory { OnErr result (0 < source.now.slots) }
     /// ensures refused { OnErr result (self.old.room < map.len source.now.values
     ///     → self.new ≡ self.old) }
-    /// ensures left { OnErr result ((self.new ≡ self.old) ⊎ (self.new.values ≡ map.empty)) }
+    /// ensures left { OnErr result ((self.new ≡ self.old)
+    ///     ⊎ (self.new ≡ record self.old {
+    ///       values = map.empty;
+    ///       slots = source.now.slots;
+    ///       room = self.new.room;
+    ///     })) }
+    /// ensures room { OnErr result (self.old.room ≤ self.new.room) }
     /// ```
     ///
     /// </details>
@@ -657,6 +666,8 @@ fn put<T>(
     // ensures memory { error_of result ≡ Some InsertError.Memory
     //     → (length positions.old.items ≤ handle.index)
     //     ⊎ (vec_capacity entries.old ≤ length entries.old.items) }
+    // ensures memory_for_a_new_slot { error_of result ≡ Some InsertError.Memory
+    //     → IsFree entries.old.items handle.index }
     // ensures back { IfErr result (λ refused. refused.value ≡ value) }
     // ensures err { OnErr result (entries.new.items ≡ entries.old.items) }
 {

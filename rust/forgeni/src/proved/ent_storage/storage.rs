@@ -291,6 +291,49 @@ impl Storage {
         Ok(())
     }
 
+    /// Makes room in the index for a pair of each of the first `slots` slots. Then births in these
+    /// slots take constant time each, in any order.
+    ///
+    /// A storage whose handles come from blocks, or from an image of an allocator, needs this: there
+    /// the first births may be in the greatest slots. A [`World`](crate::World) does it itself. If
+    /// there is that room already, it takes no memory. Each slot takes twelve bytes.
+    ///
+    /// ```
+    /// use forgeni::{Birth, Entities, Storage};
+    ///
+    /// let mut entities = Entities::new();
+    /// let mut storage = Storage::new();
+    /// let all = entities.alloc_many(1000)?;
+    /// storage.reserve_slots(entities.total() as usize)?;
+    /// for (ordinal, handle) in all.into_iter().rev().enumerate() {
+    ///     storage.born(handle, Birth { frame: 0, system: 0, ordinal: ordinal as u32 })?;
+    /// }
+    /// assert_eq!(storage.len(), 1000);
+    /// # Ok::<(), Box<dyn std::error::Error + Send + Sync>>(())
+    /// ```
+    ///
+    /// # Errors
+    ///
+    /// Out of memory, or more than 4,294,967,296 slots. Nothing has changed.
+    ///
+    /// <details><summary>Contract</summary>
+    ///
+    /// In the words of the folder `specs/` of crate `ent_storage`:
+    ///
+    /// ```text
+    /// ensures kept { self.new ≡ record self.old { spare = self.new.spare } }
+    /// ensures grows { self.old.spare ≤ self.new.spare }
+    /// ensures succeeds { slots ≤ length self.old.places + self.old.spare → IsOk result }
+    /// ensures err { OnErr result (self.new ≡ self.old) }
+    /// ```
+    ///
+    /// </details>
+    #[inline]
+    pub fn reserve_slots(&mut self, slots: usize) -> Result<(), Memory> {
+        self.index.reserve(slots)?;
+        Ok(())
+    }
+
     /// Adds an entity without components. With `spare` above 0 it takes no memory, and `spare` is
     /// then less by 1.
     ///

@@ -9,6 +9,7 @@ use crate::proved::ent_world::fault::{SyncFault, SyncReport};
 use crate::proved::ent_world::rows::set_rows;
 use crate::proved::ent_world::stop::{At, Stop};
 use crate::proved::ent_world::world::World;
+use crate::proved::ent_alloc::Entities;
 use crate::proved::ent_handle::{Handle, Memory};
 use crate::proved::ent_queue::CommandQueue;
 
@@ -157,6 +158,7 @@ impl World {
     {
         let mut handles = Vec::new();
         self.storage.reserve(self.entities.reserved() as usize)?;
+        self.storage.reserve_slots(slots_after_flush(&self.entities))?;
         let first = self.entities.len();
         self.entities.flush(&mut handles)?;
         let before = first as usize;
@@ -173,4 +175,11 @@ impl World {
         self.phase = self.phase.saturating_add(1);
         Ok(handles)
     }
+}
+
+/// How many slots are made once what is reserved is born.
+#[inline]
+fn slots_after_flush(entities: &Entities) -> usize {
+    let fresh = entities.reserved().saturating_sub(entities.top());
+    entities.total() as usize + fresh as usize
 }

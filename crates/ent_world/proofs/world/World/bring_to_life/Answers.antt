@@ -64,7 +64,7 @@ entered c stand_there =
     let given = births_given c.self.inside.storage.entities c.self.inside.phase c.args.queues.now (born s)
     (distinct (born s) (born-apart s c.self.invariant.world.sound)) c.requires in
     rw (c.number_others.ensures.numbered, c.name_listed.ensures.named, c.enter_all.ensures.entered)
-    (rw (c.reserve.ensures.entities, stand_there, again, are) given)
+    (rw (c.reserve_births.ensures.entities, stand_there, again, are) given)
 
 -- the map after all entered has those that live
 risen : (c : After-number_others) → (phase : ℕ) → c.number_others.new.storage.entities
@@ -92,8 +92,8 @@ invariant_of-self-2 c =
       world = risen at.After-number_others c.saturating_add-self-inside.result all;
       rows = rw (c.number_others.ensures.places, c.name_listed.ensures.places, all) (placed at.After-set_rows _);
       -- there is room for each that waits still
-      room = rw (c.set_rows.ensures.allocator, c.in_ok-flush.ensures.ok) (room-after_flush s c.reserve.new.self.spare
-          c.number_others.new.storage.spare i.world.sound (omega (arith, c.reserve.ensures.grows, i.room))
+      room = rw (c.set_rows.ensures.allocator, c.in_ok-flush.ensures.ok) (room-after_flush s c.reserve_births.new.storage.spare
+          c.number_others.new.storage.spare i.world.sound (omega (arith, c.reserve_births.ensures.grows, i.room))
           (omega (arith, c.enter_all.ensures.spare, c.name_listed.ensures.spare, c.number_others.ensures.spare)));
     }
 
