@@ -4,7 +4,10 @@
     .ci/instructions.py          counts the works of rust/forgeni/benches/instructions.txt, and compares each with its limit
     .ci/instructions.py fit      counts them, and writes the limits anew: what was counted, and one in a hundred more
 
-A clock is noisy where others use the machine. The number of instructions is the same in each run of one program."""
+A clock is noisy where others use the machine. The number of instructions is the same in each run of one program.
+
+The table `orders` has births in each order, few and ten times as many. There is no plain Rust beside it. A birth among many may take at most
+half as many instructions again as one among few."""
 import os
 import pathlib
 import re
@@ -16,6 +19,7 @@ from concurrent.futures import ThreadPoolExecutor
 ROOT = pathlib.Path(__file__).resolve().parent.parent
 PACKAGE = ROOT / "rust/forgeni"
 LIMITS = PACKAGE / "benches/instructions.txt"
+ORDERS = "orders"
 # The C library copies memory by another code on each kind of processor. So it takes the one that is everywhere.
 PLAIN_PROCESSOR = "glibc.cpu.hwcaps=-AVX,-AVX2,-AVX512F,-AVX512VL,-AVX512BW,-ERMS,-FSRM,-BMI2,-RTM,-SSSE3,-SSE4_1,-SSE4_2"
 
@@ -44,21 +48,39 @@ def counted(program, table, work, side):
     return int(instructions[1]) / int(steps[1])
 
 
+def out_of_proportion(rows, counts):
+    """What to say of the works of orders whose step takes too much more where there are ten times as many."""
+    by_work = {work: here for (table, work, _), (here, *_) in zip(rows, counts) if table == ORDERS}
+    said = []
+    for work, here in by_work.items():
+        name, _, size = work.rpartition(" | ")
+        of_many = by_work.get(f"{name} | {10 * int(size)}")
+        if of_many and of_many > 1.5 * here:
+            said.append(f"{name}: {here:.1f} instructions a birth among {size}, and {of_many:.1f} among ten times as many")
+    return said
+
+
 def main():
     lines = LIMITS.read_text().splitlines()
     head = [line for line in lines if line.startswith("#")]
     rows = [[cell.strip() for cell in line.split("; ")] for line in lines if line and not line.startswith("#")]
     program = built()
     with ThreadPoolExecutor(os.cpu_count()) as pool:
-        pairs = list(pool.map(lambda row: [counted(program, row[0], row[1], side) for side in (0, 1)], rows))
+        sides = lambda table: (0,) if table == ORDERS else (0, 1)
+        counts = list(pool.map(lambda row: [counted(program, row[0], row[1], side) for side in sides(row[0])], rows))
     if sys.argv[1:] == ["fit"]:
-        fitted = [f"{table}; {work}; {here * 1.01:.1f}" for (table, work, _), (here, _) in zip(rows, pairs)]
+        fitted = [f"{table}; {work}; {here * 1.01:.1f}" for (table, work, _), (here, *_) in zip(rows, counts)]
         LIMITS.write_text("\n".join(head + fitted) + "\n")
     above = 0
-    for (table, work, limit), (here, plain) in zip(rows, pairs):
+    for (table, work, limit), (here, *plain) in zip(rows, counts):
         over = here > float(limit)
         above += over
-        print(f"{work}: {here:.1f} instructions, limit {limit}, in plain Rust {plain:.1f}{', ABOVE THE LIMIT' * over}")
+        beside = "".join(f", in plain Rust {it:.1f}" for it in plain)
+        print(f"{work}: {here:.1f} instructions, limit {limit}{beside}{', ABOVE THE LIMIT' * over}")
+    unequal = out_of_proportion(rows, counts)
+    print(*unequal, sep="\n", end="\n" * bool(unequal))
+    if unequal:
+        sys.exit(f"{len(unequal)} works of orders take too long where there are ten times as many")
     if above and sys.argv[1:] != ["fit"]:
         sys.exit(f"{above} of {len(rows)} works are above their limits")
 

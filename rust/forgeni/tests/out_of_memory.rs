@@ -1204,6 +1204,16 @@ fn a_sync_point_of_systems() {
 #[test]
 fn calls_of_a_storage() {
     each_in_turn(|refusal| {
+        let mut storage = stored(3);
+        let spare = storage.spare();
+        let (_, refused) = insist(refusal, OutOfMemory, || storage.reserve_slots(3_000));
+        assert!(is_stored(&storage, 3) && storage.spare() >= spare);
+        // The room is there: births by falling slot take memory for their own places alone.
+        let (_, unasked) = refusing(Refusal::All { after: 0 }, || storage.reserve_slots(3_000));
+        assert_eq!(unasked, 0);
+        refused
+    });
+    each_in_turn(|refusal| {
         let mut storage = Storage::new();
         let one = handle(7, 1);
         let (_, refused) = insist(refusal, StorageError::Memory, || storage.born(one, BIRTH));

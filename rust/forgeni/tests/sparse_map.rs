@@ -264,3 +264,54 @@ fn a_closure_that_panics() {
     let left = sorted(&map).into_iter().map(|(_, value)| value);
     assert!(left.eq([0, 1, 12, 14]));
 }
+
+/// A value whose clone panics if its number is 3.
+struct Unclonable(u32);
+
+impl Clone for Unclonable {
+    fn clone(&self) -> Self {
+        if self.0 == 3 {
+            // This panic prints nothing.
+            resume_unwind(Box::new(3));
+        }
+        Unclonable(self.0)
+    }
+}
+
+/// A panic of a value's clone is handed on. A map with room for the source is empty then, and a map
+/// without it is as it was. Either takes and gives values as any other map does.
+#[test]
+fn a_clone_that_panics() {
+    let map = |count| -> SparseMap<Unclonable> {
+        let values = (0..count).map(|index| (handle(index, 1), Unclonable(index + 2)));
+        values.collect()
+    };
+    for (before, left) in [(9, 0), (1, 1)] {
+        let (mut target, source) = (map(before), map(6));
+        target.set_limit(50);
+        let cloned = catch_unwind(AssertUnwindSafe(|| target.try_clone_from(&source)));
+        assert!(cloned.is_err());
+        let numbers = |map: &SparseMap<Unclonable>| -> Vec<u32> {
+            map.iter().map(|(_, value)| value.0).collect()
+        };
+        assert_eq!(numbers(&target), [2, 3][..left].to_vec());
+        assert_eq!((target.len(), target.limit()), (left, 50));
+        for index in 0..9 {
+            let has = target.get(handle(index, 1)).map(|value| value.0);
+            assert_eq!(has, (index < left as u32).then_some(2 + index), "{index}");
+        }
+
+        // Each slot takes a value, and gives it back.
+        for index in (0..20).rev() {
+            let before = target.insert(handle(index, 2), Unclonable(index)).ok();
+            assert!(before.expect("memory").is_none());
+        }
+        assert_eq!((target.len(), target.iter().count()), (20, 20));
+        for index in 0..20 {
+            let value = target.remove(handle(index, 2)).map(|value| value.0);
+            assert_eq!(value, Some(index));
+        }
+        assert!(target.is_empty());
+        assert_eq!(numbers(&source), [2, 3, 4, 5, 6, 7]);
+    }
+}

@@ -19,7 +19,7 @@ fn run(seed: u64) {
         let place = format!("seed {seed}, step {step}");
         let one = any_handle(&mut numbers);
         let id = any_component(&mut numbers);
-        match numbers.below(7) {
+        match numbers.below(8) {
             0 | 1 => {
                 let birth = any_birth(&mut numbers);
                 let wanted = match model.entry(one) {
@@ -48,6 +48,10 @@ fn run(seed: u64) {
             }
             // The clone goes on, and the original is dropped.
             5 => storage = storage.clone(),
+            6 => {
+                let slots = numbers.below(20) as usize;
+                storage.reserve_slots(slots).expect("memory");
+            }
             _ => {
                 let wanted = match model.get_mut(&one) {
                     Some((_, held)) => Ok(held.remove(&id)),
@@ -171,6 +175,45 @@ fn room_for_more() {
         (spare, None)
     );
     assert!(storage.reserve(usize::MAX).is_err());
+}
+
+/// Births by falling slot, and then those of the next occupants, in another order. With and without
+/// room for all slots, each entity has the place of its birth.
+#[test]
+fn births_by_falling_slot() {
+    let birth = Birth {
+        frame: 0,
+        system: 0,
+        ordinal: 0,
+    };
+    for (count, room) in [1, 2, 3, 8, 9, 64, 1_000]
+        .into_iter()
+        .flat_map(|count| [0, count / 2, count, 2 * count].map(|room| (count, room)))
+    {
+        let mut storage = Storage::new();
+        storage.reserve_slots(room as usize).expect("memory");
+        for generation in 1..4 {
+            let slot = |at| match generation {
+                1 => count - 1 - at,
+                2 => at,
+                _ => at * 7 % count,
+            };
+            let all: Vec<Handle> = (0..count).map(|at| handle(slot(at), generation)).collect();
+            for one in &all {
+                assert_eq!(storage.place(*one), None);
+                storage.born(*one, birth).expect("memory");
+                assert_eq!(storage.born(*one, birth), Err(StorageError::Present));
+            }
+            for (place, one) in all.iter().enumerate() {
+                assert_eq!(storage.place(*one), Some(place), "{one} of {count}");
+            }
+            assert_eq!(storage.len(), all.len());
+            for one in all {
+                storage.despawn(one).expect("there");
+            }
+        }
+    }
+    assert!(Storage::new().reserve_slots(usize::MAX).is_err());
 }
 
 /// A bundle has the last value of each component, by rising number.

@@ -13,6 +13,10 @@ use crate::kit::alloc::AllocError;
 /// handles, so that a look-up is a binary search at most. If each slot has one pair, as with an
 /// allocator's handles, the pair stands at the slot's number, where it is looked for first.
 ///
+/// So that each slot has one, a pair that comes behind all others and past its slot's number brings
+/// pairs that don't count for the slots between, if there is room for them. Births in those slots
+/// then go over these, in any order, and move nothing.
+///
 /// A pair counts only if its place has the pair's handle. So to take an entity out, nothing is
 /// moved here. The pair of the slot's next occupant takes over the one before it, because it comes
 /// next in the order. Where the place is one that nobody has, no entity has to be looked at for
@@ -101,8 +105,9 @@ impl Index {
     /// Writes down that the entity has the next place, after all the living, and returns whether it
     /// did: not if the living have the entity already. It takes no memory.
     ///
-    /// An allocator's handles come behind the pair of their slot's last occupant, or behind all. So
-    /// these two places are tried first, and only then is the handle looked for.
+    /// An allocator's handles come behind the pair of their slot's last occupant, or behind all, or
+    /// over a pair that was made for their slot before it had an occupant. So these places are tried
+    /// first, and only then is the handle looked for.
     #[inline(always)]
     pub(crate) fn put(&mut self, living: &Living, handle: Handle) -> bool
         // requires room { length living.now.entities < self.old.room }

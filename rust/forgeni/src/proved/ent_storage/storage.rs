@@ -291,12 +291,12 @@ impl Storage {
         Ok(())
     }
 
-    /// Makes room in the index for a pair of each of the first `slots` slots. Then births in these
-    /// slots take constant time each, in any order.
+    /// Makes room in the index for a pair of each of the first `slots` slots. If an allocator gives
+    /// the handles, births in these slots then take constant time each, in any order. If there is
+    /// that room already, it takes no memory. Each slot takes twelve bytes.
     ///
-    /// A storage whose handles come from blocks, or from an image of an allocator, needs this: there
-    /// the first births may be in the greatest slots. A [`World`](crate::World) does it itself. If
-    /// there is that room already, it takes no memory. Each slot takes twelve bytes.
+    /// It is for a storage whose first births may be in the greatest slots, as with blocks. A
+    /// [`World`](crate::World) does it itself.
     ///
     /// ```
     /// use forgeni::{Birth, Entities, Storage};
@@ -337,11 +337,12 @@ impl Storage {
     /// Adds an entity without components. With `spare` above 0 it takes no memory, and `spare` is
     /// then less by 1.
     ///
-    /// The time is that of one look-up, if the handle comes after all others, or if the index still
-    /// has the pair of an entity that is gone where the new pair goes, or beside it. With an
-    /// allocator's handles that is the pair of the slot's last occupant. Else the later pairs of the
-    /// index move up by one. If the index is full, the pairs of all that are gone are dropped first,
-    /// in one pass.
+    /// The time is that of one look-up, if the handle comes after all others, or if the index has a
+    /// pair that doesn't count where the new pair goes, or beside it. With an allocator's handles
+    /// that is the pair of the slot's last occupant, or of a slot that was passed over: the index
+    /// makes those as far as it has room ([`reserve_slots`](Self::reserve_slots)). Else the later
+    /// pairs of the index move up by one. If the index is full, the pairs of all that are gone are
+    /// dropped first, in one pass.
     ///
     /// # Errors
     ///

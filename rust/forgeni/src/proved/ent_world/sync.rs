@@ -12,6 +12,7 @@ use crate::proved::ent_world::world::World;
 use crate::proved::ent_alloc::Entities;
 use crate::proved::ent_handle::{Handle, Memory};
 use crate::proved::ent_queue::CommandQueue;
+use crate::proved::ent_storage::Storage;
 
 impl World {
     /// The sync point: brings to life what is reserved, each entity with its birth by these queues,
@@ -157,8 +158,7 @@ impl World {
         // ensures world { IsWorld self.new }
     {
         let mut handles = Vec::new();
-        self.storage.reserve(self.entities.reserved() as usize)?;
-        self.storage.reserve_slots(slots_after_flush(&self.entities))?;
+        reserve_births(&self.entities, &mut self.storage)?;
         let first = self.entities.len();
         self.entities.flush(&mut handles)?;
         let before = first as usize;
@@ -177,9 +177,23 @@ impl World {
     }
 }
 
-/// How many slots are made once what is reserved is born.
+/// Makes room for what is reserved, and in the storage's index for each slot that is made by then. If
+/// nothing is reserved, it takes no memory.
 #[inline]
-fn slots_after_flush(entities: &Entities) -> usize {
-    let fresh = entities.reserved().saturating_sub(entities.top());
-    entities.total() as usize + fresh as usize
+fn reserve_births(entities: &Entities, storage: &mut Storage) -> Result<(), Memory>
+    // ensures entities { storage.new.entities ≡ storage.old.entities }
+    // ensures places { storage.new.places ≡ storage.old.places }
+    // ensures ok { OnOk result (length entities.now.allocator.taken ≤ storage.new.spare) }
+    // ensures grows { storage.old.spare ≤ storage.new.spare }
+    // ensures memory { OnErr result (0 < length entities.now.allocator.taken) }
+{
+    let reserved = entities.reserved();
+    if reserved == 0 {
+        return Ok(());
+    }
+    storage.reserve(reserved as usize)?;
+    // The old slots come first.
+    let fresh = reserved.saturating_sub(entities.top());
+    storage.reserve_slots(entities.total() as usize + fresh as usize)?;
+    Ok(())
 }
