@@ -17,7 +17,7 @@ use Rattle.ent_world.specs.Image.{magic, version, header_bytes, framed}
 use Rattle.ent_world.specs.declared.image_fault.WorldImageFault.{WorldImageFault}
 use Rattle.ent_world.specs.declared.image_fault.WorldImageFault.TheVariants.{Magic, Version, Length}
 use Rattle.ent_world.specs.declared.image_fault.WorldImageFault.TheVariants.{Entities, Row, Storage}
-use Rattle.ent_world.specs.declared.image_fault.WorldImageFault.TheVariants.{Memory}
+use Rattle.ent_world.specs.declared.image_fault.WorldImageFault.TheVariants.{Bound, Memory}
 
 -- ---- what can be read
 
@@ -75,6 +75,7 @@ HasFault bytes (Row index) =
 HasFault bytes (Storage fault) =
     (read : HaveAllocator bytes) × (read.allocator.rows ≡ map.empty)
     × HasStorageFault read.handles read.parts.rest fault
+HasFault bytes (Bound slots) = ⊥
 HasFault bytes Memory = ⊥
 
 -- ---- what takes memory

@@ -12,3 +12,4 @@ pub mod Rows
 pub mod BirthsAlone
 pub mod Named
 pub mod InBlocks
+pub mod Within

@@ -11,7 +11,9 @@ ghost use Rattle.ent_handle.specs.Handle.{Handle as HandleValue};
 ghost use Rattle.ent_alloc.specs.Entities.{Entities as Allocator};
 ghost use Rattle.ent_alloc.specs.Image.{image as allocator_image, HasImage as HasAllocatorImage};
 ghost use Rattle.ent_alloc.specs.FirstFault.{header_fault};
+ghost use Rattle.ent_alloc.specs.Runs.{Step, IsRun, after_run, given_in_run};
 ghost use Rattle.ent_alloc.specs.Spent.{AreSpent};
+ghost use Rattle.ent_alloc.specs.Within.{slots_after_flush};
 ghost use Rattle.ent_storage.specs.EntityMap.{EntityMap, birth_of, value_of};
 ghost use Rattle.ent_storage.specs.Image.{entity_bytes, entities_bytes, IsBirth, AreStored};
 ghost use Rattle.ent_world.specs.World.{World as WorldValue, IsWorld};
@@ -19,6 +21,7 @@ ghost use Rattle.ent_world.specs.Rows.{ArePlaces};
 ghost use Rattle.ent_world.specs.Image.{header_bytes, framed, image, most, least, HasImage};
 ghost use Rattle.ent_world.specs.FirstFault.{HasFault, MayTakeMemory, IsPartFault, IsRowFault};
 ghost use Rattle.ent_world.specs.FirstFault.{IsRestFault};
+ghost use Rattle.ent_world.specs.Within.{within, allowed, IsBeyond};
 
 use crate::image_fault::WorldImageFault;
 use crate::rows::{place_of, set_rows};
@@ -196,6 +199,18 @@ fn read_storage(
     }
 }
 
+/// What was read, if it has at most so many slots after its next flush.
+fn allowed(read: Result<World, WorldImageFault>, most: u32) -> Result<World, WorldImageFault>
+    ensures { result ≡ allowed (λ w. w.allocator) most read }
+{
+    let world = read?;
+    let slots = world.total_after_flush();
+    if slots > most {
+        return Err(WorldImageFault::Bound { slots });
+    }
+    Ok(world)
+}
+
 impl World {
     /// Appends the image of the world: bytes from which [`read_image`](World::read_image) makes the
     /// same world anew, with its limits, entities, births, components, waiting slots and requests.
@@ -266,12 +281,53 @@ impl World {
             → MayTakeMemory bytes.now) }
         ensures bound { IfOk result (λ w. least w ≤ length bytes.now) }
 
-        // What was given before the image was written is not given again by what is read.
+        // Of what was given before the image was written, nothing is given again, whatever calls come
+        // after it is read. Nor is anything given twice by these.
         ensures given_once { (w : WorldValue) (given : List HandleValue) → HasImage w
-            → image w ≡ bytes.now → AreSpent w.allocator given
-            → IfOk result (λ r. AreSpent r.allocator given) }
+            → image w ≡ bytes.now → AreSpent w.allocator given → IfOk result (λ r.
+            (steps : List Step) → IsRun r.allocator steps → AreSpent
+            (after_run r.allocator steps) (given ++ given_in_run r.allocator steps)) }
     {
         World::of_image(alloc, bytes)
+    }
+
+    /// The world whose image these bytes are, if it has at most `most` slots after its next flush. So the
+    /// flush takes no more memory than so many slots and handles do.
+    ///
+    /// # Errors
+    ///
+    /// Those of [`read_image`](World::read_image), and then [`Bound`](WorldImageFault::Bound) if there
+    /// would be more slots.
+    pub fn read_image_within(
+        alloc: Global,
+        bytes: &[u8],
+        most: u32,
+    ) -> Result<Self, WorldImageFault>
+        ensures found { IfOk result (λ w. image w ≡ bytes.now) }
+        ensures has_image { IfOk result HasImage }
+
+        // A flush of what is read leaves no more slots than are allowed.
+        ensures within { IfOk result (λ w. slots_after_flush w.allocator ≤ most) }
+
+        // The image of a world is read as this world, unless memory runs out, exactly if it has no more
+        // slots then. All else is refused for a fault of the bytes, or for the bound if they have none.
+        ensures exact { (w : WorldValue) → HasImage w → image w ≡ bytes.now
+            → (result ≡ within most w.allocator w) ⊎ (result ≡ Err WorldImageFault.Memory) }
+        ensures fault { IfErr result (λ fault. fault ≢ WorldImageFault.Memory
+            → HasFault bytes.now fault ⊎ IsBeyond bytes.now most fault) }
+        ensures memory { IfErr result (λ fault. fault ≡ WorldImageFault.Memory
+            → MayTakeMemory bytes.now) }
+        ensures bound { IfOk result (λ w. least w ≤ length bytes.now) }
+    {
+        allowed(World::read_image(alloc, bytes), most)
+    }
+
+    /// How many slots there are after the next flush.
+    #[must_use]
+    pub fn total_after_flush(&self) -> u32
+        ensures { result ≡ slots_after_flush self.now.allocator }
+    {
+        self.entities.total_after_flush()
     }
 
     /// What `read_image` returns.

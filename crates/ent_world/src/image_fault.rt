@@ -36,6 +36,12 @@ pub enum WorldImageFault {
     /// The bytes after the allocator's part are those of no entities.
     #[error("the entities' part is damaged")]
     Storage(StorageImageFault),
+    /// After its next flush the world would have more slots than the reader allows.
+    #[error("{slots} slots are more than are allowed")]
+    Bound {
+        /// How many slots it would have.
+        slots: u32,
+    },
     /// Out of memory.
     #[error("out of memory")]
     Memory,
