@@ -1,7 +1,7 @@
 #!/usr/bin/env python3
 """Mutants: patches of a crate's code that the prover has to refuse, each by what its file names.
 
-    .ci/mutants.py fit                   each fits the code, and says what refuses it
+    .ci/mutants.py fit                   each fits the code, and says what refuses it; none that `named_mutants.txt` lists is lost
     .ci/mutants.py try --gate [CRATE..]  those with a line `gate` are refused by what their files say
     .ci/mutants.py try [CRATE..]         all of these crates, or of all crates
     .ci/mutants.py try --changed REV     all of the crates whose sources, specs or proofs differ from that commit
@@ -34,6 +34,8 @@ import time
 
 PARTS = ("src", "specs", "proofs")
 GATE = 70
+# The mutants and tests that have to stay, by name.
+NAMED = pathlib.Path(".ci/named_mutants.txt")
 # What the prover calls a clause at a return, an invariant of a type or of a loop, and what a call requires.
 GOAL = re.compile(r"(returns|invariant_of-[\w.-]+?|[\w.-]+-(requires|init|preserved))(-[\w.-]+)?")
 
@@ -514,9 +516,26 @@ def changed_since(revision):
     return sorted({it[1] for it in paths if len(it) > 3 and it[2] in PARTS})
 
 
+def lost(mutants):
+    """What the list of names has that isn't there: a mutant, its line `gate`, or a test."""
+    there = {f"{it.crate}/{it.name}": it for it in mutants}
+    for line in NAMED.read_text().splitlines():
+        kind, name = line.partition("#")[0].split() or (None, None)
+        if kind == "test":
+            crate, function = name.split("/")
+            sources = pathlib.Path("crates", crate, "src").rglob("*.rt")
+            if not any(f"fn {function}(" in it.read_text() for it in sources):
+                yield f"{NAMED}: no test {name}"
+        elif kind and name not in there:
+            yield f"{NAMED}: no mutant {name}"
+        elif kind == "gate" and not there[name].is_of_gate:
+            yield f"{NAMED}: {name} has no line `gate`"
+
+
 def fit():
     mutants = mutants_of()
     faults = [f"{it.path}: {it.fault()}" for it in mutants if it.fault()]
+    faults += lost(mutants)
     gate = sum(it.is_of_gate for it in mutants)
     faults += [f"the gate tries {gate} mutants, and at most {GATE} are wanted"] if gate > GATE else []
     unnamed = sum(not it.refused_by for it in mutants)
