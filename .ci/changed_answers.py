@@ -6,7 +6,7 @@
 A model of the sequential allocator makes a true trace: some exclusive calls, and runs of reservations by callers that overlap, each caller's
 in its own order. Then one answer is changed. A trace that still agrees doesn't count. In the others `tracecheck` should name the changed line
 if no other changed answer would mend the trace; the script tries all orders of the run to find out. It ends with 0 if the line is named in
-98 of 100 of these. It runs at the top of the repository, on the program that the gate has built.
+995 of 1,000 of these. It runs at the top of the repository, on the program that the gate has built.
 """
 
 import argparse
@@ -19,7 +19,7 @@ import subprocess
 import sys
 
 BUILT = pathlib.Path("crates/tracecheck/out/tracecheck")
-WANTED = 0.98
+WANTED = 0.995
 
 
 class Model:

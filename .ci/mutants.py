@@ -168,9 +168,13 @@ def is_of_the_room(said, functions):
     return bool(re.search(r"\berror\[[\w-]+\]", said)) or not all(is_of("::".join(it.split("/")[:-1]), functions) for it in files)
 
 
+# An error stands behind a place, or begins a line. What is printed of a goal may have the word too, as `error.Differs` of a type's variant.
+UNPROVED = re.compile(r"(?m)^(?:[^\s:]+(?::\d+)*: )?error(?:\[[\w-]+\])?:|not proved|no proof")
+
+
 def lacks_only_holes(said):
     """Whether all that was to be proved is proved. With holes such a check doesn't end with 0."""
-    return re.search(r"(?m)^only=.* holes=", said) and not re.search(r"\berror\b|not proved|no proof", said)
+    return re.search(r"(?m)^only=.* holes=", said) and not UNPROVED.search(said)
 
 
 def is_of(name, functions):

@@ -161,3 +161,23 @@ fn put(output: &mut impl Sink, text: &str, status: Status) -> Status {
         .put(text.as_bytes())
         .map_or(Status::Device, |()| status)
 }
+
+#[cfg(test)]
+mod tests {
+    use super::*;
+
+    #[test]
+    fn one_event_and_one_slot_are_singular() {
+        for (text, title) in [
+            ("", "0 events and 0 slots"),
+            ("flush", "1 event and 0 slots"),
+            ("alloc", "1 event and 1 slot"),
+            ("alloc\nalloc", "2 events and 2 slots"),
+        ] {
+            let events = read_schedule(text.as_bytes()).expect("a schedule");
+            let timeline = replayed(Limits::GREATEST, text, &events).expect("few events");
+            let picture = picture_of(&timeline);
+            assert!(picture.contains(&format!("<title>{title}<")), "{picture}");
+        }
+    }
+}

@@ -2,7 +2,7 @@
 //!
 //! The check itself is that of the proved program, which is started once more with the other words. It reads what this
 //! process has read, writes to the same streams, and its exit status is the one of this process too. The picture comes
-//! after it.
+//! after it. If the check is killed, the status is 4, the error stream says so, and there is no picture.
 
 use super::followed::Followed;
 use super::options::{limits_of, named_file, with_limits};
@@ -158,10 +158,14 @@ fn memory() -> Failure {
 
 /// Has the proved program check a trace.
 fn check_alone(words: &[&str], trace: &[u8]) -> Result<u8, Failure> {
-    let status = run_alone(words, trace).map_err(|error| (DEVICE, format!("{error}\n")))?;
-    let status = status.code().and_then(|code| u8::try_from(code).ok());
-    // One that a signal has ended has none.
-    Ok(status.unwrap_or(DEVICE))
+    let ended = run_alone(words, trace).map_err(|error| (DEVICE, format!("{error}\n")))?;
+    status_of(ended)
+}
+
+/// The exit status of the check. A check that was killed has none, so nothing is known of the trace then.
+fn status_of(ended: ExitStatus) -> Result<u8, Failure> {
+    let status = ended.code().and_then(|code| u8::try_from(code).ok());
+    status.ok_or_else(|| (DEVICE, format!("the check was ended: {ended}\n")))
 }
 
 fn run_alone(words: &[&str], trace: &[u8]) -> io::Result<ExitStatus> {
@@ -289,6 +293,23 @@ mod tests {
             assert!(!would_be_lost(name), "{text}");
         }
         std::fs::remove_file(name).expect("the file that was written");
+    }
+
+    #[test]
+    #[cfg(unix)]
+    fn a_check_that_is_killed_ends_with_status_4() {
+        use std::os::unix::process::ExitStatusExt;
+        for status in [0, 1, 4] {
+            let ended = ExitStatus::from_raw(i32::from(status) << 8);
+            assert_eq!(status_of(ended), Ok(status));
+        }
+        let killed = status_of(ExitStatus::from_raw(9)).expect_err("no status");
+        assert_eq!(killed.0, DEVICE);
+        assert!(
+            killed.1.starts_with("the check was ended: signal: 9"),
+            "{}",
+            killed.1
+        );
     }
 
     #[test]

@@ -191,7 +191,8 @@ pub fn ask_for_a_check<S: AsStr>(words: &[S]) -> Result<bool, AllocError> {
     }
 }
 
-/// The file of the image that the words ask to begin with, if they do.
+/// The file of the image that the words ask to begin with, if they do. Words that are no command line
+/// ask for none.
 ///
 /// # Errors
 ///
@@ -202,8 +203,10 @@ pub fn ask_for_a_check<S: AsStr>(words: &[S]) -> Result<bool, AllocError> {
 /// In the words of the folder `specs/` of crate `tracecheck`:
 ///
 /// ```text
-/// ensures { IfOk result (λ name. IfSome name (λ name.
+/// ensures named { IfOk result (λ name. IfSome name (λ name.
 ///     image_in (map S.text words.now) ≡ Some name.now)) }
+/// ensures none { result ≡ Ok None → IsFaulty (map S.text words.now)
+///     ⊎ (image_in (map S.text words.now) ≡ None) }
 /// ```
 ///
 /// </details>
@@ -221,8 +224,8 @@ pub fn image_name<'a, S: AsStr>(
 // The file that a command line names.
 #[inline]
 fn named_image<'a, S: AsStr>(words: &'a [S]) -> Result<Option<&'a str>, AllocError>
-    // ensures { IfOk result (λ name. IfSome name (λ name.
-    //     image_in (map S.text words.now) ≡ Some name.now)) }
+    // ensures { IfOk result (λ name. option_map (λ text. text.now) name
+    //     ≡ image_in (map S.text words.now)) }
 {
     match program()?.try_get_matches_from(words) {
         Ok(options) => Ok(options.get_str("from")),

@@ -46,17 +46,21 @@ use std::io;
 ///
 /// // The trace was compared from the beginning on that the words ask for.
 /// ensures agrees { result ≡ 0 → HasSaid (map S.text words.now) Status.Agrees
-///     (M.remaining image.old) (I.remaining input.old) (O.written output.old) (O.written output.new) }
+///     (input.new ≡ input.old) (M.remaining image.old) (I.remaining input.old)
+///     (O.written output.old) (O.written output.new) }
 /// ensures differs { result ≡ 1 → HasSaid (map S.text words.now) Status.Differs
-///     (M.remaining image.old) (I.remaining input.old) (O.written output.old) (O.written output.new) }
+///     (input.new ≡ input.old) (M.remaining image.old) (I.remaining input.old)
+///     (O.written output.old) (O.written output.new) }
 ///
 /// // The two meanings of 2. Words that are a command line end so only for the text or the image.
 /// ensures refused { result ≡ 2 → IsFaulty (map S.text words.now)
 ///     ⊎ HasSaid (map S.text words.now) Status.Refused
-///     (M.remaining image.old) (I.remaining input.old) (O.written output.old) (O.written output.new) }
+///     (input.new ≡ input.old) (M.remaining image.old) (I.remaining input.old)
+///     (O.written output.old) (O.written output.new) }
 /// ensures taken { is_taken (map S.text words.now) ≡ true → result ≡ 2
 ///     → HasSaid (map S.text words.now) Status.Refused
-///     (M.remaining image.old) (I.remaining input.old) (O.written output.old) (O.written output.new) }
+///     (input.new ≡ input.old) (M.remaining image.old) (I.remaining input.old)
+///     (O.written output.old) (O.written output.new) }
 ///
 /// // Words that are no command line, or ask for help, have no other status, but 3 for lack of
 /// // memory. No device is used for them.

@@ -113,7 +113,7 @@ fn check_from<M: Source, I: Source, O: Sink, T: Sink>(
 ) -> Status
     // What was found is so, and is what was written.
     // ensures said { result ≢ Status.Memory → result ≢ Status.Device
-    //     → IfSome (M.remaining image.old) (λ bytes. HasSaidFrom bytes result
+    //     → IfSome (M.remaining image.old) (λ bytes. HasSaidFrom bytes result (input.new ≡ input.old)
     //     (I.remaining input.old) (O.written output.old) (O.written output.new)) }
     // ensures memory { result ≡ Status.Memory → output.new ≡ output.old }
 
@@ -148,7 +148,7 @@ fn check_from<M: Source, I: Source, O: Sink, T: Sink>(
 ///
 /// ```text
 /// ensures said { result ≢ Status.Memory → result ≢ Status.Device
-///     → HasSaidOf begin result (M.remaining image.old)
+///     → HasSaidOf begin result (input.new ≡ input.old) (M.remaining image.old)
 ///     (I.remaining input.old) (O.written output.old) (O.written output.new) }
 /// ensures memory { result ≡ Status.Memory → output.new ≡ output.old }
 /// ensures no_image { begin ≢ Beginning.Image → image.new ≡ image.old }

@@ -77,7 +77,8 @@ impl Comparer {
     ///
     /// It is gone then, so that none goes on after a difference.
     ///
-    /// - `Differs`: a reply isn't the allocator's, of this line or of a reservation before it.
+    /// - `Differs`: a reply isn't the allocator's, of this line or of a reservation before it. A
+    ///   reservation itself never returns it: the next other line does, or the end.
     /// - `TooMany`: it is a reservation, and with it more than 2^50 handles were requested since
     ///   the last flush.
     /// - `Memory`: memory ran out.
@@ -92,6 +93,7 @@ impl Comparer {
     /// ensures differs { IfErr result (λ stop.
     ///     OnDiffers stop (Shows self number (line ∷ []))) }
     /// ensures none { IfErr result (λ stop. OnDiffers stop (λ d. NoneFollows self line)) }
+    /// ensures alone { IfErr result (λ stop. OnDiffers stop (λ d. IsAlone line)) }
     /// ensures too_many { IfErr result (λ stop. OnTooMany stop (IsTooMany self line)) }
     /// ensures few { OnOk result (¬ (IsTooMany self line)) }
     /// ```
