@@ -73,8 +73,9 @@ impl<J: BlockNumbering> BlockReserver<J> {
         self.part.left()
     }
 
-    /// How many handles would have been enough: those that are used, and the largest request that was
-    /// refused. A [`BlockSize`](crate::BlockSize) adapts to it. At most 4,294,967,295.
+    /// How many handles would have been enough: those that are used, and the largest of the requests
+    /// that were refused since too few were left. At most 4,294,967,295.
+    /// [`BlockSize::adapt`](crate::BlockSize::adapt) takes it.
     ///
     /// ```
     /// use forgeni::Entities;

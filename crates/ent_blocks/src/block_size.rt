@@ -1,11 +1,11 @@
 ghost use Rattle.std.specs.Prelude.{◌≡◌, ◌*◌, ◌≤◌, min, max};
 
-/// How large a caller's block is in the next phase: twice what it [wanted](crate::BlockReserver::wanted)
-/// in this one, at least 64, and at most a limit. So a size follows from the phases before, and is the
-/// same on every machine.
+/// How large a caller's block is in the next phase: twice what it
+/// [wanted](crate::BlockReserver::wanted) in this one, at least 64, and at most a limit. So a size
+/// follows from the phases before, and is the same on every machine.
 ///
-/// What a caller wanted is what it used, and the largest request that it was refused. So the next block
-/// has enough for that request too, unless the limit is less.
+/// What a caller wanted is what it used, and the largest of its requests that were refused. So the
+/// next block has enough for that one too, unless the limit is less.
 ///
 /// ```
 /// use forgeni::{BlockSize, Entities};

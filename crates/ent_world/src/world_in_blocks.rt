@@ -1,5 +1,8 @@
-ghost use Rattle.std.specs.Prelude.{◌≡◌, ℕ, ◌↔◌, ◌⊎◌, ◌-◌, ◌<◌, ◌≤◌, ◌^◌, length, map, sum_by};
-ghost use Rattle.std.specs.Prelude.{All, IfOk, IfErr, OnOk, IsTrue};
+ghost use Rattle.std.specs.Prelude.{◌≡◌, ◌≢◌, ℕ, ◌↔◌, ◌⊎◌, ◌-◌, ◌<◌, ◌≤◌, ◌^◌, length, map, sum_by};
+ghost use Rattle.std.specs.Prelude.{All, AllPairs, Contains, IfOk, IfErr, OnOk, IsTrue};
+ghost use Rattle.ent_alloc.specs.Sequential.{after_flush};
+ghost use Rattle.ent_alloc.specs.Sound.{IsLive};
+ghost use Rattle.ent_handle.specs.Handle.{Handle as HandleValue};
 ghost use Rattle.ent_blocks.specs.Blocks.{blocks_of, blocks_from, unused, are_among, accounted};
 ghost use Rattle.ent_blocks.specs.Faults.{IsErrWith, IsMissing};
 ghost use Rattle.ent_blocks.specs.declared.undealt.DealError.TheVariants as failed;
@@ -232,6 +235,7 @@ impl<J: BlockNumbering> WorldDeal<J> {
         ensures entities { result.0.entities ≡ self.entities }
         ensures reservers { blocks_of result.1.items ≡ self.blocks.blocks }
         ensures of { All (λ r. r.number ≡ number) result.1.items }
+        ensures none_refused { All (λ r. r.refused ≡ 0) result.1.items }
     {
         let WorldDeal {
             deal,
@@ -276,6 +280,17 @@ impl<J: BlockNumbering> WorldInBlocks<J> {
         ensures after { let before = world_dealt self.blocks.phase self.phase self.entities in
             IfOk result (λ w. w ≡ world_after before (blocks_of reservers.items)) }
         ensures world { IfOk result IsWorld }
+
+        // No handle was given twice, and none was alive. A flush brings to life exactly what was
+        // used.
+        ensures distinct { IfOk result (λ w. AllPairs (λ g h. g ≢ h) w.allocator.taken) }
+        ensures not_live { IfOk result (λ w.
+            All (λ h. ¬ (IsLive self.blocks.phase.start h)) w.allocator.taken) }
+        ensures brings_to_life { IfOk result (λ w. (h : HandleValue) →
+            IsLive (after_flush w.allocator) h
+            ↔ (IsLive self.blocks.phase.start h ⊎ Contains w.allocator.taken h)) }
+
+        // When it succeeds, when it is refused, and what stands then.
         ensures of { OnOk result (All (λ r. r.number ≡ self.blocks.number) reservers.items) }
         ensures all { OnOk result
             (map unused (blocks_of reservers.items) ≡ self.blocks.phase.blocks) }
@@ -341,6 +356,16 @@ impl<J: BlockNumbering> WorldInBlocks<J> {
             IfOk result (λ w. w ≡ world_after before
             (accounted self.blocks.phase.blocks (blocks_of reservers.items))) }
         ensures world { IfOk result IsWorld }
+
+        // No handle is taken twice, and none was alive. A flush brings to life exactly these.
+        ensures distinct { IfOk result (λ w. AllPairs (λ g h. g ≢ h) w.allocator.taken) }
+        ensures not_live { IfOk result (λ w.
+            All (λ h. ¬ (IsLive self.blocks.phase.start h)) w.allocator.taken) }
+        ensures brings_to_life { IfOk result (λ w. (h : HandleValue) →
+            IsLive (after_flush w.allocator) h
+            ↔ (IsLive self.blocks.phase.start h ⊎ Contains w.allocator.taken h)) }
+
+        // When it succeeds, when it is refused, and what stands then.
         ensures of { OnOk result (All (λ r. r.number ≡ self.blocks.number) reservers.items) }
         ensures among { OnOk result
             (IsTrue (are_among self.blocks.phase.blocks (blocks_of reservers.items))) }
@@ -349,6 +374,7 @@ impl<J: BlockNumbering> WorldInBlocks<J> {
         ensures order { IsErrWith result (λ u. u.error ≡ unended.Order)
             ↔ (All (λ r. r.number ≡ self.blocks.number) reservers.items
             × ¬ (IsTrue (are_among self.blocks.phase.blocks (blocks_of reservers.items)))) }
+        ensures no_missing { IfErr result (λ u. (n : ℕ) → ¬ (IsMissing n u.error)) }
         ensures memory { IsErrWith result (λ u. u.error ≡ unended.Memory)
             → 0 < length self.blocks.phase.blocks }
         ensures handed_back { IfErr result (λ u. (u.world ≡ self)
