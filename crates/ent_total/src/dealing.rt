@@ -77,6 +77,7 @@ impl<J: BlockNumbering> WorldDeal<J> {
         } }
         ensures reservers { blocks_of result.1.items ≡ self.deal.blocks.blocks }
         ensures of { All (λ r. r.number ≡ number) result.1.items }
+        ensures none_refused { All (λ r. r.refused ≡ 0) result.1.items }
     {
         let (world, reservers) = self.deal.numbered(number);
         let world = WorldInBlocks {

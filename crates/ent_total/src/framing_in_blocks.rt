@@ -35,14 +35,14 @@ use std::thread::Threads;
 ///
 /// The handles of a system's spawns are the next ones of its block, in the pool's order, whatever the
 /// others do, whichever worker runs it, and however many workers there are. The reservers say how many
-/// each system used, from which its block's size in the next frame may follow:
+/// each system wanted, from which its block's size in the next frame may follow:
 ///
 /// ```
 /// # #[cfg(feature = "std")] {
 /// use forgeni::{fill_in_blocks, BlockSize, CommandsInBlocks, OutOfMemory, StdThreads, View, World};
 ///
 /// fn launch(_: &View<'_>, commands: &mut CommandsInBlocks<'_>) -> Result<(), OutOfMemory> {
-///     commands.spawn_many_with(50, &[]).map_or_else(|refused| refused.or_memory(), |_| Ok(()))
+///     commands.spawn_many_with(100, &[]).map_or_else(|refused| refused.or_memory(), |_| Ok(()))
 /// }
 ///
 /// let (mut world, mut sizes) = (World::new(), [BlockSize::new(1000); 3]);
@@ -50,12 +50,13 @@ use std::thread::Threads;
 ///     let (open, reservers) = world.open_in_blocks(&sizes.map(|it| it.size()))?;
 ///     let (queues, reservers) = fill_in_blocks(&StdThreads, &open, reservers, &[launch; 3], 2)?;
 ///     for (size, reserver) in sizes.iter_mut().zip(&reservers) {
-///         size.adapt(reserver.used());
+///         size.adapt(reserver.wanted());
 ///     }
 ///     world = open.close(reservers)?;
 ///     world.apply(queues)?;
 /// }
-/// assert_eq!((world.len(), sizes[0].size()), (300, 100));
+/// // The first blocks, of 64, were too small for it.
+/// assert_eq!((world.len(), sizes[0].size()), (300, 200));
 /// # }
 /// # Ok::<(), Box<dyn std::error::Error + Send + Sync>>(())
 /// ```

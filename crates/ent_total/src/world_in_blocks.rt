@@ -1,5 +1,8 @@
-ghost use Rattle.std.specs.Prelude.{◌≡◌, ℕ, ◌↔◌, ◌-◌, ◌<◌, length, map};
-ghost use Rattle.std.specs.Prelude.{All, IfOk, IfErr, OnOk, IsTrue};
+ghost use Rattle.std.specs.Prelude.{◌≡◌, ◌≢◌, ℕ, ◌↔◌, ◌⊎◌, ◌-◌, ◌<◌, length, map};
+ghost use Rattle.std.specs.Prelude.{All, AllPairs, Contains, IfOk, IfErr, OnOk, IsTrue};
+ghost use Rattle.ent_alloc.specs.Sequential.{after_flush};
+ghost use Rattle.ent_alloc.specs.Sound.{IsLive};
+ghost use Rattle.ent_handle.specs.Handle.{Handle as HandleValue};
 ghost use Rattle.ent_blocks.specs.Blocks.{blocks_of, unused, are_among, accounted};
 ghost use Rattle.ent_blocks.specs.Faults.{IsMissing};
 ghost use Rattle.ent_blocks.specs.declared.unended.EndError.TheVariants as unended;
@@ -62,6 +65,17 @@ impl<J: BlockNumbering> WorldInBlocks<J> {
         ensures world { IfOk result (λ w. IsWorld w.world) }
         ensures number { IfOk result (λ w. w.number ≡ self.of_world) }
         ensures spawned { IfOk result (λ w. w.spawned ≡ self.spawned) }
+
+        // No handle was given twice, and none was alive. A flush brings to life exactly what was
+        // used.
+        ensures distinct { IfOk result (λ w. AllPairs (λ g h. g ≢ h) w.world.allocator.taken) }
+        ensures not_live { IfOk result (λ w.
+            All (λ h. ¬ (IsLive self.world.blocks.phase.start h)) w.world.allocator.taken) }
+        ensures brings_to_life { IfOk result (λ w. (h : HandleValue) →
+            IsLive (after_flush w.world.allocator) h
+            ↔ (IsLive self.world.blocks.phase.start h ⊎ Contains w.world.allocator.taken h)) }
+
+        // When it succeeds, when it is refused, and what stands then.
         ensures of { OnOk result (All (λ r. r.number ≡ self.world.blocks.number) reservers.items) }
         ensures all { OnOk result
             (map unused (blocks_of reservers.items) ≡ self.world.blocks.phase.blocks) }
@@ -111,6 +125,16 @@ impl<J: BlockNumbering> WorldInBlocks<J> {
         ensures world { IfOk result (λ w. IsWorld w.world) }
         ensures number { IfOk result (λ w. w.number ≡ self.of_world) }
         ensures spawned { IfOk result (λ w. w.spawned ≡ self.spawned) }
+
+        // No handle is taken twice, and none was alive. A flush brings to life exactly these.
+        ensures distinct { IfOk result (λ w. AllPairs (λ g h. g ≢ h) w.world.allocator.taken) }
+        ensures not_live { IfOk result (λ w.
+            All (λ h. ¬ (IsLive self.world.blocks.phase.start h)) w.world.allocator.taken) }
+        ensures brings_to_life { IfOk result (λ w. (h : HandleValue) →
+            IsLive (after_flush w.world.allocator) h
+            ↔ (IsLive self.world.blocks.phase.start h ⊎ Contains w.world.allocator.taken h)) }
+
+        // When it succeeds, when it is refused, and what stands then.
         ensures of { OnOk result (All (λ r. r.number ≡ self.world.blocks.number) reservers.items) }
         ensures among { OnOk result
             (IsTrue (are_among self.world.blocks.phase.blocks (blocks_of reservers.items))) }
@@ -119,6 +143,7 @@ impl<J: BlockNumbering> WorldInBlocks<J> {
         ensures order { IsErrWith result (λ u. u.error ≡ unended.Order)
             ↔ (All (λ r. r.number ≡ self.world.blocks.number) reservers.items
             × ¬ (IsTrue (are_among self.world.blocks.phase.blocks (blocks_of reservers.items)))) }
+        ensures no_missing { IfErr result (λ u. (n : ℕ) → ¬ (IsMissing n u.error)) }
         ensures memory { IsErrWith result (λ u. u.error ≡ unended.Memory)
             → 0 < length self.world.blocks.phase.blocks }
         ensures handed_back { IfErr result (λ u. (u.world ≡ self)

@@ -133,7 +133,7 @@ impl Game {
         let (mut logs, reservers) =
             run_in_blocks(&StdThreads, &blocks, reservers, &systems, workers)?;
         for (size, reserver) in self.sizes.iter_mut().zip(&reservers) {
-            size.adapt(reserver.used());
+            size.adapt(reserver.wanted());
         }
         self.entities = blocks.close(reservers)?;
         let mut born = Vec::new();
@@ -244,7 +244,7 @@ fn play_world(workers: usize) -> Result<Vec<Vec<u8>>> {
         let filled = fill_in_blocks(&StdThreads, &open, reservers, &systems, workers);
         let (queues, reservers) = filled?;
         for (size, reserver) in sizes.iter_mut().zip(&reservers) {
-            size.adapt(reserver.used());
+            size.adapt(reserver.wanted());
         }
         world = open.close(reservers)?;
         world.apply(queues)?;

@@ -617,14 +617,14 @@ fn frames_in_blocks_are_those_of_the_model_on_any_number_of_workers() {
 }
 
 #[test]
-fn sizes_follow_what_was_used() {
+fn sizes_follow_what_was_wanted() {
     let mut images = vec![];
     for workers in WORKERS {
         let (mut world, mut sizes) = (World::new(), [BlockSize::new(150); 4]);
         // How many a system spawns, one after the other, and what its size then is.
         for (wanted, then) in [
-            ([0, 10, 64, 100], [64, 64, 128, 128]),
-            ([1, 70, 100, 100], [64, 128, 150, 150]),
+            ([0, 10, 64, 100], [64, 64, 128, 130]),
+            ([1, 70, 100, 100], [64, 130, 150, 150]),
             ([64, 0, 200, 33], [128, 64, 150, 66]),
         ] {
             let systems = wanted.map(|count| Script(vec![Step::Spawn(7); count]));
@@ -633,7 +633,7 @@ fn sizes_follow_what_was_used() {
             let (queues, reservers) = ran.expect("memory");
             for ((size, reserver), wanted) in sizes.iter_mut().zip(&reservers).zip(wanted) {
                 assert_eq!(reserver.used(), size.size().min(wanted as u32));
-                size.adapt(reserver.used());
+                size.adapt(reserver.wanted());
             }
             assert_eq!(sizes.map(|it| it.size()), then);
             world = opened.close(reservers).expect("all are here");
@@ -645,6 +645,35 @@ fn sizes_follow_what_was_used() {
         images.push(image_of(&world));
     }
     assert!(images.iter().all(|it| *it == images[0]));
+}
+
+/// Systems that spawn all at once, and are refused if their block is smaller.
+#[test]
+fn a_bulk_that_was_refused_is_served_in_the_next_frame() {
+    const BULKS: [u32; 3] = [10, 100, 1000];
+    let systems = BULKS.map(|bulk| {
+        move |_: &View<'_>, commands: &mut CommandsInBlocks<'_>| match commands
+            .spawn_many_with(bulk, &[])
+        {
+            Ok(_) => Ok(()),
+            Err(refused) => refused.or_memory(),
+        }
+    });
+    for workers in WORKERS {
+        let (mut world, mut sizes) = (World::new(), [BlockSize::new(4096); 3]);
+        for (then, faults) in [([64, 200, 2000], 2), ([64, 200, 2000], 0)] {
+            let (opened, reservers) = open(world, &sizes.map(|it| it.size()));
+            let ran = fill_in_blocks(&StdThreads, &opened, reservers, &systems, workers);
+            let (queues, reservers) = ran.expect("memory");
+            for (size, reserver) in sizes.iter_mut().zip(&reservers) {
+                size.adapt(reserver.wanted());
+            }
+            assert_eq!(sizes.map(|it| it.size()), then);
+            world = opened.close(reservers).expect("all are here");
+            assert_eq!(world.apply(queues).expect("memory").faults.len(), faults);
+        }
+        assert_eq!(world.len(), 10 + 10 + 100 + 1000);
+    }
 }
 
 /// A world with six slots that wait and two that live, and the handles that three blocks of ten have.

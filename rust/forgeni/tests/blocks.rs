@@ -3,7 +3,9 @@
 //! `FORGENI_PHASES` sets how many phases are run.
 
 use crate::common::{flushed, handle, small, Model, Numbers};
-use forgeni::{BlockError, BlockReserver, Blocks, DealError, EndError, Entities, Handle};
+use forgeni::{
+    BlockError, BlockReserver, BlockSize, Blocks, DealError, EndError, Entities, Handle,
+};
 use std::collections::HashSet;
 use std::sync::Barrier;
 use std::thread;
@@ -271,4 +273,59 @@ fn a_phase_that_is_not_closed() {
     let born = flushed(&mut entities);
     assert_eq!(born, [used, handle(3, 1), handle(2, 1)]);
     assert_eq!(entities.alloc(), Ok(handle(0, 1)));
+}
+
+/// A size grows by what was wanted, although a bulk that is refused uses none of its block.
+#[test]
+fn a_refused_bulk_fits_the_next_block() {
+    for (used, bulk) in [(0, 100), (0, 65), (30, 100), (64, 1), (63, 2), (1, 5000)] {
+        let (mut entities, mut size) = (Entities::new(), BlockSize::new(100_000));
+        for frame in 0..2 {
+            let (blocks, mut reservers) = opened(entities, &[size.size()]);
+            blocks.reserve_many(&mut reservers[0], used).expect("few");
+            let served = blocks.reserve_many(&mut reservers[0], bulk);
+            assert_eq!(served.is_ok(), frame == 1, "{used} and then {bulk}");
+            assert_eq!(reservers[0].wanted(), used + bulk);
+            size.adapt(reservers[0].wanted());
+            assert_eq!(size.size(), 2 * (used + bulk));
+            entities = blocks.close(reservers).expect("all are here");
+            entities.flush(&mut vec![]).expect("memory");
+        }
+    }
+}
+
+/// The largest refused request counts, whichever call made it, and none that failed otherwise.
+#[test]
+fn a_reserver_remembers_the_largest_refused_request() {
+    let (blocks, mut reservers) = opened(Entities::new(), &[10, 10]);
+    let (other, mut others) = opened(Entities::new(), &[10]);
+    let one = &mut reservers[0];
+    assert_eq!((one.used(), one.wanted()), (0, 0));
+    assert!(other.reserve_many(one, 500).is_err());
+    assert!(blocks.reserve_many(&mut others[0], 500).is_err());
+    assert_eq!((one.wanted(), others[0].wanted()), (0, 0));
+    blocks.reserve_many(one, 4).expect("few");
+    assert_eq!(one.wanted(), 4);
+    let mut list = vec![];
+    assert!(blocks.reserve_into(one, &mut list, 30).is_err());
+    assert!(blocks.reserve_many(one, 20).is_err());
+    assert_eq!((one.used(), one.wanted()), (4, 34));
+    blocks.reserve_many(one, 6).expect("few");
+    assert!(blocks.reserve(one).is_err());
+    assert_eq!((one.used(), one.wanted()), (10, 40));
+    assert!(blocks.reserve_many(one, u32::MAX).is_err());
+    assert_eq!((one.used(), one.wanted()), (10, u32::MAX));
+
+    // At a limit, and at the largest number.
+    for (limit, size) in [(15, 15), (70, 70), (u32::MAX, u32::MAX)] {
+        let mut next = BlockSize::new(limit);
+        next.adapt(one.wanted());
+        assert_eq!((next.size(), next.limit()), (size, limit));
+    }
+    let two = &mut reservers[1];
+    assert_eq!(two.wanted(), 0);
+    for number in 1..=11 {
+        assert_eq!(blocks.reserve(two).is_ok(), number <= 10);
+        assert_eq!(two.wanted(), number);
+    }
 }

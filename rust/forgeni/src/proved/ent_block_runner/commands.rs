@@ -72,7 +72,8 @@ impl<'b, C> BlockCommands<'b, C> {
     ///
     /// - [`ReserveError::Memory`] if there is no room for the entry.
     /// - [`ReserveError::Space`], with 1 wanted and 0 left, if the block is used up.
-    ///   [`ReserveError::or_memory`] lets the system go on.
+    ///   [`ReserveError::or_memory`] lets the system go on, and the reserver
+    ///   [remembers](BlockReserver::wanted) it.
     ///
     /// <details><summary>Contract</summary>
     ///
@@ -81,7 +82,10 @@ impl<'b, C> BlockCommands<'b, C> {
     /// ```text
     /// ensures extends { Extends self.old self.new }
     /// ensures ok { IfOk result (λ handle. self.new.log ≡ self.old.log ++ Spawn handle ∷ []) }
-    /// ensures err { OnErr result (self.new ≡ self.old) }
+    /// ensures err { OnErr result (self.new.log ≡ self.old.log) }
+    /// ensures none_used { OnErr result
+    ///     (self.new.source.reserver.block ≡ self.old.source.reserver.block) }
+    /// ensures memory { IsErrOf result ReserveError.Memory → self.new ≡ self.old }
     ///
     /// // Anything but Memory is the result of a reservation.
     /// ensures replies { (reply : Result HandleValue Refusal) → result ≡ returned reply

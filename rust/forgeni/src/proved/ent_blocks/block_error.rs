@@ -4,7 +4,8 @@ use crate::proved::ent_alloc::Space;
 use crate::proved::ent_handle::Memory;
 use crate::kit::alloc::AllocError;
 
-/// Why no handle of a block was reserved. Nothing has changed then.
+/// Why no handle of a block was reserved. Nothing has changed then, but that the reserver
+/// [remembers](crate::proved::ent_blocks::BlockReserver::wanted) a request for more than is left.
 #[derive(Clone, Copy, Debug, PartialEq, Eq, Hash)]
 #[non_exhaustive]
 pub enum BlockError {

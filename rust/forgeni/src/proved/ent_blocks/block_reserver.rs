@@ -1,5 +1,6 @@
 // Made of crates/ent_blocks/src/block_reserver.rt by rust/erase. It isn't edited by hand.
 
+use crate::proved::ent_blocks::block_error::BlockError;
 use crate::proved::ent_blocks::blocks::Blocks;
 use crate::proved::ent_blocks::part::Part;
 
@@ -20,6 +21,8 @@ use crate::proved::ent_blocks::part::Part;
 #[repr(align(128))]
 pub struct BlockReserver {
     pub(super) part: Part,
+    /// How many handles the largest of the refused requests was for.
+    pub(super) refused: u32,
     pub(super) number: u64,
 }
 
@@ -77,6 +80,46 @@ impl BlockReserver {
         self.part.left()
     }
 
+    /// How many handles would have been enough: those that are used, and the largest of the requests
+    /// that were refused since too few were left. At most 4,294,967,295.
+    /// [`BlockSize::adapt`](crate::proved::ent_blocks::BlockSize::adapt) takes it.
+    ///
+    /// ```
+    /// use forgeni::Entities;
+    ///
+    /// let (blocks, mut reservers) = Entities::new().open_in_blocks(&[64])?;
+    /// blocks.reserve_many(&mut reservers[0], 10)?;
+    /// assert_eq!(reservers[0].wanted(), 10);
+    /// assert!(blocks.reserve_many(&mut reservers[0], 100).is_err());
+    /// assert_eq!((reservers[0].used(), reservers[0].wanted()), (10, 110));
+    /// # Ok::<(), Box<dyn std::error::Error + Send + Sync>>(())
+    /// ```
+    ///
+    /// <details><summary>Contract</summary>
+    ///
+    /// In the words of the folder `specs/` of crate `ent_blocks`:
+    ///
+    /// ```text
+    /// ensures { result ≡ wanted_by self.now }
+    /// ```
+    ///
+    /// </details>
+    #[must_use]
+    #[inline]
+    pub fn wanted(&self) -> u32 {
+        self.part.used().saturating_add(self.refused)
+    }
+
+    /// Remembers a request for `wanted` handles, of which only `left` are left.
+    #[inline]
+    pub(super) fn refuse(&mut self, wanted: u32, left: u32) -> BlockError
+        // ensures remembers { self.new ≡ after_refusal self.old wanted }
+        // ensures error { result ≡ why.Space wanted left }
+    {
+        self.refused = self.refused.max(wanted);
+        BlockError::Space { wanted, left }
+    }
+
     /// Whether it is of this phase.
     ///
     /// <details><summary>Contract</summary>
@@ -112,6 +155,7 @@ impl BlockReserver {
 pub fn again(reserver: &BlockReserver) -> BlockReserver {
     BlockReserver {
         part: reserver.part.with_used(reserver.part.used()),
+        refused: reserver.refused,
         number: reserver.number,
     }
 }

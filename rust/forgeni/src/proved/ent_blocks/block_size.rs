@@ -1,20 +1,23 @@
 // Made of crates/ent_blocks/src/block_size.rt by rust/erase. It isn't edited by hand.
 
-/// How large a caller's block is in the next phase: twice what it used in this one, at least 64,
-/// and at most a limit. So a size follows from the phases before, and is the same on every machine.
+/// How large a caller's block is in the next phase: twice what it
+/// [wanted](crate::proved::ent_blocks::BlockReserver::wanted) in this one, at least 64, and at most a limit. So a size
+/// follows from the phases before, and is the same on every machine.
 ///
-/// A caller that was refused has used its block up, and gets one of twice the size.
+/// What a caller wanted is what it used, and the largest of its requests that were refused. So the
+/// next block has enough for that one too, unless the limit is less.
 ///
 /// ```
 /// use forgeni::{BlockSize, Entities};
 ///
 /// let mut sizes = [BlockSize::new(1000); 2];
 /// let (blocks, mut reservers) = Entities::new().open_in_blocks(&sizes.map(|it| it.size()))?;
-/// blocks.reserve_many(&mut reservers[1], 50)?;
+/// blocks.reserve_many(&mut reservers[0], 50)?;
+/// assert!(blocks.reserve_many(&mut reservers[1], 100).is_err());
 /// for (size, reserver) in sizes.iter_mut().zip(&reservers) {
-///     size.adapt(reserver.used());
+///     size.adapt(reserver.wanted());
 /// }
-/// assert_eq!(sizes.map(|it| it.size()), [64, 100]);
+/// assert_eq!(sizes.map(|it| it.size()), [100, 200]);
 /// # Ok::<(), Box<dyn std::error::Error + Send + Sync>>(())
 /// ```
 #[derive(Clone, Copy, Debug, PartialEq, Eq, Hash)]
@@ -78,20 +81,23 @@ impl BlockSize {
         self.limit
     }
 
-    /// Sets the size to the one that follows from how many handles were used in this phase.
+    /// Sets the size to the one that follows from how many handles were
+    /// [wanted](crate::proved::ent_blocks::BlockReserver::wanted) in this phase.
     ///
     /// <details><summary>Contract</summary>
     ///
     /// In the words of the folder `specs/` of crate `ent_blocks`:
     ///
     /// ```text
-    /// ensures { self.new ≡ record self.old { size = min (max 64 (2 * used)) self.old.limit } }
+    /// ensures next { self.new
+    ///     ≡ record self.old { size = min (max 64 (2 * wanted)) self.old.limit } }
+    /// ensures enough { min wanted self.old.limit ≤ self.new.size }
     /// ```
     ///
     /// </details>
     #[inline]
-    pub fn adapt(&mut self, used: u32) {
-        self.size = next_size(used, self.limit);
+    pub fn adapt(&mut self, wanted: u32) {
+        self.size = next_size(wanted, self.limit);
     }
 }
 
@@ -99,13 +105,13 @@ impl BlockSize {
 const LEAST: u64 = 64;
 
 #[inline]
-fn next_size(used: u32, limit: u32) -> u32
-    // ensures { result ≡ min (max 64 (2 * used)) limit }
+fn next_size(wanted: u32, limit: u32) -> u32
+    // ensures { result ≡ min (max 64 (2 * wanted)) limit }
 {
-    let twice = 2 * u64::from(used);
-    let wanted = if twice <= LEAST { LEAST } else { twice };
-    if wanted <= u64::from(limit) {
-        wanted as u32
+    let twice = 2 * u64::from(wanted);
+    let size = if twice <= LEAST { LEAST } else { twice };
+    if size <= u64::from(limit) {
+        size as u32
     } else {
         limit
     }

@@ -9,7 +9,7 @@ use crate::proved::ent_blocks::closing::take_used;
 use crate::proved::ent_blocks::part::Part;
 use crate::proved::ent_blocks::taking::{append, take_many, take_one};
 use crate::proved::ent_blocks::unended::{EndError, Unended};
-use crate::proved::ent_alloc::{Entities, Reserved};
+use crate::proved::ent_alloc::{Entities, Reserved, Space};
 use crate::proved::ent_handle::Handle;
 
 /// An allocator whose pool's front is dealt in blocks, one to each [`BlockReserver`].
@@ -126,8 +126,9 @@ impl Blocks {
     ///
     /// # Errors
     ///
-    /// Nothing has changed then. [`BlockError::OtherPhase`] if the reserver is of another phase.
-    /// [`BlockError::Space`], with 1 wanted and 0 left, if the block is used up.
+    /// No handle is used then. [`BlockError::OtherPhase`] if the reserver is of another phase.
+    /// [`BlockError::Space`], with 1 wanted and 0 left, if the block is used up: the reserver
+    /// [remembers](BlockReserver::wanted) it.
     ///
     /// <details><summary>Contract</summary>
     ///
@@ -143,7 +144,8 @@ impl Blocks {
     ///     ↔ (reserver.old.number ≢ self.now.number) }
     /// ensures err { IfErr result (λ error. (error ≡ refused.OtherPhase)
     ///     ⊎ ((error ≡ refused.Space 1 0) × (reserver.old.block.used ≡ reserver.old.block.size))) }
-    /// ensures unchanged { OnErr result (reserver.new ≡ reserver.old) }
+    /// ensures remembers { IfErr result (λ error.
+    ///     reserver.new ≡ after_error reserver.old error) }
     /// ```
     ///
     /// </details>
@@ -152,7 +154,10 @@ impl Blocks {
         if reserver.number != self.number {
             return Err(BlockError::OtherPhase);
         }
-        Ok(take_one(&self.entities, &mut reserver.part)?)
+        match take_one(&self.entities, &mut reserver.part) {
+            Ok(handle) => Ok(handle),
+            Err(Space { wanted, left }) => Err(reserver.refuse(wanted, left)),
+        }
     }
 
     /// Reserves the next `n` handles of the reserver's block, all of them or none. They are listed
@@ -174,10 +179,10 @@ impl Blocks {
     ///
     /// # Errors
     ///
-    /// Nothing has changed then. The error is the first of these that holds:
+    /// No handle is used then. The error is the first of these that holds:
     /// [`BlockError::OtherPhase`] if the reserver is of another phase; [`BlockError::Space`] if the
-    /// block has fewer than `n` handles left; [`BlockError::Memory`] if there is no memory for the
-    /// list.
+    /// block has fewer than `n` handles left, and the reserver [remembers](BlockReserver::wanted)
+    /// how many were wanted; [`BlockError::Memory`] if there is no memory for the list.
     ///
     /// <details><summary>Contract</summary>
     ///
@@ -197,7 +202,8 @@ impl Blocks {
     /// ensures err { let left = reserver.old.block.size - reserver.old.block.used in
     ///     IfErr result (λ error. (error ≡ refused.OtherPhase)
     ///     ⊎ ((error ≡ refused.Space n left) ⊎ ((error ≡ refused.Memory) × (0 < n)))) }
-    /// ensures unchanged { OnErr result (reserver.new ≡ reserver.old) }
+    /// ensures remembers { IfErr result (λ error.
+    ///     reserver.new ≡ after_error reserver.old error) }
     /// ```
     ///
     /// </details>
@@ -251,7 +257,8 @@ impl Blocks {
     ///     IfErr result (λ error. (error ≡ refused.OtherPhase)
     ///     ⊎ ((error ≡ refused.Space n left) ⊎ ((error ≡ refused.Memory)
     ///     × (vec_capacity handles.old < vec_len handles.old + n)))) }
-    /// ensures unchanged { OnErr result (reserver.new ≡ reserver.old) }
+    /// ensures remembers { IfErr result (λ error.
+    ///     reserver.new ≡ after_error reserver.old error) }
     /// ensures kept { OnErr result (handles.new.items ≡ handles.old.items) }
     /// ```
     ///
@@ -268,7 +275,7 @@ impl Blocks {
         }
         let left = reserver.part.left();
         if n > left {
-            return Err(BlockError::Space { wanted: n, left });
+            return Err(reserver.refuse(n, left));
         }
         handles.reserve_fallibly(n as usize)?;
         let given = take_many(&self.entities, &mut reserver.part, n);
@@ -514,7 +521,8 @@ impl Blocks {
 ///     ↔ ((reserver.old.number ≡ blocks.now.number) × (left < n)) }
 /// ensures err { let left = reserver.old.block.size - reserver.old.block.used in
 ///     IfErr result (λ error. (error ≡ refused.OtherPhase) ⊎ (error ≡ refused.Space n left)) }
-/// ensures unchanged { OnErr result (reserver.new ≡ reserver.old) }
+/// ensures remembers { IfErr result (λ error.
+///     reserver.new ≡ after_error reserver.old error) }
 /// ```
 ///
 /// </details>
@@ -529,7 +537,7 @@ pub fn reserve_iter<'b>(
     }
     let left = reserver.part.left();
     if n > left {
-        return Err(BlockError::Space { wanted: n, left });
+        return Err(reserver.refuse(n, left));
     }
     Ok(take_many(&blocks.entities, &mut reserver.part, n))
 }

@@ -92,6 +92,7 @@ impl Deal {
         // ensures phase { result.0 ≡ record { number = number; phase = self } }
         // ensures reservers { blocks_of result.1.items ≡ self.blocks }
         // ensures of { All (λ r. r.number ≡ number) result.1.items }
+        // ensures none_refused { All (λ r. r.refused ≡ 0) result.1.items }
     {
         let Deal {
             entities,
@@ -112,10 +113,12 @@ fn hand_out(parts: &[Part], number: u64, reservers: &mut Vec<BlockReserver>)
     // requires room { length parts.now ≤ vec_capacity reservers.old }
     // ensures reservers { blocks_of reservers.new.items ≡ parts.now }
     // ensures of { All (λ r. r.number ≡ number) reservers.new.items }
+    // ensures none_refused { All (λ r. r.refused ≡ 0) reservers.new.items }
 {
     for part in parts {
         reservers.push_reserved(BlockReserver {
             part: part.with_used(0),
+            refused: 0,
             number,
         });
     }

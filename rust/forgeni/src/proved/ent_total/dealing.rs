@@ -82,6 +82,7 @@ impl WorldDeal {
         // } }
         // ensures reservers { blocks_of result.1.items ≡ self.deal.blocks.blocks }
         // ensures of { All (λ r. r.number ≡ number) result.1.items }
+        // ensures none_refused { All (λ r. r.refused ≡ 0) result.1.items }
     {
         let (world, reservers) = self.deal.numbered(number);
         let world = WorldInBlocks {

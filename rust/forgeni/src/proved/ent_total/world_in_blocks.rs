@@ -77,6 +77,17 @@ impl WorldInBlocks {
     /// ensures world { IfOk result (λ w. IsWorld w.world) }
     /// ensures number { IfOk result (λ w. w.number ≡ self.of_world) }
     /// ensures spawned { IfOk result (λ w. w.spawned ≡ self.spawned) }
+    ///
+    /// // No handle was given twice, and none was alive. A flush brings to life exactly what was
+    /// // used.
+    /// ensures distinct { IfOk result (λ w. AllPairs (λ g h. g ≢ h) w.world.allocator.taken) }
+    /// ensures not_live { IfOk result (λ w.
+    ///     All (λ h. ¬ (IsLive self.world.blocks.phase.start h)) w.world.allocator.taken) }
+    /// ensures brings_to_life { IfOk result (λ w. (h : HandleValue) →
+    ///     IsLive (after_flush w.world.allocator) h
+    ///     ↔ (IsLive self.world.blocks.phase.start h ⊎ Contains w.world.allocator.taken h)) }
+    ///
+    /// // When it succeeds, when it is refused, and what stands then.
     /// ensures of { OnOk result (All (λ r. r.number ≡ self.world.blocks.number) reservers.items) }
     /// ensures all { OnOk result
     ///     (map unused (blocks_of reservers.items) ≡ self.world.blocks.phase.blocks) }
@@ -135,6 +146,16 @@ impl WorldInBlocks {
     /// ensures world { IfOk result (λ w. IsWorld w.world) }
     /// ensures number { IfOk result (λ w. w.number ≡ self.of_world) }
     /// ensures spawned { IfOk result (λ w. w.spawned ≡ self.spawned) }
+    ///
+    /// // No handle is taken twice, and none was alive. A flush brings to life exactly these.
+    /// ensures distinct { IfOk result (λ w. AllPairs (λ g h. g ≢ h) w.world.allocator.taken) }
+    /// ensures not_live { IfOk result (λ w.
+    ///     All (λ h. ¬ (IsLive self.world.blocks.phase.start h)) w.world.allocator.taken) }
+    /// ensures brings_to_life { IfOk result (λ w. (h : HandleValue) →
+    ///     IsLive (after_flush w.world.allocator) h
+    ///     ↔ (IsLive self.world.blocks.phase.start h ⊎ Contains w.world.allocator.taken h)) }
+    ///
+    /// // When it succeeds, when it is refused, and what stands then.
     /// ensures of { OnOk result (All (λ r. r.number ≡ self.world.blocks.number) reservers.items) }
     /// ensures among { OnOk result
     ///     (IsTrue (are_among self.world.blocks.phase.blocks (blocks_of reservers.items))) }
@@ -143,6 +164,7 @@ impl WorldInBlocks {
     /// ensures order { IsErrWith result (λ u. u.error ≡ unended.Order)
     ///     ↔ (All (λ r. r.number ≡ self.world.blocks.number) reservers.items
     ///     × ¬ (IsTrue (are_among self.world.blocks.phase.blocks (blocks_of reservers.items)))) }
+    /// ensures no_missing { IfErr result (λ u. (n : ℕ) → ¬ (IsMissing n u.error)) }
     /// ensures memory { IsErrWith result (λ u. u.error ≡ unended.Memory)
     ///     → 0 < length self.world.blocks.phase.blocks }
     /// ensures handed_back { IfErr result (λ u. (u.world ≡ self)

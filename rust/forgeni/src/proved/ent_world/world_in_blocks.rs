@@ -187,6 +187,7 @@ impl WorldDeal {
         // ensures entities { result.0.entities ≡ self.entities }
         // ensures reservers { blocks_of result.1.items ≡ self.blocks.blocks }
         // ensures of { All (λ r. r.number ≡ number) result.1.items }
+        // ensures none_refused { All (λ r. r.refused ≡ 0) result.1.items }
     {
         let WorldDeal {
             deal,
@@ -252,6 +253,17 @@ impl WorldInBlocks {
     /// ensures after { let before = world_dealt self.blocks.phase self.phase self.entities in
     ///     IfOk result (λ w. w ≡ world_after before (blocks_of reservers.items)) }
     /// ensures world { IfOk result IsWorld }
+    ///
+    /// // No handle was given twice, and none was alive. A flush brings to life exactly what was
+    /// // used.
+    /// ensures distinct { IfOk result (λ w. AllPairs (λ g h. g ≢ h) w.allocator.taken) }
+    /// ensures not_live { IfOk result (λ w.
+    ///     All (λ h. ¬ (IsLive self.blocks.phase.start h)) w.allocator.taken) }
+    /// ensures brings_to_life { IfOk result (λ w. (h : HandleValue) →
+    ///     IsLive (after_flush w.allocator) h
+    ///     ↔ (IsLive self.blocks.phase.start h ⊎ Contains w.allocator.taken h)) }
+    ///
+    /// // When it succeeds, when it is refused, and what stands then.
     /// ensures of { OnOk result (All (λ r. r.number ≡ self.blocks.number) reservers.items) }
     /// ensures all { OnOk result
     ///     (map unused (blocks_of reservers.items) ≡ self.blocks.phase.blocks) }
@@ -323,6 +335,16 @@ impl WorldInBlocks {
     ///     IfOk result (λ w. w ≡ world_after before
     ///     (accounted self.blocks.phase.blocks (blocks_of reservers.items))) }
     /// ensures world { IfOk result IsWorld }
+    ///
+    /// // No handle is taken twice, and none was alive. A flush brings to life exactly these.
+    /// ensures distinct { IfOk result (λ w. AllPairs (λ g h. g ≢ h) w.allocator.taken) }
+    /// ensures not_live { IfOk result (λ w.
+    ///     All (λ h. ¬ (IsLive self.blocks.phase.start h)) w.allocator.taken) }
+    /// ensures brings_to_life { IfOk result (λ w. (h : HandleValue) →
+    ///     IsLive (after_flush w.allocator) h
+    ///     ↔ (IsLive self.blocks.phase.start h ⊎ Contains w.allocator.taken h)) }
+    ///
+    /// // When it succeeds, when it is refused, and what stands then.
     /// ensures of { OnOk result (All (λ r. r.number ≡ self.blocks.number) reservers.items) }
     /// ensures among { OnOk result
     ///     (IsTrue (are_among self.blocks.phase.blocks (blocks_of reservers.items))) }
@@ -331,6 +353,7 @@ impl WorldInBlocks {
     /// ensures order { IsErrWith result (λ u. u.error ≡ unended.Order)
     ///     ↔ (All (λ r. r.number ≡ self.blocks.number) reservers.items
     ///     × ¬ (IsTrue (are_among self.blocks.phase.blocks (blocks_of reservers.items)))) }
+    /// ensures no_missing { IfErr result (λ u. (n : ℕ) → ¬ (IsMissing n u.error)) }
     /// ensures memory { IsErrWith result (λ u. u.error ≡ unended.Memory)
     ///     → 0 < length self.blocks.phase.blocks }
     /// ensures handed_back { IfErr result (λ u. (u.world ≡ self)

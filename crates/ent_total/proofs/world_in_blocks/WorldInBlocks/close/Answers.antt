@@ -1,5 +1,8 @@
 use Rattle.ent_total.proofs.world_in_blocks.WorldInBlocks.close.Goals as goal
 
+pub returns-in-Ok-clause-brings_to_life : goal.returns-in-Ok-clause-brings_to_life
+returns-in-Ok-clause-brings_to_life g c = c.in-Ok.ensures.brings_to_life
+
 -- The error is that of the world below.
 pub returns-in-Err-clause-other_phase : goal.returns-in-Err-clause-other_phase
 returns-in-Err-clause-other_phase g c = rw c.of.ensures.error c.in-Err.ensures.other_phase
