@@ -82,7 +82,9 @@ where
         shared: &shared,
         systems,
     };
-    let logs = crew.work(rt, &mut reservers, &stage);
+    // A command may panic when it is dropped. So no log is dropped before the allocator is in its place.
+    let mut left = Vec::new(alloc);
+    let logs = crew.work(rt, &mut reservers, &stage, &mut left);
     *entities = shared.close(reservers);
     let Some(logs) = logs else {
         return Err(LogFault::Lost);

@@ -75,9 +75,16 @@ impl<O: Drop> Crew<O> {
     /// The workers run in threads of `rt`. If a thread can't be started, another one does its work.
     ///
     /// `None` means that memory ran out: a job returned `Memory`, or jobs are left and no worker
-    /// has memory for the output of another one. All workers have ended then. The outputs are
-    /// dropped, and what the jobs did to what was lent stays done.
-    pub fn work<R, L, J>(self, rt: &R, lent: &mut [L], jobs: &J) -> Option<Vec<O>>
+    /// has memory for the output of another one. All workers have ended then. What the jobs did to
+    /// what was lent stays done. The outputs are in `left`, so that the caller drops them when it is
+    /// ready for what their drop may do. What was in `left` before is gone.
+    pub fn work<R, L, J>(
+        self,
+        rt: &R,
+        lent: &mut [L],
+        jobs: &J,
+        left: &mut Vec<Option<O>>,
+    ) -> Option<Vec<O>>
     where
         R: Threads + Sync,
         O: Send,
@@ -114,9 +121,10 @@ impl<O: Drop> Crew<O> {
         disband(workers, &mut claimers, &mut by_number);
         claims.close(claimers);
         if stopped {
+            *left = by_number;
             return None;
         }
-        collect(by_number, outputs)
+        collect(by_number, outputs, left)
     }
 }
 

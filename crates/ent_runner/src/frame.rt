@@ -109,7 +109,7 @@ where
         systems,
         gate,
     };
-    let queues = crew.work(rt, &mut reservers, &stage);
+    let queues = crew.work(rt, &mut reservers, &stage, &mut Vec::new(alloc));
     *world = opened.close(reservers);
     let Some(queues) = queues else {
         return Err(FrameFault::Lost);

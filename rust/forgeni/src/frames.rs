@@ -8,6 +8,7 @@ use crate::{SyncPoint, System, SystemCommands, View, World};
 use alloc::boxed::Box;
 use alloc::vec::Vec;
 use core::any::Any;
+use core::mem;
 use std::panic::{catch_unwind, resume_unwind, AssertUnwindSafe};
 use std::sync::{Mutex, PoisonError};
 
@@ -197,6 +198,9 @@ pub fn run_frame_on<J: Join + Sync, S: System + Sync>(
 /// after [`Lost`](LogError::Lost). If several systems panic, the panic of the first one in the order of
 /// the systems is handed on.
 ///
+/// If a command panics when the logs are dropped, and no system did, that panic is handed on. The allocator is
+/// in its place before the first command is dropped.
+///
 /// # Aborts
 ///
 /// As of [`run_frame`].
@@ -217,7 +221,8 @@ pub fn run_logs<C: Send, S: LogSystem<C> + Sync>(
 /// # Panics
 ///
 /// The same as [`run_logs`]. If no system panics but the `Join` does, its panic is handed on when all
-/// workers have ended. What they reserved stays reserved, and the logs are dropped.
+/// workers have ended. What they reserved stays reserved, and the logs are dropped. If a command panics then,
+/// that panic is lost.
 pub fn run_logs_on<J: Join + Sync, C: Send, S: LogSystem<C> + Sync>(
     join: &J,
     entities: &mut Entities,
@@ -267,8 +272,9 @@ pub fn run_logs_on<J: Join + Sync, C: Send, S: LogSystem<C> + Sync>(
 ///
 /// # Panics
 ///
-/// If a system panics, as of [`run_logs`]. If no system panics but the `Join` does, its panic is handed on
-/// when all workers have ended. What they reserved is alive, and their logs are dropped.
+/// If a system panics, or a command that is dropped, as of [`run_logs`]. If no system panics but the `Join`
+/// does, its panic is handed on when all workers have ended. What they reserved is alive, and their logs are
+/// dropped.
 pub fn run_to_sync_point<J: Join + Sync, C: Send, S: LogSystem<C> + Sync>(
     join: &J,
     entities: &mut Entities,
@@ -303,11 +309,13 @@ fn guarded<J, S, T, E>(
     }
     let numbered = systems.iter().enumerate();
     guarded.extend(numbered.map(|(number, system)| Guarded(system, number, &panics)));
-    let ran = run(&Guarded(join, usize::MAX, &panics), &guarded);
+    // When this returns or panics, the world is in its place. It panics only if a command does that is dropped.
+    let ran = caught(|| run(&Guarded(join, usize::MAX, &panics), &guarded));
     if let Some(panic) = first(panics) {
+        drop_quietly(ran);
         resume_unwind(panic);
     }
-    ran
+    ran.unwrap_or_else(|panic| resume_unwind(panic))
 }
 
 /// What a panic was raised with.
@@ -319,9 +327,21 @@ type Panics = Mutex<Vec<(usize, Panic)>>;
 
 /// The panic of the first system that had one, if one had.
 fn first(panics: Panics) -> Option<Panic> {
-    let panics = panics.into_inner().unwrap_or_else(PoisonError::into_inner);
-    let first = panics.into_iter().min_by_key(|panic| panic.0);
-    first.map(|(_, panic)| panic)
+    let mut panics = panics.into_inner().unwrap_or_else(PoisonError::into_inner);
+    let first = (0..panics.len()).min_by_key(|at| panics[*at].0)?;
+    let (_, first) = panics.swap_remove(first);
+    panics.into_iter().for_each(drop_quietly);
+    Some(first)
+}
+
+/// What the closure returns, or its panic. Nothing that a panic leaves half done is looked at.
+fn caught<T>(run: impl FnOnce() -> T) -> Result<T, Panic> {
+    catch_unwind(AssertUnwindSafe(run))
+}
+
+/// Drops the value. If that panics, the panic is leaked, since dropping it may panic too.
+fn drop_quietly<T>(value: T) {
+    caught(|| drop(value)).unwrap_or_else(mem::forget);
 }
 
 /// A system or a `Join` whose panics don't leave it: the proved code that calls it knows none. With it is the
@@ -331,8 +351,7 @@ struct Guarded<'a, T>(&'a T, usize, &'a Panics);
 impl<T> Guarded<'_, T> {
     /// Calls the closure. If it panics, the panic is kept, and this is returned.
     fn run<R>(&self, run: impl FnOnce() -> R, panicked: R) -> R {
-        // Nothing that a panic leaves half done is looked at: what was issued is dropped.
-        catch_unwind(AssertUnwindSafe(run)).unwrap_or_else(|panic| {
+        caught(run).unwrap_or_else(|panic| {
             let mut panics = self.2.lock().unwrap_or_else(PoisonError::into_inner);
             panics.push((self.1, panic));
             panicked

@@ -17,6 +17,8 @@ mod handle_map;
 mod handles;
 mod image;
 #[cfg(feature = "std")]
+mod in_place;
+#[cfg(feature = "std")]
 mod joiners;
 mod like_bevy;
 mod like_hecs;
