@@ -6,6 +6,8 @@
 Comments, blank lines and test modules aren't counted. A branch is `if`, `match`, `while`, `for`, `loop` or `let .. else`, in a closure too.
 Each function with one is in a row of a table of docs/PROVED.md, which says why it is by hand, and a row has such functions alone. Missing rows
 are printed as they have to be written there. The script fails if the table isn't right, or if there is more than MOST allows.
+
+Fields of proved types that are visible in the whole package are used in no file by hand but SEES. The script fails if another one does.
 """
 
 import pathlib
@@ -13,8 +15,11 @@ import re
 import sys
 
 SOURCES, PAGE = pathlib.Path("rust/forgeni/src"), pathlib.Path("docs/PROVED.md")
+DRAWING = pathlib.Path("rust/forgeni/drawing")
 # What is made, what stands in for the kit, and what draws pictures. docs/PROVED.md says of each why it isn't counted.
 APART = {"proved", "kit"}
+# The only file by hand that sees fields of proved types, and what such a field looks like in the erased sources.
+SEES, FIELD = SOURCES / "several.rs", re.compile(r"^ +pub\(crate\) (\w+):", re.MULTILINE)
 MOST = {"lines of code": 1500, "functions with a branch": 30}
 BRANCHES, ITEMS = {"if", "else", "match", "while", "for", "loop"}, {"impl", "trait", "mod"}
 # A row: files, each with its functions, and why they are by hand.
@@ -124,6 +129,29 @@ def rows_of(page):
             yield from (((name, path), reason.strip()) for name in names)
 
 
+def uses_of_fields(files):
+    """Where each of these files names a field of a proved type that the package sees, as in `it.slots` or `HandleMap { slots, .. }`."""
+    texts = {it: it.read_text() for it in (SOURCES / "proved").rglob("*.rs")}
+    fields = {field for text in texts.values() for field in FIELD.findall(text)}
+    owners = {it for text in texts.values() if FIELD.search(text) for it in re.findall(r"^pub struct (\w+)", text, re.MULTILINE)}
+    for path, file in files.items():
+        words = ["", "", *file.words, ""]
+        for at, word in enumerate(words[2:-1], 2):
+            before, after = words[at - 2 : at], words[at + 1]
+            is_field = word in fields and before[1] == "." and before[0] != "." and after != "("
+            is_taken_apart = word in owners and after == "{" and before[1] not in ("for", "impl", ">")
+            if is_field or is_taken_apart:
+                yield path, file.places[at - 2], word
+    # The pictures have fields of these names, and no values of these types.
+    for path in DRAWING.rglob("*.rs"):
+        yield from ((path, line, it) for it, line in zip(*own_words(path)) if it in owners)
+
+
+def own_words(path):
+    file = File(path.read_text())
+    return file.words, file.places
+
+
 def main():
     by_hand, tests = files()
     branches = [(name, str(path.relative_to(SOURCES))) for path, file in by_hand.items() for name, _ in file.branches]
@@ -136,6 +164,10 @@ def main():
     faults += ["rows that are missing in " + str(PAGE) + ":\n" + "\n".join(missing)] * bool(missing)
     faults += [f"{PAGE}: no such function with a branch: `{name}` of {path}" for name, path in rows if (name, path) not in branches]
     faults += [f"{PAGE}: no reason: `{name}` of {path}" for (name, path), reason in rows.items() if not reason]
+    uses = list(uses_of_fields(by_hand))
+    faults += [f"{path}:{line}: `{word}`: {SEES.name} alone sees fields of proved types" for path, line, word in uses if path != SEES]
+    faults += [] if any(path == SEES for path, _, _ in uses) else [f"{SEES}: it uses no field of a proved type"]
+    print(f"{SEES}: {sum(path == SEES for path, _, _ in uses)} uses of fields of proved types, and {len(by_hand) - 1} files that have none")
     if faults:
         sys.exit("\n".join(faults))
 

@@ -308,3 +308,34 @@ fn queues_of_what_was_left_are_refused() {
     assert!(matches!(refused, Err(SyncError::OtherWorld(_))));
     assert!(told(&world) == before);
 }
+
+/// Worlds that have one state, each made in another way: each has a number of its own, so none takes the queues of another one.
+#[test]
+fn worlds_of_one_state_have_numbers_of_their_own() {
+    let (source, all) = world_of(9);
+    let mut image = vec![];
+    source.write_image(&mut image).expect("memory");
+    let into = || {
+        let mut target = World::new();
+        target.try_clone_from(&source).expect("memory");
+        target
+    };
+    let make: [&dyn Fn() -> World; 4] = [
+        &|| source.try_clone().expect("memory"),
+        &|| source.clone(),
+        &into,
+        &|| World::read_image(&image).expect("an image"),
+    ];
+    let phases = make.iter().flat_map(|make| [make(), make()]);
+    let phases = phases.map(|world| frame(world, all[0], all[1]));
+    let (mut worlds, queues): (Vec<World>, Vec<Queues>) = phases.unzip();
+    for (own, mut queues) in queues.into_iter().enumerate() {
+        for other in (0..worlds.len()).filter(|other| *other != own) {
+            match worlds[other].apply(queues) {
+                Err(SyncError::OtherWorld(back)) => queues = back,
+                done => panic!("world {other} took the queues of {own}: {done:?}"),
+            }
+        }
+        worlds[own].apply(queues).expect("its own");
+    }
+}

@@ -737,3 +737,36 @@ fn extending() {
         assert!(map.into_iter().eq(wanted));
     }
 }
+
+/// Maps are equal if the same handles have equal values, whatever else they have.
+#[test]
+fn equal_maps() {
+    fn all<M: FromIterator<(Handle, u8)> + PartialEq + std::fmt::Debug>() {
+        let of = |all: &[(u32, u32, u8)]| -> M {
+            let all = all.iter();
+            all.map(|(index, generation, value)| (handle(*index, *generation), *value))
+                .collect()
+        };
+        let one = of(&[(0, 1, 7)]);
+        assert_eq!(one, of(&[(0, 1, 7)]));
+        assert_eq!(of(&[(0, 1, 7), (5, 2, 8)]), of(&[(5, 2, 8), (0, 1, 7)]));
+        for other in [
+            of(&[]),
+            // It has all that the first one has, and one more.
+            of(&[(0, 1, 7), (5, 2, 8)]),
+            of(&[(0, 1, 8)]),
+            of(&[(0, 2, 7)]),
+            of(&[(1, 1, 7)]),
+        ] {
+            assert_ne!(one, other);
+            assert_ne!(other, one);
+        }
+    }
+
+    all::<HandleMap<u8>>();
+    all::<forgeni::SparseMap<u8>>();
+    let mut limited = HandleMap::with_limit(9);
+    assert_eq!(limited, HandleMap::new());
+    limited.insert(handle(0, 1), 7).expect("memory");
+    assert_eq!(limited, HandleMap::from_iter([(handle(0, 1), 7)]));
+}

@@ -257,3 +257,29 @@ fn equal_bundles_have_one_hash() {
         assert!(!all.insert(other), "{count}");
     }
 }
+
+/// Bundles are equal if they have the same components with the same values: as many aren't enough.
+#[test]
+fn equal_bundles() {
+    let of = |all: &[(u8, i64)]| {
+        let all: Vec<_> = all
+            .iter()
+            .map(|(id, value)| (ComponentId(*id), *value))
+            .collect();
+        Bundle::of(&all).expect("memory")
+    };
+    assert_eq!(of(&[(1, 5), (2, 6)]), of(&[(2, 6), (1, 4), (1, 5)]));
+    for (one, other) in [
+        (of(&[(1, 5)]), of(&[(1, 6)])),
+        (of(&[(1, 5)]), of(&[(2, 5)])),
+        (of(&[(1, 5)]), of(&[])),
+        (of(&[(1, 5), (2, 6)]), of(&[(1, 6), (2, 5)])),
+        (of(&[(1, 5), (2, 6)]), of(&[(1, 5)])),
+        (
+            of(&[(0, 1), (1, 1), (2, 1), (3, 1), (4, 1)]),
+            of(&[(0, 1), (1, 1), (2, 1), (3, 1), (4, 2)]),
+        ),
+    ] {
+        assert!(one != other && other != one);
+    }
+}

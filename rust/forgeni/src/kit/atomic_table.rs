@@ -118,7 +118,7 @@ impl<S, V, K, P: TableRule<S, V, K>> Shared<S, V, K, P> {
         self.words[word].fetch_add(k, SeqCst)
     }
 
-    /// Subtracts `k`. Below 0 it wraps, which the sources count on: they read the word as signed.
+    /// Subtracts `k`. The difference wraps below 0; the rules of the sources keep it at 0 or above.
     #[inline]
     pub fn fetch_sub<M: Play<S, V>>(&self, _seat: &mut Seat<S, V>, word: usize, k: u64) -> u64 {
         self.words[word].fetch_sub(k, SeqCst)
@@ -160,7 +160,7 @@ mod tests {
         let (table, mut seat) = word(5);
         assert_eq!(table.shared.fetch_add::<Nothing>(&mut seat, 0, 3), 5);
         assert_eq!(table.shared.fetch_sub::<Nothing>(&mut seat, 0, 10), 8);
-        // Below 0 it is read as signed.
+        // Below 0 it wraps.
         let (found, _other) = table.shared.load_new_seat::<Nothing>(0);
         assert_eq!(found as i64, -2);
         assert_eq!(table.shared.fetch_add::<Nothing>(&mut seat, 0, 2), found);

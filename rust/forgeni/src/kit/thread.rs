@@ -117,6 +117,29 @@ mod tests {
         join_mut(&StdThreads, &mut meet.clone(), &mut meet);
     }
 
+    /// Nothing is called again here, so the panic is that of the only call.
+    #[test]
+    #[cfg(feature = "std")]
+    fn a_panic_in_a_thread_of_its_own_is_handed_on() {
+        for number in 0..2 {
+            let calls = core::sync::atomic::AtomicU32::new(0);
+            let mut panics = || {
+                calls.fetch_add(1, core::sync::atomic::Ordering::SeqCst);
+                std::panic::resume_unwind(std::boxed::Box::new("once"));
+            };
+            let mut ends = || ();
+            let both = std::panic::AssertUnwindSafe(|| match number {
+                0 => StdThreads.join(&mut panics, &mut ends),
+                _ => StdThreads.join(&mut ends, &mut panics),
+            });
+            let panic = std::panic::catch_unwind(both).expect_err("a panic");
+            assert_eq!(
+                (panic.downcast_ref(), calls.into_inner()),
+                (Some(&"once"), 1)
+            );
+        }
+    }
+
     #[test]
     #[cfg(feature = "std")]
     fn a_panic_is_handed_on_when_both_have_ended() {

@@ -274,6 +274,36 @@ mod tests {
         }
     }
 
+    /// Lists of values of that size: with room for so many, with room for so many more, and without the room that they don't need.
+    fn has_exact_room<T: Copy + Default>(count: usize) {
+        let made = Vec::<T>::with_capacity_fallibly(count).expect("memory");
+        assert_eq!((made.sized_capacity(), made.len()), (count, 0));
+        for (has, more) in [(1, count), (count, 1), (count, count / 2 + 1)] {
+            let mut list = std::vec![T::default(); has];
+            list.shrink_to_fit_fallibly();
+            assert_eq!(list.sized_capacity(), has);
+            list.reserve_exact_fallibly(more).expect("memory");
+            assert_eq!((list.sized_capacity(), list.len()), (has + more, has));
+            list.shrink_to_fit_fallibly();
+            assert_eq!((list.sized_capacity(), list.len()), (has, has));
+        }
+    }
+
+    /// Std promises at least as much room as was asked for. The contracts say that it is exactly as much, as std's `Vec` has done: here
+    /// for each count up to a thousand, and for counts around the powers of two up to a million.
+    #[test]
+    fn room_is_exactly_what_was_asked_for() {
+        let around = |power: u32| (1 << power) - 1..=(1 << power) + 1;
+        for count in (1..=1_000).chain((10..=20).flat_map(around)) {
+            has_exact_room::<u8>(count);
+            has_exact_room::<[u8; 3]>(count);
+            has_exact_room::<u32>(count);
+            has_exact_room::<u64>(count);
+            has_exact_room::<[u32; 3]>(count);
+            has_exact_room::<[u64; 5]>(count);
+        }
+    }
+
     #[test]
     fn more_than_there_can_be_is_refused() {
         assert_eq!(
