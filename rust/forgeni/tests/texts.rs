@@ -414,3 +414,75 @@ mod frames {
         )]);
     }
 }
+
+/// Texts of handles and of traces keep width, fill, alignment and precision, as strings do. They are cut where they are too long.
+#[test]
+fn texts_that_are_padded_and_cut() {
+    let difference = Difference {
+        number: 4,
+        told: Call::Len(Some(2)),
+        expected: Call::Len(Some(3)),
+        front: two().into(),
+        cursor: -1,
+    };
+    let texts: [&dyn Display; 7] = [
+        &handle(0, 1),
+        &Handle::PLACEHOLDER,
+        &Call::Alloc(None),
+        &Call::Flush(Some(two().into())),
+        &difference,
+        &CheckError::Differs(difference.clone()),
+        &CheckError::TooMany,
+    ];
+    for shown in texts {
+        let text = shown.to_string();
+        assert_eq!(format!("{shown:70}|"), format!("{text:70}|"));
+        assert_eq!(format!("{shown:>70}|"), format!("{text:>70}|"));
+        assert_eq!(format!("{shown:-^71}|"), format!("{text:-^71}|"));
+        assert_eq!(format!("{shown:.3}|"), format!("{}|", &text[..3]));
+        assert_eq!(format!("{shown:*>9.2}|"), format!("*******{}|", &text[..2]));
+        assert_eq!(format!("{shown:.0}|"), "|");
+        assert_eq!(format!("{shown:1}|"), format!("{text}|"));
+    }
+}
+
+/// The texts of errors are sentences, and a birth is three numbers: they are written as they are, whatever is asked for.
+#[test]
+fn texts_that_are_never_cut() {
+    let birth = Birth {
+        frame: 2,
+        system: 0,
+        ordinal: 1,
+    };
+    let unshared = Entities::new().share(0).expect_err("none");
+    let texts: [&dyn Display; 15] = [
+        &OutOfMemory,
+        &AllocError::NeedsFlush,
+        &FreeError::NotAlive,
+        &Absent,
+        &Refused::Space { wanted: 5, left: 3 },
+        &ReserveError::Quota { left: 7 },
+        &ParseHandleError::Range,
+        &InsertError::Later,
+        &StorageError::Present,
+        &ShareError::Count,
+        &CloseError::Missing { count: 1 },
+        &OtherPhase,
+        &CheckError::Memory,
+        &unshared,
+        &birth,
+    ];
+    for shown in texts {
+        let text = shown.to_string();
+        assert!(!text.is_empty());
+        for written in [
+            format!("{shown:90}"),
+            format!("{shown:>90}"),
+            format!("{shown:-^90}"),
+            format!("{shown:.3}"),
+            format!("{shown:*>9.2}"),
+        ] {
+            assert_eq!(written, text);
+        }
+    }
+}
