@@ -133,6 +133,8 @@ impl Entities {
     ///     → length self.old.allocator.pool < n }
     /// ensures memory { IsErrOf result failed.Memory
     ///     → vec_capacity handles.old < vec_len handles.old + n }
+    /// ensures space_first { IsErrOf result failed.Memory
+    ///     → n ≤ length self.old.allocator.pool }
     /// ensures refused { IfErr result (λ why. (why ≡ failed.Memory)
     ///     ⊎ ((why ≡ failed.Space n (length self.old.allocator.pool))
     ///     ⊎ (why ≡ failed.Quota (2 ^ 50 - self.old.allocator.asked)))) }
@@ -151,6 +153,14 @@ impl Entities {
         let left = MOST - self.requests.asked;
         if u64::from(n) > left {
             return Err(ReserveError::Quota { left });
+        }
+        let available = self.left();
+        if n > available {
+            let _span = self.lower(n);
+            return Err(ReserveError::Space {
+                wanted: n,
+                left: available,
+            });
         }
         handles.reserve_fallibly(n as usize)?;
         let span = self.lower(n);
@@ -201,6 +211,8 @@ impl Entities {
     /// ensures space { IsErrOf result (failed.Space n (length self.old.allocator.pool))
     ///     → length self.old.allocator.pool < n }
     /// ensures memory { IsErrOf result failed.Memory → 0 < n }
+    /// ensures space_first { IsErrOf result failed.Memory
+    ///     → n ≤ length self.old.allocator.pool }
     /// ensures refused { IfErr result (λ why. (why ≡ failed.Memory)
     ///     ⊎ ((why ≡ failed.Space n (length self.old.allocator.pool))
     ///     ⊎ (why ≡ failed.Quota (2 ^ 50 - self.old.allocator.asked)))) }

@@ -48,6 +48,10 @@ impl Entities {
     /// ensures allocator { result.allocator ≡ opening limits }
     /// ensures rows { result.rows ≡ map.empty }
     /// ensures rows_of_living { HasRowsOfLiving result }
+    ///
+    /// // Whatever calls come then, no handle is given twice, and none that was given is given again.
+    /// ensures given_once { (steps : List Step) → IsRun result.allocator steps
+    ///     → AreSpent (after_run result.allocator steps) (given_in_run result.allocator steps) }
     /// ```
     ///
     /// </details>
@@ -82,6 +86,10 @@ impl Entities {
     /// ensures allocator { result.allocator ≡ opening (without_placeholder limits) }
     /// ensures rows { result.rows ≡ map.empty }
     /// ensures rows_of_living { HasRowsOfLiving result }
+    ///
+    /// // Whatever calls come then, no handle is given twice, and none that was given is given again.
+    /// ensures given_once { (steps : List Step) → IsRun result.allocator steps
+    ///     → AreSpent (after_run result.allocator steps) (given_in_run result.allocator steps) }
     /// ```
     ///
     /// </details>
@@ -140,6 +148,33 @@ impl Entities {
     #[inline]
     pub fn total(&self) -> u32 {
         self.slots.made()
+    }
+
+    /// How many slots there are after the next [`flush`](Self::flush): those that were made, and one for
+    /// each reserved handle of a new slot.
+    ///
+    /// ```
+    /// use forgeni::Entities;
+    ///
+    /// let mut entities = Entities::new();
+    /// entities.request_many(5)?;
+    /// assert_eq!((entities.total(), entities.total_after_flush()), (0, 5));
+    /// # Ok::<(), Box<dyn std::error::Error>>(())
+    /// ```
+    ///
+    /// <details><summary>Contract</summary>
+    ///
+    /// In the words of the folder `specs/` of crate `ent_alloc`:
+    ///
+    /// ```text
+    /// ensures { result ≡ slots_after_flush self.now.allocator }
+    /// ```
+    ///
+    /// </details>
+    #[must_use]
+    #[inline]
+    pub fn total_after_flush(&self) -> u32 {
+        self.total() + self.requests.fresh(self.slots.waiting())
     }
 
     /// How many slots can still be made.

@@ -1,8 +1,6 @@
 // Made of crates/ent_alloc/src/fault.rt by rust/erase. It isn't edited by hand.
 
 use crate::proved::ent_handle::{Handle, Memory};
-use core::error::Error;
-use core::fmt;
 
 /// Why [`Entities::alloc`](crate::proved::ent_alloc::Entities::alloc) gave no handle. Nothing has changed.
 #[derive(Clone, Copy, Debug, PartialEq, Eq, Hash)]
@@ -15,18 +13,17 @@ pub enum AllocFault {
     Memory,
 }
 
-impl fmt::Display for AllocFault {
-    #[inline]
-    fn fmt(&self, f: &mut fmt::Formatter<'_>) -> fmt::Result {
+impl core::fmt::Display for AllocFault {
+    fn fmt(&self, f: &mut core::fmt::Formatter<'_>) -> core::fmt::Result {
         match self {
-            AllocFault::NeedsFlush => f.write_str("a flush is needed first"),
-            AllocFault::Space => f.write_str("no slot is free"),
-            AllocFault::Memory => f.write_str("out of memory"),
+            AllocFault::NeedsFlush => write!(f, "a flush is needed first"),
+            AllocFault::Space => write!(f, "no slot is free"),
+            AllocFault::Memory => write!(f, "out of memory"),
         }
     }
 }
 
-impl Error for AllocFault {}
+impl core::error::Error for AllocFault {}
 
 impl From<Memory> for AllocFault {
     #[inline]
@@ -46,18 +43,17 @@ pub enum FreeFault {
     Memory,
 }
 
-impl fmt::Display for FreeFault {
-    #[inline]
-    fn fmt(&self, f: &mut fmt::Formatter<'_>) -> fmt::Result {
+impl core::fmt::Display for FreeFault {
+    fn fmt(&self, f: &mut core::fmt::Formatter<'_>) -> core::fmt::Result {
         match self {
-            FreeFault::NeedsFlush => f.write_str("a flush is needed first"),
-            FreeFault::NotAlive => f.write_str("the entity is not alive"),
-            FreeFault::Memory => f.write_str("out of memory"),
+            FreeFault::NeedsFlush => write!(f, "a flush is needed first"),
+            FreeFault::NotAlive => write!(f, "the entity is not alive"),
+            FreeFault::Memory => write!(f, "out of memory"),
         }
     }
 }
 
-impl Error for FreeFault {}
+impl core::error::Error for FreeFault {}
 
 impl From<Memory> for FreeFault {
     #[inline]

@@ -140,6 +140,19 @@ fn requests_of(asked: u64, reserved: u32, available: u32) -> Option<Requests>
     }
 }
 
+/// What was read, if it has at most so many slots after its next flush.
+#[inline]
+fn allowed(read: Result<Entities, ImageFault>, most: u32) -> Result<Entities, ImageFault>
+    // ensures { result ≡ allowed most read }
+{
+    let entities = read?;
+    let slots = entities.total_after_flush();
+    if slots > most {
+        return Err(ImageFault::Bound { slots });
+    }
+    Ok(entities)
+}
+
 impl Entities {
     /// Appends the image of the allocator: bytes from which [`read_image`](Self::read_image) makes
     /// the same allocator anew, with its limits, living entities, rows, waiting slots and requests.
@@ -170,7 +183,11 @@ impl Entities {
     ///
     /// ```text
     /// ensures written { OnOk result (out.new.items ≡ out.old.items ++ image self.now) }
-    /// ensures has_image { OnOk result (HasImage self.now) }
+    ///
+    /// // The allocator has an image, as `read_image` asks, where `exact` says that it is read as this
+    /// // allocator. No two states have one image.
+    /// ensures has_image { HasImage self.now }
+    /// ensures alone { (d e : Entities) → HasImage d → HasImage e → image d ≡ image e → d ≡ e }
     /// ensures unchanged { OnErr result (out.new.items ≡ out.old.items) }
     /// ensures capacity { OnErr result (vec_capacity out.new ≡ vec_capacity out.old) }
     ///
@@ -209,6 +226,10 @@ impl Entities {
     /// image of no allocator are refused. The call takes 8 bytes of memory for each slot and 4 for each
     /// that waits, which is no more than the slots have in the image. It takes none before it has
     /// compared the number of slots with the length.
+    ///
+    /// A forged image can make the next [`flush`](Self::flush) take up to 68 GB, since it may say that
+    /// each of 2^32 - 1 slots is reserved. For bytes from a stranger there is
+    /// [`read_image_within`](Self::read_image_within).
     ///
     /// # Errors
     ///
@@ -257,16 +278,78 @@ impl Entities {
     /// ensures exact { (e : Entities) → HasImage e → image e ≡ bytes.now
     ///     → (result ≡ Ok e) ⊎ (result ≡ Err ImageFault.Memory) }
     ///
-    /// // What was given before the image was written is not given again by what is read.
+    /// // Of what was given before the image was written, nothing is given again, whatever calls come
+    /// // after it is read. Nor is anything given twice by these.
     /// ensures given_once { (e : Entities) (given : List Handle) → HasImage e
-    ///     → image e ≡ bytes.now → AreSpent e.allocator given
-    ///     → IfOk result (λ r. AreSpent r.allocator given) }
+    ///     → image e ≡ bytes.now → AreSpent e.allocator given → IfOk result (λ r.
+    ///     (steps : List Step) → IsRun r.allocator steps → AreSpent
+    ///     (after_run r.allocator steps) (given ++ given_in_run r.allocator steps)) }
     /// ```
     ///
     /// </details>
     #[inline]
     pub fn read_image(bytes: &[u8]) -> Result<Self, ImageFault> {
         Entities::of_image(bytes)
+    }
+
+    /// The allocator whose image these bytes are, if it has at most `most` slots after its next
+    /// [`flush`](Self::flush).
+    ///
+    /// An image of 40 bytes may say that 4,294,967,295 handles are reserved. `read_image` reads it, and
+    /// the next `flush` takes 8 bytes for each of them, and 8 more in its list. So this is the call for
+    /// bytes from a stranger: it takes no more memory than `read_image`, and the next `flush` no more
+    /// than `most` slots and `most` handles do.
+    ///
+    /// ```
+    /// use forgeni::{Entities, ImageFault};
+    ///
+    /// let (mut entities, mut image) = (Entities::new(), Vec::new());
+    /// entities.request_many(1_000_000)?;
+    /// entities.write_image(&mut image)?;
+    /// let refused = ImageFault::Bound { slots: 1_000_000 };
+    /// assert_eq!((image.len(), Entities::read_image_within(&image, 1000).err()), (40, Some(refused)));
+    /// assert!(Entities::read_image_within(&image, 1_000_000).is_ok());
+    /// # Ok::<(), Box<dyn std::error::Error>>(())
+    /// ```
+    ///
+    /// # Errors
+    ///
+    /// Those of [`read_image`](Self::read_image), and then [`ImageFault::Bound`] if there would be more
+    /// slots.
+    ///
+    /// <details><summary>Contract</summary>
+    ///
+    /// In the words of the folder `specs/` of crate `ent_alloc`:
+    ///
+    /// ```text
+    /// ensures found { IfOk result (λ e. image e ≡ bytes.now) }
+    /// ensures has_image { IfOk result HasImage }
+    ///
+    /// // A flush of what is read leaves no more slots than are allowed.
+    /// ensures within { IfOk result (λ e. slots_after_flush e.allocator ≤ most) }
+    ///
+    /// // The image of an allocator is read as this allocator, unless memory runs out, exactly if it has
+    /// // no more slots then.
+    /// ensures exact { (e : Entities) → HasImage e → image e ≡ bytes.now
+    ///     → (result ≡ within most e) ⊎ (result ≡ Err ImageFault.Memory) }
+    ///
+    /// // Else it is refused for the first fault of the bytes, or for the bound if they have none.
+    /// ensures fault { IfErr result (λ fault. fault ≢ ImageFault.Memory
+    ///     → (first_fault bytes.now ≡ Some fault) ⊎ IsBeyond bytes.now most fault) }
+    /// ensures faultless { OnOk result (first_fault bytes.now ≡ None) }
+    ///
+    /// // It asks for no more memory than `read_image`.
+    /// ensures memory { IfErr result (λ fault. fault ≡ ImageFault.Memory
+    ///     → header_fault bytes.now ≡ None) }
+    /// ensures slots { IfErr result (λ fault. fault ≡ ImageFault.Memory
+    ///     → 40 < length bytes.now) }
+    /// ensures bound { IfOk result (λ e. 40 + kept_bytes e.allocator ≤ length bytes.now) }
+    /// ```
+    ///
+    /// </details>
+    #[inline]
+    pub fn read_image_within(bytes: &[u8], most: u32) -> Result<Self, ImageFault> {
+        allowed(Entities::read_image(bytes), most)
     }
 
     /// What `read_image` returns.

@@ -37,6 +37,12 @@ pub enum ImageFault {
         /// The position, counted from that of the slot that is given last.
         position: u32,
     },
+    /// After its next flush the allocator would have more slots than
+    /// [`read_image_within`](crate::proved::ent_alloc::Entities::read_image_within) was allowed.
+    Bound {
+        /// How many slots it would have.
+        slots: u32,
+    },
     /// Out of memory.
     Memory,
 }
@@ -52,6 +58,7 @@ impl core::fmt::Display for ImageFault {
             ImageFault::Requests => write!(f, "requests that can't have been made"),
             ImageFault::Slot { index } => write!(f, "slot {index} is damaged"),
             ImageFault::Position { position } => write!(f, "no slot waits at position {position}"),
+            ImageFault::Bound { slots } => write!(f, "{slots} slots are more than are allowed"),
             ImageFault::Memory => write!(f, "out of memory"),
         }
     }

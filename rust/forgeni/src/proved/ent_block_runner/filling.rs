@@ -56,7 +56,7 @@ use crate::kit::thread::Threads;
 ///
 /// // What is left if the systems were broken off.
 /// ensures lost { IsErrWith result (λ u. u.error ≡ failed.Lost) → HaveStopped S.may_issue
-///     S.may_leave systems.now view.entry blocks.now.phase.start (blocks_of reservers.items) }
+///     S.may_leave systems.now workers view.entry blocks.now.phase.start (blocks_of reservers.items) }
 /// ensures lost_some { IsErrWith result (λ u. u.error ≡ failed.Lost) → 0 < length systems.now }
 /// ensures lost_reservers { IfErr result (λ u. u.error ≡ failed.Lost → u.reservers.items ≡ []) }
 /// ```

@@ -86,7 +86,7 @@ pub enum Unframed {
 ///
 /// // What is left if the systems were broken off.
 /// ensures lost { IfErr result (IfUnrun (λ _ _ error. error ≡ failed.Lost
-///     → HaveStopped S.may_issue S.may_leave systems.now (view_in_blocks opened)
+///     → HaveStopped S.may_issue S.may_leave systems.now workers (view_in_blocks opened)
 ///     opened.blocks.phase.start (blocks_of reservers.items))) }
 /// ensures lost_some { IfErr result (IfUnrun (λ _ _ error. error ≡ failed.Lost
 ///     → 0 < length systems.now)) }
@@ -101,11 +101,15 @@ pub enum Unframed {
 /// ensures unended_of { IfErr result (IfUnended (λ _ left _ _.
 ///     All (λ r. r.number ≡ opened.blocks.number) left)) }
 ///
-/// // If the reservers are those of all blocks, in their order, the world is closed unless memory runs out.
+/// // Why not. If the reservers are those of all blocks, in their order, it is because memory ran out.
+/// ensures unended_why { IfErr result (IfUnended (λ _ _ error _.
+///     IsWhyUnended opened.blocks.phase.blocks (blocks_of reservers.items) error)) }
 /// ensures whole { map unused (blocks_of reservers.items) ≡ opened.blocks.phase.blocks
 ///     → IfErr result (IfUnended (λ _ _ error _. error ≡ unended.Memory)) }
 ///
-/// // All systems ran, and the sync point stopped.
+/// // All systems ran, and the sync point stopped. The reservers were those of all blocks.
+/// ensures stopped_all { IfErr result (IfSyncStopped (λ _ _ _.
+///     map unused (blocks_of reservers.items) ≡ opened.blocks.phase.blocks)) }
 /// ensures stopped { IfErr result (IfSyncStopped (λ world fault queues.
 ///     StopsInBlocks S.may_issue systems.now opened (blocks_of reservers.items) queues world fault)) }
 /// ensures stopped_flushed { IfErr result (IfStoppedAt (λ world _ _ _ _. world.allocator.asked ≡ 0)) }

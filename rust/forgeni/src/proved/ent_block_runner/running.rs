@@ -79,7 +79,7 @@ use crate::kit::thread::Threads;
 ///
 /// // What is left if the systems were broken off.
 /// ensures lost { IsErrWith result (λ u. u.error ≡ failed.Lost) → IsBrokenOff S.may_log S.may_leave
-///     systems.now blocks.now.phase.start.pool (blocks_of reservers.items) }
+///     systems.now workers blocks.now.phase.start.pool (blocks_of reservers.items) }
 /// ensures lost_some { IsErrWith result (λ u. u.error ≡ failed.Lost) → 0 < length systems.now }
 /// ensures lost_reservers { IfErr result (λ u. u.error ≡ failed.Lost → u.reservers.items ≡ []) }
 /// ```

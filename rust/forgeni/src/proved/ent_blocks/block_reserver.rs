@@ -138,9 +138,10 @@ impl BlockReserver {
     }
 }
 
-/// A reserver of the same block, with as many of its handles used. The two would give the same handles,
-/// so one of them has to be dropped: a frame makes one for a job, which is done once, and drops the
-/// other.
+/// A reserver of the same block, which remembers as much. The two give the same handles, so one of
+/// them has to be dropped unused, and no contract sees to that. It is for `ent_block_runner` alone: a
+/// frame owns the reservers of its systems, makes another one for a job, which is done once, and drops
+/// its own.
 ///
 /// <details><summary>Contract</summary>
 ///

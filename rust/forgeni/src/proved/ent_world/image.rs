@@ -183,6 +183,19 @@ fn read_storage(
     }
 }
 
+/// What was read, if it has at most so many slots after its next flush.
+#[inline]
+fn allowed(read: Result<World, WorldImageFault>, most: u32) -> Result<World, WorldImageFault>
+    // ensures { result ≡ allowed (λ w. w.allocator) most read }
+{
+    let world = read?;
+    let slots = world.total_after_flush();
+    if slots > most {
+        return Err(WorldImageFault::Bound { slots });
+    }
+    Ok(world)
+}
+
 impl World {
     /// Appends the image of the world: bytes from which [`read_image`](World::read_image) makes the
     /// same world anew, with its limits, entities, births, components, waiting slots and requests.
@@ -267,16 +280,74 @@ impl World {
     ///     → MayTakeMemory bytes.now) }
     /// ensures bound { IfOk result (λ w. least w ≤ length bytes.now) }
     ///
-    /// // What was given before the image was written is not given again by what is read.
+    /// // Of what was given before the image was written, nothing is given again, whatever calls come
+    /// // after it is read. Nor is anything given twice by these.
     /// ensures given_once { (w : WorldValue) (given : List HandleValue) → HasImage w
-    ///     → image w ≡ bytes.now → AreSpent w.allocator given
-    ///     → IfOk result (λ r. AreSpent r.allocator given) }
+    ///     → image w ≡ bytes.now → AreSpent w.allocator given → IfOk result (λ r.
+    ///     (steps : List Step) → IsRun r.allocator steps → AreSpent
+    ///     (after_run r.allocator steps) (given ++ given_in_run r.allocator steps)) }
     /// ```
     ///
     /// </details>
     #[inline]
     pub fn read_image(bytes: &[u8]) -> Result<Self, WorldImageFault> {
         World::of_image(bytes)
+    }
+
+    /// The world whose image these bytes are, if it has at most `most` slots after its next flush. So the
+    /// flush takes no more memory than so many slots and handles do.
+    ///
+    /// # Errors
+    ///
+    /// Those of [`read_image`](World::read_image), and then [`Bound`](WorldImageFault::Bound) if there
+    /// would be more slots.
+    ///
+    /// <details><summary>Contract</summary>
+    ///
+    /// In the words of the folder `specs/` of crate `ent_world`:
+    ///
+    /// ```text
+    /// ensures found { IfOk result (λ w. image w ≡ bytes.now) }
+    /// ensures has_image { IfOk result HasImage }
+    ///
+    /// // A flush of what is read leaves no more slots than are allowed.
+    /// ensures within { IfOk result (λ w. slots_after_flush w.allocator ≤ most) }
+    ///
+    /// // The image of a world is read as this world, unless memory runs out, exactly if it has no more
+    /// // slots then. All else is refused for a fault of the bytes, or for the bound if they have none.
+    /// ensures exact { (w : WorldValue) → HasImage w → image w ≡ bytes.now
+    ///     → (result ≡ within most w.allocator w) ⊎ (result ≡ Err WorldImageFault.Memory) }
+    /// ensures fault { IfErr result (λ fault. fault ≢ WorldImageFault.Memory
+    ///     → HasFault bytes.now fault ⊎ IsBeyond bytes.now most fault) }
+    /// ensures memory { IfErr result (λ fault. fault ≡ WorldImageFault.Memory
+    ///     → MayTakeMemory bytes.now) }
+    /// ensures bound { IfOk result (λ w. least w ≤ length bytes.now) }
+    /// ```
+    ///
+    /// </details>
+    #[inline]
+    pub fn read_image_within(
+        bytes: &[u8],
+        most: u32,
+    ) -> Result<Self, WorldImageFault> {
+        allowed(World::read_image(bytes), most)
+    }
+
+    /// How many slots there are after the next flush.
+    ///
+    /// <details><summary>Contract</summary>
+    ///
+    /// In the words of the folder `specs/` of crate `ent_world`:
+    ///
+    /// ```text
+    /// ensures { result ≡ slots_after_flush self.now.allocator }
+    /// ```
+    ///
+    /// </details>
+    #[must_use]
+    #[inline]
+    pub fn total_after_flush(&self) -> u32 {
+        self.entities.total_after_flush()
     }
 
     /// What `read_image` returns.

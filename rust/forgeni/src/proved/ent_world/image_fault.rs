@@ -28,6 +28,11 @@ pub enum WorldImageFault {
     },
     /// The bytes after the allocator's part are those of no entities.
     Storage(StorageImageFault),
+    /// After its next flush the world would have more slots than the reader allows.
+    Bound {
+        /// How many slots it would have.
+        slots: u32,
+    },
     /// Out of memory.
     Memory,
 }
@@ -41,6 +46,7 @@ impl core::fmt::Display for WorldImageFault {
             WorldImageFault::Entities(..) => write!(f, "the allocator's part is damaged"),
             WorldImageFault::Row { index } => write!(f, "slot {index} has a row"),
             WorldImageFault::Storage(..) => write!(f, "the entities' part is damaged"),
+            WorldImageFault::Bound { slots } => write!(f, "{slots} slots are more than are allowed"),
             WorldImageFault::Memory => write!(f, "out of memory"),
         }
     }
