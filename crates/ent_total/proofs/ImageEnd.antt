@@ -1,5 +1,5 @@
 -- An image and the four bytes after it.
-use Rattle.ent_total.proofs.Common.{rules, ◌≡◌, ◌≢◌, refl, ap, ℕ, ◌+◌, ◌-◌, ◌^◌, ◌<◌, ◌≤◌, List, [], ◌++◌, length, arith, Result, Ok, Err, IfErr, IsErrAnd, ◌⊎◌, length-append, append-nil, length-take-le, take_at, word, length-word, same_words, same_parts, WorldValue, magic, world_image, least, HasImage, WorldImageFault, Memory, refused_is, read_is, world_bounded, image, before_count}
+use Rattle.ent_total.proofs.Common.{rules, ◌≡◌, ◌≢◌, refl, ap, ℕ, ◌+◌, ◌-◌, ◌^◌, ◌<◌, ◌≤◌, List, [], ◌++◌, length, arith, Result, Ok, Err, IfErr, IsErrAnd, ◌⊎◌, length-append, append-nil, length-take-le, take_at, word, length-word, same_words, same_parts, Allocator, WorldValue, magic, world_image, least, HasImage, WorldImageFault, Memory, refused_is, read_is, world_bounded, image, before_count}
 use Rattle.std.proofs.Common.{IfOk}
 use Rattle.ent_total.specs.declared.world.World.{World}
 
@@ -14,6 +14,10 @@ same_ends xs ys m n fits_m fits_n is =
 -- the world that is read
 abbrev pub of : WorldValue → ℕ → ℕ → World
 of w number spawned = record { world = w; number = number; spawned = spawned }
+
+-- and its allocator
+abbrev pub allocator_in : World → Allocator
+allocator_in w = w.world.allocator
 
 -- a fault that is handed on
 pub handed : (result : Result World WorldImageFault) (fault : WorldImageFault) → IsErrAnd result (λ y. y ≡ fault)

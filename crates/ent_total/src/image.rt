@@ -4,10 +4,13 @@ ghost use Rattle.std.specs.Prelude.{List, IfOk, IfErr, OnOk, OnErr, vec_len, vec
 ghost use Rattle.ent_storage.specs.Image.{word};
 ghost use Rattle.ent_world.specs.World.{World as WorldValue};
 ghost use Rattle.ent_handle.specs.Handle.{Handle};
+ghost use Rattle.ent_alloc.specs.Runs.{Step, IsRun, after_run, given_in_run};
 ghost use Rattle.ent_alloc.specs.Spent.{AreSpent};
+ghost use Rattle.ent_alloc.specs.Within.{slots_after_flush};
 ghost use Rattle.ent_world.specs.Image.{most, least, HasImage};
 ghost use Rattle.ent_world.specs.FirstFault.{HasFault, MayTakeMemory};
-ghost use Rattle.ent_total.specs.Image.{image, before_count};
+ghost use Rattle.ent_world.specs.Within.{within, allowed};
+ghost use Rattle.ent_total.specs.Image.{image, before_count, IsBeyond};
 
 use crate::world::World;
 use ent_handle::Memory;
@@ -89,12 +92,60 @@ pub fn read_world(alloc: Global, bytes: &[u8], number: u64) -> Result<World, Wor
         → MayTakeMemory (before_count bytes.now)) }
     ensures bound { IfOk result (λ w. least w.world + 4 ≤ length bytes.now) }
 
-    // What was given before the image was written is not given again by what is read.
+    // Of what was given before the image was written, nothing is given again, whatever calls come
+    // after it is read. Nor is anything given twice by these.
     ensures given_once { (w : WorldValue) (spawned : ℕ) (given : List Handle) → HasImage w
         → spawned < 2 ^ 32 → image w spawned ≡ bytes.now → AreSpent w.allocator given
-        → IfOk result (λ r. AreSpent r.world.allocator given) }
+        → IfOk result (λ r. (steps : List Step) → IsRun r.world.allocator steps → AreSpent
+        (after_run r.world.allocator steps) (given ++ given_in_run r.world.allocator steps)) }
 {
     of_image(alloc, bytes, number)
+}
+
+/// The world whose image these bytes are, all of them, with this number, if it has at most `most` slots
+/// after its next flush.
+///
+/// # Errors
+///
+/// Those of `read_world`, and then `Bound` if there would be more slots.
+pub fn read_world_within(
+    alloc: Global,
+    bytes: &[u8],
+    number: u64,
+    most: u32,
+) -> Result<World, WorldImageFault>
+    ensures found { IfOk result (λ w. image w.world w.spawned ≡ bytes.now) }
+    ensures has_image { IfOk result (λ w. HasImage w.world) }
+    ensures number { IfOk result (λ w. w.number ≡ number) }
+
+    // A flush of what is read leaves no more slots than are allowed.
+    ensures within { IfOk result (λ w. slots_after_flush w.world.allocator ≤ most) }
+
+    // The image of a world is read as this world, unless memory runs out, exactly if it has no more
+    // slots then. All else is refused for a fault of the bytes, or for the bound if they have none.
+    ensures exact { (w : WorldValue) (spawned : ℕ) → HasImage w → spawned < 2 ^ 32
+        → image w spawned ≡ bytes.now → (result ≡ within most w.allocator
+        (record { world = w; number = number; spawned = spawned }))
+        ⊎ (result ≡ Err WorldImageFault.Memory) }
+    ensures fault { IfErr result (λ fault. fault ≢ WorldImageFault.Memory
+        → HasFault (before_count bytes.now) fault ⊎ IsBeyond bytes.now most fault) }
+    ensures memory { IfErr result (λ fault. fault ≡ WorldImageFault.Memory
+        → MayTakeMemory (before_count bytes.now)) }
+    ensures bound { IfOk result (λ w. least w.world + 4 ≤ length bytes.now) }
+{
+    allowed(read_world(alloc, bytes, number), most)
+}
+
+/// What was read, if it has at most so many slots after its next flush.
+fn allowed(read: Result<World, WorldImageFault>, most: u32) -> Result<World, WorldImageFault>
+    ensures { result ≡ allowed (λ w. w.world.allocator) most read }
+{
+    let world = read?;
+    let slots = world.world.total_after_flush();
+    if slots > most {
+        return Err(WorldImageFault::Bound { slots });
+    }
+    Ok(world)
 }
 
 /// What `read_world` returns.

@@ -52,7 +52,7 @@ pub use frame_error::FrameError;
 pub use framing::run_frame;
 pub use framing_in_blocks::{fill_in_blocks, run_frame_in_blocks};
 pub use go_on_error::GoOnError;
-pub use image::read_world;
+pub use image::{read_world, read_world_within};
 pub use log_error::LogError;
 pub use numbering::Numbering;
 pub use open_world::OpenWorld;

@@ -41,6 +41,7 @@ fault_text (fault.Length expected) = codes "length " ++ decimal expected
 fault_text fault.Requests = codes "requests"
 fault_text (fault.Slot index) = codes "slot " ++ decimal index
 fault_text (fault.Position position) = codes "position " ++ decimal position
+fault_text (fault.Bound slots) = codes "bound " ++ decimal slots
 fault_text fault.Memory = codes "memory"
 
 abbrev pub refused_image_text : ImageFault → List ℕ

@@ -90,6 +90,7 @@ fn fault_text(alloc: Global, fault: ImageFault) -> Result<String, AllocError>
         ImageFault::Requests => format!(in alloc; "requests"),
         ImageFault::Slot { index } => format!(in alloc; "slot {index}"),
         ImageFault::Position { position } => format!(in alloc; "position {position}"),
+        ImageFault::Bound { slots } => format!(in alloc; "bound {slots}"),
         _ => format!(in alloc; "memory"),
     }
 }

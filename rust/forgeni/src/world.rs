@@ -3,7 +3,7 @@
 use crate::errors::fails;
 use crate::numbers::next_number;
 use crate::proved::ent_total::{clone_world, clone_world_from, new_world};
-use crate::proved::ent_total::{open, open_in_blocks, read_world};
+use crate::proved::ent_total::{open, open_in_blocks, read_world, read_world_within};
 use crate::shown::shows;
 use crate::world_phase::closed;
 use crate::{BlockReserver, Limits, OutOfMemory, ShareError, WorldImageFault};
@@ -97,6 +97,10 @@ impl World {
     /// are refused. The call takes at most eight bytes of memory for each byte, and 16 KiB. It takes none
     /// before it has compared the number of slots with the length of the allocator's part.
     ///
+    /// A forged image can make the next [`flush`](Self::flush) take all memory, since it may say that each
+    /// of 2^32 - 1 slots is reserved. For bytes from a stranger there is
+    /// [`read_image_within`](Self::read_image_within).
+    ///
     /// ```
     /// use forgeni::{World, WorldImageFault};
     ///
@@ -116,6 +120,35 @@ impl World {
     /// [`SyncError::OtherWorld`]: crate::SyncError::OtherWorld
     pub fn read_image(bytes: &[u8]) -> Result<Self, WorldImageFault> {
         read_world(bytes, next_number())
+    }
+
+    /// The world whose image these bytes are, if it has at most `most` slots after its next
+    /// [`flush`](Self::flush).
+    ///
+    /// The image of a world may say that 4,294,967,295 handles are reserved. `read_image` reads it, and
+    /// the next flush brings them to life. So this is the call for bytes from a stranger: it takes no more
+    /// memory than `read_image`, and the next flush no more than `most` slots and `most` entities do.
+    ///
+    /// ```
+    /// use forgeni::{World, WorldImageFault};
+    ///
+    /// let (mut world, mut image) = (World::new(), Vec::new());
+    /// for _ in 0..10 {
+    ///     world.spawn(&[])?;
+    /// }
+    /// world.write_image(&mut image)?;
+    /// assert_eq!(World::read_image_within(&image, 10)?.len(), 10);
+    /// let refused = World::read_image_within(&image, 9).err();
+    /// assert_eq!(refused, Some(WorldImageFault::Bound { slots: 10 }));
+    /// # Ok::<(), Box<dyn std::error::Error>>(())
+    /// ```
+    ///
+    /// # Errors
+    ///
+    /// Those of [`read_image`](Self::read_image), and then [`Bound`](WorldImageFault::Bound) if there would
+    /// be more slots.
+    pub fn read_image_within(bytes: &[u8], most: u32) -> Result<Self, WorldImageFault> {
+        read_world_within(bytes, next_number(), most)
     }
 
     /// Opens the world for `count` systems, 1 to 1,024, each with its [`Commands`]. They may go to

@@ -208,6 +208,108 @@ fn no_image_of_an_allocator_takes_more_than_its_bytes() {
     assert_eq!((header.len(), asked_for(&header)), (40, 0));
 }
 
+/// In the forty bytes of an allocator with no slots: how many handles are reserved, and were requested.
+const RESERVED: usize = 28;
+const REQUESTED: usize = 32;
+
+/// Where the allocator's part begins in the image of a world.
+const PART: usize = 28;
+
+/// Forges an allocator that has made no slot, and in which so many handles are reserved.
+fn forge(image: &mut [u8], reserved: u32) {
+    image[RESERVED..REQUESTED].copy_from_slice(&reserved.to_le_bytes());
+    image[REQUESTED..REQUESTED + 8].copy_from_slice(&u64::from(reserved).to_le_bytes());
+}
+
+/// How many slots the readers of forged images allow.
+const ALLOWED: u32 = 1000;
+
+/// How many handles forged images say are reserved, and whether that is allowed.
+const FORGED: [(u32, bool); 8] = [
+    (0, true),
+    (1, true),
+    (ALLOWED - 1, true),
+    (ALLOWED, true),
+    (ALLOWED + 1, false),
+    (1 << 20, false),
+    (u32::MAX - 1, false),
+    (u32::MAX, false),
+];
+
+/// A forged image makes neither its reading nor the next flush take more memory than the reader allows.
+#[test]
+fn a_forged_image_of_an_allocator_takes_what_its_reader_allows() {
+    let mut image = vec![];
+    Entities::new().write_image(&mut image).expect("memory");
+    for (reserved, is_allowed) in FORGED {
+        forge(&mut image, reserved);
+        assert!(Entities::read_image(&image).is_ok());
+
+        let (read, taken) = asked(|| Entities::read_image_within(&image, ALLOWED));
+        assert_eq!(taken, 0);
+        let Ok(mut entities) = read else {
+            let refused = ImageFault::Bound { slots: reserved };
+            assert_eq!((read.err(), is_allowed), (Some(refused), false));
+            continue;
+        };
+        assert!(is_allowed);
+        let mut born = vec![];
+        let (flushed, taken) = asked(|| entities.flush(&mut born));
+        assert_eq!((flushed, entities.total()), (Ok(()), reserved));
+        assert!(taken <= 16 * ALLOWED as usize, "{taken}");
+    }
+}
+
+/// Slots that were made count, and handles of slots that wait don't make any.
+#[test]
+fn a_forged_image_of_forty_slots_takes_what_its_reader_allows() {
+    let mut image = vec![];
+    let (made, waiting) = (40, 14);
+    requested(made).write_image(&mut image).expect("memory");
+    for reserved in (0..200).chain([1 << 20, u32::MAX - made + waiting]) {
+        forge(&mut image, reserved);
+        assert!(Entities::read_image(&image).is_ok());
+
+        let slots = made + reserved.saturating_sub(waiting);
+        match Entities::read_image_within(&image, 100) {
+            Ok(mut entities) => {
+                let mut born = vec![];
+                let (flushed, taken) = asked(|| entities.flush(&mut born));
+                assert_eq!((flushed, entities.total()), (Ok(()), slots));
+                assert!(slots <= 100 && taken <= 16 * 100, "{reserved}: {taken}");
+            }
+            Err(fault) => {
+                assert_eq!(fault, ImageFault::Bound { slots });
+                assert!(slots > 100, "{reserved}");
+            }
+        }
+    }
+}
+
+/// The same of a world, whose entities take more.
+#[test]
+fn a_forged_image_of_a_world_takes_what_its_reader_allows() {
+    const ENTITY: isize = 128;
+    let mut image = vec![];
+    World::new().write_image(&mut image).expect("memory");
+    for (reserved, is_allowed) in FORGED {
+        forge(&mut image[PART..], reserved);
+        assert!(World::read_image(&image).is_ok());
+
+        let (read, taken) = most_held(|| World::read_image_within(&image, ALLOWED));
+        assert_eq!(taken, 0);
+        let Ok(mut world) = read else {
+            let refused = WorldImageFault::Bound { slots: reserved };
+            assert_eq!((read.err(), is_allowed), (Some(refused), false));
+            continue;
+        };
+        assert!(is_allowed);
+        let (flushed, taken) = most_held(|| world.flush());
+        assert_eq!((flushed, world.len()), (Ok(()), reserved as usize));
+        assert!(taken <= ENTITY * ALLOWED as isize, "{taken}");
+    }
+}
+
 /// A world's lists have room for each slot that may get an entity, and those of a component for each
 /// place up to the last that has a value. So the most costly images have many components, which the
 /// last entities alone have.

@@ -112,6 +112,7 @@ fn fault_text(fault: ImageFault) -> Result<String, AllocError>
         ImageFault::Requests => format!("requests"),
         ImageFault::Slot { index } => format!("slot {index}"),
         ImageFault::Position { position } => format!("position {position}"),
+        ImageFault::Bound { slots } => format!("bound {slots}"),
         _ => format!("memory"),
     }
 }
