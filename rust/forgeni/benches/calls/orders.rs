@@ -69,9 +69,9 @@ fn half_used(world: World, sizes: &[u32]) -> World {
     open.close(reservers).expect("all of them")
 }
 
-/// One phase in one block.
+/// One phase in four blocks.
 fn in_blocks<const SIZE: u32>() -> Run {
-    let mut world = half_used(World::new(), &[2 * SIZE]);
+    let mut world = half_used(World::new(), &[SIZE / 2; 4]);
     timed(|| {
         world.flush().expect("memory");
         black_box(world).len() as u64
