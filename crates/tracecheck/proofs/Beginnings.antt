@@ -1,5 +1,5 @@
 -- What a parse says of where a trace begins, and the fault of limits beside an image.
-use Rattle.tracecheck.proofs.Common.{some_of, common_steps, rules, length-map, ◌≡◌, ◌∙◌, ◌⊎◌, ◌<◌, ◌≤◌, ℕ, true, false, List, [], ◌∷◌, length, zero, suc, refl, sym, ap, subst, inl, inr, codes, arith, map, Option, Some, None, is_some, false≢true, bytes_eq-Decides, Bor, list_all, slice_index_or, option_map, pos, bytes_eq, IsAuto, IsParsedFrom, SameRules, Entry, EntryPasses, HasId, HasReading, IsFilledEntry, IsKnownGroup, MayBeEmpty, PassesArg, ValuesPass, WantsDefault, args_of, groups_of, least_values, unwrap_or_range, matched_of, App, IsSimple, IsSimpleArg, app_of, is_ready, is_ready_leaf, IsSignedIn, Rule, Text, rows_of, rule_of, texts, items_of, Set, Arg, Command, Reading, WithoutMinus, Signed, ArgMatches, Found, MatchedArg, default_present, entry_by_id, same_rules_by_id, clap_on_literals, ready_simple, simple_groups, one_text-rows, HasNumber, given, number_option, program, All, find, found_of, Bool, IfErr, IfSome, IsErrAnd, OnErr, OnOk, ◌&&◌, not, option_and_then, if◌then◌else◌, is_simple_and_free, HasKind, Kinds, or_else, first_value, HasMatchesOf, matches_of, Row, first_of, fault_of, takes, Error, ArgumentConflict, find_row, first_value-rows, IsFaultAmong, IsFaultOf, LineFault, Memory, found_fault, IsFaultIn, both_fault, fault_in, has_both, image_in, is_taken, Beginning, Result, Ok, Err, is_simple}
+use Rattle.tracecheck.proofs.Common.{some_of, common_steps, rules, length-map, ◌≡◌, ◌∙◌, ◌⊎◌, ◌<◌, ◌≤◌, ℕ, true, false, List, [], ◌∷◌, length, zero, suc, refl, sym, ap, subst, inl, inr, codes, arith, map, Option, Some, None, is_some, false≢true, bytes_eq-Decides, Bor, list_all, slice_index_or, option_map, pos, bytes_eq, IsAuto, IsParsedFrom, SameRules, Entry, EntryPasses, HasId, HasReading, IsFilledEntry, IsKnownGroup, MayBeEmpty, PassesArg, ValuesPass, WantsDefault, args_of, groups_of, least_values, unwrap_or_range, matched_of, App, IsSimple, IsSimpleArg, app_of, is_ready, is_ready_leaf, IsSignedIn, Rule, Text, rows_of, rule_of, texts, items_of, Set, Arg, Command, Reading, WithoutMinus, Signed, ArgMatches, Found, MatchedArg, default_present, entry_by_id, same_rules_by_id, clap_on_literals, ready_simple, simple_groups, one_text-rows, HasNumber, given, number_option, program, All, find, found_of, Bool, IfErr, IsErrAnd, OnErr, OnOk, ◌&&◌, not, option_and_then, if◌then◌else◌, is_simple_and_free, HasKind, Kinds, or_else, first_value, HasMatchesOf, matches_of, Row, first_of, fault_of, takes, Error, ArgumentConflict, find_row, first_value-rows, IsFaultAmong, IsFaultOf, LineFault, Memory, found_fault, IsFaultIn, both_fault, fault_in, has_both, image_in, is_taken, Beginning, Result, Ok, Err, is_simple}
 
 pub program-simple : is_simple program ≡ true
 unfolding clap_on_literals

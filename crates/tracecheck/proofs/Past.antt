@@ -1,7 +1,7 @@
 -- A trace with which more is requested since a flush than an allocator counts has one verdict: nothing else is said
 -- past the line. The edits `past_..` in must-fail/ let a verdict go past it.
-use Rattle.tracecheck.proofs.Common.{rules, common_steps, arith, ◌≡◌, ◌+◌, ◌^◌, ◌<◌, ◌≤◌, ◌∙◌, ℕ, List, [], ◌∷◌, ◌++◌, length, suc, refl, sym, ap, subst, inl, inr, Option, None, Some, Result, Ok, Err, length-append, append_assoc, append-nil, Allocator, Call, Cause, Difference, Verdict, Agrees, AgreesWith, AllFollow, Checked, Follows, IsAlone, IsVerdict, Reaches, ReachesAll, AsksAt, DiffersAt, StandsAt, agrees, asks_too_many, differs, differs_in_all, is_none, begun, AskFew, Refused, calls_from, goes_on, line_of, requested_after, requested_from, words_of, called-Follows, parted, run_more}
-use Rattle.tracecheck.proofs.Taking.{AllFollow-call, AskFew-all, calls_from-append, requested_from-append, with_front}
+use Rattle.tracecheck.proofs.Common.{rules, arith, ◌≡◌, ◌+◌, ◌^◌, ◌<◌, ◌≤◌, ◌∙◌, ℕ, List, [], ◌∷◌, ◌++◌, length, refl, sym, ap, subst, inl, inr, Option, None, Some, Result, Ok, Err, append-nil, Allocator, Call, Cause, Difference, Verdict, Agrees, AgreesWith, AllFollow, Checked, Follows, IsAlone, IsVerdict, Reaches, ReachesAll, AsksAt, DiffersAt, StandsAt, agrees, asks_too_many, differs, differs_in_all, is_none, begun, AskFew, Refused, calls_from, goes_on, line_of, requested_after, requested_from, words_of, called-Follows, parted, run_more}
+use Rattle.tracecheck.proofs.Taking.{AskFew-all, calls_from-append, requested_from-append, with_front}
 use Rattle.ent_replay.specs.declared.trace.call.Call.TheVariants as line
 use Rattle.tracecheck.specs.declared.verdict.Verdict.TheVariants as verdict
 use Rattle.tracecheck.specs.declared.verdict.Refusal.TheVariants as refusal
