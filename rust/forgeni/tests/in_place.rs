@@ -358,7 +358,7 @@ impl Lives {
         );
         self.world.flush().expect("memory");
         assert!(
-            self.world.len() >= before && before as usize >= self.born.len(),
+            self.world.len() >= before && before >= self.born.len(),
             "{place}"
         );
         let all = self.world.by_birth().expect("memory");
@@ -396,15 +396,16 @@ fn any_systems(numbers: &mut Numbers) -> Vec<System> {
 fn applied(entities: &mut Entities, mut sync: SyncPoint<Loud>, how: u64) {
     let _dropped_later = Loud("");
     let mut left = how % 7;
-    let done = sync.apply(entities, |_, entry| match left.checked_sub(1) {
-        Some(less) => {
+    let done = sync.apply(entities, |_, entry| match (left.checked_sub(1), how % 3) {
+        (Some(less), _) => {
             left = less;
             std::mem::forget(entry);
             Ok(())
         }
-        None if how % 3 == 0 => resume_unwind(Box::new("the closure")),
-        None if how % 3 == 1 => Err((entry, Loud("the error"))),
-        None => Ok(drop(entry)),
+        (None, 0) => resume_unwind(Box::new("the closure")),
+        (None, 1) => Err((entry, Loud("the error"))),
+        // The entry is dropped.
+        (None, _) => Ok(()),
     });
     drop(done);
 }

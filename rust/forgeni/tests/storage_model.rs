@@ -280,6 +280,6 @@ fn equal_bundles() {
             of(&[(0, 1), (1, 1), (2, 1), (3, 1), (4, 2)]),
         ),
     ] {
-        assert!(one != other && other != one);
+        assert_ne!(one, other);
     }
 }

@@ -90,10 +90,13 @@ fn a_phase_of_a_world() {
     });
 }
 
+/// A call of what a phase lends to a caller.
+type Reserves = fn(&mut forgeni::Lent<'_>) -> Result<Vec<Handle>, ReserveError>;
+
 /// A reserver that is lent reserves once, and not at all if an allocation fails.
 #[test]
 fn what_is_lent_reserves_once() {
-    let calls: [fn(&mut forgeni::Lent<'_>) -> Result<Vec<Handle>, ReserveError>; 3] = [
+    let calls: [Reserves; 3] = [
         |one| Ok(vec![one.reserve()?]),
         |one| one.reserve_many(50),
         |one| {
