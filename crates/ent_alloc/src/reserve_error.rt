@@ -34,8 +34,8 @@ pub enum ReserveError {
 }
 
 impl ReserveError {
-    /// The error as a system returns it. The queue keeps a refusal, and the system goes on. Only
-    /// being out of memory ends the system:
+    /// The error as a system returns it. A refusal doesn't end the system: a queue of commands keeps
+    /// it, and a log doesn't. Only being out of memory ends the system:
     ///
     /// ```
     /// use forgeni::{OutOfMemory, ReserveError};

@@ -40,8 +40,8 @@ impl core::fmt::Display for ReserveError {
 impl core::error::Error for ReserveError {}
 
 impl ReserveError {
-    /// The error as a system returns it. The queue keeps a refusal, and the system goes on. Only
-    /// being out of memory ends the system:
+    /// The error as a system returns it. A refusal doesn't end the system: a queue of commands keeps
+    /// it, and a log doesn't. Only being out of memory ends the system:
     ///
     /// ```
     /// use forgeni::{OutOfMemory, ReserveError};
