@@ -5,6 +5,7 @@ ghost use Rattle.ent_blocks.specs.Blocks.{blocks_of, unused};
 ghost use Rattle.ent_blocks.specs.declared.unended.EndError.TheVariants as unended;
 ghost use Rattle.ent_block_runner.specs.FrameInBlocks.{EndsInBlocks, StopsInBlocks, view_in_blocks};
 ghost use Rattle.ent_block_runner.specs.Queues.{HaveStopped, HaveIssued};
+ghost use Rattle.ent_block_runner.specs.Unframed.{IsWhyUnended};
 ghost use Rattle.ent_block_runner.specs.declared.run_error.RunError.{RunError};
 ghost use Rattle.ent_block_runner.specs.declared.run_error.RunError.TheVariants as failed;
 ghost use Rattle.ent_total.specs.Faults.{IsErrWith};
@@ -118,7 +119,7 @@ where
 
     // What is left if the systems were broken off.
     ensures lost { IsErrWith result (λ u. u.error ≡ failed.Lost) → HaveStopped S.may_issue
-        S.may_leave systems.now (view_in_blocks opened.now.world)
+        S.may_leave systems.now workers (view_in_blocks opened.now.world)
         opened.now.world.blocks.phase.start (blocks_of reservers.items) }
     ensures lost_some { IsErrWith result (λ u. u.error ≡ failed.Lost) → 0 < length systems.now }
     ensures lost_reservers { IfErr result (λ u. u.error ≡ failed.Lost → u.reservers.items ≡ []) }
@@ -216,8 +217,8 @@ where
 
     // What is left if the systems were broken off.
     ensures lost { IfErr result (IfUnrun (λ _ _ error. error ≡ failed.Lost
-        → HaveStopped S.may_issue S.may_leave systems.now (view_in_blocks opened.world)
-        opened.world.blocks.phase.start (blocks_of reservers.items))) }
+        → HaveStopped S.may_issue S.may_leave systems.now workers
+        (view_in_blocks opened.world) opened.world.blocks.phase.start (blocks_of reservers.items))) }
     ensures lost_some { IfErr result (IfUnrun (λ _ _ error. error ≡ failed.Lost
         → 0 < length systems.now)) }
     ensures lost_reservers { IfErr result (IfUnrun (λ _ left error. error ≡ failed.Lost
@@ -234,11 +235,16 @@ where
     ensures unended_of_world { IfErr result (IfUnended (λ _ _ _ queues.
         queues.world ≡ opened.of_world)) }
 
-    // If the reservers are those of all blocks, in their order, the world is closed unless memory runs out.
+    // Why not. If the reservers are those of all blocks, in their order, it is because memory ran out.
+    ensures unended_why { IfErr result (IfUnended (λ _ _ error _.
+        IsWhyUnended opened.world.blocks.phase.blocks (blocks_of reservers.items) error)) }
     ensures whole { map unused (blocks_of reservers.items) ≡ opened.world.blocks.phase.blocks
         → IfErr result (IfUnended (λ _ _ error _. error ≡ unended.Memory)) }
 
-    // What holds if the sync point stopped, whose queues are of this world.
+    // What holds if the sync point stopped, whose queues are of this world. The reservers were those
+    // of all blocks.
+    ensures stopped_all { IfErr result (IfHeld (λ _ _ _.
+        map unused (blocks_of reservers.items) ≡ opened.world.blocks.phase.blocks)) }
     ensures stopped { IfErr result (IfHeld (λ world fault queues. StopsInBlocks S.may_issue
         systems.now opened.world (blocks_of reservers.items) queues.queues world.world fault)) }
     ensures stopped_number { IfErr result (IfHeld (λ world _ _. world.number ≡ opened.of_world)) }

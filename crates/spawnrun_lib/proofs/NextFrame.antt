@@ -1,5 +1,5 @@
 -- A run whose first frames are done goes on by one frame, and ends in a report, or in blocks in the text of its script.
-use Rattle.spawnrun_lib.proofs.Common.{rules, ◌≡◌, refl, subst, ℕ, ◌+◌, ◌≤◌, List, [], ◌∷◌, ◌++◌, length, append_assoc, append-nil, length-append, All-tail, Handle, Command, World, Fault, IsFrame, Ends, Operation, MayIssue, Show, frame_text, Execution, AreExecutions, synced, born_in, last_world, frames_text, AreFew, HaveGone, first_world, Script, EndsInBlocks, HaveGoneInBlocks, IsTextInBlocks, sizes_of, IsWorldText}
+use Rattle.spawnrun_lib.proofs.Common.{rules, ◌≡◌, refl, subst, ℕ, ◌+◌, ◌≤◌, List, [], ◌∷◌, ◌++◌, length, append_assoc, append-nil, length-append, All-cons, All-nil, All-tail, AllFrom, IsFrameOf, Handle, Command, World, Fault, IsFrame, Ends, Operation, MayIssue, Show, frame_text, Execution, AreExecutions, synced, born_in, last_world, frames_text, AreFew, HaveGone, first_world, Script, EndsInBlocks, HaveGoneInBlocks, IsTextInBlocks, sizes_of, IsWorldText}
 
 -- ---- one frame more
 
@@ -55,6 +55,13 @@ module _ (gone old rest : List (List (List Operation))) (systems : List (List Op
 
   pub others_are_few : AreFew old → AreFew rest
   others_are_few few = All-tail (λ systems. length systems ≤ 256) systems rest (subst AreFew front few)
+
+-- the frames of a script have few systems each
+pub few_systems : (components n : ℕ) (frames : List (List (List Operation))) → AllFrom (IsFrameOf components) n frames
+    → AreFew frames
+few_systems components n [] ranges = All-nil (λ systems. length systems ≤ 256)
+few_systems components n (systems ∷ frames) ranges =
+    search (rules, All-cons, few_systems components (n + 1) frames ranges.1)
 
 -- ---- in blocks
 

@@ -9,9 +9,9 @@ use Rattle.ent_world.specs.Sync.{sync}
 use Rattle.ent_world.specs.World.{World}
 use Rattle.ent_world.specs.declared.fault.Fault.{Fault}
 use Rattle.ent_runner.specs.Frame.{view_of}
-use Rattle.ent_block_runner.specs.Queues.{HaveIssued, blocks_after_queues}
+use Rattle.ent_block_runner.specs.Queues.{HaveIssued, HaveStopped, blocks_after_queues}
 use Rattle.ent_script.specs.declared.operation.Operation.{Operation}
-use Rattle.spawnrun_lib.specs.Issuing.{MayIssue}
+use Rattle.spawnrun_lib.specs.Issuing.{MayIssue, MayStop}
 use Rattle.spawnrun_lib.specs.ReportInBlocks.{IsTextFrom}
 use Rattle.spawnrun_lib.specs.declared.show.Show.{Show}
 
@@ -36,6 +36,12 @@ pub record EndsInBlocks (sizes : List ℕ) (systems : List (List Operation)) (w 
       (blocks_after_queues (blocks_from 0 (length w.allocator.pool) sizes) queues)).allocator
   pub faults_are : faults ≡ (sync queues (world_after w
       (blocks_after_queues (blocks_from 0 (length w.allocator.pool) sizes) queues))).faults
+
+-- A frame whose blocks have these sizes was broken off on that many workers.
+abbrev pub StopsInBlocks : List ℕ → List (List Operation) → ℕ → World → Type 0
+StopsInBlocks sizes systems workers w =
+    HaveStopped MayIssue MayStop systems workers (view_of w) w.allocator
+    (blocks_from 0 (length w.allocator.pool) sizes)
 
 -- These frames were run from the first world on: whatever text the others have, this one and that are
 -- the text of all.

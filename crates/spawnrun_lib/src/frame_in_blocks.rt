@@ -1,12 +1,13 @@
 //! One frame of a script whose systems get their handles from blocks.
-ghost use Rattle.std.specs.Prelude.{◌≡◌, ℕ, List, IfOk};
+ghost use Rattle.std.specs.Prelude.{◌≡◌, ℕ, ◌<◌, ◌≤◌, length, List, IfOk, IsErrOf};
 ghost use Rattle.ent_queue.specs.Command.{Command};
+ghost use Rattle.ent_script.specs.Sizes.{most_systems};
 ghost use Rattle.spawnrun_lib.specs.ReportInBlocks.{sizes_of};
-ghost use Rattle.spawnrun_lib.specs.CourseInBlocks.{EndsInBlocks, dealt_blocks};
+ghost use Rattle.spawnrun_lib.specs.CourseInBlocks.{EndsInBlocks, StopsInBlocks, dealt_blocks};
 
 use crate::BlockNumbering;
 use crate::script_system_in_blocks::ScriptSystemInBlocks;
-use ent_block_runner::run_frame_in_blocks;
+use ent_block_runner::{RunError, Unframed, run_frame_in_blocks};
 use ent_blocks::DealError;
 use ent_handle::Memory;
 use ent_script::System;
@@ -14,6 +15,15 @@ use ent_world::{PlacedWorld, SyncReport, World, WorldDeal};
 use std::alloc::Global;
 use std::marker::Brand;
 use std::thread::Threads;
+
+/// Why a frame in blocks didn't end. Each time memory ran out.
+#[derive(Clone, Copy, PartialEq, Eq)]
+pub(crate) enum Undone {
+    /// Before any system ran, or after all had run.
+    Memory,
+    /// While the systems ran.
+    Lost,
+}
 
 /// The systems of a script, as a frame in blocks runs them.
 fn runnable<'a>(
@@ -48,24 +58,35 @@ fn run_dealt<R, J: BlockNumbering + Send + Sync>(
     sizes: &[u32],
     systems: &[ScriptSystemInBlocks<'_>],
     workers: usize,
-) -> Result<(World, SyncReport), Memory>
+) -> Result<(World, SyncReport), Undone>
 where
     R: Threads + Sync,
+    requires some { 0 < workers }
+    requires few { workers ≤ 64 }
+    requires systems { length systems.now ≤ most_systems }
     requires stands_for { J.blocks_of 0 ≡ dealt_blocks world sizes.now }
     requires size { (size : ℕ) × (sizes.now ≡ sizes_of size systems.now) }
     ensures flushed { IfOk result (λ ended. ended.0.allocator.asked ≡ 0) }
     ensures went { IfOk result (λ ended. (queues : List (List Command))
         × EndsInBlocks sizes.now systems.now world.world queues ended.0
         ended.1.born.items ended.1.faults.items) }
+    ensures lost { IsErrOf result Undone.Lost
+        → StopsInBlocks sizes.now systems.now workers world.world }
 {
     let dealt: Result<WorldDeal<J>, (World, DealError)> = world.open_in_blocks(sizes);
     let Ok(deal) = dealt else {
-        return Err(Memory);
+        return Err(Undone::Memory);
     };
     let (opened, reservers) = deal.numbered(0);
     match run_frame_in_blocks(rt, alloc, opened, reservers, systems, workers) {
         Ok((world, report)) => Ok((world, report.sync)),
-        Err(_) => Err(Memory),
+        Err(
+            Unframed::Unrun {
+                error: RunError::Lost,
+                ..
+            },
+        ) => Err(Undone::Lost),
+        Err(_) => Err(Undone::Memory),
     }
 }
 
@@ -74,7 +95,7 @@ where
 ///
 /// # Errors
 ///
-/// `Memory` if memory ran out, and then the world is dropped.
+/// [`Undone`] if memory ran out, and then the world is dropped.
 pub(crate) fn run<R>(
     rt: &R,
     alloc: Global,
@@ -82,15 +103,26 @@ pub(crate) fn run<R>(
     size: u32,
     systems: &[System],
     workers: usize,
-) -> Result<(World, SyncReport), Memory>
+) -> Result<(World, SyncReport), Undone>
 where
     R: Threads + Sync,
+    requires some { 0 < workers }
+    requires few { workers ≤ 64 }
+    requires systems { length systems.now ≤ most_systems }
     ensures flushed { IfOk result (λ ended. ended.0.allocator.asked ≡ 0) }
     ensures went { IfOk result (λ ended. (queues : List (List Command))
         × EndsInBlocks (sizes_of size systems.now) systems.now world queues ended.0
         ended.1.born.items ended.1.faults.items) }
+
+    // That many workers ran, so each has run a system if one is left that no worker had room for.
+    ensures lost { IsErrOf result Undone.Lost
+        → StopsInBlocks (sizes_of size systems.now) systems.now workers world }
 {
-    let runnable = runnable(alloc, systems)?;
-    let sizes = sizes(alloc, size, systems)?;
+    let Ok(runnable) = runnable(alloc, systems) else {
+        return Err(Undone::Memory);
+    };
+    let Ok(sizes) = sizes(alloc, size, systems) else {
+        return Err(Undone::Memory);
+    };
     run_dealt::<R, Brand>(rt, alloc, world.placed(), &sizes, &runnable, workers)
 }

@@ -1,7 +1,8 @@
 //! The run of a script in blocks: bytes in, bytes out.
-ghost use Rattle.std.specs.Prelude.{◌≡◌, ◌≢◌, ◌+◌, min, length, IfSome};
+ghost use Rattle.std.specs.Prelude.{◌≡◌, ◌≢◌, ◌+◌, ◌<◌, ◌≤◌, min, length, IfSome};
 ghost use Rattle.std.specs.Thread.{IsSync};
 ghost use Rattle.devices.specs.Device.{OneFails, Takes, TakesAtMost};
+ghost use Rattle.spawnrun_lib.specs.CommandLine.{AreWorkers};
 ghost use Rattle.spawnrun_lib.specs.Running.{MeansNone, RunsInBlocks};
 ghost use Rattle.spawnrun_lib.specs.Work.{HasAdvised, HasDone, HasRefused, input_limit};
 
@@ -33,7 +34,7 @@ impl<R: Threads + Sync> Work for ScriptsInBlocks<'_, R> {
     ghost fails = { λ _. MeansNone };
 
     // The threads of a frame share the handle.
-    ghost can_make = { λ scripts. IsSync R.row };
+    ghost can_make = { λ scripts. IsSync R.row × AreWorkers scripts.workers };
 
     fn make<P: Progress>(
         self,
@@ -68,7 +69,7 @@ impl<R: Threads + Sync> Work for ScriptsInBlocks<'_, R> {
 /// made. An input of more than 67,108,864 bytes is refused by one line, and so is one that is no
 /// script. Of a longer input just one byte more than the limit is taken.
 ///
-/// `Memory` also if there are no workers or more than 64. After it, or a failure of the input, the output is as it was. `Device` is one failed call
+/// After `Memory`, or a failure of the input, the output is as it was. `Device` is one failed call
 /// of one of the two devices.
 ///
 /// Only a refused input writes to the error stream: what the input has to be, and what was found
@@ -86,6 +87,9 @@ pub fn run_in_blocks<R, I: Source, O: Sink, E: Sink, P: Progress>(
 ) -> Status
 where
     R: Threads + Sync,
+    requires some { 0 < workers }
+    requires few { workers ≤ 64 }
+
     ensures done { result ≡ Status.Done → HasDone (RunsInBlocks size show)
         (I.remaining input.old) (O.written output.old) (O.written output.new) }
     ensures refused { result ≡ Status.Refused → HasRefused MeansNone

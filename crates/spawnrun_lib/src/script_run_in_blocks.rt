@@ -1,5 +1,7 @@
 //! The run of a whole script whose systems get their handles from blocks.
-ghost use Rattle.std.specs.Prelude.{◌≡◌, ℕ, List, IfOk};
+ghost use Rattle.std.specs.Prelude.{◌≡◌, ◌<◌, ◌≤◌, ℕ, List, IfOk};
+ghost use Rattle.ent_script.specs.Ranges.{IsScript};
+ghost use Rattle.spawnrun_lib.specs.Course.{AreFew};
 ghost use Rattle.spawnrun_lib.specs.CourseInBlocks.{HaveGoneInBlocks};
 ghost use Rattle.spawnrun_lib.specs.ReportInBlocks.{IsTextInBlocks};
 
@@ -28,6 +30,9 @@ fn run_frames<R, P: Progress>(
 ) -> Result<(World, Vec<u8>), Memory>
 where
     R: Threads + Sync,
+    requires systems { AreFew frames.items }
+    requires some { 0 < workers }
+    requires few { workers ≤ 64 }
     ensures went { IfOk result (λ ran. (names : List (List ℕ))
         → HaveGoneInBlocks names size show world ran.0 frames.items ran.1.items) }
 {
@@ -37,14 +42,10 @@ where
     let mut number = 0;
     for current in frames {
         progress.tell(number, count);
-        let (after, report) = frame_in_blocks::run(
-            rt,
-            alloc,
-            world,
-            size,
-            current.systems(),
-            workers,
-        )?;
+        let went = frame_in_blocks::run(rt, alloc, world, size, current.systems(), workers);
+        let Ok((after, report)) = went else {
+            return Err(Memory);
+        };
         world = after;
         write_frame(number as u64, &report, show, &mut text)?;
         number += 1;
@@ -65,6 +66,9 @@ fn report<R, P: Progress>(
 ) -> Result<Vec<u8>, Memory>
 where
     R: Threads + Sync,
+    requires ranges { IsScript script }
+    requires some { 0 < workers }
+    requires few { workers ≤ 64 }
     ensures { IfOk result (λ text. IsTextInBlocks script size show text.items) }
 {
     let (limits, components, frames) = script.into_parts();
@@ -75,7 +79,8 @@ where
 }
 
 /// Runs a script over a world that begins empty, on 1 to 64 workers, and returns the report: the
-/// text of each frame and of the world that the last one leaves.
+/// text of each frame and of the world that the last one leaves. The script is one that `ent_script`
+/// has read.
 ///
 /// In each frame each system has a block of `size` handles of its own, fewer where the slots end. A
 /// spawn of more than is left of the block is refused, and a later one of fewer is served. So the
@@ -87,8 +92,7 @@ where
 ///
 /// # Errors
 ///
-/// `Memory` if memory ran out at any point of the run, or if there are no workers, more than 64, or
-/// more than 65,536 systems in a frame.
+/// `Memory` if memory ran out at any point of the run.
 pub fn run_script_in_blocks<R, P: Progress>(
     rt: &R,
     alloc: Global,
@@ -100,6 +104,9 @@ pub fn run_script_in_blocks<R, P: Progress>(
 ) -> Result<Vec<u8>, Memory>
 where
     R: Threads + Sync,
+    requires ranges { IsScript script }
+    requires some { 0 < workers }
+    requires few { workers ≤ 64 }
     ensures text { IfOk result (λ text. IsTextInBlocks script size show text.items) }
 
     // The script and the size have one text: this one. It is a law of the definition.

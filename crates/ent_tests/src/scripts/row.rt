@@ -48,17 +48,20 @@ where
             size,
             workers,
             show,
-        } => run_in_blocks(
-            rt,
-            alloc,
-            input,
-            output,
-            &mut errors,
-            &mut (),
-            size,
-            workers,
-            show,
-        ),
+        } => {
+            assert!(rt; 1 <= workers && workers <= 64);
+            run_in_blocks(
+                rt,
+                alloc,
+                input,
+                output,
+                &mut errors,
+                &mut (),
+                size,
+                workers,
+                show,
+            )
+        }
     };
     assert!(rt; errors.bytes.is_empty() == (status != Status::Refused));
     status

@@ -1,5 +1,5 @@
 use Rattle.spawnrun_lib.proofs.Common.{rules, map, string_bytes}
-use Rattle.spawnrun_lib.proofs.NextFrame.{text_in_blocks}
+use Rattle.spawnrun_lib.proofs.NextFrame.{few_systems, text_in_blocks}
 use Rattle.spawnrun_lib.proofs.script_run_in_blocks.report.Goals as goal
 
 pub returns : goal.returns
@@ -11,3 +11,6 @@ returns g c =
           c.into_parts-limits.result.2.items (map string_bytes c.deref.result.now) c.in_ok-world.text.items wrote.0
           c.write_world.new.out.items c.in_ok-world.ensures.went,
     )
+
+pub run_frames-requires-clause-systems : goal.run_frames-requires-clause-systems
+run_frames-requires-clause-systems g c κs within = search (rules, few_systems)

@@ -1,16 +1,18 @@
 use Rattle.spawnrun_lib.proofs.Common.{append_assoc, length-append, common_steps, rules, arith, ◌≡◌}
-use Rattle.spawnrun_lib.proofs.NextFrame.{has_gone_on_in_blocks}
+use Rattle.spawnrun_lib.proofs.NextFrame.{has_gone_on_in_blocks, others_are_few}
 use Rattle.spawnrun_lib.proofs.script_run_in_blocks.run_frames.Goals as goal
 
 pub loop-current-preserved : goal.loop-current-preserved
 loop-current-preserved g c =
     let i = c.loop-current.invariant in
     let front = c.in-Some.ensures.steps.0 in
-    let went = c.in_ok-after.ensures.went in
+    let went = c.in-Ok.ensures.went in
     let ends = rw c.systems.ensures at went.1 in
     record {
       all = search (rules, append_assoc, rw front at i.all);
       counted = search (rules, length-append, i.counted);
+      few = others_are_few c.loop-current.yielded c.loop-current.current-iterator.rest.items c.next.new.self.rest.items
+          c.in-Some.current front i.few;
       run = λ names. search (
         rules,
         i.counted,

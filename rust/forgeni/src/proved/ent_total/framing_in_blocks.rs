@@ -99,7 +99,7 @@ use crate::kit::thread::Threads;
 ///
 /// // What is left if the systems were broken off.
 /// ensures lost { IsErrWith result (λ u. u.error ≡ failed.Lost) → HaveStopped S.may_issue
-///     S.may_leave systems.now (view_in_blocks opened.now.world)
+///     S.may_leave systems.now workers (view_in_blocks opened.now.world)
 ///     opened.now.world.blocks.phase.start (blocks_of reservers.items) }
 /// ensures lost_some { IsErrWith result (λ u. u.error ≡ failed.Lost) → 0 < length systems.now }
 /// ensures lost_reservers { IfErr result (λ u. u.error ≡ failed.Lost → u.reservers.items ≡ []) }
@@ -205,8 +205,8 @@ where
 ///
 /// // What is left if the systems were broken off.
 /// ensures lost { IfErr result (IfUnrun (λ _ _ error. error ≡ failed.Lost
-///     → HaveStopped S.may_issue S.may_leave systems.now (view_in_blocks opened.world)
-///     opened.world.blocks.phase.start (blocks_of reservers.items))) }
+///     → HaveStopped S.may_issue S.may_leave systems.now workers
+///     (view_in_blocks opened.world) opened.world.blocks.phase.start (blocks_of reservers.items))) }
 /// ensures lost_some { IfErr result (IfUnrun (λ _ _ error. error ≡ failed.Lost
 ///     → 0 < length systems.now)) }
 /// ensures lost_reservers { IfErr result (IfUnrun (λ _ left error. error ≡ failed.Lost
@@ -223,11 +223,16 @@ where
 /// ensures unended_of_world { IfErr result (IfUnended (λ _ _ _ queues.
 ///     queues.world ≡ opened.of_world)) }
 ///
-/// // If the reservers are those of all blocks, in their order, the world is closed unless memory runs out.
+/// // Why not. If the reservers are those of all blocks, in their order, it is because memory ran out.
+/// ensures unended_why { IfErr result (IfUnended (λ _ _ error _.
+///     IsWhyUnended opened.world.blocks.phase.blocks (blocks_of reservers.items) error)) }
 /// ensures whole { map unused (blocks_of reservers.items) ≡ opened.world.blocks.phase.blocks
 ///     → IfErr result (IfUnended (λ _ _ error _. error ≡ unended.Memory)) }
 ///
-/// // What holds if the sync point stopped, whose queues are of this world.
+/// // What holds if the sync point stopped, whose queues are of this world. The reservers were those
+/// // of all blocks.
+/// ensures stopped_all { IfErr result (IfHeld (λ _ _ _.
+///     map unused (blocks_of reservers.items) ≡ opened.world.blocks.phase.blocks)) }
 /// ensures stopped { IfErr result (IfHeld (λ world fault queues. StopsInBlocks S.may_issue
 ///     systems.now opened.world (blocks_of reservers.items) queues.queues world.world fault)) }
 /// ensures stopped_number { IfErr result (IfHeld (λ world _ _. world.number ≡ opened.of_world)) }

@@ -4,12 +4,21 @@
 use alloc::vec::Vec;
 use crate::kit::vec::FallibleVec;
 use crate::proved::spawnrun_lib::script_system_in_blocks::ScriptSystemInBlocks;
-use crate::proved::ent_block_runner::run_frame_in_blocks;
+use crate::proved::ent_block_runner::{RunError, Unframed, run_frame_in_blocks};
 use crate::proved::ent_blocks::DealError;
 use crate::proved::ent_handle::Memory;
 use crate::proved::ent_script::System;
 use crate::proved::ent_world::{PlacedWorld, SyncReport, World, WorldDeal};
 use crate::kit::thread::Threads;
+
+/// Why a frame in blocks didn't end. Each time memory ran out.
+#[derive(Clone, Copy, PartialEq, Eq)]
+pub(super) enum Undone {
+    /// Before any system ran, or after all had run.
+    Memory,
+    /// While the systems ran.
+    Lost,
+}
 
 /// The systems of a script, as a frame in blocks runs them.
 #[inline]
@@ -45,24 +54,35 @@ fn run_dealt<R>(
     sizes: &[u32],
     systems: &[ScriptSystemInBlocks<'_>],
     workers: usize,
-) -> Result<(World, SyncReport), Memory>
+) -> Result<(World, SyncReport), Undone>
 where
     R: Threads + Sync,
+    // requires some { 0 < workers }
+    // requires few { workers ≤ 64 }
+    // requires systems { length systems.now ≤ most_systems }
     // requires stands_for { J.blocks_of 0 ≡ dealt_blocks world sizes.now }
     // requires size { (size : ℕ) × (sizes.now ≡ sizes_of size systems.now) }
     // ensures flushed { IfOk result (λ ended. ended.0.allocator.asked ≡ 0) }
     // ensures went { IfOk result (λ ended. (queues : List (List Command))
     //     × EndsInBlocks sizes.now systems.now world.world queues ended.0
     //     ended.1.born.items ended.1.faults.items) }
+    // ensures lost { IsErrOf result Undone.Lost
+    //     → StopsInBlocks sizes.now systems.now workers world.world }
 {
     let dealt: Result<WorldDeal, (World, DealError)> = world.open_in_blocks(sizes);
     let Ok(deal) = dealt else {
-        return Err(Memory);
+        return Err(Undone::Memory);
     };
     let (opened, reservers) = deal.numbered(0);
     match run_frame_in_blocks(rt, opened, reservers, systems, workers) {
         Ok((world, report)) => Ok((world, report.sync)),
-        Err(_) => Err(Memory),
+        Err(
+            Unframed::Unrun {
+                error: RunError::Lost,
+                ..
+            },
+        ) => Err(Undone::Lost),
+        Err(_) => Err(Undone::Memory),
     }
 }
 
@@ -71,7 +91,7 @@ where
 ///
 /// # Errors
 ///
-/// `Memory` if memory ran out, and then the world is dropped.
+/// [`Undone`] if memory ran out, and then the world is dropped.
 #[inline]
 pub(super) fn run<R>(
     rt: &R,
@@ -79,15 +99,26 @@ pub(super) fn run<R>(
     size: u32,
     systems: &[System],
     workers: usize,
-) -> Result<(World, SyncReport), Memory>
+) -> Result<(World, SyncReport), Undone>
 where
     R: Threads + Sync,
+    // requires some { 0 < workers }
+    // requires few { workers ≤ 64 }
+    // requires systems { length systems.now ≤ most_systems }
     // ensures flushed { IfOk result (λ ended. ended.0.allocator.asked ≡ 0) }
     // ensures went { IfOk result (λ ended. (queues : List (List Command))
     //     × EndsInBlocks (sizes_of size systems.now) systems.now world queues ended.0
     //     ended.1.born.items ended.1.faults.items) }
+
+    // That many workers ran, so each has run a system if one is left that no worker had room for.
+    // ensures lost { IsErrOf result Undone.Lost
+    //     → StopsInBlocks (sizes_of size systems.now) systems.now workers world }
 {
-    let runnable = runnable(systems)?;
-    let sizes = sizes(size, systems)?;
+    let Ok(runnable) = runnable(systems) else {
+        return Err(Undone::Memory);
+    };
+    let Ok(sizes) = sizes(size, systems) else {
+        return Err(Undone::Memory);
+    };
     run_dealt::<R>(rt, world.placed(), &sizes, &runnable, workers)
 }

@@ -57,50 +57,13 @@ impl<R: Threads + Sync> Work for ScriptsInBlocks<'_, R> {
 /// made. An input of more than 67,108,864 bytes is refused by one line, and so is one that is no
 /// script. Of a longer input just one byte more than the limit is taken.
 ///
-/// `Memory` also if there are no workers or more than 64. After it, or a failure of the input, the output is as it was. `Device` is one failed call
+/// After `Memory`, or a failure of the input, the output is as it was. `Device` is one failed call
 /// of one of the two devices.
 ///
 /// Only a refused input writes to the error stream: what the input has to be, and what was found
 /// instead. If the error stream fails, nothing else changes.
-///
-/// <details><summary>Contract</summary>
-///
-/// In the words of the folder `specs/` of crate `spawnrun_lib`:
-///
-/// ```text
-/// ensures done { result ≡ Status.Done → HasDone (RunsInBlocks size show)
-///     (I.remaining input.old) (O.written output.old) (O.written output.new) }
-/// ensures refused { result ≡ Status.Refused → HasRefused MeansNone
-///     (I.remaining input.old) (O.written output.old) (O.written output.new) }
-/// ensures memory { result ≡ Status.Memory → output.new ≡ output.old }
-///
-/// // The failures of the two devices.
-/// ensures device { result ≡ Status.Device → OneFails
-///     (I.failures input.old) (I.failures input.new)
-///     (O.failures output.old) (O.failures output.new) }
-/// ensures input_unfailed { result ≢ Status.Device → I.failures input.new ≡ I.failures input.old }
-/// ensures output_unfailed { result ≢ Status.Device
-///     → O.failures output.new ≡ O.failures output.old }
-/// ensures unread { I.failures input.new ≢ I.failures input.old → output.new ≡ output.old }
-///
-/// // What the error stream tells.
-/// ensures quiet { result ≢ Status.Refused → errors.new ≡ errors.old }
-/// ensures advised { result ≡ Status.Refused → E.failures errors.new ≡ E.failures errors.old
-///     → HasAdvised MeansNone
-///     (I.remaining input.old) (E.written errors.old) (E.written errors.new) }
-///
-/// // What is taken of an input that didn't fail: all of it, or one byte more than the limit.
-/// ensures reads { I.failures input.new ≡ I.failures input.old → result ≢ Status.Memory
-///     → IfSome (I.remaining input.old) (λ all.
-///     Takes (I.remaining input.old) (I.remaining input.new)
-///     (min (length all) (input_limit + 1))) }
-/// ensures stops { I.failures input.new ≡ I.failures input.old
-///     → TakesAtMost (I.remaining input.old) (I.remaining input.new) (input_limit + 1) }
-/// ```
-///
-/// </details>
 #[inline]
-pub fn run_in_blocks<R, I: Source, O: Sink, E: Sink, P: Progress>(
+pub(crate) fn run_in_blocks<R, I: Source, O: Sink, E: Sink, P: Progress>(
     rt: &R,
     input: &mut I,
     output: &mut O,
@@ -112,6 +75,37 @@ pub fn run_in_blocks<R, I: Source, O: Sink, E: Sink, P: Progress>(
 ) -> Status
 where
     R: Threads + Sync,
+    // requires some { 0 < workers }
+    // requires few { workers ≤ 64 }
+
+    // ensures done { result ≡ Status.Done → HasDone (RunsInBlocks size show)
+    //     (I.remaining input.old) (O.written output.old) (O.written output.new) }
+    // ensures refused { result ≡ Status.Refused → HasRefused MeansNone
+    //     (I.remaining input.old) (O.written output.old) (O.written output.new) }
+    // ensures memory { result ≡ Status.Memory → output.new ≡ output.old }
+
+    // The failures of the two devices.
+    // ensures device { result ≡ Status.Device → OneFails
+    //     (I.failures input.old) (I.failures input.new)
+    //     (O.failures output.old) (O.failures output.new) }
+    // ensures input_unfailed { result ≢ Status.Device → I.failures input.new ≡ I.failures input.old }
+    // ensures output_unfailed { result ≢ Status.Device
+    //     → O.failures output.new ≡ O.failures output.old }
+    // ensures unread { I.failures input.new ≢ I.failures input.old → output.new ≡ output.old }
+
+    // What the error stream tells.
+    // ensures quiet { result ≢ Status.Refused → errors.new ≡ errors.old }
+    // ensures advised { result ≡ Status.Refused → E.failures errors.new ≡ E.failures errors.old
+    //     → HasAdvised MeansNone
+    //     (I.remaining input.old) (E.written errors.old) (E.written errors.new) }
+
+    // What is taken of an input that didn't fail: all of it, or one byte more than the limit.
+    // ensures reads { I.failures input.new ≡ I.failures input.old → result ≢ Status.Memory
+    //     → IfSome (I.remaining input.old) (λ all.
+    //     Takes (I.remaining input.old) (I.remaining input.new)
+    //     (min (length all) (input_limit + 1))) }
+    // ensures stops { I.failures input.new ≡ I.failures input.old
+    //     → TakesAtMost (I.remaining input.old) (I.remaining input.new) (input_limit + 1) }
 {
     let work = ScriptsInBlocks {
         rt,
