@@ -161,7 +161,8 @@ note_left_out() {
 never_made() {
     awk '{ for (i = 1; i <= NF; i++) count[$i]++ } END { for (line in count) if (count[line] == NR) print line }' "$room/left_out" |
         while read -r number; do
-            grep -E '^(at|unborn|lost|lost_of|kept)( [0-9 ]*)?: ' "$1" | sed -n "${number}p"
+            line=$(grep -E '^(at|unborn|lost|lost_of|kept)( [0-9 ]*)?: ' "$1" | sed -n "${number}p")
+            echo "${line:-line $number of those with a condition}"
         done
 }
 
