@@ -50,13 +50,18 @@ def counted(program, table, work, side):
 
 def out_of_proportion(rows, counts):
     """What to say of the works of orders whose step takes too much more where there are ten times as many."""
-    by_work = {work: here for (table, work, _), (here, *_) in zip(rows, counts) if table == ORDERS}
-    said = []
-    for work, here in by_work.items():
-        name, _, size = work.rpartition(" | ")
-        of_many = by_work.get(f"{name} | {10 * int(size)}")
-        if of_many and of_many > 1.5 * here:
-            said.append(f"{name}: {here:.1f} instructions a birth among {size}, and {of_many:.1f} among ten times as many")
+    by_name = {}
+    for (table, work, _), (here, *_) in zip(rows, counts):
+        if table == ORDERS:
+            name, _, size = work.rpartition(" | ")
+            by_name.setdefault(name, []).append((int(size), here))
+    said = [] if by_name else [f"{LIMITS.name} has no work of orders"]
+    for name, works in by_name.items():
+        (few, of_few), (many, of_many) = min(works), max(works)
+        if len(works) != 2 or many != 10 * few:
+            said.append(f"{name}: there must be two works, one of ten times as many births as the other")
+        elif of_many > 1.5 * of_few:
+            said.append(f"{name}: {of_few:.1f} instructions a birth among {few}, and {of_many:.1f} among ten times as many")
     return said
 
 
