@@ -286,7 +286,7 @@ mod tests {
         let (_shared, reservers) = shared.expect("memory");
         let pool = Reservers::new(reservers).expect("memory");
         assert_eq!(pool.try_with(|_| 1), Some(1));
-        pool.waiting.set_overtaken();
+        pool.waiting.overtaken.store(true, Ordering::Relaxed);
         assert_eq!(pool.try_with(|_| 2), None);
         assert_eq!(pool.with(|_| 3), 3);
         assert_eq!(pool.try_with(|_| 4), Some(4));

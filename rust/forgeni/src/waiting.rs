@@ -10,7 +10,7 @@ use std::sync::{Condvar, Mutex, MutexGuard, PoisonError};
 #[repr(align(128))]
 pub(crate) struct Waiting {
     count: AtomicUsize,
-    overtaken: AtomicBool,
+    pub(crate) overtaken: AtomicBool,
     queue: Mutex<Queue>,
     /// Where the threads sleep. So few of them wake if one is woken.
     rooms: [Condvar; ROOMS],
@@ -40,11 +40,6 @@ impl Waiting {
     #[inline]
     pub(crate) fn is_overtaken(&self) -> bool {
         self.overtaken.load(Ordering::Relaxed)
-    }
-
-    #[cfg(test)]
-    pub(crate) fn set_overtaken(&self) {
-        self.overtaken.store(true, Ordering::Relaxed);
     }
 
     /// Returns what `look` finds, when all threads that came before have found something. Sleeps as long as
