@@ -3,10 +3,10 @@
 use crate::errors::fails;
 use crate::lent::Lent;
 use crate::sharing::Reserver;
+use crate::shown::shows;
 use crate::waiting::Waiting;
 use crate::OutOfMemory;
 use alloc::vec::Vec;
-use core::fmt;
 use core::sync::atomic::{AtomicUsize, Ordering};
 use std::sync::{Mutex, MutexGuard, PoisonError, TryLockError};
 use std::thread_local;
@@ -133,12 +133,6 @@ impl<R: Lends> Reservers<R> {
         Ok(Self { places, waiting })
     }
 
-    /// How many reservers it has.
-    #[must_use]
-    pub fn count(&self) -> usize {
-        self.places.len()
-    }
-
     /// Lends a reserver to `run`, and returns what `run` returns. If no reserver is free, it waits for one, behind
     /// the threads that wait already.
     ///
@@ -205,6 +199,12 @@ impl Drop for Wakes<'_> {
 }
 
 impl<R> Reservers<R> {
+    /// How many reservers it has.
+    #[must_use]
+    pub fn count(&self) -> usize {
+        self.places.len()
+    }
+
     /// The reservers, in the order in which they were handed in. Each is moved once.
     ///
     /// If memory runs out for the list, the process ends, as with `Vec`.
@@ -267,12 +267,8 @@ impl<I> From<Unpooled<I>> for OutOfMemory {
     }
 }
 
-impl<R> fmt::Debug for Reservers<R> {
-    fn fmt(&self, out: &mut fmt::Formatter<'_>) -> fmt::Result {
-        out.debug_struct("Reservers")
-            .field("count", &self.places.len())
-            .finish_non_exhaustive()
-    }
+shows! {
+    Reservers[R]: count;
 }
 
 #[cfg(test)]

@@ -20,10 +20,11 @@ impl fmt::Debug for Report {
     }
 }
 
-/// `Debug` of types that show what these calls return, and say that there is more.
+/// `Debug` of types that show what these calls return, and say that there is more. A type parameter is in
+/// brackets.
 macro_rules! shows {
-    ($($name:ident $(<$life:lifetime>)?: $($call:ident)*;)*) => {$(
-        impl core::fmt::Debug for $name $(<$life>)? {
+    ($($name:ident $(<$life:lifetime>)? $([$of:ident])?: $($call:ident)*;)*) => {$(
+        impl $(<$of>)? core::fmt::Debug for $name $(<$life>)? $(<$of>)? {
             fn fmt(&self, out: &mut core::fmt::Formatter<'_>) -> core::fmt::Result {
                 out.debug_struct(stringify!($name))
                     $(.field(stringify!($call), &self.$call()))*
