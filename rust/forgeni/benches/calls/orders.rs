@@ -111,7 +111,7 @@ fn read<const STEP: u32, const SIZE: u32>() -> Run {
         .collect();
     for number in 0..SIZE {
         let at = number - number % FEW + number % FEW * STEP % FEW;
-        if at % 100 > 0 {
+        if !at.is_multiple_of(100) {
             world.despawn(all[at as usize]).expect("alive");
         }
     }
