@@ -179,6 +179,9 @@ done
 for workers in 1 4; do
     prints spawnrun 0 systems run --workers "$workers"
 done
+# In blocks that are just large enough births are the same.
+prints spawnrun 0 systems run --workers 4 --blocks 1
+prints spawnrun 0 entities run --workers 2 --blocks 131072
 prints spawnrun 0 schedule replay
 
 for name in listed single; do
