@@ -184,9 +184,9 @@ impl Entities {
     /// ```text
     /// ensures written { OnOk result (out.new.items ≡ out.old.items ++ image self.now) }
     ///
-    /// // The allocator has an image, as `read_image` asks, where `exact` says that it is read as this
+    /// // What was written is an image as `read_image` asks: `exact` says that it is read as this
     /// // allocator. No two states have one image.
-    /// ensures has_image { HasImage self.now }
+    /// ensures has_image { OnOk result (HasImage self.now) }
     /// ensures alone { (d e : Entities) → HasImage d → HasImage e → image d ≡ image e → d ≡ e }
     /// ensures unchanged { OnErr result (out.new.items ≡ out.old.items) }
     /// ensures capacity { OnErr result (vec_capacity out.new ≡ vec_capacity out.old) }
