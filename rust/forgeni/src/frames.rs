@@ -137,7 +137,7 @@ pub fn run_frame_on<J: Join + Sync, S: System + Sync>(
     workers: usize,
 ) -> Result<Report, FrameError> {
     guarded(join, systems, FrameError::Memory, |join, systems| {
-        Ok(ent_total::run_frame(join, world, systems, workers, &NoGate)?.sync)
+        Ok(ent_total::run_frame(join, world, systems, workers, &NoGate).map(|frame| frame.sync))
     })
 }
 
@@ -230,7 +230,7 @@ pub fn run_logs_on<J: Join + Sync, C: Send, S: LogSystem<C> + Sync>(
     workers: usize,
 ) -> Result<Vec<Log<C>>, LogError> {
     guarded(join, systems, LogError::Memory, |join, systems| {
-        ent_total::run_logs(join, entities, systems, workers)
+        caught(|| ent_total::run_logs(join, entities, systems, workers))
     })
 }
 
@@ -284,7 +284,7 @@ pub fn run_to_sync_point<J: Join + Sync, C: Send, S: LogSystem<C> + Sync>(
 ) -> Result<SyncPoint<C>, Unbegun<C>> {
     let memory = Unbegun::without_logs(LogError::Memory);
     guarded(join, systems, memory, |join, systems| {
-        ent_total::run_to_sync_point(join, entities, systems, workers, born)
+        caught(|| ent_total::run_to_sync_point(join, entities, systems, workers, born))
     })
 }
 
@@ -295,12 +295,13 @@ fails! {
 }
 
 /// Calls `run` with a `Join` and systems whose panics don't leave them, and hands the first panic on. If
-/// there is no memory to guard the systems, it returns that error.
+/// there is no memory to guard the systems, it returns that error. What `run` returns may be a panic itself:
+/// that of a command which was dropped. A world or an allocator is in its place by then.
 fn guarded<J, S, T, E>(
     join: &J,
     systems: &[S],
     memory: E,
-    run: impl FnOnce(&Guarded<'_, J>, &[Guarded<'_, S>]) -> Result<T, E>,
+    run: impl FnOnce(&Guarded<'_, J>, &[Guarded<'_, S>]) -> Result<Result<T, E>, Panic>,
 ) -> Result<T, E> {
     let panics = Panics::default();
     let mut guarded = Vec::new();
@@ -309,8 +310,7 @@ fn guarded<J, S, T, E>(
     }
     let numbered = systems.iter().enumerate();
     guarded.extend(numbered.map(|(number, system)| Guarded(system, number, &panics)));
-    // When this returns or panics, the world is in its place. It panics only if a command does that is dropped.
-    let ran = caught(|| run(&Guarded(join, usize::MAX, &panics), &guarded));
+    let ran = run(&Guarded(join, usize::MAX, &panics), &guarded);
     if let Some(panic) = first(panics) {
         drop_quietly(ran);
         resume_unwind(panic);
