@@ -11,7 +11,7 @@
 #
 # The same commit gives the same bytes. It refuses a folder that has files, a tree with changes that are not committed, a version that
 # CHANGELOG.md has no section of, or that isn't that of the package and of both programs, changes that are still listed as unreleased, and
-# erased sources that are not those of crates/. It needs `git`, `cargo`, `gzip` and `sha256sum`, and no network: `cargo package` looks serde
+# erased sources that are not those of crates/, and what `.ci/targets.sh all` hasn't passed with. It needs `git`, `cargo`, `gzip` and `sha256sum`, and no network: `cargo package` looks serde
 # up in Debian's source packages, which `.ci/debian.sh` installs if they are missing. It doesn't run the gate.
 set -eu
 refuse() {
@@ -41,6 +41,7 @@ for source in spawnrun_lib/src/task.rt tracecheck/src/command_line.rt; do
 done
 cargo run --offline --quiet --manifest-path "$top/rust/erase/Cargo.toml" -- --check >/dev/null ||
     refuse "rust/forgeni/src/proved isn't what rust/erase makes of crates/"
+"$top/.ci/targets.sh" passed 2>/dev/null || refuse ".ci/targets.sh all hasn't passed with this commit"
 
 name=forgeni-$version
 mkdir -p "$folder"

@@ -1,8 +1,8 @@
 #!/usr/bin/env bash
 # The archives of the package and of the eraser, as crates.io would have them, in an empty folder: they build by themselves, and their tests
-# pass, the package's with its programs. Then its features `serde` and `rayon`, which have stand-ins in the repository: their docs and their
-# lints, a build without the standard library, and the tests of rust/serde_tests and rust/rayon_tests, which depend on the archive. The
-# crates of others are Debian's.
+# pass, the package's with its programs. Then its features `serde` and `rayon`, which have stand-ins in the repository: their operations on
+# `usize`, their docs and their lints, a build without the standard library, and the tests of rust/serde_tests and rust/rayon_tests, which
+# depend on the archive. The crates of others are Debian's.
 set -eu
 cd "$(dirname "$0")/.."
 top=$PWD
@@ -30,6 +30,7 @@ debian test --features programs
 echo alloc | debian run --features programs --bin spawnrun -- replay | grep -qx 0v1
 echo "rust/forgeni: its archive builds by itself, and its tests pass"
 
+python3 "$top/.ci/usize.py" "$PWD"
 RUSTDOCFLAGS="-D warnings" debian doc --no-deps --features serde,rayon
 debian build --no-default-features --features serde
 lints() {

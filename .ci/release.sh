@@ -11,7 +11,7 @@ git clone -q "$top" "$room/clone"
 cd "$room/clone"
 git config user.name release
 git config user.email release@localhost
-export CARGO_TARGET_DIR=$room/target
+export CARGO_TARGET_DIR=$room/target FORGENI_TARGETS=$room/targets
 
 # refuses WHY WORDS..: with these words it ends with 1, says so, and makes no file.
 refuses() {
@@ -34,6 +34,9 @@ grep -q "^## $version" CHANGELOG.md || {
     refuses 'not committed' "$version" "$room/none"
     git commit -qam "Version $version"
 }
+refuses "all hasn't passed" "$version" "$room/none"
+mkdir "$FORGENI_TARGETS"
+git rev-parse HEAD:rust >"$FORGENI_TARGETS/passed"
 ./release.sh "$version" "$room/one" >/dev/null
 refuses 'has files' "$version" "$room/one"
 refuses 'no section 9.9.9' 9.9.9 "$room/none"

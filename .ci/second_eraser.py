@@ -52,7 +52,7 @@ IMPORTS = named(
 ASSOCIATED = named(
     "Arc: new try_clone try_unwrap; BTreeMap: new; Badge: blank; Buffer: new; NonZeroU32: new; NonZeroU64: MIN new; Table: of_words;"
     "SmallVec: new with_capacity; Vec: new with_capacity; fmt: Debug Display Formatter Result; i64: from; mem: replace; slice: Iter;"
-    "u16: from_le_bytes; u32: MAX from from_le_bytes; u64: from from_le_bytes; usize: from"
+    "u16: from_le_bytes; u32: MAX from from_le_bytes; u64: from from_le_bytes; usize: from try_from"
 )
 PRELUDE = set(
     "Some None Ok Err Option Result Vec Self self Iterator DoubleEndedIterator ExactSizeIterator From Into Default Copy Clone Send Sync Fn "

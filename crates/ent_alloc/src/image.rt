@@ -354,9 +354,10 @@ impl Entities {
         let Some(requests) = requests_of(header.asked, header.reserved, available) else {
             return Err(ImageFault::Requests);
         };
-        if slots.len() != SLOT * header.made as usize {
+        let bytes_of_slots = SLOT as u64 * u64::from(header.made);
+        if slots.len() as u64 != bytes_of_slots {
             return Err(ImageFault::Length {
-                expected: (HEADER + SLOT * header.made as usize) as u64,
+                expected: HEADER as u64 + bytes_of_slots,
             });
         }
         let slots = Slots::read_image(alloc, limits, header.made, header.waiting, slots)?;

@@ -4,3 +4,4 @@ pub mod Birth
 pub mod Component
 pub mod Text
 pub mod NonZero
+pub mod HandedBack

@@ -38,6 +38,7 @@ pub use Rattle.std.specs.Vec.Iter.{into_iter_items, into_iter_len}
 pub use Rattle.std.specs.declared.cmp.Ordering.TheVariants.{Equal, Greater, Less}
 pub use Rattle.ent_handle.specs.Birth.{birth_cmp, birth_cmp_total}
 pub use Rattle.ent_handle.specs.Component.{component_cmp, component_cmp-IsAntisymmetric, component_cmp_total}
+pub use Rattle.ent_handle.specs.HandedBack.{HandedBack}
 pub use Rattle.ent_handle.specs.Handle.{Handle, handle_cmp, handle_cmp-IsAntisymmetric, handle_cmp-IsAntisymmetric as same, handle_cmp_total, handle_cmp_total as total, handle_eq}
 pub use Rattle.ent_handle.specs.declared.birth.Birth.{Birth}
 pub use Rattle.ent_handle.specs.declared.component.ComponentId.{ComponentId}
@@ -63,7 +64,7 @@ pub use Rattle.ent_storage.specs.SparseMap.{AreCloned, AreEntries, IsEntryClone,
 pub use Rattle.ent_storage.specs.SparseSet.{Column, Fits, HasRoomAt, HasRoomFor, IsDense, IsMovedDown, Values, no_column}
 pub use Rattle.ent_storage.specs.declared.handle_map.entry.OccupiedEntry.{OccupiedEntry}
 pub use Rattle.ent_storage.specs.declared.handle_map.error.InsertError.TheVariants.{Later, Memory}
-pub use Rattle.ent_storage.specs.declared.handle_map.error.Uninserted.{Uninserted}
+pub use Rattle.ent_storage.specs.declared.handle_map.error.InsertError.{InsertError}
 pub use Rattle.ent_storage.specs.declared.handle_map.slot.Slot.{Slot}
 pub use Rattle.ent_storage.specs.declared.handle_map.slot.Slot.TheVariants.{Occupied, Vacant}
 pub use Rattle.ent_storage.specs.declared.living.Resident.{Resident}

@@ -1,5 +1,5 @@
 -- The entries of a sparse map and the positions of slots: what they stand for, after each change.
-use Rattle.ent_storage.proofs.Common.{rules, ◌≡◌, ◌≢◌, ℕ, zero, suc, ◌+◌, ◌<◌, ◌≤◌, ◌^◌, true, false, cond, ◌⊎◌, List, [], ◌∷◌, ◌++◌, length, map, set, get_or, Option, Some, None, slice_get, refl, sym, ap, subst, ◌∙◌, arith, is_some, cases_lt, false≢true, nat_tests, length-set, same_Some, some_pair_parts, none-some, slice_get_within, slice_get-get_or, get_or_from_slice_get, eq_by_cmp, Handle, handle_cmp, handle_eq, total, same, HandleValues, HasLater, without_slot, error_of, AllZip, Later, Memory, Uninserted, values_of, IsPositioned, AreEntries, IsEntryClone, AreCloned, Result, Ok, Err, OnErr, IfOk, IfErr, fin_get, fin_insert, fin_len, fin_remove, IsFreeSlot as IsFree}
+use Rattle.ent_storage.proofs.Common.{rules, ◌≡◌, ◌≢◌, ℕ, zero, suc, ◌+◌, ◌<◌, ◌≤◌, ◌^◌, true, false, cond, ◌⊎◌, List, [], ◌∷◌, ◌++◌, length, map, set, get_or, Option, Some, None, slice_get, refl, sym, ap, subst, ◌∙◌, arith, is_some, cases_lt, false≢true, nat_tests, length-set, same_Some, some_pair_parts, none-some, slice_get_within, slice_get-get_or, get_or_from_slice_get, eq_by_cmp, Handle, handle_cmp, handle_eq, total, same, HandleValues, HasLater, without_slot, error_of, AllZip, Later, Memory, HandedBack, InsertError, values_of, IsPositioned, AreEntries, IsEntryClone, AreCloned, Result, Ok, Err, OnErr, IfOk, IfErr, fin_get, fin_insert, fin_len, fin_remove, IsFreeSlot as IsFree}
 use Rattle.ent_storage.proofs.ElementsAt.{at_set, at_set_same, at_set_other, at_push_before, at_push_end, same_option, at_pushed, IsFilled, IsOnce, entry_at, has_entry, len_once, values_set, values_taken}
 use Rattle.ent_storage.proofs.Entries.{is_put}
 use Rattle.ent_storage.proofs.Keys.{some_value, same_or_apart, tied, apart, few_apart}
@@ -203,10 +203,10 @@ on_err_never (Ok a) Q P never = tt
 on_err_never (Err e) Q P never = λ q. absurd (never q)
 
 module _ {X : Type 0} where
-  pub before_none : (r : Result (Option X) (Uninserted X)) (o : Option X) → o ≡ None → IfOk r (λ b. b ≡ None)
+  pub before_none : (r : Result (Option X) (HandedBack X InsertError)) (o : Option X) → o ≡ None → IfOk r (λ b. b ≡ None)
       → IfOk r (λ b. b ≡ o)
   before_none r o none is = search rules
 
-  pub not_later : (r : Result (Option X) (Uninserted X)) → IfErr r (λ refused. refused.error ≡ Memory)
+  pub not_later : (r : Result (Option X) (HandedBack X InsertError)) → IfErr r (λ refused. refused.error ≡ Memory)
       → error_of r ≡ Some Later → ⊥
   not_later r m e = search (rules, none-some, same_Some)

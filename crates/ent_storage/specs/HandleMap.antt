@@ -7,9 +7,9 @@ use Rattle.std.proofs.Common.{ap, ◌∙◌}
 use Rattle.std.specs.Option.{IsSome}
 use Rattle.std.specs.Coded.{Coded, code_by, coded×, coded_ℕ}
 use Rattle.std.specs.FinMap as map
+use Rattle.ent_handle.specs.HandedBack.{HandedBack}
 use Rattle.ent_handle.specs.Handle.{Handle, handle_cmp, handle_cmp_total, handle_code}
 use Rattle.ent_storage.specs.declared.handle_map.error.InsertError.{InsertError}
-use Rattle.ent_storage.specs.declared.handle_map.error.Uninserted.{Uninserted}
 
 -- a value for each of some handles
 abbrev pub HandleValues : Type 0 → Type 0
@@ -68,6 +68,6 @@ module _ {T : Type 0} where
       ∙ ap (λ same. cond same (Some value) (map.get m.values h)) (same_handle h))
 
   -- why a value was not inserted
-  abbrev pub error_of : {A : Type 0} → Result A (Uninserted T) → Option InsertError
+  abbrev pub error_of : {A : Type 0} → Result A (HandedBack T InsertError) → Option InsertError
   error_of (Ok _) = None
   error_of (Err refused) = Some refused.error

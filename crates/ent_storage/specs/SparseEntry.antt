@@ -3,6 +3,7 @@ use Rattle.std.specs.Prelude.{◌≡◌, ◌≤◌, ◌↔◌, Option, Result, N
 use Rattle.std.specs.Borrow.{Fml, RattleType, MutBor, LendsSoOk, follows}
 use Rattle.std.specs.FinMap as map
 use mir.Syntax.{named}
+use Rattle.ent_handle.specs.HandedBack.{HandedBack}
 use Rattle.ent_handle.specs.Handle.{Handle}
 use Rattle.ent_storage.specs.HandleMap.{HasLater, IsBeyond, without_slot}
 use Rattle.ent_storage.specs.SparseMap.{SparseMap, IsFullFor, HasNone, with_written_in, some_written}
@@ -10,7 +11,6 @@ use Rattle.ent_storage.specs.declared.sparse_map.entry.Entry.{Entry}
 pub use Rattle.ent_storage.specs.declared.sparse_map.entry.Entry.TheVariants.{Occupied, Vacant}
 use Rattle.ent_storage.specs.declared.sparse_map.entry.OccupiedEntry.{OccupiedEntry}
 use Rattle.ent_storage.specs.declared.handle_map.error.InsertError as why
-use Rattle.ent_storage.specs.declared.handle_map.error.Uninserted.{Uninserted}
 use Rattle.ent_storage.specs.contracts.sparse_map.SparseMap.{the_row}
 use Rattle.ent_storage.specs.contracts.sparse_map.entry.OccupiedEntry as occupied
 
@@ -90,6 +90,6 @@ module _ (T : RattleType) where
 
   -- once the borrow ends, the handle has the last value written through it, and after an error
   -- there may be more room
-  abbrev pub entry_lends : Entry T.Denot → Result (MutBor T.Denot) (Uninserted T.Denot) → Fml
+  abbrev pub entry_lends : Entry T.Denot → Result (MutBor T.Denot) (HandedBack T.Denot why.InsertError) → Fml
   entry_lends e r = LendsSoOk (the_row T) T (entry_ref e) r (λ new value. Gives e value new)
       (λ new. IsRoomier (entry_map e) new)

@@ -22,14 +22,14 @@ mod values;
 
 use crate::handle_map::emptying::move_values;
 pub use crate::handle_map::entry::{Entry, OccupiedEntry, VacantEntry};
-pub use crate::handle_map::error::{InsertError, Uninserted};
+pub use crate::handle_map::error::InsertError;
 pub use crate::handle_map::iter::Iter;
 pub use crate::handle_map::keys::Keys;
 use crate::handle_map::retaining::retain_slots;
 use crate::handle_map::slot::{Slot, append_clones, make_slot};
 pub use crate::handle_map::values::Values;
 use crate::limit::Limit;
-use ent_handle::{Handle, Memory};
+use ent_handle::{HandedBack, Handle, Memory};
 use std::alloc::Global;
 use std::marker::Model;
 use std::mem;
@@ -189,7 +189,7 @@ impl<T> HandleMap<T> {
     /// map.insert(third, "c")?;
     /// map.set_limit(3);
     /// assert_eq!((map.limit(), map.get(third)), (3, Some(&"c")));
-    /// assert_eq!(map.insert(fourth, "d").unwrap_err().error, InsertError::Limit);
+    /// assert_eq!(*map.insert(fourth, "d").unwrap_err().error(), InsertError::Limit);
     /// # Ok::<(), Box<dyn std::error::Error + Send + Sync>>(())
     /// ```
     pub fn set_limit(&mut self, limit: u32)
@@ -400,13 +400,17 @@ impl<T: Drop> HandleMap<T> {
     ///
     /// # Errors
     ///
-    /// [`Uninserted`] has the value, and nothing has changed. The first that holds is the reason:
+    /// [`HandedBack`] has the value, and nothing has changed. The first that holds is the reason:
     ///
     /// - `Limit`: the handle's slot is at or above the [`limit`](Self::limit), or the handle is
     ///   [`Handle::PLACEHOLDER`], which no map takes.
     /// - `Later`: a later occupant of the slot has a value.
     /// - `Memory`: memory ran out.
-    pub fn insert(&mut self, handle: Handle, value: T) -> Result<Option<T>, Uninserted<T>>
+    pub fn insert(
+        &mut self,
+        handle: Handle,
+        value: T,
+    ) -> Result<Option<T>, HandedBack<T, InsertError>>
         ensures ok { OnOk result (self.new.values
             ≡ map.insert (without_slot self.old.values handle.index) handle value) }
         ensures before { IfOk result (λ before. before ≡ map.get self.old.values handle) }
@@ -423,24 +427,15 @@ impl<T: Drop> HandleMap<T> {
         ensures err { OnErr result (self.new ≡ self.old) }
     {
         if self.limit.refuses(handle) {
-            return Err(Uninserted {
-                value,
-                error: InsertError::Limit,
-            });
+            return Err(HandedBack::new(value, InsertError::Limit));
         }
         let index = index_of(handle);
         let standing = generation_in(&self.slots, index);
         if handle.generation() < standing {
-            return Err(Uninserted {
-                value,
-                error: InsertError::Later,
-            });
+            return Err(HandedBack::new(value, InsertError::Later));
         }
         let Ok(()) = make_slot(&mut self.slots, index) else {
-            return Err(Uninserted {
-                value,
-                error: InsertError::Memory,
-            });
+            return Err(HandedBack::new(value, InsertError::Memory));
         };
         let before = mem::replace(&mut self.slots[index], Slot::of(handle, value));
         self.len += before.lacking();

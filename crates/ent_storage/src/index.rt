@@ -196,7 +196,7 @@ impl Index {
     pub fn room(&self) -> usize
         ensures { result ≡ self.now.room }
     {
-        self.pairs.capacity().min(MOST_PLACES)
+        (self.pairs.capacity() as u64).min(MOST_PLACES) as usize
     }
 
     /// Makes room for `count` handles in all, and for `more` if there is memory for that. With that
@@ -223,7 +223,7 @@ impl Index {
         ensures succeeds { count ≤ self.old.room → IsOk result }
     {
         let additional = count.saturating_sub(self.pairs.len());
-        if count > MOST_PLACES {
+        if count as u64 > MOST_PLACES {
             return Err(AllocError);
         }
         self.pairs.reserve(additional)

@@ -15,13 +15,13 @@ mod entry;
 mod iter;
 mod positions;
 
-use crate::handle_map::{InsertError, Uninserted, index_of};
+use crate::handle_map::{InsertError, index_of};
 use crate::limit::Limit;
 use crate::lists::overwrite;
 pub use crate::sparse_map::entry::{Entry, OccupiedEntry, VacantEntry};
 pub use crate::sparse_map::iter::Iter;
 use crate::sparse_map::positions::{make_position, position_of};
-use ent_handle::{Handle, Memory};
+use ent_handle::{HandedBack, Handle, Memory};
 use std::alloc::{AllocError, Global};
 use std::marker::Model;
 use std::mem;
@@ -296,7 +296,7 @@ impl<T: Drop> SparseMap<T> {
     ///
     /// # Errors
     ///
-    /// [`Uninserted`] has the value, and no value of the map has changed. The first that holds is
+    /// [`HandedBack`] has the value, and no value of the map has changed. The first that holds is
     /// the reason:
     ///
     /// - `Limit`: the handle's slot is at or above the [`limit`](Self::limit), or the handle is
@@ -304,7 +304,11 @@ impl<T: Drop> SparseMap<T> {
     /// - `Later`: a later occupant of the slot has a value.
     /// - `Memory`: memory ran out, and no occupant of the slot has a value. There may be more room
     ///   than before.
-    pub fn insert(&mut self, handle: Handle, value: T) -> Result<Option<T>, Uninserted<T>>
+    pub fn insert(
+        &mut self,
+        handle: Handle,
+        value: T,
+    ) -> Result<Option<T>, HandedBack<T, InsertError>>
         ensures ok { OnOk result (self.new.values
             ≡ map.insert (without_slot self.old.values handle.index) handle value) }
         ensures before { IfOk result (λ before. before ≡ map.get self.old.values handle) }
@@ -324,10 +328,7 @@ impl<T: Drop> SparseMap<T> {
         ensures err { OnErr result (self.new.values ≡ self.old.values) }
     {
         if self.limit.refuses(handle) {
-            return Err(Uninserted {
-                value,
-                error: InsertError::Limit,
-            });
+            return Err(HandedBack::new(value, InsertError::Limit));
         }
         put(&mut self.entries, &mut self.positions, handle, value)
     }
@@ -493,7 +494,7 @@ fn put<T: Drop>(
     positions: &mut Vec<u32>,
     handle: Handle,
     value: T,
-) -> Result<Option<T>, Uninserted<T>>
+) -> Result<Option<T>, HandedBack<T, InsertError>>
     requires positioned { IsPositioned entries.old.items positions.old.items }
     ensures positioned { IsPositioned entries.new.items positions.new.items }
     ensures ok { OnOk result (values_of entries.new.items
@@ -518,10 +519,7 @@ fn put<T: Drop>(
         return add(entries, positions, handle, value);
     };
     if handle.generation() < entries[position].0.generation() {
-        return Err(Uninserted {
-            value,
-            error: InsertError::Later,
-        });
+        return Err(HandedBack::new(value, InsertError::Later));
     }
     let (standing, before) = mem::replace(&mut entries[position], (handle, value));
     if standing == handle {
@@ -537,7 +535,7 @@ fn add<T: Drop>(
     positions: &mut Vec<u32>,
     handle: Handle,
     value: T,
-) -> Result<Option<T>, Uninserted<T>>
+) -> Result<Option<T>, HandedBack<T, InsertError>>
     requires in_range { handle.index < 2 ^ 32 - 1 }
     requires positioned { IsPositioned entries.old.items positions.old.items }
     requires free { IsFree entries.old.items handle.index }
@@ -555,10 +553,7 @@ fn add<T: Drop>(
 {
     let index = handle.index() as usize;
     if make_position(positions, index).is_err() || entries.reserve(1).is_err() {
-        return Err(Uninserted {
-            value,
-            error: InsertError::Memory,
-        });
+        return Err(HandedBack::new(value, InsertError::Memory));
     }
     positions[index] = entries.len() as u32;
     entries.push_reserved((handle, value));

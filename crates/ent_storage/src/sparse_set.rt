@@ -162,7 +162,8 @@ impl SparseSet {
     pub fn has_room(&self, place: usize) -> bool
         ensures { IsTrue result → HasRoomAt self.now place }
     {
-        self.dense.len() < self.dense.capacity().min(MOST_PLACES) && place < self.sparse.len()
+        (self.dense.len() as u64) < (self.dense.capacity() as u64).min(MOST_PLACES)
+            && place < self.sparse.len()
     }
 
     /// Makes room for a value of the place. After an `Err` the values are as before.
@@ -171,7 +172,7 @@ impl SparseSet {
         ensures ok { OnOk result (HasRoomAt self.new place) }
         ensures kept { HasRoomAt self.old place → HasRoomAt self.new place }
     {
-        if self.dense.len() >= MOST_PLACES {
+        if self.dense.len() as u64 >= MOST_PLACES {
             return Err(AllocError);
         }
         self.dense.reserve(1)?;

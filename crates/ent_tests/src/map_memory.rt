@@ -1,7 +1,7 @@
 //! Maps by handle that run out of memory.
 
 use ent_handle::Handle;
-use ent_storage::handle_map::{HandleMap, InsertError, Uninserted};
+use ent_storage::handle_map::{HandleMap, InsertError};
 use std::alloc::Global;
 use std::process::Abort;
 
@@ -38,7 +38,8 @@ fn with_capacity_at_last(rt: &impl Abort, alloc: Global) -> HandleMap<u32> {
 
 fn insert_at_last(rt: &impl Abort, numbers: &mut HandleMap<u32>, index: u32) {
     let (len, capacity) = (numbers.len(), numbers.capacity());
-    if let Err(Uninserted { value, error }) = numbers.insert(handle(rt, index), index) {
+    if let Err(refused) = numbers.insert(handle(rt, index), index) {
+        let (value, error) = refused.into_parts();
         assert!(rt; error == InsertError::Memory && value == index);
         assert!(rt; numbers.len() == len && numbers.capacity() == capacity);
         assert!(rt; numbers.insert(handle(rt, index), index).is_ok());

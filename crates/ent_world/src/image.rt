@@ -234,10 +234,14 @@ impl World {
         ensures room { OnOk result (vec_len out.new + extra ≤ vec_capacity out.new) }
     {
         let width = self.storage.width();
-        let part = ALLOCATOR + SLOT * self.entities.total() as usize;
-        let rest = 4 + self.entities.len() as usize * (16 + 9 * width as usize);
-        out.reserve(HEADER + part + rest + extra as usize)?;
-        write_header(self.phase, part as u64, out);
+        let part = ALLOCATOR as u64 + SLOT as u64 * u64::from(self.entities.total());
+        let rest = 4 + u64::from(self.entities.len()) * (16 + 9 * u64::from(width));
+        let all = HEADER as u64 + part + rest + u64::from(extra);
+        let Ok(all) = usize::try_from(all) else {
+            return Err(Memory);
+        };
+        out.reserve(all)?;
+        write_header(self.phase, part, out);
         self.entities.write_image_without_rows(out);
         write_word(out, width);
         write_entities(

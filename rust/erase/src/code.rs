@@ -3,6 +3,8 @@
 use crate::forms::{self, Forms, Import, Renamed};
 use crate::items::Scope;
 use crate::lex::Kind;
+use crate::memory::{fields, owners};
+use crate::names::header;
 use crate::source::Fault;
 use crate::walk::{Next, Walk};
 
@@ -376,9 +378,39 @@ impl Walk<'_> {
                 return Ok(at + 1);
             }
         }
+        if name == "fmt" && self.is_of_a_parameter(at) {
+            return Ok(at + 1);
+        }
         Err(self
             .source
             .fault(at, format!("an unknown method, or form of it: `{name}`")))
+    }
+
+    /// Whether `self.FIELD.fmt(f)` at its `fmt` writes a field whose type is a parameter of the `impl`, bounded by
+    /// the trait that this implements. So no other `fmt` is looked at.
+    fn is_of_a_parameter(&self, at: usize) -> bool {
+        let source = self.source;
+        if at < 5 || !source.has(at - 4, &["self", "."]) {
+            return false;
+        }
+        let field = source.at(at - 2);
+        let own = owners(source)
+            .into_iter()
+            .find(|(range, _)| range.contains(&at));
+        let Some((range, of)) = own else { return false };
+        let Ok(Some(implemented)) = header(source, range.start).map(|it| it.implemented) else {
+            return false;
+        };
+        let is_bounded = |parameter: &str| {
+            let bound = [parameter, ":", "fmt", "::", implemented];
+            let is_only = |at: usize| source.has(at, &bound) && source.at(at + 5) != "+";
+            range.clone().any(is_only)
+        };
+        let mut fields = fields(source).into_iter();
+        fields.any(|(owner, name)| {
+            let is_field = source.at(owner) == of && source.at(name) == field;
+            is_field && source.at(name + 3) == "," && is_bounded(source.at(name + 2))
+        })
     }
 
     /// An import from the kit goes to the top of the file, so a module within the file must have none.

@@ -20,8 +20,8 @@ const FRAMES: usize = 20;
 
 /// How far from the port it is, and how far it flies in a frame.
 #[derive(Debug)]
-struct Body {
-    place: i32,
+pub struct Body {
+    pub place: i32,
     speed: i32,
 }
 
@@ -35,12 +35,12 @@ struct Tank {
 /// The components of all entities, and what has happened to them. Ships alone have a name and
 /// drones, and drones alone have a ship.
 #[derive(Default)]
-struct Parts {
-    bodies: HandleMap<Body>,
+pub struct Parts {
+    pub bodies: HandleMap<Body>,
     tanks: HandleMap<Tank>,
     names: HandleMap<String>,
     drones: HandleMap<Vec<Handle>>,
-    ships: HandleMap<Handle>,
+    pub ships: HandleMap<Handle>,
     events: Vec<Event>,
 }
 
@@ -61,9 +61,9 @@ enum Command {
 }
 
 #[derive(Default)]
-struct Game {
+pub struct Game {
     entities: Entities,
-    parts: Parts,
+    pub parts: Parts,
     /// How often each event happened.
     score: [usize; 2],
 }
@@ -94,8 +94,11 @@ fn stage(
             taken.try_for_each(|(system, log)| system(log, reserver))
         };
         thread::scope(|scope| {
+            // This thread works too, so a game on one thread starts none.
+            let (own, others) = reservers.split_first_mut().expect("a thread");
             let start = |reserver| scope.spawn(|| work(reserver));
-            let running: Vec<_> = reservers.iter_mut().map(start).collect();
+            let running: Vec<_> = others.iter_mut().map(start).collect();
+            work(own)?;
             let mut running = running.into_iter();
             running.try_for_each(|thread| thread.join().expect("no panic"))
         })
@@ -104,7 +107,7 @@ fn stage(
 }
 
 impl Game {
-    fn new() -> Result<Self, Box<dyn Error>> {
+    pub fn new() -> Result<Self, Box<dyn Error>> {
         let (mut game, mut log) = (Self::default(), Log::new());
         for number in 0..SHIPS {
             let ship = log.spawn(&mut game.entities)?;
@@ -117,7 +120,7 @@ impl Game {
         game.sync(vec![log]).map(|()| game)
     }
 
-    fn frame(&mut self, threads: usize) -> Result<(), Box<dyn Error>> {
+    pub fn frame(&mut self, threads: usize) -> Result<(), Box<dyn Error>> {
         let (all, score) = (&mut self.parts, &mut self.score);
         let events = all.events.drain(..);
         let systems: [System<'_>; 4] = [
@@ -222,7 +225,7 @@ impl Parts {
     }
 
     /// A number made of all components by FNV-1a, whatever handles their entities have.
-    fn digest(&self) -> u64 {
+    pub fn digest(&self) -> u64 {
         let digests = self.bodies.iter().map(|(one, body)| {
             let (tank, name) = (&self.tanks[one], self.names.get(one));
             let drones = self.drones.get(one).map(Vec::len);

@@ -1,16 +1,11 @@
 //! Frames: systems run on workers over one world or one allocator, and a sync point takes what they issued.
 
 use crate::errors::fails;
+use crate::guarding::{caught, guarded};
 use crate::proved::ent_runner::NoGate;
 use crate::proved::ent_total;
-use crate::{Entities, Handle, Log, LogCommands, LogSystem, OutOfMemory, Report};
-use crate::{SyncPoint, System, SystemCommands, View, World};
-use alloc::boxed::Box;
+use crate::{Entities, Handle, Log, LogSystem, Report, SyncPoint, System, World};
 use alloc::vec::Vec;
-use core::any::Any;
-use core::mem;
-use std::panic::{catch_unwind, resume_unwind, AssertUnwindSafe};
-use std::sync::{Mutex, PoisonError};
 
 pub use crate::kit::thread::{StdThreads, Threads as Join};
 pub use crate::proved::ent_block_runner::{run_in_blocks, RunError, Unrun};
@@ -34,9 +29,10 @@ pub use crate::proved::ent_total::{FrameError, LogError, Unbegun, Unframed};
 ///   late depends on the workers;
 /// - no allocation fails;
 /// - nothing depends on handles: no system compares them or keeps them as values, and no two entities have
-///   the same birth. [`View::by_birth`] and [`View::with`] list entities of one birth by handle.
-///   [`World::spawn`] gives each entity a birth of its own. [`World::spawn_with_birth`] may not, and a
-///   [`World::flush`] after a lost frame begins with the births that `World::spawn` gave in that phase.
+///   the same birth. [`View::by_birth`](crate::View::by_birth) and [`View::with`](crate::View::with)
+///   list entities of one birth by handle. [`World::spawn`] gives each entity a birth of its own.
+///   [`World::spawn_with_birth`] may not, and a [`World::flush`] after a lost frame begins with the births
+///   that `World::spawn` gave in that phase.
 ///
 /// ```
 /// use forgeni::{run_frame, ComponentId, OutOfMemory, SystemCommands, View, World};
@@ -80,12 +76,14 @@ pub use crate::proved::ent_total::{FrameError, LogError, Unbegun, Unframed};
 ///
 /// If a system panics, its panic is handed on when all workers have ended, and the world is as it
 /// is after [`Lost`](FrameError::Lost). If several systems panic, the panic of the first one in the
-/// order of the systems is handed on.
+/// order of the systems is handed on. Without the feature `std` a panic can't be caught: the world is
+/// dropped, and an empty one is in its place.
 ///
 /// # Aborts
 ///
 /// With more than one worker, threads are started as [`std::thread::scope`] starts them. If memory
-/// for that runs out, it ends the process.
+/// for that runs out, it ends the process. Without the feature `std`, and where no thread can be started,
+/// as on `wasm32-unknown-unknown`, the caller's thread does all the work.
 pub fn run_frame<S: System + Sync>(
     world: &mut World,
     systems: &[S],
@@ -153,6 +151,7 @@ pub fn run_frame_on<J: Join + Sync, S: System + Sync>(
 /// Closures are systems, and so are those in a `Mutex` that change what they borrow:
 ///
 /// ```
+/// # #[cfg(feature = "std")] {
 /// use forgeni::{run_logs, Entities, Handle, HandleMap, LogCommands, OutOfMemory, SyncPoint};
 /// use forgeni::Entry::{Command, Spawn};
 /// use std::sync::Mutex;
@@ -180,6 +179,7 @@ pub fn run_frame_on<J: Join + Sync, S: System + Sync>(
 ///     Ok(())
 /// })?;
 /// assert_eq!((names[born[0]], calls), ("cart", 1));
+/// # }
 /// # Ok::<(), Box<dyn std::error::Error>>(())
 /// ```
 ///
@@ -196,7 +196,8 @@ pub fn run_frame_on<J: Join + Sync, S: System + Sync>(
 ///
 /// If a system panics, its panic is handed on when all workers have ended, and the allocator is as it is
 /// after [`Lost`](LogError::Lost). If several systems panic, the panic of the first one in the order of
-/// the systems is handed on.
+/// the systems is handed on. Without the feature `std` a panic can't be caught: the allocator is dropped,
+/// and an empty one is in its place.
 ///
 /// If a command panics when the logs are dropped, and no system did, that panic is handed on. The allocator is
 /// in its place before the first command is dropped.
@@ -292,90 +293,4 @@ pub fn run_to_sync_point<J: Join + Sync, C: Send, S: LogSystem<C> + Sync>(
 fails! {
     finish_non_exhaustive;
     Unbegun<C>: error;
-}
-
-/// Calls `run` with a `Join` and systems whose panics don't leave them, and hands the first panic on. If
-/// there is no memory to guard the systems, it returns that error. What `run` returns may be a panic itself:
-/// that of a command which was dropped. A world or an allocator is in its place by then.
-fn guarded<J, S, T, E>(
-    join: &J,
-    systems: &[S],
-    memory: E,
-    run: impl FnOnce(&Guarded<'_, J>, &[Guarded<'_, S>]) -> Result<Result<T, E>, Panic>,
-) -> Result<T, E> {
-    let panics = Panics::default();
-    let mut guarded = Vec::new();
-    if guarded.try_reserve_exact(systems.len()).is_err() {
-        return Err(memory);
-    }
-    let numbered = systems.iter().enumerate();
-    guarded.extend(numbered.map(|(number, system)| Guarded(system, number, &panics)));
-    let ran = run(&Guarded(join, usize::MAX, &panics), &guarded);
-    if let Some(panic) = first(panics) {
-        drop_quietly(ran);
-        resume_unwind(panic);
-    }
-    ran.unwrap_or_else(|panic| resume_unwind(panic))
-}
-
-/// What a panic was raised with.
-type Panic = Box<dyn Any + Send>;
-
-/// The panics of a frame, each with the number of its system. A panic may panic when it is dropped, so all
-/// are kept until the world is back.
-type Panics = Mutex<Vec<(usize, Panic)>>;
-
-/// The panic of the first system that had one, if one had.
-fn first(panics: Panics) -> Option<Panic> {
-    let mut panics = panics.into_inner().unwrap_or_else(PoisonError::into_inner);
-    let first = (0..panics.len()).min_by_key(|at| panics[*at].0)?;
-    let (_, first) = panics.swap_remove(first);
-    panics.into_iter().for_each(drop_quietly);
-    Some(first)
-}
-
-/// What the closure returns, or its panic. Nothing that a panic leaves half done is looked at.
-fn caught<T>(run: impl FnOnce() -> T) -> Result<T, Panic> {
-    catch_unwind(AssertUnwindSafe(run))
-}
-
-/// Drops the value. If that panics, the panic is leaked, since dropping it may panic too.
-fn drop_quietly<T>(value: T) {
-    caught(|| drop(value)).unwrap_or_else(mem::forget);
-}
-
-/// A system or a `Join` whose panics don't leave it: the proved code that calls it knows none. With it is the
-/// number of the system, where a `Join` comes after all of them, and where the panics are kept.
-struct Guarded<'a, T>(&'a T, usize, &'a Panics);
-
-impl<T> Guarded<'_, T> {
-    /// Calls the closure. If it panics, the panic is kept, and this is returned.
-    fn run<R>(&self, run: impl FnOnce() -> R, panicked: R) -> R {
-        caught(run).unwrap_or_else(|panic| {
-            let mut panics = self.2.lock().unwrap_or_else(PoisonError::into_inner);
-            panics.push((self.1, panic));
-            panicked
-        })
-    }
-}
-
-impl<S: System> System for Guarded<'_, S> {
-    /// A system that panics has stopped, like one that ran out of memory: the frame is lost, and the
-    /// world is closed with what was reserved.
-    fn run(&self, view: &View<'_>, commands: &mut SystemCommands<'_>) -> Result<(), OutOfMemory> {
-        self.run(|| self.0.run(view, commands), Err(OutOfMemory))
-    }
-}
-
-/// The same of a system that fills a log.
-impl<C, S: LogSystem<C>> LogSystem<C> for Guarded<'_, S> {
-    fn run(&self, commands: &mut LogCommands<'_, C>) -> Result<(), OutOfMemory> {
-        self.run(|| self.0.run(commands), Err(OutOfMemory))
-    }
-}
-
-impl<J: Join> Join for Guarded<'_, J> {
-    fn join(&self, first: &mut (dyn FnMut() + Send), second: &mut (dyn FnMut() + Send)) {
-        self.run(|| self.0.join(first, second), ());
-    }
 }

@@ -1,20 +1,20 @@
 //! Values of any type, by handle. What is proved of them is in the contracts of [`HandleMap`]; here are
 //! the traits of std, and the calls that end the process when memory runs out, as those of `Vec` do.
 
-use crate::errors::fails;
+use crate::errors::HandedBack;
 use crate::handle::Handle;
+use crate::shown::walks;
 use alloc::alloc::handle_alloc_error;
 use alloc::vec;
 use core::alloc::Layout;
 use core::fmt;
 use core::hash::{Hash, Hasher};
-use core::iter::FusedIterator;
 use core::ops::{Index, IndexMut};
 
 use crate::proved::ent_storage::sparse_map::{Iter as SparseIter, SparseMap};
 
 pub use crate::proved::ent_storage::handle_map::{Entry, HandleMap, InsertError, Iter, Keys};
-pub use crate::proved::ent_storage::handle_map::{OccupiedEntry, Uninserted, VacantEntry, Values};
+pub use crate::proved::ent_storage::handle_map::{OccupiedEntry, VacantEntry, Values};
 pub use crate::several::SlotsMut;
 
 /// Ends the process as `Vec` does: there is no memory for a value, and the caller can't return an error.
@@ -63,7 +63,7 @@ macro_rules! traits_of_a_map {
             ///
             /// # Errors
             ///
-            /// [`Uninserted`] has that value, as [`insert`](Self::insert) hands it back.
+            /// [`HandedBack`] has that value, as [`insert`](Self::insert) hands it back.
             #[inline]
             pub fn get_or_insert_with(
                 &mut self,
@@ -161,7 +161,7 @@ macro_rules! traits_of_a_map {
             fn extend<I: IntoIterator<Item = (Handle, T)>>(&mut self, values: I) {
                 for (handle, value) in values {
                     let refused = self.insert(handle, value).err();
-                    if refused.is_some_and(|refused| refused.error == InsertError::Memory) {
+                    if refused.is_some_and(|refused| refused.error() == &InsertError::Memory) {
                         out_of_memory::<T>();
                     }
                 }
@@ -184,14 +184,6 @@ macro_rules! traits_of_a_map {
             #[inline]
             fn into_iter(self) -> $Iter<'a, T> {
                 self.iter()
-            }
-        }
-
-        impl<T> FusedIterator for $Iter<'_, T> {}
-
-        impl<T: fmt::Debug> fmt::Debug for $Iter<'_, T> {
-            fn fmt(&self, out: &mut fmt::Formatter<'_>) -> fmt::Result {
-                out.debug_map().entries(self.clone()).finish()
             }
         }
     };
@@ -219,37 +211,23 @@ impl<T> IntoIterator for HandleMap<T> {
     }
 }
 
-impl<T> FusedIterator for Keys<'_, T> {}
+walks!(debug_map: Iter<'_, T>, T: fmt::Debug);
+walks!(debug_map: SparseIter<'_, T>, T: fmt::Debug);
+walks!(debug_list: Keys<'_, T>, T);
+walks!(debug_list: Values<'_, T>, T: fmt::Debug);
 
-impl<T> FusedIterator for Values<'_, T> {}
+/// The value that a map refused, and why.
+pub type Uninserted<T> = HandedBack<T, InsertError>;
 
-impl<T> fmt::Debug for Keys<'_, T> {
-    fn fmt(&self, out: &mut fmt::Formatter<'_>) -> fmt::Result {
-        out.debug_list().entries(self.clone()).finish()
-    }
-}
-
-impl<T: fmt::Debug> fmt::Debug for Values<'_, T> {
-    fn fmt(&self, out: &mut fmt::Formatter<'_>) -> fmt::Result {
-        out.debug_list().entries(self.clone()).finish()
-    }
-}
-
-// Without the value, which need not be one that can be printed.
-fails! {
-    finish_non_exhaustive;
-    Uninserted<T>: error;
-}
-
-impl<T: Hash> Hash for Uninserted<T> {
+impl<T: Hash, E: Hash> Hash for HandedBack<T, E> {
     fn hash<H: Hasher>(&self, state: &mut H) {
-        (&self.value, self.error).hash(state);
+        (self.value(), self.error()).hash(state);
     }
 }
 
 /// Drops the value.
 impl<T> From<Uninserted<T>> for InsertError {
     fn from(refused: Uninserted<T>) -> Self {
-        refused.error
+        refused.into_parts().1
     }
 }

@@ -3,11 +3,9 @@
 #![forbid(unsafe_code)]
 #![deny(missing_docs)]
 
-// The proofs are of sources whose `usize` has 64 bits.
-#[cfg(not(target_pointer_width = "64"))]
-compile_error!(
-    "forgeni is for targets whose usize has 64 bits: its sources are proved for those alone"
-);
+// The words of a phase, of claims and of numbers are an `AtomicU64` each.
+#[cfg(not(target_has_atomic = "64"))]
+compile_error!("forgeni needs atomic words of 64 bits, which this target lacks");
 
 extern crate alloc;
 #[cfg(any(feature = "std", test))]
@@ -21,8 +19,12 @@ mod component;
 mod drawing;
 mod entities;
 mod errors;
-#[cfg(feature = "std")]
 mod frames;
+#[cfg(feature = "std")]
+mod guarding;
+#[cfg(not(feature = "std"))]
+#[path = "unguarded.rs"]
+mod guarding;
 mod handle;
 mod handle_list;
 pub mod handle_map;
@@ -54,7 +56,6 @@ mod shown;
 pub mod sparse_map;
 mod storage;
 mod sync;
-#[cfg(feature = "std")]
 mod system;
 pub mod trace;
 #[cfg(feature = "std")]
@@ -66,7 +67,6 @@ pub use blocks::*;
 pub use component::{Birth, ComponentId};
 pub use entities::{Entities, Freed, Living, State};
 pub use errors::*;
-#[cfg(feature = "std")]
 pub use frames::*;
 pub use handle::{Handle, ParseHandleError};
 pub use handle_map::{HandleMap, InsertError, Uninserted};
@@ -81,7 +81,6 @@ pub use sharing::{CloseError, OtherPhase, Reserver, ShareError, Shared, Unclosed
 pub use sparse_map::SparseMap;
 pub use storage::{Bundle, Items, Storage, StorageError};
 pub use sync::{Fault, FaultKind, GoOnError, Queues, Report, Stop, Stopped, SyncError};
-#[cfg(feature = "std")]
 pub use system::*;
 pub use world::*;
 pub use world_phase::LentCommands;

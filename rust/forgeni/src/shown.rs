@@ -34,4 +34,17 @@ macro_rules! shows {
     )*};
 }
 
-pub(crate) use shows;
+/// An iterator that is shown as what it has left, by this call, and gives nothing after its end.
+macro_rules! walks {
+    ($shown_by:ident: $name:ty $(, $of:ident $(: $bound:path)?)?) => {
+        impl $(<$of>)? core::iter::FusedIterator for $name {}
+
+        impl $(<$of $(: $bound)?>)? core::fmt::Debug for $name {
+            fn fmt(&self, out: &mut core::fmt::Formatter<'_>) -> core::fmt::Result {
+                out.$shown_by().entries(self.clone()).finish()
+            }
+        }
+    };
+}
+
+pub(crate) use {shows, walks};

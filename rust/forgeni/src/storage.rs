@@ -1,11 +1,10 @@
 //! A storage beside an allocator, and the bundles that entities are given.
 
-use crate::shown::shows;
+use crate::shown::{shows, walks};
 use alloc::alloc::handle_alloc_error;
 use core::alloc::Layout;
 use core::fmt;
 use core::hash::{Hash, Hasher};
-use core::iter::FusedIterator;
 
 pub use crate::proved::ent_queue::Bundle;
 pub use crate::proved::ent_storage::{Items, Storage, StorageFault as StorageError};
@@ -14,13 +13,7 @@ shows! {
     Storage: len;
 }
 
-impl FusedIterator for Items<'_> {}
-
-impl fmt::Debug for Items<'_> {
-    fn fmt(&self, out: &mut fmt::Formatter<'_>) -> fmt::Result {
-        out.debug_map().entries(self.clone()).finish()
-    }
-}
+walks!(debug_map: Items<'_>);
 
 impl Default for Bundle {
     fn default() -> Self {

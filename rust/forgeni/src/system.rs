@@ -4,6 +4,7 @@ use crate::shown::shows;
 use crate::{Log, OutOfMemory, View};
 use alloc::boxed::Box;
 use alloc::sync::Arc;
+#[cfg(feature = "std")]
 use std::sync::{Mutex, PoisonError};
 
 pub use crate::proved::ent_block_runner::{BlockCommands, BlockSystem, SystemInBlocks};
@@ -55,6 +56,7 @@ closures! {
 }
 
 /// A system that changes what it borrows.
+#[cfg(feature = "std")]
 impl<C, F: FnMut(&mut LogCommands<'_, C>) -> Ran> LogSystem<C> for Mutex<F> {
     fn run(&self, commands: &mut LogCommands<'_, C>) -> Ran {
         self.lock().unwrap_or_else(PoisonError::into_inner)(commands)

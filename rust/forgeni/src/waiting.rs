@@ -18,10 +18,11 @@ pub(crate) struct Waiting {
 
 const ROOMS: usize = 16;
 
-/// The numbers of the thread that is served next, and of the one that comes next.
+/// The numbers of the thread that is served next, and of the one that comes next. They never begin again: no
+/// machine counts to 2^64.
 struct Queue {
-    first: usize,
-    next: usize,
+    first: u64,
+    next: u64,
 }
 
 impl Waiting {
@@ -58,7 +59,7 @@ impl Waiting {
             }
             self.overtaken
                 .fetch_or(is_first && woken, Ordering::Relaxed);
-            let slept = self.rooms[own % ROOMS].wait(queue);
+            let slept = self.rooms[own as usize % ROOMS].wait(queue);
             queue = slept.unwrap_or_else(PoisonError::into_inner);
             woken = true;
         };
@@ -87,7 +88,7 @@ impl Waiting {
     fn wake(&self) {
         // A thread that looks holds the queue. While this thread has it, all waiting threads sleep.
         let first = self.queue().first;
-        self.rooms[first % ROOMS].notify_all();
+        self.rooms[first as usize % ROOMS].notify_all();
     }
 
     fn queue(&self) -> MutexGuard<'_, Queue> {

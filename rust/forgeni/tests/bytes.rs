@@ -114,7 +114,7 @@ fn maps_of<T: Copy + Default>(slot: usize) {
 fn maps() {
     maps_of::<u8>(8);
     maps_of::<u32>(8);
-    maps_of::<u64>(16);
+    maps_of::<u64>(8 + align_of::<u64>());
 }
 
 #[test]

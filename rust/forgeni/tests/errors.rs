@@ -2,10 +2,10 @@
 
 use forgeni::{
     Absent, AllocError, CloseError, CommandQueue, Commands, ComponentId, Entities, Fault,
-    FinishError, FreeError, Freed, GoOnError, Handle, HandleMap, ImageFault, InsertError, Lent,
-    Limits, OpenWorld, OtherPhase, OutOfMemory, ParseHandleError, Queues, Refused, Report,
-    ReserveError, Reserver, ShareError, Shared, State, Stop, Stopped, Storage, StorageError,
-    SyncError, Unclosed, Unfinished, Uninserted, Unopened, Unshared, View, World,
+    FinishError, FreeError, Freed, GoOnError, HandedBack, Handle, HandleMap, ImageFault,
+    InsertError, Lent, Limits, OpenWorld, OtherPhase, OutOfMemory, ParseHandleError, Queues,
+    Refused, Report, ReserveError, Reserver, ShareError, Shared, State, Stop, Stopped, Storage,
+    StorageError, SyncError, Unclosed, Unfinished, Unopened, Unshared, View, World,
 };
 use std::error::Error;
 
@@ -22,7 +22,7 @@ fn each_error_travels() {
     travels::<FinishError>();
     travels::<FreeError>();
     travels::<GoOnError>();
-    travels::<Uninserted<String>>();
+    travels::<HandedBack<String, InsertError>>();
     travels::<ImageFault>();
     travels::<InsertError>();
     travels::<ShareError>();

@@ -2,7 +2,7 @@
 //! dropped exactly once. `FORGENI_SEEDS` sets how many seeds are run, `FORGENI_SEED` runs one alone.
 
 use crate::common::{handle, seeds, Numbers};
-use forgeni::{Handle, HandleMap, InsertError, SparseMap};
+use forgeni::{HandedBack, Handle, HandleMap, InsertError, SparseMap};
 use std::cell::Cell;
 use std::collections::{HashMap, HashSet, VecDeque};
 use std::fmt::Debug;
@@ -369,10 +369,7 @@ fn occupants_of_one_slot() {
         refused.to_string(),
         "a later occupant of the slot has a value"
     );
-    let other = forgeni::Uninserted {
-        value: "again",
-        error: InsertError::Memory,
-    };
+    let other = HandedBack::new("again", InsertError::Memory);
     assert_eq!(HashSet::from([refused, other, refused]).len(), 2);
     assert_eq!(refused.into_parts(), ("again", InsertError::Later));
     assert_eq!(map[second], "second");

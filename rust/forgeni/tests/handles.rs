@@ -20,7 +20,10 @@ fn edges() -> Vec<Handle> {
 
 #[test]
 fn it_is_one_word() {
-    assert_eq!((size_of::<Handle>(), align_of::<Handle>()), (8, 8));
+    assert_eq!(
+        (size_of::<Handle>(), align_of::<Handle>()),
+        (8, align_of::<u64>())
+    );
     assert_eq!(size_of::<Option<Handle>>(), 8);
     assert_eq!(size_of::<[Option<Handle>; 100]>(), 800);
 }

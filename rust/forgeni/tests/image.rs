@@ -186,6 +186,13 @@ fn the_first_fault_and_its_place() {
                 expected: 40 + 12 * 4_294_967_295,
             },
         ),
+        // As many bytes as there are, if they are counted in 32 bits.
+        (
+            &[(SLOTS, MOST), (MADE, (1 << 30) + 5), (WAITING, 3)],
+            ImageFault::Length {
+                expected: 40 + 12 * 1_073_741_829,
+            },
+        ),
         // Fewer are reserved than were asked for, though there were enough, or more.
         (&[(RESERVED, 2)], ImageFault::Requests),
         (&[(RESERVED, 4)], ImageFault::Requests),

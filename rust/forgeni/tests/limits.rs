@@ -5,6 +5,8 @@ use forgeni::{
     AllocError, Commands, ComponentId, Entities, Fault, FaultKind, Freed, Handle, HandleMap,
     Limits, Refused, ReserveError, Storage, World,
 };
+#[cfg(target_pointer_width = "32")]
+use forgeni::{InsertError, OutOfMemory, SparseMap};
 
 fn limits(slots: u32, generations: u32) -> Limits {
     Limits::new(slots, generations).expect("limits")
@@ -228,5 +230,28 @@ fn the_placeholder_is_nobody() {
     assert_eq!(
         small(1, 1).alloc_many(2).expect_err("one"),
         AllocError::Space
+    );
+}
+
+/// Where a `usize` has 32 bits, no room is left for so many slots, and no sum wraps.
+#[test]
+#[cfg(target_pointer_width = "32")]
+fn slots_for_which_there_is_no_memory() {
+    let (mut all, mut few) = (HandleMap::new(), SparseMap::new());
+    for index in [
+        1 << 31,
+        3_817_748_707,
+        3_817_748_708,
+        4_000_000_000,
+        u32::MAX - 1,
+    ] {
+        let refused = Err(InsertError::Memory);
+        let one = handle(index, 1);
+        assert_eq!(all.insert(one, 7_u64).map_err(InsertError::from), refused);
+        assert_eq!(few.insert(one, 7_u64).map_err(InsertError::from), refused);
+    }
+    assert_eq!(
+        (all.reserve(usize::MAX), all.slots(), few.slots()),
+        (Err(OutOfMemory), 0, 0)
     );
 }

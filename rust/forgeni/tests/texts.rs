@@ -104,7 +104,7 @@ fn errors_of_components_and_worlds() {
         &refused as &dyn Display,
         "a later occupant of the slot has a value",
     )]);
-    debugs([(&refused as &dyn Debug, "Uninserted { error: Later, .. }")]);
+    debugs([(&refused as &dyn Debug, "Later")]);
 }
 
 /// An error that hands something back says what the plain error says.

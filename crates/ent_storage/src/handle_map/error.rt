@@ -1,5 +1,3 @@
-ghost use Rattle.std.specs.Prelude.{◌≡◌};
-
 use thiserror::Error;
 
 /// Why [`HandleMap::insert`](super::HandleMap::insert) inserted nothing. The map is as it was.
@@ -15,23 +13,4 @@ pub enum InsertError {
     /// Memory ran out.
     #[error("out of memory")]
     Memory,
-}
-
-/// A value that [`HandleMap::insert`](super::HandleMap::insert) hands back.
-#[derive(Clone, Copy, PartialEq, Eq, Drop)]
-pub struct Uninserted<T> {
-    /// The value.
-    pub value: T,
-    /// Why it was not inserted.
-    pub error: InsertError,
-}
-
-impl<T> Uninserted<T> {
-    /// The value, and why it was not inserted.
-    #[must_use]
-    pub fn into_parts(self) -> (T, InsertError)
-        ensures { result ≡ (self.value, self.error) }
-    {
-        (self.value, self.error)
-    }
 }

@@ -5,9 +5,9 @@ ghost use Rattle.std.specs.Map.Calls.{ModifiesValue};
 ghost use Rattle.std.specs.Option.{UnwrapsOrElse};
 ghost use Rattle.ent_storage.specs.HandleMap.{error_of};
 
-use crate::handle_map::Uninserted;
+use crate::handle_map::InsertError;
 use crate::sparse_map::SparseMap;
-use ent_handle::Handle;
+use ent_handle::{HandedBack, Handle};
 use std::mem;
 
 /// What a sparse map has for one handle: a value, or none.
@@ -55,8 +55,8 @@ impl<'a, T: Drop> Entry<'a, T> {
     ///
     /// # Errors
     ///
-    /// [`Uninserted`] has the value, as [`SparseMap::insert`] hands it back.
-    pub fn or_insert(self, value: T) -> Result<&'a mut T, Uninserted<T>>
+    /// [`HandedBack`] has the value, as [`SparseMap::insert`] hands it back.
+    pub fn or_insert(self, value: T) -> Result<&'a mut T, HandedBack<T, InsertError>>
         ensures* writes_back { sem 𝓛 (entry_lends T.row self.entry result) }
         ensures value { IfOk result (λ x. x.now ≡ unwrap_or (entry_value self.entry) value) }
         ensures occupied { IsSome (entry_value self.entry) → IsOk result }
@@ -74,12 +74,15 @@ impl<'a, T: Drop> Entry<'a, T> {
     ///
     /// # Errors
     ///
-    /// [`Uninserted`] has the value that `make` returned.
+    /// [`HandedBack`] has the value that `make` returned.
     ///
     /// # Panics
     ///
     /// A panic of `make` is handed on. Nothing has changed.
-    pub fn or_insert_with<F: FnOnce() -> T>(self, make: F) -> Result<&'a mut T, Uninserted<T>>
+    pub fn or_insert_with<F: FnOnce() -> T>(
+        self,
+        make: F,
+    ) -> Result<&'a mut T, HandedBack<T, InsertError>>
         requires { F.IsAlwaysCallable make }
         ensures* writes_back { sem 𝓛 (entry_lends T.row self.entry result) }
         ensures value { IfOk result (λ x.
@@ -203,8 +206,8 @@ impl<'a, T: Drop> VacantEntry<'a, T> {
     ///
     /// # Errors
     ///
-    /// [`Uninserted`] has the value, as [`SparseMap::insert`] hands it back.
-    pub fn insert(self, value: T) -> Result<&'a mut T, Uninserted<T>>
+    /// [`HandedBack`] has the value, as [`SparseMap::insert`] hands it back.
+    pub fn insert(self, value: T) -> Result<&'a mut T, HandedBack<T, InsertError>>
         ensures* writes_back { sem 𝓛 (entry_lends T.row (Vacant self.entry) result) }
         ensures value { IfOk result (λ x. x.now ≡ value) }
         ensures refused { IsRefusal (entry_map (Vacant self.entry))

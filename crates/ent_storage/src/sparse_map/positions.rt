@@ -57,7 +57,7 @@ fn add_positions(positions: &mut Vec<u32>, index: usize) -> Result<(), AllocErro
     ensures grows { length positions.old.items ≤ length positions.new.items }
     ensures err { OnErr result (positions.new.items ≡ positions.old.items) }
 {
-    let count = (index + 1 + index / 8).min(u32::MAX as usize);
+    let count = (index + 1).saturating_add(index / 8).min(u32::MAX as usize);
     positions.reserve_exact(count - positions.len())?;
     positions.resize(count, 0)
 }

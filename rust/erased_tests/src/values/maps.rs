@@ -2,7 +2,7 @@
 //! and one of numbers, which are `Copy`.
 
 use crate::proved::ent_handle::Handle;
-use crate::proved::ent_storage::handle_map::{HandleMap, InsertError, Uninserted};
+use crate::proved::ent_storage::handle_map::{HandleMap, InsertError};
 
 // Slot 2 has an early and a late occupant.
 fn early() -> Handle {
@@ -40,10 +40,14 @@ fn name_two(names: &mut HandleMap<String>) {
 
 // A later occupant of the slot has a name, so the new one comes back.
 fn refuse_early(names: &mut HandleMap<String>) {
-    let Err(Uninserted { value, error }) = names.insert(early(), "early".to_owned()) else {
+    let Err(refused) = names.insert(early(), "early".to_owned()) else {
         panic!("it is inserted")
     };
-    assert!(error == InsertError::Later && value == "early" && names.len() == 2);
+    assert_eq!(
+        refused.into_parts(),
+        ("early".to_owned(), InsertError::Later)
+    );
+    assert_eq!(names.len(), 2);
     assert_eq!(names.get(late()).map(String::as_str), Some("late"));
     assert!(names.get(early()).is_none());
 }

@@ -7,50 +7,33 @@ use serde::de::{Deserialize, Deserializer, Error};
 use serde::ser::{Serialize, Serializer};
 
 /// As its number.
-impl Serialize for ComponentId {
-    fn serialize<S: Serializer>(&self, serializer: S) -> Result<S::Ok, S::Error> {
-        self.0.serialize(serializer)
-    }
+/// A type that is written as some numbers, and made of them again. `D` is the type of what reads them.
+macro_rules! is_its_numbers {
+    ($name:ident, $doc:literal: $own:ident => $numbers:expr, $read:pat => $made:expr) => {
+        #[doc = concat!("As ", $doc)]
+        impl Serialize for $name {
+            fn serialize<S: Serializer>(&$own, serializer: S) -> Result<S::Ok, S::Error> {
+                $numbers.serialize(serializer)
+            }
+        }
+
+        #[doc = concat!("Reads ", $doc)]
+        impl<'de> Deserialize<'de> for $name {
+            fn deserialize<D: Deserializer<'de>>(deserializer: D) -> Result<Self, D::Error> {
+                let $read = Deserialize::deserialize(deserializer)?;
+                $made
+            }
+        }
+    };
 }
 
-/// Reads its number.
-impl<'de> Deserialize<'de> for ComponentId {
-    fn deserialize<D: Deserializer<'de>>(deserializer: D) -> Result<Self, D::Error> {
-        u8::deserialize(deserializer).map(Self)
-    }
-}
-
-/// As its numbers in their order: frame, system, ordinal.
-impl Serialize for Birth {
-    fn serialize<S: Serializer>(&self, serializer: S) -> Result<S::Ok, S::Error> {
-        (self.frame, self.system, self.ordinal).serialize(serializer)
-    }
-}
-
-/// Reads its numbers.
-impl<'de> Deserialize<'de> for Birth {
-    fn deserialize<D: Deserializer<'de>>(deserializer: D) -> Result<Self, D::Error> {
-        let (frame, system, ordinal) = Deserialize::deserialize(deserializer)?;
-        Ok(Self {
-            frame,
-            system,
-            ordinal,
-        })
-    }
-}
-
-/// As its numbers in the order of [`Limits::new`]: slots, generations.
-impl Serialize for Limits {
-    fn serialize<S: Serializer>(&self, serializer: S) -> Result<S::Ok, S::Error> {
-        (self.slots(), self.generations()).serialize(serializer)
-    }
-}
-
-/// Reads its numbers. It is an error if there are no such limits.
-impl<'de> Deserialize<'de> for Limits {
-    fn deserialize<D: Deserializer<'de>>(deserializer: D) -> Result<Self, D::Error> {
-        let (slots, generations) = Deserialize::deserialize(deserializer)?;
-        let text = format_args!("no allocator has {slots} slots of {generations} generations");
-        Self::new(slots, generations).ok_or_else(|| D::Error::custom(text))
-    }
-}
+is_its_numbers!(ComponentId, "its number.": self => self.0, id => Ok(Self(id)));
+is_its_numbers!(Birth, "its numbers in their order: frame, system, ordinal.":
+    self => (self.frame, self.system, self.ordinal),
+    (frame, system, ordinal) => Ok(Self { frame, system, ordinal }));
+is_its_numbers!(Limits, "its numbers in the order of [`Limits::new`]: slots, generations.":
+self => (self.slots(), self.generations()), (slots, generations) => {
+    // It is an error if there are no such limits.
+    let text = format_args!("no allocator has {slots} slots of {generations} generations");
+    Self::new(slots, generations).ok_or_else(|| D::Error::custom(text))
+});

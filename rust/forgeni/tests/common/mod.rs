@@ -186,7 +186,7 @@ pub fn seeds(count: u64, run: impl Fn(u64)) {
 }
 
 /// The words that start this program anew. Where the tests run under an emulator, that is the first
-/// of them: `FORGENI_EMULATOR` has it with its options (`examples/on_other_targets.sh`).
+/// of them: `FORGENI_EMULATOR` has it with its options (`.ci/targets.sh`).
 pub fn this_program() -> Vec<OsString> {
     let emulator = std::env::var("FORGENI_EMULATOR").unwrap_or_default();
     let program = std::env::current_exe().expect("a path");

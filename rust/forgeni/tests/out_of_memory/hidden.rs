@@ -148,7 +148,7 @@ fn what_a_map_says_it_says_without_the_value() {
     ] {
         let refused = map.insert(one, 2).expect_err("refused");
         assert_eq!(
-            (refused.error, InsertError::from(refused)),
+            (*refused.error(), InsertError::from(refused)),
             (wanted, wanted)
         );
     }

@@ -1,4 +1,4 @@
-use Rattle.ent_storage.proofs.Common.{rules, ◌≡◌, ◌≤◌, ◌∙◌, Some, refl, sym, ap, get_or, slice_get, arith, List, ℕ, slice_get_read, none-some, same_Some, Handle, IsFreeSlot as IsFree}
+use Rattle.ent_storage.proofs.Common.{rules, ◌≡◌, ◌≤◌, ◌∙◌, Some, refl, sym, ap, get_or, slice_get, arith, List, ℕ, slice_get_read, none-some, same_Some, HandedBack, Handle, InsertError, IsFreeSlot as IsFree}
 use Rattle.ent_storage.proofs.Sparse.{none_free, free_no_later, before_none, not_later, has_later, has_no_later, had, had_other, is_handle, not_handle, over_positioned, over_values}
 use Rattle.ent_storage.proofs.sparse_map.put.Given.{Over}
 use Rattle.ent_storage.proofs.sparse_map.put.Goals.{After-replace-standing}
@@ -27,7 +27,7 @@ returns-then-generation-clause-later g c =
     ∙ at.found x ∙ c.index_of-index.ensures.value in (
       λ _. has_later c.args.entries.now.items c.args.positions.now.items c.requires.positioned k x here c.args.handle
           slot (omega arith),
-      λ _. refl,
+      λ _. ap (λ (r : HandedBack g.row.T.Denot InsertError). Some r.error) c.new.ensures,
     )
 
 -- the entry at the position was of the handle's slot

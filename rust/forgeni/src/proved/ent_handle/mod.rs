@@ -5,6 +5,7 @@
 mod birth;
 mod component;
 mod decimal;
+mod handed_back;
 mod handle;
 mod memory;
 mod text;
@@ -12,6 +13,7 @@ mod text;
 pub use birth::Birth;
 pub use component::ComponentId;
 pub use decimal::read_decimal;
+pub use handed_back::HandedBack;
 pub use handle::Handle;
 pub use memory::Memory;
 pub use text::{TextFault, split_once};

@@ -16,14 +16,14 @@ use alloc::vec::Vec;
 use crate::kit::vec::FallibleVec;
 use crate::proved::ent_storage::handle_map::emptying::move_values;
 pub use crate::proved::ent_storage::handle_map::entry::{Entry, OccupiedEntry, VacantEntry};
-pub use crate::proved::ent_storage::handle_map::error::{InsertError, Uninserted};
+pub use crate::proved::ent_storage::handle_map::error::InsertError;
 pub use crate::proved::ent_storage::handle_map::iter::Iter;
 pub use crate::proved::ent_storage::handle_map::keys::Keys;
 use crate::proved::ent_storage::handle_map::retaining::retain_slots;
 use crate::proved::ent_storage::handle_map::slot::{Slot, append_clones, make_slot};
 pub use crate::proved::ent_storage::handle_map::values::Values;
 use crate::proved::ent_storage::limit::Limit;
-use crate::proved::ent_handle::{Handle, Memory};
+use crate::proved::ent_handle::{HandedBack, Handle, Memory};
 use core::mem;
 
 /// A value of any type for each of some handles: a component. At most one handle of a slot has a
@@ -194,7 +194,7 @@ impl<T> HandleMap<T> {
     /// map.insert(third, "c")?;
     /// map.set_limit(3);
     /// assert_eq!((map.limit(), map.get(third)), (3, Some(&"c")));
-    /// assert_eq!(map.insert(fourth, "d").unwrap_err().error, InsertError::Limit);
+    /// assert_eq!(*map.insert(fourth, "d").unwrap_err().error(), InsertError::Limit);
     /// # Ok::<(), Box<dyn std::error::Error + Send + Sync>>(())
     /// ```
     ///
@@ -521,7 +521,7 @@ impl<T> HandleMap<T> {
     ///
     /// # Errors
     ///
-    /// [`Uninserted`] has the value, and nothing has changed. The first that holds is the reason:
+    /// [`HandedBack`] has the value, and nothing has changed. The first that holds is the reason:
     ///
     /// - `Limit`: the handle's slot is at or above the [`limit`](Self::limit), or the handle is
     ///   [`Handle::PLACEHOLDER`], which no map takes.
@@ -551,26 +551,21 @@ impl<T> HandleMap<T> {
     ///
     /// </details>
     #[inline]
-    pub fn insert(&mut self, handle: Handle, value: T) -> Result<Option<T>, Uninserted<T>> {
+    pub fn insert(
+        &mut self,
+        handle: Handle,
+        value: T,
+    ) -> Result<Option<T>, HandedBack<T, InsertError>> {
         if self.limit.refuses(handle) {
-            return Err(Uninserted {
-                value,
-                error: InsertError::Limit,
-            });
+            return Err(HandedBack::new(value, InsertError::Limit));
         }
         let index = index_of(handle);
         let standing = generation_in(&self.slots, index);
         if handle.generation() < standing {
-            return Err(Uninserted {
-                value,
-                error: InsertError::Later,
-            });
+            return Err(HandedBack::new(value, InsertError::Later));
         }
         let Ok(()) = make_slot(&mut self.slots, index) else {
-            return Err(Uninserted {
-                value,
-                error: InsertError::Memory,
-            });
+            return Err(HandedBack::new(value, InsertError::Memory));
         };
         let before = mem::replace(&mut self.slots[index], Slot::of(handle, value));
         self.len += before.lacking();

@@ -217,7 +217,7 @@ impl Index {
     /// </details>
     #[inline]
     pub fn room(&self) -> usize {
-        self.pairs.sized_capacity().min(MOST_PLACES)
+        (self.pairs.sized_capacity() as u64).min(MOST_PLACES) as usize
     }
 
     /// Makes room for `count` handles in all, and for `more` if there is memory for that. With that
@@ -254,7 +254,7 @@ impl Index {
     #[inline]
     pub fn reserve(&mut self, count: usize) -> Result<(), AllocError> {
         let additional = count.saturating_sub(self.pairs.len());
-        if count > MOST_PLACES {
+        if count as u64 > MOST_PLACES {
             return Err(AllocError);
         }
         self.pairs.reserve_fallibly(additional)

@@ -8,13 +8,13 @@ mod positions;
 
 use alloc::vec::Vec;
 use crate::kit::vec::FallibleVec;
-use crate::proved::ent_storage::handle_map::{InsertError, Uninserted, index_of};
+use crate::proved::ent_storage::handle_map::{InsertError, index_of};
 use crate::proved::ent_storage::limit::Limit;
 use crate::proved::ent_storage::lists::overwrite;
 pub use crate::proved::ent_storage::sparse_map::entry::{Entry, OccupiedEntry, VacantEntry};
 pub use crate::proved::ent_storage::sparse_map::iter::Iter;
 use crate::proved::ent_storage::sparse_map::positions::{make_position, position_of};
-use crate::proved::ent_handle::{Handle, Memory};
+use crate::proved::ent_handle::{HandedBack, Handle, Memory};
 use crate::kit::alloc::AllocError;
 use core::mem;
 
@@ -398,7 +398,7 @@ impl<T> SparseMap<T> {
     ///
     /// # Errors
     ///
-    /// [`Uninserted`] has the value, and no value of the map has changed. The first that holds is
+    /// [`HandedBack`] has the value, and no value of the map has changed. The first that holds is
     /// the reason:
     ///
     /// - `Limit`: the handle's slot is at or above the [`limit`](Self::limit), or the handle is
@@ -433,12 +433,13 @@ impl<T> SparseMap<T> {
     ///
     /// </details>
     #[inline]
-    pub fn insert(&mut self, handle: Handle, value: T) -> Result<Option<T>, Uninserted<T>> {
+    pub fn insert(
+        &mut self,
+        handle: Handle,
+        value: T,
+    ) -> Result<Option<T>, HandedBack<T, InsertError>> {
         if self.limit.refuses(handle) {
-            return Err(Uninserted {
-                value,
-                error: InsertError::Limit,
-            });
+            return Err(HandedBack::new(value, InsertError::Limit));
         }
         put(&mut self.entries, &mut self.positions, handle, value)
     }
@@ -651,7 +652,7 @@ fn put<T>(
     positions: &mut Vec<u32>,
     handle: Handle,
     value: T,
-) -> Result<Option<T>, Uninserted<T>>
+) -> Result<Option<T>, HandedBack<T, InsertError>>
     // requires positioned { IsPositioned entries.old.items positions.old.items }
     // ensures positioned { IsPositioned entries.new.items positions.new.items }
     // ensures ok { OnOk result (values_of entries.new.items
@@ -676,10 +677,7 @@ fn put<T>(
         return add(entries, positions, handle, value);
     };
     if handle.generation() < entries[position].0.generation() {
-        return Err(Uninserted {
-            value,
-            error: InsertError::Later,
-        });
+        return Err(HandedBack::new(value, InsertError::Later));
     }
     let (standing, before) = mem::replace(&mut entries[position], (handle, value));
     if standing == handle {
@@ -696,7 +694,7 @@ fn add<T>(
     positions: &mut Vec<u32>,
     handle: Handle,
     value: T,
-) -> Result<Option<T>, Uninserted<T>>
+) -> Result<Option<T>, HandedBack<T, InsertError>>
     // requires in_range { handle.index < 2 ^ 32 - 1 }
     // requires positioned { IsPositioned entries.old.items positions.old.items }
     // requires free { IsFree entries.old.items handle.index }
@@ -714,10 +712,7 @@ fn add<T>(
 {
     let index = handle.index() as usize;
     if make_position(positions, index).is_err() || entries.reserve_fallibly(1).is_err() {
-        return Err(Uninserted {
-            value,
-            error: InsertError::Memory,
-        });
+        return Err(HandedBack::new(value, InsertError::Memory));
     }
     positions[index] = entries.len() as u32;
     entries.push_reserved((handle, value));

@@ -214,7 +214,8 @@ impl SparseSet {
     /// </details>
     #[inline]
     pub fn has_room(&self, place: usize) -> bool {
-        self.dense.len() < self.dense.sized_capacity().min(MOST_PLACES) && place < self.sparse.len()
+        (self.dense.len() as u64) < (self.dense.sized_capacity() as u64).min(MOST_PLACES)
+            && place < self.sparse.len()
     }
 
     /// Makes room for a value of the place. After an `Err` the values are as before.
@@ -232,7 +233,7 @@ impl SparseSet {
     /// </details>
     #[inline]
     pub fn reserve(&mut self, place: usize) -> Result<(), AllocError> {
-        if self.dense.len() >= MOST_PLACES {
+        if self.dense.len() as u64 >= MOST_PLACES {
             return Err(AllocError);
         }
         self.dense.reserve_fallibly(1)?;

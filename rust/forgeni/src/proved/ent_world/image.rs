@@ -228,10 +228,14 @@ impl World {
     #[inline]
     pub fn write_image(&self, extra: u32, out: &mut Vec<u8>) -> Result<(), Memory> {
         let width = self.storage.width();
-        let part = ALLOCATOR + SLOT * self.entities.total() as usize;
-        let rest = 4 + self.entities.len() as usize * (16 + 9 * width as usize);
-        out.reserve_fallibly(HEADER + part + rest + extra as usize)?;
-        write_header(self.phase, part as u64, out);
+        let part = ALLOCATOR as u64 + SLOT as u64 * u64::from(self.entities.total());
+        let rest = 4 + u64::from(self.entities.len()) * (16 + 9 * u64::from(width));
+        let all = HEADER as u64 + part + rest + u64::from(extra);
+        let Ok(all) = usize::try_from(all) else {
+            return Err(Memory);
+        };
+        out.reserve_fallibly(all)?;
+        write_header(self.phase, part, out);
         self.entities.write_image_without_rows(out);
         write_word(out, width);
         write_entities(

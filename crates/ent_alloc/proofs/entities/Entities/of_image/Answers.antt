@@ -22,8 +22,8 @@ returns-in_default-requests_of-clause-refused c not_memory e has same =
     c.in_default-requests_of.ensures.none (subst (λ (h : Header). AreServed h.asked h.reserved
     (h.waiting + (h.slots - h.made))) told.0 (served e has))
 
-pub returns-then-slots-header-clause-refused : goal.returns-then-slots-header-clause-refused
-returns-then-slots-header-clause-refused c not_memory e has same = search (rules, told, told_of, length-slots_bytes)
+pub returns-then-slots-bytes_of_slots-clause-refused : goal.returns-then-slots-bytes_of_slots-clause-refused
+returns-then-slots-bytes_of_slots-clause-refused c not_memory e has same = search (rules, told, told_of, length-slots_bytes)
 
 pub returns-in_err-slots-clause-refused : goal.returns-in_err-slots-clause-refused
 returns-in_err-slots-clause-refused c = search (rules, handed_on, told, told_of, roster_slots, top_as)
@@ -61,20 +61,22 @@ pub returns-in_default-requests_of-clause-fault : goal.returns-in_default-reques
 returns-in_default-requests_of-clause-fault c not_memory = search
     (rules, requests_fault c.args.bytes.now c.in_ok-header.header c.in_ok-header.slots.now)
 
-pub returns-then-slots-header-clause-fault : goal.returns-then-slots-header-clause-fault
-returns-then-slots-header-clause-fault c not_memory = search
+pub returns-then-slots-bytes_of_slots-clause-fault : goal.returns-then-slots-bytes_of_slots-clause-fault
+returns-then-slots-bytes_of_slots-clause-fault c not_memory = search
     (rules, whole_length_fault c.args.bytes.now c.in_ok-header.header c.in_ok-header.slots.now)
 
 -- and those of the slots
 pub returns-in_err-slots-clause-fault : goal.returns-in_err-slots-clause-fault
-returns-in_err-slots-clause-fault c = handed_on c.from_residual-in_err-slots.result c.in_err-slots.field-0.0 _
+returns-in_err-slots-clause-fault c =
+    let whole : length c.in_ok-header.slots.now ≡ 12 * c.in_ok-header.header.made = search rules in
+    handed_on c.from_residual-in_err-slots.result c.in_err-slots.field-0.0 _
     c.from_residual-in_err-slots.ensures.1 (λ not_memory. to_slots_of
-    (goal.at.returns-in_err-slots-clause-fault c).In-Some-requests_of c.if-slots-header.false
-    ∙ c.in_err-slots.ensures.fault not_memory)
+    (goal.at.returns-in_err-slots-clause-fault c).In-Some-requests_of whole ∙ c.in_err-slots.ensures.fault not_memory)
 
 pub returns : goal.returns
 returns c =
-    let slots = to_slots_of (goal.at.returns c).In-Some-requests_of c.if-slots-header.false
+    let whole : length c.in_ok-header.slots.now ≡ 12 * c.in_ok-header.header.made = search rules in
+    let slots = to_slots_of (goal.at.returns c).In-Some-requests_of whole
     ∙ c.in_ok-slots.ensures.faultless in
     search (rules, slots, image_is, has_image, reserved_are, are_served, numbers_are)
 
@@ -89,4 +91,4 @@ returns-in_err-slots-clause-slots c =
     let header = c.in_ok-header.ensures in
     let long = long_is _ _ _ header.fits header.found header.faultless in
     handed_on c.from_residual-in_err-slots.result c.in_err-slots.field-0.0 _ c.from_residual-in_err-slots.ensures.1
-    (λ is. omega (arith, c.in_err-slots.ensures.memory is, long, c.if-slots-header.false))
+    (λ is. omega (arith, c.in_err-slots.ensures.memory is, long, c.if-slots-bytes_of_slots.false))

@@ -1,5 +1,6 @@
-use Rattle.ent_storage.proofs.Common.{rules, ◌≡◌, get_or, refl, sym, ap, ◌∙◌, arith, common_steps, HandleMap, value_under, generation_of, slot_at}
+use Rattle.ent_storage.proofs.Common.{rules, ◌≡◌, get_or, refl, sym, ap, ◌∙◌, arith, common_steps, Some, Err, HandedBack, HandleMap, InsertError, value_under, generation_of, slot_at}
 use Rattle.ent_storage.proofs.Found.{later, no_later, put-before, put-counted, few_values}
+use Rattle.ent_storage.proofs.Sparse.{not_later}
 use Rattle.ent_storage.proofs.handle_map.HandleMap.insert.Goals as goal
 
 pub returns-then-generation-standing-clause-later : goal.returns-then-generation-standing-clause-later
@@ -7,8 +8,19 @@ returns-then-generation-standing-clause-later g c =
     let values = ap (λ (m : HandleMap g.row.T.Denot). m.values) c.self.view_is in
     let stands : c.generation_in-standing.result ≡ generation_of
     (slot_at c.self.inside.slots.items c.args.handle.index) = search rules in
-    let is = later c.self.inside.slots.items _ c.args.handle values (omega (arith, stands)) in
-    (λ _. (λ beyond. grind (arith, common_steps), is), λ _. refl)
+    let is = later c.self.inside.slots.items _ c.args.handle values (omega (arith, stands)) in (
+      λ _. (λ beyond. grind (arith, common_steps), is),
+      λ _. ap (λ (r : HandedBack g.row.T.Denot InsertError). Some r.error) c.new-then-generation-standing.ensures,
+    )
+
+pub returns-in_default-clause-later : goal.returns-in_default-clause-later
+returns-in_default-clause-later g c =
+    let values = ap (λ (m : HandleMap g.row.T.Denot). m.values) c.self.view_is in
+    let stands : c.generation_in-standing.result ≡ generation_of
+    (slot_at c.self.inside.slots.items c.args.handle.index) = search rules in
+    let none = no_later c.self.inside.slots.items _ c.args.handle values (omega (arith, stands)) in
+    let memory = ap (λ (r : HandedBack g.row.T.Denot InsertError). r.error) c.new-in_default.ensures in
+    (λ e. absurd (not_later {X = g.row.T.Denot} (Err c.new-in_default.result) memory e), λ is. absurd (none is.1))
 
 pub invariant_of-self-2 : goal.invariant_of-self-2
 invariant_of-self-2 g c =

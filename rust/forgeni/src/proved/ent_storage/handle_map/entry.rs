@@ -1,7 +1,7 @@
 // Made of crates/ent_storage/src/handle_map/entry.rt by rust/erase. It isn't edited by hand.
 
-use crate::proved::ent_storage::handle_map::{HandleMap, Uninserted};
-use crate::proved::ent_handle::Handle;
+use crate::proved::ent_storage::handle_map::{HandleMap, InsertError};
+use crate::proved::ent_handle::{HandedBack, Handle};
 use core::mem;
 
 /// What a map has for one handle: a value, or none.
@@ -51,7 +51,7 @@ impl<'a, T> Entry<'a, T> {
     ///
     /// # Errors
     ///
-    /// [`Uninserted`] has the value, as [`HandleMap::insert`] hands it back.
+    /// [`HandedBack`] has the value, as [`HandleMap::insert`] hands it back.
     ///
     /// <details><summary>Contract</summary>
     ///
@@ -68,7 +68,7 @@ impl<'a, T> Entry<'a, T> {
     ///
     /// </details>
     #[inline]
-    pub fn or_insert(self, value: T) -> Result<&'a mut T, Uninserted<T>> {
+    pub fn or_insert(self, value: T) -> Result<&'a mut T, HandedBack<T, InsertError>> {
         match self {
             Entry::Occupied(entry) => Ok(entry.into_mut()),
             Entry::Vacant(entry) => entry.insert(value),
@@ -79,7 +79,7 @@ impl<'a, T> Entry<'a, T> {
     ///
     /// # Errors
     ///
-    /// [`Uninserted`] has the value that `make` returned.
+    /// [`HandedBack`] has the value that `make` returned.
     ///
     /// # Panics
     ///
@@ -102,7 +102,10 @@ impl<'a, T> Entry<'a, T> {
     ///
     /// </details>
     #[inline]
-    pub fn or_insert_with<F: FnOnce() -> T>(self, make: F) -> Result<&'a mut T, Uninserted<T>> {
+    pub fn or_insert_with<F: FnOnce() -> T>(
+        self,
+        make: F,
+    ) -> Result<&'a mut T, HandedBack<T, InsertError>> {
         match self {
             Entry::Occupied(occupied) => Ok(occupied.into_mut()),
             Entry::Vacant(vacant) => vacant.insert(make()),
@@ -282,7 +285,7 @@ impl<'a, T> VacantEntry<'a, T> {
     ///
     /// # Errors
     ///
-    /// [`Uninserted`] has the value, as [`HandleMap::insert`] hands it back.
+    /// [`HandedBack`] has the value, as [`HandleMap::insert`] hands it back.
     ///
     /// <details><summary>Contract</summary>
     ///
@@ -298,7 +301,7 @@ impl<'a, T> VacantEntry<'a, T> {
     ///
     /// </details>
     #[inline]
-    pub fn insert(self, value: T) -> Result<&'a mut T, Uninserted<T>> {
+    pub fn insert(self, value: T) -> Result<&'a mut T, HandedBack<T, InsertError>> {
         let VacantEntry { map, handle } = self;
         match map.insert(handle, value) {
             Ok(_) => {}

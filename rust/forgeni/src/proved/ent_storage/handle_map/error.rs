@@ -23,31 +23,3 @@ impl core::fmt::Display for InsertError {
 }
 
 impl core::error::Error for InsertError {}
-
-/// A value that [`HandleMap::insert`](super::HandleMap::insert) hands back.
-#[derive(Clone, Copy, PartialEq, Eq)]
-pub struct Uninserted<T> {
-    /// The value.
-    pub value: T,
-    /// Why it was not inserted.
-    pub error: InsertError,
-}
-
-impl<T> Uninserted<T> {
-    /// The value, and why it was not inserted.
-    ///
-    /// <details><summary>Contract</summary>
-    ///
-    /// In the words of the folder `specs/` of crate `ent_storage`:
-    ///
-    /// ```text
-    /// ensures { result ≡ (self.value, self.error) }
-    /// ```
-    ///
-    /// </details>
-    #[must_use]
-    #[inline]
-    pub fn into_parts(self) -> (T, InsertError) {
-        (self.value, self.error)
-    }
-}

@@ -117,7 +117,7 @@ impl<T> Slot<T> {
 /// Makes the slot of an index, and all before it. Those that are new are vacant.
 #[inline]
 pub(super) fn make_slot<T>(slots: &mut Vec<Slot<T>>, index: usize) -> Result<(), AllocError>
-    // requires { index < 2 ^ 32 }
+    // requires { index < 2 ^ 32 - 1 }
     // ensures ok { OnOk result (slots.new.items ≡ padded slots.old.items (index + 1)) }
     // ensures err { OnErr result (slots.new.items ≡ slots.old.items) }
     // ensures capacity { vec_capacity slots.old ≤ vec_capacity slots.new }
@@ -134,7 +134,7 @@ pub(super) fn make_slot<T>(slots: &mut Vec<Slot<T>>, index: usize) -> Result<(),
 #[inline(never)]
 fn add_slots<T>(slots: &mut Vec<Slot<T>>, index: usize) -> Result<(), AllocError>
     // requires beyond { length slots.old.items ≤ index }
-    // requires few { index < 2 ^ 32 }
+    // requires few { index < 2 ^ 32 - 1 }
     // ensures ok { OnOk result (slots.new.items ≡ padded slots.old.items (index + 1)) }
     // ensures err { OnErr result (slots.new.items ≡ slots.old.items) }
     // ensures capacity { vec_capacity slots.old ≤ vec_capacity slots.new }

@@ -1,8 +1,8 @@
 // Made of crates/ent_storage/src/sparse_map/entry.rt by rust/erase. It isn't edited by hand.
 
-use crate::proved::ent_storage::handle_map::Uninserted;
+use crate::proved::ent_storage::handle_map::InsertError;
 use crate::proved::ent_storage::sparse_map::SparseMap;
-use crate::proved::ent_handle::Handle;
+use crate::proved::ent_handle::{HandedBack, Handle};
 use core::mem;
 
 /// What a sparse map has for one handle: a value, or none.
@@ -52,7 +52,7 @@ impl<'a, T> Entry<'a, T> {
     ///
     /// # Errors
     ///
-    /// [`Uninserted`] has the value, as [`SparseMap::insert`] hands it back.
+    /// [`HandedBack`] has the value, as [`SparseMap::insert`] hands it back.
     ///
     /// <details><summary>Contract</summary>
     ///
@@ -69,7 +69,7 @@ impl<'a, T> Entry<'a, T> {
     ///
     /// </details>
     #[inline]
-    pub fn or_insert(self, value: T) -> Result<&'a mut T, Uninserted<T>> {
+    pub fn or_insert(self, value: T) -> Result<&'a mut T, HandedBack<T, InsertError>> {
         match self {
             Entry::Occupied(entry) => Ok(entry.into_mut()),
             Entry::Vacant(entry) => entry.insert(value),
@@ -80,7 +80,7 @@ impl<'a, T> Entry<'a, T> {
     ///
     /// # Errors
     ///
-    /// [`Uninserted`] has the value that `make` returned.
+    /// [`HandedBack`] has the value that `make` returned.
     ///
     /// # Panics
     ///
@@ -103,7 +103,10 @@ impl<'a, T> Entry<'a, T> {
     ///
     /// </details>
     #[inline]
-    pub fn or_insert_with<F: FnOnce() -> T>(self, make: F) -> Result<&'a mut T, Uninserted<T>> {
+    pub fn or_insert_with<F: FnOnce() -> T>(
+        self,
+        make: F,
+    ) -> Result<&'a mut T, HandedBack<T, InsertError>> {
         match self {
             Entry::Occupied(occupied) => Ok(occupied.into_mut()),
             Entry::Vacant(vacant) => vacant.insert(make()),
@@ -283,7 +286,7 @@ impl<'a, T> VacantEntry<'a, T> {
     ///
     /// # Errors
     ///
-    /// [`Uninserted`] has the value, as [`SparseMap::insert`] hands it back.
+    /// [`HandedBack`] has the value, as [`SparseMap::insert`] hands it back.
     ///
     /// <details><summary>Contract</summary>
     ///
@@ -299,7 +302,7 @@ impl<'a, T> VacantEntry<'a, T> {
     ///
     /// </details>
     #[inline]
-    pub fn insert(self, value: T) -> Result<&'a mut T, Uninserted<T>> {
+    pub fn insert(self, value: T) -> Result<&'a mut T, HandedBack<T, InsertError>> {
         let VacantEntry { map, handle } = self;
         match map.insert(handle, value) {
             Ok(_) => {}

@@ -1,0 +1,96 @@
+//! Systems whose panics don't leave them.
+
+use crate::frames::Join;
+use crate::{LogCommands, LogSystem, OutOfMemory, System, SystemCommands, View};
+use alloc::boxed::Box;
+use alloc::vec::Vec;
+use core::any::Any;
+use core::mem;
+use std::panic::{catch_unwind, resume_unwind, AssertUnwindSafe};
+use std::sync::{Mutex, PoisonError};
+
+/// Calls `run` with a `Join` and systems whose panics don't leave them, and hands the first panic on. If
+/// there is no memory to guard the systems, it returns that error. What `run` returns may be a panic itself:
+/// that of a command which was dropped. A world or an allocator is in its place by then.
+pub(crate) fn guarded<J, S, T, E>(
+    join: &J,
+    systems: &[S],
+    memory: E,
+    run: impl FnOnce(&Guarded<'_, J>, &[Guarded<'_, S>]) -> Result<Result<T, E>, Panic>,
+) -> Result<T, E> {
+    let panics = Panics::default();
+    let mut guarded = Vec::new();
+    if guarded.try_reserve_exact(systems.len()).is_err() {
+        return Err(memory);
+    }
+    let numbered = systems.iter().enumerate();
+    guarded.extend(numbered.map(|(number, system)| Guarded(system, number, &panics)));
+    let ran = run(&Guarded(join, usize::MAX, &panics), &guarded);
+    if let Some(panic) = first(panics) {
+        drop_quietly(ran);
+        resume_unwind(panic);
+    }
+    ran.unwrap_or_else(|panic| resume_unwind(panic))
+}
+
+/// What a panic was raised with.
+pub(crate) type Panic = Box<dyn Any + Send>;
+
+/// The panics of a frame, each with the number of its system. A panic may panic when it is dropped, so all
+/// are kept until the world is back.
+type Panics = Mutex<Vec<(usize, Panic)>>;
+
+/// The panic of the first system that had one, if one had.
+fn first(panics: Panics) -> Option<Panic> {
+    let mut panics = panics.into_inner().unwrap_or_else(PoisonError::into_inner);
+    let first = (0..panics.len()).min_by_key(|at| panics[*at].0)?;
+    let (_, first) = panics.swap_remove(first);
+    panics.into_iter().for_each(drop_quietly);
+    Some(first)
+}
+
+/// What the closure returns, or its panic. Nothing that a panic leaves half done is looked at.
+pub(crate) fn caught<T>(run: impl FnOnce() -> T) -> Result<T, Panic> {
+    catch_unwind(AssertUnwindSafe(run))
+}
+
+/// Drops the value. If that panics, the panic is leaked, since dropping it may panic too.
+fn drop_quietly<T>(value: T) {
+    caught(|| drop(value)).unwrap_or_else(mem::forget);
+}
+
+/// A system or a `Join` whose panics don't leave it: the proved code that calls it knows none. With it is the
+/// number of the system, where a `Join` comes after all of them, and where the panics are kept.
+pub(crate) struct Guarded<'a, T>(&'a T, usize, &'a Panics);
+
+impl<T> Guarded<'_, T> {
+    /// Calls the closure. If it panics, the panic is kept, and this is returned.
+    fn run<R>(&self, run: impl FnOnce() -> R, panicked: R) -> R {
+        caught(run).unwrap_or_else(|panic| {
+            let mut panics = self.2.lock().unwrap_or_else(PoisonError::into_inner);
+            panics.push((self.1, panic));
+            panicked
+        })
+    }
+}
+
+impl<S: System> System for Guarded<'_, S> {
+    /// A system that panics has stopped, like one that ran out of memory: the frame is lost, and the
+    /// world is closed with what was reserved.
+    fn run(&self, view: &View<'_>, commands: &mut SystemCommands<'_>) -> Result<(), OutOfMemory> {
+        self.run(|| self.0.run(view, commands), Err(OutOfMemory))
+    }
+}
+
+/// The same of a system that fills a log.
+impl<C, S: LogSystem<C>> LogSystem<C> for Guarded<'_, S> {
+    fn run(&self, commands: &mut LogCommands<'_, C>) -> Result<(), OutOfMemory> {
+        self.run(|| self.0.run(commands), Err(OutOfMemory))
+    }
+}
+
+impl<J: Join> Join for Guarded<'_, J> {
+    fn join(&self, first: &mut (dyn FnMut() + Send), second: &mut (dyn FnMut() + Send)) {
+        self.run(|| self.0.join(first, second), ());
+    }
+}

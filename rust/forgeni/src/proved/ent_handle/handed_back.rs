@@ -1,0 +1,118 @@
+// Made of crates/ent_handle/src/handed_back.rt by rust/erase. It isn't edited by hand.
+
+use core::error::Error;
+use core::fmt;
+
+/// What was handed in, and why it wasn't taken. It is the error of a call that takes a value, so
+/// that the value is not lost if the call refuses it.
+///
+/// [`into_parts`](Self::into_parts) returns both. `Debug` and `Display` write the error alone, so a
+/// value of any type can be handed back through `?`.
+///
+/// ```
+/// use forgeni::{Handle, HandleMap, InsertError};
+///
+/// let [old, new] = [Handle::new(7, 1).unwrap(), Handle::new(7, 2).unwrap()];
+/// let mut names = HandleMap::new();
+/// names.insert(new, "Ada")?;
+/// let refused = names.insert(old, "Bob").unwrap_err();
+/// assert_eq!(refused.error(), &InsertError::Later);
+/// assert_eq!(refused.to_string(), "a later occupant of the slot has a value");
+/// assert_eq!(refused.into_parts(), ("Bob", InsertError::Later));
+/// # Ok::<(), Box<dyn std::error::Error + Send + Sync>>(())
+/// ```
+///
+/// Contracts see a pair of the value and the error.
+#[derive(Clone, Copy, PartialEq, Eq)]
+pub struct HandedBack<T, E> {
+    value: T,
+    error: E,
+}
+
+impl<T, E> HandedBack<T, E> {
+    /// A value that is handed back, and why it wasn't taken.
+    ///
+    /// <details><summary>Contract</summary>
+    ///
+    /// In the words of the folder `specs/` of crate `ent_handle`:
+    ///
+    /// ```text
+    /// ensures { result ≡ record { value = value; error = error } }
+    /// ```
+    ///
+    /// </details>
+    #[must_use]
+    #[inline]
+    pub fn new(value: T, error: E) -> Self {
+        HandedBack { value, error }
+    }
+
+    /// What was handed in, and why it wasn't taken.
+    ///
+    /// <details><summary>Contract</summary>
+    ///
+    /// In the words of the folder `specs/` of crate `ent_handle`:
+    ///
+    /// ```text
+    /// ensures value { result.0 ≡ self.value }
+    /// ensures error { result.1 ≡ self.error }
+    /// ```
+    ///
+    /// </details>
+    #[must_use]
+    #[inline]
+    pub fn into_parts(self) -> (T, E) {
+        (self.value, self.error)
+    }
+
+    /// What was handed in.
+    ///
+    /// <details><summary>Contract</summary>
+    ///
+    /// In the words of the folder `specs/` of crate `ent_handle`:
+    ///
+    /// ```text
+    /// ensures { result.now ≡ self.now.value }
+    /// ```
+    ///
+    /// </details>
+    #[must_use]
+    #[inline]
+    pub fn value(&self) -> &T {
+        &self.value
+    }
+
+    /// Why it wasn't taken.
+    ///
+    /// <details><summary>Contract</summary>
+    ///
+    /// In the words of the folder `specs/` of crate `ent_handle`:
+    ///
+    /// ```text
+    /// ensures { result.now ≡ self.now.error }
+    /// ```
+    ///
+    /// </details>
+    #[must_use]
+    #[inline]
+    pub fn error(&self) -> &E {
+        &self.error
+    }
+}
+
+/// The error alone.
+impl<T, E: fmt::Debug> fmt::Debug for HandedBack<T, E> {
+    #[inline]
+    fn fmt(&self, f: &mut fmt::Formatter<'_>) -> fmt::Result {
+        self.error.fmt(f)
+    }
+}
+
+impl<T, E: fmt::Display> fmt::Display for HandedBack<T, E> {
+    #[inline]
+    fn fmt(&self, f: &mut fmt::Formatter<'_>) -> fmt::Result {
+        self.error.fmt(f)
+    }
+}
+
+impl<T, E: fmt::Debug + fmt::Display> Error for HandedBack<T, E> {}
