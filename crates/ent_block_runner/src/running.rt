@@ -115,7 +115,7 @@ where
         systems,
     };
     let mut nothing = [(); WORKERS];
-    let Some(done) = crew.work(rt, &mut nothing[..workers], &stage, &mut Vec::new(alloc)) else {
+    let Ok(done) = crew.work(rt, &mut nothing[..workers], &stage) else {
         return Err(unrun(returned, RunError::Lost));
     };
     split(done, &mut logs, &mut returned);

@@ -7,9 +7,10 @@ pub use Rattle.std.proofs.lemmas.List.Concat.{flat_map-append}
 pub use Rattle.std.proofs.lemmas.List.Elements.{All-append, All-cons, All-head, All-nil, All-tail, Contains-get_or}
 pub use Rattle.std.proofs.lemmas.List.Sorted.{All-permutation, IsPermutation-sym}
 pub use Rattle.std.proofs.lemmas.Option.{get_or_from_slice_get, slice_get_within}
+pub use Rattle.std.proofs.lemmas.Result.{IfErr-weaker, IfOk-weaker}
 pub use Rattle.std.specs.List.{All, AllPairs, flat_map, range_with_len}
 pub use Rattle.std.specs.List.Sorted.{IsPermutation}
-pub use Rattle.std.specs.Prelude.{IfNone, IfOk, IfSome, IsErrOf, IsTrue, OnErr, OnOk, filter, if◌then◌else◌, replicate, slice_get, ◌==◌}
+pub use Rattle.std.specs.Prelude.{IfErr, IfOk, IsErrOf, IsTrue, OnErr, OnOk, filter, if◌then◌else◌, replicate, slice_get, ◌==◌}
 pub use Rattle.ent_alloc.proofs.HandleSets.{stands_in-from_Contains}
 pub use Rattle.ent_alloc.proofs.Histories.{after_history-takes, given_in-not_live, given_in-taken}
 pub use Rattle.ent_alloc.proofs.ListLaws.{All-left, All-right}
@@ -25,7 +26,7 @@ pub use Rattle.ent_log.specs.Spawning.{returned}
 pub use Rattle.ent_log.specs.declared.entry.Entry.{Entry}
 pub use Rattle.ent_log.specs.declared.entry.Entry.TheVariants.{Command, Spawn}
 pub use Rattle.ent_runner.proofs.Adding.{added_at, all_either, each_may, ended_by, of_each, ours, own_mapped, stopped_last}
-pub use Rattle.ent_runner.proofs.Conducting.{none_weaker, some_weaker, written_back}
+pub use Rattle.ent_runner.proofs.Conducting.{err_follows, written_back}
 pub use Rattle.ent_runner.proofs.EachOutput.{broken_off_seen, done_seen, everywhere}
 pub use Rattle.ent_runner.proofs.ListedOnce.{flat_flat}
 pub use Rattle.ent_runner.proofs.Lists.{all_flat, all_from_each, each_of_all, filter_map_is, flat_all}

@@ -1,5 +1,5 @@
 -- What a crew did whose jobs are systems that fill logs, and the history of its reservers.
-use Rattle.ent_log_runner.proofs.Common.{rules, All, slice_get, List, Some, Option, Vec, Global, IfSome, IfNone, none_weaker, some_weaker, ap, length, sym, ℕ, ◌<◌, ◌∙◌, ◌≡◌, slice_get_within, AllPairs, flat_map, range_with_len, IsPermutation, ◌==◌, Call, IsLegal, after_history, given_in, Allocator, spawned_in, Entry, added_at, all_either, each_may, ended_by, of_each, ours, own_mapped, stopped_last, each_of_all, filter_map_is, AreBrokenOff, AreDone, DidAll, OfEach, Respects, as_call, handles_of, history_of, reservations_of, opened_records, Record, LogGains, HaveLogged, HaveRun, IsBrokenOff, SystemMayHaveLogged, SystemMayLog, entries_by, given_to, log_at}
+use Rattle.ent_log_runner.proofs.Common.{rules, All, slice_get, List, Some, Option, Vec, Global, Result, IfOk, IfErr, OnErr, err_follows, IfOk-weaker, ap, length, sym, ℕ, ◌<◌, ◌∙◌, ◌≡◌, slice_get_within, AllPairs, flat_map, range_with_len, IsPermutation, ◌==◌, Call, IsLegal, after_history, given_in, Allocator, spawned_in, Entry, added_at, all_either, each_may, ended_by, of_each, ours, own_mapped, stopped_last, each_of_all, filter_map_is, AreBrokenOff, AreDone, DidAll, OfEach, Respects, as_call, handles_of, history_of, reservations_of, opened_records, Record, LogGains, HaveLogged, HaveRun, IsBrokenOff, SystemMayHaveLogged, SystemMayLog, entries_by, given_to, log_at}
 use Rattle.ent_log_runner.proofs.Gaining.{log_gains_nothing, log_gains_then}
 
 -- what a system may do as a job
@@ -67,10 +67,11 @@ module _ {C : Type 0} (start after : Allocator) (workers : ℕ) (opens records :
       slice_get_within,
     )
 
-    broken_off : AreBrokenOff (Logs may systems) (Logs leave systems) (length systems) opens records
+    broken_off : (left : List (Option (List (Entry C))))
+        → AreBrokenOff (Logs may systems) (Logs leave systems) (length systems) opens left records
         → IsBrokenOff may leave systems workers start after
     unfolding run_is
-    broken_off done =
+    broken_off left done =
         let logs : List (List (Entry C)) = done.outputs in
         let Left : ℕ → List (Entry C) → Type 0 = SystemMayHaveLogged may leave systems in
         let did : OfEach done.ran opens records (λ mine a b. DidAll (λ n before log after. LogGains before log after
@@ -90,9 +91,9 @@ module _ {C : Type 0} (start after : Allocator) (workers : ℕ) (opens records :
         }
 
     -- the crew has worked, and the allocator was closed
-    pub ran : (got : Option (Vec (List (Entry C)) Global)) (jobs : ℕ) → jobs ≡ length systems
-        → IfSome got (λ logs. AreDone (Logs may systems) jobs opens logs.items records)
-        → IfNone got (AreBrokenOff (Logs may systems) (Logs leave systems) jobs opens records)
-        → IfSome got (λ logs. HaveLogged may systems workers start logs.items after)
-        × IfNone got (IsBrokenOff may leave systems workers start after)
-    ran got jobs all done lost = search (rules, none_weaker, broken_off, some_weaker, logged)
+    pub ran : (got : Result (Vec (List (Entry C)) Global) (Vec (Option (List (Entry C))) Global)) (jobs : ℕ)
+        → jobs ≡ length systems → IfOk got (λ logs. AreDone (Logs may systems) jobs opens logs.items records)
+        → IfErr got (λ left. AreBrokenOff (Logs may systems) (Logs leave systems) jobs opens left.items records)
+        → IfOk got (λ logs. HaveLogged may systems workers start logs.items after)
+        × OnErr got (IsBrokenOff may leave systems workers start after)
+    ran got jobs all done lost = search (rules, err_follows, broken_off, IfOk-weaker, logged)

@@ -1,6 +1,6 @@
 //! A crew: workers that do jobs side by side, in room that was asked for before.
 ghost use Rattle.std.specs.Prelude.{◌≡◌, ◌<◌, ◌≤◌, ◌^◌, [], length, map, reverse, replicate};
-ghost use Rattle.std.specs.Prelude.{All, Any, IfOk, IfSome, IfNone, None, true, false, flat_map};
+ghost use Rattle.std.specs.Prelude.{All, Any, IfOk, IfErr, OnErr, None, true, false, flat_map};
 ghost use Rattle.std.specs.Prelude.{vec_capacity};
 ghost use Rattle.ent_runner.specs.Collecting.{outputs_put};
 ghost use Rattle.ent_runner.specs.Crew.{AreDone, AreBrokenOff};
@@ -74,17 +74,13 @@ impl<O: Drop> Crew<O> {
     ///
     /// The workers run in threads of `rt`. If a thread can't be started, another one does its work.
     ///
-    /// `None` means that memory ran out: a job returned `Memory`, or jobs are left and no worker
-    /// has memory for the output of another one. All workers have ended then. What the jobs did to
-    /// what was lent stays done. The outputs are in `left`, so that the caller drops them when it is
-    /// ready for what their drop may do. What was in `left` before is gone.
-    pub fn work<R, L, J>(
-        self,
-        rt: &R,
-        lent: &mut [L],
-        jobs: &J,
-        left: &mut Vec<Option<O>>,
-    ) -> Option<Vec<O>>
+    /// # Errors
+    ///
+    /// The outputs that were made, each at the number of its job. Memory ran out: a job returned
+    /// `Memory`, or jobs are left and no worker has memory for the output of another one. All
+    /// workers have ended then. What the jobs did to what was lent stays done. The caller drops the
+    /// outputs when it is ready for what their drop may do.
+    pub fn work<R, L, J>(self, rt: &R, lent: &mut [L], jobs: &J) -> Result<Vec<O>, Vec<Option<O>>>
     where
         R: Threads + Sync,
         O: Send,
@@ -95,13 +91,13 @@ impl<O: Drop> Crew<O> {
         requires lent { All (J.may_have jobs.now) lent.old }
         ensures count { length lent.new ≡ length lent.old }
         ensures lent { All (J.may_have jobs.now) lent.new }
-        ensures done { IfSome result (λ outputs. AreDone (J.may_do jobs.now) self.jobs
+        ensures done { IfOk result (λ outputs. AreDone (J.may_do jobs.now) self.jobs
             lent.old outputs.items lent.new) }
-        ensures broken_off { IfNone result (AreBrokenOff (J.may_do jobs.now)
-            (J.may_leave jobs.now) self.jobs lent.old lent.new) }
+        ensures broken_off { IfErr result (λ left. AreBrokenOff (J.may_do jobs.now)
+            (J.may_leave jobs.now) self.jobs lent.old left.items lent.new) }
 
         // So late, memory runs out only in a job, or in workers that have done one.
-        ensures some { IfNone result (0 < self.jobs) }
+        ensures some { OnErr result (0 < self.jobs) }
     {
         let Crew {
             claims,
@@ -121,10 +117,9 @@ impl<O: Drop> Crew<O> {
         disband(workers, &mut claimers, &mut by_number);
         claims.close(claimers);
         if stopped {
-            *left = by_number;
-            return None;
+            return Err(by_number);
         }
-        collect(by_number, outputs, left)
+        collect(by_number, outputs)
     }
 }
 

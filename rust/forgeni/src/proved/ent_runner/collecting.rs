@@ -27,32 +27,32 @@ fn put<O>(done: Done<O>, by_number: &mut [Option<O>])
 }
 
 /// Moves the outputs into this list, which has room for them, in the order of the jobs. If a job has
-/// no output, since it wasn't done, it returns `None`, and drops no output: they are in `left`.
+/// no output, since it wasn't done, it hands the others back.
 #[inline]
 pub(super) fn collect<O>(
     by_number: Vec<Option<O>>,
     mut outputs: Vec<O>,
-    left: &mut Vec<Option<O>>,
-) -> Option<Vec<O>>
+) -> Result<Vec<O>, Vec<Option<O>>>
     // requires empty { outputs.items ≡ [] }
     // requires room { length by_number.items ≤ vec_capacity outputs }
-    // ensures all { IfSome result (λ outputs. map Some outputs.items ≡ by_number.items) }
-    // ensures lacking { IfNone result (Any (λ output. output ≡ None) by_number.items) }
+    // ensures all { IfOk result (λ outputs. map Some outputs.items ≡ by_number.items) }
+    // ensures left { IfErr result (λ left. left.items ≡ by_number.items) }
+    // ensures lacking { OnErr result (Any (λ output. output ≡ None) by_number.items) }
 {
     if lacks_one(&by_number) {
-        *left = by_number;
-        return None;
+        return Err(by_number);
     }
     for output in by_number {
-        outputs.push_reserved(output?);
+        outputs.push_reserved(output.unwrap());
     }
-    Some(outputs)
+    Ok(outputs)
 }
 
 /// Whether a job has no output.
 #[inline]
 fn lacks_one<O>(by_number: &[Option<O>]) -> bool
-    // ensures { IsTrue result → Any (λ output. output ≡ None) by_number.now }
+    // ensures some { result ≡ true → Any (λ output. output ≡ None) by_number.now }
+    // ensures none { result ≡ false → All IsSome by_number.now }
 {
     for output in by_number {
         if output.is_none() {

@@ -48,7 +48,9 @@ pub returns-then-stopped-clause-broken_off : goal.returns-then-stopped-clause-br
 returns-then-stopped-clause-broken_off g c =
     let b = (goal.at.returns-then-stopped-clause-broken_off g c).After-close in
     rw (jobs_end g b) (are_broken_off _ _ _ _ _ _ _ c.run_all.ensures (first g b)
-    (inl (rw (c.deref.ensures.value, team_end g b) at (c.some_stopped-stopped.ensures.some c.if-stopped.true))))
+    (inl (rw (c.deref.ensures.value, team_end g b) at (c.some_stopped-stopped.ensures.some c.if-stopped.true))) _
+    (outputs_back _ _ (all_done c.run_all.new.workers) _ _ c.self.invariant.by_number_empty c.self.inside.by_number.ok.0
+    (rw (c.deref_mut-2.ensures.value, team_end g b) at c.disband.ensures.by_number)))
 
 pub returns-then-stopped-clause-some : goal.returns-then-stopped-clause-some
 returns-then-stopped-clause-some g c =
@@ -70,4 +72,5 @@ returns-clause-broken_off g c =
     let b = (goal.at.returns-clause-broken_off g c).After-close in
     rw (jobs_end g b) (lost_of _ _ _ _ _ _ _ c.run_all.ensures (first g b) c.collect.result _
     (outputs_back _ _ (all_done c.run_all.new.workers) _ _ c.self.invariant.by_number_empty c.self.inside.by_number.ok.0
-    (rw (c.deref_mut-2.ensures.value, team_end g b) at c.disband.ensures.by_number)) c.collect.ensures.lacking)
+    (rw (c.deref_mut-2.ensures.value, team_end g b) at c.disband.ensures.by_number)) c.collect.ensures.left
+    c.collect.ensures.lacking)
