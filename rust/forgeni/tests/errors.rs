@@ -5,7 +5,7 @@ use forgeni::{
     FinishError, FreeError, Freed, GoOnError, HandedBack, Handle, HandleMap, ImageFault,
     InsertError, Lent, Limits, OpenWorld, OtherPhase, OutOfMemory, ParseHandleError, Queues,
     Refused, Report, ReserveError, Reserver, ShareError, Shared, State, Stop, Stopped, Storage,
-    StorageError, SyncError, Unclosed, Unfinished, Unopened, Unshared, View, World,
+    StorageError, SyncError, Unclosed, Unfinished, View, World,
 };
 use std::error::Error;
 
@@ -38,8 +38,8 @@ fn each_error_travels() {
     travels::<Stop>();
     travels::<Unclosed>();
     travels::<Unfinished>();
-    travels::<Unopened>();
-    travels::<Unshared>();
+    travels::<HandedBack<Entities, ShareError>>();
+    travels::<HandedBack<World, ShareError>>();
     #[cfg(feature = "std")]
     travels::<forgeni::FrameError>();
     #[cfg(feature = "std")]
@@ -118,7 +118,7 @@ fn an_error_of_another_thread() {
     let ran = std::thread::spawn(not_shared)
         .join()
         .expect("it doesn't panic");
-    let refused = ran.expect_err("refused").downcast::<Unshared>();
+    let refused = ran.expect_err("refused").downcast::<HandedBack<Entities, ShareError>>();
     let (entities, error) = refused.expect("of this type").into_parts();
     assert_eq!((entities.len(), error), (0, ShareError::Count));
 }

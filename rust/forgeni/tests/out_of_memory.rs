@@ -667,8 +667,8 @@ fn share_gives_the_allocator_back() {
         let (shared, refused) = refusing(refusal, || entities.share(5));
         let (shared, mut reservers) = shared.unwrap_or_else(|unshared| {
             assert!(refused > 0);
-            assert_eq!(unshared.error, ShareError::Memory);
-            let entities = unshared.entities;
+            let (entities, error) = unshared.into_parts();
+            assert_eq!(error, ShareError::Memory);
             assert_eq!((entities.len(), entities.top()), (2, 1));
             assert!(!entities.needs_flush());
             entities.share(5).expect("memory")
@@ -1404,9 +1404,10 @@ fn open_gives_the_world_back() {
         let (opened, refused) = refusing(refusal, || world.open(3));
         let (open, systems) = opened.unwrap_or_else(|unopened| {
             assert!(refused > 0);
-            assert_eq!(unopened.error, ShareError::Memory);
-            assert_eq!(all(&unopened.world), before);
-            unopened.world.open(3).expect("memory")
+            let (world, error) = unopened.into_parts();
+            assert_eq!(error, ShareError::Memory);
+            assert_eq!(all(&world), before);
+            world.open(3).expect("memory")
         });
         let queues = systems.into_iter().map(Commands::finish).collect();
         let (world, _) = open.close(queues).expect("closed");

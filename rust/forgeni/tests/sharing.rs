@@ -106,15 +106,15 @@ fn a_refused_share_gives_the_allocator_back() {
     let mut entities = with_two_waiting();
     for count in [0, 1025, usize::MAX] {
         let refused = entities.share(count).expect_err("refused");
-        assert_eq!(refused.error, ShareError::Count);
-        entities = refused.entities;
+        assert_eq!(refused.error(), &ShareError::Count);
+        entities = refused.into_parts().0;
         assert_eq!((entities.len(), entities.top()), (1, 2));
     }
     entities.request().expect("a handle");
     let refused = entities.share(1).expect_err("refused");
-    assert_eq!(refused.error, ShareError::NeedsFlush);
+    assert_eq!(refused.error(), &ShareError::NeedsFlush);
     assert_eq!(refused.to_string(), "a flush is needed first");
-    entities = refused.entities;
+    entities = refused.into_parts().0;
     assert_eq!(flushed(&mut entities), vec![handle(0, 2)]);
 }
 

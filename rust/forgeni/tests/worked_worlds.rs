@@ -328,18 +328,19 @@ fn handle_of_the_other() -> forgeni::Handle {
 #[test]
 fn a_world_is_opened_for_some_systems() {
     let refused = World::new().open(0).expect_err("no system");
-    assert_eq!(refused.error, ShareError::Count);
     assert_eq!(refused.to_string(), "a phase has 1 to 1,024 callers");
-    let refused = refused.world.open(1025).expect_err("too many");
-    assert_eq!(refused.error, ShareError::Count);
-    let (open, mut systems) = refused.world.open(1024).expect("a phase");
+    let (world, error) = refused.into_parts();
+    assert_eq!(error, ShareError::Count);
+    let (world, error) = world.open(1025).expect_err("too many").into_parts();
+    assert_eq!(error, ShareError::Count);
+    let (open, mut systems) = world.open(1024).expect("a phase");
     systems[1023].spawn(&[]).expect("a handle");
     let queues = systems.into_iter().map(|one| one.finish()).collect();
     let (world, queues) = open.close(queues).expect("all queues");
     drop(queues);
     let refused = world.open(1).expect_err("not flushed");
-    assert_eq!(refused.error, ShareError::NeedsFlush);
-    let mut world = refused.world;
+    let (mut world, error) = refused.into_parts();
+    assert_eq!(error, ShareError::NeedsFlush);
     assert_eq!(world.flush(), Ok(()));
     let birth = Birth {
         frame: 0,
