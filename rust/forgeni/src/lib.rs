@@ -77,7 +77,7 @@ pub use on_rayon::Rayon;
 pub use proved::ent_alloc::Limits;
 #[cfg(feature = "std")]
 pub use reservers::{Lends, Reservers, Unpooled};
-pub use sharing::{CloseError, OtherPhase, Reserver, ShareError, Shared, Unclosed};
+pub use sharing::{CloseError, OtherPhase, Reserver, ShareError, Shared};
 pub use sparse_map::SparseMap;
 pub use storage::{Bundle, Items, Storage, StorageError};
 pub use sync::{Fault, FaultKind, GoOnError, Queues, Report, Stop, Stopped, SyncError};

@@ -1,6 +1,5 @@
 //! An allocator that many threads reserve from at once.
 
-use crate::errors::fails;
 use crate::numbers::next_number;
 use crate::phase::closed;
 use crate::proved::ent_total::share;
@@ -8,8 +7,7 @@ use crate::shown::shows;
 use crate::{Entities, HandedBack};
 use alloc::vec::Vec;
 
-pub use crate::proved::ent_total::{CloseError, OtherPhase, Reserver, ShareError};
-pub use crate::proved::ent_total::{Shared, Unclosed};
+pub use crate::proved::ent_total::{CloseError, OtherPhase, Reserver, ShareError, Shared};
 
 impl Entities {
     /// Shares the allocator among `callers` reservers, 1 to 1,024, each of which may go to a thread
@@ -62,9 +60,4 @@ impl Entities {
 shows! {
     Shared: count returned;
     Reserver: number quota_left;
-}
-
-fails! {
-    finish;
-    Unclosed: shared reservers error;
 }

@@ -1,6 +1,5 @@
 //! Worlds: what their proved sources can't have.
 
-use crate::errors::fails;
 use crate::numbers::next_number;
 use crate::proved::ent_total::{clone_world, clone_world_from, new_world};
 use crate::proved::ent_total::{open, open_in_blocks, read_world, read_world_within};
@@ -9,8 +8,8 @@ use crate::world_phase::closed;
 use crate::{BlockReserver, HandedBack, Limits, OutOfMemory, ShareError, WorldImageFault};
 use alloc::vec::Vec;
 
-pub use crate::proved::ent_total::{CommandQueue, Commands, FinishError, OpenWorld, UndealtWorld};
-pub use crate::proved::ent_total::{UnendedWorld, Unfinished, World, WorldInBlocks};
+pub use crate::proved::ent_total::{CommandQueue, Commands, OpenWorld, UndealtWorld, UnendedWorld};
+pub use crate::proved::ent_total::{World, WorldInBlocks};
 pub use crate::proved::ent_world::View;
 
 impl World {
@@ -244,9 +243,4 @@ shows! {
     Commands: number;
     CommandQueue: number;
     View<'_>: phase;
-}
-
-fails! {
-    finish;
-    Unfinished: open queues error;
 }

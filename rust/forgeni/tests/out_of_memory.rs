@@ -723,8 +723,9 @@ fn reserving_too_many() {
         (given, refused),
         (Err(ReserveError::Space { wanted, left: 0 }), 0)
     );
-    let kept = missing.shared.close(vec![reservers.pop().expect("two")]);
-    let mut back = kept.expect_err("one is missing").reservers;
+    let (shared, _) = missing.into_parts().0;
+    let kept = shared.close(vec![reservers.pop().expect("two")]);
+    let (_, mut back) = kept.expect_err("one is missing").into_parts().0;
     let (given, refused) = refusing(none, || back[0].reserve_many(wanted));
     assert_eq!(
         (given, refused),
@@ -740,9 +741,10 @@ fn closes_of_allocators_take_no_memory() {
     reservers[0].reserve().expect("a handle");
     let none = Refusal::All { after: 0 };
     let (left, refused) = refusing(none, || shared.close(reservers).expect_err("missing"));
-    assert_eq!((refused, left.reservers.len()), (0, 8));
+    let (shared, reservers) = left.into_parts().0;
+    assert_eq!((refused, reservers.len()), (0, 8));
     drop(away);
-    let closed = || left.shared.close_lost(left.reservers).expect("closed");
+    let closed = || shared.close_lost(reservers).expect("closed");
     let (entities, refused) = refusing(none, closed);
     assert_eq!((refused, entities.reserved()), (0, 1));
 }
@@ -754,8 +756,9 @@ fn a_close_after_one_in_use() {
     let away = reservers.pop().expect("nine");
     let none = Refusal::All { after: 0 };
     let (left, _) = refusing(none, || shared.close_lost(reservers).expect_err("in use"));
-    assert_eq!((left.reservers.len(), left.shared.returned()), (0, 8));
-    let (shared, mut reservers) = (left.shared, vec![away]);
+    let (shared, mut reservers) = left.into_parts().0;
+    assert_eq!((reservers.len(), shared.returned()), (0, 8));
+    reservers.push(away);
     reservers[0].reserve().expect("a handle");
     assert_eq!(shared.close(reservers).expect("closed").reserved(), 1);
 }

@@ -5,6 +5,7 @@
 
 mod applying;
 mod cloning;
+mod close_error;
 mod closing;
 mod command_queue;
 mod commands;
@@ -31,10 +32,8 @@ mod stop;
 mod stopped;
 mod sync_error;
 mod unbegun;
-mod unclosed;
 mod undealt_world;
 mod unended_world;
-mod unfinished;
 mod unframed;
 mod world;
 mod world_in_blocks;
@@ -42,6 +41,7 @@ mod world_opening;
 mod world_returning;
 
 pub use cloning::{clone_world, clone_world_from};
+pub use close_error::CloseError;
 pub use command_queue::CommandQueue;
 pub use commands::Commands;
 pub use dealing::{WorldDeal, open_in_blocks};
@@ -63,10 +63,8 @@ pub use stop::Stop;
 pub use stopped::Stopped;
 pub use sync_error::SyncError;
 pub use unbegun::Unbegun;
-pub use unclosed::{CloseError, Unclosed};
 pub use undealt_world::UndealtWorld;
 pub use unended_world::UnendedWorld;
-pub use unfinished::{FinishError, Unfinished};
 pub use unframed::Unframed;
 pub use world::{World, new_world};
 pub use world_in_blocks::WorldInBlocks;
