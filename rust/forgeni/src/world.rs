@@ -5,10 +5,10 @@ use crate::proved::ent_total::{clone_world, clone_world_from, new_world};
 use crate::proved::ent_total::{open, open_in_blocks, read_world, read_world_within};
 use crate::shown::shows;
 use crate::world_phase::closed;
-use crate::{BlockReserver, HandedBack, Limits, OutOfMemory, ShareError, WorldImageFault};
+use crate::{BlockReserver, DealError, HandedBack, Limits, OutOfMemory, ShareError, WorldImageFault};
 use alloc::vec::Vec;
 
-pub use crate::proved::ent_total::{CommandQueue, Commands, OpenWorld, UndealtWorld, UnendedWorld};
+pub use crate::proved::ent_total::{CommandQueue, Commands, OpenWorld, UnendedWorld};
 pub use crate::proved::ent_total::{World, WorldInBlocks};
 pub use crate::proved::ent_world::View;
 
@@ -216,15 +216,11 @@ impl World {
     ///
     /// # Errors
     ///
-    /// [`UndealtWorld`] has the error, and the world as it was: [`DealError::NeedsFlush`], or
-    /// [`DealError::Memory`].
-    ///
-    /// [`DealError::NeedsFlush`]: crate::DealError::NeedsFlush
-    /// [`DealError::Memory`]: crate::DealError::Memory
+    /// [`HandedBack`] has the world as it was, and [`DealError::NeedsFlush`] or [`DealError::Memory`].
     pub fn open_in_blocks(
         self,
         sizes: &[u32],
-    ) -> Result<(WorldInBlocks, Vec<BlockReserver>), UndealtWorld> {
+    ) -> Result<(WorldInBlocks, Vec<BlockReserver>), HandedBack<World, DealError>> {
         Ok(open_in_blocks(self, sizes)?.numbered(next_number()))
     }
 }

@@ -1290,18 +1290,18 @@ fn a_sync_point_of_systems() {
         };
         assert!(refused > 0);
         assert_eq!(born, [handle(7, 7)]);
-        match unbegun.error {
+        let (mut logs, error) = unbegun.into_parts();
+        match error {
             LogError::Memory => assert_eq!(told(&entities), before),
             LogError::Lost => assert_eq!(entities.len(), 2),
             error => {
-                let mut logs = unbegun.logs;
                 assert_eq!((error, logs.len()), (LogError::Unborn, 2));
                 let sync = SyncPoint::begin(&mut entities, &mut logs, &mut born);
                 assert!(sync.is_ok() && entities.len() == 100);
                 return refused;
             }
         }
-        assert!(unbegun.logs.is_empty());
+        assert!(logs.is_empty());
         refused
     });
 }
@@ -1722,7 +1722,7 @@ mod frames {
     use super::*;
     use forgeni::{
         run_frame, run_frame_in_blocks, BlockReserver, CommandsInBlocks, DealError, EndError,
-        FrameError, RunError, SystemCommands, UndealtWorld, Unframed, View, WorldInBlocks,
+        FrameError, HandedBack, RunError, SystemCommands, Unframed, View, WorldInBlocks,
     };
 
     /// Systems that issue by commands of this type.
@@ -1836,7 +1836,7 @@ mod frames {
     }
 
     /// Blocks of six handles.
-    fn framed(world: World) -> Result<Framed, UndealtWorld> {
+    fn framed(world: World) -> Result<Framed, HandedBack<World, DealError>> {
         world
             .open_in_blocks(&[6; 3])
             .map(|(world, reservers)| run(world, reservers))
@@ -1856,9 +1856,10 @@ mod frames {
                     return refused;
                 }
                 Err(undealt) => {
-                    assert_eq!(undealt.error, DealError::Memory);
-                    assert_eq!(all(&undealt.world), all(&two()));
-                    let again = framed(undealt.world).expect("memory").expect("memory");
+                    let (world, error) = undealt.into_parts();
+                    assert_eq!(error, DealError::Memory);
+                    assert_eq!(all(&world), all(&two()));
+                    let again = framed(world).expect("memory").expect("memory");
                     assert_eq!((again.1, all(&again.0)), wanted);
                     (again.0, 0)
                 }

@@ -260,9 +260,10 @@ mod of_many {
             let (opened, refused) = refusing(refusal, || world.open_in_blocks(&sizes));
             let (open, reservers) = opened.unwrap_or_else(|undealt| {
                 assert!(refused > 0);
-                assert_eq!(undealt.error, DealError::Memory);
-                assert_eq!(all(&undealt.world), all(&two()));
-                undealt.world.open_in_blocks(&sizes).expect("memory")
+                let (world, error) = undealt.into_parts();
+                assert_eq!(error, DealError::Memory);
+                assert_eq!(all(&world), all(&two()));
+                world.open_in_blocks(&sizes).expect("memory")
             });
             assert_eq!(reservers.len(), 1_100);
             let closed = open.close(reservers);
@@ -359,7 +360,7 @@ mod systems {
         let (done, refused) = refusing(refusal, || match with_sync {
             true => run_to_sync_point(&StdThreads, &mut entities, &systems, 1, &mut born)
                 .map(drop)
-                .map_err(|unbegun| unbegun.error),
+                .map_err(|unbegun| unbegun.into_parts().1),
             false => run_logs(&mut entities, &systems, 1).map(drop),
         });
         let ran = ran.load(Ordering::Relaxed);
