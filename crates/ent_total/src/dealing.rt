@@ -1,7 +1,7 @@
 //! A world is opened in blocks.
 ghost use Rattle.std.specs.Prelude.{◌≡◌, ◌<◌, ◌↔◌, All, IfOk, IfErr, length};
 ghost use Rattle.ent_blocks.specs.Blocks.{blocks_from, blocks_of};
-ghost use Rattle.ent_blocks.specs.declared.undealt.DealError.TheVariants as failed;
+ghost use Rattle.ent_blocks.specs.declared.deal_error.DealError.TheVariants as failed;
 ghost use Rattle.ent_total.specs.Faults.{IsErrWith};
 ghost use Rattle.ent_world.specs.InBlocks.{world_dealt};
 

@@ -8,8 +8,7 @@ use crate::world_phase::closed;
 use crate::{BlockReserver, DealError, HandedBack, Limits, OutOfMemory, ShareError, WorldImageFault};
 use alloc::vec::Vec;
 
-pub use crate::proved::ent_total::{CommandQueue, Commands, OpenWorld, UnendedWorld};
-pub use crate::proved::ent_total::{World, WorldInBlocks};
+pub use crate::proved::ent_total::{CommandQueue, Commands, OpenWorld, World, WorldInBlocks};
 pub use crate::proved::ent_world::View;
 
 impl World {

@@ -1885,8 +1885,9 @@ mod frames {
                     (again.0, 2)
                 }
                 Ok(Err(Unframed::Unended { unended, queues })) => {
-                    assert_eq!(unended.error, EndError::Memory);
-                    let closed = unended.world.close(unended.reservers);
+                    let ((opened, reservers), error) = unended.into_parts();
+                    assert_eq!(error, EndError::Memory);
+                    let closed = opened.close(reservers);
                     let mut world = closed.expect("memory");
                     let faults = world.apply(queues).expect("memory").faults;
                     assert_eq!((faults, all(&world)), wanted);
@@ -1917,8 +1918,9 @@ mod frames {
             let (opened, _) = two().open_in_blocks(&[6; 3]).expect("memory");
             let (closed, refused) = refusing(refusal, || opened.close_lost(vec![]));
             let closed = closed.or_else(|unended| {
-                assert_eq!(unended.error, EndError::Memory);
-                unended.world.close_lost(unended.reservers)
+                let ((opened, reservers), error) = unended.into_parts();
+                assert_eq!(error, EndError::Memory);
+                opened.close_lost(reservers)
             });
             let mut world = closed.expect("memory");
             world.flush().expect("memory");

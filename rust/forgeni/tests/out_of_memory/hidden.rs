@@ -239,18 +239,17 @@ mod of_many {
             let (opened, refused) = refusing(refusal, || entities.open_in_blocks(&sizes));
             let (blocks, reservers) = opened.unwrap_or_else(|undealt| {
                 assert!(refused > 0);
-                assert_eq!(
-                    (undealt.error, undealt.entities.len()),
-                    (DealError::Memory, 2)
-                );
-                undealt.entities.open_in_blocks(&sizes).expect("memory")
+                let (entities, error) = undealt.into_parts();
+                assert_eq!((error, entities.len()), (DealError::Memory, 2));
+                entities.open_in_blocks(&sizes).expect("memory")
             });
             assert_eq!(reservers.len(), 1_100);
             let (closed, more) = refusing(refusal, || blocks.close(reservers));
             let entities = closed.or_else(|unended| {
                 assert!(more > 0);
-                assert_eq!(unended.error, forgeni::EndError::Memory);
-                unended.blocks.close(unended.reservers)
+                let ((blocks, reservers), error) = unended.into_parts();
+                assert_eq!(error, forgeni::EndError::Memory);
+                blocks.close(reservers)
             });
             assert_eq!(entities.expect("memory").len(), 2);
             refused + more
@@ -396,11 +395,9 @@ mod systems {
             let (done, refused) = refusing(refusal, run);
             let (logs, reservers) = done.unwrap_or_else(|unrun| {
                 assert!(refused > 0);
-                assert_eq!(
-                    (unrun.error, unrun.reservers.len()),
-                    (RunError::Memory, 1_100)
-                );
-                run_in_blocks(&StdThreads, &blocks, unrun.reservers, &systems, 1).expect("memory")
+                let (reservers, error) = unrun.into_parts();
+                assert_eq!((error, reservers.len()), (RunError::Memory, 1_100));
+                run_in_blocks(&StdThreads, &blocks, reservers, &systems, 1).expect("memory")
             });
             assert_eq!(
                 (logs.len(), blocks.close(reservers).expect("memory").len()),
