@@ -5,7 +5,9 @@ use crate::proved::ent_total::{clone_world, clone_world_from, new_world};
 use crate::proved::ent_total::{open, open_in_blocks, read_world, read_world_within};
 use crate::shown::shows;
 use crate::world_phase::closed;
-use crate::{BlockReserver, DealError, HandedBack, Limits, OutOfMemory, ShareError, WorldImageFault};
+use crate::{
+    BlockReserver, DealError, HandedBack, Limits, OutOfMemory, ShareError, WorldImageFault,
+};
 use alloc::vec::Vec;
 
 pub use crate::proved::ent_total::{CommandQueue, Commands, OpenWorld, World, WorldInBlocks};

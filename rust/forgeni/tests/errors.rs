@@ -2,10 +2,10 @@
 
 use forgeni::{
     Absent, AllocError, CloseError, CommandQueue, Commands, ComponentId, Entities, Fault,
-    FreeError, Freed, GoOnError, HandedBack, Handle, HandleMap, ImageFault,
-    InsertError, Lent, Limits, OpenWorld, OtherPhase, OutOfMemory, ParseHandleError, Queues,
-    Refused, Report, ReserveError, Reserver, ShareError, Shared, State, Stop, Stopped, Storage,
-    StorageError, SyncError, View, World,
+    FreeError, Freed, GoOnError, HandedBack, Handle, HandleMap, ImageFault, InsertError, Lent,
+    Limits, OpenWorld, OtherPhase, OutOfMemory, ParseHandleError, Queues, Refused, Report,
+    ReserveError, Reserver, ShareError, Shared, State, Stop, Stopped, Storage, StorageError,
+    SyncError, View, World,
 };
 use std::error::Error;
 
@@ -42,7 +42,7 @@ fn each_error_travels() {
     #[cfg(feature = "std")]
     travels::<forgeni::FrameError>();
     #[cfg(feature = "std")]
-    travels::<forgeni::Unpooled<std::vec::IntoIter<Reserver>>>();
+    travels::<HandedBack<std::vec::IntoIter<Reserver>, OutOfMemory>>();
 }
 
 /// What is read through a shared reference can be read by many threads at once.
@@ -117,7 +117,9 @@ fn an_error_of_another_thread() {
     let ran = std::thread::spawn(not_shared)
         .join()
         .expect("it doesn't panic");
-    let refused = ran.expect_err("refused").downcast::<HandedBack<Entities, ShareError>>();
+    let refused = ran
+        .expect_err("refused")
+        .downcast::<HandedBack<Entities, ShareError>>();
     let (entities, error) = refused.expect("of this type").into_parts();
     assert_eq!((entities.len(), error), (0, ShareError::Count));
 }

@@ -824,7 +824,7 @@ fn entries_and_drains_of_maps() {
                 *it += 1;
                 let (_, mut above) = map.split_at_mut(9);
                 *above.get_mut(one).expect("it has one") += 1;
-                Ok::<_, forgeni::Uninserted<i32>>(map.drain().next())
+                Ok::<_, forgeni::HandedBack<i32, InsertError>>(map.drain().next())
             });
             assert_eq!((done, unasked), (Ok(Some((one, 12))), 0));
             refused
@@ -844,7 +844,7 @@ fn entries_and_drains_of_maps() {
                 map.iter_mut().for_each(|(_, it)| *it += 1);
                 let [it] = map.get_disjoint_mut([one]).expect("it has one");
                 *it += 1;
-                Ok::<_, forgeni::Uninserted<i32>>(map.drain().next())
+                Ok::<_, forgeni::HandedBack<i32, InsertError>>(map.drain().next())
             });
             assert_eq!((done, unasked), (Ok(Some((one, 11))), 0));
             refused

@@ -120,16 +120,13 @@ fn errors_with_parts() {
         (&unfinished, "missing callers: 1"),
     ]);
     debugs([
-        (
-            &unshared as &dyn Debug,
-            "Count",
-        ),
+        (&unshared as &dyn Debug, "Count"),
         (&unclosed, "Missing { count: 2 }"),
         (&unopened, "Count"),
         (&unfinished, "Missing { count: 1 }"),
     ]);
     let queues = systems.into_iter().map(Commands::finish).collect();
-    let (_, queues) = unfinished.into_parts().0.0.close(queues).expect("closed");
+    let (_, queues) = unfinished.into_parts().0 .0.close(queues).expect("closed");
     let unapplied = World::new().apply(queues).expect_err("another world");
     displays([(
         &unapplied as &dyn Display,
@@ -391,15 +388,9 @@ mod frames {
         let (_shared, mut reservers) = Entities::new().share(2).expect("shared");
         let pool = Reservers::new(&mut reservers).expect("memory");
         debugs([(&pool as &dyn Debug, "Reservers { count: 2, .. }")]);
-        let unpooled = forgeni::Unpooled {
-            reservers: [1, 2],
-            error: OutOfMemory,
-        };
+        let unpooled = forgeni::HandedBack::new([1, 2], OutOfMemory);
         displays([(&unpooled as &dyn Display, MEMORY)]);
-        debugs([(
-            &unpooled as &dyn Debug,
-            "Unpooled { error: OutOfMemory, .. }",
-        )]);
+        debugs([(&unpooled as &dyn Debug, "OutOfMemory")]);
     }
 }
 
