@@ -12,7 +12,7 @@ pub use Rattle.ent_alloc.specs.declared.refused.Refused.{Refused}
 pub use Rattle.ent_alloc.specs.declared.reserve_error.ReserveError.{ReserveError}
 pub use Rattle.ent_blocks.specs.Blocks.{Block, Phase, Reserver, after_refusal, after_use, are_among, blocks_of, is_same, unused}
 pub use Rattle.ent_blocks.specs.Faults.{IsMissing}
-pub use Rattle.ent_blocks.specs.declared.unended.EndError.{EndError}
+pub use Rattle.ent_blocks.specs.declared.end_error.EndError.{EndError}
 pub use Rattle.ent_handle.specs.Handle.{Handle}
 pub use Rattle.ent_log.specs.Logs.{spawned_in}
 pub use Rattle.ent_log.specs.Spawning.{returned}

@@ -1,17 +1,16 @@
 //! Frames: systems run on workers over one world or one allocator, and a sync point takes what they issued.
 
-use crate::errors::fails;
 use crate::guarding::{caught, guarded};
 use crate::proved::ent_runner::NoGate;
 use crate::proved::ent_total;
-use crate::{Entities, Handle, Log, LogSystem, Report, SyncPoint, System, World};
+use crate::{Entities, HandedBack, Handle, Log, LogSystem, Report, SyncPoint, System, World};
 use alloc::vec::Vec;
 
 pub use crate::kit::thread::{StdThreads, Threads as Join};
-pub use crate::proved::ent_block_runner::{run_in_blocks, RunError, Unrun};
+pub use crate::proved::ent_block_runner::{run_in_blocks, RunError};
 pub use crate::proved::ent_runner::FrameReport;
 pub use crate::proved::ent_total::{fill_in_blocks, run_frame_in_blocks};
-pub use crate::proved::ent_total::{FrameError, LogError, Unbegun, Unframed};
+pub use crate::proved::ent_total::{FrameError, LogError, Unframed};
 
 /// Runs each system once, on that many workers side by side, and then the sync point. It returns
 /// the report of the sync point.
@@ -265,11 +264,11 @@ pub fn run_logs_on<J: Join + Sync, C: Send, S: LogSystem<C> + Sync>(
 ///
 /// # Errors
 ///
-/// [`Unbegun`] has the error. `born` is as it was.
+/// [`HandedBack`] has the logs that the sync point did not take, and the error. `born` is as it was.
 ///
 /// - Those of [`run_logs`]. There are no logs.
 /// - [`Unborn`](LogError::Unborn): all systems ran, and there is no memory for what is born. What they
-///   reserved stays reserved, and the error has their logs, for [`SyncPoint::begin`].
+///   reserved stays reserved, and the logs are those of all systems, for [`SyncPoint::begin`].
 ///
 /// # Panics
 ///
@@ -282,15 +281,9 @@ pub fn run_to_sync_point<J: Join + Sync, C: Send, S: LogSystem<C> + Sync>(
     systems: &[S],
     workers: usize,
     born: &mut Vec<Handle>,
-) -> Result<SyncPoint<C>, Unbegun<C>> {
-    let memory = Unbegun::without_logs(LogError::Memory);
+) -> Result<SyncPoint<C>, HandedBack<Vec<Log<C>>, LogError>> {
+    let memory = HandedBack::new(Vec::new(), LogError::Memory);
     guarded(join, systems, memory, |join, systems| {
         caught(|| ent_total::run_to_sync_point(join, entities, systems, workers, born))
     })
-}
-
-// Without the logs, whose commands need not be ones that can be printed.
-fails! {
-    finish_non_exhaustive;
-    Unbegun<C>: error;
 }

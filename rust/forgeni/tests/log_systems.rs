@@ -91,7 +91,7 @@ fn the_sync_point_begins_at_once() {
         let listed = at_once.alloc().expect("a handle");
         let mut born = vec![listed];
         let sync = run_to_sync_point(&StdThreads, &mut at_once, &systems, workers, &mut born);
-        let mut sync = sync.map_err(|unbegun| unbegun.error).expect("memory");
+        let mut sync = sync.expect("memory");
         assert_eq!((born.len(), born[0], at_once.len()), (121, listed, 121));
 
         let logs = run_logs(&mut later, &systems, workers).expect("memory");
@@ -121,9 +121,10 @@ fn a_sync_point_that_does_not_begin() {
         let systems = numbered(&systems);
         let sync = run_to_sync_point(&StdThreads, &mut entities, &systems, workers, &mut born);
         let unbegun = sync.map(drop).expect_err("refused");
-        assert_eq!((unbegun.error, unbegun.logs.len()), (wanted, 0));
         assert_eq!(unbegun.to_string(), wanted.to_string());
-        assert!(format!("{unbegun:?}").starts_with("Unbegun { error: "));
+        assert_eq!(format!("{unbegun:?}"), format!("{wanted:?}"));
+        let (logs, error) = unbegun.into_parts();
+        assert_eq!((error, logs.len()), (wanted, 0));
     }
     assert!(born.is_empty() && entities.is_empty());
     assert_eq!(flushed(&mut entities).len(), 3);

@@ -210,9 +210,9 @@ fn share_again_and_again() {
                 return;
             }
             Err(refused) => {
-                assert_eq!(refused.error, ShareError::Memory);
+                assert_eq!(refused.error(), &ShareError::Memory);
                 assert_eq!(refused.to_string(), "out of memory");
-                entities = refused.entities;
+                entities = refused.into_parts().0;
                 assert!(entities.is_alive(one) && !entities.needs_flush());
             }
         }
@@ -237,9 +237,9 @@ fn open_again_and_again() {
                 return;
             }
             Err(refused) => {
-                assert_eq!(refused.error, ShareError::Memory);
+                assert_eq!(refused.error(), &ShareError::Memory);
                 assert_eq!(refused.to_string(), "out of memory");
-                world = refused.world;
+                world = refused.into_parts().0;
                 assert_eq!(world.get(one, ID), Some(3));
                 assert!(!world.needs_flush());
             }
