@@ -12,6 +12,17 @@ gained_nothing r = record {
   one_each = All-nil (λ (c : Reservation). c.requested ≡ 1);
 }
 
+-- what a spawn enters that was given this reply
+abbrev entered : {C : Type 0} → Result Handle Refused → Entry C
+entered (Ok h) = Spawn h
+entered (Err why) = entry.Refused why
+
+given_one : (C : Type 0) (shared : Shared) (before after : Reserver) (reply : Result Handle Refused)
+    → RepliesOne shared before reply after → handles_given after.own
+    ≡ handles_given before.own ++ spawned_in {C = C} (entered reply ∷ [])
+given_one C shared before after (Ok h) r = r.given
+given_one C shared before after (Err why) r = r.refused ∙ sym (append-nil (handles_given before.own))
+
 module _ {C : Type 0} where
   -- entries that stand for no call
   none_gained : (r : Record) (entries : List (Entry C)) → flat_map stands_for entries ≡ [] → sum_by cost entries ≡ 0
@@ -28,11 +39,6 @@ module _ {C : Type 0} where
   pub log_gains_nothing : (r : Record) → LogGains {C = C} r [] r
   log_gains_nothing r = none_gained r [] refl refl tt refl
 
-  -- what a spawn enters that was given this reply
-  abbrev entered : Result Handle Refused → Entry C
-  entered (Ok h) = Spawn h
-  entered (Err why) = entry.Refused why
-
   -- an entry that stands for the call with this reply
   record IsCall (left : ℕ) (reply : Result (List Handle) Space) (entry : Entry C) : Type 0 where
     calls : stands_for entry ≡ (1, reply) ∷ []
@@ -45,21 +51,15 @@ module _ {C : Type 0} where
       record { calls = ap (λ r. (1, r) ∷ []) (sym tells); within = some }
   is_call left (Err (refused.Quota rest)) reply some tells = absurd tells
 
-  given_one : (shared : Shared) (before after : Reserver) (reply : Result Handle Refused)
-      → RepliesOne shared before reply after → handles_given after.own
-      ≡ handles_given before.own ++ spawned_in (entered reply ∷ [])
-  given_one shared before after (Ok h) r = r.given
-  given_one shared before after (Err why) r = r.refused ∙ sym (append-nil (handles_given before.own))
-
   -- a reservation, and the entry that was added for it
   gains_one : (shared : Shared) (before after : Reserver) (reply : Result Handle Refused)
-      → RepliesOne shared before reply after → LogGains before.own (entered reply ∷ []) after.own
+      → RepliesOne shared before reply after → LogGains {C = C} before.own (entered reply ∷ []) after.own
   gains_one shared before after reply r = elim (cases_lt 0 before.own.left) [
     | inl some ↦
         let g = r.gains some in
         let one = reservation_at before.own g.high 1 in
         let is = is_call before.own.left reply one.reply some g.recorded in
-        let given = given_one shared before after reply r in
+        let given = given_one C shared before after reply r in
         rw g.after (record {
           gained = record {
             number = refl;

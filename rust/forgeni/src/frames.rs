@@ -250,16 +250,18 @@ pub fn run_logs_on<J: Join + Sync, C: Send, S: LogSystem<C> + Sync>(
 /// }
 ///
 /// let (mut entities, mut born, mut said) = (Entities::new(), Vec::new(), Vec::new());
+/// let mut refused = 0;
 /// let systems: [fn(&mut LogCommands<'_, &'static str>) -> _; 3] = [launch; 3];
 /// let mut sync = run_to_sync_point(&StdThreads, &mut entities, &systems, 2, &mut born)?;
 /// sync.apply(&mut entities, |entities, entry| {
 ///     match entry {
 ///         Entry::Spawn(one) => assert!(entities.is_alive(one)),
+///         Entry::Refused(_) => refused += 1,
 ///         Entry::Command(word) => said.push(word),
 ///     }
 ///     Ok::<(), (Entry<&str>, OutOfMemory)>(())
 /// })?;
-/// assert_eq!((born.len(), said), (3, vec!["ready"; 3]));
+/// assert_eq!((born.len(), refused, said), (3, 0, vec!["ready"; 3]));
 /// # Ok::<(), Box<dyn std::error::Error>>(())
 /// ```
 ///
