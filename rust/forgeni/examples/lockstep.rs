@@ -264,7 +264,9 @@ fn play_world(workers: usize) -> Result<Vec<Vec<u8>>> {
 fn main() -> Result<()> {
     let (first, game, again) = play(1)?;
     let (spawned, refused, last) = (game.spawned, game.refused, game.digest());
-    println!("{FRAMES} frames on 1 worker: {spawned} spawns, {refused} refused, digest {last:016x}");
+    println!(
+        "{FRAMES} frames on 1 worker: {spawned} spawns, {refused} refused, digest {last:016x}"
+    );
     for workers in [4, 8] {
         let (digests, ..) = play(workers)?;
         for (frame, (one, other)) in first.iter().zip(&digests).enumerate() {

@@ -132,10 +132,7 @@ fn each_refused_spawn_comes_to_the_sync_point_at_its_turn() {
         let (blocks, reservers) = opened(&[3, 2, 0]);
         let ran = run_in_blocks(&StdThreads, &blocks, reservers, &systems, workers);
         let (mut logs, reservers) = ran.expect("memory");
-        assert_eq!(
-            logs.iter().map(Log::refused).collect::<Vec<_>>(),
-            [2, 0, 4]
-        );
+        assert_eq!(logs.iter().map(Log::refused).collect::<Vec<_>>(), [2, 0, 4]);
         let mut entities = blocks.close(reservers).expect("all are here");
         let (mut born, mut turns) = (vec![], String::new());
         let begun = SyncPoint::begin(&mut entities, &mut logs, &mut born);
@@ -323,7 +320,8 @@ fn a_block_that_is_used_up_refuses_and_the_system_goes_on() {
             .filter(|it| matches!(it, Entry::Spawn(_)))
             .count()
     };
-    assert_eq!((spawns(&logs[0]), logs[0].entries().len()), (10, 22));
+    assert_eq!((spawns(&logs[0]), logs[0].refused()), (10, 2));
+    assert_eq!((logs[0].len(), logs[1].refused()), (24, 0));
     assert_eq!(
         reservers
             .iter()

@@ -1,7 +1,9 @@
 //! Logs of commands, from several systems and threads to one sync point: what their contracts can't say.
 
 use crate::common::{flushed, handle, small};
-use forgeni::{BeginError, Entities, Entry, FreeError, Handle, Log, Refused, ReserveError, SyncPoint};
+use forgeni::{
+    BeginError, Entities, Entry, FreeError, Handle, Log, Refused, ReserveError, SyncPoint,
+};
 use std::convert::Infallible;
 use std::panic::{catch_unwind, resume_unwind, AssertUnwindSafe};
 use std::thread;
