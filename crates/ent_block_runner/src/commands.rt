@@ -1,8 +1,9 @@
-ghost use Rattle.std.specs.Prelude.{◌≡◌, [], ◌∷◌, ◌++◌, ◌-◌, Result, IfOk, OnOk, OnErr, IsErrOf};
+ghost use Rattle.std.specs.Prelude.{◌≡◌, [], ◌∷◌, ◌++◌, ◌-◌, Result, IfOk, IfErr, OnOk, OnErr};
+ghost use Rattle.std.specs.Prelude.{IsErrOf};
 ghost use Rattle.ent_handle.specs.Handle.{Handle as HandleValue};
 ghost use Rattle.ent_alloc.specs.declared.refused.Refused.{Refused as Refusal};
 ghost use Rattle.ent_log.specs.declared.entry.Entry.TheVariants.{Spawn, Command};
-ghost use Rattle.ent_log.specs.Spawning.{returned};
+ghost use Rattle.ent_log.specs.Spawning.{refused_by, returned};
 ghost use Rattle.ent_block_runner.specs.Drawing.{DrawsOne};
 ghost use Rattle.ent_block_runner.specs.Filling.{Extends};
 
@@ -66,21 +67,23 @@ impl<'b, J: BlockNumbering, C> BlockCommands<'b, J, C> {
         self.source.left()
     }
 
-    /// Reserves the next handle of the block, and adds its entry. Room for the entry is allocated
-    /// first, so each handle that is reserved has one.
+    /// Reserves the next handle of the block, and adds its entry, or that of the refusal. Room for
+    /// the entry is allocated first, so each reservation has one.
     ///
     /// # Errors
     ///
-    /// The log is as it was, and nothing was reserved.
+    /// Nothing was reserved.
     ///
-    /// - [`ReserveError::Memory`] if there is no room for the entry.
-    /// - [`ReserveError::Space`], with 1 wanted and 0 left, if the block is used up.
-    ///   [`ReserveError::or_memory`] lets the system go on, and the reserver
-    ///   [remembers](BlockReserver::wanted) it.
+    /// - [`ReserveError::Memory`] if there is no room for the entry. The log is as it was.
+    /// - [`ReserveError::Space`], with 1 wanted and 0 left, if the block is used up. The log has an
+    ///   entry for the [refusal](Entry::Refused), which the sync point hands on in its turn, and the
+    ///   reserver [remembers](BlockReserver::wanted) it. [`ReserveError::or_memory`] lets the system
+    ///   go on.
     pub fn spawn(&mut self) -> Result<Handle, ReserveError>
         ensures extends { Extends self.old self.new }
         ensures ok { IfOk result (λ handle. self.new.log ≡ self.old.log ++ Spawn handle ∷ []) }
-        ensures err { OnErr result (self.new.log ≡ self.old.log) }
+        ensures refused { IfErr result (λ error.
+            self.new.log ≡ self.old.log ++ refused_by error) }
         ensures none_used { OnErr result
             (self.new.source.reserver.block ≡ self.old.source.reserver.block) }
         ensures memory { IsErrOf result ReserveError.Memory → self.new ≡ self.old }

@@ -1,4 +1,5 @@
 pub mod OfShared
 pub mod Lending
+pub mod Calls
 pub mod Logging
 pub mod Running

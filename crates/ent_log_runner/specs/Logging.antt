@@ -1,5 +1,6 @@
 -- A system's log as it is filled: the entries so far, and the reserver that was lent.
-use Rattle.std.specs.Prelude.{◌≡◌, List, ◌++◌, map, All}
+use Rattle.std.specs.Prelude.{◌≡◌, ◌+◌, List, ◌++◌, map, All}
+use Rattle.std.specs.List.{flat_map, sum_by}
 use Rattle.ent_shared.specs.declared.record.Reservation.{Reservation}
 use Rattle.ent_shared.specs.declared.record.RecordEntry.TheVariants.{Own}
 use Rattle.ent_shared.specs.declared.record.Record.{Record}
@@ -7,6 +8,7 @@ use Rattle.ent_shared.specs.Order.{handles_given}
 use Rattle.ent_shared.specs.Phase.{Shared, Reserver, IsOf}
 use Rattle.ent_log.specs.declared.entry.Entry.{Entry}
 use Rattle.ent_log.specs.Logs.{spawned_in}
+use Rattle.ent_log_runner.specs.Calls.{stands_for, cost, FitQuota}
 use Rattle.ent_log_runner.specs.declared.commands.LogCommands.{LogCommands}
 
 -- The reserver has made these reservations more, of one handle each, and has met nobody.
@@ -34,14 +36,18 @@ module _ {C : Type 0} where
   abbrev pub IsReady : Filled C → Type 0
   IsReady c = IsOf (shared_of c) (reserver_of c)
 
-  -- The reserver has made reservations, and the handles that it was given are those of the spawns
-  -- among these entries, in order.
+  -- The reserver has made the reservations for which these entries stand and no others, in order. So
+  -- the handles that it was given are those of the spawns.
   pub record LogGains (before : Record) (entries : List (Entry C)) (after : Record) : Type 0 where
     pub gained : HasGained before after
     pub callers : All (λ (r : Reservation). r.caller ≡ before.number) gained.reservations
+    pub calls : map (λ (r : Reservation). (r.requested, r.reply)) gained.reservations
+        ≡ flat_map stands_for entries
+    pub left : after.left + sum_by cost entries ≡ before.left
+    pub within : FitQuota before.left entries
     pub given : handles_given after ≡ handles_given before ++ spawned_in entries
 
-  -- Entries were added, and the reserver was given the handles of their spawns and no others. It is
+  -- Entries were added, and the reserver has made the calls for which they stand and no others. It is
   -- the same reserver of the same allocator.
   pub record Extends (before after : Filled C) : Type 0 where
     pub same : after.reserver.ghost_name ≡ before.reserver.ghost_name

@@ -1,9 +1,9 @@
-ghost use Rattle.std.specs.Prelude.{◌≡◌, [], ◌∷◌, ◌++◌, Result, IfOk, OnOk, OnErr, IsErrOf};
+ghost use Rattle.std.specs.Prelude.{◌≡◌, [], ◌∷◌, ◌++◌, Result, IfOk, IfErr, OnOk, OnErr, IsErrOf};
 ghost use Rattle.ent_handle.specs.Handle.{Handle as HandleValue};
 ghost use Rattle.ent_alloc.specs.declared.refused.Refused.{Refused as Refusal};
 ghost use Rattle.ent_shared.specs.Phase.{IsOf};
 ghost use Rattle.ent_log.specs.declared.entry.Entry.TheVariants.{Spawn, Command};
-ghost use Rattle.ent_log.specs.Spawning.{returned};
+ghost use Rattle.ent_log.specs.Spawning.{refused_by, returned};
 
 use crate::lent::Lent;
 use ent_alloc::ReserveError;
@@ -51,21 +51,22 @@ impl<'a, C> LogCommands<'a, Log<C>> {
         self.log.entries()
     }
 
-    /// Reserves a handle at once, and adds its entry. Room for the entry is allocated first, so each
-    /// handle that is reserved has one.
+    /// Reserves a handle at once, and adds its entry, or that of the refusal. Room for the entry is
+    /// allocated first, so each reservation has one.
     ///
     /// # Errors
     ///
-    /// The log is as it was.
-    ///
-    /// - [`ReserveError::Memory`] if there is no room for the entry. Nothing was reserved.
-    /// - [`ReserveError::Space`] and [`ReserveError::Quota`] as [`Shared::reserve`] returns them.
+    /// - [`ReserveError::Memory`] if there is no room for the entry. The log is as it was, and nothing
+    ///   was reserved.
+    /// - [`ReserveError::Space`] and [`ReserveError::Quota`] as [`Shared::reserve`] returns them. The
+    ///   log has an entry for the [refusal](Entry::Refused), which the sync point hands on in its turn.
     ///   [`ReserveError::or_memory`] lets the system go on.
     pub fn spawn(&mut self) -> Result<Handle, ReserveError>
         requires { IsReady self.old }
         ensures extends { Extends self.old self.new }
         ensures ok { IfOk result (λ handle. log_of self.new ≡ log_of self.old ++ Spawn handle ∷ []) }
-        ensures err { OnErr result (log_of self.new ≡ log_of self.old) }
+        ensures refused { IfErr result (λ error.
+            log_of self.new ≡ log_of self.old ++ refused_by error) }
 
         // Anything but Memory is the result of a reservation.
         ensures replies { (reply : Result HandleValue Refusal) → result ≡ returned reply

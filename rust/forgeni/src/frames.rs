@@ -152,7 +152,7 @@ pub fn run_frame_on<J: Join + Sync, S: System + Sync>(
 /// ```
 /// # #[cfg(feature = "std")] {
 /// use forgeni::{run_logs, Entities, Handle, HandleMap, LogCommands, OutOfMemory, SyncPoint};
-/// use forgeni::Entry::{Command, Spawn};
+/// use forgeni::Entry::{Command, Refused, Spawn};
 /// use std::sync::Mutex;
 ///
 /// type Systems<'a> = [Mutex<Box<dyn FnMut(&mut Names<'_>) -> Result<(), OutOfMemory> + Send + 'a>>; 2];
@@ -162,7 +162,7 @@ pub fn run_frame_on<J: Join + Sync, S: System + Sync>(
 /// let systems: Systems<'_> = [
 ///     Mutex::new(Box::new(|commands| match commands.spawn() {
 ///         Ok(cart) => commands.push((cart, "cart")),
-///         // There may be none left.
+///         // There may be none left. The log has that, and the system goes on.
 ///         Err(refused) => refused.or_memory(),
 ///     })),
 ///     Mutex::new(Box::new(|_| Ok(calls += 1))),
@@ -170,14 +170,18 @@ pub fn run_frame_on<J: Join + Sync, S: System + Sync>(
 /// let mut logs = run_logs(&mut entities, &systems, 2)?;
 /// drop(systems);
 ///
-/// let mut born = Vec::new();
+/// let (mut born, mut refused) = (Vec::new(), 0);
 /// SyncPoint::begin(&mut entities, &mut logs, &mut born)?.apply(&mut entities, |_, entry| {
-///     if let Command((one, name)) = entry {
-///         names.insert(one, name).map_err(|refused| (entry, refused))?;
+///     match entry {
+///         Spawn(_) => {}
+///         Refused(_) => refused += 1,
+///         Command((one, name)) => {
+///             names.insert(one, name).map_err(|error| (entry, error))?;
+///         }
 ///     }
 ///     Ok(())
 /// })?;
-/// assert_eq!((names[born[0]], calls), ("cart", 1));
+/// assert_eq!((names[born[0]], calls, refused), ("cart", 1, 0));
 /// # }
 /// # Ok::<(), Box<dyn std::error::Error>>(())
 /// ```
@@ -249,16 +253,18 @@ pub fn run_logs_on<J: Join + Sync, C: Send, S: LogSystem<C> + Sync>(
 /// }
 ///
 /// let (mut entities, mut born, mut said) = (Entities::new(), Vec::new(), Vec::new());
+/// let mut refused = 0;
 /// let systems: [fn(&mut LogCommands<'_, &'static str>) -> _; 3] = [launch; 3];
 /// let mut sync = run_to_sync_point(&StdThreads, &mut entities, &systems, 2, &mut born)?;
 /// sync.apply(&mut entities, |entities, entry| {
 ///     match entry {
 ///         Entry::Spawn(one) => assert!(entities.is_alive(one)),
+///         Entry::Refused(_) => refused += 1,
 ///         Entry::Command(word) => said.push(word),
 ///     }
 ///     Ok::<(), (Entry<&str>, OutOfMemory)>(())
 /// })?;
-/// assert_eq!((born.len(), said), (3, vec!["ready"; 3]));
+/// assert_eq!((born.len(), refused, said), (3, 0, vec!["ready"; 3]));
 /// # Ok::<(), Box<dyn std::error::Error>>(())
 /// ```
 ///

@@ -9,8 +9,8 @@ use forgeni::{
     Limits, SystemInBlocks, Unframed, View, World, WorldInBlocks,
 };
 use forgeni::{
-    Entry, Handle, HandleMap, Log, OutOfMemory, ReserveError, RunError, StdThreads, SyncError,
-    SyncPoint,
+    Entry, Handle, HandleMap, Log, OutOfMemory, Refused, ReserveError, RunError, StdThreads,
+    SyncError, SyncPoint,
 };
 use std::collections::BTreeMap;
 use std::panic::{catch_unwind, resume_unwind, AssertUnwindSafe};
@@ -93,11 +93,12 @@ fn spawns_return_the_front_of_each_block_on_any_number_of_workers() {
     let mut expected = vec![];
     for (k, size) in (0..).zip(&sizes) {
         let mut block: Vec<Handle> = pool.by_ref().take(*size as usize).collect();
-        // A refused spawn is none, and its command is entered all the same.
+        // A refused spawn has its entry, and its command is entered all the same.
         let mut spawned = block.drain(..block.len().min(k as usize % 5));
         let entries = (0..k % 5).flat_map(|number| {
-            let spawn = spawned.next().map(Entry::Spawn);
-            spawn.into_iter().chain([Entry::Command(number)])
+            let refused = Entry::Refused(Refused::Space { wanted: 1, left: 0 });
+            let spawn = spawned.next().map_or(refused, Entry::Spawn);
+            [spawn, Entry::Command(number)]
         });
         expected.push(entries.collect::<Vec<_>>());
         drop(spawned);
@@ -123,6 +124,35 @@ fn spawns_return_the_front_of_each_block_on_any_number_of_workers() {
         for next in &rest {
             assert_eq!(entities.alloc(), Ok(*next));
         }
+    }
+}
+
+/// Blocks of few handles, and more spawns than fit: each refusal comes to the sync point at its turn.
+#[test]
+fn each_refused_spawn_comes_to_the_sync_point_at_its_turn() {
+    let systems = [Does::Spawn(5), Does::Spawn(2), Does::Spawn(4)];
+    for workers in WORKERS {
+        let (blocks, reservers) = opened(&[3, 2, 0]);
+        let ran = run_in_blocks(&StdThreads, &blocks, reservers, &systems, workers);
+        let (mut logs, reservers) = ran.expect("memory");
+        assert_eq!(logs.iter().map(Log::refused).collect::<Vec<_>>(), [2, 0, 4]);
+        let mut entities = blocks.close(reservers).expect("all are here");
+        let (mut born, mut turns) = (vec![], String::new());
+        let begun = SyncPoint::begin(&mut entities, &mut logs, &mut born);
+        let done = begun
+            .expect("all are reserved")
+            .apply(&mut entities, |entities, entry| {
+                turns.push(match entry {
+                    Entry::Spawn(one) if entities.is_alive(one) => 's',
+                    Entry::Refused(Refused::Space { wanted: 1, left: 0 }) => 'r',
+                    Entry::Command(_) => 'c',
+                    _ => return Err((entry, "another entry")),
+                });
+                Ok(())
+            });
+        assert_eq!(done, Ok(()));
+        assert_eq!(turns, "scscscrcrc".to_owned() + "scsc" + "rcrcrcrc");
+        assert_eq!(born.len(), 5);
     }
 }
 
@@ -178,7 +208,7 @@ fn digests(workers: usize) -> Vec<u64> {
                         values.remove(one);
                         entities.free(one).expect("alive");
                     }
-                    Entry::Spawn(_) => {}
+                    Entry::Spawn(_) | Entry::Refused(_) => {}
                 }
                 Ok::<(), (Entry<_>, ())>(())
             })
@@ -287,7 +317,8 @@ fn a_block_that_is_used_up_refuses_and_the_system_goes_on() {
             .filter(|it| matches!(it, Entry::Spawn(_)))
             .count()
     };
-    assert_eq!((spawns(&logs[0]), logs[0].entries().len()), (10, 22));
+    assert_eq!((spawns(&logs[0]), logs[0].refused()), (10, 2));
+    assert_eq!((logs[0].len(), logs[1].refused()), (24, 0));
     assert_eq!(
         reservers
             .iter()

@@ -56,6 +56,7 @@ fn told(entities: &mut Entities, mut logs: Vec<Log<(Handle, usize)>>) -> Vec<(us
     let done: Result<(), Infallible> = sync.apply(entities, |entities, entry| {
         match entry {
             Entry::Spawn(one) => assert!(entities.is_alive(one)),
+            Entry::Refused(why) => panic!("{why}"),
             Entry::Command((one, system)) => {
                 let before = names.insert(one, system).expect("memory");
                 all.push((system, before.is_none()));
@@ -79,6 +80,36 @@ fn logs_are_in_the_order_of_the_systems() {
             assert_eq!(told(&mut entities, logs), wanted);
             assert_eq!(entities.len(), 120 * frame);
         }
+    }
+}
+
+/// More spawns than there are handles: each refusal is an entry of its system's log, whichever systems they are.
+#[test]
+fn each_refused_spawn_has_an_entry() {
+    for workers in WORKERS {
+        let mut entities = small(7, 9);
+        let system = |commands: &mut LogCommands<'_, ()>| {
+            for _ in 0..3 {
+                if let Err(refused) = commands.spawn() {
+                    refused.or_memory()?;
+                }
+            }
+            Ok(())
+        };
+        let mut logs = run_logs(&mut entities, &[system; 5], workers).expect("memory");
+        assert!(logs.iter().all(|log| log.len() == 3));
+        assert_eq!(logs.iter().map(Log::refused).sum::<usize>(), 8);
+        let mut sync = SyncPoint::begin(&mut entities, &mut logs, &mut vec![]).expect("reserved");
+        let (mut spawned, mut refused) = (0, 0);
+        let done: Result<(), Infallible> = sync.apply(&mut entities, |_, entry| {
+            match entry {
+                Entry::Spawn(_) => spawned += 1,
+                Entry::Refused(_) => refused += 1,
+                Entry::Command(()) => {}
+            }
+            Ok(())
+        });
+        assert_eq!((done, spawned, refused), (Ok(()), 7, 8));
     }
 }
 

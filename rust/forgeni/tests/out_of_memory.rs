@@ -1140,7 +1140,7 @@ fn calls_of_a_log() {
     });
 }
 
-/// A spawn that is refused has reserved nothing and left no entry. Made again, it returns the handle that
+/// A spawn without memory has reserved nothing and left no entry. Made again, it returns the handle that
 /// it would have returned.
 #[test]
 fn a_spawn_in_a_log_of_commands() {
@@ -1200,6 +1200,27 @@ fn a_push_to_a_log_of_commands() {
         }
         refusals
     });
+}
+
+/// A log that was cleared has its room, also for the entries of refused spawns.
+#[test]
+fn a_log_of_commands_that_was_cleared() {
+    let mut entities = Entities::with_limits(Limits::new(2, 1).expect("limits"));
+    let mut log = forgeni::Log::new();
+    let mut fill = |log: &mut forgeni::Log<u64>| {
+        for number in 0..4 {
+            let spawned = log.spawn(&mut entities);
+            spawned.map_or_else(ReserveError::or_memory, |_| Ok(()))?;
+            log.push(number)?;
+        }
+        Ok::<(), OutOfMemory>(())
+    };
+    fill(&mut log).expect("memory");
+    for _ in 0..3 {
+        log.clear();
+        let (filled, refused) = refusing(Refusal::All { after: 0 }, || fill(&mut log));
+        assert_eq!((filled, refused, log.len()), (Ok(()), 0, 8));
+    }
 }
 
 /// Two logs of 49 spawns each, which this allocator has reserved.

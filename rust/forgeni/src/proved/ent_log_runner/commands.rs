@@ -51,15 +51,15 @@ impl<'a, C> LogCommands<'a, Log<C>> {
         self.log.entries()
     }
 
-    /// Reserves a handle at once, and adds its entry. Room for the entry is allocated first, so each
-    /// handle that is reserved has one.
+    /// Reserves a handle at once, and adds its entry, or that of the refusal. Room for the entry is
+    /// allocated first, so each reservation has one.
     ///
     /// # Errors
     ///
-    /// The log is as it was.
-    ///
-    /// - [`ReserveError::Memory`] if there is no room for the entry. Nothing was reserved.
-    /// - [`ReserveError::Space`] and [`ReserveError::Quota`] as [`Shared::reserve`] returns them.
+    /// - [`ReserveError::Memory`] if there is no room for the entry. The log is as it was, and nothing
+    ///   was reserved.
+    /// - [`ReserveError::Space`] and [`ReserveError::Quota`] as [`Shared::reserve`] returns them. The
+    ///   log has an entry for the [refusal](Entry::Refused), which the sync point hands on in its turn.
     ///   [`ReserveError::or_memory`] lets the system go on.
     ///
     /// <details><summary>Contract</summary>
@@ -70,7 +70,8 @@ impl<'a, C> LogCommands<'a, Log<C>> {
     /// requires { IsReady self.old }
     /// ensures extends { Extends self.old self.new }
     /// ensures ok { IfOk result (λ handle. log_of self.new ≡ log_of self.old ++ Spawn handle ∷ []) }
-    /// ensures err { OnErr result (log_of self.new ≡ log_of self.old) }
+    /// ensures refused { IfErr result (λ error.
+    ///     log_of self.new ≡ log_of self.old ++ refused_by error) }
     ///
     /// // Anything but Memory is the result of a reservation.
     /// ensures replies { (reply : Result HandleValue Refusal) → result ≡ returned reply

@@ -66,12 +66,7 @@ impl<O> Crew<O> {
     /// workers have ended then. What the jobs did to what was lent stays done. The caller drops the
     /// outputs when it is ready for what their drop may do.
     #[inline]
-    pub(crate) fn work<R, L, J>(
-        self,
-        rt: &R,
-        lent: &mut [L],
-        jobs: &J,
-    ) -> Result<Vec<O>, Vec<Option<O>>>
+    pub(crate) fn work<R, L, J>(self, rt: &R, lent: &mut [L], jobs: &J) -> Result<Vec<O>, Vec<Option<O>>>
     where
         R: Threads + Sync,
         O: Send,

@@ -4,7 +4,7 @@ use Rattle.ent_block_runner.proofs.commands.BlockCommands.spawn.Goals as goal
 pub returns-clause-extends : goal.returns-clause-extends
 returns-clause-extends g c =
     let s = c.spawn.ensures in
-    rw (← c.self.view_is) (extends_spawn _ _ c.spawn.result s.ok s.err s.replies
+    rw (← c.self.view_is) (extends_spawn _ _ c.spawn.result s.ok s.refused s.replies
     (refused_still c.self.inside.source c.spawn.new.source c.spawn.result s.replies s.memory))
 
 pub returns-clause-none_used : goal.returns-clause-none_used
@@ -15,4 +15,4 @@ returns-clause-none_used g c =
 
 pub returns-clause-memory : goal.returns-clause-memory
 returns-clause-memory g c =
-    let s = c.spawn.ensures in rw (← c.self.view_is) (same_memory _ _ c.spawn.result s.err s.memory)
+    let s = c.spawn.ensures in rw (← c.self.view_is) (same_memory _ _ c.spawn.result s.refused s.memory)
