@@ -1,5 +1,5 @@
 -- What the workers of a crew have done together, once all of them are back.
-use Rattle.ent_runner.proofs.Common.{common_steps, rules, ◌≡◌, ℕ, ◌<◌, ◌≤◌, List, [], ◌∷◌, ◌++◌, length, map, get_or, refl, ap, sym, ◌∙◌, arith, Option, Some, None, false, Bool, take, drop, inl, inr, true, ◌⊎◌, Vec, Global, reverse, slice_get, replicate, IfOk, IfErr, OnErr, IfOk-weaker, Ok, Err, Result, ◌-◌, Any, vec_capacity, All, AllPairs, flat_map, range_with_len, IsPermutation, cases_lt, slice_get_within, get_or_from_slice_get, slice_get-get_or, length-map, length-append, take-append-le, take_all, length-replicate, map-append, length-reverse, flat_map-map, All-permutation, IsPermutation-reverse, length_permutation, length-range_with_len, All-map, All-left, Claims, Claimer, AreFirst, IsClaimerOf, outputs_put, AreDone, AreBrokenOff, DidAll, DidUntil, Done, Worker, HasWorked, HaveAllWorked, HaveDoneFirst, HasClaimed, OfEach, IsUnused, IsRoomForOne, IsLostFor, numbers_of, all_done, IsRoom, All-right}
+use Rattle.ent_runner.proofs.Common.{common_steps, rules, ◌≡◌, ℕ, ◌<◌, ◌≤◌, List, [], ◌∷◌, ◌++◌, length, map, get_or, refl, ap, sym, ◌∙◌, arith, Option, Some, None, false, Bool, take, drop, inl, inr, true, ◌⊎◌, Vec, Global, reverse, slice_get, replicate, IfErr, IsSome, OnErr, Ok, Err, Result, ◌-◌, Any, vec_capacity, All, AllPairs, flat_map, range_with_len, IsPermutation, cases_lt, slice_get_within, get_or_from_slice_get, slice_get-get_or, length-map, length-append, take-append-le, take_all, length-replicate, map-append, length-reverse, flat_map-map, All-permutation, IsPermutation-reverse, length_permutation, length-range_with_len, All-map, All-left, Claims, Claimer, AreFirst, IsClaimerOf, outputs_put, AreDone, AreBrokenOff, DidAll, DidUntil, Done, Worker, HasWorked, HaveAllWorked, HaveDoneFirst, HasClaimed, OfEach, IsUnused, IsRoomForOne, IsLostFor, numbers_of, all_done, IsRoom, All-right}
 use Rattle.ent_runner.proofs.Lists.{of_mapped, each_of_all, mapped_at, same_flat, get_mapped, map_flat, at_within, flat_all}
 use Rattle.ent_runner.proofs.Outputs.{length_put, put_first, full, left_out, long, outputs_at, unwrapped, kept_all}
 
@@ -12,11 +12,6 @@ written_back n old new n_is same = search (rules, take-append-le, take_all)
 pub err_follows : {T E Q : Type 0} {P : E → Type 0} (r : Result T E) → ((e : E) → P e → Q) → IfErr r P → OnErr r Q
 err_follows (Ok t) follows p = tt
 err_follows (Err e) follows p = follows e p
-
-both_err : {T E Q : Type 0} {P R : E → Type 0} (r : Result T E) → ((e : E) → P e → Q → R e) → IfErr r P → OnErr r Q
-    → IfErr r R
-both_err (Ok t) follows p q = tt
-both_err (Err e) follows p q = follows e p q
 
 module _ {O : Type 0} where
   -- A crew is made: its claims are open, its workers are ready, and there is room for all outputs.
@@ -113,19 +108,19 @@ module _ {O : Type 0} where
       mapped_at Some outputs first.count no_output,
     )
 
-    -- if one lacks it, some are left
-    pub some_left : Any (λ (output : Option O). output ≡ None) (by_number numbers team)
-        → length (all_done team) < numbers
-    some_left (k, output, within, at, none) = search (
+    counted : length (all_done team) ≡ first.count
+    counted = search (
       rules,
-      arith,
       length_permutation _ _ first.once,
       length-range_with_len 0 first.count,
       length-map (all_done team) (λ (d : Done O). d.number),
-      cases_lt first.count numbers,
-      first.within,
-      full first.count (all_done team) first.once k output,
     )
+
+    -- if none lacks, each job has an output
+    pub all_there : numbers - length (all_done team) ≡ 0 → All IsSome (by_number numbers team)
+    all_there none =
+        let all : first.count ≡ numbers = omega (arith, counted, first.within, none) in
+        rw all at (full first.count (all_done team) first.once)
 
   -- the outputs by number after all were put in, as they are written back
   pub outputs_back : (count n : ℕ) (done : List (Done O)) (start new : List (Option O)) → start ≡ replicate count None
@@ -251,18 +246,6 @@ module _ {O : Type 0} where
             inl (k, _, a.0, b.0, mine, a.1, b.1, stopped_by outputs at k w a.0 b.0 at_w a.1 b.1 stopped)
         why first outputs at (inr less) =
             inr (search (rules, length_permutation _ _ first.once, length-range_with_len 0 first.count, length-map))
-
-    -- what comes of these outputs, by number, where they are collected
-    module _ (first : HaveDoneFirst claims.numbers team) (got : Result (Vec O Global) (Vec (Option O) Global))
-        (was : List (Option O)) (same : was ≡ by_number claims.numbers team) where
-      pub done_of : All (λ (w : Worker O). w.stopped ≡ false) team → IfOk got (λ outputs. map Some outputs.items
-          ≡ was) → IfOk got (λ outputs. AreDone may claims.numbers before outputs.items after)
-      done_of going all = search (rules, IfOk-weaker, are_done)
-
-      pub lost_of : IfErr got (λ left. left.items ≡ was) → OnErr got (Any (λ (output : Option O). output ≡ None) was)
-          → IfErr got (λ left. AreBrokenOff may leave claims.numbers before left.items after)
-      lost_of left lacks = both_err got (λ those is lacking. are_broken_off first
-          (inr (search (rules, some_left claims.numbers team first))) those.items (is ∙ same)) left lacks
 
     -- a worker that has stopped has done a job
     pub some_jobs : IsLostFor claims.numbers team → 0 < claims.numbers

@@ -1,5 +1,5 @@
 //! A crew: workers that do jobs side by side, in room that was asked for before.
-ghost use Rattle.std.specs.Prelude.{◌≡◌, ◌<◌, ◌≤◌, ◌^◌, [], length, map, reverse, replicate};
+ghost use Rattle.std.specs.Prelude.{◌≡◌, ◌<◌, ◌≤◌, ◌^◌, ◌-◌, [], length, map, reverse, replicate};
 ghost use Rattle.std.specs.Prelude.{All, Any, IfOk, IfErr, OnErr, None, true, false, flat_map};
 ghost use Rattle.std.specs.Prelude.{vec_capacity};
 ghost use Rattle.ent_runner.specs.Collecting.{outputs_put};
@@ -114,12 +114,12 @@ impl<O: Drop> Crew<O> {
         };
         run_all(rt, &site, &mut workers, lent, threads);
         let stopped = some_stopped(&workers);
-        disband(workers, &mut claimers, &mut by_number);
+        let lacking = disband(workers, &mut claimers, &mut by_number);
         claims.close(claimers);
-        if stopped {
+        if stopped || lacking > 0 {
             return Err(by_number);
         }
-        collect(by_number, outputs)
+        Ok(collect(by_number, outputs))
     }
 }
 
@@ -171,12 +171,13 @@ fn some_stopped<O>(workers: &[Worker<O>]) -> bool
     false
 }
 
-/// Takes the workers apart, and puts the outputs at the numbers of their jobs.
+/// Takes the workers apart, and puts the outputs at the numbers of their jobs. It returns how many
+/// outputs are lacking.
 fn disband<O: Drop>(
     workers: Vec<Worker<O>>,
     claimers: &mut Vec<Claimer>,
     by_number: &mut [Option<O>],
-)
+) -> usize
     requires empty { claimers.old.items ≡ [] }
     requires room { length workers.items ≤ vec_capacity claimers.old }
     requires inside { All (λ w. All (λ d. d.number < length by_number.old) w.done.items)
@@ -184,9 +185,14 @@ fn disband<O: Drop>(
     ensures claimers { claimers.new.items ≡ map (λ w. w.claimer) workers.items }
     ensures by_number { by_number.new
         ≡ outputs_put (flat_map (λ w. w.done.items) workers.items) by_number.old }
+    ensures lacking { result
+        ≡ length by_number.old - length (flat_map (λ w. w.done.items) workers.items) }
 {
+    let mut lacking = by_number.len();
     for worker in workers {
+        lacking = lacking.saturating_sub(worker.done.len());
         claimers.push_reserved(worker.claimer);
         put_all(worker.done, by_number);
     }
+    lacking
 }

@@ -1,10 +1,10 @@
-use Rattle.ent_runner.proofs.Common.{arith, sym}
+use Rattle.ent_runner.proofs.Common.{arith}
 use Rattle.ent_runner.proofs.Outputs.{collected_on, next_there}
 use Rattle.ent_runner.proofs.collecting.collect.Goals as goal
 
 pub unwrap-requires : goal.unwrap-requires
 unwrap-requires g c = next_there _ _ _ _ _ c.loop-output.invariant.same c.in-Some.ensures.steps.0
-    (rw c.deref.ensures.value at (c.lacks_one.ensures.none c.if-lacks_one.false))
+    c.requires.all
 
 pub loop-output-preserved : goal.loop-output-preserved
 loop-output-preserved g c =

@@ -100,12 +100,12 @@ impl<O> Crew<O> {
         };
         run_all(rt, &site, &mut workers, lent, threads);
         let stopped = some_stopped(&workers);
-        disband(workers, &mut claimers, &mut by_number);
+        let lacking = disband(workers, &mut claimers, &mut by_number);
         claims.close(claimers);
-        if stopped {
+        if stopped || lacking > 0 {
             return Err(by_number);
         }
-        collect(by_number, outputs)
+        Ok(collect(by_number, outputs))
     }
 }
 
@@ -159,13 +159,14 @@ fn some_stopped<O>(workers: &[Worker<O>]) -> bool
     false
 }
 
-/// Takes the workers apart, and puts the outputs at the numbers of their jobs.
+/// Takes the workers apart, and puts the outputs at the numbers of their jobs. It returns how many
+/// outputs are lacking.
 #[inline]
 fn disband<O>(
     workers: Vec<Worker<O>>,
     claimers: &mut Vec<Claimer>,
     by_number: &mut [Option<O>],
-)
+) -> usize
     // requires empty { claimers.old.items ≡ [] }
     // requires room { length workers.items ≤ vec_capacity claimers.old }
     // requires inside { All (λ w. All (λ d. d.number < length by_number.old) w.done.items)
@@ -173,9 +174,14 @@ fn disband<O>(
     // ensures claimers { claimers.new.items ≡ map (λ w. w.claimer) workers.items }
     // ensures by_number { by_number.new
     //     ≡ outputs_put (flat_map (λ w. w.done.items) workers.items) by_number.old }
+    // ensures lacking { result
+    //     ≡ length by_number.old - length (flat_map (λ w. w.done.items) workers.items) }
 {
+    let mut lacking = by_number.len();
     for worker in workers {
+        lacking = lacking.saturating_sub(worker.done.len());
         claimers.push_reserved(worker.claimer);
         put_all(worker.done, by_number);
     }
+    lacking
 }
