@@ -131,8 +131,10 @@ where
         systems,
         workers,
     );
-    let (queues, reservers) = filled?;
-    Ok((Queues::new(opened.of_world, queues), reservers))
+    match filled {
+        Ok((queues, reservers)) => Ok((Queues::new(opened.of_world, queues), reservers)),
+        Err(unrun) => Err(unrun),
+    }
 }
 
 /// Runs each system once, on that many workers side by side, 1 to 64, each with the reserver at its
