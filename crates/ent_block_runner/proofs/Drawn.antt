@@ -92,7 +92,8 @@ module _ {C : Type 0} where
 
   pub extends_spawn : (before after : Filling C) (result : Result Handle ReserveError)
       → IfOk result (λ h. after.log ≡ before.log ++ Spawn h ∷ [])
-      → IfErr result (λ error. after.log ≡ before.log ++ refused_by error) → ((reply : Result Handle Refused) → result ≡ returned reply → DrawsOne before.source reply after.source)
+      → IfErr result (λ error. after.log ≡ before.log ++ refused_by error)
+      → ((reply : Result Handle Refused) → result ≡ returned reply → DrawsOne before.source reply after.source)
       → OnErr result (IsStill before.source after.source) → Extends before after
   extends_spawn before after (Ok h) ok err replies still =
       let drawn = replies (Ok h) refl in

@@ -9,7 +9,7 @@ use Rattle.ent_log.specs.Logs.{spawned_by, spawned_in}
 use Rattle.ent_block_runner.specs.Drawing.{Source}
 
 module _ {C : Type 0} where
-  -- A spawn is refused if and only if the block is used up. The refusal says that no handle is left.
+  -- A spawn is refused if and only if the block is used up. The refusal says that none is left.
   abbrev pub FitsBlock : Block → Entry C → Type 0
   FitsBlock b (Spawn h) = b.used < b.size
   FitsBlock b (Refused why) = (why ≡ Space 1 0) × (b.used ≡ b.size)

@@ -1,5 +1,5 @@
--- What a spawn returns of a reservation and enters for a refusal, and what the allocator does that is
--- asked for one.
+-- What a spawn returns of a reservation and enters for a refusal, and what the allocator does that
+-- is asked for one.
 use Rattle.std.specs.Prelude.{◌≡◌, ◌⊎◌, ◌<◌, ◌≤◌, ◌^◌, List, [], ◌∷◌, Result, Ok, Err}
 use Rattle.std.specs.Prelude.{IfOk, IfErr}
 use Rattle.ent_handle.specs.Handle.{Handle}

@@ -103,11 +103,11 @@ impl<C> Log<C> {
     ///
     /// # Errors
     ///
-    /// - [`ReserveError::Memory`] if there is no room for the entry. The log is as it was, and nothing
-    ///   was reserved.
-    /// - [`ReserveError::Space`] and [`ReserveError::Quota`] as the reservation returns them. The log
-    ///   has an entry for the [refusal](Entry::Refused), which the sync point hands on in its turn.
-    ///   [`ReserveError::or_memory`] lets the system go on.
+    /// - [`ReserveError::Memory`] if there is no room for the entry. The log is as it was, and
+    ///   nothing was reserved.
+    /// - [`ReserveError::Space`] and [`ReserveError::Quota`] as the reservation returns them. The
+    ///   log has an entry for the [refusal](Entry::Refused), which the sync point hands on in its
+    ///   turn. [`ReserveError::or_memory`] lets the system go on.
     pub fn spawn<S: Reserves>(&mut self, source: &mut S) -> Result<Handle, ReserveError>
         ensures ok { IfOk result (λ handle. self.new ≡ self.old ++ Spawn handle ∷ []) }
         ensures refused { IfErr result (λ error. self.new ≡ self.old ++ refused_by error) }

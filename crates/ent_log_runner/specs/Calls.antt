@@ -7,8 +7,8 @@ use Rattle.ent_log.specs.declared.entry.Entry.{Entry}
 use Rattle.ent_log.specs.declared.entry.Entry.TheVariants.{Spawn, Refused, Command}
 
 module _ {C : Type 0} where
-  -- The call for which an entry stands: how many handles were requested, and the reply. What the quota
-  -- refuses is no call.
+  -- The call for which an entry stands: how many handles were requested, and the reply. What the
+  -- quota refuses is no call.
   abbrev pub stands_for : Entry C → List (ℕ × Result (List Handle) OutOfSpace)
   stands_for (Spawn h) = (1, Ok (h ∷ [])) ∷ []
   stands_for (Refused (Space wanted left)) =

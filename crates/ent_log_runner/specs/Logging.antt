@@ -36,8 +36,8 @@ module _ {C : Type 0} where
   abbrev pub IsReady : Filled C → Type 0
   IsReady c = IsOf (shared_of c) (reserver_of c)
 
-  -- The reserver has made the reservations for which these entries stand and no others, in order. So
-  -- the handles that it was given are those of the spawns.
+  -- The reserver has made the reservations for which these entries stand, in order, and no others.
+  -- So the handles that it was given are those of the spawns.
   pub record LogGains (before : Record) (entries : List (Entry C)) (after : Record) : Type 0 where
     pub gained : HasGained before after
     pub callers : All (λ (r : Reservation). r.caller ≡ before.number) gained.reservations
@@ -47,8 +47,8 @@ module _ {C : Type 0} where
     pub within : FitQuota before.left entries
     pub given : handles_given after ≡ handles_given before ++ spawned_in entries
 
-  -- Entries were added, and the reserver has made the calls for which they stand and no others. It is
-  -- the same reserver of the same allocator.
+  -- Entries were added, and the reserver has made the calls for which they stand and no others. It
+  -- is the same reserver of the same allocator.
   pub record Extends (before after : Filled C) : Type 0 where
     pub same : after.reserver.ghost_name ≡ before.reserver.ghost_name
     pub shared : shared_of after ≡ shared_of before

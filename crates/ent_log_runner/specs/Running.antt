@@ -37,10 +37,10 @@ module _ {C : Type 0} where
   SystemMayHaveLogged may leave systems n log =
       SystemMayLog may systems n log ⊎ SystemMayLog leave systems n log
 
-  -- That many workers ran the first systems, each once, and filled these logs. The history has what
-  -- they reserved, and leads from the one allocator to the other. The calls of each worker are those
-  -- for which the spawns and refusals of its systems' logs stand, in order, and no others. So it was
-  -- given the handles that these spawns returned.
+  -- That many workers ran the first systems, each once, and filled these logs. The history has
+  -- what they reserved, and leads from the one allocator to the other. The calls of each worker are
+  -- those for which the spawns and refusals of its systems' logs stand, in order, and no others. So
+  -- it was given the handles that these spawns returned.
   pub record HaveRun (workers count : ℕ) (before : Allocator) (logs : List (List (Entry C)))
       (after : Allocator) : Type 0 where
     -- all reservations of the workers, in one order

@@ -10,7 +10,7 @@
 //! It prints
 //!
 //! ```text
-//! 10000 frames on 1 worker: 422470 entities spawned, digest 7d675c16a4bf099f
+//! 10000 frames on 1 worker: 422470 spawns, 0 refused, digest 7d675c16a4bf099f
 //! on 4 workers: the same digest after each frame
 //! on 8 workers: the same digest after each frame
 //! 72 frames played again: the same digests

@@ -71,10 +71,10 @@ impl<'b, C> BlockCommands<'b, C> {
     /// Nothing was reserved.
     ///
     /// - [`ReserveError::Memory`] if there is no room for the entry. The log is as it was.
-    /// - [`ReserveError::Space`], with 1 wanted and 0 left, if the block is used up. The log has an
-    ///   entry for the [refusal](Entry::Refused), which the sync point hands on in its turn, and the
-    ///   reserver [remembers](BlockReserver::wanted) it. [`ReserveError::or_memory`] lets the system
-    ///   go on.
+    /// - [`ReserveError::Space`], with 1 wanted and 0 left, if the block is used up. The log has
+    ///   an entry for the [refusal](Entry::Refused), which the sync point hands on in its turn, and
+    ///   the reserver [remembers](BlockReserver::wanted) it. [`ReserveError::or_memory`] lets the
+    ///   system go on.
     ///
     /// <details><summary>Contract</summary>
     ///

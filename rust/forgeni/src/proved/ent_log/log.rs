@@ -131,11 +131,11 @@ impl<C> Log<C> {
     ///
     /// # Errors
     ///
-    /// - [`ReserveError::Memory`] if there is no room for the entry. The log is as it was, and nothing
-    ///   was reserved.
-    /// - [`ReserveError::Space`] and [`ReserveError::Quota`] as the reservation returns them. The log
-    ///   has an entry for the [refusal](Entry::Refused), which the sync point hands on in its turn.
-    ///   [`ReserveError::or_memory`] lets the system go on.
+    /// - [`ReserveError::Memory`] if there is no room for the entry. The log is as it was, and
+    ///   nothing was reserved.
+    /// - [`ReserveError::Space`] and [`ReserveError::Quota`] as the reservation returns them. The
+    ///   log has an entry for the [refusal](Entry::Refused), which the sync point hands on in its
+    ///   turn. [`ReserveError::or_memory`] lets the system go on.
     ///
     /// <details><summary>Contract</summary>
     ///

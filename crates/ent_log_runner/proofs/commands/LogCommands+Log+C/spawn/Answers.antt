@@ -8,5 +8,5 @@ shape_of-self g c = same_lent _ _ c.spawn.result c.spawn.ensures.replies c.spawn
 pub returns-clause-extends : goal.returns-clause-extends
 returns-clause-extends g c =
     let s = c.spawn.ensures in
-    extends_spawn c.args.self.now _ _ c.spawn.new.source refl refl refl refl refl c.spawn.result s.ok s.refused s.replies
-    s.memory
+    extends_spawn c.args.self.now _ _ c.spawn.new.source refl refl refl refl refl c.spawn.result s.ok s.refused
+    s.replies s.memory
