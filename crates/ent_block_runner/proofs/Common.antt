@@ -1,5 +1,5 @@
 -- The names that proofs of this crate cite, of std, of the crates below and of its own specs. Declares nothing.
-pub use Rattle.std.proofs.Common.{All, Err, IsTrue, List, Ok, Result, Some, [], ap, append-nil, arith, get_or, inl, inr, length, map, refl, rules, subst, suc, sym, take, true, vec_len, zero, ℕ, ⊎_elim, ◌++◌, ◌+◌, ◌-◌, ◌<◌, ◌∙◌, ◌∷◌, ◌≡◌, ◌≤◌, ◌⊎◌}
+pub use Rattle.std.proofs.Common.{All, Err, IsTrue, List, Ok, Option, Result, Some, [], ap, append-nil, arith, get_or, inl, inr, length, map, refl, rules, subst, suc, sym, take, true, vec_len, zero, ℕ, ⊎_elim, ◌++◌, ◌+◌, ◌-◌, ◌<◌, ◌∙◌, ◌∷◌, ◌≡◌, ◌≤◌, ◌⊎◌}
 pub use Rattle.std.proofs.lemmas.Grind.{common_steps}
 pub use Rattle.std.proofs.lemmas.List.{length-drop, length-map, length-take, take_all}
 pub use Rattle.std.proofs.lemmas.List.Elements.{All-cons, All-map, All-nil}
