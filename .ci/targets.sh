@@ -93,8 +93,8 @@ set_up() {
     esac
     [ "$1" = i686 ] || emulator=$root/usr/bin/qemu-${1%v7}
     export FORGENI_EMULATOR=$emulator
-    # The emulator keeps 0.3 MB for each thread that has ended, so there are fewer seeds.
-    [ -z "$emulator" ] || export "${variable}_RUNNER=$emulator" FORGENI_SEEDS="${FORGENI_SEEDS:-10}"
+    # The emulator keeps 0.3 MB for each thread that has ended, so there are fewer seeds and phases.
+    [ -z "$emulator" ] || export "${variable}_RUNNER=$emulator" FORGENI_SEEDS="${FORGENI_SEEDS:-10}" FORGENI_PHASES="${FORGENI_PHASES:-500}"
 }
 
 # What an emulator can't do, or what takes too much memory there.
