@@ -131,8 +131,7 @@ impl List for Plain {
 #[inline(always)]
 fn hand_on(mut sync: SyncPoint<Command>, entities: &mut Entities, maps: &mut Maps) {
     let done = sync.apply(entities, |entities, entry| match entry {
-        Entry::Spawn(_) => Ok(()),
-        Entry::Refused(_) => Err((entry, "refused")),
+        Entry::Spawn(_) | Entry::Refused(_) => Ok(()),
         Entry::Command(command) => match maps.run(entities, command) {
             true => Ok(()),
             false => Err((entry, "refused")),
