@@ -12,7 +12,7 @@ use thiserror::Error;
 #[derive(Clone, Copy, Debug, PartialEq, Eq, Hash, Error)]
 pub enum ReserveError {
     /// Fewer handles were left than were requested. The request counts all the same, and no handle
-    /// is given until the next flush. A queue of commands keeps the refusal.
+    /// is given until the next flush. A queue or a log of commands keeps the refusal.
     #[error("{wanted} wanted and {left} left")]
     Space {
         /// How many handles were requested.
@@ -21,8 +21,8 @@ pub enum ReserveError {
         left: u32,
     },
     /// More handles were requested than the quota still allows: that of a reserver, or that of an
-    /// allocator, which is 2^50 between two flushes. No handle was requested. A queue of commands
-    /// keeps the refusal.
+    /// allocator, which is 2^50 between two flushes. No handle was requested. A queue or a log of
+    /// commands keeps the refusal.
     #[error("the quota left is {left}")]
     Quota {
         /// How many the quota still allows.
@@ -34,8 +34,8 @@ pub enum ReserveError {
 }
 
 impl ReserveError {
-    /// The error as a system returns it. A refusal doesn't end the system: a queue of commands keeps
-    /// it, and a log doesn't. Only being out of memory ends the system:
+    /// The error as a system returns it. A refusal doesn't end the system: its queue or its log keeps
+    /// it, and the sync point reports it or hands it on. Only being out of memory ends the system:
     ///
     /// ```
     /// use forgeni::{OutOfMemory, ReserveError};

@@ -9,7 +9,7 @@ use crate::kit::alloc::AllocError;
 #[derive(Clone, Copy, Debug, PartialEq, Eq, Hash)]
 pub enum ReserveError {
     /// Fewer handles were left than were requested. The request counts all the same, and no handle
-    /// is given until the next flush. A queue of commands keeps the refusal.
+    /// is given until the next flush. A queue or a log of commands keeps the refusal.
     Space {
         /// How many handles were requested.
         wanted: u32,
@@ -17,8 +17,8 @@ pub enum ReserveError {
         left: u32,
     },
     /// More handles were requested than the quota still allows: that of a reserver, or that of an
-    /// allocator, which is 2^50 between two flushes. No handle was requested. A queue of commands
-    /// keeps the refusal.
+    /// allocator, which is 2^50 between two flushes. No handle was requested. A queue or a log of
+    /// commands keeps the refusal.
     Quota {
         /// How many the quota still allows.
         left: u64,
@@ -40,8 +40,8 @@ impl core::fmt::Display for ReserveError {
 impl core::error::Error for ReserveError {}
 
 impl ReserveError {
-    /// The error as a system returns it. A refusal doesn't end the system: a queue of commands keeps
-    /// it, and a log doesn't. Only being out of memory ends the system:
+    /// The error as a system returns it. A refusal doesn't end the system: its queue or its log keeps
+    /// it, and the sync point reports it or hands it on. Only being out of memory ends the system:
     ///
     /// ```
     /// use forgeni::{OutOfMemory, ReserveError};
