@@ -11,6 +11,7 @@ mod closing;
 mod numbering;
 mod opening;
 mod part;
+mod source;
 mod taking;
 mod undealt;
 mod unended;
