@@ -1,6 +1,7 @@
 ghost use Rattle.std.specs.Prelude.{◌≡◌, [], ◌∷◌, ◌++◌, Result, IfOk, OnOk, OnErr, IsErrOf};
 ghost use Rattle.std.specs.Vec.Iter.{into_iter_items};
 ghost use Rattle.ent_handle.specs.Handle.{Handle as HandleValue};
+ghost use Rattle.ent_alloc.specs.Sequential.{listed_alone};
 ghost use Rattle.ent_alloc.specs.declared.refused.Refused.{Refused as Refusal};
 ghost use Rattle.ent_log.specs.declared.entry.Entry.TheVariants.{Spawn, Command};
 ghost use Rattle.ent_log.specs.Logs.{first_unreserved, spawned_in};
@@ -8,7 +9,7 @@ ghost use Rattle.ent_log.specs.Spawning.{returned};
 
 use crate::entry::Entry;
 use crate::reserves::Reserves;
-use ent_alloc::{Entities, ReserveError, State};
+use ent_alloc::{Entities, ReserveError, Source, State};
 use ent_handle::{Handle, Memory};
 use std::alloc::Global;
 use std::fmt;
@@ -84,6 +85,36 @@ impl<C> Log<C> {
     {
         self.entries.reserve(1)?;
         let handle = source.reserve_one()?;
+        self.entries.push_reserved(Entry::Spawn(handle));
+        Ok(handle)
+    }
+
+    /// Reserves a handle at once, of a source that serves this reserver, and adds its entry. Room for the
+    /// entry is allocated first, so each handle that is reserved has one.
+    ///
+    /// # Errors
+    ///
+    /// The log is as it was.
+    ///
+    /// - [`ReserveError::Memory`] if there is no room for the entry. Nothing was reserved.
+    /// - [`ReserveError::Space`] and [`ReserveError::Quota`] as the source returns them.
+    pub fn spawn_from<S: Source>(
+        &mut self,
+        source: &S,
+        reserver: &mut S::Reserver,
+    ) -> Result<Handle, ReserveError>
+        requires { S.serves source.now reserver.old }
+        ensures stays { S.serves source.now reserver.new }
+        ensures ok { IfOk result (λ handle. self.new ≡ self.old ++ Spawn handle ∷ []) }
+        ensures err { OnErr result (self.new ≡ self.old) }
+
+        // Anything but Memory is the result of one reservation.
+        ensures replies { (reply : Result HandleValue Refusal) → result ≡ returned reply
+            → S.may_reply source.now reserver.old reserver.new 1 (listed_alone reply) }
+        ensures memory { IsErrOf result ReserveError.Memory → reserver.new ≡ reserver.old }
+    {
+        self.entries.reserve(1)?;
+        let handle = source.serve_one(reserver)?;
         self.entries.push_reserved(Entry::Spawn(handle));
         Ok(handle)
     }
