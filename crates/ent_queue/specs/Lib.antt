@@ -4,5 +4,5 @@ pub mod Unpacking
 pub mod Entry
 pub mod Reserving
 pub mod Drawing
-pub mod InBlocks
+pub mod Outputs
 pub mod Commands

@@ -1,0 +1,69 @@
+//! What a system does that fills a log.
+ghost use Rattle.std.specs.Prelude.{◌≡◌, ◌++◌, ◌∷◌, [], Result, IfOk, IsErrOf, OnOk, OnErr};
+ghost use Rattle.ent_handle.specs.Handle.{Handle as HandleValue};
+ghost use Rattle.ent_alloc.specs.declared.refused.Refused.{Refused as Refusal};
+ghost use Rattle.ent_alloc.specs.Sequential.{listed_alone};
+ghost use Rattle.ent_log.specs.declared.entry.Entry.TheVariants.{Spawn, Command};
+ghost use Rattle.ent_log.specs.Spawning.{returned};
+ghost use Rattle.ent_queue.specs.Commands.{IsReady, Extends, output_of, reserver_of, source_of};
+ghost use Rattle.ent_queue.specs.Outputs.{Logs};
+
+use crate::commands::Commands;
+use ent_alloc::{ReserveError, Source};
+use ent_handle::{Handle, Memory};
+use ent_log::{Entry, Log};
+
+impl<C, S: Source> Commands<'_, Log<C>, S> {
+    /// The entries so far, in the order of issue.
+    #[must_use]
+    pub fn entries(&self) -> &[Entry<C>]
+        ensures { result.now ≡ output_of self.now }
+    {
+        self.output.entries()
+    }
+
+    /// Reserves a handle at once, and adds its entry. Room for the entry is allocated first, so each
+    /// handle that is reserved has one.
+    ///
+    /// # Errors
+    ///
+    /// The log is as it was.
+    ///
+    /// - [`ReserveError::Memory`] if there is no room for the entry. Nothing was reserved.
+    /// - [`ReserveError::Space`] and [`ReserveError::Quota`] as the source returns them.
+    ///   [`ReserveError::or_memory`] lets the system go on.
+    pub fn spawn(&mut self) -> Result<Handle, ReserveError>
+        requires { IsReady S.serves self.old }
+        ensures extends { Extends Logs S.serves S.may_reply self.old self.new }
+        ensures ok { IfOk result (λ handle.
+            output_of self.new ≡ output_of self.old ++ Spawn handle ∷ []) }
+        ensures err { OnErr result (output_of self.new ≡ output_of self.old) }
+
+        // Anything but Memory is the result of a reservation.
+        ensures replies { (reply : Result HandleValue Refusal) → result ≡ returned reply
+            → S.may_reply (source_of self.old) (reserver_of self.old) (reserver_of self.new) 1
+            (listed_alone reply) }
+        ensures memory { IsErrOf result ReserveError.Memory
+            → reserver_of self.new ≡ reserver_of self.old }
+    {
+        self.output.spawn_from(self.source, self.reserver)
+    }
+}
+
+impl<C: Drop, S: Source> Commands<'_, Log<C>, S> {
+    /// Adds a command, which the sync point hands on in its turn.
+    ///
+    /// # Errors
+    ///
+    /// [`OutOfMemory`](Memory) if there is no room for it. The log is as it was, and the command is
+    /// dropped.
+    pub fn push(&mut self, command: C) -> Result<(), Memory>
+        requires { IsReady S.serves self.old }
+        ensures extends { Extends Logs S.serves S.may_reply self.old self.new }
+        ensures reserver { reserver_of self.new ≡ reserver_of self.old }
+        ensures ok { OnOk result (output_of self.new ≡ output_of self.old ++ Command command ∷ []) }
+        ensures err { OnErr result (output_of self.new ≡ output_of self.old) }
+    {
+        Log::push(&mut self.output, command)
+    }
+}
