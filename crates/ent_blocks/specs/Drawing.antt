@@ -7,6 +7,10 @@ use Rattle.ent_alloc.specs.declared.refused.Refused.{Refused}
 use Rattle.ent_alloc.specs.declared.refused.Refused.TheVariants.{Space}
 use Rattle.ent_blocks.specs.Blocks.{Block, Phase, Reserver, rest_of, after_use, after_refusal}
 
+-- the reserver is one of those that came with the phase
+abbrev pub IsOfPhase : Phase → Reserver → Type 0
+IsOfPhase phase r = r.number ≡ phase.number
+
 -- how many handles of a block are left
 abbrev pub left_of : Block → ℕ
 left_of b = b.size - b.used

@@ -6,12 +6,11 @@ use ent_handle::Handle;
 
 /// Each reservation is of the [next handles](Blocks::reserve) of the reserver's own block.
 impl<J: BlockNumbering> Source for Blocks<J> {
-    ghost use Rattle.std.specs.Prelude.{◌≡◌};
-    ghost use Rattle.ent_blocks.specs.Drawing.{IsDrawn};
+    ghost use Rattle.ent_blocks.specs.Drawing.{IsDrawn, IsOfPhase};
 
     type Reserver = BlockReserver<J>;
 
-    ghost serves = { λ blocks reserver. reserver.number ≡ blocks.number };
+    ghost serves = { λ blocks reserver. IsOfPhase blocks reserver };
 
     ghost may_reply = { λ blocks before after n reply. IsDrawn blocks before after n reply };
 

@@ -32,12 +32,16 @@ pub use Rattle.ent_runner.proofs.Lists.{all_flat, all_from_each, each_of_all, fi
 pub use Rattle.ent_runner.proofs.NoSystems.{all_rise, is_none, no_jobs, none_once}
 pub use Rattle.ent_runner.specs.Crew.{AreBrokenOff, AreDone, DidAll, OfEach}
 pub use Rattle.ent_shared.specs.Order.{Respects, as_call, handles_given, handles_of, history_of, reservations_of}
-pub use Rattle.ent_shared.specs.Phase.{Reserver, Shared, records_of}
+pub use Rattle.ent_shared.specs.Phase.{IsOf, Reserver, Shared, records_of}
 pub use Rattle.ent_shared.specs.Record.{reservation_at}
 unfoldable pub use Rattle.ent_shared.specs.Record.{opened_records}
 pub use Rattle.ent_shared.specs.declared.record.Record.{Record}
 pub use Rattle.ent_shared.specs.declared.record.Reservation.{Reservation}
-pub use Rattle.ent_log_runner.specs.Lending.{RepliesOne, ReservesOne}
-pub use Rattle.ent_log_runner.specs.Logging.{Extends, Filled, HasGained, IsReady, LogGains}
+pub use Rattle.ent_queue.specs.Commands.{Extends, output_of, reserver_of, source_of}
+pub use Rattle.ent_queue.specs.Outputs.{Logs}
+pub use Rattle.ent_queue.specs.declared.commands.Commands.{Commands}
+pub use Rattle.ent_shared.proofs.Returned.{given_more, given_no_more}
+pub use Rattle.ent_shared.specs.Replies.{IsReturned}
+pub use Rattle.ent_alloc.specs.Serving.{AreServed, Request, given_by}
+pub use Rattle.ent_log_runner.specs.Logging.{HasGained, LogGains}
 pub use Rattle.ent_log_runner.specs.Running.{HaveLogged, HaveRun, IsBrokenOff, SystemMayHaveLogged, SystemMayLog, entries_by, given_to, log_at}
-pub use Rattle.ent_log_runner.specs.declared.lent.Lent.{Lent}

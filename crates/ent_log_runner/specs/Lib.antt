@@ -1,4 +1,2 @@
-pub mod OfShared
-pub mod Lending
 pub mod Logging
 pub mod Running

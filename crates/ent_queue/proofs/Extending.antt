@@ -1,6 +1,6 @@
 -- For who writes a system, or any function that fills an output: what its calls add up to. Put
 -- `#[tactic(auto, using(ent_queue::proofs::Extending::extends_then))]` above it.
-use Rattle.ent_queue.proofs.Common.{rules, ◌≡◌, ◌∙◌, ap, sym, refl, ℕ, List, [], ◌∷◌, ◌++◌, append-nil, append_assoc, Ok, Err, Result, IfOk, IfErr, OnOk, OnErr, IsErrOf, Vec, Global, length, common_steps, flat_map-append, All-nil, All-cons, All-append, Handle, Memory, Refusal, Space, Quota, QueueFault, listed_alone, Bundle, AreServed, Replying, Request, served_none, served_one, served_then, Command, Spawn, SpawnMany, Refused, requests_of, refused_by, queued, as_list, returned, Entry, spawned_in, Commands, Extends, IsReady, output_of, reserver_of, source_of, Issues, Logs}
+use Rattle.ent_queue.proofs.Common.{rules, ◌≡◌, ◌∙◌, ap, sym, refl, ℕ, List, [], ◌∷◌, ◌++◌, append-nil, append_assoc, Ok, Err, Result, IfOk, IfErr, OnOk, OnErr, IsErrOf, Vec, Global, length, common_steps, flat_map-append, All-nil, All-cons, All-append, All, Handle, Memory, Refusal, Space, Quota, QueueFault, listed_alone, Bundle, AreServed, Replying, Request, served_none, served_one, served_then, Command, Spawn, SpawnMany, Refused, requests_of, refused_by, queued, as_list, returned, Entry, spawned_in, Commands, Extends, IsReady, output_of, reserver_of, source_of, Issues, Logs}
 use Rattle.ent_alloc.specs.declared.reserve_error.ReserveError.TheVariants as fault
 use Rattle.ent_log.specs.declared.entry.Entry.TheVariants as entry
 

@@ -6,3 +6,4 @@ pub mod Reserving
 pub mod Drawing
 pub mod Outputs
 pub mod Commands
+pub mod OfShared
