@@ -32,12 +32,12 @@ pub trait Source {
     ghost rows: { Self → map.FinMap handle_cmp ℕ };
 
     /// Whether the handle was alive when the phase was opened. It takes constant time.
-    fn is_alive(&self, handle: Handle) -> bool
+    fn was_alive(&self, handle: Handle) -> bool
         ensures { result ≡ set.contains (start self.now).live handle };
 
     /// The row that was kept with the handle when the phase was opened. `None` if it was not alive
     /// then, or had no row. It takes constant time.
-    fn row(&self, handle: Handle) -> Option<u32>
+    fn had_row(&self, handle: Handle) -> Option<u32>
         ensures value { result ≡ map.get (rows self.now) handle }
         ensures alive { OnSome result (set.contains (start self.now).live handle ≡ true) };
 

@@ -22,7 +22,7 @@ pub(crate) struct BlockStage<'b, 'r, 's, J: BlockNumbering, S> {
 
 /// Nothing is lent to them: each has its own reserver. So there is nothing that workers share but the
 /// claims.
-impl<J: BlockNumbering, C, S: BlockSystem<J, C>> Jobs<(Log<C>, BlockReserver<J>), ()>
+impl<J: BlockNumbering, C: Drop, S: BlockSystem<J, C>> Jobs<(Log<C>, BlockReserver<J>), ()>
     for BlockStage<'_, '_, '_, J, S> {
     ghost count = { λ stage. length stage.systems.now };
 

@@ -18,12 +18,12 @@ impl<J: BlockNumbering> Source for Blocks<J> {
 
     ghost rows = { λ blocks. blocks.phase.rows };
 
-    fn is_alive(&self, handle: Handle) -> bool {
-        Blocks::is_alive(self, handle)
+    fn was_alive(&self, handle: Handle) -> bool {
+        self.is_alive(handle)
     }
 
-    fn row(&self, handle: Handle) -> Option<u32> {
-        Blocks::row(self, handle)
+    fn had_row(&self, handle: Handle) -> Option<u32> {
+        self.row(handle)
     }
 
     #[inline(always)]

@@ -20,7 +20,7 @@ pub(crate) struct LogStage<'a, 's, S> {
     pub(crate) systems: &'s [S],
 }
 
-impl<C, S: LogSystem<C>> Jobs<Log<C>, Reserver> for LogStage<'_, '_, S> {
+impl<C: Drop, S: LogSystem<C>> Jobs<Log<C>, Reserver> for LogStage<'_, '_, S> {
     ghost count = { λ stage. length stage.systems.now };
 
     ghost may_have = { λ stage reserver. IsOf stage.shared.now reserver };

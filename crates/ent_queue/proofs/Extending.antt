@@ -61,7 +61,7 @@ issues_nothing a = search (rules, append-nil)
 issues_one : (a b : List Command) (c : Command) → b ≡ a ++ c ∷ [] → Issues a (requests_of c) b
 issues_one a b c e = record { added = c ∷ []; queue = e; requests_are = search (rules, append-nil) }
 
-module _ {S R : Type 0} (serves : S → R → Type 0) (may : S → Replying R) where
+module _ {S R : Type 0} {serves : S → R → Type 0} {may : S → Replying R} where
   -- where nothing is issued: on a path without a call, and before the first turn of a loop
   pub extends_nothing : (a : Commands (List Command) S R) → IsReady serves a → Extends Issues serves may a a
   extends_nothing = nothing_extends Issues serves may issues_nothing
@@ -144,7 +144,7 @@ module _ {C : Type 0} where
   logs_nothing : (a : List (Entry C)) → Logs a [] a
   logs_nothing a = search (rules, append-nil, All-nil)
 
-  module _ {S R : Type 0} (serves : S → R → Type 0) (may : S → Replying R) where
+  module _ {S R : Type 0} {serves : S → R → Type 0} {may : S → Replying R} where
     pub log_extends_nothing : (a : Commands (List (Entry C)) S R) → IsReady serves a → Extends Logs serves may a a
     log_extends_nothing = nothing_extends Logs serves may logs_nothing
 

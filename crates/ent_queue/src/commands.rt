@@ -34,7 +34,7 @@ impl<'a, O: Output, S: Source> Commands<'a, O, S> {
         ensures source { source_of result ≡ source.now }
         ensures output { output_of result ≡ O.empty }
     {
-        Commands::resume(alloc, source, reserver, O::new(alloc))
+        Commands::resume(alloc, source, reserver, O::unfilled(alloc))
     }
 }
 
@@ -68,7 +68,7 @@ impl<'a, O, S: Source> Commands<'a, O, S> {
     pub fn is_alive(&self, handle: Handle) -> bool
         ensures { result ≡ set.contains (S.start (source_of self.now)).live handle }
     {
-        self.source.is_alive(handle)
+        self.source.was_alive(handle)
     }
 
     /// The row that was kept with the entity when the phase was opened. `None` if the entity was not
@@ -79,7 +79,7 @@ impl<'a, O, S: Source> Commands<'a, O, S> {
         ensures alive { OnSome result
             (set.contains (S.start (source_of self.now)).live handle ≡ true) }
     {
-        self.source.row(handle)
+        self.source.had_row(handle)
     }
 }
 

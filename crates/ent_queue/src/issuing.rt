@@ -156,7 +156,7 @@ impl<S: Source> Commands<'_, CommandQueue, S> {
             (output_of self.new ≡ output_of self.old ++ Insert handle bundle.now ∷ []) }
         ensures err { OnErr result (output_of self.new ≡ output_of self.old) }
     {
-        self.output.insert(handle, bundle.items())
+        CommandQueue::insert(&mut self.output, handle, bundle.items())
     }
 
     /// Gives the entity these components, in any order, instead of those that it has under the same

@@ -14,7 +14,7 @@ pub trait Output: Drop {
     ghost adds: { Self → List Request → Self → Type 0 };
 
     /// One without entries. It takes no memory.
-    fn new(alloc: Global) -> Self
+    fn unfilled(alloc: Global) -> Self
         ensures { result ≡ empty };
 
     // What is added one after the other.
@@ -38,7 +38,7 @@ impl Output for CommandQueue {
 
     ghost more = { Prim.search (rules, common_steps, flat_map-append) };
 
-    fn new(alloc: Global) -> Self {
+    fn unfilled(alloc: Global) -> Self {
         CommandQueue::new(alloc)
     }
 }
@@ -58,7 +58,7 @@ impl<C: Drop> Output for Log<C> {
 
     ghost more = { Prim.search (rules, common_steps, flat_map-append, All-append) };
 
-    fn new(alloc: Global) -> Self {
+    fn unfilled(alloc: Global) -> Self {
         Log::new(alloc)
     }
 }

@@ -18,12 +18,12 @@ impl Source for Shared {
 
     ghost rows = { λ shared. shared.rows };
 
-    fn is_alive(&self, handle: Handle) -> bool {
-        Shared::is_alive(self, handle)
+    fn was_alive(&self, handle: Handle) -> bool {
+        self.is_alive(handle)
     }
 
-    fn row(&self, handle: Handle) -> Option<u32> {
-        Shared::row(self, handle)
+    fn had_row(&self, handle: Handle) -> Option<u32> {
+        self.row(handle)
     }
 
     #[inline(always)]

@@ -11,6 +11,7 @@ mod blocks;
 mod closing;
 mod opening;
 mod part;
+mod source;
 mod taking;
 mod undealt;
 mod unended;

@@ -4,7 +4,7 @@ use alloc::vec::Vec;
 use crate::kit::vec::FallibleVec;
 use crate::proved::ent_log::entry::Entry;
 use crate::proved::ent_log::reserves::Reserves;
-use crate::proved::ent_alloc::{Entities, ReserveError, State};
+use crate::proved::ent_alloc::{Entities, ReserveError, Source, State};
 use crate::proved::ent_handle::{Handle, Memory};
 use core::fmt;
 use alloc::vec::IntoIter;
@@ -95,6 +95,37 @@ impl<C> Log<C> {
     pub fn spawn<S: Reserves>(&mut self, source: &mut S) -> Result<Handle, ReserveError> {
         self.entries.reserve_fallibly(1)?;
         let handle = source.reserve_one()?;
+        self.entries.push_reserved(Entry::Spawn(handle));
+        Ok(handle)
+    }
+
+    /// Reserves a handle at once, of a source that serves this reserver, and adds its entry. Room for the
+    /// entry is allocated first, so each handle that is reserved has one.
+    ///
+    /// # Errors
+    ///
+    /// The log is as it was.
+    ///
+    /// - [`ReserveError::Memory`] if there is no room for the entry. Nothing was reserved.
+    /// - [`ReserveError::Space`] and [`ReserveError::Quota`] as the source returns them.
+    #[inline]
+    pub(crate) fn spawn_from<S: Source>(
+        &mut self,
+        source: &S,
+        reserver: &mut S::Reserver,
+    ) -> Result<Handle, ReserveError>
+        // requires { S.serves source.now reserver.old }
+        // ensures stays { S.serves source.now reserver.new }
+        // ensures ok { IfOk result (λ handle. self.new ≡ self.old ++ Spawn handle ∷ []) }
+        // ensures err { OnErr result (self.new ≡ self.old) }
+
+        // Anything but Memory is the result of one reservation.
+        // ensures replies { (reply : Result HandleValue Refusal) → result ≡ returned reply
+        //     → S.may_reply source.now reserver.old reserver.new 1 (listed_alone reply) }
+        // ensures memory { IsErrOf result ReserveError.Memory → reserver.new ≡ reserver.old }
+    {
+        self.entries.reserve_fallibly(1)?;
+        let handle = source.serve_one(reserver)?;
         self.entries.push_reserved(Entry::Spawn(handle));
         Ok(handle)
     }

@@ -4,8 +4,8 @@ use Rattle.ent_block_runner.proofs.queue_stage.QueueStageJobsTuple2CommandQueueB
 
 pub returns-clause-does : goal.returns-clause-does
 returns-clause-does g c =
-    let draws = draws_extended _ _ c.new.ensures.output c.run-ran.ensures.extends in search (rules, draws)
+    let draws = draws_extended _ _ c.new-commands.ensures.output c.run-ran.ensures.extends in search (rules, draws)
 
 pub returns-clause-leaves : goal.returns-clause-leaves
 returns-clause-leaves g c =
-    let draws = draws_extended _ _ c.new.ensures.output c.run-ran.ensures.extends in search (rules, draws)
+    let draws = draws_extended _ _ c.new-commands.ensures.output c.run-ran.ensures.extends in search (rules, draws)
