@@ -8,7 +8,6 @@ use ent_alloc::Source;
 use ent_handle::Handle;
 use ent_shared::Shared;
 use std::alloc::Global;
-use std::fmt;
 
 /// Fills what one system fills, with a reserver that is lent to it: the commands of a world, which take
 /// effect when their queue is applied, in a frame at its sync point; or the entries of a log.
@@ -96,13 +95,5 @@ impl<O, S: Source> Commands<'_, O, S> {
             alloc: _,
         } = self;
         output
-    }
-}
-
-/// What was filled so far.
-impl<O: fmt::Debug, S: Source> fmt::Debug for Commands<'_, O, S> {
-    fn fmt<W: fmt::Write>(&self, f: &mut fmt::Formatter<W>) -> fmt::Result {
-        let output = &self.output;
-        write!(f, "{output:?}")
     }
 }

@@ -12,6 +12,7 @@ use crate::commands::Commands;
 use ent_alloc::{ReserveError, Source};
 use ent_handle::{Handle, Memory};
 use ent_log::{Entry, Log};
+use std::fmt;
 
 impl<C, S: Source> Commands<'_, Log<C>, S> {
     /// The entries so far, in the order of issue.
@@ -65,5 +66,13 @@ impl<C: Drop, S: Source> Commands<'_, Log<C>, S> {
         ensures err { OnErr result (output_of self.new ≡ output_of self.old) }
     {
         Log::push(&mut self.output, command)
+    }
+}
+
+/// The log so far.
+impl<C: fmt::Debug, S: Source> fmt::Debug for Commands<'_, Log<C>, S> {
+    fn fmt<W: fmt::Write>(&self, f: &mut fmt::Formatter<W>) -> fmt::Result {
+        let log = &self.output;
+        write!(f, "{log:?}")
     }
 }

@@ -5,7 +5,6 @@ use crate::proved::ent_queue::queue::CommandQueue;
 use crate::proved::ent_alloc::Source;
 use crate::proved::ent_handle::Handle;
 use crate::proved::ent_shared::Shared;
-use core::fmt;
 
 /// Fills what one system fills, with a reserver that is lent to it: the commands of a world, which take
 /// effect when their queue is applied, in a frame at its sync point; or the entries of a log.
@@ -113,14 +112,5 @@ impl<O, S: Source> Commands<'_, O, S> {
             output,
         } = self;
         output
-    }
-}
-
-/// What was filled so far.
-impl<O: fmt::Debug, S: Source> fmt::Debug for Commands<'_, O, S> {
-    #[inline]
-    fn fmt(&self, f: &mut fmt::Formatter<'_>) -> fmt::Result {
-        let output = &self.output;
-        write!(f, "{output:?}")
     }
 }

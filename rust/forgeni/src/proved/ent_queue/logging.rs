@@ -6,6 +6,7 @@ use crate::proved::ent_queue::commands::Commands;
 use crate::proved::ent_alloc::{ReserveError, Source};
 use crate::proved::ent_handle::{Handle, Memory};
 use crate::proved::ent_log::{Entry, Log};
+use core::fmt;
 
 impl<C, S: Source> Commands<'_, Log<C>, S> {
     /// The entries so far, in the order of issue.
@@ -86,5 +87,14 @@ impl<C, S: Source> Commands<'_, Log<C>, S> {
     #[inline]
     pub fn push(&mut self, command: C) -> Result<(), Memory> {
         Log::push(&mut self.output, command)
+    }
+}
+
+/// The log so far.
+impl<C: fmt::Debug, S: Source> fmt::Debug for Commands<'_, Log<C>, S> {
+    #[inline]
+    fn fmt(&self, f: &mut fmt::Formatter<'_>) -> fmt::Result {
+        let log = &self.output;
+        write!(f, "{log:?}")
     }
 }
