@@ -1,5 +1,7 @@
 -- What a system's log has drawn from its block, by the replies to its requests.
-use Rattle.ent_block_runner.proofs.Common.{rules, ◌≡◌, refl, ℕ, ◌+◌, zero, suc, List, [], ◌∷◌, ◌++◌, take, drop, length, arith, Ok, Err, All, All-head, All-tail, flat_map, common_steps, Handle, listed, Phase, Reserver, rest_of, after_use, IsOfPhase, IsDrawn, AreServed, Request, given_by, Entry, Commands, Extends, output_of, reserver_of, source_of, Logs, Draws}
+use Rattle.ent_block_runner.proofs.Common.{rules, ◌≡◌, ◌∙◌, ap, refl, ℕ, ◌+◌, zero, suc, List, [], ◌∷◌, ◌++◌, take, drop, length, arith, Ok, Err, All, All-head, All-tail, flat_map, common_steps, Handle, listed, Phase, Reserver, rest_of, after_use, IsOfPhase, IsDrawn, AreServed, Request, given_by, Entry, Commands, Extends, output_of, reserver_of, source_of, Logs, Draws, Result, OnOk, OnErr, Some, slice_get, get_or, get_or_from_slice_get, FillsAt, IssuesAt, Command, View}
+use Rattle.ent_queue.proofs.DrawnBlocks as queued
+use Rattle.ent_queue.specs.Outputs.{Issues}
 
 step : (made : ℕ) (xs hs more : List Handle) → hs ≡ listed made (take 1 xs) → length hs ≡ 1
     → more ≡ take (length more) (drop 1 xs) → hs ++ more ≡ take (length (hs ++ more)) xs
@@ -52,3 +54,51 @@ module _ {C : Type 0} where
       let is : output_of b ≡ e.adds.added = rw empty at e.adds.log in
       let all = drawn (source_of a) e.requests (reserver_of a) (reserver_of b) e.adds.one_each e.served in
       rw is (record { given = rw e.adds.given all.given; used = rw e.adds.given all.used })
+
+-- A system that ran as a job, with the reserver at its number: if it ended, and if it stopped.
+module _ {S : Type 0} (systems : List S) (phase : Phase) (reservers : List Reserver) (n : ℕ) (d : S) where
+  of_phase : {O : Type 0} (Adds : O → List Request → O → Type 0) (a b : Commands O Phase Reserver)
+      → Extends Adds IsOfPhase IsDrawn a b → source_of a ≡ phase → (reserver_of b).number ≡ phase.number
+  of_phase Adds a b e source = e.ready ∙ ap (λ (p : Phase). p.number) (e.source ∙ source)
+
+  module _ {C : Type 0} (may : S → List (Entry C) → Type 0) (a b : Commands (List (Entry C)) Phase Reserver)
+      (empty : output_of a ≡ []) (e : Extends Logs IsOfPhase IsDrawn a b) (source : source_of a ≡ phase)
+      (is : (r : Reserver) → slice_get reservers n ≡ Some r → reserver_of a ≡ r) (log : List (Entry C))
+      (after : Reserver) (same : log ≡ output_of b) (last : after ≡ reserver_of b) where
+    fills : may (get_or systems n d) (output_of b) → FillsAt may systems phase reservers n (log, after)
+    fills ran = rw (same, last) (record {
+      system = λ system at. search (rules, get_or_from_slice_get);
+      of_phase = of_phase Logs a b e source;
+      draws = λ r at. rw (source, is r at) at (draws_extended a b empty e);
+    })
+
+    pub filled_ok : {A E : Type 0} (r : Result A E) → OnOk r (may (get_or systems n d) (output_of b))
+        → OnOk r (FillsAt may systems phase reservers n (log, after))
+    filled_ok (Ok x) ran = fills ran
+    filled_ok (Err why) ran = tt
+
+    pub filled_err : {A E : Type 0} (r : Result A E) → OnErr r (may (get_or systems n d) (output_of b))
+        → OnErr r (FillsAt may systems phase reservers n (log, after))
+    filled_err (Ok x) ran = tt
+    filled_err (Err why) ran = fills ran
+
+  module _ (may : S → View → List Command → Type 0) (view : View) (a b : Commands (List Command) Phase Reserver)
+      (empty : output_of a ≡ []) (e : Extends Issues IsOfPhase IsDrawn a b) (source : source_of a ≡ phase)
+      (is : (r : Reserver) → slice_get reservers n ≡ Some r → reserver_of a ≡ r) (queue : List Command)
+      (after : Reserver) (same : queue ≡ output_of b) (last : after ≡ reserver_of b) where
+    issues : may (get_or systems n d) view (output_of b) → IssuesAt may systems view phase reservers n (queue, after)
+    issues ran = rw (same, last) (record {
+      system = λ system at. search (rules, get_or_from_slice_get);
+      of_phase = of_phase Issues a b e source;
+      draws = λ r at. rw (source, is r at) at (queued.draws_extended a b empty e);
+    })
+
+    pub issued_ok : {A E : Type 0} (r : Result A E) → OnOk r (may (get_or systems n d) view (output_of b))
+        → OnOk r (IssuesAt may systems view phase reservers n (queue, after))
+    issued_ok (Ok x) ran = issues ran
+    issued_ok (Err why) ran = tt
+
+    pub issued_err : {A E : Type 0} (r : Result A E) → OnErr r (may (get_or systems n d) view (output_of b))
+        → OnErr r (IssuesAt may systems view phase reservers n (queue, after))
+    issued_err (Ok x) ran = tt
+    issued_err (Err why) ran = issues ran

@@ -1,5 +1,5 @@
 -- What a system's log has gained by the replies to its requests.
-use Rattle.ent_log_runner.proofs.Common.{rules, ◌≡◌, refl, sym, ◌∙◌, ℕ, ◌<◌, List, [], ◌∷◌, ◌++◌, append-nil, append_assoc, arith, Result, Ok, Err, inl, inr, All, All-nil, All-cons, All-head, All-tail, All-append, cases_lt, map-append, flat_map-append, flat_map, Handle, Refused, Record, Reservation, reservation_at, handles_given, Shared, Reserver, IsOf, IsReturned, given_more, given_no_more, AreServed, Request, given_by, Entry, spawned_in, spawned_by, Commands, Extends, output_of, reserver_of, source_of, Logs, HasGained, LogGains}
+use Rattle.ent_log_runner.proofs.Common.{rules, ◌≡◌, refl, sym, ◌∙◌, ℕ, ◌<◌, List, [], ◌∷◌, ◌++◌, append-nil, append_assoc, arith, Result, Ok, Err, inl, inr, All, All-nil, All-cons, All-head, All-tail, All-append, cases_lt, map-append, flat_map-append, flat_map, Handle, Refused, Record, Reservation, reservation_at, handles_given, Shared, Reserver, IsOf, IsReturned, given_more, given_no_more, AreServed, Request, given_by, Entry, spawned_in, spawned_by, Commands, Extends, output_of, reserver_of, source_of, Logs, HasGained, LogGains, SystemMayLog, OnOk, OnErr, get_or, get_or_from_slice_get}
 
 abbrev gained_nothing : (r : Record) → HasGained r r
 gained_nothing r = record {
@@ -89,7 +89,7 @@ module _ {C : Type 0} where
   }
 
   -- So a system that began with an empty log was given the handles of its spawns.
-  pub gains_extended : (a b : Commands (List (Entry C)) Shared Reserver) → output_of a ≡ [] → Extends Logs IsOf IsReturned a b
+  gains_extended : (a b : Commands (List (Entry C)) Shared Reserver) → output_of a ≡ [] → Extends Logs IsOf IsReturned a b
       → LogGains (reserver_of a).own (output_of b) (reserver_of b).own
   gains_extended a b empty e =
       let is : output_of b ≡ e.adds.added = rw empty at e.adds.log in
@@ -111,3 +111,22 @@ log_gains_then a b c xs ys first second = record {
       first.callers (rw first.gained.number at second.callers);
   given = second.given ∙ rw (first.given, flat_map-append spawned_by xs ys) (append_assoc (handles_given a) _ _);
 }
+
+-- A system that ran as a job: if it ended, and if it stopped.
+module _ {C S : Type 0} (may : S → List (Entry C) → Type 0) (systems : List S) (n : ℕ) (d : S)
+    (a b : Commands (List (Entry C)) Shared Reserver) (empty : output_of a ≡ []) (e : Extends Logs IsOf IsReturned a b)
+    (before : Record) (log : List (Entry C)) (after : Record) (first : before ≡ (reserver_of a).own)
+    (same : log ≡ output_of b) (last : after ≡ (reserver_of b).own) where
+  logs : may (get_or systems n d) (output_of b) → LogGains before log after × SystemMayLog may systems n log
+  logs ran =
+      rw (first, same, last) (gains_extended a b empty e, λ system at. search (rules, get_or_from_slice_get))
+
+  pub logged_ok : {A E : Type 0} (r : Result A E) → OnOk r (may (get_or systems n d) (output_of b))
+      → OnOk r (LogGains before log after × SystemMayLog may systems n log)
+  logged_ok (Ok x) ran = logs ran
+  logged_ok (Err why) ran = tt
+
+  pub logged_err : {A E : Type 0} (r : Result A E) → OnErr r (may (get_or systems n d) (output_of b))
+      → OnErr r (LogGains before log after × SystemMayLog may systems n log)
+  logged_err (Ok x) ran = tt
+  logged_err (Err why) ran = logs ran

@@ -134,7 +134,7 @@ module _ {R : Type 0} (may : Replying R) (old new : List Command) (before after 
 -- ---- logs
 
 one_each : (request : Request) → request.0 ≡ 1 → All (λ (r : Request). r.0 ≡ 1) (request ∷ [])
-one_each request one = All-cons _ request [] one (All-nil _)
+one_each request one = All-cons (λ (r : Request). r.0 ≡ 1) request [] one (All-nil (λ (r : Request). r.0 ≡ 1))
 
 module _ {C : Type 0} where
   logs_more : (a b c : List (Entry C)) (first second : List Request) → Logs a first b → Logs b second c
@@ -158,7 +158,7 @@ module _ {C : Type 0} where
         → Called Logs may old new before after
     called_push command (Ok it) ok err same = record {
       requests = [];
-      adds = record { added = entry.Command command ∷ []; log = ok; given = refl; one_each = All-nil _ };
+      adds = record { added = entry.Command command ∷ []; log = ok; given = refl; one_each = All-nil (λ (r : Request). r.0 ≡ 1) };
       served = served_none may before after same;
     }
     called_push command (Err why) ok err same = record {
@@ -193,6 +193,6 @@ module _ {C : Type 0} where
     }
     called_log_spawn (Err fault.Memory) ok err memory replied = record {
       requests = [];
-      adds = record { added = []; log = err ∙ sym (append-nil old); given = refl; one_each = All-nil _ };
+      adds = record { added = []; log = err ∙ sym (append-nil old); given = refl; one_each = All-nil (λ (r : Request). r.0 ≡ 1) };
       served = served_none may before after (memory refl);
     }
