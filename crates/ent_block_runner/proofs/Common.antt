@@ -18,7 +18,7 @@ pub use Rattle.ent_log.specs.Logs.{spawned_in}
 pub use Rattle.ent_log.specs.declared.entry.Entry.{Entry}
 pub use Rattle.ent_queue.specs.Command.{Command}
 pub use Rattle.ent_queue.specs.Commands.{Extends, output_of, reserver_of, source_of}
-pub use Rattle.ent_queue.specs.Outputs.{Logs}
+pub use Rattle.ent_queue.specs.Logging.{Logs}
 pub use Rattle.ent_queue.specs.declared.commands.Commands.{Commands}
 pub use Rattle.ent_queue.specs.Drawing.{after_commands}
 pub use Rattle.ent_runner.proofs.Adding.{last_pushed}

@@ -1,7 +1,7 @@
 -- What a system's log has drawn from its block, by the replies to its requests.
 use Rattle.ent_block_runner.proofs.Common.{rules, ◌≡◌, ◌∙◌, ap, refl, ℕ, ◌+◌, zero, suc, List, [], ◌∷◌, ◌++◌, take, drop, length, arith, Ok, Err, All, All-head, All-tail, flat_map, common_steps, Handle, listed, Phase, Reserver, rest_of, after_use, IsOfPhase, IsDrawn, AreServed, Request, given_by, Entry, Commands, Extends, output_of, reserver_of, source_of, Logs, Draws, Result, OnOk, OnErr, Some, slice_get, get_or, get_or_from_slice_get, FillsAt, IssuesAt, Command, View}
 use Rattle.ent_queue.proofs.DrawnBlocks as queued
-use Rattle.ent_queue.specs.Outputs.{Issues}
+use Rattle.ent_queue.specs.Issuing.{Issues}
 
 step : (made : ℕ) (xs hs more : List Handle) → hs ≡ listed made (take 1 xs) → length hs ≡ 1
     → more ≡ take (length more) (drop 1 xs) → hs ++ more ≡ take (length (hs ++ more)) xs

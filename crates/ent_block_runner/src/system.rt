@@ -2,7 +2,7 @@ ghost use Rattle.std.specs.Prelude.{◌≡◌, [], List, OnOk, OnErr};
 ghost use Rattle.ent_log.specs.declared.entry.Entry.{Entry as LogEntry};
 ghost use Rattle.ent_blocks.specs.Drawing.{IsDrawn, IsOfPhase};
 ghost use Rattle.ent_queue.specs.Commands.{IsReady, Extends, output_of};
-ghost use Rattle.ent_queue.specs.Outputs.{Logs};
+ghost use Rattle.ent_queue.specs.Logging.{Logs};
 
 use crate::BlockNumbering;
 use ent_blocks::Blocks;

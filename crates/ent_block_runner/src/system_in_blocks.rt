@@ -2,7 +2,7 @@ ghost use Rattle.std.specs.Prelude.{◌≡◌, [], List, OnOk, OnErr};
 ghost use Rattle.ent_queue.specs.Command.{Command};
 ghost use Rattle.ent_blocks.specs.Drawing.{IsDrawn, IsOfPhase};
 ghost use Rattle.ent_queue.specs.Commands.{IsReady, Extends, output_of};
-ghost use Rattle.ent_queue.specs.Outputs.{Issues};
+ghost use Rattle.ent_queue.specs.Issuing.{Issues};
 ghost use Rattle.ent_world.specs.OpenWorld.{View as Viewed};
 
 use crate::BlockNumbering;

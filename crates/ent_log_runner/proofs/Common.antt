@@ -38,7 +38,7 @@ unfoldable pub use Rattle.ent_shared.specs.Record.{opened_records}
 pub use Rattle.ent_shared.specs.declared.record.Record.{Record}
 pub use Rattle.ent_shared.specs.declared.record.Reservation.{Reservation}
 pub use Rattle.ent_queue.specs.Commands.{Extends, output_of, reserver_of, source_of}
-pub use Rattle.ent_queue.specs.Outputs.{Logs}
+pub use Rattle.ent_queue.specs.Logging.{Logs}
 pub use Rattle.ent_queue.specs.declared.commands.Commands.{Commands}
 pub use Rattle.ent_shared.proofs.Returned.{given_more, given_no_more}
 pub use Rattle.ent_shared.specs.Replies.{IsReturned}

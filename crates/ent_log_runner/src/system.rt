@@ -1,7 +1,7 @@
 ghost use Rattle.std.specs.Prelude.{◌≡◌, [], List, OnOk, OnErr};
 ghost use Rattle.ent_log.specs.declared.entry.Entry.{Entry as LogEntry};
 ghost use Rattle.ent_queue.specs.Commands.{IsReady, Extends, output_of};
-ghost use Rattle.ent_queue.specs.Outputs.{Logs};
+ghost use Rattle.ent_queue.specs.Logging.{Logs};
 ghost use Rattle.ent_shared.specs.Phase.{IsOf};
 ghost use Rattle.ent_shared.specs.Replies.{IsReturned};
 

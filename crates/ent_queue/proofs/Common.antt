@@ -39,7 +39,8 @@ pub use Rattle.ent_queue.specs.declared.commands.Commands.{Commands}
 pub use Rattle.ent_queue.specs.Commands.{Extends, IsReady, output_of, reserver_of, source_of}
 pub use Rattle.ent_queue.specs.Drawing.{AreDrawnBy, Draws, IsDrawnBy, after_commands, used_by}
 pub use Rattle.ent_queue.specs.Entry.{command_of}
-pub use Rattle.ent_queue.specs.Outputs.{Issues, Logs}
+pub use Rattle.ent_queue.specs.Issuing.{Issues}
+pub use Rattle.ent_queue.specs.Logging.{Logs}
 pub use Rattle.ent_queue.specs.Packing.{bundle_bytes, command_bytes, handle_bytes, item_bytes, queue_bytes, refusal_bytes}
 unfoldable pub use Rattle.ent_queue.specs.Packing.{bytes_2, bytes_4, bytes_8}
 pub use Rattle.ent_queue.specs.Reserving.{FitQuota, FitsQuota, Gains, as_list, cost, queued, refused_by, requests_of, stands_for}

@@ -4,6 +4,7 @@ pub mod Unpacking
 pub mod Entry
 pub mod Reserving
 pub mod Drawing
-pub mod Outputs
+pub mod Issuing
+pub mod Logging
 pub mod Commands
 pub mod OfShared

@@ -4,7 +4,7 @@ use Rattle.ent_shared.specs.Phase.{Shared, Reserver, IsOf}
 use Rattle.ent_shared.specs.Replies.{IsReturned}
 use Rattle.ent_queue.specs.Command.{Command}
 use Rattle.ent_queue.specs.Commands as filling
-use Rattle.ent_queue.specs.Outputs.{Issues}
+use Rattle.ent_queue.specs.Issuing.{Issues}
 use Rattle.ent_queue.specs.declared.commands.Commands.{Commands}
 
 abbrev pub Issued : Type 0

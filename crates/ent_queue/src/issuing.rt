@@ -7,7 +7,7 @@ ghost use Rattle.ent_alloc.specs.Sequential.{listed_alone};
 ghost use Rattle.ent_storage.specs.Bundle.{bundle_of};
 ghost use Rattle.ent_queue.specs.Command.{Spawn, SpawnMany, Insert, Remove, Despawn};
 ghost use Rattle.ent_queue.specs.Commands.{IsReady, Extends, output_of, reserver_of, source_of};
-ghost use Rattle.ent_queue.specs.Outputs.{Issues};
+ghost use Rattle.ent_queue.specs.Issuing.{Issues};
 ghost use Rattle.ent_queue.specs.Reserving.{refused_by, queued, as_list};
 
 use crate::bundle::Bundle as OwnBundle;

@@ -6,7 +6,7 @@ ghost use Rattle.ent_alloc.specs.Sequential.{listed_alone};
 ghost use Rattle.ent_log.specs.declared.entry.Entry.TheVariants.{Spawn, Command};
 ghost use Rattle.ent_log.specs.Spawning.{returned};
 ghost use Rattle.ent_queue.specs.Commands.{IsReady, Extends, output_of, reserver_of, source_of};
-ghost use Rattle.ent_queue.specs.Outputs.{Logs};
+ghost use Rattle.ent_queue.specs.Logging.{Logs};
 
 use crate::commands::Commands;
 use ent_alloc::{ReserveError, Source};

@@ -28,7 +28,7 @@ impl Output for CommandQueue {
     ghost use Rattle.std.specs.Prelude.{[]};
     ghost use Rattle.std.proofs.Common.{rules, append-nil};
     ghost use Rattle.std.proofs.lemmas.Grind.{common_steps, flat_map-append};
-    ghost use Rattle.ent_queue.specs.Outputs.{Issues};
+    ghost use Rattle.ent_queue.specs.Issuing.{Issues};
 
     ghost empty = { [] };
 
@@ -48,7 +48,7 @@ impl<C: Drop> Output for Log<C> {
     ghost use Rattle.std.proofs.Common.{rules, append-nil};
     ghost use Rattle.std.proofs.lemmas.Grind.{common_steps, flat_map-append};
     ghost use Rattle.std.proofs.lemmas.List.Elements.{All-append, All-nil};
-    ghost use Rattle.ent_queue.specs.Outputs.{Logs};
+    ghost use Rattle.ent_queue.specs.Logging.{Logs};
 
     ghost empty = { [] };
 

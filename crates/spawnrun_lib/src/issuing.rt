@@ -1,7 +1,7 @@
 //! What the operations of a system issue.
 ghost use Rattle.std.specs.Prelude.{◌≡◌, [], OnOk, OnErr};
 ghost use Rattle.ent_queue.specs.Commands.{IsReady, Extends, output_of};
-ghost use Rattle.ent_queue.specs.Outputs.{Issues};
+ghost use Rattle.ent_queue.specs.Issuing.{Issues};
 ghost use Rattle.spawnrun_lib.specs.Issuing.{MayIssue, MayStop};
 ghost use Rattle.spawnrun_lib.specs.Parts.{HasIssued, HasStopped};
 ghost use Rattle.spawnrun_lib.specs.Rolls.{IsRollOf};

@@ -2,7 +2,7 @@ ghost use Rattle.std.specs.Prelude.{◌≡◌, OnOk, OnErr, Some};
 ghost use Rattle.ent_world.specs.OpenWorld.{View};
 ghost use Rattle.ent_script.specs.declared.operation.Operation.TheVariants.{Spawn, SpawnMany};
 ghost use Rattle.ent_queue.specs.Commands.{IsReady, Extends, output_of};
-ghost use Rattle.ent_queue.specs.Outputs.{Issues};
+ghost use Rattle.ent_queue.specs.Issuing.{Issues};
 ghost use Rattle.spawnrun_lib.specs.Parts.{HasIssued};
 
 use crate::bindings::Bindings;

@@ -1,5 +1,5 @@
 use Rattle.ent_queue.specs.Commands.{Extends, output_of}
-use Rattle.ent_queue.specs.Outputs.{Issues}
+use Rattle.ent_queue.specs.Issuing.{Issues}
 use Rattle.spawnrun_lib.proofs.Common.{names_of, IsRollOf}
 use Rattle.spawnrun_lib.proofs.SystemRunning.{HasRun}
 use Rattle.spawnrun_lib.proofs.issuing.issue_all.Given as goal

@@ -1,5 +1,5 @@
 use Rattle.ent_queue.specs.Commands.{Extends, output_of}
-use Rattle.ent_queue.specs.Outputs.{Issues}
+use Rattle.ent_queue.specs.Issuing.{Issues}
 use Rattle.spawnrun_lib.proofs.Common.{◌≡◌, ◌++◌, map, take, command_on}
 use Rattle.spawnrun_lib.proofs.change.Change.on_each.Given as goal
 
