@@ -42,12 +42,7 @@ impl<'a, O, S: Source> Commands<'a, O, S> {
 
     /// Goes on with what was begun before: what it has stays in front. The reserver may be another one
     /// than before, of those of the source.
-    pub fn resume(
-        alloc: Global,
-        source: &'a S,
-        reserver: &'a mut S::Reserver,
-        output: O,
-    ) -> Self
+    pub fn resume(alloc: Global, source: &'a S, reserver: &'a mut S::Reserver, output: O) -> Self
         requires { S.serves source.now reserver.old }
         ensures same { result.reserver.ghost_name ≡ reserver.entry.ghost_name }
         ensures reserver { reserver_of result ≡ reserver.old }

@@ -43,7 +43,8 @@ impl<S: Source> Commands<'_, CommandQueue, S> {
             → S.may_reply (source_of self.old) (reserver_of self.old) (reserver_of self.new) 1
             (listed_alone reply) }
     {
-        self.output.spawn(self.source, self.reserver, bundle.items())
+        self.output
+            .spawn(self.source, self.reserver, bundle.items())
     }
 
     /// Reserves a handle, which is to have these components, in any order. If a component is listed

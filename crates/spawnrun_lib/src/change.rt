@@ -56,7 +56,11 @@ impl Change<'_> {
     }
 
     /// Issues the change for each of the handles, in order.
-    fn on_each<S: Source>(self, handles: &[Handle], commands: &mut Commands<'_, CommandQueue, S>) -> Result<(), Memory>
+    fn on_each<S: Source>(
+        self,
+        handles: &[Handle],
+        commands: &mut Commands<'_, CommandQueue, S>,
+    ) -> Result<(), Memory>
         requires { IsReady S.serves commands.old }
         ensures extends { Extends Issues S.serves S.may_reply commands.old commands.new }
         ensures ok { OnOk result (output_of commands.new
@@ -71,7 +75,11 @@ impl Change<'_> {
     }
 
     /// Issues the change for one handle.
-    fn on_one<S: Source>(self, handle: Handle, commands: &mut Commands<'_, CommandQueue, S>) -> Result<(), Memory>
+    fn on_one<S: Source>(
+        self,
+        handle: Handle,
+        commands: &mut Commands<'_, CommandQueue, S>,
+    ) -> Result<(), Memory>
         requires { IsReady S.serves commands.old }
         ensures extends { Extends Issues S.serves S.may_reply commands.old commands.new }
         ensures ok { OnOk result (output_of commands.new

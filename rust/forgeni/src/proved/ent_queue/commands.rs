@@ -35,11 +35,7 @@ impl<'a, O, S: Source> Commands<'a, O, S> {
     /// Goes on with what was begun before: what it has stays in front. The reserver may be another one
     /// than before, of those of the source.
     #[inline]
-    pub(crate) fn resume(
-        source: &'a S,
-        reserver: &'a mut S::Reserver,
-        output: O,
-    ) -> Self
+    pub(crate) fn resume(source: &'a S, reserver: &'a mut S::Reserver, output: O) -> Self
         // requires { S.serves source.now reserver.old }
         // ensures same { result.reserver.ghost_name ≡ reserver.entry.ghost_name }
         // ensures reserver { reserver_of result ≡ reserver.old }

@@ -45,7 +45,8 @@ impl<S: Source> Commands<'_, CommandQueue, S> {
         &mut self,
         bundle: &Bundle<INLINE>,
     ) -> Result<Handle, QueueFault> {
-        self.output.spawn(self.source, self.reserver, bundle.items())
+        self.output
+            .spawn(self.source, self.reserver, bundle.items())
     }
 
     /// Reserves a handle, which is to have these components, in any order. If a component is listed
