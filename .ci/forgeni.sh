@@ -7,8 +7,8 @@ cd "$(dirname "$0")/../rust/forgeni"
 empty=$(mktemp -d)
 trap 'rm -rf "$empty"' EXIT
 export CARGO_HOME=$empty/home
-# Only the allocator of the tests has any, since Rust's trait of allocators requires it, and the module of the page, for the names of its calls.
-if grep -rnw unsafe --include=*.rs --exclude=refusing_allocator.rs --exclude-dir=web .. | grep -v "forbid(unsafe_code)"; then
+# Only the allocator of the tests has any, since Rust's trait of allocators requires it.
+if grep -rnw unsafe --include=*.rs --exclude=refusing_allocator.rs .. | grep -v "forbid(unsafe_code)"; then
     echo "rust: unsafe code"
     exit 1
 fi

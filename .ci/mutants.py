@@ -3,6 +3,7 @@
 
     .ci/mutants.py fit                   each fits the code, and says what refuses it; none that `named_mutants.txt` lists is lost
     .ci/mutants.py try --gate [CRATE..]  those with a line `gate` are refused by what their files say
+    .ci/mutants.py try --built ..        over the libraries as `rt ci` left them, however old their files look
     .ci/mutants.py try [CRATE..]         all of these crates, or of all crates
     .ci/mutants.py try --changed REV     all of the crates whose sources, specs or proofs differ from that commit
     .ci/mutants.py try --name ..         writes the line `refused by` into each file that has none
@@ -130,9 +131,9 @@ class Prover:
         words += ["--links", f"{crate}=", "--jobs", "1", "--incremental", kept, "--allow-holes"]
         return [str(it) for it in [*words, *(word for it in functions for word in ("--only", it))]]
 
-    def build_below(self, crate):
+    def build_below(self, crate, anew=False):
         """Builds the libraries below a crate that aren't built, or may be older than their sources: `rt` does so before each check."""
-        if any(is_older_than_its_sources(it) for it in self.below(crate)):
+        if anew or any(is_older_than_its_sources(it) for it in self.below(crate)):
             said = subprocess.run(["rt", "check", "--only", ""], cwd=f"crates/{crate}", capture_output=True, text=True)
             if said.returncode:
                 sys.exit(f"the libraries below {crate} are not built: {said.stdout[-500:]}{said.stderr[-500:]}")
@@ -551,6 +552,14 @@ def fit():
     return 1 if faults else 0
 
 
+def try_crates(prover, by_crate, options):
+    """Tries these mutants, the crates with most of them first: each is one worker's."""
+    order = sorted(by_crate, key=lambda it: -len(by_crate[it]))
+    with concurrent.futures.ThreadPoolExecutor(options.jobs) as pool:
+        runs = [pool.submit(try_crate, prover, it, by_crate[it], options.name) for it in order]
+    return [it for run in runs for it in run.result()]
+
+
 def try_all(options):
     crates = changed_since(options.changed) if options.changed else options.crates or ["*"]
     by_crate = {}
@@ -561,13 +570,17 @@ def try_all(options):
     if lacking:
         sys.exit(f"no mutants in crates/{lacking[0]}")
     prover = Prover()
-    for crate in by_crate:
+    for crate in by_crate if not options.built else ():
         prover.build_below(crate)
-    # The crates with most to do first: each is one worker's.
-    order = sorted(by_crate, key=lambda it: -len(by_crate[it]))
-    with concurrent.futures.ThreadPoolExecutor(options.jobs) as pool:
-        runs = [pool.submit(try_crate, prover, it, by_crate[it], options.name) for it in order]
-    results = [it for run in runs for it in run.result()]
+    results = try_crates(prover, by_crate, options)
+    # A library may have been built over another build of one below it, as an earlier run on the machine had it.
+    again = {}
+    for mutant, kind, _ in results:
+        if kind == UNKNOWN:
+            again.setdefault(mutant.crate, []).append(mutant)
+    for crate in again:
+        prover.build_below(crate, anew=True)
+    results = [it for it in results if it[1] != UNKNOWN] + try_crates(prover, again, options)
     faults = [f"{mutant.crate}/{mutant.name}: {kind}: {said}" for mutant, kind, said in results if kind != REFUSED]
     count = len(results) - len(faults)
     print(*faults, f"mutants tried: {len(results)}, refused as their files say: {count}, not so: {len(faults)}", sep="\n")
@@ -583,6 +596,7 @@ def main():
     of_try.add_argument("--gate", action="store_true")
     of_try.add_argument("--changed", metavar="REV")
     of_try.add_argument("--name", action="store_true")
+    of_try.add_argument("--built", action="store_true")
     of_try.add_argument("--jobs", type=int, default=os.cpu_count())
     options = words.parse_args()
     if options.verb == "try":

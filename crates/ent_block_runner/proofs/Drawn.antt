@@ -1,49 +1,85 @@
 -- What a system's log has drawn from its block, by the replies to its requests.
-use Rattle.ent_block_runner.proofs.Common.{rules, ◌≡◌, ◌∙◌, ap, refl, ℕ, ◌+◌, zero, suc, List, [], ◌∷◌, ◌++◌, take, drop, length, arith, Ok, Err, All, All-head, All-tail, flat_map, common_steps, Handle, listed, Phase, Reserver, rest_of, after_use, IsOfPhase, IsDrawn, AreServed, Request, given_by, Entry, Commands, Extends, output_of, reserver_of, source_of, Logs, Draws, Result, OnOk, OnErr, Some, slice_get, get_or, get_or_from_slice_get, FillsAt, IssuesAt, Command, View}
+use Rattle.ent_block_runner.proofs.Common.{rules, ◌≡◌, ◌∙◌, ap, refl, sym, subst, ℕ, ◌+◌, ◌-◌, ◌<◌, ◌≤◌, zero, suc, List, [], ◌∷◌, take, drop, length, length-drop, length-take, arith, flat_map, common_steps, Handle, Refused, Block, Phase, Reserver, rest_of, after_use, left_of, IsOfPhase, IsDrawn, AreServed, Request, Entry, Spawn, spawned_in, Commands, Extends, output_of, reserver_of, source_of, Logs, request_of, Draws, FitBlock, Result, Ok, Err, OnOk, OnErr, Some, slice_get, get_or, get_or_from_slice_get, FillsAt, IssuesAt, Command, View}
+use Rattle.ent_alloc.specs.declared.refused.Refused.TheVariants as refused
+use Rattle.ent_log.specs.declared.entry.Entry.TheVariants as entry
 use Rattle.ent_queue.proofs.DrawnBlocks as queued
 use Rattle.ent_queue.specs.Issuing.{Issues}
 
-step : (made : ℕ) (xs hs more : List Handle) → hs ≡ listed made (take 1 xs) → length hs ≡ 1
-    → more ≡ take (length more) (drop 1 xs) → hs ++ more ≡ take (length (hs ++ more)) xs
-step made [] hs more is one rest = absurd (grind (arith, common_steps))
-step made (x ∷ xs) hs more is one rest =
-    let first : hs ≡ x ∷ [] = grind (arith, common_steps) in grind (arith, common_steps)
+-- the first handle of the block, and those after it
+step : (rest more : List Handle) (h : Handle) → h ∷ [] ≡ take 1 rest → more ≡ take (length more) (drop 1 rest)
+    → h ∷ more ≡ take (length (h ∷ more)) rest
+step [] more h first then = absurd (cc)
+step (x ∷ rest) more h first then = grind (arith, common_steps)
 
 dropped : (n : ℕ) (xs : List Handle) → drop (n + 1) xs ≡ drop 1 (drop n xs)
 dropped zero xs = refl
 dropped (suc n) [] = grind (arith, common_steps)
 dropped (suc n) (x ∷ xs) = let rest = dropped n xs in grind (arith, common_steps)
 
-used_then : (r : Reserver) (n : ℕ) → after_use (after_use r.block 1) n ≡ after_use r.block (1 + n)
-used_then r n = search rules
+used_none : (b : Block) → b ≡ after_use b 0
+used_none b = search rules
 
-record Drawn (phase : Phase) (before : Reserver) (handles : List Handle) (after : Reserver) : Type 0 where
-  given : handles ≡ take (length handles) (rest_of phase.phase.start.pool before.block)
-  used : after.block ≡ after_use before.block (length handles)
+used_then : (b : Block) (n : ℕ) → after_use (after_use b 1) n ≡ after_use b (1 + n)
+used_then b n = search rules
 
-drawn : (phase : Phase) (requests : List Request) (before after : Reserver)
-    → All (λ (r : Request). r.0 ≡ 1) requests → AreServed (IsDrawn phase) before requests after
-    → Drawn phase before (flat_map given_by requests) after
-drawn phase [] before after one_each served = rw served (record { given = search rules; used = search rules })
-drawn phase ((n, Ok hs) ∷ requests) before after one_each served =
-    let others = All-tail (λ (r : Request). r.0 ≡ 1) (n, Ok hs) requests one_each in
-    let next = drawn phase requests served.0 after others served.2 in
-    let pool = phase.phase.start.pool in
-    let now = served.1 in
-    let one : n ≡ 1 = All-head (λ (r : Request). r.0 ≡ 1) (n, Ok hs) requests one_each in
-    let used : served.0.block ≡ after_use before.block 1 = let u = now.used in grind (arith, common_steps) in
-    let given : hs ≡ listed phase.phase.start.made (take 1 (rest_of pool before.block)) = rw one at now.given in
-    let number : length hs ≡ 1 = rw one at now.number in
-    let more = flat_map given_by requests in
-    let rest : rest_of pool served.0.block ≡ drop 1 (rest_of pool before.block) = rw used (dropped before.block.used _) in
-    let then : more ≡ take (length more) (drop 1 (rest_of pool before.block)) = rw rest at next.given in
-    let after_more : after.block ≡ after_use (after_use before.block 1) (length more) = rw used at next.used in
-    record { given = step _ _ hs more given number then; used = grind (arith, common_steps, used_then) }
-drawn phase ((n, Err why) ∷ requests) before after one_each served =
-    let others = All-tail (λ (r : Request). r.0 ≡ 1) (n, Err why) requests one_each in
-    let next = drawn phase requests served.0 after others served.2 in
-    let same : served.0.block ≡ before.block = let u = served.1.remembers in search (rules, u) in
-    record { given = rw same at next.given; used = rw same at next.used }
+-- a block that gives a handle is not used up
+some_left : (pool : List Handle) (b : Block) (h : Handle) → h ∷ [] ≡ take 1 (rest_of pool b) → b.used < b.size
+some_left pool b h is =
+    let one : length (take 1 (rest_of pool b)) ≡ 1 = rw (sym is) refl in
+    let kept = length-take b.size (drop b.before pool) in
+    let behind = length-drop b.used (take b.size (drop b.before pool)) in
+    let first = length-take 1 (rest_of pool b) in
+    omega (arith, one, kept, behind, first)
+
+-- a block that gives none is used up
+used_up : (b : Block) (why : Refused) → (why ≡ refused.Space 1 (left_of b)) × (left_of b < 1) → b.used ≤ b.size
+    → (why ≡ refused.Space 1 0) × (b.used ≡ b.size)
+used_up b why is within =
+    let none : left_of b ≡ 0 = omega (arith, is.1) in (rw none at is.0, omega (arith, none, within))
+
+module _ {C : Type 0} (phase : Phase) where
+  abbrev pool : List Handle
+  pool = phase.phase.start.pool
+
+  drawn : (entries : List (Entry C)) (before after : Reserver)
+      → AreServed (IsDrawn phase) before (flat_map request_of entries) after
+      → Draws pool before.block entries after.block
+  drawn [] before after served = rw served (record { given = search rules; used = search rules; fit = tt })
+  drawn (Spawn h ∷ entries) before after served =
+      let was = served.1 in
+      let then = drawn entries served.0 after served.2 in
+      let used : served.0.block ≡ after_use before.block 1 = let u = was.used in grind (arith, common_steps) in
+      let first : h ∷ [] ≡ take 1 (rest_of pool before.block) = queued.first_listed _ _ h was.given in
+      let more = spawned_in entries in
+      let rest : rest_of pool served.0.block ≡ drop 1 (rest_of pool before.block) =
+      rw used (dropped before.block.used _) in
+      let behind : more ≡ take (length more) (drop 1 (rest_of pool before.block)) = rw rest at then.given in
+      let all : after.block ≡ after_use (after_use before.block 1) (length more) = rw used at then.used in
+      record {
+        given = step _ more h first behind;
+        used = all ∙ used_then before.block (length more);
+        fit = (some_left pool before.block h first, rw used at then.fit);
+      }
+  drawn (entry.Refused why ∷ entries) before after served =
+      let was = served.1 in
+      let then = drawn entries served.0 after served.2 in
+      let same : served.0.block ≡ before.block = let u = was.remembers in search (rules, u) in
+      let kept : FitBlock before.block entries = rw same at then.fit in
+      record {
+        given = rw same at then.given;
+        used = rw same at then.used;
+        fit = (
+          used_up before.block why was.refused was.within,
+          subst (λ b. FitBlock b entries) (used_none before.block) kept,
+        );
+      }
+  drawn (entry.Command command ∷ entries) before after served =
+      let then = drawn entries before after served in
+      record {
+        given = then.given;
+        used = then.used;
+        fit = (tt, subst (λ b. FitBlock b entries) (used_none before.block) then.fit);
+      }
 
 module _ {C : Type 0} where
   -- So the spawns of a system that began with an empty log have the next handles of its block.
@@ -52,8 +88,7 @@ module _ {C : Type 0} where
       → Draws (source_of a).phase.start.pool (reserver_of a).block (output_of b) (reserver_of b).block
   draws_extended a b empty e =
       let is : output_of b ≡ e.adds.added = rw empty at e.adds.log in
-      let all = drawn (source_of a) e.requests (reserver_of a) (reserver_of b) e.adds.one_each e.served in
-      rw is (record { given = rw e.adds.given all.given; used = rw e.adds.given all.used })
+      rw is (drawn (source_of a) e.adds.added (reserver_of a) (reserver_of b) (rw e.adds.requests_are at e.served))
 
 -- A system that ran as a job, with the reserver at its number: if it ended, and if it stopped.
 module _ {S : Type 0} (systems : List S) (phase : Phase) (reservers : List Reserver) (n : ℕ) (d : S) where

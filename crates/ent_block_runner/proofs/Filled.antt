@@ -1,5 +1,5 @@
 -- Systems that filled lists as the jobs of a crew, each from its own block. The lists are logs or queues.
-use Rattle.ent_block_runner.proofs.Common.{AllPairs, All-nil, All-cons, all_pairs_push, common_steps, last_pushed, DidAll, DidUntil, ◌++◌, ◌-◌, get_or, slice_get, [], zero, suc, All, All-map, List, Some, rules, arith, inl, inr, length, map, refl, sym, ℕ, ⊎_elim, ◌<◌, ◌∙◌, ◌∷◌, ◌≡◌, ◌⊎◌, length-map, get_or_from_slice_get, slice_get-get_or, slice_get_within, Block, Phase, Reserver, after_use, blocks_of, spawned_in, Entry, Command, after_commands, HoldsAt, at_within, get_mapped, mapped_at, each_done, each_either, AreBrokenOff, AreDone, Draws, AreReady, FillsAt, HaveFilled, IsBrokenOff, SystemMayLog, blocks_after, SystemMayIssue, View, HaveIssued, HaveStopped, IssuesAt, blocks_after_queues}
+use Rattle.ent_block_runner.proofs.Common.{AllPairs, All-nil, All-cons, all_pairs_push, common_steps, last_pushed, DidAll, DidUntil, ◌++◌, ◌-◌, get_or, slice_get, [], zero, suc, All, All-map, List, Option, Some, rules, arith, inl, inr, length, map, refl, sym, ℕ, ⊎_elim, ◌<◌, ◌∙◌, ◌∷◌, ◌≡◌, ◌⊎◌, length-map, get_or_from_slice_get, slice_get-get_or, slice_get_within, Block, Phase, Reserver, after_use, blocks_of, spawned_in, Entry, Command, after_commands, HoldsAt, at_within, get_mapped, mapped_at, each_done, each_either, AreBrokenOff, AreDone, Draws, AreReady, FillsAt, HaveFilled, IsBrokenOff, SystemMayLog, blocks_after, SystemMayIssue, View, HaveIssued, HaveStopped, IssuesAt, blocks_after_queues}
 use Rattle.ent_queue.specs.Drawing.{AreDrawnBy}
 
 module _ {E : Type 0} where
@@ -114,7 +114,8 @@ module _ {E : Type 0} where
             × (slice_get ran worker ≡ Some mine) × (slice_get mine (length mine - 1) ≡ Some last)
             × Leave last (get_or lists last [])
 
-        lost_all : (done : AreBrokenOff (λ n a one b. Fits n one) (λ n a one b. Left n one) jobs before after)
+        lost_all : (left_out : List (Option (List E × Reserver)))
+            → (done : AreBrokenOff (λ n a one b. Fits n one) (λ n a one b. Left n one) jobs before left_out after)
             → (length (filled_of done.outputs) ≡ done.count)
             × ((n : ℕ) → n < done.count → May n (get_or (filled_of done.outputs) n [])
             ⊎ Leave n (get_or (filled_of done.outputs) n []))
@@ -123,11 +124,11 @@ module _ {E : Type 0} where
             × ((worker : ℕ) (mine : List ℕ) → slice_get done.ran worker ≡ Some mine
             → AllPairs (λ earlier later. May earlier (get_or (filled_of done.outputs) earlier [])) mine)
             × (LastLeft (filled_of done.outputs) done.ran ⊎ (done.count < jobs))
-        lost_all done =
+        lost_all left_out done =
             let Either : ℕ → List E → Type 0 = λ n l. May n l ⊎ Leave n l in
             let each : (n : ℕ) → n < done.count → HoldsAt (Fills Either) done.outputs n = λ n less one at. ⊎_elim
             (λ f. let g = fits n one f in (inl g.0, g.1, g.2)) (λ f. let g = left n one f in (inr g.0, g.1, g.2))
-            (each_either Fits Left jobs before after same done n less one at) in (
+            (each_either Fits Left jobs before left_out after same done n less one at) in (
               length-map done.outputs (λ (one : List E × Reserver). one.0) ∙ done.each_output,
               λ n less. may_at Either done.outputs n (omega (arith, less, done.each_output)) (each n less),
               λ n block less. drawn_at Either done.outputs n (omega (arith, less, done.each_output)) (each n less)
@@ -174,13 +175,13 @@ module _ {C S L : Type 0} (may leave : S → List (Entry C) → Type 0) (systems
       ready.count _ _ _ _ (fits_log may) (fits_log leave) all done in
       (search (rules, d.0, d.1, d.2, done.count, length-map, slice_get_within), d.3)
 
-  pub lost_off : (workers : ℕ) → length before ≡ workers
+  pub lost_off : (workers : ℕ) → length before ≡ workers → (left : List (Option (List (Entry C) × Reserver)))
       → AreBrokenOff (λ n a one b. FillsAt may systems phase reservers n one)
-      (λ n a one b. FillsAt leave systems phase reservers n one) (length systems) before after
+      (λ n a one b. FillsAt leave systems phase reservers n one) (length systems) before left after
       → IsBrokenOff may leave systems workers phase.phase.start.pool (blocks_of reservers)
-  lost_off workers team done =
+  lost_off workers team left done =
       let d = lost_all DrawsLog uses blocks_after refl (λ b bs l ls. refl) phase.number reservers before after same _
-      ready.count _ _ _ _ (fits_log may) (fits_log leave) done in
+      ready.count _ _ _ _ (fits_log may) (fits_log leave) left done in
       record {
         ran = done.ran;
         each_worker = done.each_worker ∙ team;
@@ -216,13 +217,13 @@ module _ {S L : Type 0} (may leave : S → View → List Command → Type 0) (sy
       phase.number reservers before after same _ ready.count _ _ _ _ (fits_queue may) (fits_queue leave) all done in
       (search (rules, d.0, d.1, d.2, done.count, length-map, slice_get_within), d.3)
 
-  pub issued_lost : (workers : ℕ) → length before ≡ workers
+  pub issued_lost : (workers : ℕ) → length before ≡ workers → (left : List (Option (List Command × Reserver)))
       → AreBrokenOff (λ n a one b. IssuesAt may systems view phase reservers n one)
-      (λ n a one b. IssuesAt leave systems view phase reservers n one) (length systems) before after
+      (λ n a one b. IssuesAt leave systems view phase reservers n one) (length systems) before left after
       → HaveStopped may leave systems workers view phase.phase.start (blocks_of reservers)
-  issued_lost workers team done =
+  issued_lost workers team left done =
       let d = lost_all (AreDrawnBy phase.phase.start) after_commands blocks_after_queues refl (λ b bs l ls. refl)
-      phase.number reservers before after same _ ready.count _ _ _ _ (fits_queue may) (fits_queue leave) done in
+      phase.number reservers before after same _ ready.count _ _ _ _ (fits_queue may) (fits_queue leave) left done in
       record {
         ran = done.ran;
         each_worker = done.each_worker ∙ team;

@@ -1,6 +1,6 @@
 -- Reservers of all blocks, in their order, still are so after systems have used the blocks.
 use Rattle.ent_block_runner.proofs.Common.{◌↔◌, IsWhyUnended, rules, ◌≡◌, refl, ap, subst, arith, ℕ, suc, ◌-◌, ◌<◌, List, [], ◌∷◌, length, map, true, IsTrue, if◌then◌else◌, common_steps, length-map, Block, unused, is_same, are_among, IsMissing, EndError, Command, blocks_after_queues}
-use Rattle.ent_blocks.specs.declared.unended.EndError.TheVariants as unended
+use Rattle.ent_blocks.specs.declared.end_error.EndError.TheVariants as unended
 
 among_used : (blocks before : List Block) (queues : List (List Command))
     → are_among blocks (blocks_after_queues before queues) ≡ are_among blocks before

@@ -2,8 +2,8 @@
 use Rattle.std.specs.Prelude.{◌≡◌, ◌≢◌, ℕ, ◌<◌, ◌-◌, ◌↔◌, IsTrue, List, length, Err}
 use Rattle.ent_blocks.specs.Blocks.{Block, Reserver, are_among}
 use Rattle.ent_blocks.specs.Faults.{IsMissing}
-use Rattle.ent_blocks.specs.declared.unended.EndError.{EndError}
-use Rattle.ent_blocks.specs.declared.unended.EndError.TheVariants as unended
+use Rattle.ent_blocks.specs.declared.end_error.EndError.{EndError}
+use Rattle.ent_blocks.specs.declared.end_error.EndError.TheVariants as unended
 use Rattle.ent_queue.specs.Command.{Command}
 use Rattle.ent_world.specs.InBlocks.{WorldInBlocks}
 use Rattle.ent_world.specs.Sync.{IfStopped}
@@ -30,7 +30,7 @@ IfUnrun P (unframed.Sync world fault queues) = Unit {0}
 abbrev pub IfUnended : {J : Type 0}
     → (WorldInBlocks → List Reserver → EndError → List (List Command) → Type 0) → Unframed J → Type 0
 IfUnended P (unframed.Unrun world reservers error) = Unit {0}
-IfUnended P (unframed.Unended left queues) = P left.world left.reservers.items left.error queues.items
+IfUnended P (unframed.Unended left queues) = P left.value.0 left.value.1.items left.error queues.items
 IfUnended P (unframed.Sync world fault queues) = Unit {0}
 
 -- what holds if the sync point stopped

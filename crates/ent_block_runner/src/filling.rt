@@ -6,11 +6,12 @@ ghost use Rattle.ent_block_runner.specs.declared.run_error.RunError.TheVariants 
 
 use crate::BlockNumbering;
 use crate::queue_stage::QueueStage;
-use crate::room::{Room, WORKERS, check, prepare, unrun};
-use crate::run_error::{RunError, Unrun};
+use crate::room::{Room, WORKERS, check, prepare};
+use crate::run_error::RunError;
 use crate::splitting::split;
 use crate::system_in_blocks::SystemInBlocks;
 use ent_blocks::{BlockReserver, Blocks};
+use ent_handle::HandedBack;
 use ent_queue::CommandQueue;
 use ent_world::View;
 use std::alloc::Global;
@@ -27,7 +28,7 @@ use std::thread::Threads;
 ///
 /// # Errors
 ///
-/// [`Unrun`] has the first of these that holds.
+/// [`HandedBack`] has the reservers that are handed back, and the first of these errors that holds.
 ///
 /// - [`RunError::Workers`], [`RunError::Systems`], [`RunError::Reservers`], [`RunError::OtherPhase`],
 ///   [`RunError::Memory`]: no system ran, and the reservers are handed back as they were. No systems
@@ -42,43 +43,43 @@ pub fn fill_in_blocks<R, J: BlockNumbering + Send + Sync, S>(
     view: View<'_>,
     systems: &[S],
     workers: usize,
-) -> Result<(Vec<CommandQueue>, Vec<BlockReserver<J>>), Unrun<J>>
+) -> Result<(Vec<CommandQueue>, Vec<BlockReserver<J>>), HandedBack<Vec<BlockReserver<J>>, RunError>>
 where
     R: Threads + Sync,
     S: SystemInBlocks<J> + Sync,
     ensures ok { IfOk result (λ ran. HaveIssued S.may_issue systems.now view.entry blocks.now.phase.start
         (blocks_of reservers.items) ran.0.items (blocks_of ran.1.items)) }
     ensures of { IfOk result (λ ran. All (λ r. r.number ≡ blocks.now.number) ran.1.items) }
-    ensures workers { IsErrWith result (λ u. u.error ≡ failed.Workers)
+    ensures workers { IsErrWith result (λ h. h.error ≡ failed.Workers)
         ↔ ((workers ≡ 0) ⊎ (64 < workers)) }
-    ensures systems { IsErrWith result (λ u. u.error ≡ failed.Systems)
+    ensures systems { IsErrWith result (λ h. h.error ≡ failed.Systems)
         ↔ ((0 < workers) × (workers ≤ 64) × (2 ^ 16 < length systems.now)) }
-    ensures reservers { IsErrWith result (λ u. u.error ≡ failed.Reservers)
+    ensures reservers { IsErrWith result (λ h. h.error ≡ failed.Reservers)
         ↔ ((0 < workers) × (workers ≤ 64) × (length systems.now ≤ 2 ^ 16)
         × (length reservers.items ≢ length systems.now)) }
-    ensures other_phase { IsErrWith result (λ u. u.error ≡ failed.OtherPhase)
+    ensures other_phase { IsErrWith result (λ h. h.error ≡ failed.OtherPhase)
         ↔ ((0 < workers) × (workers ≤ 64) × (length systems.now ≤ 2 ^ 16)
         × (length reservers.items ≡ length systems.now)
         × ¬ (All (λ r. r.number ≡ blocks.now.number) reservers.items)) }
-    ensures memory_some { IsErrWith result (λ u. u.error ≡ failed.Memory)
+    ensures memory_some { IsErrWith result (λ h. h.error ≡ failed.Memory)
         → 0 < length systems.now }
-    ensures handed_back { IfErr result (λ u. u.error ≢ failed.Lost
-        → u.reservers.items ≡ reservers.items) }
+    ensures handed_back { IfErr result (λ h. h.error ≢ failed.Lost
+        → h.value.items ≡ reservers.items) }
 
     // What is left if the systems were broken off.
-    ensures lost { IsErrWith result (λ u. u.error ≡ failed.Lost) → HaveStopped S.may_issue
+    ensures lost { IsErrWith result (λ h. h.error ≡ failed.Lost) → HaveStopped S.may_issue
         S.may_leave systems.now workers view.entry blocks.now.phase.start (blocks_of reservers.items) }
-    ensures lost_some { IsErrWith result (λ u. u.error ≡ failed.Lost) → 0 < length systems.now }
-    ensures lost_reservers { IfErr result (λ u. u.error ≡ failed.Lost → u.reservers.items ≡ []) }
+    ensures lost_some { IsErrWith result (λ h. h.error ≡ failed.Lost) → 0 < length systems.now }
+    ensures lost_reservers { IfErr result (λ h. h.error ≡ failed.Lost → h.value.items ≡ []) }
 {
     if let Err(error) = check(blocks, &reservers, systems.len(), workers) {
-        return Err(unrun(reservers, error));
+        return Err(HandedBack::new(reservers, error));
     }
     if systems.is_empty() {
         return Ok((Vec::new(alloc), reservers));
     }
     let Ok(room) = prepare(alloc, systems.len(), workers) else {
-        return Err(unrun(reservers, RunError::Memory));
+        return Err(HandedBack::new(reservers, RunError::Memory));
     };
     let Room {
         crew,
@@ -93,8 +94,8 @@ where
         systems,
     };
     let mut nothing = [(); WORKERS];
-    let Some(done) = crew.work(rt, &mut nothing[..workers], &stage, &mut Vec::new(alloc)) else {
-        return Err(unrun(returned, RunError::Lost));
+    let Ok(done) = crew.work(rt, &mut nothing[..workers], &stage) else {
+        return Err(HandedBack::new(returned, RunError::Lost));
     };
     split(done, &mut queues, &mut returned);
     Ok((queues, returned))

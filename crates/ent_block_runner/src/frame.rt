@@ -1,6 +1,6 @@
 ghost use Rattle.std.specs.Prelude.{◌≡◌, ◌≢◌, ◌<◌, ◌≤◌, ◌^◌, ◌↔◌, ◌⊎◌, [], length, map, All, IfOk, OnOk, IfErr};
 ghost use Rattle.ent_blocks.specs.Blocks.{blocks_of, unused};
-ghost use Rattle.ent_blocks.specs.declared.unended.EndError.TheVariants as unended;
+ghost use Rattle.ent_blocks.specs.declared.end_error.EndError.TheVariants as unended;
 ghost use Rattle.ent_blocks.specs.Faults.{IsErrWith};
 ghost use Rattle.ent_block_runner.specs.FrameInBlocks.{EndsInBlocks, StopsInBlocks, view_in_blocks};
 ghost use Rattle.ent_block_runner.specs.Queues.{HaveStopped, HaveIssued};
@@ -13,12 +13,13 @@ ghost use Rattle.ent_world.specs.declared.fault.SyncFault.TheVariants as stop;
 
 use crate::BlockNumbering;
 use crate::filling::fill_in_blocks;
-use crate::run_error::{RunError, Unrun};
+use crate::run_error::RunError;
 use crate::system_in_blocks::SystemInBlocks;
-use ent_blocks::BlockReserver;
+use ent_blocks::{BlockReserver, EndError};
+use ent_handle::HandedBack;
 use ent_queue::CommandQueue;
 use ent_runner::FrameReport;
-use ent_world::{SyncFault, UnendedWorld, World, WorldInBlocks};
+use ent_world::{SyncFault, World, WorldInBlocks};
 use std::alloc::Global;
 use std::thread::Threads;
 
@@ -39,7 +40,7 @@ pub enum Unframed<J: BlockNumbering> {
     /// [`World::apply`] does the sync point.
     Unended {
         /// The world as it was opened, the reservers, and why it wasn't closed.
-        unended: UnendedWorld<J>,
+        unended: HandedBack<(WorldInBlocks<J>, Vec<BlockReserver<J>>), EndError>,
         /// The queue of each system, in the order of the systems.
         queues: Vec<CommandQueue>,
     },
@@ -147,7 +148,8 @@ where
     );
     let (queues, reservers) = match filled {
         Ok(filled) => filled,
-        Err(Unrun { reservers, error }) => {
+        Err(unrun) => {
+            let (reservers, error) = unrun.into_parts();
             return Err(Unframed::Unrun {
                 world: opened,
                 reservers,

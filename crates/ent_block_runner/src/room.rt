@@ -5,7 +5,7 @@ ghost use Rattle.ent_block_runner.specs.Running.{AreReady};
 ghost use Rattle.ent_block_runner.specs.declared.run_error.RunError.TheVariants as failed;
 
 use crate::BlockNumbering;
-use crate::run_error::{RunError, Unrun};
+use crate::run_error::RunError;
 use ent_blocks::{BlockReserver, Blocks};
 use ent_handle::Memory;
 use ent_runner::Crew;
@@ -104,14 +104,4 @@ fn are_of<J: BlockNumbering>(blocks: &Blocks<J>, reservers: &[BlockReserver<J>])
         }
     }
     true
-}
-
-pub(crate) fn unrun<J: BlockNumbering>(
-    reservers: Vec<BlockReserver<J>>,
-    error: RunError,
-) -> Unrun<J>
-    ensures reservers { result.reservers.items ≡ reservers.items }
-    ensures error { result.error ≡ error }
-{
-    Unrun { reservers, error }
 }

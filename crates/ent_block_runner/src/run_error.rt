@@ -1,5 +1,3 @@
-use crate::BlockNumbering;
-use ent_blocks::BlockReserver;
 use thiserror::Error;
 
 /// Why systems filled no logs.
@@ -25,14 +23,4 @@ pub enum RunError {
     /// another one. The logs and the reservers are dropped.
     #[error("out of memory while the systems ran")]
     Lost,
-}
-
-/// Systems that filled no logs.
-#[derive(Drop)]
-pub struct Unrun<J: BlockNumbering> {
-    /// The reservers that were handed in, as they were. None, if systems ran:
-    /// [`Blocks::close_lost`](ent_blocks::Blocks::close_lost) ends the phase without them.
-    pub reservers: Vec<BlockReserver<J>>,
-    /// Why no logs were filled.
-    pub error: RunError,
 }

@@ -1,5 +1,5 @@
 -- What a request for handles of a block returns, and what it leaves.
-use Rattle.std.specs.Prelude.{◌≡◌, ℕ, ◌-◌, ◌<◌, List, length, take}
+use Rattle.std.specs.Prelude.{◌≡◌, ℕ, ◌-◌, ◌<◌, ◌≤◌, List, length, take}
 use Rattle.std.specs.Prelude.{Result, IfOk, IfErr, OnOk, OnErr}
 use Rattle.ent_handle.specs.Handle.{Handle}
 use Rattle.ent_alloc.specs.Sequential.{listed}
@@ -25,4 +25,5 @@ pub record IsDrawn (phase : Phase) (before after : Reserver) (n : ℕ)
   pub used : OnOk reply (after ≡ record before { block = after_use before.block n })
   pub refused : IfErr reply (λ why.
       (why ≡ Space n (left_of before.block)) × (left_of before.block < n))
+  pub within : OnErr reply (before.block.used ≤ before.block.size)
   pub remembers : OnErr reply (after ≡ after_refusal before n)

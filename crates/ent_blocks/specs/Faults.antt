@@ -3,8 +3,8 @@ use Rattle.std.specs.Prelude.{ℕ, ◌≡◌, Result, Ok, Err}
 use Rattle.ent_blocks.specs.Blocks.{Reserver, after_refusal}
 use Rattle.ent_blocks.specs.declared.block_error.BlockError.{BlockError}
 use Rattle.ent_blocks.specs.declared.block_error.BlockError.TheVariants as block
-use Rattle.ent_blocks.specs.declared.unended.EndError.{EndError}
-use Rattle.ent_blocks.specs.declared.unended.EndError.TheVariants as failed
+use Rattle.ent_blocks.specs.declared.end_error.EndError.{EndError}
+use Rattle.ent_blocks.specs.declared.end_error.EndError.TheVariants as failed
 
 -- it was refused, and this is true of the refusal
 abbrev pub IsErrWith : {A E : Type 0} → Result A E → (E → Type 0) → Type 0

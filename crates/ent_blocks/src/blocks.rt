@@ -12,18 +12,18 @@ ghost use Rattle.ent_blocks.specs.Blocks.{rest_of, unused, blocks_of, are_among,
 ghost use Rattle.ent_blocks.specs.Blocks.{after_use, dealt};
 ghost use Rattle.ent_blocks.specs.Faults.{IsErrWith, IsMissing, after_error};
 ghost use Rattle.ent_blocks.specs.declared.block_error.BlockError.TheVariants as refused;
-ghost use Rattle.ent_blocks.specs.declared.unended.EndError.TheVariants as failed;
+ghost use Rattle.ent_blocks.specs.declared.end_error.EndError.TheVariants as failed;
 
 use crate::accounting::{account, are_of, missing};
 use crate::block_error::BlockError;
 use crate::block_reserver::BlockReserver;
 use crate::closing::take_used;
+use crate::end_error::EndError;
 use crate::numbering::BlockNumbering;
 use crate::part::Part;
 use crate::taking::{append, take_many, take_one};
-use crate::unended::{EndError, Unended};
 use ent_alloc::{Entities, Reserved, Space};
-use ent_handle::Handle;
+use ent_handle::{HandedBack, Handle};
 use std::alloc::Global;
 use std::marker::{Model, PhantomData};
 
@@ -300,10 +300,13 @@ impl<J: BlockNumbering> Blocks<J> {
     ///
     /// # Errors
     ///
-    /// [`Unended`] has the error, the phase and the reservers as they were. The error is the first
-    /// of these that holds: [`EndError::OtherPhase`], [`EndError::Order`], [`EndError::Missing`],
+    /// [`HandedBack`] has the phase and the reservers as they were, and the first of these errors
+    /// that holds: [`EndError::OtherPhase`], [`EndError::Order`], [`EndError::Missing`],
     /// [`EndError::Memory`].
-    pub fn close(self, reservers: Vec<BlockReserver<J>>) -> Result<Entities, Unended<J>>
+    pub fn close(
+        self,
+        reservers: Vec<BlockReserver<J>>,
+    ) -> Result<Entities, HandedBack<(Self, Vec<BlockReserver<J>>), EndError>>
         ensures after { IfOk result (λ entities. entities.allocator
             ≡ after_blocks self.phase.start (blocks_of reservers.items)) }
         ensures rows { IfOk result (λ entities. entities.rows ≡ self.phase.rows) }
@@ -325,30 +328,30 @@ impl<J: BlockNumbering> Blocks<J> {
         // When it succeeds, when it is refused, and what stands then.
         ensures of { OnOk result (All (λ r. r.number ≡ self.number) reservers.items) }
         ensures all { OnOk result (map unused (blocks_of reservers.items) ≡ self.phase.blocks) }
-        ensures other_phase { IsErrWith result (λ u. u.error ≡ failed.OtherPhase)
+        ensures other_phase { IsErrWith result (λ h. h.error ≡ failed.OtherPhase)
             ↔ ¬ (All (λ r. r.number ≡ self.number) reservers.items) }
-        ensures order { IsErrWith result (λ u. u.error ≡ failed.Order)
+        ensures order { IsErrWith result (λ h. h.error ≡ failed.Order)
             ↔ (All (λ r. r.number ≡ self.number) reservers.items
             × ¬ (IsTrue (are_among self.phase.blocks (blocks_of reservers.items)))) }
-        ensures missing { IsErrWith result (λ u.
-            IsMissing (length self.phase.blocks - length reservers.items) u.error)
+        ensures missing { IsErrWith result (λ h.
+            IsMissing (length self.phase.blocks - length reservers.items) h.error)
             ↔ (All (λ r. r.number ≡ self.number) reservers.items
             × (IsTrue (are_among self.phase.blocks (blocks_of reservers.items))
             × (length reservers.items < length self.phase.blocks))) }
-        ensures missing_count { IfErr result (λ u. (n : ℕ) → IsMissing n u.error
+        ensures missing_count { IfErr result (λ h. (n : ℕ) → IsMissing n h.error
             → n ≡ length self.phase.blocks - length reservers.items) }
-        ensures memory { IsErrWith result (λ u. u.error ≡ failed.Memory)
+        ensures memory { IsErrWith result (λ h. h.error ≡ failed.Memory)
             → 0 < length self.phase.blocks }
-        ensures handed_back { IfErr result (λ u. (u.blocks ≡ self)
-            × (u.reservers.items ≡ reservers.items)) }
+        ensures handed_back { IfErr result (λ h. (h.value.0 ≡ self)
+            × (h.value.1.items ≡ reservers.items)) }
     {
         if !are_of(self.number, &reservers) {
-            return Err(self.unended(reservers, EndError::OtherPhase));
+            return Err(HandedBack::new((self, reservers), EndError::OtherPhase));
         }
         match missing(&self.parts, &reservers) {
-            None => Err(self.unended(reservers, EndError::Order)),
+            None => Err(HandedBack::new((self, reservers), EndError::Order)),
             Some(0) => self.end_with(reservers),
-            Some(count) => Err(self.unended(reservers, EndError::Missing { count })),
+            Some(count) => Err(HandedBack::new((self, reservers), EndError::Missing { count })),
         }
     }
 
@@ -363,7 +366,7 @@ impl<J: BlockNumbering> Blocks<J> {
     /// let (blocks, mut reservers) = Entities::new().open_in_blocks(&[3, 4])?;
     /// let used = blocks.reserve(&mut reservers[1])?;
     /// drop(reservers.remove(0));
-    /// let (blocks, reservers, error) = blocks.close(reservers).unwrap_err().into_parts();
+    /// let ((blocks, reservers), error) = blocks.close(reservers).unwrap_err().into_parts();
     /// assert_eq!(error, EndError::Missing { count: 1 });
     /// let mut entities = blocks.close_lost(reservers)?;
     /// let mut born = Vec::new();
@@ -374,9 +377,12 @@ impl<J: BlockNumbering> Blocks<J> {
     ///
     /// # Errors
     ///
-    /// [`Unended`] has the error, the phase and the reservers as they were. The error is the first
-    /// of these that holds: [`EndError::OtherPhase`], [`EndError::Order`], [`EndError::Memory`].
-    pub fn close_lost(self, reservers: Vec<BlockReserver<J>>) -> Result<Entities, Unended<J>>
+    /// [`HandedBack`] has the phase and the reservers as they were, and the first of these errors
+    /// that holds: [`EndError::OtherPhase`], [`EndError::Order`], [`EndError::Memory`].
+    pub fn close_lost(
+        self,
+        reservers: Vec<BlockReserver<J>>,
+    ) -> Result<Entities, HandedBack<(Self, Vec<BlockReserver<J>>), EndError>>
         ensures after { IfOk result (λ entities. entities.allocator ≡ after_blocks
             self.phase.start (accounted self.phase.blocks (blocks_of reservers.items))) }
         ensures rows { IfOk result (λ entities. entities.rows ≡ self.phase.rows) }
@@ -397,28 +403,31 @@ impl<J: BlockNumbering> Blocks<J> {
         ensures of { OnOk result (All (λ r. r.number ≡ self.number) reservers.items) }
         ensures among { OnOk result
             (IsTrue (are_among self.phase.blocks (blocks_of reservers.items))) }
-        ensures other_phase { IsErrWith result (λ u. u.error ≡ failed.OtherPhase)
+        ensures other_phase { IsErrWith result (λ h. h.error ≡ failed.OtherPhase)
             ↔ ¬ (All (λ r. r.number ≡ self.number) reservers.items) }
-        ensures order { IsErrWith result (λ u. u.error ≡ failed.Order)
+        ensures order { IsErrWith result (λ h. h.error ≡ failed.Order)
             ↔ (All (λ r. r.number ≡ self.number) reservers.items
             × ¬ (IsTrue (are_among self.phase.blocks (blocks_of reservers.items)))) }
-        ensures no_missing { IfErr result (λ u. (n : ℕ) → ¬ (IsMissing n u.error)) }
-        ensures memory { IsErrWith result (λ u. u.error ≡ failed.Memory)
+        ensures no_missing { IfErr result (λ h. (n : ℕ) → ¬ (IsMissing n h.error)) }
+        ensures memory { IsErrWith result (λ h. h.error ≡ failed.Memory)
             → 0 < length self.phase.blocks }
-        ensures handed_back { IfErr result (λ u. (u.blocks ≡ self)
-            × (u.reservers.items ≡ reservers.items)) }
+        ensures handed_back { IfErr result (λ h. (h.value.0 ≡ self)
+            × (h.value.1.items ≡ reservers.items)) }
     {
         if !are_of(self.number, &reservers) {
-            return Err(self.unended(reservers, EndError::OtherPhase));
+            return Err(HandedBack::new((self, reservers), EndError::OtherPhase));
         }
         if missing(&self.parts, &reservers).is_none() {
-            return Err(self.unended(reservers, EndError::Order));
+            return Err(HandedBack::new((self, reservers), EndError::Order));
         }
         self.end_with(reservers)
     }
 
     /// Ends the phase with these reservers, of some of its blocks.
-    fn end_with(self, reservers: Vec<BlockReserver<J>>) -> Result<Entities, Unended<J>>
+    fn end_with(
+        self,
+        reservers: Vec<BlockReserver<J>>,
+    ) -> Result<Entities, HandedBack<(Self, Vec<BlockReserver<J>>), EndError>>
         ensures after { IfOk result (λ entities. entities.allocator ≡ after_blocks
             self.phase.start (accounted self.phase.blocks (blocks_of reservers.items))) }
         ensures rows { IfOk result (λ entities. entities.rows ≡ self.phase.rows) }
@@ -432,10 +441,10 @@ impl<J: BlockNumbering> Blocks<J> {
         ensures brings_to_life { IfOk result (λ entities. (h : HandleValue) →
             IsLive (after_flush entities.allocator) h
             ↔ (IsLive self.phase.start h ⊎ Contains entities.allocator.taken h)) }
-        ensures error { IfErr result (λ u. u.error ≡ failed.Memory) }
+        ensures error { IfErr result (λ h. h.error ≡ failed.Memory) }
         ensures memory { OnErr result (0 < length self.phase.blocks) }
-        ensures handed_back { IfErr result (λ u. (u.blocks ≡ self)
-            × (u.reservers.items ≡ reservers.items)) }
+        ensures handed_back { IfErr result (λ h. (h.value.0 ≡ self)
+            × (h.value.1.items ≡ reservers.items)) }
         ensures unused { map unused
             (accounted self.phase.blocks (blocks_of reservers.items)) ≡ self.phase.blocks }
     {
@@ -448,26 +457,13 @@ impl<J: BlockNumbering> Blocks<J> {
         } = self;
         let Ok(all) = account(alloc, &parts, &reservers) else {
             let blocks = Blocks::new(alloc, entities, parts, number);
-            return Err(blocks.unended(reservers, EndError::Memory));
+            return Err(HandedBack::new((blocks, reservers), EndError::Memory));
         };
         let Ok(()) = take_used(alloc, &mut entities, &all) else {
             let blocks = Blocks::new(alloc, entities, parts, number);
-            return Err(blocks.unended(reservers, EndError::Memory));
+            return Err(HandedBack::new((blocks, reservers), EndError::Memory));
         };
         Ok(entities)
-    }
-
-    /// The phase goes on, and hands these back.
-    fn unended(self, reservers: Vec<BlockReserver<J>>, error: EndError) -> Unended<J>
-        ensures blocks { result.blocks ≡ self }
-        ensures reservers { result.reservers.items ≡ reservers.items }
-        ensures error { result.error ≡ error }
-    {
-        Unended {
-            blocks: self,
-            reservers,
-            error,
-        }
     }
 }
 

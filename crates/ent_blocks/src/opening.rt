@@ -4,15 +4,15 @@ ghost use Rattle.std.specs.Prelude.{IfOk, IfErr, OnErr, All, [], length};
 ghost use Rattle.std.specs.Vec.{vec_capacity};
 ghost use Rattle.ent_blocks.specs.Blocks.{blocks_from, blocks_of, dealt, lesser};
 ghost use Rattle.ent_blocks.specs.Faults.{IsErrWith};
-ghost use Rattle.ent_blocks.specs.declared.undealt.DealError.TheVariants as failed;
+ghost use Rattle.ent_blocks.specs.declared.deal_error.DealError.TheVariants as failed;
 
 use crate::block_reserver::BlockReserver;
 use crate::blocks::Blocks;
+use crate::deal_error::DealError;
 use crate::numbering::BlockNumbering;
 use crate::part::Part;
-use crate::undealt::{DealError, Undealt};
 use ent_alloc::Entities;
-use ent_handle::Memory;
+use ent_handle::{HandedBack, Memory};
 use std::alloc::Global;
 use std::marker::{Model, PhantomData};
 
@@ -53,36 +53,33 @@ impl<J: BlockNumbering> Model for Deal<J> {
 ///
 /// # Errors
 ///
-/// [`Undealt`] has the error, and the allocator as it was: [`DealError::NeedsFlush`], or
-/// [`DealError::Memory`]. No sizes take no memory.
+/// [`HandedBack`] has the allocator as it was, and [`DealError::NeedsFlush`] or [`DealError::Memory`].
+/// No sizes take no memory.
 pub fn open_in_blocks<J: BlockNumbering>(
     alloc: Global,
     entities: Entities,
     sizes: &[u32],
-) -> Result<Deal<J>, Undealt>
+) -> Result<Deal<J>, HandedBack<Entities, DealError>>
     ensures start { IfOk result (λ d. d.start ≡ entities.allocator) }
     ensures rows { IfOk result (λ d. d.rows ≡ entities.rows) }
     ensures blocks { IfOk result (λ d. d.blocks
         ≡ blocks_from 0 (length entities.allocator.pool) sizes.now) }
-    ensures needs_flush { IsErrWith result (λ u. u.error ≡ failed.NeedsFlush)
+    ensures needs_flush { IsErrWith result (λ h. h.error ≡ failed.NeedsFlush)
         ↔ (0 < entities.allocator.asked) }
-    ensures memory { IsErrWith result (λ u. u.error ≡ failed.Memory) → 0 < length sizes.now }
-    ensures handed_back { IfErr result (λ u. u.entities ≡ entities) }
+    ensures memory { IsErrWith result (λ h. h.error ≡ failed.Memory) → 0 < length sizes.now }
+    ensures handed_back { IfErr result (λ h. h.value ≡ entities) }
 {
     if entities.needs_flush() {
-        return Err(Undealt {
-            entities,
-            error: DealError::NeedsFlush,
-        });
+        return Err(HandedBack::new(entities, DealError::NeedsFlush));
     }
 
     // Its contract says that the state is sound.
     let _top = entities.cursor();
     let Ok(reservers) = Vec::with_capacity(alloc, sizes.len()) else {
-        return Err(out_of_memory(entities));
+        return Err(HandedBack::new(entities, DealError::Memory));
     };
     let Ok(parts) = parts_of(alloc, &entities, sizes) else {
-        return Err(out_of_memory(entities));
+        return Err(HandedBack::new(entities, DealError::Memory));
     };
     Ok(Deal {
         alloc,
@@ -90,16 +87,6 @@ pub fn open_in_blocks<J: BlockNumbering>(
         parts,
         reservers,
     })
-}
-
-fn out_of_memory(entities: Entities) -> Undealt
-    ensures entities { result.entities ≡ entities }
-    ensures error { result.error ≡ failed.Memory }
-{
-    Undealt {
-        entities,
-        error: DealError::Memory,
-    }
 }
 
 /// A number stands for nothing by itself. A function that is proved for every `J` may be called with

@@ -1,3 +1,4 @@
+use ent_alloc::Refused;
 use ent_handle::Handle;
 
 /// What a [`Log`](crate::Log) has of one call, and a sync point hands on.
@@ -5,6 +6,8 @@ use ent_handle::Handle;
 pub enum Entry<C> {
     /// A handle that a spawn returned. It is alive when the sync point hands on its first entry.
     Spawn(Handle),
+    /// Why a spawn returned no handle. Nothing comes to life for it.
+    Refused(Refused),
     /// A command of the caller's.
     Command(C),
 }

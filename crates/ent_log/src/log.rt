@@ -1,11 +1,12 @@
-ghost use Rattle.std.specs.Prelude.{◌≡◌, [], ◌∷◌, ◌++◌, Result, IfOk, OnOk, OnErr, IsErrOf};
+ghost use Rattle.std.specs.Prelude.{◌≡◌, ◌↔◌, [], ◌∷◌, ◌++◌, length, IsTrue};
+ghost use Rattle.std.specs.Prelude.{Result, IfOk, IfErr, OnOk, OnErr, IsErrOf};
 ghost use Rattle.std.specs.Vec.Iter.{into_iter_items};
 ghost use Rattle.ent_handle.specs.Handle.{Handle as HandleValue};
 ghost use Rattle.ent_alloc.specs.Sequential.{listed_alone};
 ghost use Rattle.ent_alloc.specs.declared.refused.Refused.{Refused as Refusal};
 ghost use Rattle.ent_log.specs.declared.entry.Entry.TheVariants.{Spawn, Command};
-ghost use Rattle.ent_log.specs.Logs.{first_unreserved, spawned_in};
-ghost use Rattle.ent_log.specs.Spawning.{returned};
+ghost use Rattle.ent_log.specs.Logs.{first_unreserved, refused_in, spawned_in};
+ghost use Rattle.ent_log.specs.Spawning.{refused_by, returned};
 
 use crate::entry::Entry;
 use crate::reserves::Reserves;
@@ -54,8 +55,40 @@ impl<C> Log<C> {
         &self.entries
     }
 
-    /// Reserves a handle at once, and adds its entry. Room for the entry is allocated first, so each
-    /// handle that is reserved has one.
+    /// How many entries there are.
+    #[must_use]
+    pub fn len(&self) -> usize
+        ensures { result ≡ length self.now }
+    {
+        self.entries.len()
+    }
+
+    /// Whether there is none.
+    #[must_use]
+    pub fn is_empty(&self) -> bool
+        ensures { IsTrue result ↔ (self.now ≡ []) }
+    {
+        self.entries.is_empty()
+    }
+
+    /// How many of its spawns were refused.
+    #[must_use]
+    pub fn refused(&self) -> usize
+        ensures { result ≡ length (refused_in self.now) }
+    {
+        let mut refused = 0;
+        let mut rest = self.entries.as_slice();
+        while let Some((entry, behind)) = rest.split_first() {
+            if let Entry::Refused(_) = entry {
+                refused += 1;
+            }
+            rest = behind;
+        }
+        refused
+    }
+
+    /// Reserves a handle at once, and adds its entry, or that of the refusal. Room for the entry is
+    /// allocated first, so each reservation has one.
     ///
     /// ```
     /// use forgeni::{Entities, Entry, Log};
@@ -64,19 +97,21 @@ impl<C> Log<C> {
     /// let mut log: Log<()> = Log::new();
     /// let cart = log.spawn(&mut reservers[0])?;
     /// assert_eq!(log.entries(), [Entry::Spawn(cart)]);
+    /// assert_eq!(log.refused(), 0);
     /// # drop(shared);
     /// # Ok::<(), Box<dyn std::error::Error + Send + Sync>>(())
     /// ```
     ///
     /// # Errors
     ///
-    /// The log is as it was.
-    ///
-    /// - [`ReserveError::Memory`] if there is no room for the entry. Nothing was reserved.
-    /// - [`ReserveError::Space`] and [`ReserveError::Quota`] as the reservation returns them.
+    /// - [`ReserveError::Memory`] if there is no room for the entry. The log is as it was, and
+    ///   nothing was reserved.
+    /// - [`ReserveError::Space`] and [`ReserveError::Quota`] as the reservation returns them. The
+    ///   log has an entry for the [refusal](Entry::Refused), which the sync point hands on in its
+    ///   turn. [`ReserveError::or_memory`] lets the system go on.
     pub fn spawn<S: Reserves>(&mut self, source: &mut S) -> Result<Handle, ReserveError>
         ensures ok { IfOk result (λ handle. self.new ≡ self.old ++ Spawn handle ∷ []) }
-        ensures err { OnErr result (self.new ≡ self.old) }
+        ensures refused { IfErr result (λ error. self.new ≡ self.old ++ refused_by error) }
 
         // Anything but Memory is the result of one reservation.
         ensures replies { (reply : Result HandleValue Refusal) → result ≡ returned reply
@@ -84,20 +119,27 @@ impl<C> Log<C> {
         ensures memory { IsErrOf result ReserveError.Memory → source.new ≡ source.old }
     {
         self.entries.reserve(1)?;
-        let handle = source.reserve_one()?;
-        self.entries.push_reserved(Entry::Spawn(handle));
-        Ok(handle)
+        match source.reserve_one() {
+            Ok(handle) => {
+                self.entries.push_reserved(Entry::Spawn(handle));
+                Ok(handle)
+            }
+            Err(why) => {
+                self.entries.push_reserved(Entry::Refused(why));
+                Err(ReserveError::from(why))
+            }
+        }
     }
 
-    /// Reserves a handle at once, of a source that serves this reserver, and adds its entry. Room for the
-    /// entry is allocated first, so each handle that is reserved has one.
+    /// Reserves a handle at once, of a source that serves this reserver, and adds its entry, or that of
+    /// the refusal. Room for the entry is allocated first, so each reservation has one.
     ///
     /// # Errors
     ///
-    /// The log is as it was.
-    ///
-    /// - [`ReserveError::Memory`] if there is no room for the entry. Nothing was reserved.
-    /// - [`ReserveError::Space`] and [`ReserveError::Quota`] as the source returns them.
+    /// - [`ReserveError::Memory`] if there is no room for the entry. The log is as it was, and
+    ///   nothing was reserved.
+    /// - [`ReserveError::Space`] and [`ReserveError::Quota`] as the source returns them. The log has an
+    ///   entry for the [refusal](Entry::Refused), which the sync point hands on in its turn.
     pub fn spawn_from<S: Source>(
         &mut self,
         source: &S,
@@ -106,7 +148,7 @@ impl<C> Log<C> {
         requires { S.serves source.now reserver.old }
         ensures stays { S.serves source.now reserver.new }
         ensures ok { IfOk result (λ handle. self.new ≡ self.old ++ Spawn handle ∷ []) }
-        ensures err { OnErr result (self.new ≡ self.old) }
+        ensures refused { IfErr result (λ error. self.new ≡ self.old ++ refused_by error) }
 
         // Anything but Memory is the result of one reservation.
         ensures replies { (reply : Result HandleValue Refusal) → result ≡ returned reply
@@ -114,9 +156,16 @@ impl<C> Log<C> {
         ensures memory { IsErrOf result ReserveError.Memory → reserver.new ≡ reserver.old }
     {
         self.entries.reserve(1)?;
-        let handle = source.serve_one(reserver)?;
-        self.entries.push_reserved(Entry::Spawn(handle));
-        Ok(handle)
+        match source.serve_one(reserver) {
+            Ok(handle) => {
+                self.entries.push_reserved(Entry::Spawn(handle));
+                Ok(handle)
+            }
+            Err(why) => {
+                self.entries.push_reserved(Entry::Refused(why));
+                Err(ReserveError::from(why))
+            }
+        }
     }
 
     /// The entries, to be taken out one by one.
@@ -157,6 +206,13 @@ impl<C: Drop> Log<C> {
         self.entries.reserve(1)?;
         self.entries.push_reserved(Entry::Command(command));
         Ok(())
+    }
+
+    /// Drops all entries, and keeps their room. So as many as it had before take no memory.
+    pub fn clear(&mut self)
+        ensures { self.new ≡ [] }
+    {
+        self.entries.clear();
     }
 }
 

@@ -48,11 +48,15 @@ use std::mem;
 ///     Ok::<(), forgeni::ReserveError>(())
 /// })??;
 ///
-/// let mut born = Vec::new();
+/// let (mut born, mut refused) = (Vec::new(), 0);
 /// let mut sync = SyncPoint::begin(&mut entities, &mut logs, &mut born)?;
 /// sync.apply(&mut entities, |entities, entry| match entry {
 ///     Entry::Spawn(cart) => {
 ///         assert!(entities.is_alive(cart));
+///         Ok(())
+///     }
+///     Entry::Refused(_) => {
+///         refused += 1;
 ///         Ok(())
 ///     }
 ///     Entry::Command(Command::Name(cart, name)) => {
@@ -65,7 +69,7 @@ use std::mem;
 ///         Err(error) => Err((entry, error)),
 ///     },
 /// })?;
-/// assert_eq!((born.len(), entities.len()), (2, 2));
+/// assert_eq!((born.len(), refused, entities.len()), (2, 0, 2));
 /// assert_eq!(names[born[1]], "cart 1");
 /// # Ok::<(), Box<dyn std::error::Error>>(())
 /// ```

@@ -1,6 +1,11 @@
 -- What a crew did whose jobs are systems that fill logs, and the history of its reservers.
-use Rattle.ent_log_runner.proofs.Common.{rules, All, slice_get, List, Some, Option, Vec, Global, IfSome, IfNone, none_weaker, some_weaker, ap, length, sym, ℕ, ◌<◌, ◌∙◌, ◌≡◌, slice_get_within, AllPairs, flat_map, range_with_len, IsPermutation, ◌==◌, Call, IsLegal, after_history, given_in, Allocator, spawned_in, Entry, added_at, all_either, each_may, ended_by, of_each, ours, own_mapped, stopped_last, each_of_all, filter_map_is, AreBrokenOff, AreDone, DidAll, OfEach, Respects, as_call, handles_of, history_of, reservations_of, opened_records, Record, LogGains, HaveLogged, HaveRun, IsBrokenOff, SystemMayHaveLogged, SystemMayLog, entries_by, given_to, log_at}
+use Rattle.ent_log_runner.proofs.Common.{rules, All, slice_get, List, Some, Option, Vec, Global, Result, IfOk, IfErr, OnErr, err_follows, IfOk-weaker, ap, length, sym, ℕ, ◌<◌, ◌∙◌, ◌≡◌, slice_get_within, AllPairs, flat_map, range_with_len, IsPermutation, ◌==◌, Call, IsLegal, after_history, given_in, Allocator, spawned_in, Entry, added_at, all_either, each_may, ended_by, of_each, ours, own_mapped, stopped_last, each_of_all, filter_map_is, map, map_map_is, AreBrokenOff, AreDone, DidAll, OfEach, Respects, as_call, handles_of, history_of, reservations_by, reservations_of, opened, opened_records, Record, Reservation, requests_by, quota, stands_for, FitQuota, LogGains, HaveLogged, HaveRun, IsBrokenOff, SystemMayHaveLogged, SystemMayLog, entries_by, given_to, log_at}
 use Rattle.ent_log_runner.proofs.Gaining.{log_gains_nothing, log_gains_then}
+
+-- the calls of one caller in the history
+by_caller : (k : ℕ) (records : List Record) → requests_by k (history_of records)
+    ≡ map (λ (r : Reservation). (r.requested, r.reply)) (reservations_by k (reservations_of records))
+by_caller k records = search (rules, filter_map_is, map_map_is)
 
 -- what a system may do as a job
 abbrev pub Logs : {C S : Type 0} → (S → List (Entry C) → Type 0) → List S → ℕ → Record → List (Entry C) → Record
@@ -17,11 +22,25 @@ module _ {C : Type 0} (start after : Allocator) (workers : ℕ) (opens records :
       (rising : All (AllPairs (λ m n. m < n)) ran) (each_log : length logs ≡ count)
       (did : OfEach ran opens records (λ mine a b. DidAll (λ n before log after. LogGains before log after × P n log)
       logs a mine b)) where
+    worked_at : (k : ℕ) (mine : List ℕ) → slice_get ran k ≡ Some mine → (r : Record) × (slice_get records k ≡ Some r)
+        × LogGains (opened start k) (entries_by logs mine) r
+    worked_at = added_at LogGains log_gains_nothing log_gains_then P logs start workers opens records opened_are many
+        long ran each did
+
+    calls_at : (k : ℕ) (mine : List ℕ) → slice_get ran k ≡ Some mine → requests_by k (history_of records)
+        ≡ flat_map stands_for (entries_by logs mine)
+    calls_at k mine at =
+        let r = worked_at k mine at in
+        let own = each_of_all (Respects (reservations_of records)) records k r.0 respects r.1 in
+        search (rules, by_caller k records, own.own, own_mapped r.2.gained.reservations, r.2)
+
+    within_at : (k : ℕ) (mine : List ℕ) → slice_get ran k ≡ Some mine → FitQuota quota (entries_by logs mine)
+    within_at k mine at = (worked_at k mine at).2.within
+
     given_at : (k : ℕ) (mine : List ℕ) → slice_get ran k ≡ Some mine → given_to k (history_of records) ≡ spawned_in
         (entries_by logs mine)
     given_at k mine at =
-        let r = added_at LogGains log_gains_nothing log_gains_then P logs start workers opens records opened_are many
-        long ran each did k mine at in
+        let r = worked_at k mine at in
         let own = each_of_all (Respects (reservations_of records)) records k r.0 respects r.1 in
         ap given_in (filter_map_is (λ (call : Call). call.caller == k) as_call (reservations_of records))
         ∙ (ap handles_of (rw r.2.gained.number at own.own) ∙ r.2.given)
@@ -40,6 +59,8 @@ module _ {C : Type 0} (start after : Allocator) (workers : ℕ) (opens records :
       each,
       once,
       rising,
+      calls_at,
+      within_at,
       given_at,
       each_log,
       ours LogGains log_gains_nothing log_gains_then P logs start workers opens records opened_are many long ran each
@@ -67,10 +88,11 @@ module _ {C : Type 0} (start after : Allocator) (workers : ℕ) (opens records :
       slice_get_within,
     )
 
-    broken_off : AreBrokenOff (Logs may systems) (Logs leave systems) (length systems) opens records
+    broken_off : (left : List (Option (List (Entry C))))
+        → AreBrokenOff (Logs may systems) (Logs leave systems) (length systems) opens left records
         → IsBrokenOff may leave systems workers start after
     unfolding run_is
-    broken_off done =
+    broken_off left done =
         let logs : List (List (Entry C)) = done.outputs in
         let Left : ℕ → List (Entry C) → Type 0 = SystemMayHaveLogged may leave systems in
         let did : OfEach done.ran opens records (λ mine a b. DidAll (λ n before log after. LogGains before log after
@@ -90,9 +112,9 @@ module _ {C : Type 0} (start after : Allocator) (workers : ℕ) (opens records :
         }
 
     -- the crew has worked, and the allocator was closed
-    pub ran : (got : Option (Vec (List (Entry C)) Global)) (jobs : ℕ) → jobs ≡ length systems
-        → IfSome got (λ logs. AreDone (Logs may systems) jobs opens logs.items records)
-        → IfNone got (AreBrokenOff (Logs may systems) (Logs leave systems) jobs opens records)
-        → IfSome got (λ logs. HaveLogged may systems workers start logs.items after)
-        × IfNone got (IsBrokenOff may leave systems workers start after)
-    ran got jobs all done lost = search (rules, none_weaker, broken_off, some_weaker, logged)
+    pub ran : (got : Result (Vec (List (Entry C)) Global) (Vec (Option (List (Entry C))) Global)) (jobs : ℕ)
+        → jobs ≡ length systems → IfOk got (λ logs. AreDone (Logs may systems) jobs opens logs.items records)
+        → IfErr got (λ left. AreBrokenOff (Logs may systems) (Logs leave systems) jobs opens left.items records)
+        → IfOk got (λ logs. HaveLogged may systems workers start logs.items after)
+        × OnErr got (IsBrokenOff may leave systems workers start after)
+    ran got jobs all done lost = search (rules, err_follows, broken_off, IfOk-weaker, logged)

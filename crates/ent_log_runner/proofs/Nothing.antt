@@ -14,6 +14,8 @@ logged_none may workers s = record {
     each_worker = length-replicate workers no_jobs;
     once = none_once workers;
     rising = all_rise workers;
+    calls = λ worker mine at. rw (is_none workers worker mine at) refl;
+    within = λ worker mine at. rw (is_none workers worker mine at) tt;
     given = λ worker mine at. rw (is_none workers worker mine at) refl;
     each_log = refl;
   };

@@ -4,10 +4,13 @@ use Rattle.std.specs.Prelude.{slice_get, slice_index_or, Some}
 use Rattle.std.specs.List.{All, AllPairs, flat_map, range_with_len}
 use Rattle.std.specs.List.Sorted.{IsPermutation}
 use Rattle.ent_handle.specs.Handle.{Handle}
+use Rattle.ent_alloc.specs.Limits.{quota}
 use Rattle.ent_alloc.specs.Sequential.{Allocator}
 use Rattle.ent_alloc.specs.History.{Call, IsLegal, after_history, given_in}
 use Rattle.ent_log.specs.declared.entry.Entry.{Entry}
 use Rattle.ent_log.specs.Logs.{spawned_in}
+use Rattle.ent_runner.specs.Frame.{requests_by}
+use Rattle.ent_log_runner.specs.Calls.{stands_for, FitQuota}
 
 -- the handles that one caller was given in a history, in order
 abbrev pub given_to : ℕ → List Call → List Handle
@@ -34,9 +37,10 @@ module _ {C : Type 0} where
   SystemMayHaveLogged may leave systems n log =
       SystemMayLog may systems n log ⊎ SystemMayLog leave systems n log
 
-  -- That many workers ran the first systems, each once, and filled these logs. The history has what
-  -- they reserved: it leads from the one allocator to the other, and each worker was given the
-  -- handles that the spawns of its systems returned, in order, and no others.
+  -- That many workers ran the first systems, each once, and filled these logs. The history has
+  -- what they reserved, and leads from the one allocator to the other. The calls of each worker are
+  -- those for which the spawns and refusals of its systems' logs stand, in order, and no others. So
+  -- it was given the handles that these spawns returned.
   pub record HaveRun (workers count : ℕ) (before : Allocator) (logs : List (List (Entry C)))
       (after : Allocator) : Type 0 where
     -- all reservations of the workers, in one order
@@ -51,6 +55,11 @@ module _ {C : Type 0} where
     pub each_worker : length ran ≡ workers
     pub once : IsPermutation (flat_map (λ mine. mine) ran) (range_with_len 0 count)
     pub rising : All (AllPairs (λ m n. m < n)) ran
+    pub calls : (worker : ℕ) (mine : List ℕ) → slice_get ran worker ≡ Some mine
+        → requests_by worker history ≡ flat_map stands_for (entries_by logs mine)
+    -- The quota refused a spawn only if the worker had used it up.
+    pub within : (worker : ℕ) (mine : List ℕ) → slice_get ran worker ≡ Some mine
+        → FitQuota quota (entries_by logs mine)
     pub given : (worker : ℕ) (mine : List ℕ) → slice_get ran worker ≡ Some mine
         → given_to worker history ≡ spawned_in (entries_by logs mine)
     pub each_log : length logs ≡ count

@@ -83,10 +83,9 @@ where
         systems,
     };
     // A command may panic when it is dropped. So no log is dropped before the allocator is in its place.
-    let mut left = Vec::new(alloc);
-    let logs = crew.work(rt, &mut reservers, &stage, &mut left);
+    let logs = crew.work(rt, &mut reservers, &stage);
     *entities = shared.close(reservers);
-    let Some(logs) = logs else {
+    let Ok(logs) = logs else {
         return Err(LogFault::Lost);
     };
     Ok(logs)

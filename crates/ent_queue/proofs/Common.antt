@@ -1,12 +1,12 @@
 -- The names that proofs of this crate cite, of std, of the crates below and of its own specs. Declares nothing.
-pub use Rattle.std.proofs.Common.{Err, Fits, Global, IfErr, IfOk, IsErrOf, IsTrue, List, Ok, OnErr, OnOk, Result, Vec, [], ap, append-nil, append_assoc, arith, drop, inl, inr, length, length-append, length-drop, map, nat_eq, refl, rules, slice_index, subst, suc, sym, take, vec_capacity, vec_len, zero, ℕ, ℤ, ◌*◌, ◌++◌, ◌+◌, ◌-◌, ◌<◌, ◌^◌, ◌∙◌, ◌∷◌, ◌≡◌, ◌≤◌}
+pub use Rattle.std.proofs.Common.{Err, Fits, Global, IfErr, IfOk, IsErrOf, IsTrue, List, Ok, OnErr, OnOk, Result, Vec, [], ap, append-nil, append_assoc, arith, drop, inl, inr, length, length-append, map, nat_eq, refl, rules, slice_index, subst, suc, sym, take, vec_capacity, vec_len, zero, ℕ, ℤ, ◌*◌, ◌++◌, ◌+◌, ◌-◌, ◌<◌, ◌^◌, ◌∙◌, ◌∷◌, ◌≡◌, ◌≤◌}
 pub use Rattle.std.proofs.Math.Facts.{Fits-lt-pow, Fits-of_lt, Fits-of_z}
 pub use Rattle.std.proofs.Math.Seq.{drop-append_seam}
 pub use Rattle.std.proofs.lemmas.Bool.{cases_lt}
 pub use Rattle.std.proofs.lemmas.Grind.{common_steps, flat_map-append}
 pub use Rattle.std.proofs.lemmas.Int.{to_z-of_z}
 pub use Rattle.std.proofs.lemmas.List.{drop-take, map-append}
-pub use Rattle.std.proofs.lemmas.List.Elements.{All-append, All-cons, All-head, All-nil, All-push, All-tail}
+pub use Rattle.std.proofs.lemmas.List.Elements.{All-cons, All-head, All-nil, All-push, All-tail}
 pub use Rattle.std.proofs.lemmas.List.Sums.{sum_by-append, sum_by-cons}
 pub use Rattle.std.proofs.lemmas.Nat.{from_le_bytes-to_le_bytes_2, from_le_bytes-to_le_bytes_4, from_le_bytes-to_le_bytes_8}
 pub use Rattle.std.specs.Int.{cast_unsigned, w64}
@@ -16,17 +16,16 @@ pub use Rattle.std.specs.Simd.{first_chunks}
 pub use Rattle.ent_alloc.specs.Fault.{as_reserve_error}
 pub use Rattle.ent_alloc.specs.Sequential.{Allocator, listed, listed_alone}
 pub use Rattle.ent_alloc.proofs.Served.{one_served, served_none, served_one, served_parts, served_then}
-pub use Rattle.ent_alloc.specs.Serving.{AreServed, Replying, Request, SaysWanted, given_by}
+pub use Rattle.ent_alloc.specs.Serving.{AreServed, Replying, Request, SaysWanted}
 pub use Rattle.ent_alloc.specs.declared.refused.Refused.{Refused as Refusal}
 pub use Rattle.ent_alloc.specs.declared.refused.Refused.TheVariants.{Quota, Space}
 pub use Rattle.ent_alloc.specs.declared.reserve_error.ReserveError.{ReserveError as QueueFault}
 pub use Rattle.ent_blocks.specs.Blocks.{Block, Phase, after_use}
-pub use Rattle.ent_blocks.specs.Drawing.{IsDrawn, left_of}
+pub use Rattle.ent_blocks.specs.Drawing.{IsDrawn}
 pub use Rattle.ent_handle.specs.Handle.{Handle, IsHandle, bits}
 pub use Rattle.ent_handle.specs.declared.component.ComponentId.{ComponentId}
 pub use Rattle.ent_handle.specs.declared.memory.Memory.{Memory}
-pub use Rattle.ent_log.specs.Logs.{spawned_in}
-pub use Rattle.ent_log.specs.Spawning.{returned}
+pub use Rattle.ent_log.specs.Spawning.{refused_by as refusal_entered, returned}
 pub use Rattle.ent_log.specs.declared.entry.Entry.{Entry}
 pub use Rattle.ent_shared.specs.Phase.{Reserver, Shared}
 pub use Rattle.ent_shared.specs.Record.{after_reservation, reservation_at}
@@ -40,7 +39,7 @@ pub use Rattle.ent_queue.specs.Commands.{Extends, IsReady, output_of, reserver_o
 pub use Rattle.ent_queue.specs.Drawing.{AreDrawnBy, Draws, IsDrawnBy, after_commands, used_by}
 pub use Rattle.ent_queue.specs.Entry.{command_of}
 pub use Rattle.ent_queue.specs.Issuing.{Issues}
-pub use Rattle.ent_queue.specs.Logging.{Logs}
+pub use Rattle.ent_queue.specs.Logging.{Logs, request_of}
 pub use Rattle.ent_queue.specs.Packing.{bundle_bytes, command_bytes, handle_bytes, item_bytes, queue_bytes, refusal_bytes}
 unfoldable pub use Rattle.ent_queue.specs.Packing.{bytes_2, bytes_4, bytes_8}
 pub use Rattle.ent_queue.specs.Reserving.{FitQuota, FitsQuota, Gains, as_list, cost, queued, refused_by, requests_of, stands_for}

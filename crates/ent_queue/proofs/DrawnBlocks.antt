@@ -3,7 +3,7 @@ use Rattle.ent_queue.proofs.Common.{rules, ◌≡◌, refl, ℕ, ◌+◌, List, 
 use Rattle.ent_blocks.specs.Drawing.{IsOfPhase}
 use Rattle.ent_blocks.specs.Blocks.{Reserver}
 
-first_listed : (made : ℕ) (rest : List Handle) (h : Handle) → h ∷ [] ≡ listed made (take 1 rest) → h ∷ [] ≡ take 1 rest
+pub first_listed : (made : ℕ) (rest : List Handle) (h : Handle) → h ∷ [] ≡ listed made (take 1 rest) → h ∷ [] ≡ take 1 rest
 first_listed made it h is = grind (arith, common_steps)
 
 -- of commands one by one

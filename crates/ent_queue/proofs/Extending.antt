@@ -1,6 +1,6 @@
 -- For who writes a system, or any function that fills an output: what its calls add up to. Put
 -- `#[tactic(auto, using(ent_queue::proofs::Extending::extends_then))]` above it.
-use Rattle.ent_queue.proofs.Common.{rules, ◌≡◌, ◌∙◌, ap, sym, refl, ℕ, List, [], ◌∷◌, ◌++◌, append-nil, append_assoc, Ok, Err, Result, IfOk, IfErr, OnOk, OnErr, IsErrOf, Vec, Global, length, common_steps, flat_map-append, All-nil, All-cons, All-append, All, Handle, Memory, Refusal, Space, Quota, QueueFault, listed_alone, Bundle, AreServed, Replying, Request, served_none, served_one, served_then, Command, Spawn, SpawnMany, Refused, requests_of, refused_by, queued, as_list, returned, Entry, spawned_in, Commands, Extends, IsReady, output_of, reserver_of, source_of, Issues, Logs}
+use Rattle.ent_queue.proofs.Common.{rules, ◌≡◌, ◌∙◌, ap, refl, ℕ, List, [], ◌∷◌, ◌++◌, append-nil, Ok, Err, Result, IfOk, IfErr, OnOk, OnErr, IsErrOf, Vec, Global, length, common_steps, flat_map-append, Handle, Memory, Refusal, Space, Quota, QueueFault, listed_alone, Bundle, AreServed, Replying, Request, served_none, served_one, served_then, Command, Spawn, SpawnMany, Refused, requests_of, refused_by, queued, as_list, returned, refusal_entered, Entry, Commands, Extends, IsReady, output_of, reserver_of, source_of, Issues, Logs, request_of}
 use Rattle.ent_alloc.specs.declared.reserve_error.ReserveError.TheVariants as fault
 use Rattle.ent_log.specs.declared.entry.Entry.TheVariants as entry
 
@@ -133,16 +133,16 @@ module _ {R : Type 0} (may : Replying R) (old new : List Command) (before after 
 
 -- ---- logs
 
-one_each : (request : Request) → request.0 ≡ 1 → All (λ (r : Request). r.0 ≡ 1) (request ∷ [])
-one_each request one = All-cons (λ (r : Request). r.0 ≡ 1) request [] one (All-nil (λ (r : Request). r.0 ≡ 1))
-
 module _ {C : Type 0} where
   logs_more : (a b c : List (Entry C)) (first second : List Request) → Logs a first b → Logs b second c
       → Logs a (first ++ second) c
-  logs_more a b c first second one two = search (rules, common_steps, flat_map-append, All-append)
+  logs_more a b c first second one two = search (rules, common_steps, flat_map-append)
 
   logs_nothing : (a : List (Entry C)) → Logs a [] a
-  logs_nothing a = search (rules, append-nil, All-nil)
+  logs_nothing a = search (rules, append-nil)
+
+  logs_one : (a b : List (Entry C)) (e : Entry C) → b ≡ a ++ e ∷ [] → Logs a (request_of e) b
+  logs_one a b e is = record { added = e ∷ []; log = is; requests_are = search (rules, append-nil) }
 
   module _ {S R : Type 0} {serves : S → R → Type 0} {may : S → Replying R} where
     pub log_extends_nothing : (a : Commands (List (Entry C)) S R) → IsReady serves a → Extends Logs serves may a a
@@ -158,7 +158,7 @@ module _ {C : Type 0} where
         → Called Logs may old new before after
     called_push command (Ok it) ok err same = record {
       requests = [];
-      adds = record { added = entry.Command command ∷ []; log = ok; given = refl; one_each = All-nil (λ (r : Request). r.0 ≡ 1) };
+      adds = logs_one old new (entry.Command command) ok;
       served = served_none may before after same;
     }
     called_push command (Err why) ok err same = record {
@@ -167,32 +167,29 @@ module _ {C : Type 0} where
       served = served_none may before after same;
     }
 
+    log_refused : (why : Refusal) → new ≡ old ++ entry.Refused why ∷ [] → may before after 1 (Err why)
+        → Called Logs may old new before after
+    log_refused why log replied = record {
+      requests = (1, Err why) ∷ [];
+      adds = logs_one old new (entry.Refused why) log;
+      served = served_one may before after _ replied;
+    }
+
     pub called_log_spawn : (result : Result Handle QueueFault) → IfOk result (λ h. new ≡ old ++ entry.Spawn h ∷ [])
-        → OnErr result (new ≡ old) → (IsErrOf result fault.Memory → after ≡ before)
+        → IfErr result (λ error. new ≡ old ++ refusal_entered error) → (IsErrOf result fault.Memory → after ≡ before)
         → ((reply : Result Handle Refusal) → result ≡ returned reply → may before after 1 (listed_alone reply))
         → Called Logs may old new before after
-    called_log_spawn (Ok h) ok err memory replied = record {
+    called_log_spawn (Ok h) ok refused memory replied = record {
       requests = (1, Ok (h ∷ [])) ∷ [];
-      adds = record {
-        added = entry.Spawn h ∷ [];
-        log = ok;
-        given = refl;
-        one_each = one_each _ refl;
-      };
+      adds = logs_one old new (entry.Spawn h) ok;
       served = served_one may before after _ (replied (Ok h) refl);
     }
-    called_log_spawn (Err (fault.Space wanted left)) ok err memory replied = record {
-      requests = (1, Err (Space wanted left)) ∷ [];
-      adds = record { added = []; log = err ∙ sym (append-nil old); given = refl; one_each = one_each _ refl };
-      served = served_one may before after _ (replied (Err (Space wanted left)) refl);
-    }
-    called_log_spawn (Err (fault.Quota left)) ok err memory replied = record {
-      requests = (1, Err (Quota left)) ∷ [];
-      adds = record { added = []; log = err ∙ sym (append-nil old); given = refl; one_each = one_each _ refl };
-      served = served_one may before after _ (replied (Err (Quota left)) refl);
-    }
-    called_log_spawn (Err fault.Memory) ok err memory replied = record {
+    called_log_spawn (Err (fault.Space wanted left)) ok refused memory replied =
+        log_refused (Space wanted left) refused (replied (Err (Space wanted left)) refl)
+    called_log_spawn (Err (fault.Quota left)) ok refused memory replied =
+        log_refused (Quota left) refused (replied (Err (Quota left)) refl)
+    called_log_spawn (Err fault.Memory) ok refused memory replied = record {
       requests = [];
-      adds = record { added = []; log = err ∙ sym (append-nil old); given = refl; one_each = All-nil (λ (r : Request). r.0 ≡ 1) };
+      adds = record { added = []; log = refused; requests_are = refl };
       served = served_none may before after (memory refl);
     }

@@ -1,10 +1,11 @@
 //! What a system does that fills a log.
-ghost use Rattle.std.specs.Prelude.{◌≡◌, ◌++◌, ◌∷◌, [], Result, IfOk, IsErrOf, OnOk, OnErr};
+ghost use Rattle.std.specs.Prelude.{◌≡◌, ◌++◌, ◌∷◌, [], Result, IfOk, IfErr, IsErrOf};
+ghost use Rattle.std.specs.Prelude.{OnOk, OnErr};
 ghost use Rattle.ent_handle.specs.Handle.{Handle as HandleValue};
 ghost use Rattle.ent_alloc.specs.declared.refused.Refused.{Refused as Refusal};
 ghost use Rattle.ent_alloc.specs.Sequential.{listed_alone};
 ghost use Rattle.ent_log.specs.declared.entry.Entry.TheVariants.{Spawn, Command};
-ghost use Rattle.ent_log.specs.Spawning.{returned};
+ghost use Rattle.ent_log.specs.Spawning.{refused_by, returned};
 ghost use Rattle.ent_queue.specs.Commands.{IsReady, Extends, output_of, reserver_of, source_of};
 ghost use Rattle.ent_queue.specs.Logging.{Logs};
 
@@ -23,22 +24,23 @@ impl<C, S: Source> Commands<'_, Log<C>, S> {
         self.output.entries()
     }
 
-    /// Reserves a handle at once, and adds its entry. Room for the entry is allocated first, so each
-    /// handle that is reserved has one.
+    /// Reserves a handle at once, and adds its entry, or that of the refusal. Room for the entry is
+    /// allocated first, so each reservation has one.
     ///
     /// # Errors
     ///
-    /// The log is as it was.
-    ///
-    /// - [`ReserveError::Memory`] if there is no room for the entry. Nothing was reserved.
-    /// - [`ReserveError::Space`] and [`ReserveError::Quota`] as the source returns them.
+    /// - [`ReserveError::Memory`] if there is no room for the entry. The log is as it was, and
+    ///   nothing was reserved.
+    /// - [`ReserveError::Space`] and [`ReserveError::Quota`] as the source returns them. The log has an
+    ///   entry for the [refusal](Entry::Refused), which the sync point hands on in its turn.
     ///   [`ReserveError::or_memory`] lets the system go on.
     pub fn spawn(&mut self) -> Result<Handle, ReserveError>
         requires { IsReady S.serves self.old }
         ensures extends { Extends Logs S.serves S.may_reply self.old self.new }
         ensures ok { IfOk result (λ handle.
             output_of self.new ≡ output_of self.old ++ Spawn handle ∷ []) }
-        ensures err { OnErr result (output_of self.new ≡ output_of self.old) }
+        ensures refused { IfErr result (λ error.
+            output_of self.new ≡ output_of self.old ++ refused_by error) }
 
         // Anything but Memory is the result of a reservation.
         ensures replies { (reply : Result HandleValue Refusal) → result ≡ returned reply

@@ -47,16 +47,15 @@ impl<C: Drop> Output for Log<C> {
     ghost use Rattle.std.specs.Prelude.{[]};
     ghost use Rattle.std.proofs.Common.{rules, append-nil};
     ghost use Rattle.std.proofs.lemmas.Grind.{common_steps, flat_map-append};
-    ghost use Rattle.std.proofs.lemmas.List.Elements.{All-append, All-nil};
     ghost use Rattle.ent_queue.specs.Logging.{Logs};
 
     ghost empty = { [] };
 
     ghost adds = { λ a requests b. Logs a requests b };
 
-    ghost nothing = { Prim.search (rules, append-nil, All-nil) };
+    ghost nothing = { Prim.search (rules, append-nil) };
 
-    ghost more = { Prim.search (rules, common_steps, flat_map-append, All-append) };
+    ghost more = { Prim.search (rules, common_steps, flat_map-append) };
 
     fn unfilled(alloc: Global) -> Self {
         Log::new(alloc)

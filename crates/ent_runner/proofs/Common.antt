@@ -6,7 +6,7 @@ pub use Rattle.std.proofs.Math.Seq.{get_or-append_seam}
 pub use Rattle.std.proofs.lemmas.Bool.{cases_eq, cases_lt}
 pub use Rattle.std.proofs.lemmas.Fn.{FoldsTo-push}
 pub use Rattle.std.proofs.lemmas.Grind.{common_steps}
-pub use Rattle.std.proofs.lemmas.List.{get_or-append_right, get_or-map, get_or-replicate, get_or-set_other, get_or-set_same, get_or_append_left, get_or_push, length-append, length-map, length-replicate, length-reverse, length-set, map-append, take-append-le, take_all}
+pub use Rattle.std.proofs.lemmas.List.{get_or-append_right, get_or-map, get_or-replicate, get_or-set_other, get_or-set_same, get_or_append_left, get_or_push, length-append, length-map, length-replicate, length-reverse, length-set, map-append, replicate-append-replicate, set-append_left, take-append-le, take_all}
 pub use Rattle.std.proofs.lemmas.List.Edits.{swap_is}
 pub use Rattle.std.proofs.lemmas.List.Elements.{All-append, All-cons, All-contains, All-head, All-map, All-nil, All-push, All-replicate, All-rest, All-set, All-tail, Contains-append_left, Contains-append_right}
 pub use Rattle.std.proofs.lemmas.List.Folds.{flat_map-map, fold-map, sum_by-replicate}
@@ -16,11 +16,12 @@ pub use Rattle.std.proofs.lemmas.List.Quantifiers.{all_pairs_push}
 pub use Rattle.std.proofs.lemmas.List.Sorted.{All-permutation, Contains-permutation, IsPermutation-append_comm, IsPermutation-append_left, IsPermutation-append_right, IsPermutation-cons, IsPermutation-keeps, IsPermutation-refl, IsPermutation-remove, IsPermutation-reverse, IsPermutation-sym, IsPermutation-trans, length_permutation, sum_by-IsPermutation, sum_by_popped}
 pub use Rattle.std.proofs.lemmas.List.Sums.{sum_by-cons, sum_by-le-sum_by, sum_by_push}
 pub use Rattle.std.proofs.lemmas.Option.{get_or_from_slice_get, none-some, slice_get-get_or, slice_get-map, slice_get_within}
+pub use Rattle.std.proofs.lemmas.Result.{IfErr-weaker, IfOk-weaker}
 pub use Rattle.std.specs.List.{All, AllPairs, Contains, flat_map, position_from, range_with_len, sum_by}
 pub use Rattle.std.specs.List.Sorted.{IsPermutation}
 pub use Rattle.std.specs.Option.{option_map}
 pub use Rattle.std.specs.Ordering.{eq_by_cmp}
-pub use Rattle.std.specs.Prelude.{Any, Err, IfNone, IfSome, IsErrOf, IsOk, IsSome, Ok, OnErr, OnOk, filter, replicate, slice_get, slice_set, true, vec_capacity, ◌==◌}
+pub use Rattle.std.specs.Prelude.{Any, Err, IfErr, IfNone, IfOk, IfSome, IsErr, IsErrOf, IsOk, IsSome, Ok, OnErr, OnOk, filter, replicate, slice_get, slice_set, true, vec_capacity, ◌==◌}
 pub use Rattle.atomic_table.specs.Seated.{TableId}
 pub use Rattle.atomic_table.specs.Table.{Allows, Me, State, keeps, opening}
 pub use Rattle.ent_alloc.proofs.Flushes.{born-IsPermutation}

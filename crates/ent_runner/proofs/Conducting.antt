@@ -1,20 +1,17 @@
 -- What the workers of a crew have done together, once all of them are back.
-use Rattle.ent_runner.proofs.Common.{common_steps, rules, ◌≡◌, ℕ, ◌<◌, ◌≤◌, List, [], ◌∷◌, ◌++◌, length, map, get_or, refl, ap, sym, ◌∙◌, arith, Option, Some, None, false, Bool, take, drop, inl, inr, true, ◌⊎◌, Vec, Global, reverse, slice_get, replicate, IfSome, IfNone, Any, vec_capacity, All, AllPairs, flat_map, range_with_len, IsPermutation, cases_lt, slice_get_within, get_or_from_slice_get, slice_get-get_or, length-map, length-append, take-append-le, take_all, length-replicate, map-append, length-reverse, flat_map-map, All-permutation, IsPermutation-reverse, length_permutation, length-range_with_len, All-map, All-left, Claims, Claimer, AreFirst, IsClaimerOf, outputs_put, AreDone, AreBrokenOff, DidAll, DidUntil, Done, Worker, HasWorked, HaveAllWorked, HaveDoneFirst, HasClaimed, OfEach, IsUnused, IsRoomForOne, IsLostFor, numbers_of, all_done, IsRoom, All-right}
+use Rattle.ent_runner.proofs.Common.{common_steps, rules, ◌≡◌, ℕ, ◌<◌, ◌≤◌, List, [], ◌∷◌, ◌++◌, length, map, get_or, refl, ap, sym, ◌∙◌, arith, Option, Some, None, false, Bool, take, drop, inl, inr, true, ◌⊎◌, Vec, Global, reverse, slice_get, replicate, IfErr, IsSome, OnErr, Ok, Err, Result, ◌-◌, Any, vec_capacity, All, AllPairs, flat_map, range_with_len, IsPermutation, cases_lt, slice_get_within, get_or_from_slice_get, slice_get-get_or, length-map, length-append, take-append-le, take_all, length-replicate, map-append, length-reverse, flat_map-map, All-permutation, IsPermutation-reverse, length_permutation, length-range_with_len, All-map, All-left, Claims, Claimer, AreFirst, IsClaimerOf, outputs_put, AreDone, AreBrokenOff, DidAll, DidUntil, Done, Worker, HasWorked, HaveAllWorked, HaveDoneFirst, HasClaimed, OfEach, IsUnused, IsRoomForOne, IsLostFor, numbers_of, all_done, IsRoom, All-right}
 use Rattle.ent_runner.proofs.Lists.{of_mapped, each_of_all, mapped_at, same_flat, get_mapped, map_flat, at_within, flat_all}
-use Rattle.ent_runner.proofs.Outputs.{length_put, full, left_out, long, outputs_at, unwrapped, kept_all}
+use Rattle.ent_runner.proofs.Outputs.{length_put, put_first, full, left_out, long, outputs_at, unwrapped, kept_all}
 
 -- a slice of the same length that was written back
 pub written_back : {X : Type 0} (n : ℕ) (old new : List X) → n ≡ length old → length new ≡ length old
     → take n (new ++ drop (length new) old) ≡ new
 written_back n old new n_is same = search (rules, take-append-le, take_all)
 
--- what follows if there is none, follows if there is none
-pub none_weaker : {X P Q : Type 0} (o : Option X) → (P → Q) → IfNone o P → IfNone o Q
-none_weaker it follows p = search rules
-
-pub some_weaker : {X : Type 0} {P Q : X → Type 0} (o : Option X) → ((x : X) → P x → Q x) → IfSome o P → IfSome o Q
-some_weaker None follows p = tt
-some_weaker (Some x) follows p = follows x p
+-- what follows from what an error has, follows if there is one
+pub err_follows : {T E Q : Type 0} {P : E → Type 0} (r : Result T E) → ((e : E) → P e → Q) → IfErr r P → OnErr r Q
+err_follows (Ok t) follows p = tt
+err_follows (Err e) follows p = follows e p
 
 module _ {O : Type 0} where
   -- A crew is made: its claims are open, its workers are ready, and there is room for all outputs.
@@ -111,19 +108,19 @@ module _ {O : Type 0} where
       mapped_at Some outputs first.count no_output,
     )
 
-    -- if one lacks it, some are left
-    pub some_left : Any (λ (output : Option O). output ≡ None) (by_number numbers team)
-        → length (all_done team) < numbers
-    some_left (k, output, within, at, none) = search (
+    counted : length (all_done team) ≡ first.count
+    counted = search (
       rules,
-      arith,
       length_permutation _ _ first.once,
       length-range_with_len 0 first.count,
       length-map (all_done team) (λ (d : Done O). d.number),
-      cases_lt first.count numbers,
-      first.within,
-      full first.count (all_done team) first.once k output,
     )
+
+    -- if none lacks, each job has an output
+    pub all_there : numbers - length (all_done team) ≡ 0 → All IsSome (by_number numbers team)
+    all_there none =
+        let all : first.count ≡ numbers = omega (arith, counted, first.within, none) in
+        rw all at (full first.count (all_done team) first.once)
 
   -- the outputs by number after all were put in, as they are written back
   pub outputs_back : (count n : ℕ) (done : List (Done O)) (start new : List (Option O)) → start ≡ replicate count None
@@ -211,9 +208,9 @@ module _ {O : Type 0} where
         (rules, going, each_of_all (λ (w : Worker O). w.stopped ≡ false) team k w.0))) in
         search (rules, long_ran, rising, ran_flat, once, long claims.numbers (all_done team) once outputs each, did)
 
-    pub are_broken_off : HaveDoneFirst claims.numbers team → IsLostFor claims.numbers team
-        → AreBrokenOff may leave claims.numbers before after
-    are_broken_off first lost =
+    pub are_broken_off : HaveDoneFirst claims.numbers team → IsLostFor claims.numbers team → (left : List (Option O))
+        → left ≡ by_number claims.numbers team → AreBrokenOff may leave claims.numbers before left after
+    are_broken_off first lost left left_is =
         let there = unwrapped (by_number first.count team) (full first.count (all_done team) first.once) in
         let at = outputs_at first.count (all_done team) first.once there.0 there.1 in
         let did : OfEach ran before after (λ mine a b. DidAll may there.0 a mine b
@@ -229,6 +226,8 @@ module _ {O : Type 0} where
           rising,
           ran_flat,
           long first.count (all_done team) first.once there.0 there.1,
+          left_is ∙ put_first first.count (all_done team) first.once claims.numbers first.within
+              ∙ ap (λ them. them ++ replicate (claims.numbers - first.count) None) (sym there.1),
           did,
           why first there.0 at lost,
           busy,
@@ -247,18 +246,6 @@ module _ {O : Type 0} where
             inl (k, _, a.0, b.0, mine, a.1, b.1, stopped_by outputs at k w a.0 b.0 at_w a.1 b.1 stopped)
         why first outputs at (inr less) =
             inr (search (rules, length_permutation _ _ first.once, length-range_with_len 0 first.count, length-map))
-
-    -- what comes of these outputs, by number, where they are collected
-    module _ (first : HaveDoneFirst claims.numbers team) (got : Option (Vec O Global)) (was : List (Option O))
-        (same : was ≡ by_number claims.numbers team) where
-      pub done_of : All (λ (w : Worker O). w.stopped ≡ false) team → IfSome got (λ outputs. map Some outputs.items
-          ≡ was) → IfSome got (λ outputs. AreDone may claims.numbers before outputs.items after)
-      done_of going all = search (rules, some_weaker, are_done)
-
-      pub lost_of : IfNone got (Any (λ (output : Option O). output ≡ None) was)
-          → IfNone got (AreBrokenOff may leave claims.numbers before after)
-      lost_of lacks = none_weaker got (λ lacking. are_broken_off first (inr (search
-          (rules, some_left claims.numbers team first)))) lacks
 
     -- a worker that has stopped has done a job
     pub some_jobs : IsLostFor claims.numbers team → 0 < claims.numbers

@@ -1,5 +1,5 @@
 -- Workers are taken apart, one after the other.
-use Rattle.ent_runner.proofs.Common.{rules, ◌≡◌, ◌<◌, List, [], ◌∷◌, ◌++◌, length, map, Option, append_assoc, arith, All, flat_map, map-append, All-rest, Done, Worker, outputs_put}
+use Rattle.ent_runner.proofs.Common.{rules, ◌≡◌, ◌<◌, List, [], ◌∷◌, ◌++◌, length, map, Option, append_assoc, arith, All, flat_map, map-append, length-append, ◌-◌, ℕ, All-rest, Done, Worker, outputs_put}
 use Rattle.ent_runner.proofs.Outputs.{put_both, length_put}
 
 module _ {O : Type 0} where
@@ -28,6 +28,16 @@ module _ {O : Type 0} where
       → All (λ (w : Worker O). All (λ (d : Done O). d.number < length by_number) w.done.items) old
       → All (λ (d : Done O). d.number < length by_number) w.done.items
   inside_first old rest w by_number front inside = (rw front at inside) 0 w (omega arith)
+
+  -- the outputs of one more are there
+  pub fewer_on : (old rest : List (Worker O)) (w : Worker O) (lacking next had all : ℕ) → old ≡ w ∷ rest
+      → next ≡ lacking - length w.done.items
+      → lacking - length (flat_map (λ (w : Worker O). w.done.items) old) ≡ had - all
+      → next - length (flat_map (λ (w : Worker O). w.done.items) rest) ≡ had - all
+  fewer_on old rest w lacking next had all front less so_far =
+      let both = length-append w.done.items (flat_map (λ (w : Worker O). w.done.items) rest) in
+      let so_far = rw (front, both) at so_far in
+      omega (arith, less, so_far)
 
   -- what was moved out of the workers, and out of one more
   pub moved_on : {X : Type 0} (f : Worker O → X) (yielded : List (Worker O)) (w : Worker O) (before after : List X)

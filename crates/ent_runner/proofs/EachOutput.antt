@@ -1,6 +1,6 @@
 -- What a relation says of the output of a job alone holds of each output. What jobs did with what was lent to them,
 -- seen by one part of it.
-use Rattle.ent_runner.proofs.Common.{rules, All, get_or, slice_get, [], List, Some, inl, inr, length, ℕ, ◌<◌, ◌∷◌, ◌≡◌, ◌⊎◌, FoldsTo-push, All-cons, All-nil, get_or-range_with_len, length-range_with_len, All-permutation, get_or_from_slice_get, slice_get_within, flat_map, range_with_len, IsPermutation, AreBrokenOff, AreDone, DidAll, DidUntil, DoesAt, OfEach, map, ap, sym, ◌∙◌, ⊎_elim, length-map}
+use Rattle.ent_runner.proofs.Common.{rules, All, get_or, slice_get, [], List, Some, inl, inr, length, ℕ, Option, ◌<◌, ◌∷◌, ◌≡◌, ◌⊎◌, FoldsTo-push, All-cons, All-nil, get_or-range_with_len, length-range_with_len, All-permutation, get_or_from_slice_get, slice_get_within, flat_map, range_with_len, IsPermutation, AreBrokenOff, AreDone, DidAll, DidUntil, DoesAt, OfEach, map, ap, sym, ◌∙◌, ⊎_elim, length-map}
 use Rattle.ent_runner.proofs.Lists.{at_within, all_flat, all_from_each, mapped_at, get_mapped}
 
 -- what holds of the jobs of each worker, holds of each job
@@ -71,10 +71,10 @@ module _ {O L : Type 0} where
         done.did n less,
   )
 
-  pub each_either : (P Q : ℕ → O → Type 0) (jobs : ℕ) (before after : List L) → length after ≡ length before
-      → (done : AreBrokenOff (Alone P) (Alone Q) jobs before after) → (n : ℕ) → n < done.count
-      → HoldsAt (λ m output. P m output ⊎ Q m output) done.outputs n
-  each_either P Q jobs before after same done n less output at = search (
+  pub each_either : (P Q : ℕ → O → Type 0) (jobs : ℕ) (before : List L) (left : List (Option O)) (after : List L)
+      → length after ≡ length before → (done : AreBrokenOff (Alone P) (Alone Q) jobs before left after) → (n : ℕ)
+      → n < done.count → HoldsAt (λ m output. P m output ⊎ Q m output) done.outputs n
+  each_either P Q jobs before left after same done n less output at = search (
     rules,
     get_or_from_slice_get done.outputs n output output at,
     each_held (Alone (λ m o. P m o ⊎ Q m o)) (λ m o. P m o ⊎ Q m o) (λ n a o b it. it) done.outputs output done.count
@@ -100,9 +100,10 @@ module _ {O L K : Type 0} (f : L → K) (may leave : ℕ → K → O → K → T
       → AreDone (Of may) jobs before outputs after → AreDone may jobs (map f before) outputs (map f after)
   done_seen jobs before outputs after done = search (rules, length-map, mapped_at, did_seen)
 
-  pub broken_off_seen : (jobs : ℕ) (before after : List L) → AreBrokenOff (Of may) (Of leave) jobs before after
-      → AreBrokenOff may leave jobs (map f before) (map f after)
-  broken_off_seen jobs before after done = record {
+  pub broken_off_seen : (jobs : ℕ) (before : List L) (left : List (Option O)) (after : List L)
+      → AreBrokenOff (Of may) (Of leave) jobs before left after
+      → AreBrokenOff may leave jobs (map f before) left (map f after)
+  broken_off_seen jobs before left after done = record {
     ran = done.ran;
     each_worker = done.each_worker ∙ sym (length-map before f);
     count = done.count;
@@ -112,6 +113,7 @@ module _ {O L K : Type 0} (f : L → K) (may leave : ℕ → K → O → K → T
     rising = done.rising;
     outputs = done.outputs;
     each_output = done.each_output;
+    left_are = done.left_are;
     did = λ worker mine a b at at_a at_b. search
         (rules, done.did worker mine, mapped_at, did_seen done.outputs mine, until_seen done.outputs mine);
     why = ⊎_elim (λ s. inl (search

@@ -1,9 +1,9 @@
 -- What a crew did whose jobs are the systems of a frame, and the history of its reservers, are a frame.
 -- What a frame leaves if no queue was applied.
-use Rattle.ent_runner.proofs.Common.{rules, ◌≡◌, ℕ, List, get_or, Ok, Err, OnOk, OnErr, get_or_from_slice_get, Record, Command, Gains, View, SystemMayIssue, Result, All, slice_get, Some, length, map, ◌<◌, ◌∙◌, slice_get_within, AllPairs, flat_map, range_with_len, IsPermutation, Call, IsLegal, gains_nothing, gains_then, Respects, history_of, reservations_by, reservations_of, opened_records, Reservation, World, some, AreBrokenOff, AreDone, DidAll, OfEach, IsBrokenOff, IsFrame, IsWork, SystemMayHaveIssued, queue_at, requests_by, view_of, sym, Option, Vec, Global, ap, IfSome, IfNone, drop_of_length-le, IsSound, after_history, after_takes-sound, available-after_takes, limits-after_takes, live-after_takes, made-after_takes, length-taken, after_history-takes, OpenWorld, world_at_start, IsLost, reserved_by, None}
+use Rattle.ent_runner.proofs.Common.{rules, ◌≡◌, ℕ, List, get_or, Ok, Err, OnOk, OnErr, get_or_from_slice_get, Record, Command, Gains, View, SystemMayIssue, Result, All, slice_get, Some, length, map, ◌<◌, ◌∙◌, slice_get_within, AllPairs, flat_map, range_with_len, IsPermutation, Call, IsLegal, gains_nothing, gains_then, Respects, history_of, reservations_by, reservations_of, opened_records, Reservation, World, some, AreBrokenOff, AreDone, DidAll, OfEach, IsBrokenOff, IsFrame, IsWork, SystemMayHaveIssued, queue_at, requests_by, view_of, sym, Option, Vec, Global, ap, IfOk, IfErr, IfOk-weaker, IsErr, drop_of_length-le, IsSound, after_history, after_takes-sound, available-after_takes, limits-after_takes, live-after_takes, made-after_takes, length-taken, after_history-takes, OpenWorld, world_at_start, IsLost, reserved_by, None}
 use Rattle.ent_runner.proofs.Lists.{each_of_all, filter_map_is, map_map_is}
 use Rattle.ent_runner.proofs.Adding.{own_mapped, all_either, ended_by, stopped_last, added_at, ours, each_may}
-use Rattle.ent_runner.proofs.Conducting.{none_weaker, some_weaker}
+use Rattle.ent_runner.proofs.Conducting.{err_follows}
 
 module _ {S A E : Type 0} (may : S → View → List Command → Type 0) (systems : List S) (view : View) (n : ℕ) (d : S)
     (a b : Record) (queue finished : List Command) (same : finished ≡ queue) (gains : Gains a finished b) where
@@ -76,10 +76,10 @@ module _ (before : World) (workers : ℕ) (opens records : List Record)
       slice_get_within,
     )
 
-    pub broken_off : (leave : S → View → List Command → Type 0) → AreBrokenOff (Issues may systems (view_of before))
-        (Issues leave systems (view_of before)) (length systems) opens records
-        → IsBrokenOff may leave systems workers before (history_of records)
-    broken_off leave done =
+    pub broken_off : (leave : S → View → List Command → Type 0) (left : List (Option (List Command)))
+        → AreBrokenOff (Issues may systems (view_of before)) (Issues leave systems (view_of before)) (length systems)
+        opens left records → IsBrokenOff may leave systems workers before (history_of records)
+    broken_off leave left done =
         let Leave : ℕ → List Command → Type 0 = λ n queue. SystemMayIssue leave systems (view_of before) n queue in
         let Left : ℕ → List Command → Type 0 = SystemMayHaveIssued may leave systems (view_of before) in
         let did : OfEach done.ran opens records (λ mine a b. DidAll (λ n before queue after. Gains before queue after
@@ -125,12 +125,16 @@ is_lost before w history sound flushed changed = search (
   drop_of_length-le,
 )
 
+-- what a crew returns whose outputs are queues
+abbrev pub Queues : Type 0
+Queues = Result (Vec (List Command) Global) (Vec (Option (List Command)) Global)
+
 -- What is known of a world that was opened and closed again, and of the queues, if there are any.
 abbrev pub ClosedAgain : {S : Type 0} → (S → View → List Command → Type 0) → (S → View → List Command → Type 0) → List S
-    → OpenWorld → World → Option (Vec (List Command) Global) → Type 0
+    → OpenWorld → World → Queues → Type 0
 ClosedAgain may leave systems world after got = (history : List Call)
-    × IfNone got (IsBrokenOff may leave systems world.shared.count (world_at_start world) history)
-    × (after ≡ reserved_by history (world_at_start world)) × IfSome got (λ q. IsFrame may systems world.shared.count
+    × OnErr got (IsBrokenOff may leave systems world.shared.count (world_at_start world) history)
+    × (after ≡ reserved_by history (world_at_start world)) × IfOk got (λ q. IsFrame may systems world.shared.count
     (world_at_start world) q.items history)
 
 pub view_is : (world : OpenWorld) (view : View) → view.phase ≡ world.phase → view.entities ≡ world.entities
@@ -139,19 +143,27 @@ view_is world view phase entities = (λ i. record { phase = phase i; entities = 
 
 -- The crew has worked, and the world was closed: so it is closed again.
 pub closed_again : {S : Type 0} (may leave : S → View → List Command → Type 0) (systems : List S) (world : OpenWorld)
-    (after : World) (got : Option (Vec (List Command) Global)) (opens records : List Record) (jobs : ℕ) (view : View)
+    (after : World) (got : Queues) (opens records : List Record) (jobs : ℕ) (view : View)
     → jobs ≡ length systems → view ≡ view_of (world_at_start world)
     → opens ≡ opened_records world.shared.start 0 world.shared.count → length opens ≡ world.shared.count
-    → length records ≡ world.shared.count → IfSome got (λ q. AreDone (Issues may systems view) jobs opens q.items
-    records) → IfNone got (AreBrokenOff (Issues may systems view) (Issues leave systems view) jobs opens records)
+    → length records ≡ world.shared.count → IfOk got (λ q. AreDone (Issues may systems view) jobs opens q.items
+    records) → IfErr got (λ left. AreBrokenOff (Issues may systems view) (Issues leave systems view) jobs opens
+    left.items records)
     → after.phase ≡ world.phase → after.entities ≡ world.entities → after.allocator ≡ after_history world.shared.start
     (history_of records) → IsLegal world.shared.start (history_of records)
     → All (Respects (reservations_of records)) records → ClosedAgain may leave systems world after got
 closed_again may leave systems world after got opens records jobs view all seen opened many long done lost phase
-    entities allocator legal respects = search (rules, none_weaker, broken_off, some_weaker, frame_is)
+    entities allocator legal respects =
+    let start = world_at_start world in
+    let lost_by : (left : Vec (Option (List Command)) Global) → AreBrokenOff (Issues may systems view)
+    (Issues leave systems view) jobs opens left.items records
+    → IsBrokenOff may leave systems world.shared.count start (history_of records) =
+    λ left done. broken_off start world.shared.count opens records opened many long legal respects may systems
+    leave left.items (rw (seen, all) at done) in
+    search (rules, err_follows got lost_by lost, IfOk-weaker, frame_is)
 
 module _ {S : Type 0} (may leave : S → View → List Command → Type 0) (systems : List S)
-    (before after : World) (world : OpenWorld) (got : Option (Vec (List Command) Global))
+    (before after : World) (world : OpenWorld) (got : Queues)
     (same : world_at_start world ≡ before) (closed : ClosedAgain may leave systems world after got)
   where
     abbrev changed : after ≡ reserved_by closed.0 before
@@ -160,7 +172,7 @@ module _ {S : Type 0} (may leave : S → View → List Command → Type 0) (syst
     pub lost_again : IsSound world.shared.start → before.allocator.asked ≡ 0 → IsLost before after
     lost_again sound flushed = search (rules, is_lost before after closed.0, changed)
 
-    pub broken_again : (workers : ℕ) → world.shared.count ≡ workers → got ≡ None
+    pub broken_again : (workers : ℕ) → world.shared.count ≡ workers → IsErr got
         → (history : List Call) × IsBrokenOff may leave systems workers before history
         × (after ≡ reserved_by history before)
     broken_again workers count none = search (rules, closed, changed)

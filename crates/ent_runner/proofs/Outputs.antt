@@ -1,5 +1,5 @@
 -- Outputs put at the numbers of their jobs, which were done once each: each is there at its number.
-use Rattle.ent_runner.proofs.Common.{common_steps, rules, append_assoc, ◌≡◌, ℕ, ◌+◌, ◌<◌, ◌≤◌, List, [], ◌∷◌, ◌++◌, length, map, get_or, refl, ap, arith, Option, Some, cond, eq-eqb, suc, slice_set, ◌==◌, All, sum_by, All-nil, All-cons, All-rest, sum_by-cons, get_or-set_same, get_or-set_other, length-set, map-append, Done, outputs_put, None, inl, inr, ne_eqb, slice_get, replicate, IsSome, range_with_len, IsPermutation, cases_eq, slice_get-get_or, length-replicate, length-map, get_or-replicate, All-head, All-tail, sum_by-IsPermutation, All-permutation, IsPermutation-sym, DidAll, numbers_of, HaveEnded}
+use Rattle.ent_runner.proofs.Common.{common_steps, rules, append_assoc, ◌≡◌, ℕ, ◌+◌, ◌<◌, ◌≤◌, List, [], ◌∷◌, ◌++◌, length, map, get_or, refl, ap, arith, Option, Some, cond, eq-eqb, suc, slice_set, ◌==◌, All, sum_by, All-nil, All-cons, All-rest, sum_by-cons, get_or-set_same, get_or-set_other, length-set, map-append, Done, outputs_put, None, inl, inr, ne_eqb, slice_get, replicate, IsSome, range_with_len, IsPermutation, cases_eq, slice_get-get_or, length-replicate, replicate-append-replicate, set-append_left, ◌-◌, length-map, get_or-replicate, All-head, All-right, All-tail, sym, sum_by-IsPermutation, All-permutation, IsPermutation-sym, DidAll, numbers_of, HaveEnded}
 use Rattle.ent_runner.proofs.Lists.{each_of_all, sum_map, mapped_at, of_mapped, all_below}
 use Rattle.ent_runner.proofs.Counting.{is, in_range}
 
@@ -43,6 +43,19 @@ module _ {O : Type 0} where
       (omega arith))) (λ n. omega (arith, sums n, once n)) in
       search (rules, All-cons, put_other, alone, get_or-set_same, rest, inside 0 d (omega arith))
 
+  -- what stands behind them stays
+  pub put_front : (done : List (Done O)) (xs ys : List (Option O))
+      → All (λ (d : Done O). d.number < length xs) done → outputs_put done (xs ++ ys) ≡ outputs_put done xs ++ ys
+  put_front [] xs ys inside = refl
+  put_front (d ∷ done) xs ys inside =
+      let P : Done O → Type 0 = λ d. d.number < length xs in
+      let rest = All-tail P d done inside in
+      search (
+        rules,
+        set-append_left xs ys d.number (Some d.output) (All-head P d done inside),
+        put_front done (slice_set xs d.number (Some d.output)) ys (rw (length-set xs d.number (Some d.output)) rest),
+      )
+
   -- one more output is put at its number
   pub put_on : (rest new : List (Done O)) (d : Done O) (by_number next all : List (Option O)) → rest ≡ d ∷ new
       → next ≡ slice_set by_number d.number (Some d.output) → All (λ (f : Done O). f.number < length by_number) rest
@@ -56,6 +69,12 @@ pub collected_on : {O : Type 0} (rest new : List (Option O)) (q : O) (before aft
     → rest ≡ Some q ∷ new → after ≡ before ++ q ∷ [] → map Some before ++ rest ≡ all
     → (map Some after ++ new ≡ all) × (length rest ≡ length new + 1)
 collected_on rest new q before after all front push same = search (rules, map-append, append_assoc)
+
+-- the next one is there, if all are
+pub next_there : {O : Type 0} (before : List O) (rest new all : List (Option O)) (front : Option O)
+    → map Some before ++ rest ≡ all → rest ≡ front ∷ new → All IsSome all → IsSome front
+next_there before rest new all front same is there =
+    All-head IsSome front new (rw is at (All-right IsSome (map Some before) rest (rw (sym same) at there)))
 
 module _ {O : Type 0} where
   -- an element that is there so often is somewhere
@@ -101,6 +120,18 @@ module _ {O : Type 0} where
       length-replicate count none,
       each_of_all (λ (d : Done O). get_or (outputs_put done (replicate count none)) d.number e ≡ Some d.output) done,
       stand e,
+    )
+
+    -- behind them none is put
+    pub put_first : (numbers : ℕ) → count ≤ numbers → outputs_put done (replicate numbers None)
+        ≡ outputs_put done (replicate count None) ++ replicate (numbers - count) None
+    put_first numbers less = search (
+      rules,
+      arith,
+      put_front done (replicate count none) (replicate (numbers - count) none),
+      replicate-append-replicate count (numbers - count) none,
+      length-replicate count none,
+      inside,
     )
 
     -- one that was not done has none

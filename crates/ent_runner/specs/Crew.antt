@@ -1,6 +1,6 @@
 -- What a crew does: jobs with numbers, each with what its worker lends to it, and with one output.
 use Rattle.std.specs.Prelude.{◌≡◌, ℕ, ◌<◌, ◌≤◌, List, [], ◌∷◌, ◌++◌, length, slice_get, Some}
-use Rattle.std.specs.Prelude.{◌⊎◌}
+use Rattle.std.specs.Prelude.{◌⊎◌, ◌-◌, Option, None, map, replicate}
 use Rattle.std.specs.List.{All, AllPairs, FoldsTo, flat_map, range_with_len}
 use Rattle.std.specs.List.Sorted.{IsPermutation}
 
@@ -48,9 +48,9 @@ module _ {O L : Type 0} where
     pub count : length outputs ≡ jobs
     pub did : OfEach ran before after (λ mine a b. DidAll may outputs a mine b)
 
-  -- The workers have done some of the jobs, and stopped.
+  -- The workers have done some of the jobs, and stopped. The outputs are left.
   pub record AreBrokenOff (may leave : ℕ → L → O → L → Type 0) (jobs : ℕ)
-      (before after : List L) : Type 0 where
+      (before : List L) (left : List (Option O)) (after : List L) : Type 0 where
     -- for each worker the jobs that it did: together they are the first ones, each once, and at
     -- least one if there are any
     pub ran : List (List ℕ)
@@ -63,6 +63,8 @@ module _ {O L : Type 0} where
     -- what each of them had made when it ended or stopped
     pub outputs : List O
     pub each_output : length outputs ≡ count
+    -- Each is left at the number of its job.
+    pub left_are : left ≡ map Some outputs ++ replicate (jobs - count) None
     -- A worker did a job after another one only if that one had ended.
     pub did : OfEach ran before after (λ mine a b. DidAll may outputs a mine b
         ⊎ DidUntil may leave outputs a mine b)

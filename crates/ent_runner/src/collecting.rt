@@ -1,6 +1,6 @@
 //! The outputs that workers hand back are put at the numbers of their jobs.
-ghost use Rattle.std.specs.Prelude.{◌≡◌, ◌<◌, ◌≤◌, length, map, All, Any, Some, None, Option, IsTrue};
-ghost use Rattle.std.specs.Prelude.{[], vec_capacity, slice_set, IfSome, IfNone};
+ghost use Rattle.std.specs.Prelude.{◌≡◌, ◌<◌, ◌≤◌, [], length, map, All, IsSome, Some, slice_set};
+ghost use Rattle.std.specs.Prelude.{vec_capacity};
 ghost use Rattle.ent_runner.specs.Collecting.{outputs_put};
 
 use crate::worker::Done;
@@ -23,36 +23,15 @@ fn put<O: Drop>(done: Done<O>, by_number: &mut [Option<O>])
     by_number[number] = Some(output);
 }
 
-/// Moves the outputs into this list, which has room for them, in the order of the jobs. If a job has
-/// no output, since it wasn't done, it returns `None`, and drops no output: they are in `left`.
-pub(crate) fn collect<O: Drop>(
-    by_number: Vec<Option<O>>,
-    mut outputs: Vec<O>,
-    left: &mut Vec<Option<O>>,
-) -> Option<Vec<O>>
+/// Moves the outputs into this list, which has room for them, in the order of the jobs.
+pub(crate) fn collect<O: Drop>(by_number: Vec<Option<O>>, mut outputs: Vec<O>) -> Vec<O>
+    requires all { All IsSome by_number.items }
     requires empty { outputs.items ≡ [] }
     requires room { length by_number.items ≤ vec_capacity outputs }
-    ensures all { IfSome result (λ outputs. map Some outputs.items ≡ by_number.items) }
-    ensures lacking { IfNone result (Any (λ output. output ≡ None) by_number.items) }
-{
-    if lacks_one(&by_number) {
-        *left = by_number;
-        return None;
-    }
-    for output in by_number {
-        outputs.push_reserved(output?);
-    }
-    Some(outputs)
-}
-
-/// Whether a job has no output.
-fn lacks_one<O>(by_number: &[Option<O>]) -> bool
-    ensures { IsTrue result → Any (λ output. output ≡ None) by_number.now }
+    ensures { map Some result.items ≡ by_number.items }
 {
     for output in by_number {
-        if output.is_none() {
-            return true;
-        }
+        outputs.push_reserved(output.unwrap());
     }
-    false
+    outputs
 }

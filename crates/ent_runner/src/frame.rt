@@ -109,9 +109,9 @@ where
         systems,
         gate,
     };
-    let queues = crew.work(rt, &mut reservers, &stage, &mut Vec::new(alloc));
+    let queues = crew.work(rt, &mut reservers, &stage);
     *world = opened.close(reservers);
-    let Some(queues) = queues else {
+    let Ok(queues) = queues else {
         return Err(FrameFault::Lost);
     };
     match world.apply(&queues) {

@@ -1,9 +1,9 @@
 -- Why a phase was not closed.
 use Rattle.std.specs.Prelude.{ℕ}
-use Rattle.ent_total.specs.declared.unclosed.CloseError.{CloseError}
-use Rattle.ent_total.specs.declared.unclosed.CloseError.TheVariants.{OtherPhase, Missing, InUse}
+use Rattle.ent_total.specs.declared.close_error.CloseError.{CloseError}
+use Rattle.ent_total.specs.declared.close_error.CloseError.TheVariants.{OtherPhase, Missing, InUse}
 
--- reservers are missing
+-- callers are missing
 abbrev pub IsMissing : CloseError → Type 0
 IsMissing (Missing count) = Unit {0}
 IsMissing OtherPhase = ⊥

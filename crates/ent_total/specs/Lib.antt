@@ -4,7 +4,6 @@ pub mod Births
 pub mod Closing
 pub mod Faults
 pub mod Filling
-pub mod Finishing
 pub mod Framing
 pub mod Issuing
 pub mod Sharing

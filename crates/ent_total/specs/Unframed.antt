@@ -1,7 +1,7 @@
 -- What is said of a frame in blocks that didn't end.
 use Rattle.std.specs.Prelude.{◌≡◌, ℕ, List}
 use Rattle.ent_blocks.specs.Blocks.{Reserver}
-use Rattle.ent_blocks.specs.declared.unended.EndError.{EndError}
+use Rattle.ent_blocks.specs.declared.end_error.EndError.{EndError}
 use Rattle.ent_block_runner.specs.declared.run_error.RunError.{RunError}
 use Rattle.ent_queue.specs.Command.{Command}
 use Rattle.ent_world.specs.World.{World as Inner}
@@ -33,7 +33,7 @@ IfUnrun P (unframed.Stopped world stopped) = Unit {0}
 abbrev pub IfUnended : {J : Type 0}
     → (WorldInBlocks J → List Reserver → EndError → Queues → Type 0) → Unframed J → Type 0
 IfUnended P (unframed.Unrun world reservers error) = Unit {0}
-IfUnended P (unframed.Unended left queues) = P left.world left.reservers.items left.error queues
+IfUnended P (unframed.Unended left queues) = P left.value.0 left.value.1.items left.error queues
 IfUnended P (unframed.Unapplied world queues) = Unit {0}
 IfUnended P (unframed.Stopped world stopped) = Unit {0}
 

@@ -14,14 +14,15 @@ ghost use Rattle.ent_shared.specs.Order.{handles_of, own_of_all};
 ghost use Rattle.ent_total.specs.Faults.{IsErrWith};
 ghost use Rattle.ent_total.specs.Sharing.{MayReturn, all_returned};
 ghost use Rattle.ent_total.specs.Closing.{IsMissing, count_missing};
-ghost use Rattle.ent_total.specs.declared.unclosed.CloseError.TheVariants.{OtherPhase, InUse};
+ghost use Rattle.ent_total.specs.declared.close_error.CloseError.TheVariants.{OtherPhase, InUse};
 
+use crate::close_error::CloseError;
 use crate::numbering::Numbering;
 use crate::reserver::Reserver;
 use crate::returning::are_of;
 use crate::shared::Shared;
-use crate::unclosed::{CloseError, Unclosed};
 use ent_alloc::Entities;
+use ent_handle::HandedBack;
 
 impl<J: Numbering> Shared<J> {
     /// Ends the phase with all its reservers: those that are returned, and these. The allocator is as
@@ -48,10 +49,13 @@ impl<J: Numbering> Shared<J> {
     ///
     /// # Errors
     ///
-    /// [`Unclosed`] has the error, and the `Shared`, which goes on. The error is the first of these
-    /// that holds: [`CloseError::OtherPhase`] and [`CloseError::Missing`], with all reservers
+    /// [`HandedBack`] has the `Shared`, which goes on, the reservers that are handed back, and the
+    /// first of these errors that holds: [`CloseError::OtherPhase`] and [`CloseError::Missing`], with all reservers
     /// handed back; [`CloseError::InUse`], and then those that came are returned.
-    pub fn close(mut self, reservers: Vec<Reserver<J>>) -> Result<Entities, Unclosed<J>>
+    pub fn close(
+        mut self,
+        reservers: Vec<Reserver<J>>,
+    ) -> Result<Entities, HandedBack<(Self, Vec<Reserver<J>>), CloseError>>
         // All reservations stand in one history that is legal and respects every reserver.
         ensures legal { OnOk result (IsLegal self.shared.start
             (history_of (records_of (all_returned self reservers.items)))) }
@@ -84,24 +88,25 @@ impl<J: Numbering> Shared<J> {
         // When it succeeds, when it is refused, and what holds then.
         ensures may_return { OnOk result (MayReturn self reservers.items) }
         ensures all { OnOk result (length (all_returned self reservers.items) ≡ self.shared.count) }
-        ensures other_phase { IsErrWith result (λ u. u.error ≡ OtherPhase)
+        ensures other_phase { IsErrWith result (λ h. h.error ≡ OtherPhase)
             ↔ ¬ (MayReturn self reservers.items) }
-        ensures missing { IsErrWith result (λ u. IsMissing u.error)
+        ensures missing { IsErrWith result (λ h. IsMissing h.error)
             ↔ (MayReturn self reservers.items
             × (length (all_returned self reservers.items) < self.shared.count)) }
-        ensures how_many { IfErr result (λ u. IsMissing u.error
-            → length (all_returned self reservers.items) + count_missing u.error ≡ self.shared.count) }
-        ensures handed_back { IfErr result (λ u. u.error ≢ InUse
-            → (u.shared ≡ self) × (u.reservers.items ≡ reservers.items)) }
-        ensures returned { IfErr result (λ u. u.error ≡ InUse
-            → (u.shared ≡ record self { returned = all_returned self reservers.items })
-            × (u.reservers.items ≡ [])) }
+        ensures how_many { IfErr result (λ h. IsMissing h.error
+            → length (all_returned self reservers.items) + count_missing h.error ≡ self.shared.count) }
+        ensures handed_back { IfErr result (λ h. h.error ≢ InUse
+            → (h.value.0 ≡ self) × (h.value.1.items ≡ reservers.items)) }
+        ensures returned { IfErr result (λ h. h.error ≡ InUse
+            → (h.value.0 ≡ record self { returned = all_returned self reservers.items })
+            × (h.value.1.items ≡ [])) }
     {
         let Some(missing) = self.missing(&reservers) else {
-            return Err(self.unclosed(reservers, CloseError::OtherPhase));
+            return Err(HandedBack::new((self, reservers), CloseError::OtherPhase));
         };
         if missing > 0 {
-            return Err(self.unclosed(reservers, CloseError::Missing { count: missing }));
+            let error = CloseError::Missing { count: missing };
+            return Err(HandedBack::new((self, reservers), error));
         }
         self.take_back(reservers);
         match self.end() {
@@ -123,7 +128,7 @@ impl<J: Numbering> Shared<J> {
     /// let (shared, mut reservers) = Entities::new().share(2)?;
     /// let lost = reservers.pop();
     /// drop(lost);
-    /// let (shared, reservers, error) = shared.close(reservers).unwrap_err().into_parts();
+    /// let ((shared, reservers), error) = shared.close(reservers).unwrap_err().into_parts();
     /// assert_eq!(error, CloseError::Missing { count: 1 });
     /// let entities = shared.close_lost(reservers)?;
     /// # Ok::<(), Box<dyn std::error::Error + Send + Sync>>(())
@@ -131,12 +136,15 @@ impl<J: Numbering> Shared<J> {
     ///
     /// # Errors
     ///
-    /// [`Unclosed`] has the error, and the `Shared`, which goes on. The error is the first of these
-    /// that holds: [`CloseError::OtherPhase`], with all reservers handed back;
+    /// [`HandedBack`] has the `Shared`, which goes on, the reservers that are handed back, and the
+    /// first of these errors that holds: [`CloseError::OtherPhase`], with all reservers handed back;
     /// [`CloseError::InUse`], and then those that came are returned. As long as a reserver that
     /// wasn't handed in exists, it is `InUse`. One that was given to [`core::mem::forget`] exists
     /// for good.
-    pub fn close_lost(mut self, reservers: Vec<Reserver<J>>) -> Result<Entities, Unclosed<J>>
+    pub fn close_lost(
+        mut self,
+        reservers: Vec<Reserver<J>>,
+    ) -> Result<Entities, HandedBack<(Self, Vec<Reserver<J>>), CloseError>>
         ensures after { IfOk result (λ entities.
             entities.allocator ≡ after_loss self.shared.start entities.allocator.asked) }
         ensures rows { IfOk result (λ entities. entities.rows ≡ self.shared.rows) }
@@ -181,17 +189,17 @@ impl<J: Numbering> Shared<J> {
 
         // When it succeeds, when it is refused, and what holds then.
         ensures may_return { OnOk result (MayReturn self reservers.items) }
-        ensures other_phase { IsErrWith result (λ u. u.error ≡ OtherPhase)
+        ensures other_phase { IsErrWith result (λ h. h.error ≡ OtherPhase)
             ↔ ¬ (MayReturn self reservers.items) }
-        ensures no_missing { IfErr result (λ u. ¬ (IsMissing u.error)) }
-        ensures handed_back { IfErr result (λ u. u.error ≢ InUse
-            → (u.shared ≡ self) × (u.reservers.items ≡ reservers.items)) }
-        ensures returned { IfErr result (λ u. u.error ≡ InUse
-            → (u.shared ≡ record self { returned = all_returned self reservers.items })
-            × (u.reservers.items ≡ [])) }
+        ensures no_missing { IfErr result (λ h. ¬ (IsMissing h.error)) }
+        ensures handed_back { IfErr result (λ h. h.error ≢ InUse
+            → (h.value.0 ≡ self) × (h.value.1.items ≡ reservers.items)) }
+        ensures returned { IfErr result (λ h. h.error ≡ InUse
+            → (h.value.0 ≡ record self { returned = all_returned self reservers.items })
+            × (h.value.1.items ≡ [])) }
     {
         if self.missing(&reservers).is_none() {
-            return Err(self.unclosed(reservers, CloseError::OtherPhase));
+            return Err(HandedBack::new((self, reservers), CloseError::OtherPhase));
         }
         self.take_back(reservers);
         match self.end() {
@@ -217,26 +225,13 @@ impl<J: Numbering> Shared<J> {
         Some(most - returned - reservers.len())
     }
 
-    /// The phase goes on, and hands these back.
-    fn unclosed(self, reservers: Vec<Reserver<J>>, error: CloseError) -> Unclosed<J>
-        ensures shared { result.shared ≡ self }
-        ensures reservers { result.reservers.items ≡ reservers.items }
-        ensures error { result.error ≡ error }
-    {
-        Unclosed {
-            shared: self,
-            reservers,
-            error,
-        }
-    }
-
     /// Somebody else owns a part of the phase.
-    fn in_use(self) -> Unclosed<J>
-        ensures shared { result.shared ≡ self }
-        ensures reservers { result.reservers.items ≡ [] }
+    fn in_use(self) -> HandedBack<(Self, Vec<Reserver<J>>), CloseError>
+        ensures shared { result.value.0 ≡ self }
+        ensures reservers { result.value.1.items ≡ [] }
         ensures error { result.error ≡ InUse }
     {
         let none = self.no_reservers();
-        self.unclosed(none, CloseError::InUse)
+        HandedBack::new((self, none), CloseError::InUse)
     }
 }

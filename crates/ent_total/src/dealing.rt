@@ -1,15 +1,15 @@
 //! A world is opened in blocks.
 ghost use Rattle.std.specs.Prelude.{◌≡◌, ◌<◌, ◌↔◌, All, IfOk, IfErr, length};
 ghost use Rattle.ent_blocks.specs.Blocks.{blocks_from, blocks_of};
-ghost use Rattle.ent_blocks.specs.declared.undealt.DealError.TheVariants as failed;
+ghost use Rattle.ent_blocks.specs.declared.deal_error.DealError.TheVariants as failed;
 ghost use Rattle.ent_total.specs.Faults.{IsErrWith};
 ghost use Rattle.ent_world.specs.InBlocks.{world_dealt};
 
 use crate::BlockNumbering;
-use crate::undealt_world::UndealtWorld;
 use crate::world::World;
 use crate::world_in_blocks::WorldInBlocks;
-use ent_blocks::BlockReserver;
+use ent_blocks::{BlockReserver, DealError};
+use ent_handle::HandedBack;
 
 /// A world whose allocator is dealt in blocks, and that has no number yet.
 #[derive(Drop)]
@@ -24,22 +24,22 @@ pub struct WorldDeal<J: BlockNumbering> {
 ///
 /// # Errors
 ///
-/// [`UndealtWorld`] has the world as it was, and [`DealError::NeedsFlush`](ent_blocks::DealError) or
-/// [`DealError::Memory`](ent_blocks::DealError). No sizes take no memory.
+/// [`HandedBack`] has the world as it was, and [`DealError::NeedsFlush`] or [`DealError::Memory`]. No
+/// sizes take no memory.
 pub fn open_in_blocks<J: BlockNumbering>(
     world: World,
     sizes: &[u32],
-) -> Result<WorldDeal<J>, UndealtWorld>
+) -> Result<WorldDeal<J>, HandedBack<World, DealError>>
     ensures of_world { IfOk result (λ d. d.of_world ≡ world.number) }
     ensures spawned { IfOk result (λ d. d.spawned ≡ world.spawned) }
     ensures start { IfOk result (λ d.
         world_dealt d.deal.blocks d.deal.phase d.deal.entities ≡ world.world) }
     ensures blocks { IfOk result (λ d. d.deal.blocks.blocks
         ≡ blocks_from 0 (length world.world.allocator.pool) sizes.now) }
-    ensures needs_flush { IsErrWith result (λ u. u.error ≡ failed.NeedsFlush)
+    ensures needs_flush { IsErrWith result (λ h. h.error ≡ failed.NeedsFlush)
         ↔ (0 < world.world.allocator.asked) }
-    ensures memory { IsErrWith result (λ u. u.error ≡ failed.Memory) → 0 < length sizes.now }
-    ensures handed_back { IfErr result (λ u. u.world ≡ world) }
+    ensures memory { IsErrWith result (λ h. h.error ≡ failed.Memory) → 0 < length sizes.now }
+    ensures handed_back { IfErr result (λ h. h.value ≡ world) }
 {
     let World {
         world,
@@ -58,7 +58,7 @@ pub fn open_in_blocks<J: BlockNumbering>(
                 number,
                 spawned,
             };
-            Err(UndealtWorld { world, error })
+            Err(HandedBack::new(world, error))
         }
     }
 }

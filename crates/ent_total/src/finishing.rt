@@ -5,16 +5,17 @@ ghost use Rattle.ent_shared.specs.Phase.{IsOf};
 ghost use Rattle.ent_total.specs.Faults.{IsErrWith};
 ghost use Rattle.ent_total.specs.Issuing.{MayReturn, reservers_returned, queues_returned, with_returned};
 ghost use Rattle.ent_total.specs.Issuing.{IsClosed, IsClosedLost};
-ghost use Rattle.ent_total.specs.Finishing.{AreMissing, queues_missing};
-ghost use Rattle.ent_total.specs.declared.unfinished.FinishError.TheVariants.{OtherPhase, InUse};
+ghost use Rattle.ent_total.specs.Closing.{IsMissing, count_missing};
+ghost use Rattle.ent_total.specs.declared.close_error.CloseError.TheVariants.{OtherPhase, InUse};
 
+use crate::close_error::CloseError;
 use crate::command_queue::CommandQueue;
 use crate::numbering::Numbering;
 use crate::open_world::{OpenWorld, Parts};
 use crate::queues::Queues;
-use crate::unfinished::{FinishError, Unfinished};
 use crate::world::World;
 use crate::world_returning::are_of;
+use ent_handle::HandedBack;
 use ent_shared::Reserver;
 
 impl<J: Numbering> OpenWorld<J> {
@@ -24,7 +25,7 @@ impl<J: Numbering> OpenWorld<J> {
     /// each queue, however many commands a queue has.
     ///
     /// ```
-    /// use forgeni::{FinishError, World};
+    /// use forgeni::{CloseError, World};
     ///
     /// let (open, mut systems) = World::new().open(2)?;
     /// systems[1].spawn(&[])?;
@@ -32,9 +33,8 @@ impl<J: Numbering> OpenWorld<J> {
     ///
     /// // A queue is missing: the phase goes on, and the other queue comes back.
     /// let last = queues.pop();
-    /// let refused = open.close(queues).unwrap_err();
-    /// assert_eq!(refused.error, FinishError::Missing { count: 1 });
-    /// let (open, mut queues) = (refused.open, refused.queues);
+    /// let ((open, mut queues), error) = open.close(queues).unwrap_err().into_parts();
+    /// assert_eq!(error, CloseError::Missing { count: 1 });
     /// queues.extend(last);
     ///
     /// let (mut world, queues) = open.close(queues)?;
@@ -44,11 +44,14 @@ impl<J: Numbering> OpenWorld<J> {
     ///
     /// # Errors
     ///
-    /// [`Unfinished`] has the phase. It is the first of these that holds:
-    /// [`FinishError::OtherPhase`], [`FinishError::Missing`], and then all queues come back, in
-    /// their order; [`FinishError::InUse`], and then the phase keeps them, as
+    /// [`HandedBack`] has the phase, which goes on, the queues that are handed back, and the first of
+    /// these errors that holds: [`CloseError::OtherPhase`] and [`CloseError::Missing`], with all
+    /// queues handed back in their order; [`CloseError::InUse`], and then the phase keeps them, as
     /// [`close_lost`](OpenWorld::close_lost) does.
-    pub fn close(mut self, queues: Vec<CommandQueue<J>>) -> Result<(World, Queues), Unfinished<J>>
+    pub fn close(
+        mut self,
+        queues: Vec<CommandQueue<J>>,
+    ) -> Result<(World, Queues), HandedBack<(Self, Vec<CommandQueue<J>>), CloseError>>
         ensures world { IfOk result (λ made.
             IsClosed self.world (reservers_returned self queues.items) made.0.world) }
         ensures number { IfOk result (λ made. made.0.number ≡ self.of_world) }
@@ -60,24 +63,25 @@ impl<J: Numbering> OpenWorld<J> {
         ensures may_return { OnOk result (MayReturn self queues.items) }
         ensures all { OnOk result
             (length (reservers_returned self queues.items) ≡ self.world.shared.count) }
-        ensures other_phase { IsErrWith result (λ u. u.error ≡ OtherPhase)
+        ensures other_phase { IsErrWith result (λ h. h.error ≡ OtherPhase)
             ↔ ¬ (MayReturn self queues.items) }
-        ensures missing { IsErrWith result (λ u. AreMissing u.error)
+        ensures missing { IsErrWith result (λ h. IsMissing h.error)
             ↔ (MayReturn self queues.items
             × (length (reservers_returned self queues.items) < self.world.shared.count)) }
-        ensures how_many { IfErr result (λ u. AreMissing u.error
-            → length (reservers_returned self queues.items) + queues_missing u.error
+        ensures how_many { IfErr result (λ h. IsMissing h.error
+            → length (reservers_returned self queues.items) + count_missing h.error
             ≡ self.world.shared.count) }
-        ensures handed_back { IfErr result (λ u. u.error ≢ InUse
-            → (u.open ≡ self) × (u.queues.items ≡ queues.items)) }
-        ensures returned { IfErr result (λ u. u.error ≡ InUse
-            → (u.open ≡ with_returned self queues.items) × (u.queues.items ≡ [])) }
+        ensures handed_back { IfErr result (λ h. h.error ≢ InUse
+            → (h.value.0 ≡ self) × (h.value.1.items ≡ queues.items)) }
+        ensures returned { IfErr result (λ h. h.error ≡ InUse
+            → (h.value.0 ≡ with_returned self queues.items) × (h.value.1.items ≡ [])) }
     {
         let Some(missing) = self.missing(&queues) else {
-            return Err(self.unfinished(queues, FinishError::OtherPhase));
+            return Err(HandedBack::new((self, queues), CloseError::OtherPhase));
         };
         if missing > 0 {
-            return Err(self.unfinished(queues, FinishError::Missing { count: missing }));
+            let error = CloseError::Missing { count: missing };
+            return Err(HandedBack::new((self, queues), error));
         }
         self.take_back(queues);
         match self.end() {
@@ -97,14 +101,14 @@ impl<J: Numbering> OpenWorld<J> {
     ///
     /// # Errors
     ///
-    /// As of [`close`](OpenWorld::close), without `Missing`. With [`FinishError::InUse`] the
+    /// As of [`close`](OpenWorld::close), without `Missing`. With [`CloseError::InUse`] the
     /// `Commands` or the queue of a system exists that wasn't handed in. The phase keeps those that
     /// were, and they stay before those that the next close is given. One that was given to
     /// `core::mem::forget` exists for good.
     pub fn close_lost(
         mut self,
         queues: Vec<CommandQueue<J>>,
-    ) -> Result<(World, Queues), Unfinished<J>>
+    ) -> Result<(World, Queues), HandedBack<(Self, Vec<CommandQueue<J>>), CloseError>>
         ensures world { IfOk result (λ made.
             IsClosedLost self.world (reservers_returned self queues.items) made.0.world) }
         ensures number { IfOk result (λ made. made.0.number ≡ self.of_world) }
@@ -114,16 +118,16 @@ impl<J: Numbering> OpenWorld<J> {
 
         // When it succeeds, when it is refused, and what holds then.
         ensures may_return { OnOk result (MayReturn self queues.items) }
-        ensures other_phase { IsErrWith result (λ u. u.error ≡ OtherPhase)
+        ensures other_phase { IsErrWith result (λ h. h.error ≡ OtherPhase)
             ↔ ¬ (MayReturn self queues.items) }
-        ensures no_missing { IfErr result (λ u. ¬ (AreMissing u.error)) }
-        ensures handed_back { IfErr result (λ u. u.error ≢ InUse
-            → (u.open ≡ self) × (u.queues.items ≡ queues.items)) }
-        ensures returned { IfErr result (λ u. u.error ≡ InUse
-            → (u.open ≡ with_returned self queues.items) × (u.queues.items ≡ [])) }
+        ensures no_missing { IfErr result (λ h. ¬ (IsMissing h.error)) }
+        ensures handed_back { IfErr result (λ h. h.error ≢ InUse
+            → (h.value.0 ≡ self) × (h.value.1.items ≡ queues.items)) }
+        ensures returned { IfErr result (λ h. h.error ≡ InUse
+            → (h.value.0 ≡ with_returned self queues.items) × (h.value.1.items ≡ [])) }
     {
         if self.missing(&queues).is_none() {
-            return Err(self.unfinished(queues, FinishError::OtherPhase));
+            return Err(HandedBack::new((self, queues), CloseError::OtherPhase));
         }
         self.take_back(queues);
         match self.end() {
@@ -150,27 +154,14 @@ impl<J: Numbering> OpenWorld<J> {
         Some(most - returned - queues.len())
     }
 
-    /// That it was not closed, and these queues are handed back.
-    fn unfinished(self, queues: Vec<CommandQueue<J>>, error: FinishError) -> Unfinished<J>
-        ensures phase { result.open ≡ self }
-        ensures queues { result.queues.items ≡ queues.items }
-        ensures error { result.error ≡ error }
-    {
-        Unfinished {
-            open: self,
-            queues,
-            error,
-        }
-    }
-
     /// That somebody else has a part of the phase.
-    fn in_use(self) -> Unfinished<J>
-        ensures phase { result.open ≡ self }
-        ensures queues { result.queues.items ≡ [] }
+    fn in_use(self) -> HandedBack<(Self, Vec<CommandQueue<J>>), CloseError>
+        ensures phase { result.value.0 ≡ self }
+        ensures queues { result.value.1.items ≡ [] }
         ensures error { result.error ≡ InUse }
     {
         let none = self.no_queues();
-        self.unfinished(none, FinishError::InUse)
+        HandedBack::new((self, none), CloseError::InUse)
     }
 }
 

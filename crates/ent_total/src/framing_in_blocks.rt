@@ -2,7 +2,7 @@
 ghost use Rattle.std.specs.Prelude.{◌≡◌, ◌≢◌, ◌<◌, ◌≤◌, ◌^◌, ◌↔◌, ◌⊎◌, [], length, map, All};
 ghost use Rattle.std.specs.Prelude.{IfOk, OnOk, IfErr};
 ghost use Rattle.ent_blocks.specs.Blocks.{blocks_of, unused};
-ghost use Rattle.ent_blocks.specs.declared.unended.EndError.TheVariants as unended;
+ghost use Rattle.ent_blocks.specs.declared.end_error.EndError.TheVariants as unended;
 ghost use Rattle.ent_block_runner.specs.FrameInBlocks.{EndsInBlocks, StopsInBlocks, view_in_blocks};
 ghost use Rattle.ent_block_runner.specs.Queues.{HaveStopped, HaveIssued};
 ghost use Rattle.ent_block_runner.specs.Unframed.{IsWhyUnended};
@@ -19,12 +19,12 @@ use crate::BlockNumbering;
 use crate::queues::Queues;
 use crate::stop::Stop;
 use crate::stopped::Stopped;
-use crate::unended_world::UnendedWorld;
 use crate::unframed::Unframed;
 use crate::world::World;
 use crate::world_in_blocks::WorldInBlocks;
-use ent_block_runner::{SystemInBlocks, Unrun};
+use ent_block_runner::{RunError, SystemInBlocks};
 use ent_blocks::BlockReserver;
+use ent_handle::HandedBack;
 use ent_runner::FrameReport;
 use ent_world::SyncFault;
 use std::alloc::Global;
@@ -67,14 +67,12 @@ use std::thread::Threads;
 ///
 /// # Errors
 ///
-/// [`Unrun`] has the first of these that holds.
+/// [`HandedBack`] has the reservers that are handed back, and the first of these errors that holds.
 ///
-/// - [`RunError::Workers`](ent_block_runner::RunError), [`RunError::Systems`](ent_block_runner::RunError)
-///   if there are more than 65,536, [`RunError::Reservers`](ent_block_runner::RunError),
-///   [`RunError::OtherPhase`](ent_block_runner::RunError),
-///   [`RunError::Memory`](ent_block_runner::RunError): no system ran, and the reservers are handed back
-///   as they were. No systems take no memory.
-/// - [`RunError::Lost`](ent_block_runner::RunError): a system returned an error, or systems are left and
+/// - [`RunError::Workers`], [`RunError::Systems`] if there are more than 65,536, [`RunError::Reservers`],
+///   [`RunError::OtherPhase`], [`RunError::Memory`]: no system ran, and the reservers are handed back as
+///   they were. No systems take no memory.
+/// - [`RunError::Lost`]: a system returned an error, or systems are left and
 ///   no worker has memory for another one. All queues and reservers are dropped:
 ///   [`WorldInBlocks::close_lost`] ends the phase.
 ///
@@ -89,7 +87,7 @@ pub fn fill_in_blocks<R, J: BlockNumbering + Send + Sync, S>(
     reservers: Vec<BlockReserver<J>>,
     systems: &[S],
     workers: usize,
-) -> Result<(Queues, Vec<BlockReserver<J>>), Unrun<J>>
+) -> Result<(Queues, Vec<BlockReserver<J>>), HandedBack<Vec<BlockReserver<J>>, RunError>>
 where
     R: Threads + Sync,
     S: SystemInBlocks<J> + Sync,
@@ -101,28 +99,28 @@ where
     ensures of_world { IfOk result (λ ran. ran.0.world ≡ opened.now.of_world) }
 
     // When the systems are refused, and what is left then.
-    ensures workers { IsErrWith result (λ u. u.error ≡ failed.Workers)
+    ensures workers { IsErrWith result (λ h. h.error ≡ failed.Workers)
         ↔ ((workers ≡ 0) ⊎ (64 < workers)) }
-    ensures systems { IsErrWith result (λ u. u.error ≡ failed.Systems)
+    ensures systems { IsErrWith result (λ h. h.error ≡ failed.Systems)
         ↔ ((0 < workers) × (workers ≤ 64) × (2 ^ 16 < length systems.now)) }
-    ensures reservers { IsErrWith result (λ u. u.error ≡ failed.Reservers)
+    ensures reservers { IsErrWith result (λ h. h.error ≡ failed.Reservers)
         ↔ ((0 < workers) × (workers ≤ 64) × (length systems.now ≤ 2 ^ 16)
         × (length reservers.items ≢ length systems.now)) }
-    ensures other_phase { IsErrWith result (λ u. u.error ≡ failed.OtherPhase)
+    ensures other_phase { IsErrWith result (λ h. h.error ≡ failed.OtherPhase)
         ↔ ((0 < workers) × (workers ≤ 64) × (length systems.now ≤ 2 ^ 16)
         × (length reservers.items ≡ length systems.now)
         × ¬ (All (λ r. r.number ≡ opened.now.world.blocks.number) reservers.items)) }
-    ensures memory_some { IsErrWith result (λ u. u.error ≡ failed.Memory)
+    ensures memory_some { IsErrWith result (λ h. h.error ≡ failed.Memory)
         → 0 < length systems.now }
-    ensures handed_back { IfErr result (λ u. u.error ≢ failed.Lost
-        → u.reservers.items ≡ reservers.items) }
+    ensures handed_back { IfErr result (λ h. h.error ≢ failed.Lost
+        → h.value.items ≡ reservers.items) }
 
     // What is left if the systems were broken off.
-    ensures lost { IsErrWith result (λ u. u.error ≡ failed.Lost) → HaveStopped S.may_issue
+    ensures lost { IsErrWith result (λ h. h.error ≡ failed.Lost) → HaveStopped S.may_issue
         S.may_leave systems.now workers (view_in_blocks opened.now.world)
         opened.now.world.blocks.phase.start (blocks_of reservers.items) }
-    ensures lost_some { IsErrWith result (λ u. u.error ≡ failed.Lost) → 0 < length systems.now }
-    ensures lost_reservers { IfErr result (λ u. u.error ≡ failed.Lost → u.reservers.items ≡ []) }
+    ensures lost_some { IsErrWith result (λ h. h.error ≡ failed.Lost) → 0 < length systems.now }
+    ensures lost_reservers { IfErr result (λ h. h.error ≡ failed.Lost → h.value.items ≡ []) }
 {
     let filled = ent_block_runner::fill_in_blocks(
         rt,
@@ -133,8 +131,10 @@ where
         systems,
         workers,
     );
-    let (queues, reservers) = filled?;
-    Ok((Queues::new(opened.of_world, queues), reservers))
+    match filled {
+        Ok((queues, reservers)) => Ok((Queues::new(opened.of_world, queues), reservers)),
+        Err(unrun) => Err(unrun),
+    }
 }
 
 /// Runs each system once, on that many workers side by side, 1 to 64, each with the reserver at its
@@ -293,7 +293,7 @@ where
             })
         }
         Err(ent_block_runner::Unframed::Unended { unended, queues }) => Err(Unframed::Unended {
-            unended: UnendedWorld::of(unended, of_world, spawned),
+            unended: WorldInBlocks::handed_back(unended, of_world, spawned),
             queues: Queues::new(of_world, queues),
         }),
         Err(

@@ -5,13 +5,14 @@ ghost use Rattle.ent_shared.specs.Phase.{records_of};
 ghost use Rattle.ent_shared.specs.Record.{opened_records};
 ghost use Rattle.ent_total.specs.Faults.{IsErrWith};
 ghost use Rattle.ent_total.specs.Sharing.{AreOf, reservers_of};
-ghost use Rattle.ent_total.specs.declared.unshared.ShareError.TheVariants.{NeedsFlush, Count};
+ghost use Rattle.ent_total.specs.declared.share_error.ShareError.TheVariants.{NeedsFlush, Count};
 
 use crate::numbering::Numbering;
 use crate::reserver::Reserver;
+use crate::share_error::ShareError;
 use crate::shared::Shared;
-use crate::unshared::{ShareError, Unshared};
 use ent_alloc::Entities;
+use ent_handle::HandedBack;
 use std::alloc::Global;
 use std::marker::Model;
 use std::sync::Arc;
@@ -53,41 +54,32 @@ impl<J: Numbering> Model for Opening<J> {
 ///
 /// # Errors
 ///
-/// [`Unshared`] has the error, and the allocator as it was. It is the first of these that holds:
+/// [`HandedBack`] has the allocator as it was, and the first of these errors that holds:
 /// [`ShareError::NeedsFlush`], [`ShareError::Count`], [`ShareError::Memory`].
 pub fn share<J: Numbering>(
     alloc: Global,
     entities: Entities,
     count: usize,
-) -> Result<Opening<J>, Unshared>
+) -> Result<Opening<J>, HandedBack<Entities, ShareError>>
     ensures start { IfOk result (λ o. o.shared.start ≡ entities.allocator) }
     ensures rows { IfOk result (λ o. o.shared.rows ≡ entities.rows) }
     ensures count { IfOk result (λ o. o.shared.count ≡ count) }
     ensures may_return { IfOk result (λ o. records_of o.returned ≡ opened_records entities.allocator 0 count) }
-    ensures needs_flush { IsErrWith result (λ u. u.error ≡ NeedsFlush)
+    ensures needs_flush { IsErrWith result (λ h. h.error ≡ NeedsFlush)
         ↔ (0 < entities.allocator.asked) }
-    ensures no_count { IsErrWith result (λ u. u.error ≡ Count)
+    ensures no_count { IsErrWith result (λ h. h.error ≡ Count)
         ↔ ((entities.allocator.asked ≡ 0) × ((count ≡ 0) ⊎ (1024 < count))) }
-    ensures handed_back { IfErr result (λ u. u.entities ≡ entities) }
+    ensures handed_back { IfErr result (λ h. h.value ≡ entities) }
 {
     if entities.needs_flush() {
-        return Err(Unshared {
-            entities,
-            error: ShareError::NeedsFlush,
-        });
+        return Err(HandedBack::new(entities, ShareError::NeedsFlush));
     }
     if count == 0 || count > CALLERS {
-        return Err(Unshared {
-            entities,
-            error: ShareError::Count,
-        });
+        return Err(HandedBack::new(entities, ShareError::Count));
     }
     match Opening::new(alloc, entities, count) {
         Ok(opening) => Ok(opening),
-        Err(entities) => Err(Unshared {
-            entities,
-            error: ShareError::Memory,
-        }),
+        Err(entities) => Err(HandedBack::new(entities, ShareError::Memory)),
     }
 }
 

@@ -1,11 +1,11 @@
 use crate::BlockNumbering;
 use crate::queues::Queues;
 use crate::stopped::Stopped;
-use crate::unended_world::UnendedWorld;
 use crate::world::World;
 use crate::world_in_blocks::WorldInBlocks;
 use ent_block_runner::RunError;
-use ent_blocks::BlockReserver;
+use ent_blocks::{BlockReserver, EndError};
+use ent_handle::HandedBack;
 use std::error::Error;
 use std::fmt;
 
@@ -26,7 +26,7 @@ pub enum Unframed<J: BlockNumbering> {
     /// [`World::apply`] does the sync point.
     Unended {
         /// The world as it was opened, the reservers, and why it wasn't closed.
-        unended: UnendedWorld<J>,
+        unended: HandedBack<(WorldInBlocks<J>, Vec<BlockReserver<J>>), EndError>,
         /// What the systems issued.
         queues: Queues,
     },

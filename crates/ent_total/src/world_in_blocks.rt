@@ -5,15 +5,15 @@ ghost use Rattle.ent_alloc.specs.Sound.{IsLive};
 ghost use Rattle.ent_handle.specs.Handle.{Handle as HandleValue};
 ghost use Rattle.ent_blocks.specs.Blocks.{blocks_of, unused, are_among, accounted};
 ghost use Rattle.ent_blocks.specs.Faults.{IsMissing};
-ghost use Rattle.ent_blocks.specs.declared.unended.EndError.TheVariants as unended;
+ghost use Rattle.ent_blocks.specs.declared.end_error.EndError.TheVariants as unended;
 ghost use Rattle.ent_total.specs.Faults.{IsErrWith};
 ghost use Rattle.ent_world.specs.InBlocks.{world_dealt, world_after};
 ghost use Rattle.ent_world.specs.World.{IsWorld};
 
 use crate::BlockNumbering;
-use crate::unended_world::UnendedWorld;
 use crate::world::World;
-use ent_blocks::{BlockReserver, Blocks};
+use ent_blocks::{BlockReserver, Blocks, EndError};
+use ent_handle::HandedBack;
 use ent_world::View;
 use std::fmt;
 
@@ -50,15 +50,18 @@ impl<J: BlockNumbering> WorldInBlocks<J> {
     ///
     /// # Errors
     ///
-    /// [`UnendedWorld`] has the world and the reservers as they were, and the first of these that
+    /// [`HandedBack`] has the world and the reservers as they were, and the first of these errors that
     /// holds.
     ///
-    /// - [`EndError::OtherPhase`](ent_blocks::EndError): a reserver is of another phase.
-    /// - [`EndError::Order`](ent_blocks::EndError): the reservers aren't in their order.
-    /// - [`EndError::Missing`](ent_blocks::EndError): some are missing.
+    /// - [`EndError::OtherPhase`]: a reserver is of another phase.
+    /// - [`EndError::Order`]: the reservers aren't in their order.
+    /// - [`EndError::Missing`]: some are missing.
     ///   [`close_lost`](WorldInBlocks::close_lost) ends the phase without them.
-    /// - [`EndError::Memory`](ent_blocks::EndError): memory ran out.
-    pub fn close(self, reservers: Vec<BlockReserver<J>>) -> Result<World, UnendedWorld<J>>
+    /// - [`EndError::Memory`]: memory ran out.
+    pub fn close(
+        self,
+        reservers: Vec<BlockReserver<J>>,
+    ) -> Result<World, HandedBack<(Self, Vec<BlockReserver<J>>), EndError>>
         ensures after { let before = world_dealt self.world.blocks.phase self.world.phase
             self.world.entities in
             IfOk result (λ w. w.world ≡ world_after before (blocks_of reservers.items)) }
@@ -79,22 +82,22 @@ impl<J: BlockNumbering> WorldInBlocks<J> {
         ensures of { OnOk result (All (λ r. r.number ≡ self.world.blocks.number) reservers.items) }
         ensures all { OnOk result
             (map unused (blocks_of reservers.items) ≡ self.world.blocks.phase.blocks) }
-        ensures other_phase { IsErrWith result (λ u. u.error ≡ unended.OtherPhase)
+        ensures other_phase { IsErrWith result (λ h. h.error ≡ unended.OtherPhase)
             ↔ ¬ (All (λ r. r.number ≡ self.world.blocks.number) reservers.items) }
-        ensures order { IsErrWith result (λ u. u.error ≡ unended.Order)
+        ensures order { IsErrWith result (λ h. h.error ≡ unended.Order)
             ↔ (All (λ r. r.number ≡ self.world.blocks.number) reservers.items
             × ¬ (IsTrue (are_among self.world.blocks.phase.blocks (blocks_of reservers.items)))) }
-        ensures missing { IsErrWith result (λ u.
-            IsMissing (length self.world.blocks.phase.blocks - length reservers.items) u.error)
+        ensures missing { IsErrWith result (λ h.
+            IsMissing (length self.world.blocks.phase.blocks - length reservers.items) h.error)
             ↔ (All (λ r. r.number ≡ self.world.blocks.number) reservers.items
             × (IsTrue (are_among self.world.blocks.phase.blocks (blocks_of reservers.items))
             × (length reservers.items < length self.world.blocks.phase.blocks))) }
-        ensures missing_count { IfErr result (λ u. (n : ℕ) → IsMissing n u.error
+        ensures missing_count { IfErr result (λ h. (n : ℕ) → IsMissing n h.error
             → n ≡ length self.world.blocks.phase.blocks - length reservers.items) }
-        ensures memory { IsErrWith result (λ u. u.error ≡ unended.Memory)
+        ensures memory { IsErrWith result (λ h. h.error ≡ unended.Memory)
             → 0 < length self.world.blocks.phase.blocks }
-        ensures handed_back { IfErr result (λ u. (u.world ≡ self)
-            × (u.reservers.items ≡ reservers.items)) }
+        ensures handed_back { IfErr result (λ h. (h.value.0 ≡ self)
+            × (h.value.1.items ≡ reservers.items)) }
     {
         let WorldInBlocks {
             world,
@@ -107,7 +110,7 @@ impl<J: BlockNumbering> WorldInBlocks<J> {
                 number: of_world,
                 spawned,
             }),
-            Err(unended) => Err(UnendedWorld::of(unended, of_world, spawned)),
+            Err(unended) => Err(Self::handed_back(unended, of_world, spawned)),
         }
     }
 
@@ -117,7 +120,10 @@ impl<J: BlockNumbering> WorldInBlocks<J> {
     /// # Errors
     ///
     /// As of [`close`](WorldInBlocks::close), but for the missing ones.
-    pub fn close_lost(self, reservers: Vec<BlockReserver<J>>) -> Result<World, UnendedWorld<J>>
+    pub fn close_lost(
+        self,
+        reservers: Vec<BlockReserver<J>>,
+    ) -> Result<World, HandedBack<(Self, Vec<BlockReserver<J>>), EndError>>
         ensures after { let before = world_dealt self.world.blocks.phase self.world.phase
             self.world.entities in
             IfOk result (λ w. w.world ≡ world_after before
@@ -138,16 +144,16 @@ impl<J: BlockNumbering> WorldInBlocks<J> {
         ensures of { OnOk result (All (λ r. r.number ≡ self.world.blocks.number) reservers.items) }
         ensures among { OnOk result
             (IsTrue (are_among self.world.blocks.phase.blocks (blocks_of reservers.items))) }
-        ensures other_phase { IsErrWith result (λ u. u.error ≡ unended.OtherPhase)
+        ensures other_phase { IsErrWith result (λ h. h.error ≡ unended.OtherPhase)
             ↔ ¬ (All (λ r. r.number ≡ self.world.blocks.number) reservers.items) }
-        ensures order { IsErrWith result (λ u. u.error ≡ unended.Order)
+        ensures order { IsErrWith result (λ h. h.error ≡ unended.Order)
             ↔ (All (λ r. r.number ≡ self.world.blocks.number) reservers.items
             × ¬ (IsTrue (are_among self.world.blocks.phase.blocks (blocks_of reservers.items)))) }
-        ensures no_missing { IfErr result (λ u. (n : ℕ) → ¬ (IsMissing n u.error)) }
-        ensures memory { IsErrWith result (λ u. u.error ≡ unended.Memory)
+        ensures no_missing { IfErr result (λ h. (n : ℕ) → ¬ (IsMissing n h.error)) }
+        ensures memory { IsErrWith result (λ h. h.error ≡ unended.Memory)
             → 0 < length self.world.blocks.phase.blocks }
-        ensures handed_back { IfErr result (λ u. (u.world ≡ self)
-            × (u.reservers.items ≡ reservers.items)) }
+        ensures handed_back { IfErr result (λ h. (h.value.0 ≡ self)
+            × (h.value.1.items ≡ reservers.items)) }
     {
         let WorldInBlocks {
             world,
@@ -160,8 +166,29 @@ impl<J: BlockNumbering> WorldInBlocks<J> {
                 number: of_world,
                 spawned,
             }),
-            Err(unended) => Err(UnendedWorld::of(unended, of_world, spawned)),
+            Err(unended) => Err(Self::handed_back(unended, of_world, spawned)),
         }
+    }
+
+    /// What the world below hands back, with the number of its world and how many entities were
+    /// spawned in it.
+    pub(crate) fn handed_back(
+        back: HandedBack<(ent_world::WorldInBlocks<J>, Vec<BlockReserver<J>>), EndError>,
+        of_world: u64,
+        spawned: u32,
+    ) -> HandedBack<(Self, Vec<BlockReserver<J>>), EndError>
+        ensures world { result.value.0
+            ≡ record { world = back.value.0; of_world = of_world; spawned = spawned } }
+        ensures reservers { result.value.1.items ≡ back.value.1.items }
+        ensures error { result.error ≡ back.error }
+    {
+        let ((world, reservers), error) = back.into_parts();
+        let world = WorldInBlocks {
+            world,
+            of_world,
+            spawned,
+        };
+        HandedBack::new((world, reservers), error)
     }
 }
 

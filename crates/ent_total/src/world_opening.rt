@@ -5,15 +5,15 @@ ghost use Rattle.ent_shared.specs.Phase.{records_of};
 ghost use Rattle.ent_shared.specs.Record.{opened_records};
 ghost use Rattle.ent_total.specs.Faults.{IsErrWith};
 ghost use Rattle.ent_total.specs.Issuing.{AreNew, issuing};
-ghost use Rattle.ent_total.specs.declared.unshared.ShareError.TheVariants.{NeedsFlush, Count};
+ghost use Rattle.ent_total.specs.declared.share_error.ShareError.TheVariants.{NeedsFlush, Count};
 
 use crate::commands::Commands;
 use crate::numbering::Numbering;
 use crate::open_world::OpenWorld;
 use crate::opening::CALLERS;
-use crate::unopened::Unopened;
-use crate::unshared::ShareError;
+use crate::share_error::ShareError;
 use crate::world::World;
+use ent_handle::HandedBack;
 use ent_shared::Reserver;
 use std::alloc::Global;
 use std::marker::Model;
@@ -67,13 +67,13 @@ impl<J: Numbering> Model for WorldOpening<J> {
 ///
 /// # Errors
 ///
-/// [`Unopened`] has the error, and the world as it was. It is the first of these that holds:
+/// [`HandedBack`] has the world as it was, and the first of these errors that holds:
 /// [`ShareError::NeedsFlush`], [`ShareError::Count`], [`ShareError::Memory`].
 pub fn open<J: Numbering>(
     alloc: Global,
     world: World,
     count: usize,
-) -> Result<WorldOpening<J>, Unopened>
+) -> Result<WorldOpening<J>, HandedBack<World, ShareError>>
     ensures of_world { IfOk result (λ o. o.of_world ≡ world.number) }
     ensures spawned { IfOk result (λ o. o.spawned ≡ world.spawned) }
     ensures shared { IfOk result (λ o. (o.world.shared.start ≡ world.world.allocator)
@@ -82,23 +82,17 @@ pub fn open<J: Numbering>(
         × (o.world.entities ≡ world.world.entities)) }
     ensures may_return { IfOk result (λ o.
         records_of o.returned ≡ opened_records world.world.allocator 0 count) }
-    ensures needs_flush { IsErrWith result (λ u. u.error ≡ NeedsFlush)
+    ensures needs_flush { IsErrWith result (λ h. h.error ≡ NeedsFlush)
         ↔ (0 < world.world.allocator.asked) }
-    ensures no_count { IsErrWith result (λ u. u.error ≡ Count)
+    ensures no_count { IsErrWith result (λ h. h.error ≡ Count)
         ↔ ((world.world.allocator.asked ≡ 0) × ((count ≡ 0) ⊎ (1024 < count))) }
-    ensures handed_back { IfErr result (λ u. u.world ≡ world) }
+    ensures handed_back { IfErr result (λ h. h.value ≡ world) }
 {
     if world.needs_flush() {
-        return Err(Unopened {
-            world,
-            error: ShareError::NeedsFlush,
-        });
+        return Err(HandedBack::new(world, ShareError::NeedsFlush));
     }
     if count == 0 || count > CALLERS {
-        return Err(Unopened {
-            world,
-            error: ShareError::Count,
-        });
+        return Err(HandedBack::new(world, ShareError::Count));
     }
     let World {
         world,
@@ -107,14 +101,14 @@ pub fn open<J: Numbering>(
     } = world;
     match WorldOpening::new(alloc, world, count, number, spawned) {
         Ok(opening) => Ok(opening),
-        Err(world) => Err(Unopened {
-            world: World {
+        Err(world) => {
+            let world = World {
                 world,
                 number,
                 spawned,
-            },
-            error: ShareError::Memory,
-        }),
+            };
+            Err(HandedBack::new(world, ShareError::Memory))
+        }
     }
 }
 

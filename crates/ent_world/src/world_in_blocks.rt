@@ -5,8 +5,8 @@ ghost use Rattle.ent_alloc.specs.Sound.{IsLive};
 ghost use Rattle.ent_handle.specs.Handle.{Handle as HandleValue};
 ghost use Rattle.ent_blocks.specs.Blocks.{blocks_of, blocks_from, unused, are_among, accounted};
 ghost use Rattle.ent_blocks.specs.Faults.{IsErrWith, IsMissing};
-ghost use Rattle.ent_blocks.specs.declared.undealt.DealError.TheVariants as failed;
-ghost use Rattle.ent_blocks.specs.declared.unended.EndError.TheVariants as unended;
+ghost use Rattle.ent_blocks.specs.declared.deal_error.DealError.TheVariants as failed;
+ghost use Rattle.ent_blocks.specs.declared.end_error.EndError.TheVariants as unended;
 ghost use Rattle.ent_world.specs.World.{IsWorld};
 ghost use Rattle.ent_world.specs.InBlocks.{world_dealt, world_after};
 
@@ -15,6 +15,7 @@ use crate::view::View;
 use crate::world::World;
 use ent_alloc::Entities;
 use ent_blocks::{BlockReserver, Blocks, Deal, DealError, EndError, open_in_blocks};
+use ent_handle::HandedBack;
 use ent_storage::Storage;
 use std::alloc::Global;
 use std::marker::Model;
@@ -98,17 +99,6 @@ impl<J: BlockNumbering> Model for WorldInBlocks<J> {
     } };
 
     ghost invariant = { λ w. IsKeptInBlocks w.blocks.phase w.phase w.storage };
-}
-
-/// A world in blocks that was not closed, and goes on.
-#[derive(Drop)]
-pub struct UnendedWorld<J: BlockNumbering> {
-    /// The world as it was.
-    pub world: WorldInBlocks<J>,
-    /// All the reservers that were handed in, as they were.
-    pub reservers: Vec<BlockReserver<J>>,
-    /// Why it was not closed.
-    pub error: EndError,
 }
 
 impl World {
@@ -276,7 +266,10 @@ impl<J: BlockNumbering> WorldInBlocks<J> {
     /// # Errors
     ///
     /// As of [`Blocks::close`], with the world and the reservers as they were.
-    pub fn close(self, reservers: Vec<BlockReserver<J>>) -> Result<World, UnendedWorld<J>>
+    pub fn close(
+        self,
+        reservers: Vec<BlockReserver<J>>,
+    ) -> Result<World, HandedBack<(Self, Vec<BlockReserver<J>>), EndError>>
         ensures after { let before = world_dealt self.blocks.phase self.phase self.entities in
             IfOk result (λ w. w ≡ world_after before (blocks_of reservers.items)) }
         ensures world { IfOk result IsWorld }
@@ -294,22 +287,22 @@ impl<J: BlockNumbering> WorldInBlocks<J> {
         ensures of { OnOk result (All (λ r. r.number ≡ self.blocks.number) reservers.items) }
         ensures all { OnOk result
             (map unused (blocks_of reservers.items) ≡ self.blocks.phase.blocks) }
-        ensures other_phase { IsErrWith result (λ u. u.error ≡ unended.OtherPhase)
+        ensures other_phase { IsErrWith result (λ h. h.error ≡ unended.OtherPhase)
             ↔ ¬ (All (λ r. r.number ≡ self.blocks.number) reservers.items) }
-        ensures order { IsErrWith result (λ u. u.error ≡ unended.Order)
+        ensures order { IsErrWith result (λ h. h.error ≡ unended.Order)
             ↔ (All (λ r. r.number ≡ self.blocks.number) reservers.items
             × ¬ (IsTrue (are_among self.blocks.phase.blocks (blocks_of reservers.items)))) }
-        ensures missing { IsErrWith result (λ u.
-            IsMissing (length self.blocks.phase.blocks - length reservers.items) u.error)
+        ensures missing { IsErrWith result (λ h.
+            IsMissing (length self.blocks.phase.blocks - length reservers.items) h.error)
             ↔ (All (λ r. r.number ≡ self.blocks.number) reservers.items
             × (IsTrue (are_among self.blocks.phase.blocks (blocks_of reservers.items))
             × (length reservers.items < length self.blocks.phase.blocks))) }
-        ensures missing_count { IfErr result (λ u. (n : ℕ) → IsMissing n u.error
+        ensures missing_count { IfErr result (λ h. (n : ℕ) → IsMissing n h.error
             → n ≡ length self.blocks.phase.blocks - length reservers.items) }
-        ensures memory { IsErrWith result (λ u. u.error ≡ unended.Memory)
+        ensures memory { IsErrWith result (λ h. h.error ≡ unended.Memory)
             → 0 < length self.blocks.phase.blocks }
-        ensures handed_back { IfErr result (λ u. (u.world ≡ self)
-            × (u.reservers.items ≡ reservers.items)) }
+        ensures handed_back { IfErr result (λ h. (h.value.0 ≡ self)
+            × (h.value.1.items ≡ reservers.items)) }
     {
         let WorldInBlocks {
             blocks,
@@ -329,18 +322,14 @@ impl<J: BlockNumbering> WorldInBlocks<J> {
                 })
             }
             Err(unended) => {
-                let (blocks, reservers, error) = unended.into_parts();
+                let ((blocks, reservers), error) = unended.into_parts();
                 let world = WorldInBlocks {
                     blocks,
                     storage,
                     phase,
                     alloc,
                 };
-                Err(UnendedWorld {
-                    world,
-                    reservers,
-                    error,
-                })
+                Err(HandedBack::new((world, reservers), error))
             }
         }
     }
@@ -351,7 +340,10 @@ impl<J: BlockNumbering> WorldInBlocks<J> {
     /// # Errors
     ///
     /// As of [`Blocks::close_lost`], with the world and the reservers as they were.
-    pub fn close_lost(self, reservers: Vec<BlockReserver<J>>) -> Result<World, UnendedWorld<J>>
+    pub fn close_lost(
+        self,
+        reservers: Vec<BlockReserver<J>>,
+    ) -> Result<World, HandedBack<(Self, Vec<BlockReserver<J>>), EndError>>
         ensures after { let before = world_dealt self.blocks.phase self.phase self.entities in
             IfOk result (λ w. w ≡ world_after before
             (accounted self.blocks.phase.blocks (blocks_of reservers.items))) }
@@ -369,16 +361,16 @@ impl<J: BlockNumbering> WorldInBlocks<J> {
         ensures of { OnOk result (All (λ r. r.number ≡ self.blocks.number) reservers.items) }
         ensures among { OnOk result
             (IsTrue (are_among self.blocks.phase.blocks (blocks_of reservers.items))) }
-        ensures other_phase { IsErrWith result (λ u. u.error ≡ unended.OtherPhase)
+        ensures other_phase { IsErrWith result (λ h. h.error ≡ unended.OtherPhase)
             ↔ ¬ (All (λ r. r.number ≡ self.blocks.number) reservers.items) }
-        ensures order { IsErrWith result (λ u. u.error ≡ unended.Order)
+        ensures order { IsErrWith result (λ h. h.error ≡ unended.Order)
             ↔ (All (λ r. r.number ≡ self.blocks.number) reservers.items
             × ¬ (IsTrue (are_among self.blocks.phase.blocks (blocks_of reservers.items)))) }
-        ensures no_missing { IfErr result (λ u. (n : ℕ) → ¬ (IsMissing n u.error)) }
-        ensures memory { IsErrWith result (λ u. u.error ≡ unended.Memory)
+        ensures no_missing { IfErr result (λ h. (n : ℕ) → ¬ (IsMissing n h.error)) }
+        ensures memory { IsErrWith result (λ h. h.error ≡ unended.Memory)
             → 0 < length self.blocks.phase.blocks }
-        ensures handed_back { IfErr result (λ u. (u.world ≡ self)
-            × (u.reservers.items ≡ reservers.items)) }
+        ensures handed_back { IfErr result (λ h. (h.value.0 ≡ self)
+            × (h.value.1.items ≡ reservers.items)) }
     {
         let WorldInBlocks {
             blocks,
@@ -397,18 +389,14 @@ impl<J: BlockNumbering> WorldInBlocks<J> {
                 })
             }
             Err(unended) => {
-                let (blocks, reservers, error) = unended.into_parts();
+                let ((blocks, reservers), error) = unended.into_parts();
                 let world = WorldInBlocks {
                     blocks,
                     storage,
                     phase,
                     alloc,
                 };
-                Err(UnendedWorld {
-                    world,
-                    reservers,
-                    error,
-                })
+                Err(HandedBack::new((world, reservers), error))
             }
         }
     }

@@ -163,11 +163,13 @@ impl Game {
         self.sync(logs)
     }
 
-    /// Brings to life what was spawned, and runs the commands. The first that fails ends the game.
+    /// Brings to life what was spawned, and runs the commands. The first that fails ends the game, and
+    /// so does a spawn that was refused.
     fn sync(&mut self, mut logs: Vec<Log<Command>>) -> Result<(), Box<dyn Error>> {
         let mut sync = SyncPoint::begin(&mut self.entities, &mut logs, &mut Vec::new())?;
         sync.apply(&mut self.entities, |entities, entry| match entry {
             Entry::Spawn(_) => Ok(()),
+            Entry::Refused(why) => Err((entry, why.into())),
             Entry::Command(command) => {
                 let done = self.parts.run(entities, command);
                 done.map_err(|error| (entry, error))

@@ -10,7 +10,7 @@
 //! It prints
 //!
 //! ```text
-//! 10000 frames on 1 worker: 422470 entities spawned, digest 7d675c16a4bf099f
+//! 10000 frames on 1 worker: 422470 spawns, 0 refused, digest 7d675c16a4bf099f
 //! on 4 workers: the same digest after each frame
 //! on 8 workers: the same digest after each frame
 //! 72 frames played again: the same digests
@@ -60,7 +60,7 @@ fn spawn(
 ) -> std::result::Result<(), OutOfMemory> {
     match commands.spawn() {
         Ok(new) => commands.push(Command::Change(new, energy)),
-        // A block that is used up refuses, and it does so on every machine.
+        // A block that is used up refuses, and it does so on every machine. The sync point counts it.
         Err(refused) => refused.or_memory(),
     }
 }
@@ -73,6 +73,7 @@ struct Game {
     /// How many handles each system's block has in the next frame.
     sizes: [BlockSize; SYSTEMS],
     spawned: u64,
+    refused: u64,
 }
 
 impl Game {
@@ -83,6 +84,7 @@ impl Game {
             energy: HandleMap::new(),
             sizes: [BlockSize::new(4096); SYSTEMS],
             spawned: 0,
+            refused: 0,
         };
         for seed in 0..MANY {
             let one = game.entities.alloc()?;
@@ -139,9 +141,13 @@ impl Game {
         let mut born = Vec::new();
         let mut sync = SyncPoint::begin(&mut self.entities, &mut logs, &mut born)?;
         self.spawned += born.len() as u64;
-        let energies = &mut self.energy;
+        let (energies, refused) = (&mut self.energy, &mut self.refused);
         sync.apply(&mut self.entities, |entities, entry| match entry {
             Entry::Spawn(_) => Ok(()),
+            Entry::Refused(_) => {
+                *refused += 1;
+                Ok(())
+            }
             Entry::Command(Command::Change(one, energy)) => match energies.insert(one, energy) {
                 Ok(_) => Ok(()),
                 Err(error) => Err((entry, error.into())),
@@ -257,8 +263,10 @@ fn play_world(workers: usize) -> Result<Vec<Vec<u8>>> {
 
 fn main() -> Result<()> {
     let (first, game, again) = play(1)?;
-    let (spawned, last) = (game.spawned, game.digest());
-    println!("{FRAMES} frames on 1 worker: {spawned} entities spawned, digest {last:016x}");
+    let (spawned, refused, last) = (game.spawned, game.refused, game.digest());
+    println!(
+        "{FRAMES} frames on 1 worker: {spawned} spawns, {refused} refused, digest {last:016x}"
+    );
     for workers in [4, 8] {
         let (digests, ..) = play(workers)?;
         for (frame, (one, other)) in first.iter().zip(&digests).enumerate() {

@@ -1,15 +1,13 @@
 //! An allocator whose pool is dealt to callers in blocks, so that their handles don't depend on threads.
 
-use crate::errors::fails;
 use crate::numbers::next_number;
-use crate::proved::ent_block_runner::Unrun;
 use crate::proved::ent_blocks::open_in_blocks;
 use crate::shown::shows;
-use crate::Entities;
+use crate::{Entities, HandedBack};
 use alloc::vec::Vec;
 
 pub use crate::proved::ent_blocks::{BlockError, BlockReserver, BlockSize, Blocks};
-pub use crate::proved::ent_blocks::{DealError, EndError, Undealt, Unended};
+pub use crate::proved::ent_blocks::{DealError, EndError};
 
 impl Entities {
     /// Deals the handles that would be given next to callers, in blocks of these sizes: each caller gets
@@ -48,9 +46,12 @@ impl Entities {
     ///
     /// # Errors
     ///
-    /// [`Undealt`] has the error, and the allocator as it was: [`DealError::NeedsFlush`], or
+    /// [`HandedBack`] has the allocator as it was, and [`DealError::NeedsFlush`] or
     /// [`DealError::Memory`].
-    pub fn open_in_blocks(self, sizes: &[u32]) -> Result<(Blocks, Vec<BlockReserver>), Undealt> {
+    pub fn open_in_blocks(
+        self,
+        sizes: &[u32],
+    ) -> Result<(Blocks, Vec<BlockReserver>), HandedBack<Entities, DealError>> {
         Ok(open_in_blocks(self, sizes)?.numbered(next_number()))
     }
 }
@@ -58,11 +59,4 @@ impl Entities {
 shows! {
     Blocks: count;
     BlockReserver: size used;
-}
-
-fails! {
-    finish;
-    Undealt: entities error;
-    Unended: blocks reservers error;
-    Unrun: reservers error;
 }

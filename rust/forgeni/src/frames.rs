@@ -1,17 +1,16 @@
 //! Frames: systems run on workers over one world or one allocator, and a sync point takes what they issued.
 
-use crate::errors::fails;
 use crate::guarding::{caught, guarded};
 use crate::proved::ent_runner::NoGate;
 use crate::proved::ent_total;
-use crate::{Entities, Handle, Log, LogSystem, Report, SyncPoint, System, World};
+use crate::{Entities, HandedBack, Handle, Log, LogSystem, Report, SyncPoint, System, World};
 use alloc::vec::Vec;
 
 pub use crate::kit::thread::{StdThreads, Threads as Join};
-pub use crate::proved::ent_block_runner::{run_in_blocks, RunError, Unrun};
+pub use crate::proved::ent_block_runner::{run_in_blocks, RunError};
 pub use crate::proved::ent_runner::FrameReport;
 pub use crate::proved::ent_total::{fill_in_blocks, run_frame_in_blocks};
-pub use crate::proved::ent_total::{FrameError, LogError, Unbegun, Unframed};
+pub use crate::proved::ent_total::{FrameError, LogError, Unframed};
 
 /// Runs each system once, on that many workers side by side, and then the sync point. It returns
 /// the report of the sync point.
@@ -153,7 +152,7 @@ pub fn run_frame_on<J: Join + Sync, S: System + Sync>(
 /// ```
 /// # #[cfg(feature = "std")] {
 /// use forgeni::{run_logs, Entities, Handle, HandleMap, LogCommands, OutOfMemory, SyncPoint};
-/// use forgeni::Entry::{Command, Spawn};
+/// use forgeni::Entry::{Command, Refused, Spawn};
 /// use std::sync::Mutex;
 ///
 /// type Systems<'a> = [Mutex<Box<dyn FnMut(&mut Names<'_>) -> Result<(), OutOfMemory> + Send + 'a>>; 2];
@@ -163,7 +162,7 @@ pub fn run_frame_on<J: Join + Sync, S: System + Sync>(
 /// let systems: Systems<'_> = [
 ///     Mutex::new(Box::new(|commands| match commands.spawn() {
 ///         Ok(cart) => commands.push((cart, "cart")),
-///         // There may be none left.
+///         // There may be none left. The log has that, and the system goes on.
 ///         Err(refused) => refused.or_memory(),
 ///     })),
 ///     Mutex::new(Box::new(|_| Ok(calls += 1))),
@@ -171,14 +170,18 @@ pub fn run_frame_on<J: Join + Sync, S: System + Sync>(
 /// let mut logs = run_logs(&mut entities, &systems, 2)?;
 /// drop(systems);
 ///
-/// let mut born = Vec::new();
+/// let (mut born, mut refused) = (Vec::new(), 0);
 /// SyncPoint::begin(&mut entities, &mut logs, &mut born)?.apply(&mut entities, |_, entry| {
-///     if let Command((one, name)) = entry {
-///         names.insert(one, name).map_err(|refused| (entry, refused))?;
+///     match entry {
+///         Spawn(_) => {}
+///         Refused(_) => refused += 1,
+///         Command((one, name)) => {
+///             names.insert(one, name).map_err(|error| (entry, error))?;
+///         }
 ///     }
 ///     Ok(())
 /// })?;
-/// assert_eq!((names[born[0]], calls), ("cart", 1));
+/// assert_eq!((names[born[0]], calls, refused), ("cart", 1, 0));
 /// # }
 /// # Ok::<(), Box<dyn std::error::Error>>(())
 /// ```
@@ -250,26 +253,28 @@ pub fn run_logs_on<J: Join + Sync, C: Send, S: LogSystem<C> + Sync>(
 /// }
 ///
 /// let (mut entities, mut born, mut said) = (Entities::new(), Vec::new(), Vec::new());
+/// let mut refused = 0;
 /// let systems: [fn(&mut LogCommands<'_, &'static str>) -> _; 3] = [launch; 3];
 /// let mut sync = run_to_sync_point(&StdThreads, &mut entities, &systems, 2, &mut born)?;
 /// sync.apply(&mut entities, |entities, entry| {
 ///     match entry {
 ///         Entry::Spawn(one) => assert!(entities.is_alive(one)),
+///         Entry::Refused(_) => refused += 1,
 ///         Entry::Command(word) => said.push(word),
 ///     }
 ///     Ok::<(), (Entry<&str>, OutOfMemory)>(())
 /// })?;
-/// assert_eq!((born.len(), said), (3, vec!["ready"; 3]));
+/// assert_eq!((born.len(), refused, said), (3, 0, vec!["ready"; 3]));
 /// # Ok::<(), Box<dyn std::error::Error>>(())
 /// ```
 ///
 /// # Errors
 ///
-/// [`Unbegun`] has the error. `born` is as it was.
+/// [`HandedBack`] has the logs that the sync point did not take, and the error. `born` is as it was.
 ///
 /// - Those of [`run_logs`]. There are no logs.
 /// - [`Unborn`](LogError::Unborn): all systems ran, and there is no memory for what is born. What they
-///   reserved stays reserved, and the error has their logs, for [`SyncPoint::begin`].
+///   reserved stays reserved, and the logs are those of all systems, for [`SyncPoint::begin`].
 ///
 /// # Panics
 ///
@@ -282,15 +287,9 @@ pub fn run_to_sync_point<J: Join + Sync, C: Send, S: LogSystem<C> + Sync>(
     systems: &[S],
     workers: usize,
     born: &mut Vec<Handle>,
-) -> Result<SyncPoint<C>, Unbegun<C>> {
-    let memory = Unbegun::without_logs(LogError::Memory);
+) -> Result<SyncPoint<C>, HandedBack<Vec<Log<C>>, LogError>> {
+    let memory = HandedBack::new(Vec::new(), LogError::Memory);
     guarded(join, systems, memory, |join, systems| {
         caught(|| ent_total::run_to_sync_point(join, entities, systems, workers, born))
     })
-}
-
-// Without the logs, whose commands need not be ones that can be printed.
-fails! {
-    finish_non_exhaustive;
-    Unbegun<C>: error;
 }

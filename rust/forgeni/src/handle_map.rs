@@ -8,7 +8,6 @@ use alloc::alloc::handle_alloc_error;
 use alloc::vec;
 use core::alloc::Layout;
 use core::fmt;
-use core::hash::{Hash, Hasher};
 use core::ops::{Index, IndexMut};
 
 use crate::proved::ent_storage::sparse_map::{Iter as SparseIter, SparseMap};
@@ -69,7 +68,7 @@ macro_rules! traits_of_a_map {
                 &mut self,
                 handle: Handle,
                 make: impl FnOnce() -> T,
-            ) -> Result<&mut T, Uninserted<T>> {
+            ) -> Result<&mut T, HandedBack<T, InsertError>> {
                 self.entry(handle).or_insert_with(make)
             }
 
@@ -215,19 +214,3 @@ walks!(debug_map: Iter<'_, T>, T: fmt::Debug);
 walks!(debug_map: SparseIter<'_, T>, T: fmt::Debug);
 walks!(debug_list: Keys<'_, T>, T);
 walks!(debug_list: Values<'_, T>, T: fmt::Debug);
-
-/// The value that a map refused, and why.
-pub type Uninserted<T> = HandedBack<T, InsertError>;
-
-impl<T: Hash, E: Hash> Hash for HandedBack<T, E> {
-    fn hash<H: Hasher>(&self, state: &mut H) {
-        (self.value(), self.error()).hash(state);
-    }
-}
-
-/// Drops the value.
-impl<T> From<Uninserted<T>> for InsertError {
-    fn from(refused: Uninserted<T>) -> Self {
-        refused.into_parts().1
-    }
-}

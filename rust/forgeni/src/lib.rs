@@ -69,15 +69,15 @@ pub use entities::{Entities, Freed, Living, State};
 pub use errors::*;
 pub use frames::*;
 pub use handle::{Handle, ParseHandleError};
-pub use handle_map::{HandleMap, InsertError, Uninserted};
+pub use handle_map::{HandleMap, InsertError};
 pub use lent::Lent;
 pub use log::{BeginError, Entry, Log, Reserves, SyncPoint};
 #[cfg(feature = "rayon")]
 pub use on_rayon::Rayon;
 pub use proved::ent_alloc::Limits;
 #[cfg(feature = "std")]
-pub use reservers::{Lends, Reservers, Unpooled};
-pub use sharing::{CloseError, OtherPhase, Reserver, ShareError, Shared, Unclosed, Unshared};
+pub use reservers::{Lends, Reservers};
+pub use sharing::{CloseError, OtherPhase, Reserver, ShareError, Shared};
 pub use sparse_map::SparseMap;
 pub use storage::{Bundle, Items, Storage, StorageError};
 pub use sync::{Fault, FaultKind, GoOnError, Queues, Report, Stop, Stopped, SyncError};

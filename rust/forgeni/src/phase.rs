@@ -2,8 +2,8 @@
 
 use crate::lending::Lending;
 use crate::lent::Lent;
-use crate::sharing::{Reserver, ShareError, Shared, Unshared};
-use crate::Entities;
+use crate::sharing::{Reserver, ShareError, Shared};
+use crate::{Entities, HandedBack};
 use alloc::vec::Vec;
 
 impl Entities {
@@ -66,7 +66,7 @@ impl Entities {
     ) -> Result<T, ShareError> {
         let mut lending = Lending::begin(
             self,
-            |entities| entities.share(callers).map_err(Unshared::into_parts),
+            |entities| entities.share(callers).map_err(HandedBack::into_parts),
             closed,
         )?;
         let (shared, reservers) = lending.parts();

@@ -1,11 +1,10 @@
 //! A pool of reservers, for threads that come and go.
 
-use crate::errors::fails;
 use crate::lent::Lent;
 use crate::sharing::Reserver;
 use crate::shown::shows;
 use crate::waiting::Waiting;
-use crate::OutOfMemory;
+use crate::{HandedBack, OutOfMemory};
 use alloc::vec::Vec;
 use core::sync::atomic::{AtomicUsize, Ordering};
 use std::sync::{Mutex, MutexGuard, PoisonError, TryLockError};
@@ -116,8 +115,8 @@ impl<R: Lends> Reservers<R> {
     ///
     /// # Errors
     ///
-    /// [`Unpooled`] if there is no memory for the list of them. It has all of them.
-    pub fn new<I>(reservers: I) -> Result<Self, Unpooled<I::IntoIter>>
+    /// [`HandedBack`] has all of them, if there is no memory for the list of them.
+    pub fn new<I>(reservers: I) -> Result<Self, HandedBack<I::IntoIter, OutOfMemory>>
     where
         I: IntoIterator<Item = R>,
         I::IntoIter: ExactSizeIterator,
@@ -125,8 +124,7 @@ impl<R: Lends> Reservers<R> {
         let reservers = reservers.into_iter();
         let mut places = Vec::new();
         if places.try_reserve_exact(reservers.len()).is_err() {
-            let error = OutOfMemory;
-            return Err(Unpooled { reservers, error });
+            return Err(HandedBack::new(reservers, OutOfMemory));
         }
         places.extend(reservers.map(|reserver| Place(Mutex::new(reserver))));
         let waiting = Waiting::new();
@@ -236,35 +234,6 @@ fn own_number() -> usize {
     thread_local!(static OWN: usize = NEXT.fetch_add(1, Ordering::Relaxed));
     // A thread that ends has none any more.
     OWN.try_with(|own| *own).unwrap_or(0)
-}
-
-/// Reservers of which there is no pool.
-pub struct Unpooled<I> {
-    /// All of them, as they were handed in.
-    pub reservers: I,
-    /// Why there is none.
-    pub error: OutOfMemory,
-}
-
-impl<I> Unpooled<I> {
-    /// All reservers, and why there is no pool of them.
-    #[must_use]
-    pub fn into_parts(self) -> (I, OutOfMemory) {
-        (self.reservers, self.error)
-    }
-}
-
-// Without the reservers, which need not be such that can be printed.
-fails! {
-    finish_non_exhaustive;
-    Unpooled<I>: error;
-}
-
-/// Drops the reservers, or what lends them.
-impl<I> From<Unpooled<I>> for OutOfMemory {
-    fn from(refused: Unpooled<I>) -> Self {
-        refused.error
-    }
 }
 
 shows! {

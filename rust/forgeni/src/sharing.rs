@@ -1,15 +1,13 @@
 //! An allocator that many threads reserve from at once.
 
-use crate::errors::fails;
 use crate::numbers::next_number;
 use crate::phase::closed;
 use crate::proved::ent_total::share;
 use crate::shown::shows;
-use crate::Entities;
+use crate::{Entities, HandedBack};
 use alloc::vec::Vec;
 
-pub use crate::proved::ent_total::{CloseError, OtherPhase, Reserver, ShareError};
-pub use crate::proved::ent_total::{Shared, Unclosed, Unshared};
+pub use crate::proved::ent_total::{CloseError, OtherPhase, Reserver, ShareError, Shared};
 
 impl Entities {
     /// Shares the allocator among `callers` reservers, 1 to 1,024, each of which may go to a thread
@@ -41,29 +39,25 @@ impl Entities {
     ///
     /// # Errors
     ///
-    /// [`Unshared`] has the error, and the allocator as it was. The error is the first of these that
-    /// holds: [`ShareError::NeedsFlush`], [`ShareError::Count`], [`ShareError::Memory`].
+    /// [`HandedBack`] has the allocator as it was, and the first of these errors that holds:
+    /// [`ShareError::NeedsFlush`], [`ShareError::Count`], [`ShareError::Memory`].
     ///
     /// # Aborts
     ///
     /// Rust's `Arc` ends the process if memory runs out. So as much memory is asked for before, and the
     /// process ends only if another thread takes it in between.
-    pub fn share(self, callers: usize) -> Result<(Shared, Vec<Reserver>), Unshared> {
+    pub fn share(
+        self,
+        callers: usize,
+    ) -> Result<(Shared, Vec<Reserver>), HandedBack<Entities, ShareError>> {
         let opening = share(self, callers)?;
-        opening.numbered(next_number()).map_err(|phase| Unshared {
-            entities: closed(phase),
-            error: ShareError::Memory,
-        })
+        opening
+            .numbered(next_number())
+            .map_err(|phase| HandedBack::new(closed(phase), ShareError::Memory))
     }
 }
 
 shows! {
     Shared: count returned;
     Reserver: number quota_left;
-}
-
-fails! {
-    finish;
-    Unshared: entities error;
-    Unclosed: shared reservers error;
 }

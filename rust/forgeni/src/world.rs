@@ -1,16 +1,16 @@
 //! Worlds: what their proved sources can't have.
 
-use crate::errors::fails;
 use crate::numbers::next_number;
 use crate::proved::ent_total::{clone_world, clone_world_from, new_world};
 use crate::proved::ent_total::{open, open_in_blocks, read_world, read_world_within};
 use crate::shown::shows;
 use crate::world_phase::closed;
-use crate::{BlockReserver, Limits, OutOfMemory, ShareError, WorldImageFault};
+use crate::{
+    BlockReserver, DealError, HandedBack, Limits, OutOfMemory, ShareError, WorldImageFault,
+};
 use alloc::vec::Vec;
 
-pub use crate::proved::ent_total::{CommandQueue, Commands, FinishError, OpenWorld, UndealtWorld};
-pub use crate::proved::ent_total::{UnendedWorld, Unfinished, Unopened, World, WorldInBlocks};
+pub use crate::proved::ent_total::{CommandQueue, Commands, OpenWorld, World, WorldInBlocks};
 pub use crate::proved::ent_world::View;
 
 impl World {
@@ -177,19 +177,21 @@ impl World {
     ///
     /// # Errors
     ///
-    /// [`Unopened`] has the error, and the world as it was. The error is the first of these that
-    /// holds: [`ShareError::NeedsFlush`], [`ShareError::Count`], [`ShareError::Memory`].
+    /// [`HandedBack`] has the world as it was, and the first of these errors that holds:
+    /// [`ShareError::NeedsFlush`], [`ShareError::Count`], [`ShareError::Memory`].
     ///
     /// # Aborts
     ///
     /// Rust's `Arc` ends the process if memory runs out. So as much memory is allocated and freed first,
     /// and the process ends only if another thread takes it in between.
-    pub fn open(self, count: usize) -> Result<(OpenWorld, Vec<Commands>), Unopened> {
+    pub fn open(
+        self,
+        count: usize,
+    ) -> Result<(OpenWorld, Vec<Commands>), HandedBack<World, ShareError>> {
         let opening = open(self, count)?;
-        opening.numbered(next_number()).map_err(|phase| Unopened {
-            world: closed(phase).0,
-            error: ShareError::Memory,
-        })
+        opening
+            .numbered(next_number())
+            .map_err(|phase| HandedBack::new(closed(phase).0, ShareError::Memory))
     }
 
     /// Opens the world in blocks of these sizes: each caller gets a reserver of its own block, so its
@@ -215,15 +217,11 @@ impl World {
     ///
     /// # Errors
     ///
-    /// [`UndealtWorld`] has the error, and the world as it was: [`DealError::NeedsFlush`], or
-    /// [`DealError::Memory`].
-    ///
-    /// [`DealError::NeedsFlush`]: crate::DealError::NeedsFlush
-    /// [`DealError::Memory`]: crate::DealError::Memory
+    /// [`HandedBack`] has the world as it was, and [`DealError::NeedsFlush`] or [`DealError::Memory`].
     pub fn open_in_blocks(
         self,
         sizes: &[u32],
-    ) -> Result<(WorldInBlocks, Vec<BlockReserver>), UndealtWorld> {
+    ) -> Result<(WorldInBlocks, Vec<BlockReserver>), HandedBack<World, DealError>> {
         Ok(open_in_blocks(self, sizes)?.numbered(next_number()))
     }
 }
@@ -242,10 +240,4 @@ shows! {
     Commands: number;
     CommandQueue: number;
     View<'_>: phase;
-}
-
-fails! {
-    finish;
-    Unopened: world error;
-    Unfinished: open queues error;
 }

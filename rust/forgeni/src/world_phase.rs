@@ -2,8 +2,8 @@
 
 use crate::lending::Lending;
 use crate::lent::lends;
-use crate::{Commands, ComponentId, Handle, OpenWorld, OutOfMemory, Queues};
-use crate::{ReserveError, ShareError, Unopened, World};
+use crate::{Commands, ComponentId, HandedBack, Handle, OpenWorld, OutOfMemory};
+use crate::{Queues, ReserveError, ShareError, World};
 use alloc::vec::Vec;
 
 impl World {
@@ -49,7 +49,7 @@ impl World {
     ) -> Result<(T, Queues), ShareError> {
         let mut lending = Lending::begin(
             self,
-            |world| world.open(count).map_err(Unopened::into_parts),
+            |world| world.open(count).map_err(HandedBack::into_parts),
             |parts| closed(parts).0,
         )?;
         let (open, systems) = lending.parts();

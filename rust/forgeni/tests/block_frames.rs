@@ -9,8 +9,8 @@ use forgeni::{
     Limits, SystemInBlocks, Unframed, View, World, WorldInBlocks,
 };
 use forgeni::{
-    Entry, Handle, HandleMap, Log, OutOfMemory, ReserveError, RunError, StdThreads, SyncError,
-    SyncPoint,
+    Entry, Handle, HandleMap, Log, OutOfMemory, Refused, ReserveError, RunError, StdThreads,
+    SyncError, SyncPoint,
 };
 use std::collections::BTreeMap;
 use std::panic::{catch_unwind, resume_unwind, AssertUnwindSafe};
@@ -76,7 +76,10 @@ fn run(
     let (blocks, reservers) = opened(&vec![10; does.len()]);
     match run_in_blocks(&StdThreads, &blocks, reservers, does, workers) {
         Ok((logs, reservers)) => (blocks, Ok(logs), reservers),
-        Err(unrun) => (blocks, Err(unrun.error), unrun.reservers),
+        Err(unrun) => {
+            let (reservers, error) = unrun.into_parts();
+            (blocks, Err(error), reservers)
+        }
     }
 }
 
@@ -90,11 +93,12 @@ fn spawns_return_the_front_of_each_block_on_any_number_of_workers() {
     let mut expected = vec![];
     for (k, size) in (0..).zip(&sizes) {
         let mut block: Vec<Handle> = pool.by_ref().take(*size as usize).collect();
-        // A refused spawn is none, and its command is entered all the same.
+        // A refused spawn has its entry, and its command is entered all the same.
         let mut spawned = block.drain(..block.len().min(k as usize % 5));
         let entries = (0..k % 5).flat_map(|number| {
-            let spawn = spawned.next().map(Entry::Spawn);
-            spawn.into_iter().chain([Entry::Command(number)])
+            let refused = Entry::Refused(Refused::Space { wanted: 1, left: 0 });
+            let spawn = spawned.next().map_or(refused, Entry::Spawn);
+            [spawn, Entry::Command(number)]
         });
         expected.push(entries.collect::<Vec<_>>());
         drop(spawned);
@@ -120,6 +124,35 @@ fn spawns_return_the_front_of_each_block_on_any_number_of_workers() {
         for next in &rest {
             assert_eq!(entities.alloc(), Ok(*next));
         }
+    }
+}
+
+/// Blocks of few handles, and more spawns than fit: each refusal comes to the sync point at its turn.
+#[test]
+fn each_refused_spawn_comes_to_the_sync_point_at_its_turn() {
+    let systems = [Does::Spawn(5), Does::Spawn(2), Does::Spawn(4)];
+    for workers in WORKERS {
+        let (blocks, reservers) = opened(&[3, 2, 0]);
+        let ran = run_in_blocks(&StdThreads, &blocks, reservers, &systems, workers);
+        let (mut logs, reservers) = ran.expect("memory");
+        assert_eq!(logs.iter().map(Log::refused).collect::<Vec<_>>(), [2, 0, 4]);
+        let mut entities = blocks.close(reservers).expect("all are here");
+        let (mut born, mut turns) = (vec![], String::new());
+        let begun = SyncPoint::begin(&mut entities, &mut logs, &mut born);
+        let done = begun
+            .expect("all are reserved")
+            .apply(&mut entities, |entities, entry| {
+                turns.push(match entry {
+                    Entry::Spawn(one) if entities.is_alive(one) => 's',
+                    Entry::Refused(Refused::Space { wanted: 1, left: 0 }) => 'r',
+                    Entry::Command(_) => 'c',
+                    _ => return Err((entry, "another entry")),
+                });
+                Ok(())
+            });
+        assert_eq!(done, Ok(()));
+        assert_eq!(turns, "scscscrcrc".to_owned() + "scsc" + "rcrcrcrc");
+        assert_eq!(born.len(), 5);
     }
 }
 
@@ -175,7 +208,7 @@ fn digests(workers: usize) -> Vec<u64> {
                         values.remove(one);
                         entities.free(one).expect("alive");
                     }
-                    Entry::Spawn(_) => {}
+                    Entry::Spawn(_) | Entry::Refused(_) => {}
                 }
                 Ok::<(), (Entry<_>, ())>(())
             })
@@ -224,13 +257,15 @@ fn after_a_system_stops_or_panics_all_blocks_count_as_used() {
             match catch_unwind(running) {
                 Ok(ran) => {
                     let unrun = ran.expect_err("a system stopped");
-                    assert_eq!((unrun.error, unrun.reservers.len()), (RunError::Lost, 0));
+                    let (reservers, error) = unrun.into_parts();
+                    assert_eq!((error, reservers.len()), (RunError::Lost, 0));
                 }
                 Err(panic) => assert_eq!(panic.downcast_ref(), Some(&"the system")),
             }
             let unended = blocks.close(vec![]).expect_err("none is here");
-            assert_eq!(unended.error, EndError::Missing { count: 3 });
-            let closed = unended.blocks.close_lost(vec![]);
+            let ((blocks, _), error) = unended.into_parts();
+            assert_eq!(error, EndError::Missing { count: 3 });
+            let closed = blocks.close_lost(vec![]);
             let mut entities = closed.expect("memory");
             let mut expected = used().1.pool();
             expected.truncate(30);
@@ -256,16 +291,11 @@ fn the_first_fault_is_returned_and_the_reservers_come_back() {
         let systems = vec![Does::Spawn(1); systems];
         let ran = run_in_blocks(&StdThreads, &blocks, reservers, &systems, workers);
         let unrun = ran.expect_err("refused");
-        assert_eq!(unrun.error, error);
         assert_eq!(unrun.to_string(), error.to_string());
-        let (logs, reservers) = run_in_blocks(
-            &StdThreads,
-            &blocks,
-            unrun.reservers,
-            &[Does::Spawn(1); 2],
-            1,
-        )
-        .expect("they are as they were");
+        let (reservers, told) = unrun.into_parts();
+        assert_eq!(told, error);
+        let ran = run_in_blocks(&StdThreads, &blocks, reservers, &[Does::Spawn(1); 2], 1);
+        let (logs, reservers) = ran.expect("they are as they were");
         assert_eq!(logs.len(), 2);
         assert!(reservers.iter().all(|it| it.used() == 1));
     }
@@ -273,11 +303,8 @@ fn the_first_fault_is_returned_and_the_reservers_come_back() {
     let (_other, mut others) = opened(&[10, 10]);
     std::mem::swap(&mut reservers[1], &mut others[1]);
     let ran = run_in_blocks(&StdThreads, &blocks, reservers, &[Does::Spawn(1); 2], 2);
-    let unrun = ran.expect_err("refused");
-    assert_eq!(
-        (unrun.error, unrun.reservers.len()),
-        (RunError::OtherPhase, 2)
-    );
+    let (reservers, error) = ran.expect_err("refused").into_parts();
+    assert_eq!((error, reservers.len()), (RunError::OtherPhase, 2));
 }
 
 #[test]
@@ -290,7 +317,8 @@ fn a_block_that_is_used_up_refuses_and_the_system_goes_on() {
             .filter(|it| matches!(it, Entry::Spawn(_)))
             .count()
     };
-    assert_eq!((spawns(&logs[0]), logs[0].entries().len()), (10, 22));
+    assert_eq!((spawns(&logs[0]), logs[0].refused()), (10, 2));
+    assert_eq!((logs[0].len(), logs[1].refused()), (24, 0));
     assert_eq!(
         reservers
             .iter()
@@ -745,9 +773,10 @@ fn after_a_system_of_a_world_stops_or_panics_the_world_is_there() {
         let panic = catch_unwind(running).expect_err("the system's panic");
         assert_eq!(panic.downcast_ref(), Some(&"the system"));
         let unended = opened.close(vec![]).expect_err("none is here");
-        assert_eq!(unended.error, EndError::Missing { count: 3 });
         assert_eq!(unended.to_string(), "missing reservers: 3");
-        let closed = unended.world.close_lost(unended.reservers);
+        let ((opened, reservers), error) = unended.into_parts();
+        assert_eq!(error, EndError::Missing { count: 3 });
+        let closed = opened.close_lost(reservers);
         expect_all_born(closed.expect("memory"), &blocks);
 
         // The panic of a frame that ends in its own sync point is handed on too.
@@ -775,9 +804,9 @@ fn the_first_fault_of_a_frame_in_blocks_is_returned_and_all_comes_back() {
         let systems = vec![one.clone(); systems];
         let (opened, reservers) = open(used_world().0, &[10, 10]);
         let ran = fill_in_blocks(&StdThreads, &opened, reservers, &systems, workers);
-        let unrun = ran.expect_err("refused");
-        assert_eq!(unrun.error, error);
-        let ran = run_frame_in_blocks(&StdThreads, opened, unrun.reservers, &systems, workers);
+        let (reservers, told) = ran.expect_err("refused").into_parts();
+        assert_eq!(told, error);
+        let ran = run_frame_in_blocks(&StdThreads, opened, reservers, &systems, workers);
         let unframed = ran.expect_err("refused");
         assert_eq!(unframed.to_string(), error.to_string());
         let Unframed::Unrun {
@@ -819,21 +848,21 @@ fn a_frame_without_a_reserver_of_each_block_ends_later() {
     let Unframed::Unended { unended, queues } = unframed else {
         panic!("{unframed}")
     };
-    let (world, mut reservers, error) = unended.into_parts();
+    let ((world, mut reservers), error) = unended.into_parts();
     assert_eq!(error, EndError::Missing { count: 1 });
     assert!(reservers.iter().all(|it| it.used() == 2));
 
     // Neither in another order, nor with one of another phase.
     reservers.insert(0, last);
     let unended = world.close(reservers).expect_err("in another order");
-    assert_eq!(unended.error, EndError::Order);
-    let (world, mut reservers, _) = unended.into_parts();
+    let ((world, mut reservers), error) = unended.into_parts();
+    assert_eq!(error, EndError::Order);
     reservers.rotate_left(1);
     let (_other, mut others) = open(World::new(), &[1]);
     reservers.append(&mut others);
     let unended = world.close(reservers).expect_err("one is of another phase");
-    assert_eq!(unended.error, EndError::OtherPhase);
-    let (world, mut reservers, _) = unended.into_parts();
+    let ((world, mut reservers), error) = unended.into_parts();
+    assert_eq!(error, EndError::OtherPhase);
     reservers.truncate(3);
 
     let mut closed = world.close(reservers).expect("all are here");

@@ -257,15 +257,15 @@ fn a_phase_that_is_not_closed() {
 
     let used = blocks.reserve(&mut reservers[3]).expect("room");
     reservers.swap(0, 1);
-    let (blocks, mut reservers, error) = blocks.close(reservers).unwrap_err().into_parts();
+    let ((blocks, mut reservers), error) = blocks.close(reservers).unwrap_err().into_parts();
     assert_eq!(error, EndError::Order);
     reservers.swap(0, 1);
     reservers.push(strangers.remove(1));
-    let (blocks, mut reservers, error) = blocks.close(reservers).unwrap_err().into_parts();
+    let ((blocks, mut reservers), error) = blocks.close(reservers).unwrap_err().into_parts();
     assert_eq!((error, reservers.len()), (EndError::OtherPhase, 5));
     reservers.pop();
     reservers.remove(1);
-    let (blocks, reservers, error) = blocks.close(reservers).unwrap_err().into_parts();
+    let ((blocks, reservers), error) = blocks.close(reservers).unwrap_err().into_parts();
     assert_eq!(error, EndError::Missing { count: 1 });
 
     // What the lost one may have used is not given again.

@@ -177,9 +177,8 @@ fn phases() {
     let (shared, mut reservers) = entities.share(10).expect("memory");
     reservers.pop();
     let missing = exactly(0, || shared.close(reservers).expect_err("one is missing"));
-    exactly(0, || {
-        missing.shared.close_lost(missing.reservers).expect("lost")
-    });
+    let (shared, reservers) = missing.into_parts().0;
+    exactly(0, || shared.close_lost(reservers).expect("lost"));
 }
 
 /// The queues of these systems.

@@ -2,10 +2,10 @@
 
 use forgeni::{
     Absent, AllocError, CloseError, CommandQueue, Commands, ComponentId, Entities, Fault,
-    FinishError, FreeError, Freed, GoOnError, HandedBack, Handle, HandleMap, ImageFault,
-    InsertError, Lent, Limits, OpenWorld, OtherPhase, OutOfMemory, ParseHandleError, Queues,
-    Refused, Report, ReserveError, Reserver, ShareError, Shared, State, Stop, Stopped, Storage,
-    StorageError, SyncError, Unclosed, Unfinished, Unopened, Unshared, View, World,
+    FreeError, Freed, GoOnError, HandedBack, Handle, HandleMap, ImageFault, InsertError, Lent,
+    Limits, OpenWorld, OtherPhase, OutOfMemory, ParseHandleError, Queues, Refused, Report,
+    ReserveError, Reserver, ShareError, Shared, State, Stop, Stopped, Storage, StorageError,
+    SyncError, View, World,
 };
 use std::error::Error;
 
@@ -19,7 +19,6 @@ fn each_error_travels() {
     travels::<Absent>();
     travels::<AllocError>();
     travels::<CloseError>();
-    travels::<FinishError>();
     travels::<FreeError>();
     travels::<GoOnError>();
     travels::<HandedBack<String, InsertError>>();
@@ -36,14 +35,14 @@ fn each_error_travels() {
     travels::<ReserveError>();
     travels::<SyncError>();
     travels::<Stop>();
-    travels::<Unclosed>();
-    travels::<Unfinished>();
-    travels::<Unopened>();
-    travels::<Unshared>();
+    travels::<HandedBack<(Shared, Vec<Reserver>), CloseError>>();
+    travels::<HandedBack<(OpenWorld, Vec<CommandQueue>), CloseError>>();
+    travels::<HandedBack<Entities, ShareError>>();
+    travels::<HandedBack<World, ShareError>>();
     #[cfg(feature = "std")]
     travels::<forgeni::FrameError>();
     #[cfg(feature = "std")]
-    travels::<forgeni::Unpooled<std::vec::IntoIter<Reserver>>>();
+    travels::<HandedBack<std::vec::IntoIter<Reserver>, OutOfMemory>>();
 }
 
 /// What is read through a shared reference can be read by many threads at once.
@@ -106,9 +105,9 @@ fn not_applied() -> Result<(), Boxed> {
 fn each_is_handed_on() {
     let said = |ran: Result<(), Boxed>| ran.expect_err("refused").to_string();
     assert_eq!(said(not_shared()), "a phase has 1 to 1,024 callers");
-    assert_eq!(said(not_closed()), "missing reservers: 2");
+    assert_eq!(said(not_closed()), "missing callers: 2");
     assert_eq!(said(not_opened()), "a phase has 1 to 1,024 callers");
-    assert_eq!(said(not_finished()), "missing queues: 1");
+    assert_eq!(said(not_finished()), "missing callers: 1");
     assert_eq!(said(not_applied()), "the queues are of another world");
 }
 
@@ -118,7 +117,9 @@ fn an_error_of_another_thread() {
     let ran = std::thread::spawn(not_shared)
         .join()
         .expect("it doesn't panic");
-    let refused = ran.expect_err("refused").downcast::<Unshared>();
+    let refused = ran
+        .expect_err("refused")
+        .downcast::<HandedBack<Entities, ShareError>>();
     let (entities, error) = refused.expect("of this type").into_parts();
     assert_eq!((entities.len(), error), (0, ShareError::Count));
 }
@@ -128,7 +129,7 @@ fn an_error_of_another_thread() {
 fn the_parts_of_each() {
     let (shared, reservers) = Entities::new().share(1).expect("shared");
     let refused = shared.close(vec![]).expect_err("one is missing");
-    let (shared, none, error) = refused.into_parts();
+    let ((shared, none), error) = refused.into_parts();
     assert_eq!((none.len(), error), (0, CloseError::Missing { count: 1 }));
     assert!(shared.close(reservers).is_ok());
 
@@ -137,8 +138,8 @@ fn the_parts_of_each() {
     assert_eq!((world.len(), error), (0, ShareError::Count));
     let (open, systems) = world.open(2).expect("opened");
     let refused = open.close(vec![]).expect_err("two are missing");
-    let (open, none, error) = refused.into_parts();
-    assert_eq!((none.len(), error), (0, FinishError::Missing { count: 2 }));
+    let ((open, none), error) = refused.into_parts();
+    assert_eq!((none.len(), error), (0, CloseError::Missing { count: 2 }));
     let queues = systems.into_iter().map(Commands::finish).collect();
     let (mut world, queues) = open.close(queues).expect("closed");
 

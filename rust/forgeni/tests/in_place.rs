@@ -161,7 +161,8 @@ fn each_call(systems: &[System], joiner: &'static str, workers: usize, expect: i
     let ((mut entities, living), mut born) = (two(), vec![]);
     let filled =
         ended(|| run_to_sync_point(&Joiner(joiner), &mut entities, systems, workers, &mut born));
-    let filled = filled.and_then(|sync| ended(|| sync.map(drop).map_err(|it| it.error).err()));
+    let filled =
+        filled.and_then(|sync| ended(|| sync.map(drop).map_err(|it| it.into_parts().1).err()));
     expect(filled);
     if born.is_empty() {
         is_in_place(&mut entities, living, reserved);

@@ -56,6 +56,7 @@ fn told(entities: &mut Entities, mut logs: Vec<Log<(Handle, usize)>>) -> Vec<(us
     let done: Result<(), Infallible> = sync.apply(entities, |entities, entry| {
         match entry {
             Entry::Spawn(one) => assert!(entities.is_alive(one)),
+            Entry::Refused(why) => panic!("{why}"),
             Entry::Command((one, system)) => {
                 let before = names.insert(one, system).expect("memory");
                 all.push((system, before.is_none()));
@@ -82,6 +83,36 @@ fn logs_are_in_the_order_of_the_systems() {
     }
 }
 
+/// More spawns than there are handles: each refusal is an entry of its system's log, whichever systems they are.
+#[test]
+fn each_refused_spawn_has_an_entry() {
+    for workers in WORKERS {
+        let mut entities = small(7, 9);
+        let system = |commands: &mut LogCommands<'_, ()>| {
+            for _ in 0..3 {
+                if let Err(refused) = commands.spawn() {
+                    refused.or_memory()?;
+                }
+            }
+            Ok(())
+        };
+        let mut logs = run_logs(&mut entities, &[system; 5], workers).expect("memory");
+        assert!(logs.iter().all(|log| log.len() == 3));
+        assert_eq!(logs.iter().map(Log::refused).sum::<usize>(), 8);
+        let mut sync = SyncPoint::begin(&mut entities, &mut logs, &mut vec![]).expect("reserved");
+        let (mut spawned, mut refused) = (0, 0);
+        let done: Result<(), Infallible> = sync.apply(&mut entities, |_, entry| {
+            match entry {
+                Entry::Spawn(_) => spawned += 1,
+                Entry::Refused(_) => refused += 1,
+                Entry::Command(()) => {}
+            }
+            Ok(())
+        });
+        assert_eq!((done, spawned, refused), (Ok(()), 7, 8));
+    }
+}
+
 /// A sync point that begins at once hands on what `begin` would have, and lists what is born behind the rest.
 #[test]
 fn the_sync_point_begins_at_once() {
@@ -91,7 +122,7 @@ fn the_sync_point_begins_at_once() {
         let listed = at_once.alloc().expect("a handle");
         let mut born = vec![listed];
         let sync = run_to_sync_point(&StdThreads, &mut at_once, &systems, workers, &mut born);
-        let mut sync = sync.map_err(|unbegun| unbegun.error).expect("memory");
+        let mut sync = sync.expect("memory");
         assert_eq!((born.len(), born[0], at_once.len()), (121, listed, 121));
 
         let logs = run_logs(&mut later, &systems, workers).expect("memory");
@@ -121,9 +152,10 @@ fn a_sync_point_that_does_not_begin() {
         let systems = numbered(&systems);
         let sync = run_to_sync_point(&StdThreads, &mut entities, &systems, workers, &mut born);
         let unbegun = sync.map(drop).expect_err("refused");
-        assert_eq!((unbegun.error, unbegun.logs.len()), (wanted, 0));
         assert_eq!(unbegun.to_string(), wanted.to_string());
-        assert!(format!("{unbegun:?}").starts_with("Unbegun { error: "));
+        assert_eq!(format!("{unbegun:?}"), format!("{wanted:?}"));
+        let (logs, error) = unbegun.into_parts();
+        assert_eq!((error, logs.len()), (wanted, 0));
     }
     assert!(born.is_empty() && entities.is_empty());
     assert_eq!(flushed(&mut entities).len(), 3);

@@ -1,7 +1,9 @@
 //! Logs of commands, from several systems and threads to one sync point: what their contracts can't say.
 
 use crate::common::{flushed, handle, small};
-use forgeni::{BeginError, Entities, Entry, FreeError, Handle, Log, ReserveError, SyncPoint};
+use forgeni::{
+    BeginError, Entities, Entry, FreeError, Handle, Log, Refused, ReserveError, SyncPoint,
+};
 use std::convert::Infallible;
 use std::panic::{catch_unwind, resume_unwind, AssertUnwindSafe};
 use std::thread;
@@ -222,14 +224,53 @@ fn logs_of_another_phase_are_handed_back() {
     }
 }
 
+/// A refusal is an entry, which the closure is handed at its turn.
 #[test]
-fn a_refused_spawn_leaves_no_entry() {
+fn a_refused_spawn_has_an_entry() {
     let mut entities = small(1, 1);
     let mut log = Log::<Command>::new();
     let one = log.spawn(&mut entities).expect("a handle");
     let refused = ReserveError::Space { wanted: 1, left: 0 };
     assert_eq!(log.spawn(&mut entities), Err(refused));
-    assert_eq!(log.entries(), [Entry::Spawn(one)]);
+    log.push(Despawn(one)).expect("memory");
+    assert_eq!(log.spawn(&mut entities), Err(refused));
+    let why = Refused::Space { wanted: 1, left: 0 };
+    let entries = [
+        Entry::Spawn(one),
+        Entry::Refused(why),
+        Entry::Command(Despawn(one)),
+        Entry::Refused(why),
+    ];
+    assert_eq!(log.entries(), entries);
+    assert_eq!((log.len(), log.refused(), log.is_empty()), (4, 2, false));
+
+    // It comes back with an error as any other entry does.
+    let mut born = vec![];
+    let mut sync = SyncPoint::begin(&mut entities, &mut vec![log], &mut born).expect("reserved");
+    let mut run = |_: &mut Entities, entry: Entry<Command>| match entry {
+        Entry::Refused(why) => Err((entry, why)),
+        _ => Ok(()),
+    };
+    for _ in 0..2 {
+        assert_eq!(sync.apply(&mut entities, &mut run), Err(why));
+    }
+    assert_eq!(born, [one]);
+    assert_eq!(drained(sync, &mut entities), entries[1..]);
+}
+
+#[test]
+fn a_log_that_was_cleared() {
+    let (mut entities, mut log) = (small(4, 1), Log::new());
+    for refused in [1, 5, 5] {
+        for _ in 0..5 {
+            let _ = log.spawn(&mut entities);
+            log.push(()).expect("memory");
+        }
+        assert_eq!((log.len(), log.refused()), (10, refused));
+        log.clear();
+        assert_eq!((log.len(), log.refused(), log.is_empty()), (0, 0, true));
+    }
+    assert_eq!(flushed(&mut entities).len(), 4);
 }
 
 #[test]
@@ -250,6 +291,7 @@ fn a_hundred_thousand_spawns_and_commands() {
     let done: Result<(), FreeError> = sync.apply(&mut entities, |entities, entry| {
         match entry {
             Entry::Spawn(one) => assert!(entities.is_alive(one)),
+            Entry::Refused(why) => panic!("{why}"),
             Entry::Command(Name(..)) => names += 1,
             Entry::Command(Despawn(one)) => {
                 if let Err(error) = entities.free(one) {

@@ -1,6 +1,6 @@
 //! Memory runs out in the middle of a sync point, which goes on, and of `share` and `open`, which
-//! give back what they were called on. That is tried in processes of their own, whose memory the
-//! shell bounds.
+//! give back what they were called on. That is tried in processes of their own, whose memory is
+//! bounded.
 
 mod common;
 
@@ -210,9 +210,9 @@ fn share_again_and_again() {
                 return;
             }
             Err(refused) => {
-                assert_eq!(refused.error, ShareError::Memory);
+                assert_eq!(refused.error(), &ShareError::Memory);
                 assert_eq!(refused.to_string(), "out of memory");
-                entities = refused.entities;
+                entities = refused.into_parts().0;
                 assert!(entities.is_alive(one) && !entities.needs_flush());
             }
         }
@@ -237,9 +237,9 @@ fn open_again_and_again() {
                 return;
             }
             Err(refused) => {
-                assert_eq!(refused.error, ShareError::Memory);
+                assert_eq!(refused.error(), &ShareError::Memory);
                 assert_eq!(refused.to_string(), "out of memory");
-                world = refused.world;
+                world = refused.into_parts().0;
                 assert_eq!(world.get(one, ID), Some(3));
                 assert!(!world.needs_flush());
             }
@@ -248,16 +248,19 @@ fn open_again_and_again() {
     panic!("all steps were refused");
 }
 
-/// Runs this test, whose name is given, in a process of its own whose memory the shell bounds.
+/// Runs this test, whose name is given, in a process of its own whose memory is bounded: by the
+/// shell, or by the emulator, which takes some for itself.
 fn in_little_memory(name: &str, test: fn()) {
     if env::var_os(LITTLE).is_some() {
         return test();
     }
     let program = this_program();
-    // An emulator takes three quarters of the difference for itself.
-    let kibibytes = if program.len() > 1 { 400_000 } else { 200_000 };
+    let bound = match program.len() {
+        1 => "ulimit -v 200000",
+        _ => "export QEMU_RESERVED_VA=200M",
+    };
     let output = Command::new("sh")
-        .args(["-c", &format!("ulimit -v {kibibytes} && exec \"$@\"")])
+        .args(["-c", &format!("{bound} && exec \"$@\"")])
         .arg("sh")
         .args(program)
         .args(["--exact", name])

@@ -667,8 +667,8 @@ fn share_gives_the_allocator_back() {
         let (shared, refused) = refusing(refusal, || entities.share(5));
         let (shared, mut reservers) = shared.unwrap_or_else(|unshared| {
             assert!(refused > 0);
-            assert_eq!(unshared.error, ShareError::Memory);
-            let entities = unshared.entities;
+            let (entities, error) = unshared.into_parts();
+            assert_eq!(error, ShareError::Memory);
             assert_eq!((entities.len(), entities.top()), (2, 1));
             assert!(!entities.needs_flush());
             entities.share(5).expect("memory")
@@ -723,8 +723,9 @@ fn reserving_too_many() {
         (given, refused),
         (Err(ReserveError::Space { wanted, left: 0 }), 0)
     );
-    let kept = missing.shared.close(vec![reservers.pop().expect("two")]);
-    let mut back = kept.expect_err("one is missing").reservers;
+    let (shared, _) = missing.into_parts().0;
+    let kept = shared.close(vec![reservers.pop().expect("two")]);
+    let (_, mut back) = kept.expect_err("one is missing").into_parts().0;
     let (given, refused) = refusing(none, || back[0].reserve_many(wanted));
     assert_eq!(
         (given, refused),
@@ -740,9 +741,10 @@ fn closes_of_allocators_take_no_memory() {
     reservers[0].reserve().expect("a handle");
     let none = Refusal::All { after: 0 };
     let (left, refused) = refusing(none, || shared.close(reservers).expect_err("missing"));
-    assert_eq!((refused, left.reservers.len()), (0, 8));
+    let (shared, reservers) = left.into_parts().0;
+    assert_eq!((refused, reservers.len()), (0, 8));
     drop(away);
-    let closed = || left.shared.close_lost(left.reservers).expect("closed");
+    let closed = || shared.close_lost(reservers).expect("closed");
     let (entities, refused) = refusing(none, closed);
     assert_eq!((refused, entities.reserved()), (0, 1));
 }
@@ -754,8 +756,9 @@ fn a_close_after_one_in_use() {
     let away = reservers.pop().expect("nine");
     let none = Refusal::All { after: 0 };
     let (left, _) = refusing(none, || shared.close_lost(reservers).expect_err("in use"));
-    assert_eq!((left.reservers.len(), left.shared.returned()), (0, 8));
-    let (shared, mut reservers) = (left.shared, vec![away]);
+    let (shared, mut reservers) = left.into_parts().0;
+    assert_eq!((reservers.len(), shared.returned()), (0, 8));
+    reservers.push(away);
     reservers[0].reserve().expect("a handle");
     assert_eq!(shared.close(reservers).expect("closed").reserved(), 1);
 }
@@ -821,7 +824,7 @@ fn entries_and_drains_of_maps() {
                 *it += 1;
                 let (_, mut above) = map.split_at_mut(9);
                 *above.get_mut(one).expect("it has one") += 1;
-                Ok::<_, forgeni::Uninserted<i32>>(map.drain().next())
+                Ok::<_, forgeni::HandedBack<i32, InsertError>>(map.drain().next())
             });
             assert_eq!((done, unasked), (Ok(Some((one, 12))), 0));
             refused
@@ -841,7 +844,7 @@ fn entries_and_drains_of_maps() {
                 map.iter_mut().for_each(|(_, it)| *it += 1);
                 let [it] = map.get_disjoint_mut([one]).expect("it has one");
                 *it += 1;
-                Ok::<_, forgeni::Uninserted<i32>>(map.drain().next())
+                Ok::<_, forgeni::HandedBack<i32, InsertError>>(map.drain().next())
             });
             assert_eq!((done, unasked), (Ok(Some((one, 11))), 0));
             refused
@@ -1137,7 +1140,7 @@ fn calls_of_a_log() {
     });
 }
 
-/// A spawn that is refused has reserved nothing and left no entry. Made again, it returns the handle that
+/// A spawn without memory has reserved nothing and left no entry. Made again, it returns the handle that
 /// it would have returned.
 #[test]
 fn a_spawn_in_a_log_of_commands() {
@@ -1197,6 +1200,27 @@ fn a_push_to_a_log_of_commands() {
         }
         refusals
     });
+}
+
+/// A log that was cleared has its room, also for the entries of refused spawns.
+#[test]
+fn a_log_of_commands_that_was_cleared() {
+    let mut entities = Entities::with_limits(Limits::new(2, 1).expect("limits"));
+    let mut log = forgeni::Log::new();
+    let mut fill = |log: &mut forgeni::Log<u64>| {
+        for number in 0..4 {
+            let spawned = log.spawn(&mut entities);
+            spawned.map_or_else(ReserveError::or_memory, |_| Ok(()))?;
+            log.push(number)?;
+        }
+        Ok::<(), OutOfMemory>(())
+    };
+    fill(&mut log).expect("memory");
+    for _ in 0..3 {
+        log.clear();
+        let (filled, refused) = refusing(Refusal::All { after: 0 }, || fill(&mut log));
+        assert_eq!((filled, refused, log.len()), (Ok(()), 0, 8));
+    }
 }
 
 /// Two logs of 49 spawns each, which this allocator has reserved.
@@ -1287,18 +1311,18 @@ fn a_sync_point_of_systems() {
         };
         assert!(refused > 0);
         assert_eq!(born, [handle(7, 7)]);
-        match unbegun.error {
+        let (mut logs, error) = unbegun.into_parts();
+        match error {
             LogError::Memory => assert_eq!(told(&entities), before),
             LogError::Lost => assert_eq!(entities.len(), 2),
             error => {
-                let mut logs = unbegun.logs;
                 assert_eq!((error, logs.len()), (LogError::Unborn, 2));
                 let sync = SyncPoint::begin(&mut entities, &mut logs, &mut born);
                 assert!(sync.is_ok() && entities.len() == 100);
                 return refused;
             }
         }
-        assert!(unbegun.logs.is_empty());
+        assert!(logs.is_empty());
         refused
     });
 }
@@ -1404,9 +1428,10 @@ fn open_gives_the_world_back() {
         let (opened, refused) = refusing(refusal, || world.open(3));
         let (open, systems) = opened.unwrap_or_else(|unopened| {
             assert!(refused > 0);
-            assert_eq!(unopened.error, ShareError::Memory);
-            assert_eq!(all(&unopened.world), before);
-            unopened.world.open(3).expect("memory")
+            let (world, error) = unopened.into_parts();
+            assert_eq!(error, ShareError::Memory);
+            assert_eq!(all(&world), before);
+            world.open(3).expect("memory")
         });
         let queues = systems.into_iter().map(Commands::finish).collect();
         let (world, _) = open.close(queues).expect("closed");
@@ -1718,7 +1743,7 @@ mod frames {
     use super::*;
     use forgeni::{
         run_frame, run_frame_in_blocks, BlockReserver, CommandsInBlocks, DealError, EndError,
-        FrameError, RunError, SystemCommands, UndealtWorld, Unframed, View, WorldInBlocks,
+        FrameError, HandedBack, RunError, SystemCommands, Unframed, View, WorldInBlocks,
     };
 
     /// Systems that issue by commands of this type.
@@ -1832,7 +1857,7 @@ mod frames {
     }
 
     /// Blocks of six handles.
-    fn framed(world: World) -> Result<Framed, UndealtWorld> {
+    fn framed(world: World) -> Result<Framed, HandedBack<World, DealError>> {
         world
             .open_in_blocks(&[6; 3])
             .map(|(world, reservers)| run(world, reservers))
@@ -1852,9 +1877,10 @@ mod frames {
                     return refused;
                 }
                 Err(undealt) => {
-                    assert_eq!(undealt.error, DealError::Memory);
-                    assert_eq!(all(&undealt.world), all(&two()));
-                    let again = framed(undealt.world).expect("memory").expect("memory");
+                    let (world, error) = undealt.into_parts();
+                    assert_eq!(error, DealError::Memory);
+                    assert_eq!(all(&world), all(&two()));
+                    let again = framed(world).expect("memory").expect("memory");
                     assert_eq!((again.1, all(&again.0)), wanted);
                     (again.0, 0)
                 }
@@ -1880,8 +1906,9 @@ mod frames {
                     (again.0, 2)
                 }
                 Ok(Err(Unframed::Unended { unended, queues })) => {
-                    assert_eq!(unended.error, EndError::Memory);
-                    let closed = unended.world.close(unended.reservers);
+                    let ((opened, reservers), error) = unended.into_parts();
+                    assert_eq!(error, EndError::Memory);
+                    let closed = opened.close(reservers);
                     let mut world = closed.expect("memory");
                     let faults = world.apply(queues).expect("memory").faults;
                     assert_eq!((faults, all(&world)), wanted);
@@ -1912,8 +1939,9 @@ mod frames {
             let (opened, _) = two().open_in_blocks(&[6; 3]).expect("memory");
             let (closed, refused) = refusing(refusal, || opened.close_lost(vec![]));
             let closed = closed.or_else(|unended| {
-                assert_eq!(unended.error, EndError::Memory);
-                unended.world.close_lost(unended.reservers)
+                let ((opened, reservers), error) = unended.into_parts();
+                assert_eq!(error, EndError::Memory);
+                opened.close_lost(reservers)
             });
             let mut world = closed.expect("memory");
             world.flush().expect("memory");

@@ -2,7 +2,7 @@
 //! it found half done is a state that the package speaks of, with nothing lost.
 
 use crate::common::{flushed, handle, small};
-use forgeni::{Commands, ComponentId, Entities, FinishError, World};
+use forgeni::{CloseError, Commands, ComponentId, Entities, World};
 use std::fmt::{self, Write};
 use std::panic::{catch_unwind, resume_unwind, AssertUnwindSafe};
 use std::thread;
@@ -226,8 +226,9 @@ fn a_phase_goes_on_without_the_system_that_panicked() {
     });
     let queues: Vec<_> = joined.into_iter().filter_map(Result::ok).collect();
     let left = open.close(queues).expect_err("one is lost");
-    assert_eq!(left.error, FinishError::Missing { count: 1 });
-    let (mut world, queues) = left.open.close_lost(left.queues).expect("it is lost");
+    let ((open, queues), error) = left.into_parts();
+    assert_eq!(error, CloseError::Missing { count: 1 });
+    let (mut world, queues) = open.close_lost(queues).expect("it is lost");
     let report = world.apply(queues).expect("memory");
     assert_eq!((report.born.len(), report.faults.len()), (4, 0));
     let with = |one| world.get(one, HP) == Some(2);

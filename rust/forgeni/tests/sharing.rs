@@ -106,15 +106,15 @@ fn a_refused_share_gives_the_allocator_back() {
     let mut entities = with_two_waiting();
     for count in [0, 1025, usize::MAX] {
         let refused = entities.share(count).expect_err("refused");
-        assert_eq!(refused.error, ShareError::Count);
-        entities = refused.entities;
+        assert_eq!(refused.error(), &ShareError::Count);
+        entities = refused.into_parts().0;
         assert_eq!((entities.len(), entities.top()), (1, 2));
     }
     entities.request().expect("a handle");
     let refused = entities.share(1).expect_err("refused");
-    assert_eq!(refused.error, ShareError::NeedsFlush);
+    assert_eq!(refused.error(), &ShareError::NeedsFlush);
     assert_eq!(refused.to_string(), "a flush is needed first");
-    entities = refused.entities;
+    entities = refused.into_parts().0;
     assert_eq!(flushed(&mut entities), vec![handle(0, 2)]);
 }
 
@@ -138,18 +138,10 @@ fn reservers_of_another_phase_are_handed_back() {
     let (first, mut a) = share(Entities::new(), 2);
     let (second, mut b) = share(Entities::new(), 2);
     std::mem::swap(&mut a[1], &mut b[0]);
-    let refused = first.close(a).expect_err("refused");
-    assert_eq!(
-        (refused.error, refused.reservers.len()),
-        (CloseError::OtherPhase, 2)
-    );
-    let (first, mut a) = (refused.shared, refused.reservers);
-    let refused = second.close_lost(b).expect_err("refused");
-    assert_eq!(
-        (refused.error, refused.reservers.len()),
-        (CloseError::OtherPhase, 2)
-    );
-    let (second, mut b) = (refused.shared, refused.reservers);
+    let ((first, mut a), error) = first.close(a).expect_err("refused").into_parts();
+    assert_eq!((error, a.len()), (CloseError::OtherPhase, 2));
+    let ((second, mut b), error) = second.close_lost(b).expect_err("refused").into_parts();
+    assert_eq!((error, b.len()), (CloseError::OtherPhase, 2));
     // They still reserve, each in its own phase.
     assert_eq!(a[1].reserve(), Ok(handle(0, 1)));
     assert_eq!(a[0].reserve(), Ok(handle(0, 1)));
@@ -163,9 +155,9 @@ fn all_must_come_home() {
     let (shared, mut reservers) = share(Entities::new(), 3);
     let last = reservers.pop().expect("three");
     let refused = shared.close(reservers).expect_err("refused");
-    assert_eq!(refused.error, CloseError::Missing { count: 1 });
-    assert_eq!(refused.to_string(), "missing reservers: 1");
-    let (shared, mut reservers) = (refused.shared, refused.reservers);
+    assert_eq!(refused.to_string(), "missing callers: 1");
+    let ((shared, mut reservers), error) = refused.into_parts();
+    assert_eq!(error, CloseError::Missing { count: 1 });
     reservers.push(last);
     assert_eq!(reservers[0].reserve(), Ok(handle(0, 1)));
     assert_eq!(shared.close(reservers).expect("closed").reserved(), 1);
@@ -178,11 +170,8 @@ fn a_reserver_that_is_in_use() {
     let mut away = reservers.pop().expect("two");
     reservers[0].reserve().expect("a handle");
     let refused = shared.close_lost(reservers).expect_err("refused");
-    assert_eq!(
-        (refused.error, refused.reservers.len()),
-        (CloseError::InUse, 0)
-    );
-    let mut shared = refused.shared;
+    let ((mut shared, none), error) = refused.into_parts();
+    assert_eq!((error, none.len()), (CloseError::InUse, 0));
     assert_eq!((shared.count(), shared.returned()), (2, 1));
     assert_eq!(away.reserve(), Ok(handle(1, 1)));
     let mut back = shared.reserver().expect("memory").expect("returned");
@@ -202,11 +191,9 @@ fn a_lost_reserver() {
     drop(lost);
     assert_eq!(reservers[0].reserve(), Ok(handle(1, 2)));
     let refused = shared.close(reservers).expect_err("refused");
-    assert_eq!(refused.error, CloseError::Missing { count: 1 });
-    let mut entities = refused
-        .shared
-        .close_lost(refused.reservers)
-        .expect("closed");
+    let ((shared, reservers), error) = refused.into_parts();
+    assert_eq!(error, CloseError::Missing { count: 1 });
+    let mut entities = shared.close_lost(reservers).expect("closed");
     assert_eq!((entities.asked(), entities.reserved()), (2, 2));
     assert_eq!(flushed(&mut entities), vec![handle(1, 2), handle(0, 2)]);
 }
@@ -245,13 +232,11 @@ fn a_forgotten_reserver() {
     let forgotten = reservers.pop().expect("two");
     NEVER_DROPPED.lock().expect("no panic").push(forgotten);
     let refused = shared.close(reservers).expect_err("refused");
-    assert_eq!(refused.error, CloseError::Missing { count: 1 });
-    let refused = refused
-        .shared
-        .close_lost(refused.reservers)
-        .expect_err("refused");
-    assert_eq!(refused.error, CloseError::InUse);
-    assert_eq!(refused.to_string(), "a reserver is still in use");
+    let ((shared, reservers), error) = refused.into_parts();
+    assert_eq!(error, CloseError::Missing { count: 1 });
+    let refused = shared.close_lost(reservers).expect_err("refused");
+    assert_eq!(refused.error(), &CloseError::InUse);
+    assert_eq!(refused.to_string(), "a caller is still in use");
 }
 
 #[test]
@@ -296,11 +281,9 @@ fn a_panic_in_the_middle() {
         told
     });
     let refused = shared.close(reservers).expect_err("refused");
-    assert_eq!(refused.error, CloseError::Missing { count: 1 });
-    let mut entities = refused
-        .shared
-        .close_lost(refused.reservers)
-        .expect("closed");
+    let ((shared, reservers), error) = refused.into_parts();
+    assert_eq!(error, CloseError::Missing { count: 1 });
+    let mut entities = shared.close_lost(reservers).expect("closed");
     assert_eq!((entities.asked(), entities.reserved()), (15, 15));
     flushed(&mut entities);
     assert_eq!(entities.len(), 15);
@@ -331,25 +314,26 @@ fn reservers_keep_their_order() {
     let last = reservers.pop().expect("five");
     reservers.swap(0, 2);
     let refused = shared.close(reservers).expect_err("one is missing");
-    assert_eq!(refused.error, CloseError::Missing { count: 1 });
-    assert_eq!(numbers(&refused.reservers), [2, 1, 0, 3]);
+    let ((shared, mut reservers), error) = refused.into_parts();
+    assert_eq!(error, CloseError::Missing { count: 1 });
+    assert_eq!(numbers(&reservers), [2, 1, 0, 3]);
 
     let (other, mut foreign) = share(Entities::new(), 1);
-    let mut reservers = refused.reservers;
     reservers.append(&mut foreign);
-    let refused = refused.shared.close(reservers).expect_err("one is foreign");
-    assert_eq!(refused.error, CloseError::OtherPhase);
-    assert_eq!(numbers(&refused.reservers), [2, 1, 0, 3, 0]);
-    assert!(refused.reservers[4].is_of(&other));
+    let refused = shared.close(reservers).expect_err("one is foreign");
+    let ((shared, mut reservers), error) = refused.into_parts();
+    assert_eq!(error, CloseError::OtherPhase);
+    assert_eq!(numbers(&reservers), [2, 1, 0, 3, 0]);
+    assert!(reservers[4].is_of(&other));
 
     // Those returned are given out again, the last one that came back first.
-    let mut reservers = refused.reservers;
     let foreign = reservers.pop().expect("five");
-    let refused = refused.shared.close_lost(reservers).expect_err("in use");
-    assert_eq!(refused.error, CloseError::InUse);
-    assert_eq!((refused.reservers.len(), refused.shared.returned()), (0, 4));
+    let refused = shared.close_lost(reservers).expect_err("in use");
+    let ((shared, none), error) = refused.into_parts();
+    assert_eq!(error, CloseError::InUse);
+    assert_eq!((none.len(), shared.returned()), (0, 4));
     drop(foreign);
-    let closed = refused.shared.close(vec![last]).expect("all are there");
+    let closed = shared.close(vec![last]).expect("all are there");
     assert_eq!(closed.reserved(), 0);
 }
 

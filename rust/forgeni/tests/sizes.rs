@@ -428,8 +428,8 @@ fn reservers_of_a_phase() {
     assert_eq!(entities.len(), total);
     for count in [0, 1_025] {
         let refused = entities.share(count).expect_err("out of the range");
-        assert_eq!(refused.error, ShareError::Count);
-        entities = refused.entities;
+        assert_eq!(refused.error(), &ShareError::Count);
+        entities = refused.into_parts().0;
     }
 }
 
@@ -454,8 +454,8 @@ fn queues_of_a_phase() {
     assert_eq!(world.len(), 1_024 * 1_025 / 2);
     for count in [0, 1_025] {
         let refused = world.open(count).expect_err("out of the range");
-        assert_eq!(refused.error, ShareError::Count);
-        world = refused.world;
+        assert_eq!(refused.error(), &ShareError::Count);
+        world = refused.into_parts().0;
     }
 }
 

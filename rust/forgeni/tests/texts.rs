@@ -5,7 +5,7 @@ use forgeni::trace::{AllocReply, Call, CheckError, Checker, Difference, FlushRep
 use forgeni::trace::{Log, Recorder, Reservation, ReserveReply};
 use forgeni::{
     Absent, AllocError, Birth, CloseError, Commands, ComponentId, Entities, Fault, FaultKind,
-    FinishError, FreeError, Freed, Handle, HandleMap, InsertError, Limits, OtherPhase, OutOfMemory,
+    FreeError, Freed, Handle, HandleMap, InsertError, Limits, OtherPhase, OutOfMemory,
     ParseHandleError, Refused, ReserveError, ShareError, State, Stop, Storage, StorageError,
     SyncError, World,
 };
@@ -52,9 +52,9 @@ fn errors_of_an_allocator() {
         (&ShareError::Count, "a phase has 1 to 1,024 callers"),
         (&ShareError::Memory, MEMORY),
         (&OtherPhase, "the reserver is of another phase"),
-        (&CloseError::OtherPhase, "a reserver is of another phase"),
-        (&CloseError::Missing { count: 2 }, "missing reservers: 2"),
-        (&CloseError::InUse, "a reserver is still in use"),
+        (&CloseError::OtherPhase, "a caller is of another phase"),
+        (&CloseError::Missing { count: 2 }, "missing callers: 2"),
+        (&CloseError::InUse, "a caller is still in use"),
         (
             &ParseHandleError::Shape,
             "not of the form of a handle, as 0v1",
@@ -86,9 +86,6 @@ fn errors_of_components_and_worlds() {
         (&ShareError::NeedsFlush, NEEDS_FLUSH),
         (&ShareError::Count, "a phase has 1 to 1,024 callers"),
         (&ShareError::Memory, MEMORY),
-        (&FinishError::OtherPhase, "a queue is of another phase"),
-        (&FinishError::Missing { count: 2 }, "missing queues: 2"),
-        (&FinishError::InUse, "a system is still in use"),
         (
             &Stop {
                 system: 3,
@@ -118,30 +115,18 @@ fn errors_with_parts() {
     let unfinished = open.close(vec![]).expect_err("missing");
     displays([
         (&unshared as &dyn Display, "a phase has 1 to 1,024 callers"),
-        (&unclosed, "missing reservers: 2"),
+        (&unclosed, "missing callers: 2"),
         (&unopened, "a phase has 1 to 1,024 callers"),
-        (&unfinished, "missing queues: 1"),
+        (&unfinished, "missing callers: 1"),
     ]);
     debugs([
-        (
-            &unshared as &dyn Debug,
-            "Unshared { entities: Entities { len: 0, total: 0, top: 0, retired: 0, reserved: 0, .. }, \
-             error: Count }",
-        ),
-        (
-            &unclosed,
-            "Unclosed { shared: Shared { count: 2, returned: 0, .. }, reservers: [], \
-             error: Missing { count: 2 } }",
-        ),
-        (&unopened, "Unopened { world: World { len: 0, frame: 0, .. }, error: Count }"),
-        (
-            &unfinished,
-            "Unfinished { open: OpenWorld { count: 1, returned: 0, .. }, queues: [], \
-             error: Missing { count: 1 } }",
-        ),
+        (&unshared as &dyn Debug, "Count"),
+        (&unclosed, "Missing { count: 2 }"),
+        (&unopened, "Count"),
+        (&unfinished, "Missing { count: 1 }"),
     ]);
     let queues = systems.into_iter().map(Commands::finish).collect();
-    let (_, queues) = unfinished.open.close(queues).expect("closed");
+    let (_, queues) = unfinished.into_parts().0 .0.close(queues).expect("closed");
     let unapplied = World::new().apply(queues).expect_err("another world");
     displays([(
         &unapplied as &dyn Display,
@@ -403,15 +388,9 @@ mod frames {
         let (_shared, mut reservers) = Entities::new().share(2).expect("shared");
         let pool = Reservers::new(&mut reservers).expect("memory");
         debugs([(&pool as &dyn Debug, "Reservers { count: 2, .. }")]);
-        let unpooled = forgeni::Unpooled {
-            reservers: [1, 2],
-            error: OutOfMemory,
-        };
+        let unpooled = forgeni::HandedBack::new([1, 2], OutOfMemory);
         displays([(&unpooled as &dyn Display, MEMORY)]);
-        debugs([(
-            &unpooled as &dyn Debug,
-            "Unpooled { error: OutOfMemory, .. }",
-        )]);
+        debugs([(&unpooled as &dyn Debug, "OutOfMemory")]);
     }
 }
 

@@ -2,7 +2,7 @@
 
 use crate::common::handle;
 use forgeni::{
-    AllocError, Birth, Commands, ComponentId, Fault, FaultKind, FinishError, FreeError, Freed,
+    AllocError, Birth, CloseError, Commands, ComponentId, Fault, FaultKind, FreeError, Freed,
     Limits, ReserveError, ShareError, SyncError, World,
 };
 
@@ -61,7 +61,7 @@ fn spawned_between_two_flushes() {
     assert_eq!(spawned(&mut world), "0.4294967295.2");
 
     let (open, systems) = world.open(1).expect("opened");
-    let (open, _, _) = open.close(vec![]).expect_err("missing").into_parts();
+    let ((open, _), _) = open.close(vec![]).expect_err("missing").into_parts();
     let queues = systems.into_iter().map(Commands::finish).collect();
     let (mut world, _) = open.close(queues).expect("closed");
     assert_eq!(spawned(&mut world), "0.4294967295.3");
@@ -168,27 +168,22 @@ fn a_phase_wants_all_its_queues() {
     let second = systems.pop().expect("a system").finish();
     let first = systems.pop().expect("a system").finish();
     let left = open.close(vec![first]).expect_err("one is missing");
-    assert_eq!(left.error, FinishError::Missing { count: 1 });
-    assert_eq!(left.to_string(), "missing queues: 1");
-    assert_eq!((left.open.count(), left.open.returned()), (2, 0));
-    assert_eq!(left.queues.len(), 1);
-    let (open, mut queues) = (left.open, left.queues);
+    assert_eq!(left.to_string(), "missing callers: 1");
+    let ((open, mut queues), error) = left.into_parts();
+    assert_eq!(error, CloseError::Missing { count: 1 });
+    assert_eq!((open.count(), open.returned()), (2, 0));
+    assert_eq!(queues.len(), 1);
 
     let (other, mut others) = World::new().open(1).expect("a phase");
     let foreign = others.pop().expect("a system").finish();
     queues.push(foreign);
     let left = open.close(queues).expect_err("foreign");
-    assert_eq!(
-        (left.error, left.queues.len()),
-        (FinishError::OtherPhase, 2)
-    );
-    assert_eq!(left.to_string(), "a queue is of another phase");
-    let left = left.open.close_lost(left.queues).expect_err("foreign");
-    assert_eq!(
-        (left.error, left.queues.len()),
-        (FinishError::OtherPhase, 2)
-    );
-    let (open, mut queues) = (left.open, left.queues);
+    assert_eq!(left.to_string(), "a caller is of another phase");
+    let ((open, queues), error) = left.into_parts();
+    assert_eq!((error, queues.len()), (CloseError::OtherPhase, 2));
+    let left = open.close_lost(queues).expect_err("foreign");
+    let ((open, mut queues), error) = left.into_parts();
+    assert_eq!((error, queues.len()), (CloseError::OtherPhase, 2));
     let foreign = queues.pop().expect("a queue");
     let closed = other.close(vec![foreign]);
     assert!(closed.is_ok(), "its own queue");
@@ -208,10 +203,10 @@ fn a_late_queue_keeps_its_number() {
     let late = systems.remove(0);
     let queues = systems.into_iter().map(Commands::finish).collect();
     let left = open.close(queues).expect_err("one is missing");
-    let mut queues = left.queues;
+    let (open, mut queues) = left.into_parts().0;
     queues.push(late.finish());
     queues.sort_by_key(|queue| queue.number());
-    let (mut world, queues) = left.open.close(queues).expect("all queues");
+    let (mut world, queues) = open.close(queues).expect("all queues");
     world.apply(queues).expect("memory");
     assert_eq!(world.get(one, HP), Some(3));
     assert_eq!(world.birth(one).map(|birth| birth.system), Some(1));
@@ -227,11 +222,13 @@ fn a_refused_close_keeps_its_queues() {
     first.insert(one, &[(HP, 5)]).expect("memory");
     second.insert(one, &[(HP, 2)]).expect("memory");
     let left = open.close_lost(vec![second.finish()]).expect_err("in use");
-    assert_eq!((left.error, left.queues.len()), (FinishError::InUse, 0));
-    assert_eq!((left.open.count(), left.open.returned()), (2, 1));
-    let left = left.open.close(Vec::new()).expect_err("one is missing");
-    assert_eq!(left.error, FinishError::Missing { count: 1 });
-    let (mut world, queues) = left.open.close(vec![first.finish()]).expect("all queues");
+    let ((open, none), error) = left.into_parts();
+    assert_eq!((error, none.len()), (CloseError::InUse, 0));
+    assert_eq!((open.count(), open.returned()), (2, 1));
+    let left = open.close(Vec::new()).expect_err("one is missing");
+    let ((open, _), error) = left.into_parts();
+    assert_eq!(error, CloseError::Missing { count: 1 });
+    let (mut world, queues) = open.close(vec![first.finish()]).expect("all queues");
     world.apply(queues).expect("memory");
     assert_eq!(world.get(one, HP), Some(5));
     assert_eq!(world.birth(one).map(|birth| birth.system), Some(1));
@@ -292,8 +289,9 @@ fn a_phase_ends_without_a_lost_system() {
     let mut lost = systems.pop().expect("a system");
     let mut other = systems.pop().expect("a system");
     let left = open.close_lost(Vec::new()).expect_err("both exist");
-    assert_eq!((left.error, left.queues.len()), (FinishError::InUse, 0));
-    assert_eq!(left.to_string(), "a system is still in use");
+    assert_eq!(left.to_string(), "a caller is still in use");
+    let ((open, none), error) = left.into_parts();
+    assert_eq!((error, none.len()), (CloseError::InUse, 0));
 
     let panicked = std::thread::spawn(move || {
         let handle = lost.spawn(&[(HP, 1)]).expect("a handle");
@@ -302,11 +300,12 @@ fn a_phase_ends_without_a_lost_system() {
     assert!(panicked.join().is_err());
     let mine = other.spawn(&[(SPEED, 3)]).expect("a handle");
     assert_eq!(mine, handle_of_the_other());
-    let left = left.open.close(vec![other.finish()]).expect_err("one lost");
-    let missing = FinishError::Missing { count: 1 };
-    assert_eq!((left.error, left.queues.len()), (missing, 1));
+    let left = open.close(vec![other.finish()]).expect_err("one lost");
+    let ((open, queues), error) = left.into_parts();
+    let missing = CloseError::Missing { count: 1 };
+    assert_eq!((error, queues.len()), (missing, 1));
 
-    let (mut world, queues) = left.open.close_lost(left.queues).expect("one lost");
+    let (mut world, queues) = open.close_lost(queues).expect("one lost");
     assert!(world.needs_flush());
     let report = world.apply(queues).expect("memory");
     assert_eq!(report.faults, []);
@@ -328,18 +327,19 @@ fn handle_of_the_other() -> forgeni::Handle {
 #[test]
 fn a_world_is_opened_for_some_systems() {
     let refused = World::new().open(0).expect_err("no system");
-    assert_eq!(refused.error, ShareError::Count);
     assert_eq!(refused.to_string(), "a phase has 1 to 1,024 callers");
-    let refused = refused.world.open(1025).expect_err("too many");
-    assert_eq!(refused.error, ShareError::Count);
-    let (open, mut systems) = refused.world.open(1024).expect("a phase");
+    let (world, error) = refused.into_parts();
+    assert_eq!(error, ShareError::Count);
+    let (world, error) = world.open(1025).expect_err("too many").into_parts();
+    assert_eq!(error, ShareError::Count);
+    let (open, mut systems) = world.open(1024).expect("a phase");
     systems[1023].spawn(&[]).expect("a handle");
     let queues = systems.into_iter().map(|one| one.finish()).collect();
     let (world, queues) = open.close(queues).expect("all queues");
     drop(queues);
     let refused = world.open(1).expect_err("not flushed");
-    assert_eq!(refused.error, ShareError::NeedsFlush);
-    let mut world = refused.world;
+    let (mut world, error) = refused.into_parts();
+    assert_eq!(error, ShareError::NeedsFlush);
     assert_eq!(world.flush(), Ok(()));
     let birth = Birth {
         frame: 0,

@@ -52,10 +52,11 @@ fn settle<R: Print + AllocGlobal>(
     Ok(())
 }
 
-/// Obeys one order. If it can't, the order comes back with the error.
+/// Obeys one order. If it can't, the order comes back with the error. A refused spawn has ended its
+/// system before.
 fn obey(entities: &mut Entities, entry: Entry<Order>) -> Result<(), (Entry<Order>, FreeFault)> {
     match entry {
-        Entry::Spawn(_) => Ok(()),
+        Entry::Spawn(_) | Entry::Refused(_) => Ok(()),
         Entry::Command(order) => match entities.free(order.tree) {
             Ok(_) => Ok(()),
             Err(error) => Err((Entry::Command(order), error)),

@@ -132,6 +132,7 @@ impl List for Plain {
 fn hand_on(mut sync: SyncPoint<Command>, entities: &mut Entities, maps: &mut Maps) {
     let done = sync.apply(entities, |entities, entry| match entry {
         Entry::Spawn(_) => Ok(()),
+        Entry::Refused(_) => Err((entry, "refused")),
         Entry::Command(command) => match maps.run(entities, command) {
             true => Ok(()),
             false => Err((entry, "refused")),

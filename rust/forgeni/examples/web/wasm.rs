@@ -13,25 +13,35 @@ mod game;
 use game::Game;
 use std::cell::RefCell;
 
-thread_local!(static GAME: RefCell<Game> = RefCell::new(Game::new().expect("memory")));
-
-#[link(wasm_import_module = "page")]
-unsafe extern "C" {
-    safe fn draw(slot: u32, place: i32, is_drone: bool);
+thread_local! {
+    static GAME: RefCell<Game> = RefCell::new(Game::new().expect("memory"));
+    static DRAWN: RefCell<Vec<[i32; 3]>> = const { RefCell::new(Vec::new()) };
 }
 
-/// Plays a frame, and draws all that is alive.
-#[unsafe(no_mangle)]
-extern "C" fn frame() {
+/// Plays a frame, and returns how many entities are alive.
+#[no_mangle]
+extern "C" fn frame() -> usize {
     GAME.with_borrow_mut(|game| {
         game.frame(1).expect("memory");
-        for (one, body) in &game.parts.bodies {
-            draw(one.index(), body.place, game.parts.ships.contains(one));
-        }
-    });
+        let drawn = game.parts.bodies.iter().map(|(one, body)| {
+            let is_drone = game.parts.ships.contains(one);
+            [one.index() as i32, body.place, is_drone.into()]
+        });
+        DRAWN.with_borrow_mut(|all| {
+            all.clear();
+            all.extend(drawn);
+            all.len()
+        })
+    })
 }
 
-#[unsafe(no_mangle)]
+/// Where they begin: of each its slot, its place, and 1 for a drone.
+#[no_mangle]
+extern "C" fn drawn() -> *const [i32; 3] {
+    DRAWN.with_borrow(|all| all.as_ptr())
+}
+
+#[no_mangle]
 extern "C" fn digest() -> u64 {
     GAME.with_borrow(|game| game.parts.digest())
 }

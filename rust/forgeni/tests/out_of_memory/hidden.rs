@@ -239,18 +239,17 @@ mod of_many {
             let (opened, refused) = refusing(refusal, || entities.open_in_blocks(&sizes));
             let (blocks, reservers) = opened.unwrap_or_else(|undealt| {
                 assert!(refused > 0);
-                assert_eq!(
-                    (undealt.error, undealt.entities.len()),
-                    (DealError::Memory, 2)
-                );
-                undealt.entities.open_in_blocks(&sizes).expect("memory")
+                let (entities, error) = undealt.into_parts();
+                assert_eq!((error, entities.len()), (DealError::Memory, 2));
+                entities.open_in_blocks(&sizes).expect("memory")
             });
             assert_eq!(reservers.len(), 1_100);
             let (closed, more) = refusing(refusal, || blocks.close(reservers));
             let entities = closed.or_else(|unended| {
                 assert!(more > 0);
-                assert_eq!(unended.error, forgeni::EndError::Memory);
-                unended.blocks.close(unended.reservers)
+                let ((blocks, reservers), error) = unended.into_parts();
+                assert_eq!(error, forgeni::EndError::Memory);
+                blocks.close(reservers)
             });
             assert_eq!(entities.expect("memory").len(), 2);
             refused + more
@@ -260,9 +259,10 @@ mod of_many {
             let (opened, refused) = refusing(refusal, || world.open_in_blocks(&sizes));
             let (open, reservers) = opened.unwrap_or_else(|undealt| {
                 assert!(refused > 0);
-                assert_eq!(undealt.error, DealError::Memory);
-                assert_eq!(all(&undealt.world), all(&two()));
-                undealt.world.open_in_blocks(&sizes).expect("memory")
+                let (world, error) = undealt.into_parts();
+                assert_eq!(error, DealError::Memory);
+                assert_eq!(all(&world), all(&two()));
+                world.open_in_blocks(&sizes).expect("memory")
             });
             assert_eq!(reservers.len(), 1_100);
             let closed = open.close(reservers);
@@ -359,7 +359,7 @@ mod systems {
         let (done, refused) = refusing(refusal, || match with_sync {
             true => run_to_sync_point(&StdThreads, &mut entities, &systems, 1, &mut born)
                 .map(drop)
-                .map_err(|unbegun| unbegun.error),
+                .map_err(|unbegun| unbegun.into_parts().1),
             false => run_logs(&mut entities, &systems, 1).map(drop),
         });
         let ran = ran.load(Ordering::Relaxed);
@@ -395,11 +395,9 @@ mod systems {
             let (done, refused) = refusing(refusal, run);
             let (logs, reservers) = done.unwrap_or_else(|unrun| {
                 assert!(refused > 0);
-                assert_eq!(
-                    (unrun.error, unrun.reservers.len()),
-                    (RunError::Memory, 1_100)
-                );
-                run_in_blocks(&StdThreads, &blocks, unrun.reservers, &systems, 1).expect("memory")
+                let (reservers, error) = unrun.into_parts();
+                assert_eq!((error, reservers.len()), (RunError::Memory, 1_100));
+                run_in_blocks(&StdThreads, &blocks, reservers, &systems, 1).expect("memory")
             });
             assert_eq!(
                 (logs.len(), blocks.close(reservers).expect("memory").len()),

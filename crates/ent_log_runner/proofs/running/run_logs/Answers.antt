@@ -1,4 +1,4 @@
-use Rattle.ent_log_runner.proofs.Common.{rules, ◌≡◌, ◌∙◌, ap, length, refl, length-map, IfSome, IfNone, Reserver, records_of, written_back, none_weaker, some_weaker, done_seen, broken_off_seen, HaveLogged, IsBrokenOff}
+use Rattle.ent_log_runner.proofs.Common.{rules, ◌≡◌, ◌∙◌, ap, length, refl, length-map, IfOk, OnErr, IfOk-weaker, IfErr-weaker, Reserver, records_of, written_back, done_seen, broken_off_seen, HaveLogged, IsBrokenOff}
 use Rattle.ent_log_runner.proofs.Logged.{Logs, ran}
 use Rattle.ent_log_runner.proofs.Nothing.{logged_nothing}
 use Rattle.ent_log_runner.proofs.Reserved.{reserved_all}
@@ -11,9 +11,9 @@ same : (g : given.Over) (c : After-close g) → c.in-Ok-share.made.0.start ≡ c
 same g c = search rules
 
 -- the crew has worked, and the allocator was closed
-closed : (g : given.Over) (c : After-close g) → IfSome c.work-logs.result
+closed : (g : given.Over) (c : After-close g) → IfOk c.work-logs.result
     (λ logs. HaveLogged g.S.LogSystem.may_log c.args.systems.now c.args.workers c.args.entities.now.allocator
-    logs.items c.close.result.allocator) × IfNone c.work-logs.result (IsBrokenOff g.S.LogSystem.may_log
+    logs.items c.close.result.allocator) × OnErr c.work-logs.result (IsBrokenOff g.S.LogSystem.may_log
     g.S.LogSystem.may_leave c.args.systems.now c.args.workers c.args.entities.now.allocator c.close.result.allocator)
 closed g c =
     let own = λ (r : Reserver). r.own in
@@ -29,12 +29,12 @@ closed g c =
     (length-map c.deref_mut.result.now own ∙ many) (length-map c.work-logs.new.lent own ∙ (w.count ∙ many))
     (rw (back, same g c) at e.legal) (rw back at e.respects) (rw (back, same g c) at e.after) g.S.LogSystem.may_log
     g.S.LogSystem.may_leave c.args.systems.now c.work-logs.result _ (search rules)
-    (some_weaker c.work-logs.result (λ logs. done_seen own may leave _ c.deref_mut.result.now logs.items
-    c.work-logs.new.lent) w.done) (none_weaker c.work-logs.result
-    (broken_off_seen own may leave _ c.deref_mut.result.now c.work-logs.new.lent) w.broken_off)
+    (IfOk-weaker c.work-logs.result _ _ (λ logs. done_seen own may leave _ c.deref_mut.result.now logs.items
+    c.work-logs.new.lent) w.done) (IfErr-weaker c.work-logs.result _ _ (λ left. broken_off_seen own may leave _
+    c.deref_mut.result.now left.items c.work-logs.new.lent) w.broken_off)
 
 pub returns-clause-ok : goal.returns-clause-ok
-returns-clause-ok g c = rw c.in-Some.is at ((closed g (goal.at.returns-clause-ok g c).After-close).0)
+returns-clause-ok g c = rw c.in-Ok-logs.is at ((closed g (goal.at.returns-clause-ok g c).After-close).0)
 
 pub returns-in_default-logs-clause-lost : goal.returns-in_default-logs-clause-lost
 returns-in_default-logs-clause-lost g c lost = search

@@ -1,5 +1,5 @@
 use Rattle.ent_runner.proofs.Common.{ap, length, arith}
-use Rattle.ent_runner.proofs.Disbanding.{disbanded_on, inside_first, moved_on}
+use Rattle.ent_runner.proofs.Disbanding.{disbanded_on, fewer_on, inside_first, moved_on}
 use Rattle.ent_runner.proofs.crew.disband.Goals as goal
 
 pub put_all-requires : goal.put_all-requires
@@ -18,5 +18,6 @@ loop-worker-preserved g c =
       claimers = moved_on (λ w. w.claimer) _ _ _ _ i.claimers p.items;
       by_number = next.outputs_are _ (rw front at i.by_number);
       inside = next.inside;
+      lacking = fewer_on _ _ _ _ _ _ _ front (rw (c.len.ensures, c.in-Some.worker.done.ok.0) at c.saturating_sub-lacking.ensures) i.lacking;
       claimers_fit = omega (arith, less, p.len, p.capacity, i.claimers_fit);
     }

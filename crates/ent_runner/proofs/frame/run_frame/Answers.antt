@@ -1,6 +1,6 @@
-use Rattle.ent_runner.proofs.Common.{rules, ◌≡◌, ◌∙◌, ap, length, length-map, Reserver, records_of, world_at_start}
+use Rattle.ent_runner.proofs.Common.{rules, ◌≡◌, ◌∙◌, ap, length, length-map, Reserver, records_of, world_at_start, IfOk-weaker, IfErr-weaker}
 use Rattle.ent_runner.proofs.Alone.{ends_in_order}
-use Rattle.ent_runner.proofs.Conducting.{written_back, none_weaker, some_weaker}
+use Rattle.ent_runner.proofs.Conducting.{written_back}
 use Rattle.ent_runner.proofs.Framed.{Issues, ClosedAgain, closed_again, lost_again, broken_again, view_is}
 use Rattle.ent_runner.proofs.EachOutput.{done_seen, broken_off_seen}
 use Rattle.ent_runner.proofs.NoSystems.{ends_none}
@@ -30,9 +30,9 @@ closed g c =
     (search rules) (view_is c.in-Ok-open.made.0 c.view.result c.view.ensures.phase c.view.ensures.entities)
     (rw c.deref_mut.ensures.value (search rules)) (length-map c.deref_mut.result.now own ∙ many)
     (length-map c.work-queues.new.lent own ∙ (w.count ∙ many))
-    (some_weaker c.work-queues.result (λ q. done_seen own may leave _ c.deref_mut.result.now q.items
-    c.work-queues.new.lent) w.done) (none_weaker c.work-queues.result
-    (broken_off_seen own may leave _ c.deref_mut.result.now c.work-queues.new.lent) w.broken_off) e.phase e.entities
+    (IfOk-weaker c.work-queues.result _ _ (λ q. done_seen own may leave _ c.deref_mut.result.now q.items
+    c.work-queues.new.lent) w.done) (IfErr-weaker c.work-queues.result _ _ (λ left. broken_off_seen own may leave _
+    c.deref_mut.result.now left.items c.work-queues.new.lent) w.broken_off) e.phase e.entities
     (rw back at e.after) (rw back at e.legal) (rw back at e.respects)
 
 pub close-requires-clause-own : goal.close-requires-clause-own

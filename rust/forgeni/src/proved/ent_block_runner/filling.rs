@@ -2,11 +2,12 @@
 
 use alloc::vec::Vec;
 use crate::proved::ent_block_runner::queue_stage::QueueStage;
-use crate::proved::ent_block_runner::room::{Room, WORKERS, check, prepare, unrun};
-use crate::proved::ent_block_runner::run_error::{RunError, Unrun};
+use crate::proved::ent_block_runner::room::{Room, WORKERS, check, prepare};
+use crate::proved::ent_block_runner::run_error::RunError;
 use crate::proved::ent_block_runner::splitting::split;
 use crate::proved::ent_block_runner::system_in_blocks::SystemInBlocks;
 use crate::proved::ent_blocks::{BlockReserver, Blocks};
+use crate::proved::ent_handle::HandedBack;
 use crate::proved::ent_queue::CommandQueue;
 use crate::proved::ent_world::View;
 use crate::kit::thread::Threads;
@@ -22,7 +23,7 @@ use crate::kit::thread::Threads;
 ///
 /// # Errors
 ///
-/// [`Unrun`] has the first of these that holds.
+/// [`HandedBack`] has the reservers that are handed back, and the first of these errors that holds.
 ///
 /// - [`RunError::Workers`], [`RunError::Systems`], [`RunError::Reservers`], [`RunError::OtherPhase`],
 ///   [`RunError::Memory`]: no system ran, and the reservers are handed back as they were. No systems
@@ -38,27 +39,27 @@ use crate::kit::thread::Threads;
 /// ensures ok { IfOk result (λ ran. HaveIssued S.may_issue systems.now view.entry blocks.now.phase.start
 ///     (blocks_of reservers.items) ran.0.items (blocks_of ran.1.items)) }
 /// ensures of { IfOk result (λ ran. All (λ r. r.number ≡ blocks.now.number) ran.1.items) }
-/// ensures workers { IsErrWith result (λ u. u.error ≡ failed.Workers)
+/// ensures workers { IsErrWith result (λ h. h.error ≡ failed.Workers)
 ///     ↔ ((workers ≡ 0) ⊎ (64 < workers)) }
-/// ensures systems { IsErrWith result (λ u. u.error ≡ failed.Systems)
+/// ensures systems { IsErrWith result (λ h. h.error ≡ failed.Systems)
 ///     ↔ ((0 < workers) × (workers ≤ 64) × (2 ^ 16 < length systems.now)) }
-/// ensures reservers { IsErrWith result (λ u. u.error ≡ failed.Reservers)
+/// ensures reservers { IsErrWith result (λ h. h.error ≡ failed.Reservers)
 ///     ↔ ((0 < workers) × (workers ≤ 64) × (length systems.now ≤ 2 ^ 16)
 ///     × (length reservers.items ≢ length systems.now)) }
-/// ensures other_phase { IsErrWith result (λ u. u.error ≡ failed.OtherPhase)
+/// ensures other_phase { IsErrWith result (λ h. h.error ≡ failed.OtherPhase)
 ///     ↔ ((0 < workers) × (workers ≤ 64) × (length systems.now ≤ 2 ^ 16)
 ///     × (length reservers.items ≡ length systems.now)
 ///     × ¬ (All (λ r. r.number ≡ blocks.now.number) reservers.items)) }
-/// ensures memory_some { IsErrWith result (λ u. u.error ≡ failed.Memory)
+/// ensures memory_some { IsErrWith result (λ h. h.error ≡ failed.Memory)
 ///     → 0 < length systems.now }
-/// ensures handed_back { IfErr result (λ u. u.error ≢ failed.Lost
-///     → u.reservers.items ≡ reservers.items) }
+/// ensures handed_back { IfErr result (λ h. h.error ≢ failed.Lost
+///     → h.value.items ≡ reservers.items) }
 ///
 /// // What is left if the systems were broken off.
-/// ensures lost { IsErrWith result (λ u. u.error ≡ failed.Lost) → HaveStopped S.may_issue
+/// ensures lost { IsErrWith result (λ h. h.error ≡ failed.Lost) → HaveStopped S.may_issue
 ///     S.may_leave systems.now workers view.entry blocks.now.phase.start (blocks_of reservers.items) }
-/// ensures lost_some { IsErrWith result (λ u. u.error ≡ failed.Lost) → 0 < length systems.now }
-/// ensures lost_reservers { IfErr result (λ u. u.error ≡ failed.Lost → u.reservers.items ≡ []) }
+/// ensures lost_some { IsErrWith result (λ h. h.error ≡ failed.Lost) → 0 < length systems.now }
+/// ensures lost_reservers { IfErr result (λ h. h.error ≡ failed.Lost → h.value.items ≡ []) }
 /// ```
 ///
 /// </details>
@@ -70,19 +71,19 @@ pub fn fill_in_blocks<R, S>(
     view: View<'_>,
     systems: &[S],
     workers: usize,
-) -> Result<(Vec<CommandQueue>, Vec<BlockReserver>), Unrun>
+) -> Result<(Vec<CommandQueue>, Vec<BlockReserver>), HandedBack<Vec<BlockReserver>, RunError>>
 where
     R: Threads + Sync,
     S: SystemInBlocks + Sync,
 {
     if let Err(error) = check(blocks, &reservers, systems.len(), workers) {
-        return Err(unrun(reservers, error));
+        return Err(HandedBack::new(reservers, error));
     }
     if systems.is_empty() {
         return Ok((Vec::new(), reservers));
     }
     let Ok(room) = prepare(systems.len(), workers) else {
-        return Err(unrun(reservers, RunError::Memory));
+        return Err(HandedBack::new(reservers, RunError::Memory));
     };
     let Room {
         crew,
@@ -96,8 +97,8 @@ where
         systems,
     };
     let mut nothing = [(); WORKERS];
-    let Some(done) = crew.work(rt, &mut nothing[..workers], &stage, &mut Vec::new()) else {
-        return Err(unrun(returned, RunError::Lost));
+    let Ok(done) = crew.work(rt, &mut nothing[..workers], &stage) else {
+        return Err(HandedBack::new(returned, RunError::Lost));
     };
     split(done, &mut queues, &mut returned);
     Ok((queues, returned))

@@ -2,12 +2,13 @@
 
 use alloc::vec::Vec;
 use crate::proved::ent_block_runner::filling::fill_in_blocks;
-use crate::proved::ent_block_runner::run_error::{RunError, Unrun};
+use crate::proved::ent_block_runner::run_error::RunError;
 use crate::proved::ent_block_runner::system_in_blocks::SystemInBlocks;
-use crate::proved::ent_blocks::BlockReserver;
+use crate::proved::ent_blocks::{BlockReserver, EndError};
+use crate::proved::ent_handle::HandedBack;
 use crate::proved::ent_queue::CommandQueue;
 use crate::proved::ent_runner::FrameReport;
-use crate::proved::ent_world::{SyncFault, UnendedWorld, World, WorldInBlocks};
+use crate::proved::ent_world::{SyncFault, World, WorldInBlocks};
 use crate::kit::thread::Threads;
 
 /// A frame in blocks that didn't end.
@@ -26,7 +27,7 @@ pub enum Unframed {
     /// [`World::apply`] does the sync point.
     Unended {
         /// The world as it was opened, the reservers, and why it wasn't closed.
-        unended: UnendedWorld,
+        unended: HandedBack<(WorldInBlocks, Vec<BlockReserver>), EndError>,
         /// The queue of each system, in the order of the systems.
         queues: Vec<CommandQueue>,
     },
@@ -142,7 +143,8 @@ where
     );
     let (queues, reservers) = match filled {
         Ok(filled) => filled,
-        Err(Unrun { reservers, error }) => {
+        Err(unrun) => {
+            let (reservers, error) = unrun.into_parts();
             return Err(Unframed::Unrun {
                 world: opened,
                 reservers,

@@ -16,7 +16,7 @@ mod system_in_blocks;
 
 pub use filling::fill_in_blocks;
 pub use frame::{Unframed, run_frame_in_blocks};
-pub use run_error::{RunError, Unrun};
+pub use run_error::RunError;
 pub use running::run_in_blocks;
 pub use system::BlockSystem;
 pub use system_in_blocks::SystemInBlocks;

@@ -3,7 +3,7 @@
 //! What systems in blocks need before they run: a reserver each, a crew, and room for what they hand back.
 use alloc::vec::Vec;
 use crate::kit::vec::FallibleVec;
-use crate::proved::ent_block_runner::run_error::{RunError, Unrun};
+use crate::proved::ent_block_runner::run_error::RunError;
 use crate::proved::ent_blocks::{BlockReserver, Blocks};
 use crate::proved::ent_handle::Memory;
 use crate::proved::ent_runner::Crew;
@@ -102,15 +102,4 @@ fn are_of(blocks: &Blocks, reservers: &[BlockReserver]) -> bool
         }
     }
     true
-}
-
-#[inline]
-pub(super) fn unrun(
-    reservers: Vec<BlockReserver>,
-    error: RunError,
-) -> Unrun
-    // ensures reservers { result.reservers.items ≡ reservers.items }
-    // ensures error { result.error ≡ error }
-{
-    Unrun { reservers, error }
 }

@@ -1,8 +1,5 @@
 // Made of crates/ent_block_runner/src/run_error.rt by rust/erase. It isn't edited by hand.
 
-use alloc::vec::Vec;
-use crate::proved::ent_blocks::BlockReserver;
-
 /// Why systems filled no logs.
 #[derive(Clone, Copy, Debug, PartialEq, Eq, Hash)]
 #[non_exhaustive]
@@ -36,12 +33,3 @@ impl core::fmt::Display for RunError {
 }
 
 impl core::error::Error for RunError {}
-
-/// Systems that filled no logs.
-pub struct Unrun {
-    /// The reservers that were handed in, as they were. None, if systems ran:
-    /// [`Blocks::close_lost`](crate::proved::ent_blocks::Blocks::close_lost) ends the phase without them.
-    pub reservers: Vec<BlockReserver>,
-    /// Why no logs were filled.
-    pub error: RunError,
-}

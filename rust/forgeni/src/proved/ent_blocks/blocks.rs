@@ -6,11 +6,11 @@ use crate::proved::ent_blocks::accounting::{account, are_of, missing};
 use crate::proved::ent_blocks::block_error::BlockError;
 use crate::proved::ent_blocks::block_reserver::BlockReserver;
 use crate::proved::ent_blocks::closing::take_used;
+use crate::proved::ent_blocks::end_error::EndError;
 use crate::proved::ent_blocks::part::Part;
 use crate::proved::ent_blocks::taking::{append, take_many, take_one};
-use crate::proved::ent_blocks::unended::{EndError, Unended};
 use crate::proved::ent_alloc::{Entities, Reserved, Space};
-use crate::proved::ent_handle::Handle;
+use crate::proved::ent_handle::{HandedBack, Handle};
 
 /// An allocator whose pool's front is dealt in blocks, one to each [`BlockReserver`].
 /// [`Entities::open_in_blocks`](crate::Entities::open_in_blocks) makes it.
@@ -307,8 +307,8 @@ impl Blocks {
     ///
     /// # Errors
     ///
-    /// [`Unended`] has the error, the phase and the reservers as they were. The error is the first
-    /// of these that holds: [`EndError::OtherPhase`], [`EndError::Order`], [`EndError::Missing`],
+    /// [`HandedBack`] has the phase and the reservers as they were, and the first of these errors
+    /// that holds: [`EndError::OtherPhase`], [`EndError::Order`], [`EndError::Missing`],
     /// [`EndError::Memory`].
     ///
     /// <details><summary>Contract</summary>
@@ -337,34 +337,37 @@ impl Blocks {
     /// // When it succeeds, when it is refused, and what stands then.
     /// ensures of { OnOk result (All (λ r. r.number ≡ self.number) reservers.items) }
     /// ensures all { OnOk result (map unused (blocks_of reservers.items) ≡ self.phase.blocks) }
-    /// ensures other_phase { IsErrWith result (λ u. u.error ≡ failed.OtherPhase)
+    /// ensures other_phase { IsErrWith result (λ h. h.error ≡ failed.OtherPhase)
     ///     ↔ ¬ (All (λ r. r.number ≡ self.number) reservers.items) }
-    /// ensures order { IsErrWith result (λ u. u.error ≡ failed.Order)
+    /// ensures order { IsErrWith result (λ h. h.error ≡ failed.Order)
     ///     ↔ (All (λ r. r.number ≡ self.number) reservers.items
     ///     × ¬ (IsTrue (are_among self.phase.blocks (blocks_of reservers.items)))) }
-    /// ensures missing { IsErrWith result (λ u.
-    ///     IsMissing (length self.phase.blocks - length reservers.items) u.error)
+    /// ensures missing { IsErrWith result (λ h.
+    ///     IsMissing (length self.phase.blocks - length reservers.items) h.error)
     ///     ↔ (All (λ r. r.number ≡ self.number) reservers.items
     ///     × (IsTrue (are_among self.phase.blocks (blocks_of reservers.items))
     ///     × (length reservers.items < length self.phase.blocks))) }
-    /// ensures missing_count { IfErr result (λ u. (n : ℕ) → IsMissing n u.error
+    /// ensures missing_count { IfErr result (λ h. (n : ℕ) → IsMissing n h.error
     ///     → n ≡ length self.phase.blocks - length reservers.items) }
-    /// ensures memory { IsErrWith result (λ u. u.error ≡ failed.Memory)
+    /// ensures memory { IsErrWith result (λ h. h.error ≡ failed.Memory)
     ///     → 0 < length self.phase.blocks }
-    /// ensures handed_back { IfErr result (λ u. (u.blocks ≡ self)
-    ///     × (u.reservers.items ≡ reservers.items)) }
+    /// ensures handed_back { IfErr result (λ h. (h.value.0 ≡ self)
+    ///     × (h.value.1.items ≡ reservers.items)) }
     /// ```
     ///
     /// </details>
     #[inline]
-    pub fn close(self, reservers: Vec<BlockReserver>) -> Result<Entities, Unended> {
+    pub fn close(
+        self,
+        reservers: Vec<BlockReserver>,
+    ) -> Result<Entities, HandedBack<(Self, Vec<BlockReserver>), EndError>> {
         if !are_of(self.number, &reservers) {
-            return Err(self.unended(reservers, EndError::OtherPhase));
+            return Err(HandedBack::new((self, reservers), EndError::OtherPhase));
         }
         match missing(&self.parts, &reservers) {
-            None => Err(self.unended(reservers, EndError::Order)),
+            None => Err(HandedBack::new((self, reservers), EndError::Order)),
             Some(0) => self.end_with(reservers),
-            Some(count) => Err(self.unended(reservers, EndError::Missing { count })),
+            Some(count) => Err(HandedBack::new((self, reservers), EndError::Missing { count })),
         }
     }
 
@@ -379,7 +382,7 @@ impl Blocks {
     /// let (blocks, mut reservers) = Entities::new().open_in_blocks(&[3, 4])?;
     /// let used = blocks.reserve(&mut reservers[1])?;
     /// drop(reservers.remove(0));
-    /// let (blocks, reservers, error) = blocks.close(reservers).unwrap_err().into_parts();
+    /// let ((blocks, reservers), error) = blocks.close(reservers).unwrap_err().into_parts();
     /// assert_eq!(error, EndError::Missing { count: 1 });
     /// let mut entities = blocks.close_lost(reservers)?;
     /// let mut born = Vec::new();
@@ -390,8 +393,8 @@ impl Blocks {
     ///
     /// # Errors
     ///
-    /// [`Unended`] has the error, the phase and the reservers as they were. The error is the first
-    /// of these that holds: [`EndError::OtherPhase`], [`EndError::Order`], [`EndError::Memory`].
+    /// [`HandedBack`] has the phase and the reservers as they were, and the first of these errors
+    /// that holds: [`EndError::OtherPhase`], [`EndError::Order`], [`EndError::Memory`].
     ///
     /// <details><summary>Contract</summary>
     ///
@@ -418,33 +421,39 @@ impl Blocks {
     /// ensures of { OnOk result (All (λ r. r.number ≡ self.number) reservers.items) }
     /// ensures among { OnOk result
     ///     (IsTrue (are_among self.phase.blocks (blocks_of reservers.items))) }
-    /// ensures other_phase { IsErrWith result (λ u. u.error ≡ failed.OtherPhase)
+    /// ensures other_phase { IsErrWith result (λ h. h.error ≡ failed.OtherPhase)
     ///     ↔ ¬ (All (λ r. r.number ≡ self.number) reservers.items) }
-    /// ensures order { IsErrWith result (λ u. u.error ≡ failed.Order)
+    /// ensures order { IsErrWith result (λ h. h.error ≡ failed.Order)
     ///     ↔ (All (λ r. r.number ≡ self.number) reservers.items
     ///     × ¬ (IsTrue (are_among self.phase.blocks (blocks_of reservers.items)))) }
-    /// ensures no_missing { IfErr result (λ u. (n : ℕ) → ¬ (IsMissing n u.error)) }
-    /// ensures memory { IsErrWith result (λ u. u.error ≡ failed.Memory)
+    /// ensures no_missing { IfErr result (λ h. (n : ℕ) → ¬ (IsMissing n h.error)) }
+    /// ensures memory { IsErrWith result (λ h. h.error ≡ failed.Memory)
     ///     → 0 < length self.phase.blocks }
-    /// ensures handed_back { IfErr result (λ u. (u.blocks ≡ self)
-    ///     × (u.reservers.items ≡ reservers.items)) }
+    /// ensures handed_back { IfErr result (λ h. (h.value.0 ≡ self)
+    ///     × (h.value.1.items ≡ reservers.items)) }
     /// ```
     ///
     /// </details>
     #[inline]
-    pub fn close_lost(self, reservers: Vec<BlockReserver>) -> Result<Entities, Unended> {
+    pub fn close_lost(
+        self,
+        reservers: Vec<BlockReserver>,
+    ) -> Result<Entities, HandedBack<(Self, Vec<BlockReserver>), EndError>> {
         if !are_of(self.number, &reservers) {
-            return Err(self.unended(reservers, EndError::OtherPhase));
+            return Err(HandedBack::new((self, reservers), EndError::OtherPhase));
         }
         if missing(&self.parts, &reservers).is_none() {
-            return Err(self.unended(reservers, EndError::Order));
+            return Err(HandedBack::new((self, reservers), EndError::Order));
         }
         self.end_with(reservers)
     }
 
     /// Ends the phase with these reservers, of some of its blocks.
     #[inline]
-    fn end_with(self, reservers: Vec<BlockReserver>) -> Result<Entities, Unended>
+    fn end_with(
+        self,
+        reservers: Vec<BlockReserver>,
+    ) -> Result<Entities, HandedBack<(Self, Vec<BlockReserver>), EndError>>
         // ensures after { IfOk result (λ entities. entities.allocator ≡ after_blocks
         //     self.phase.start (accounted self.phase.blocks (blocks_of reservers.items))) }
         // ensures rows { IfOk result (λ entities. entities.rows ≡ self.phase.rows) }
@@ -458,10 +467,10 @@ impl Blocks {
         // ensures brings_to_life { IfOk result (λ entities. (h : HandleValue) →
         //     IsLive (after_flush entities.allocator) h
         //     ↔ (IsLive self.phase.start h ⊎ Contains entities.allocator.taken h)) }
-        // ensures error { IfErr result (λ u. u.error ≡ failed.Memory) }
+        // ensures error { IfErr result (λ h. h.error ≡ failed.Memory) }
         // ensures memory { OnErr result (0 < length self.phase.blocks) }
-        // ensures handed_back { IfErr result (λ u. (u.blocks ≡ self)
-        //     × (u.reservers.items ≡ reservers.items)) }
+        // ensures handed_back { IfErr result (λ h. (h.value.0 ≡ self)
+        //     × (h.value.1.items ≡ reservers.items)) }
         // ensures unused { map unused
         //     (accounted self.phase.blocks (blocks_of reservers.items)) ≡ self.phase.blocks }
     {
@@ -472,27 +481,13 @@ impl Blocks {
         } = self;
         let Ok(all) = account(&parts, &reservers) else {
             let blocks = Blocks::new(entities, parts, number);
-            return Err(blocks.unended(reservers, EndError::Memory));
+            return Err(HandedBack::new((blocks, reservers), EndError::Memory));
         };
         let Ok(()) = take_used(&mut entities, &all) else {
             let blocks = Blocks::new(entities, parts, number);
-            return Err(blocks.unended(reservers, EndError::Memory));
+            return Err(HandedBack::new((blocks, reservers), EndError::Memory));
         };
         Ok(entities)
-    }
-
-    /// The phase goes on, and hands these back.
-    #[inline]
-    fn unended(self, reservers: Vec<BlockReserver>, error: EndError) -> Unended
-        // ensures blocks { result.blocks ≡ self }
-        // ensures reservers { result.reservers.items ≡ reservers.items }
-        // ensures error { result.error ≡ error }
-    {
-        Unended {
-            blocks: self,
-            reservers,
-            error,
-        }
     }
 }
 

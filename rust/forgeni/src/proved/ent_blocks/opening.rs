@@ -6,10 +6,10 @@ use alloc::vec::Vec;
 use crate::kit::vec::FallibleVec;
 use crate::proved::ent_blocks::block_reserver::BlockReserver;
 use crate::proved::ent_blocks::blocks::Blocks;
+use crate::proved::ent_blocks::deal_error::DealError;
 use crate::proved::ent_blocks::part::Part;
-use crate::proved::ent_blocks::undealt::{DealError, Undealt};
 use crate::proved::ent_alloc::Entities;
-use crate::proved::ent_handle::Memory;
+use crate::proved::ent_handle::{HandedBack, Memory};
 
 /// A phase in blocks that has no number yet.
 pub struct Deal {
@@ -26,8 +26,8 @@ pub struct Deal {
 ///
 /// # Errors
 ///
-/// [`Undealt`] has the error, and the allocator as it was: [`DealError::NeedsFlush`], or
-/// [`DealError::Memory`]. No sizes take no memory.
+/// [`HandedBack`] has the allocator as it was, and [`DealError::NeedsFlush`] or [`DealError::Memory`].
+/// No sizes take no memory.
 ///
 /// <details><summary>Contract</summary>
 ///
@@ -38,10 +38,10 @@ pub struct Deal {
 /// ensures rows { IfOk result (λ d. d.rows ≡ entities.rows) }
 /// ensures blocks { IfOk result (λ d. d.blocks
 ///     ≡ blocks_from 0 (length entities.allocator.pool) sizes.now) }
-/// ensures needs_flush { IsErrWith result (λ u. u.error ≡ failed.NeedsFlush)
+/// ensures needs_flush { IsErrWith result (λ h. h.error ≡ failed.NeedsFlush)
 ///     ↔ (0 < entities.allocator.asked) }
-/// ensures memory { IsErrWith result (λ u. u.error ≡ failed.Memory) → 0 < length sizes.now }
-/// ensures handed_back { IfErr result (λ u. u.entities ≡ entities) }
+/// ensures memory { IsErrWith result (λ h. h.error ≡ failed.Memory) → 0 < length sizes.now }
+/// ensures handed_back { IfErr result (λ h. h.value ≡ entities) }
 /// ```
 ///
 /// </details>
@@ -49,38 +49,24 @@ pub struct Deal {
 pub fn open_in_blocks(
     entities: Entities,
     sizes: &[u32],
-) -> Result<Deal, Undealt> {
+) -> Result<Deal, HandedBack<Entities, DealError>> {
     if entities.needs_flush() {
-        return Err(Undealt {
-            entities,
-            error: DealError::NeedsFlush,
-        });
+        return Err(HandedBack::new(entities, DealError::NeedsFlush));
     }
 
     // Its contract says that the state is sound.
     let _top = entities.cursor();
     let Ok(reservers) = Vec::with_capacity_fallibly(sizes.len()) else {
-        return Err(out_of_memory(entities));
+        return Err(HandedBack::new(entities, DealError::Memory));
     };
     let Ok(parts) = parts_of(&entities, sizes) else {
-        return Err(out_of_memory(entities));
+        return Err(HandedBack::new(entities, DealError::Memory));
     };
     Ok(Deal {
         entities,
         parts,
         reservers,
     })
-}
-
-#[inline]
-fn out_of_memory(entities: Entities) -> Undealt
-    // ensures entities { result.entities ≡ entities }
-    // ensures error { result.error ≡ failed.Memory }
-{
-    Undealt {
-        entities,
-        error: DealError::Memory,
-    }
 }
 
 impl Deal {

@@ -1,5 +1,6 @@
 // Made of crates/ent_log/src/entry.rt by rust/erase. It isn't edited by hand.
 
+use crate::proved::ent_alloc::Refused;
 use crate::proved::ent_handle::Handle;
 
 /// What a [`Log`](crate::proved::ent_log::Log) has of one call, and a sync point hands on.
@@ -7,6 +8,8 @@ use crate::proved::ent_handle::Handle;
 pub enum Entry<C> {
     /// A handle that a spawn returned. It is alive when the sync point hands on its first entry.
     Spawn(Handle),
+    /// Why a spawn returned no handle. Nothing comes to life for it.
+    Refused(Refused),
     /// A command of the caller's.
     Command(C),
 }

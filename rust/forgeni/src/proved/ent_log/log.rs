@@ -55,8 +55,67 @@ impl<C> Log<C> {
         &self.entries
     }
 
-    /// Reserves a handle at once, and adds its entry. Room for the entry is allocated first, so each
-    /// handle that is reserved has one.
+    /// How many entries there are.
+    ///
+    /// <details><summary>Contract</summary>
+    ///
+    /// In the words of the folder `specs/` of crate `ent_log`:
+    ///
+    /// ```text
+    /// ensures { result ≡ length self.now }
+    /// ```
+    ///
+    /// </details>
+    #[must_use]
+    #[inline]
+    pub fn len(&self) -> usize {
+        self.entries.len()
+    }
+
+    /// Whether there is none.
+    ///
+    /// <details><summary>Contract</summary>
+    ///
+    /// In the words of the folder `specs/` of crate `ent_log`:
+    ///
+    /// ```text
+    /// ensures { IsTrue result ↔ (self.now ≡ []) }
+    /// ```
+    ///
+    /// </details>
+    #[must_use]
+    #[inline]
+    pub fn is_empty(&self) -> bool {
+        self.entries.is_empty()
+    }
+
+    /// How many of its spawns were refused.
+    ///
+    /// <details><summary>Contract</summary>
+    ///
+    /// In the words of the folder `specs/` of crate `ent_log`:
+    ///
+    /// ```text
+    /// ensures { result ≡ length (refused_in self.now) }
+    /// ```
+    ///
+    /// </details>
+    #[must_use]
+    #[inline]
+    pub fn refused(&self) -> usize {
+        let mut refused = 0;
+        let mut rest = self.entries.as_slice();
+        while let Some((entry, behind)) = rest.split_first() {
+            if let Entry::Refused(_) = entry {
+                refused += 1;
+            }
+            rest = behind;
+        }
+        refused
+    }
+
+    /// Reserves a handle at once, and adds its entry, or that of the refusal. Room for the entry is
+    /// allocated first, so each reservation has one.
     ///
     /// ```
     /// use forgeni::{Entities, Entry, Log};
@@ -65,16 +124,18 @@ impl<C> Log<C> {
     /// let mut log: Log<()> = Log::new();
     /// let cart = log.spawn(&mut reservers[0])?;
     /// assert_eq!(log.entries(), [Entry::Spawn(cart)]);
+    /// assert_eq!(log.refused(), 0);
     /// # drop(shared);
     /// # Ok::<(), Box<dyn std::error::Error + Send + Sync>>(())
     /// ```
     ///
     /// # Errors
     ///
-    /// The log is as it was.
-    ///
-    /// - [`ReserveError::Memory`] if there is no room for the entry. Nothing was reserved.
-    /// - [`ReserveError::Space`] and [`ReserveError::Quota`] as the reservation returns them.
+    /// - [`ReserveError::Memory`] if there is no room for the entry. The log is as it was, and
+    ///   nothing was reserved.
+    /// - [`ReserveError::Space`] and [`ReserveError::Quota`] as the reservation returns them. The
+    ///   log has an entry for the [refusal](Entry::Refused), which the sync point hands on in its
+    ///   turn. [`ReserveError::or_memory`] lets the system go on.
     ///
     /// <details><summary>Contract</summary>
     ///
@@ -82,7 +143,7 @@ impl<C> Log<C> {
     ///
     /// ```text
     /// ensures ok { IfOk result (λ handle. self.new ≡ self.old ++ Spawn handle ∷ []) }
-    /// ensures err { OnErr result (self.new ≡ self.old) }
+    /// ensures refused { IfErr result (λ error. self.new ≡ self.old ++ refused_by error) }
     ///
     /// // Anything but Memory is the result of one reservation.
     /// ensures replies { (reply : Result HandleValue Refusal) → result ≡ returned reply
@@ -94,9 +155,16 @@ impl<C> Log<C> {
     #[inline]
     pub fn spawn<S: Reserves>(&mut self, source: &mut S) -> Result<Handle, ReserveError> {
         self.entries.reserve_fallibly(1)?;
-        let handle = source.reserve_one()?;
-        self.entries.push_reserved(Entry::Spawn(handle));
-        Ok(handle)
+        match source.reserve_one() {
+            Ok(handle) => {
+                self.entries.push_reserved(Entry::Spawn(handle));
+                Ok(handle)
+            }
+            Err(why) => {
+                self.entries.push_reserved(Entry::Refused(why));
+                Err(ReserveError::from(why))
+            }
+        }
     }
 
     /// Reserves a handle at once, of a source that serves this reserver, and adds its entry. Room for the
@@ -179,6 +247,22 @@ impl<C> Log<C> {
         self.entries.reserve_fallibly(1)?;
         self.entries.push_reserved(Entry::Command(command));
         Ok(())
+    }
+
+    /// Drops all entries, and keeps their room. So as many as it had before take no memory.
+    ///
+    /// <details><summary>Contract</summary>
+    ///
+    /// In the words of the folder `specs/` of crate `ent_log`:
+    ///
+    /// ```text
+    /// ensures { self.new ≡ [] }
+    /// ```
+    ///
+    /// </details>
+    #[inline]
+    pub fn clear(&mut self) {
+        self.entries.clear();
     }
 }
 

@@ -26,38 +26,16 @@ fn put<O>(done: Done<O>, by_number: &mut [Option<O>])
     by_number[number] = Some(output);
 }
 
-/// Moves the outputs into this list, which has room for them, in the order of the jobs. If a job has
-/// no output, since it wasn't done, it returns `None`, and drops no output: they are in `left`.
+/// Moves the outputs into this list, which has room for them, in the order of the jobs.
 #[inline]
-pub(super) fn collect<O>(
-    by_number: Vec<Option<O>>,
-    mut outputs: Vec<O>,
-    left: &mut Vec<Option<O>>,
-) -> Option<Vec<O>>
+pub(super) fn collect<O>(by_number: Vec<Option<O>>, mut outputs: Vec<O>) -> Vec<O>
+    // requires all { All IsSome by_number.items }
     // requires empty { outputs.items ≡ [] }
     // requires room { length by_number.items ≤ vec_capacity outputs }
-    // ensures all { IfSome result (λ outputs. map Some outputs.items ≡ by_number.items) }
-    // ensures lacking { IfNone result (Any (λ output. output ≡ None) by_number.items) }
-{
-    if lacks_one(&by_number) {
-        *left = by_number;
-        return None;
-    }
-    for output in by_number {
-        outputs.push_reserved(output?);
-    }
-    Some(outputs)
-}
-
-/// Whether a job has no output.
-#[inline]
-fn lacks_one<O>(by_number: &[Option<O>]) -> bool
-    // ensures { IsTrue result → Any (λ output. output ≡ None) by_number.now }
+    // ensures { map Some result.items ≡ by_number.items }
 {
     for output in by_number {
-        if output.is_none() {
-            return true;
-        }
+        outputs.push_reserved(output.unwrap());
     }
-    false
+    outputs
 }

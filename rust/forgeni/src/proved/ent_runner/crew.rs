@@ -59,18 +59,14 @@ impl<O> Crew<O> {
     ///
     /// The workers run in threads of `rt`. If a thread can't be started, another one does its work.
     ///
-    /// `None` means that memory ran out: a job returned `Memory`, or jobs are left and no worker
-    /// has memory for the output of another one. All workers have ended then. What the jobs did to
-    /// what was lent stays done. The outputs are in `left`, so that the caller drops them when it is
-    /// ready for what their drop may do. What was in `left` before is gone.
+    /// # Errors
+    ///
+    /// The outputs that were made, each at the number of its job. Memory ran out: a job returned
+    /// `Memory`, or jobs are left and no worker has memory for the output of another one. All
+    /// workers have ended then. What the jobs did to what was lent stays done. The caller drops the
+    /// outputs when it is ready for what their drop may do.
     #[inline]
-    pub(crate) fn work<R, L, J>(
-        self,
-        rt: &R,
-        lent: &mut [L],
-        jobs: &J,
-        left: &mut Vec<Option<O>>,
-    ) -> Option<Vec<O>>
+    pub(crate) fn work<R, L, J>(self, rt: &R, lent: &mut [L], jobs: &J) -> Result<Vec<O>, Vec<Option<O>>>
     where
         R: Threads + Sync,
         O: Send,
@@ -81,13 +77,13 @@ impl<O> Crew<O> {
         // requires lent { All (J.may_have jobs.now) lent.old }
         // ensures count { length lent.new ≡ length lent.old }
         // ensures lent { All (J.may_have jobs.now) lent.new }
-        // ensures done { IfSome result (λ outputs. AreDone (J.may_do jobs.now) self.jobs
+        // ensures done { IfOk result (λ outputs. AreDone (J.may_do jobs.now) self.jobs
         //     lent.old outputs.items lent.new) }
-        // ensures broken_off { IfNone result (AreBrokenOff (J.may_do jobs.now)
-        //     (J.may_leave jobs.now) self.jobs lent.old lent.new) }
+        // ensures broken_off { IfErr result (λ left. AreBrokenOff (J.may_do jobs.now)
+        //     (J.may_leave jobs.now) self.jobs lent.old left.items lent.new) }
 
         // So late, memory runs out only in a job, or in workers that have done one.
-        // ensures some { IfNone result (0 < self.jobs) }
+        // ensures some { OnErr result (0 < self.jobs) }
     {
         let Crew {
             claims,
@@ -104,13 +100,12 @@ impl<O> Crew<O> {
         };
         run_all(rt, &site, &mut workers, lent, threads);
         let stopped = some_stopped(&workers);
-        disband(workers, &mut claimers, &mut by_number);
+        let lacking = disband(workers, &mut claimers, &mut by_number);
         claims.close(claimers);
-        if stopped {
-            *left = by_number;
-            return None;
+        if stopped || lacking > 0 {
+            return Err(by_number);
         }
-        collect(by_number, outputs, left)
+        Ok(collect(by_number, outputs))
     }
 }
 
@@ -164,13 +159,14 @@ fn some_stopped<O>(workers: &[Worker<O>]) -> bool
     false
 }
 
-/// Takes the workers apart, and puts the outputs at the numbers of their jobs.
+/// Takes the workers apart, and puts the outputs at the numbers of their jobs. It returns how many
+/// outputs are lacking.
 #[inline]
 fn disband<O>(
     workers: Vec<Worker<O>>,
     claimers: &mut Vec<Claimer>,
     by_number: &mut [Option<O>],
-)
+) -> usize
     // requires empty { claimers.old.items ≡ [] }
     // requires room { length workers.items ≤ vec_capacity claimers.old }
     // requires inside { All (λ w. All (λ d. d.number < length by_number.old) w.done.items)
@@ -178,9 +174,14 @@ fn disband<O>(
     // ensures claimers { claimers.new.items ≡ map (λ w. w.claimer) workers.items }
     // ensures by_number { by_number.new
     //     ≡ outputs_put (flat_map (λ w. w.done.items) workers.items) by_number.old }
+    // ensures lacking { result
+    //     ≡ length by_number.old - length (flat_map (λ w. w.done.items) workers.items) }
 {
+    let mut lacking = by_number.len();
     for worker in workers {
+        lacking = lacking.saturating_sub(worker.done.len());
         claimers.push_reserved(worker.claimer);
         put_all(worker.done, by_number);
     }
+    lacking
 }

@@ -1,12 +1,14 @@
 // Made of crates/ent_total/src/closing.rt by rust/erase. It isn't edited by hand.
 
 //! A phase ends, and gives the allocator back.
+
 use alloc::vec::Vec;
+use crate::proved::ent_total::close_error::CloseError;
 use crate::proved::ent_total::reserver::Reserver;
 use crate::proved::ent_total::returning::are_of;
 use crate::proved::ent_total::shared::Shared;
-use crate::proved::ent_total::unclosed::{CloseError, Unclosed};
 use crate::proved::ent_alloc::Entities;
+use crate::proved::ent_handle::HandedBack;
 
 impl Shared {
     /// Ends the phase with all its reservers: those that are returned, and these. The allocator is as
@@ -33,8 +35,8 @@ impl Shared {
     ///
     /// # Errors
     ///
-    /// [`Unclosed`] has the error, and the `Shared`, which goes on. The error is the first of these
-    /// that holds: [`CloseError::OtherPhase`] and [`CloseError::Missing`], with all reservers
+    /// [`HandedBack`] has the `Shared`, which goes on, the reservers that are handed back, and the
+    /// first of these errors that holds: [`CloseError::OtherPhase`] and [`CloseError::Missing`], with all reservers
     /// handed back; [`CloseError::InUse`], and then those that came are returned.
     ///
     /// <details><summary>Contract</summary>
@@ -74,28 +76,32 @@ impl Shared {
     /// // When it succeeds, when it is refused, and what holds then.
     /// ensures may_return { OnOk result (MayReturn self reservers.items) }
     /// ensures all { OnOk result (length (all_returned self reservers.items) ≡ self.shared.count) }
-    /// ensures other_phase { IsErrWith result (λ u. u.error ≡ OtherPhase)
+    /// ensures other_phase { IsErrWith result (λ h. h.error ≡ OtherPhase)
     ///     ↔ ¬ (MayReturn self reservers.items) }
-    /// ensures missing { IsErrWith result (λ u. IsMissing u.error)
+    /// ensures missing { IsErrWith result (λ h. IsMissing h.error)
     ///     ↔ (MayReturn self reservers.items
     ///     × (length (all_returned self reservers.items) < self.shared.count)) }
-    /// ensures how_many { IfErr result (λ u. IsMissing u.error
-    ///     → length (all_returned self reservers.items) + count_missing u.error ≡ self.shared.count) }
-    /// ensures handed_back { IfErr result (λ u. u.error ≢ InUse
-    ///     → (u.shared ≡ self) × (u.reservers.items ≡ reservers.items)) }
-    /// ensures returned { IfErr result (λ u. u.error ≡ InUse
-    ///     → (u.shared ≡ record self { returned = all_returned self reservers.items })
-    ///     × (u.reservers.items ≡ [])) }
+    /// ensures how_many { IfErr result (λ h. IsMissing h.error
+    ///     → length (all_returned self reservers.items) + count_missing h.error ≡ self.shared.count) }
+    /// ensures handed_back { IfErr result (λ h. h.error ≢ InUse
+    ///     → (h.value.0 ≡ self) × (h.value.1.items ≡ reservers.items)) }
+    /// ensures returned { IfErr result (λ h. h.error ≡ InUse
+    ///     → (h.value.0 ≡ record self { returned = all_returned self reservers.items })
+    ///     × (h.value.1.items ≡ [])) }
     /// ```
     ///
     /// </details>
     #[inline]
-    pub fn close(mut self, reservers: Vec<Reserver>) -> Result<Entities, Unclosed> {
+    pub fn close(
+        mut self,
+        reservers: Vec<Reserver>,
+    ) -> Result<Entities, HandedBack<(Self, Vec<Reserver>), CloseError>> {
         let Some(missing) = self.missing(&reservers) else {
-            return Err(self.unclosed(reservers, CloseError::OtherPhase));
+            return Err(HandedBack::new((self, reservers), CloseError::OtherPhase));
         };
         if missing > 0 {
-            return Err(self.unclosed(reservers, CloseError::Missing { count: missing }));
+            let error = CloseError::Missing { count: missing };
+            return Err(HandedBack::new((self, reservers), error));
         }
         self.take_back(reservers);
         match self.end() {
@@ -117,7 +123,7 @@ impl Shared {
     /// let (shared, mut reservers) = Entities::new().share(2)?;
     /// let lost = reservers.pop();
     /// drop(lost);
-    /// let (shared, reservers, error) = shared.close(reservers).unwrap_err().into_parts();
+    /// let ((shared, reservers), error) = shared.close(reservers).unwrap_err().into_parts();
     /// assert_eq!(error, CloseError::Missing { count: 1 });
     /// let entities = shared.close_lost(reservers)?;
     /// # Ok::<(), Box<dyn std::error::Error + Send + Sync>>(())
@@ -125,8 +131,8 @@ impl Shared {
     ///
     /// # Errors
     ///
-    /// [`Unclosed`] has the error, and the `Shared`, which goes on. The error is the first of these
-    /// that holds: [`CloseError::OtherPhase`], with all reservers handed back;
+    /// [`HandedBack`] has the `Shared`, which goes on, the reservers that are handed back, and the
+    /// first of these errors that holds: [`CloseError::OtherPhase`], with all reservers handed back;
     /// [`CloseError::InUse`], and then those that came are returned. As long as a reserver that
     /// wasn't handed in exists, it is `InUse`. One that was given to [`core::mem::forget`] exists
     /// for good.
@@ -180,21 +186,24 @@ impl Shared {
     ///
     /// // When it succeeds, when it is refused, and what holds then.
     /// ensures may_return { OnOk result (MayReturn self reservers.items) }
-    /// ensures other_phase { IsErrWith result (λ u. u.error ≡ OtherPhase)
+    /// ensures other_phase { IsErrWith result (λ h. h.error ≡ OtherPhase)
     ///     ↔ ¬ (MayReturn self reservers.items) }
-    /// ensures no_missing { IfErr result (λ u. ¬ (IsMissing u.error)) }
-    /// ensures handed_back { IfErr result (λ u. u.error ≢ InUse
-    ///     → (u.shared ≡ self) × (u.reservers.items ≡ reservers.items)) }
-    /// ensures returned { IfErr result (λ u. u.error ≡ InUse
-    ///     → (u.shared ≡ record self { returned = all_returned self reservers.items })
-    ///     × (u.reservers.items ≡ [])) }
+    /// ensures no_missing { IfErr result (λ h. ¬ (IsMissing h.error)) }
+    /// ensures handed_back { IfErr result (λ h. h.error ≢ InUse
+    ///     → (h.value.0 ≡ self) × (h.value.1.items ≡ reservers.items)) }
+    /// ensures returned { IfErr result (λ h. h.error ≡ InUse
+    ///     → (h.value.0 ≡ record self { returned = all_returned self reservers.items })
+    ///     × (h.value.1.items ≡ [])) }
     /// ```
     ///
     /// </details>
     #[inline]
-    pub fn close_lost(mut self, reservers: Vec<Reserver>) -> Result<Entities, Unclosed> {
+    pub fn close_lost(
+        mut self,
+        reservers: Vec<Reserver>,
+    ) -> Result<Entities, HandedBack<(Self, Vec<Reserver>), CloseError>> {
         if self.missing(&reservers).is_none() {
-            return Err(self.unclosed(reservers, CloseError::OtherPhase));
+            return Err(HandedBack::new((self, reservers), CloseError::OtherPhase));
         }
         self.take_back(reservers);
         match self.end() {
@@ -221,28 +230,14 @@ impl Shared {
         Some(most - returned - reservers.len())
     }
 
-    /// The phase goes on, and hands these back.
-    #[inline]
-    fn unclosed(self, reservers: Vec<Reserver>, error: CloseError) -> Unclosed
-        // ensures shared { result.shared ≡ self }
-        // ensures reservers { result.reservers.items ≡ reservers.items }
-        // ensures error { result.error ≡ error }
-    {
-        Unclosed {
-            shared: self,
-            reservers,
-            error,
-        }
-    }
-
     /// Somebody else owns a part of the phase.
     #[inline]
-    fn in_use(self) -> Unclosed
-        // ensures shared { result.shared ≡ self }
-        // ensures reservers { result.reservers.items ≡ [] }
+    fn in_use(self) -> HandedBack<(Self, Vec<Reserver>), CloseError>
+        // ensures shared { result.value.0 ≡ self }
+        // ensures reservers { result.value.1.items ≡ [] }
         // ensures error { result.error ≡ InUse }
     {
         let none = self.no_reservers();
-        self.unclosed(none, CloseError::InUse)
+        HandedBack::new((self, none), CloseError::InUse)
     }
 }

@@ -2,10 +2,10 @@
 
 //! A world is opened in blocks.
 use alloc::vec::Vec;
-use crate::proved::ent_total::undealt_world::UndealtWorld;
 use crate::proved::ent_total::world::World;
 use crate::proved::ent_total::world_in_blocks::WorldInBlocks;
-use crate::proved::ent_blocks::BlockReserver;
+use crate::proved::ent_blocks::{BlockReserver, DealError};
+use crate::proved::ent_handle::HandedBack;
 
 /// A world whose allocator is dealt in blocks, and that has no number yet.
 pub struct WorldDeal {
@@ -19,8 +19,8 @@ pub struct WorldDeal {
 ///
 /// # Errors
 ///
-/// [`UndealtWorld`] has the world as it was, and [`DealError::NeedsFlush`](crate::proved::ent_blocks::DealError) or
-/// [`DealError::Memory`](crate::proved::ent_blocks::DealError). No sizes take no memory.
+/// [`HandedBack`] has the world as it was, and [`DealError::NeedsFlush`] or [`DealError::Memory`]. No
+/// sizes take no memory.
 ///
 /// <details><summary>Contract</summary>
 ///
@@ -33,10 +33,10 @@ pub struct WorldDeal {
 ///     world_dealt d.deal.blocks d.deal.phase d.deal.entities ≡ world.world) }
 /// ensures blocks { IfOk result (λ d. d.deal.blocks.blocks
 ///     ≡ blocks_from 0 (length world.world.allocator.pool) sizes.now) }
-/// ensures needs_flush { IsErrWith result (λ u. u.error ≡ failed.NeedsFlush)
+/// ensures needs_flush { IsErrWith result (λ h. h.error ≡ failed.NeedsFlush)
 ///     ↔ (0 < world.world.allocator.asked) }
-/// ensures memory { IsErrWith result (λ u. u.error ≡ failed.Memory) → 0 < length sizes.now }
-/// ensures handed_back { IfErr result (λ u. u.world ≡ world) }
+/// ensures memory { IsErrWith result (λ h. h.error ≡ failed.Memory) → 0 < length sizes.now }
+/// ensures handed_back { IfErr result (λ h. h.value ≡ world) }
 /// ```
 ///
 /// </details>
@@ -44,7 +44,7 @@ pub struct WorldDeal {
 pub fn open_in_blocks(
     world: World,
     sizes: &[u32],
-) -> Result<WorldDeal, UndealtWorld> {
+) -> Result<WorldDeal, HandedBack<World, DealError>> {
     let World {
         world,
         number,
@@ -62,7 +62,7 @@ pub fn open_in_blocks(
                 number,
                 spawned,
             };
-            Err(UndealtWorld { world, error })
+            Err(HandedBack::new(world, error))
         }
     }
 }

@@ -5,9 +5,8 @@
 use alloc::vec::Vec;
 use crate::proved::ent_total::framing::{SYSTEMS, WORKERS};
 use crate::proved::ent_total::log_error::LogError;
-use crate::proved::ent_total::unbegun::Unbegun;
 use crate::proved::ent_alloc::Entities;
-use crate::proved::ent_handle::{Handle, Memory};
+use crate::proved::ent_handle::{HandedBack, Handle, Memory};
 use crate::proved::ent_log::{Log, SyncPoint};
 use crate::proved::ent_log_runner::{LogFault, LogSystem};
 use crate::kit::thread::Threads;
@@ -98,11 +97,12 @@ where
 ///
 /// # Errors
 ///
-/// [`Unbegun`] has the first of these that holds. The list is as it was.
+/// [`HandedBack`] has the logs that the sync point did not take, and the first of these errors that
+/// holds. The list is as it was.
 ///
 /// - Those of [`run_logs`]. There are no logs.
-/// - [`LogError::Unborn`]: all systems ran, and there is no memory for what is born. The error has
-///   the logs, for [`SyncPoint::begin`]. What the systems reserved stays reserved.
+/// - [`LogError::Unborn`]: all systems ran, and there is no memory for what is born. The logs are
+///   those of all systems, for [`SyncPoint::begin`]. What the systems reserved stays reserved.
 ///
 /// <details><summary>Contract</summary>
 ///
@@ -113,31 +113,31 @@ where
 ///     entities.old.allocator out.old.items point entities.new.allocator out.new.items) }
 /// ensures alive { IfOk result (λ point. All (IsLive entities.new.allocator) (spawned_in point)) }
 /// ensures rows { entities.new.rows ≡ entities.old.rows }
-/// ensures needs_flush { IsErrWith result (λ u. u.error ≡ failed.NeedsFlush)
+/// ensures needs_flush { IsErrWith result (λ h. h.error ≡ failed.NeedsFlush)
 ///     ↔ (0 < entities.old.allocator.asked) }
-/// ensures no_crew { IsErrWith result (λ u. u.error ≡ failed.Workers)
+/// ensures no_crew { IsErrWith result (λ h. h.error ≡ failed.Workers)
 ///     ↔ ((entities.old.allocator.asked ≡ 0) × ((workers ≡ 0) ⊎ (64 < workers))) }
-/// ensures too_many { IsErrWith result (λ u. u.error ≡ failed.Systems)
+/// ensures too_many { IsErrWith result (λ h. h.error ≡ failed.Systems)
 ///     ↔ ((entities.old.allocator.asked ≡ 0) × (0 < workers) × (workers ≤ 64)
 ///     × (2 ^ 16 < length systems.now)) }
-/// ensures memory_some { IsErrWith result (λ u. u.error ≡ failed.Memory)
+/// ensures memory_some { IsErrWith result (λ h. h.error ≡ failed.Memory)
 ///     → 0 < length systems.now }
-/// ensures nothing { IfErr result (λ u. u.error ≢ failed.Lost → u.error ≢ failed.Unborn
+/// ensures nothing { IfErr result (λ h. h.error ≢ failed.Lost → h.error ≢ failed.Unborn
 ///     → entities.new ≡ entities.old) }
-/// ensures none { IfErr result (λ u. u.error ≢ failed.Unborn → u.logs.items ≡ []) }
+/// ensures none { IfErr result (λ h. h.error ≢ failed.Unborn → h.value.items ≡ []) }
 /// ensures unlisted { OnErr result (out.new.items ≡ out.old.items) }
 ///
 /// // What is left of a run that was broken off.
-/// ensures lost { IsErrWith result (λ u. u.error ≡ failed.Lost) → IsBrokenOff S.may_log S.may_leave
+/// ensures lost { IsErrWith result (λ h. h.error ≡ failed.Lost) → IsBrokenOff S.may_log S.may_leave
 ///     systems.now workers entities.old.allocator entities.new.allocator }
-/// ensures lost_some { IsErrWith result (λ u. u.error ≡ failed.Lost) → 0 < length systems.now }
+/// ensures lost_some { IsErrWith result (λ h. h.error ≡ failed.Lost) → 0 < length systems.now }
 ///
 /// // What holds if only what was reserved isn't born.
-/// ensures unborn { IfErr result (λ u. u.error ≡ failed.Unborn → HaveLogged S.may_log systems.now
-///     workers entities.old.allocator u.logs.items entities.new.allocator) }
-/// ensures unborn_reserved { IfErr result (λ u. u.error ≡ failed.Unborn → first_unreserved
-///     entities.new.allocator (spawned_in (entries_of u.logs.items)) ≡ None) }
-/// ensures unborn_memory { IfErr result (λ u. u.error ≡ failed.Unborn
+/// ensures unborn { IfErr result (λ h. h.error ≡ failed.Unborn → HaveLogged S.may_log systems.now
+///     workers entities.old.allocator h.value.items entities.new.allocator) }
+/// ensures unborn_reserved { IfErr result (λ h. h.error ≡ failed.Unborn → first_unreserved
+///     entities.new.allocator (spawned_in (entries_of h.value.items)) ≡ None) }
+/// ensures unborn_memory { IfErr result (λ h. h.error ≡ failed.Unborn
 ///     → (0 < made_at_flush entities.new.allocator) ⊎ (vec_capacity out.old
 ///     < vec_len out.old + length entities.new.allocator.taken)) }
 /// ```
@@ -150,7 +150,7 @@ pub fn run_to_sync_point<R, C, S>(
     systems: &[S],
     workers: usize,
     out: &mut Vec<Handle>,
-) -> Result<SyncPoint<C>, Unbegun<C>>
+) -> Result<SyncPoint<C>, HandedBack<Vec<Log<C>>, LogError>>
 where
     R: Threads + Sync,
     C: Send,
@@ -158,13 +158,10 @@ where
 {
     let mut logs = match run_logs(rt, entities, systems, workers) {
         Ok(logs) => logs,
-        Err(error) => return Err(Unbegun::without_logs(error)),
+        Err(error) => return Err(HandedBack::new(Vec::new(), error)),
     };
     match SyncPoint::begin_reserved(entities, &mut logs, out) {
         Ok(point) => Ok(point),
-        Err(Memory) => Err(Unbegun {
-            logs,
-            error: LogError::Unborn,
-        }),
+        Err(Memory) => Err(HandedBack::new(logs, LogError::Unborn)),
     }
 }

@@ -3,12 +3,13 @@
 //! A phase of a world ends, and gives the world back, with the queues of its systems.
 
 use alloc::vec::Vec;
+use crate::proved::ent_total::close_error::CloseError;
 use crate::proved::ent_total::command_queue::CommandQueue;
 use crate::proved::ent_total::open_world::{OpenWorld, Parts};
 use crate::proved::ent_total::queues::Queues;
-use crate::proved::ent_total::unfinished::{FinishError, Unfinished};
 use crate::proved::ent_total::world::World;
 use crate::proved::ent_total::world_returning::are_of;
+use crate::proved::ent_handle::HandedBack;
 use crate::proved::ent_shared::Reserver;
 
 impl OpenWorld {
@@ -18,7 +19,7 @@ impl OpenWorld {
     /// each queue, however many commands a queue has.
     ///
     /// ```
-    /// use forgeni::{FinishError, World};
+    /// use forgeni::{CloseError, World};
     ///
     /// let (open, mut systems) = World::new().open(2)?;
     /// systems[1].spawn(&[])?;
@@ -26,9 +27,8 @@ impl OpenWorld {
     ///
     /// // A queue is missing: the phase goes on, and the other queue comes back.
     /// let last = queues.pop();
-    /// let refused = open.close(queues).unwrap_err();
-    /// assert_eq!(refused.error, FinishError::Missing { count: 1 });
-    /// let (open, mut queues) = (refused.open, refused.queues);
+    /// let ((open, mut queues), error) = open.close(queues).unwrap_err().into_parts();
+    /// assert_eq!(error, CloseError::Missing { count: 1 });
     /// queues.extend(last);
     ///
     /// let (mut world, queues) = open.close(queues)?;
@@ -38,9 +38,9 @@ impl OpenWorld {
     ///
     /// # Errors
     ///
-    /// [`Unfinished`] has the phase. It is the first of these that holds:
-    /// [`FinishError::OtherPhase`], [`FinishError::Missing`], and then all queues come back, in
-    /// their order; [`FinishError::InUse`], and then the phase keeps them, as
+    /// [`HandedBack`] has the phase, which goes on, the queues that are handed back, and the first of
+    /// these errors that holds: [`CloseError::OtherPhase`] and [`CloseError::Missing`], with all
+    /// queues handed back in their order; [`CloseError::InUse`], and then the phase keeps them, as
     /// [`close_lost`](OpenWorld::close_lost) does.
     ///
     /// <details><summary>Contract</summary>
@@ -59,28 +59,32 @@ impl OpenWorld {
     /// ensures may_return { OnOk result (MayReturn self queues.items) }
     /// ensures all { OnOk result
     ///     (length (reservers_returned self queues.items) ≡ self.world.shared.count) }
-    /// ensures other_phase { IsErrWith result (λ u. u.error ≡ OtherPhase)
+    /// ensures other_phase { IsErrWith result (λ h. h.error ≡ OtherPhase)
     ///     ↔ ¬ (MayReturn self queues.items) }
-    /// ensures missing { IsErrWith result (λ u. AreMissing u.error)
+    /// ensures missing { IsErrWith result (λ h. IsMissing h.error)
     ///     ↔ (MayReturn self queues.items
     ///     × (length (reservers_returned self queues.items) < self.world.shared.count)) }
-    /// ensures how_many { IfErr result (λ u. AreMissing u.error
-    ///     → length (reservers_returned self queues.items) + queues_missing u.error
+    /// ensures how_many { IfErr result (λ h. IsMissing h.error
+    ///     → length (reservers_returned self queues.items) + count_missing h.error
     ///     ≡ self.world.shared.count) }
-    /// ensures handed_back { IfErr result (λ u. u.error ≢ InUse
-    ///     → (u.open ≡ self) × (u.queues.items ≡ queues.items)) }
-    /// ensures returned { IfErr result (λ u. u.error ≡ InUse
-    ///     → (u.open ≡ with_returned self queues.items) × (u.queues.items ≡ [])) }
+    /// ensures handed_back { IfErr result (λ h. h.error ≢ InUse
+    ///     → (h.value.0 ≡ self) × (h.value.1.items ≡ queues.items)) }
+    /// ensures returned { IfErr result (λ h. h.error ≡ InUse
+    ///     → (h.value.0 ≡ with_returned self queues.items) × (h.value.1.items ≡ [])) }
     /// ```
     ///
     /// </details>
     #[inline]
-    pub fn close(mut self, queues: Vec<CommandQueue>) -> Result<(World, Queues), Unfinished> {
+    pub fn close(
+        mut self,
+        queues: Vec<CommandQueue>,
+    ) -> Result<(World, Queues), HandedBack<(Self, Vec<CommandQueue>), CloseError>> {
         let Some(missing) = self.missing(&queues) else {
-            return Err(self.unfinished(queues, FinishError::OtherPhase));
+            return Err(HandedBack::new((self, queues), CloseError::OtherPhase));
         };
         if missing > 0 {
-            return Err(self.unfinished(queues, FinishError::Missing { count: missing }));
+            let error = CloseError::Missing { count: missing };
+            return Err(HandedBack::new((self, queues), error));
         }
         self.take_back(queues);
         match self.end() {
@@ -100,7 +104,7 @@ impl OpenWorld {
     ///
     /// # Errors
     ///
-    /// As of [`close`](OpenWorld::close), without `Missing`. With [`FinishError::InUse`] the
+    /// As of [`close`](OpenWorld::close), without `Missing`. With [`CloseError::InUse`] the
     /// `Commands` or the queue of a system exists that wasn't handed in. The phase keeps those that
     /// were, and they stay before those that the next close is given. One that was given to
     /// `core::mem::forget` exists for good.
@@ -119,13 +123,13 @@ impl OpenWorld {
     ///
     /// // When it succeeds, when it is refused, and what holds then.
     /// ensures may_return { OnOk result (MayReturn self queues.items) }
-    /// ensures other_phase { IsErrWith result (λ u. u.error ≡ OtherPhase)
+    /// ensures other_phase { IsErrWith result (λ h. h.error ≡ OtherPhase)
     ///     ↔ ¬ (MayReturn self queues.items) }
-    /// ensures no_missing { IfErr result (λ u. ¬ (AreMissing u.error)) }
-    /// ensures handed_back { IfErr result (λ u. u.error ≢ InUse
-    ///     → (u.open ≡ self) × (u.queues.items ≡ queues.items)) }
-    /// ensures returned { IfErr result (λ u. u.error ≡ InUse
-    ///     → (u.open ≡ with_returned self queues.items) × (u.queues.items ≡ [])) }
+    /// ensures no_missing { IfErr result (λ h. ¬ (IsMissing h.error)) }
+    /// ensures handed_back { IfErr result (λ h. h.error ≢ InUse
+    ///     → (h.value.0 ≡ self) × (h.value.1.items ≡ queues.items)) }
+    /// ensures returned { IfErr result (λ h. h.error ≡ InUse
+    ///     → (h.value.0 ≡ with_returned self queues.items) × (h.value.1.items ≡ [])) }
     /// ```
     ///
     /// </details>
@@ -133,9 +137,9 @@ impl OpenWorld {
     pub fn close_lost(
         mut self,
         queues: Vec<CommandQueue>,
-    ) -> Result<(World, Queues), Unfinished> {
+    ) -> Result<(World, Queues), HandedBack<(Self, Vec<CommandQueue>), CloseError>> {
         if self.missing(&queues).is_none() {
-            return Err(self.unfinished(queues, FinishError::OtherPhase));
+            return Err(HandedBack::new((self, queues), CloseError::OtherPhase));
         }
         self.take_back(queues);
         match self.end() {
@@ -163,29 +167,15 @@ impl OpenWorld {
         Some(most - returned - queues.len())
     }
 
-    /// That it was not closed, and these queues are handed back.
-    #[inline]
-    fn unfinished(self, queues: Vec<CommandQueue>, error: FinishError) -> Unfinished
-        // ensures phase { result.open ≡ self }
-        // ensures queues { result.queues.items ≡ queues.items }
-        // ensures error { result.error ≡ error }
-    {
-        Unfinished {
-            open: self,
-            queues,
-            error,
-        }
-    }
-
     /// That somebody else has a part of the phase.
     #[inline]
-    fn in_use(self) -> Unfinished
-        // ensures phase { result.open ≡ self }
-        // ensures queues { result.queues.items ≡ [] }
+    fn in_use(self) -> HandedBack<(Self, Vec<CommandQueue>), CloseError>
+        // ensures phase { result.value.0 ≡ self }
+        // ensures queues { result.value.1.items ≡ [] }
         // ensures error { result.error ≡ InUse }
     {
         let none = self.no_queues();
-        self.unfinished(none, FinishError::InUse)
+        HandedBack::new((self, none), CloseError::InUse)
     }
 }
 

@@ -5,12 +5,12 @@ use alloc::vec::Vec;
 use crate::proved::ent_total::queues::Queues;
 use crate::proved::ent_total::stop::Stop;
 use crate::proved::ent_total::stopped::Stopped;
-use crate::proved::ent_total::unended_world::UnendedWorld;
 use crate::proved::ent_total::unframed::Unframed;
 use crate::proved::ent_total::world::World;
 use crate::proved::ent_total::world_in_blocks::WorldInBlocks;
-use crate::proved::ent_block_runner::{SystemInBlocks, Unrun};
+use crate::proved::ent_block_runner::{RunError, SystemInBlocks};
 use crate::proved::ent_blocks::BlockReserver;
+use crate::proved::ent_handle::HandedBack;
 use crate::proved::ent_runner::FrameReport;
 use crate::proved::ent_world::SyncFault;
 use crate::kit::thread::Threads;
@@ -52,14 +52,12 @@ use crate::kit::thread::Threads;
 ///
 /// # Errors
 ///
-/// [`Unrun`] has the first of these that holds.
+/// [`HandedBack`] has the reservers that are handed back, and the first of these errors that holds.
 ///
-/// - [`RunError::Workers`](crate::proved::ent_block_runner::RunError), [`RunError::Systems`](crate::proved::ent_block_runner::RunError)
-///   if there are more than 65,536, [`RunError::Reservers`](crate::proved::ent_block_runner::RunError),
-///   [`RunError::OtherPhase`](crate::proved::ent_block_runner::RunError),
-///   [`RunError::Memory`](crate::proved::ent_block_runner::RunError): no system ran, and the reservers are handed back
-///   as they were. No systems take no memory.
-/// - [`RunError::Lost`](crate::proved::ent_block_runner::RunError): a system returned an error, or systems are left and
+/// - [`RunError::Workers`], [`RunError::Systems`] if there are more than 65,536, [`RunError::Reservers`],
+///   [`RunError::OtherPhase`], [`RunError::Memory`]: no system ran, and the reservers are handed back as
+///   they were. No systems take no memory.
+/// - [`RunError::Lost`]: a system returned an error, or systems are left and
 ///   no worker has memory for another one. All queues and reservers are dropped:
 ///   [`WorldInBlocks::close_lost`] ends the phase.
 ///
@@ -81,28 +79,28 @@ use crate::kit::thread::Threads;
 /// ensures of_world { IfOk result (λ ran. ran.0.world ≡ opened.now.of_world) }
 ///
 /// // When the systems are refused, and what is left then.
-/// ensures workers { IsErrWith result (λ u. u.error ≡ failed.Workers)
+/// ensures workers { IsErrWith result (λ h. h.error ≡ failed.Workers)
 ///     ↔ ((workers ≡ 0) ⊎ (64 < workers)) }
-/// ensures systems { IsErrWith result (λ u. u.error ≡ failed.Systems)
+/// ensures systems { IsErrWith result (λ h. h.error ≡ failed.Systems)
 ///     ↔ ((0 < workers) × (workers ≤ 64) × (2 ^ 16 < length systems.now)) }
-/// ensures reservers { IsErrWith result (λ u. u.error ≡ failed.Reservers)
+/// ensures reservers { IsErrWith result (λ h. h.error ≡ failed.Reservers)
 ///     ↔ ((0 < workers) × (workers ≤ 64) × (length systems.now ≤ 2 ^ 16)
 ///     × (length reservers.items ≢ length systems.now)) }
-/// ensures other_phase { IsErrWith result (λ u. u.error ≡ failed.OtherPhase)
+/// ensures other_phase { IsErrWith result (λ h. h.error ≡ failed.OtherPhase)
 ///     ↔ ((0 < workers) × (workers ≤ 64) × (length systems.now ≤ 2 ^ 16)
 ///     × (length reservers.items ≡ length systems.now)
 ///     × ¬ (All (λ r. r.number ≡ opened.now.world.blocks.number) reservers.items)) }
-/// ensures memory_some { IsErrWith result (λ u. u.error ≡ failed.Memory)
+/// ensures memory_some { IsErrWith result (λ h. h.error ≡ failed.Memory)
 ///     → 0 < length systems.now }
-/// ensures handed_back { IfErr result (λ u. u.error ≢ failed.Lost
-///     → u.reservers.items ≡ reservers.items) }
+/// ensures handed_back { IfErr result (λ h. h.error ≢ failed.Lost
+///     → h.value.items ≡ reservers.items) }
 ///
 /// // What is left if the systems were broken off.
-/// ensures lost { IsErrWith result (λ u. u.error ≡ failed.Lost) → HaveStopped S.may_issue
+/// ensures lost { IsErrWith result (λ h. h.error ≡ failed.Lost) → HaveStopped S.may_issue
 ///     S.may_leave systems.now workers (view_in_blocks opened.now.world)
 ///     opened.now.world.blocks.phase.start (blocks_of reservers.items) }
-/// ensures lost_some { IsErrWith result (λ u. u.error ≡ failed.Lost) → 0 < length systems.now }
-/// ensures lost_reservers { IfErr result (λ u. u.error ≡ failed.Lost → u.reservers.items ≡ []) }
+/// ensures lost_some { IsErrWith result (λ h. h.error ≡ failed.Lost) → 0 < length systems.now }
+/// ensures lost_reservers { IfErr result (λ h. h.error ≡ failed.Lost → h.value.items ≡ []) }
 /// ```
 ///
 /// </details>
@@ -113,7 +111,7 @@ pub fn fill_in_blocks<R, S>(
     reservers: Vec<BlockReserver>,
     systems: &[S],
     workers: usize,
-) -> Result<(Queues, Vec<BlockReserver>), Unrun>
+) -> Result<(Queues, Vec<BlockReserver>), HandedBack<Vec<BlockReserver>, RunError>>
 where
     R: Threads + Sync,
     S: SystemInBlocks + Sync,
@@ -126,8 +124,10 @@ where
         systems,
         workers,
     );
-    let (queues, reservers) = filled?;
-    Ok((Queues::new(opened.of_world, queues), reservers))
+    match filled {
+        Ok((queues, reservers)) => Ok((Queues::new(opened.of_world, queues), reservers)),
+        Err(unrun) => Err(unrun),
+    }
 }
 
 /// Runs each system once, on that many workers side by side, 1 to 64, each with the reserver at its
@@ -295,7 +295,7 @@ where
             })
         }
         Err(crate::proved::ent_block_runner::Unframed::Unended { unended, queues }) => Err(Unframed::Unended {
-            unended: UnendedWorld::of(unended, of_world, spawned),
+            unended: WorldInBlocks::handed_back(unended, of_world, spawned),
             queues: Queues::new(of_world, queues),
         }),
         Err(

@@ -4,9 +4,10 @@
 use alloc::vec::Vec;
 use crate::kit::vec::FallibleVec;
 use crate::proved::ent_total::reserver::Reserver;
+use crate::proved::ent_total::share_error::ShareError;
 use crate::proved::ent_total::shared::Shared;
-use crate::proved::ent_total::unshared::{ShareError, Unshared};
 use crate::proved::ent_alloc::Entities;
+use crate::proved::ent_handle::HandedBack;
 use crate::kit::sync::Arc;
 
 /// How many callers a phase may have.
@@ -23,7 +24,7 @@ pub struct Opening {
 ///
 /// # Errors
 ///
-/// [`Unshared`] has the error, and the allocator as it was. It is the first of these that holds:
+/// [`HandedBack`] has the allocator as it was, and the first of these errors that holds:
 /// [`ShareError::NeedsFlush`], [`ShareError::Count`], [`ShareError::Memory`].
 ///
 /// <details><summary>Contract</summary>
@@ -35,11 +36,11 @@ pub struct Opening {
 /// ensures rows { IfOk result (λ o. o.shared.rows ≡ entities.rows) }
 /// ensures count { IfOk result (λ o. o.shared.count ≡ count) }
 /// ensures may_return { IfOk result (λ o. records_of o.returned ≡ opened_records entities.allocator 0 count) }
-/// ensures needs_flush { IsErrWith result (λ u. u.error ≡ NeedsFlush)
+/// ensures needs_flush { IsErrWith result (λ h. h.error ≡ NeedsFlush)
 ///     ↔ (0 < entities.allocator.asked) }
-/// ensures no_count { IsErrWith result (λ u. u.error ≡ Count)
+/// ensures no_count { IsErrWith result (λ h. h.error ≡ Count)
 ///     ↔ ((entities.allocator.asked ≡ 0) × ((count ≡ 0) ⊎ (1024 < count))) }
-/// ensures handed_back { IfErr result (λ u. u.entities ≡ entities) }
+/// ensures handed_back { IfErr result (λ h. h.value ≡ entities) }
 /// ```
 ///
 /// </details>
@@ -47,25 +48,16 @@ pub struct Opening {
 pub fn share(
     entities: Entities,
     count: usize,
-) -> Result<Opening, Unshared> {
+) -> Result<Opening, HandedBack<Entities, ShareError>> {
     if entities.needs_flush() {
-        return Err(Unshared {
-            entities,
-            error: ShareError::NeedsFlush,
-        });
+        return Err(HandedBack::new(entities, ShareError::NeedsFlush));
     }
     if count == 0 || count > CALLERS {
-        return Err(Unshared {
-            entities,
-            error: ShareError::Count,
-        });
+        return Err(HandedBack::new(entities, ShareError::Count));
     }
     match Opening::new(entities, count) {
         Ok(opening) => Ok(opening),
-        Err(entities) => Err(Unshared {
-            entities,
-            error: ShareError::Memory,
-        }),
+        Err(entities) => Err(HandedBack::new(entities, ShareError::Memory)),
     }
 }
 

@@ -3,11 +3,11 @@
 use alloc::vec::Vec;
 use crate::proved::ent_total::queues::Queues;
 use crate::proved::ent_total::stopped::Stopped;
-use crate::proved::ent_total::unended_world::UnendedWorld;
 use crate::proved::ent_total::world::World;
 use crate::proved::ent_total::world_in_blocks::WorldInBlocks;
 use crate::proved::ent_block_runner::RunError;
-use crate::proved::ent_blocks::BlockReserver;
+use crate::proved::ent_blocks::{BlockReserver, EndError};
+use crate::proved::ent_handle::HandedBack;
 use core::error::Error;
 use core::fmt;
 
@@ -27,7 +27,7 @@ pub enum Unframed {
     /// [`World::apply`] does the sync point.
     Unended {
         /// The world as it was opened, the reservers, and why it wasn't closed.
-        unended: UnendedWorld,
+        unended: HandedBack<(WorldInBlocks, Vec<BlockReserver>), EndError>,
         /// What the systems issued.
         queues: Queues,
     },

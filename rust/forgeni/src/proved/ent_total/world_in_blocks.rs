@@ -1,9 +1,9 @@
 // Made of crates/ent_total/src/world_in_blocks.rt by rust/erase. It isn't edited by hand.
 
 use alloc::vec::Vec;
-use crate::proved::ent_total::unended_world::UnendedWorld;
 use crate::proved::ent_total::world::World;
-use crate::proved::ent_blocks::{BlockReserver, Blocks};
+use crate::proved::ent_blocks::{BlockReserver, Blocks, EndError};
+use crate::proved::ent_handle::HandedBack;
 use crate::proved::ent_world::View;
 use core::fmt;
 
@@ -57,14 +57,14 @@ impl WorldInBlocks {
     ///
     /// # Errors
     ///
-    /// [`UnendedWorld`] has the world and the reservers as they were, and the first of these that
+    /// [`HandedBack`] has the world and the reservers as they were, and the first of these errors that
     /// holds.
     ///
-    /// - [`EndError::OtherPhase`](crate::proved::ent_blocks::EndError): a reserver is of another phase.
-    /// - [`EndError::Order`](crate::proved::ent_blocks::EndError): the reservers aren't in their order.
-    /// - [`EndError::Missing`](crate::proved::ent_blocks::EndError): some are missing.
+    /// - [`EndError::OtherPhase`]: a reserver is of another phase.
+    /// - [`EndError::Order`]: the reservers aren't in their order.
+    /// - [`EndError::Missing`]: some are missing.
     ///   [`close_lost`](WorldInBlocks::close_lost) ends the phase without them.
-    /// - [`EndError::Memory`](crate::proved::ent_blocks::EndError): memory ran out.
+    /// - [`EndError::Memory`]: memory ran out.
     ///
     /// <details><summary>Contract</summary>
     ///
@@ -91,27 +91,30 @@ impl WorldInBlocks {
     /// ensures of { OnOk result (All (λ r. r.number ≡ self.world.blocks.number) reservers.items) }
     /// ensures all { OnOk result
     ///     (map unused (blocks_of reservers.items) ≡ self.world.blocks.phase.blocks) }
-    /// ensures other_phase { IsErrWith result (λ u. u.error ≡ unended.OtherPhase)
+    /// ensures other_phase { IsErrWith result (λ h. h.error ≡ unended.OtherPhase)
     ///     ↔ ¬ (All (λ r. r.number ≡ self.world.blocks.number) reservers.items) }
-    /// ensures order { IsErrWith result (λ u. u.error ≡ unended.Order)
+    /// ensures order { IsErrWith result (λ h. h.error ≡ unended.Order)
     ///     ↔ (All (λ r. r.number ≡ self.world.blocks.number) reservers.items
     ///     × ¬ (IsTrue (are_among self.world.blocks.phase.blocks (blocks_of reservers.items)))) }
-    /// ensures missing { IsErrWith result (λ u.
-    ///     IsMissing (length self.world.blocks.phase.blocks - length reservers.items) u.error)
+    /// ensures missing { IsErrWith result (λ h.
+    ///     IsMissing (length self.world.blocks.phase.blocks - length reservers.items) h.error)
     ///     ↔ (All (λ r. r.number ≡ self.world.blocks.number) reservers.items
     ///     × (IsTrue (are_among self.world.blocks.phase.blocks (blocks_of reservers.items))
     ///     × (length reservers.items < length self.world.blocks.phase.blocks))) }
-    /// ensures missing_count { IfErr result (λ u. (n : ℕ) → IsMissing n u.error
+    /// ensures missing_count { IfErr result (λ h. (n : ℕ) → IsMissing n h.error
     ///     → n ≡ length self.world.blocks.phase.blocks - length reservers.items) }
-    /// ensures memory { IsErrWith result (λ u. u.error ≡ unended.Memory)
+    /// ensures memory { IsErrWith result (λ h. h.error ≡ unended.Memory)
     ///     → 0 < length self.world.blocks.phase.blocks }
-    /// ensures handed_back { IfErr result (λ u. (u.world ≡ self)
-    ///     × (u.reservers.items ≡ reservers.items)) }
+    /// ensures handed_back { IfErr result (λ h. (h.value.0 ≡ self)
+    ///     × (h.value.1.items ≡ reservers.items)) }
     /// ```
     ///
     /// </details>
     #[inline]
-    pub fn close(self, reservers: Vec<BlockReserver>) -> Result<World, UnendedWorld> {
+    pub fn close(
+        self,
+        reservers: Vec<BlockReserver>,
+    ) -> Result<World, HandedBack<(Self, Vec<BlockReserver>), EndError>> {
         let WorldInBlocks {
             world,
             of_world,
@@ -123,7 +126,7 @@ impl WorldInBlocks {
                 number: of_world,
                 spawned,
             }),
-            Err(unended) => Err(UnendedWorld::of(unended, of_world, spawned)),
+            Err(unended) => Err(Self::handed_back(unended, of_world, spawned)),
         }
     }
 
@@ -159,21 +162,24 @@ impl WorldInBlocks {
     /// ensures of { OnOk result (All (λ r. r.number ≡ self.world.blocks.number) reservers.items) }
     /// ensures among { OnOk result
     ///     (IsTrue (are_among self.world.blocks.phase.blocks (blocks_of reservers.items))) }
-    /// ensures other_phase { IsErrWith result (λ u. u.error ≡ unended.OtherPhase)
+    /// ensures other_phase { IsErrWith result (λ h. h.error ≡ unended.OtherPhase)
     ///     ↔ ¬ (All (λ r. r.number ≡ self.world.blocks.number) reservers.items) }
-    /// ensures order { IsErrWith result (λ u. u.error ≡ unended.Order)
+    /// ensures order { IsErrWith result (λ h. h.error ≡ unended.Order)
     ///     ↔ (All (λ r. r.number ≡ self.world.blocks.number) reservers.items
     ///     × ¬ (IsTrue (are_among self.world.blocks.phase.blocks (blocks_of reservers.items)))) }
-    /// ensures no_missing { IfErr result (λ u. (n : ℕ) → ¬ (IsMissing n u.error)) }
-    /// ensures memory { IsErrWith result (λ u. u.error ≡ unended.Memory)
+    /// ensures no_missing { IfErr result (λ h. (n : ℕ) → ¬ (IsMissing n h.error)) }
+    /// ensures memory { IsErrWith result (λ h. h.error ≡ unended.Memory)
     ///     → 0 < length self.world.blocks.phase.blocks }
-    /// ensures handed_back { IfErr result (λ u. (u.world ≡ self)
-    ///     × (u.reservers.items ≡ reservers.items)) }
+    /// ensures handed_back { IfErr result (λ h. (h.value.0 ≡ self)
+    ///     × (h.value.1.items ≡ reservers.items)) }
     /// ```
     ///
     /// </details>
     #[inline]
-    pub fn close_lost(self, reservers: Vec<BlockReserver>) -> Result<World, UnendedWorld> {
+    pub fn close_lost(
+        self,
+        reservers: Vec<BlockReserver>,
+    ) -> Result<World, HandedBack<(Self, Vec<BlockReserver>), EndError>> {
         let WorldInBlocks {
             world,
             of_world,
@@ -185,8 +191,30 @@ impl WorldInBlocks {
                 number: of_world,
                 spawned,
             }),
-            Err(unended) => Err(UnendedWorld::of(unended, of_world, spawned)),
+            Err(unended) => Err(Self::handed_back(unended, of_world, spawned)),
         }
+    }
+
+    /// What the world below hands back, with the number of its world and how many entities were
+    /// spawned in it.
+    #[inline]
+    pub(super) fn handed_back(
+        back: HandedBack<(crate::proved::ent_world::WorldInBlocks, Vec<BlockReserver>), EndError>,
+        of_world: u64,
+        spawned: u32,
+    ) -> HandedBack<(Self, Vec<BlockReserver>), EndError>
+        // ensures world { result.value.0
+        //     ≡ record { world = back.value.0; of_world = of_world; spawned = spawned } }
+        // ensures reservers { result.value.1.items ≡ back.value.1.items }
+        // ensures error { result.error ≡ back.error }
+    {
+        let ((world, reservers), error) = back.into_parts();
+        let world = WorldInBlocks {
+            world,
+            of_world,
+            spawned,
+        };
+        HandedBack::new((world, reservers), error)
     }
 }
 

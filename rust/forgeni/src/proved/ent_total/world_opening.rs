@@ -7,9 +7,9 @@ use crate::kit::vec::FallibleVec;
 use crate::proved::ent_total::commands::Commands;
 use crate::proved::ent_total::open_world::OpenWorld;
 use crate::proved::ent_total::opening::CALLERS;
-use crate::proved::ent_total::unopened::Unopened;
-use crate::proved::ent_total::unshared::ShareError;
+use crate::proved::ent_total::share_error::ShareError;
 use crate::proved::ent_total::world::World;
+use crate::proved::ent_handle::HandedBack;
 use crate::proved::ent_shared::Reserver;
 use crate::kit::sync::Arc;
 
@@ -28,7 +28,7 @@ pub struct WorldOpening {
 ///
 /// # Errors
 ///
-/// [`Unopened`] has the error, and the world as it was. It is the first of these that holds:
+/// [`HandedBack`] has the world as it was, and the first of these errors that holds:
 /// [`ShareError::NeedsFlush`], [`ShareError::Count`], [`ShareError::Memory`].
 ///
 /// <details><summary>Contract</summary>
@@ -44,11 +44,11 @@ pub struct WorldOpening {
 ///     × (o.world.entities ≡ world.world.entities)) }
 /// ensures may_return { IfOk result (λ o.
 ///     records_of o.returned ≡ opened_records world.world.allocator 0 count) }
-/// ensures needs_flush { IsErrWith result (λ u. u.error ≡ NeedsFlush)
+/// ensures needs_flush { IsErrWith result (λ h. h.error ≡ NeedsFlush)
 ///     ↔ (0 < world.world.allocator.asked) }
-/// ensures no_count { IsErrWith result (λ u. u.error ≡ Count)
+/// ensures no_count { IsErrWith result (λ h. h.error ≡ Count)
 ///     ↔ ((world.world.allocator.asked ≡ 0) × ((count ≡ 0) ⊎ (1024 < count))) }
-/// ensures handed_back { IfErr result (λ u. u.world ≡ world) }
+/// ensures handed_back { IfErr result (λ h. h.value ≡ world) }
 /// ```
 ///
 /// </details>
@@ -56,18 +56,12 @@ pub struct WorldOpening {
 pub fn open(
     world: World,
     count: usize,
-) -> Result<WorldOpening, Unopened> {
+) -> Result<WorldOpening, HandedBack<World, ShareError>> {
     if world.needs_flush() {
-        return Err(Unopened {
-            world,
-            error: ShareError::NeedsFlush,
-        });
+        return Err(HandedBack::new(world, ShareError::NeedsFlush));
     }
     if count == 0 || count > CALLERS {
-        return Err(Unopened {
-            world,
-            error: ShareError::Count,
-        });
+        return Err(HandedBack::new(world, ShareError::Count));
     }
     let World {
         world,
@@ -76,14 +70,14 @@ pub fn open(
     } = world;
     match WorldOpening::new(world, count, number, spawned) {
         Ok(opening) => Ok(opening),
-        Err(world) => Err(Unopened {
-            world: World {
+        Err(world) => {
+            let world = World {
                 world,
                 number,
                 spawned,
-            },
-            error: ShareError::Memory,
-        }),
+            };
+            Err(HandedBack::new(world, ShareError::Memory))
+        }
     }
 }
 

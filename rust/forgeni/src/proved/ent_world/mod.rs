@@ -23,4 +23,4 @@ pub use image_fault::WorldImageFault;
 pub use open_world::OpenWorld;
 pub use view::View;
 pub use world::World;
-pub use world_in_blocks::{PlacedWorld, UnendedWorld, WorldDeal, WorldInBlocks};
+pub use world_in_blocks::{PlacedWorld, WorldDeal, WorldInBlocks};

@@ -5,6 +5,7 @@ use crate::proved::ent_world::view::View;
 use crate::proved::ent_world::world::World;
 use crate::proved::ent_alloc::Entities;
 use crate::proved::ent_blocks::{BlockReserver, Blocks, Deal, DealError, EndError, open_in_blocks};
+use crate::proved::ent_handle::HandedBack;
 use crate::proved::ent_storage::Storage;
 
 /// A world of which contracts also see the rows: the numbers that its allocator keeps with its living
@@ -28,16 +29,6 @@ pub struct WorldInBlocks {
     blocks: Blocks,
     storage: Storage,
     phase: u64,
-}
-
-/// A world in blocks that was not closed, and goes on.
-pub struct UnendedWorld {
-    /// The world as it was.
-    pub world: WorldInBlocks,
-    /// All the reservers that were handed in, as they were.
-    pub reservers: Vec<BlockReserver>,
-    /// Why it was not closed.
-    pub error: EndError,
 }
 
 impl World {
@@ -267,27 +258,30 @@ impl WorldInBlocks {
     /// ensures of { OnOk result (All (λ r. r.number ≡ self.blocks.number) reservers.items) }
     /// ensures all { OnOk result
     ///     (map unused (blocks_of reservers.items) ≡ self.blocks.phase.blocks) }
-    /// ensures other_phase { IsErrWith result (λ u. u.error ≡ unended.OtherPhase)
+    /// ensures other_phase { IsErrWith result (λ h. h.error ≡ unended.OtherPhase)
     ///     ↔ ¬ (All (λ r. r.number ≡ self.blocks.number) reservers.items) }
-    /// ensures order { IsErrWith result (λ u. u.error ≡ unended.Order)
+    /// ensures order { IsErrWith result (λ h. h.error ≡ unended.Order)
     ///     ↔ (All (λ r. r.number ≡ self.blocks.number) reservers.items
     ///     × ¬ (IsTrue (are_among self.blocks.phase.blocks (blocks_of reservers.items)))) }
-    /// ensures missing { IsErrWith result (λ u.
-    ///     IsMissing (length self.blocks.phase.blocks - length reservers.items) u.error)
+    /// ensures missing { IsErrWith result (λ h.
+    ///     IsMissing (length self.blocks.phase.blocks - length reservers.items) h.error)
     ///     ↔ (All (λ r. r.number ≡ self.blocks.number) reservers.items
     ///     × (IsTrue (are_among self.blocks.phase.blocks (blocks_of reservers.items))
     ///     × (length reservers.items < length self.blocks.phase.blocks))) }
-    /// ensures missing_count { IfErr result (λ u. (n : ℕ) → IsMissing n u.error
+    /// ensures missing_count { IfErr result (λ h. (n : ℕ) → IsMissing n h.error
     ///     → n ≡ length self.blocks.phase.blocks - length reservers.items) }
-    /// ensures memory { IsErrWith result (λ u. u.error ≡ unended.Memory)
+    /// ensures memory { IsErrWith result (λ h. h.error ≡ unended.Memory)
     ///     → 0 < length self.blocks.phase.blocks }
-    /// ensures handed_back { IfErr result (λ u. (u.world ≡ self)
-    ///     × (u.reservers.items ≡ reservers.items)) }
+    /// ensures handed_back { IfErr result (λ h. (h.value.0 ≡ self)
+    ///     × (h.value.1.items ≡ reservers.items)) }
     /// ```
     ///
     /// </details>
     #[inline]
-    pub fn close(self, reservers: Vec<BlockReserver>) -> Result<World, UnendedWorld> {
+    pub fn close(
+        self,
+        reservers: Vec<BlockReserver>,
+    ) -> Result<World, HandedBack<(Self, Vec<BlockReserver>), EndError>> {
         let WorldInBlocks {
             blocks,
             storage,
@@ -304,17 +298,13 @@ impl WorldInBlocks {
                 })
             }
             Err(unended) => {
-                let (blocks, reservers, error) = unended.into_parts();
+                let ((blocks, reservers), error) = unended.into_parts();
                 let world = WorldInBlocks {
                     blocks,
                     storage,
                     phase,
                 };
-                Err(UnendedWorld {
-                    world,
-                    reservers,
-                    error,
-                })
+                Err(HandedBack::new((world, reservers), error))
             }
         }
     }
@@ -348,21 +338,24 @@ impl WorldInBlocks {
     /// ensures of { OnOk result (All (λ r. r.number ≡ self.blocks.number) reservers.items) }
     /// ensures among { OnOk result
     ///     (IsTrue (are_among self.blocks.phase.blocks (blocks_of reservers.items))) }
-    /// ensures other_phase { IsErrWith result (λ u. u.error ≡ unended.OtherPhase)
+    /// ensures other_phase { IsErrWith result (λ h. h.error ≡ unended.OtherPhase)
     ///     ↔ ¬ (All (λ r. r.number ≡ self.blocks.number) reservers.items) }
-    /// ensures order { IsErrWith result (λ u. u.error ≡ unended.Order)
+    /// ensures order { IsErrWith result (λ h. h.error ≡ unended.Order)
     ///     ↔ (All (λ r. r.number ≡ self.blocks.number) reservers.items
     ///     × ¬ (IsTrue (are_among self.blocks.phase.blocks (blocks_of reservers.items)))) }
-    /// ensures no_missing { IfErr result (λ u. (n : ℕ) → ¬ (IsMissing n u.error)) }
-    /// ensures memory { IsErrWith result (λ u. u.error ≡ unended.Memory)
+    /// ensures no_missing { IfErr result (λ h. (n : ℕ) → ¬ (IsMissing n h.error)) }
+    /// ensures memory { IsErrWith result (λ h. h.error ≡ unended.Memory)
     ///     → 0 < length self.blocks.phase.blocks }
-    /// ensures handed_back { IfErr result (λ u. (u.world ≡ self)
-    ///     × (u.reservers.items ≡ reservers.items)) }
+    /// ensures handed_back { IfErr result (λ h. (h.value.0 ≡ self)
+    ///     × (h.value.1.items ≡ reservers.items)) }
     /// ```
     ///
     /// </details>
     #[inline]
-    pub fn close_lost(self, reservers: Vec<BlockReserver>) -> Result<World, UnendedWorld> {
+    pub fn close_lost(
+        self,
+        reservers: Vec<BlockReserver>,
+    ) -> Result<World, HandedBack<(Self, Vec<BlockReserver>), EndError>> {
         let WorldInBlocks {
             blocks,
             storage,
@@ -378,17 +371,13 @@ impl WorldInBlocks {
                 })
             }
             Err(unended) => {
-                let (blocks, reservers, error) = unended.into_parts();
+                let ((blocks, reservers), error) = unended.into_parts();
                 let world = WorldInBlocks {
                     blocks,
                     storage,
                     phase,
                 };
-                Err(UnendedWorld {
-                    world,
-                    reservers,
-                    error,
-                })
+                Err(HandedBack::new((world, reservers), error))
             }
         }
     }

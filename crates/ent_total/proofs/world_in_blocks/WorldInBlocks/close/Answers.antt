@@ -5,10 +5,10 @@ returns-in-Ok-clause-brings_to_life g c = c.in-Ok.ensures.brings_to_life
 
 -- The error is that of the world below.
 pub returns-in-Err-clause-other_phase : goal.returns-in-Err-clause-other_phase
-returns-in-Err-clause-other_phase g c = rw c.of.ensures.error c.in-Err.ensures.other_phase
+returns-in-Err-clause-other_phase g c = rw c.handed_back.ensures.error c.in-Err.ensures.other_phase
 
 pub returns-in-Err-clause-order : goal.returns-in-Err-clause-order
-returns-in-Err-clause-order g c = rw c.of.ensures.error c.in-Err.ensures.order
+returns-in-Err-clause-order g c = rw c.handed_back.ensures.error c.in-Err.ensures.order
 
 pub returns-in-Err-clause-missing_count : goal.returns-in-Err-clause-missing_count
-returns-in-Err-clause-missing_count g c = rw c.of.ensures.error c.in-Err.ensures.missing_count
+returns-in-Err-clause-missing_count g c = rw c.handed_back.ensures.error c.in-Err.ensures.missing_count

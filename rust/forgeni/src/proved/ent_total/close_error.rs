@@ -1,0 +1,31 @@
+// Made of crates/ent_total/src/close_error.rt by rust/erase. It isn't edited by hand.
+
+/// Why a phase of an allocator or of a world was not closed. A caller of a phase has a reserver or a
+/// queue of its own.
+#[derive(Clone, Copy, Debug, PartialEq, Eq, Hash)]
+#[non_exhaustive]
+pub enum CloseError {
+    /// One of the callers is of another phase, or there are more of them than the phase has. All of
+    /// them are handed back.
+    OtherPhase,
+    /// Callers are missing. Those that came are handed back.
+    Missing {
+        /// How many.
+        count: usize,
+    },
+    /// A caller that was not handed in still exists. The phase keeps those that came, and the next
+    /// close has them.
+    InUse,
+}
+
+impl core::fmt::Display for CloseError {
+    fn fmt(&self, f: &mut core::fmt::Formatter<'_>) -> core::fmt::Result {
+        match self {
+            CloseError::OtherPhase => write!(f, "a caller is of another phase"),
+            CloseError::Missing { count } => write!(f, "missing callers: {count}"),
+            CloseError::InUse => write!(f, "a caller is still in use"),
+        }
+    }
+}
+
+impl core::error::Error for CloseError {}
