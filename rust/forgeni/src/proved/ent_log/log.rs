@@ -167,15 +167,15 @@ impl<C> Log<C> {
         }
     }
 
-    /// Reserves a handle at once, of a source that serves this reserver, and adds its entry. Room for the
-    /// entry is allocated first, so each handle that is reserved has one.
+    /// Reserves a handle at once, of a source that serves this reserver, and adds its entry, or that of
+    /// the refusal. Room for the entry is allocated first, so each reservation has one.
     ///
     /// # Errors
     ///
-    /// The log is as it was.
-    ///
-    /// - [`ReserveError::Memory`] if there is no room for the entry. Nothing was reserved.
-    /// - [`ReserveError::Space`] and [`ReserveError::Quota`] as the source returns them.
+    /// - [`ReserveError::Memory`] if there is no room for the entry. The log is as it was, and
+    ///   nothing was reserved.
+    /// - [`ReserveError::Space`] and [`ReserveError::Quota`] as the source returns them. The log has an
+    ///   entry for the [refusal](Entry::Refused), which the sync point hands on in its turn.
     #[inline]
     pub(crate) fn spawn_from<S: Source>(
         &mut self,
@@ -185,7 +185,7 @@ impl<C> Log<C> {
         // requires { S.serves source.now reserver.old }
         // ensures stays { S.serves source.now reserver.new }
         // ensures ok { IfOk result (λ handle. self.new ≡ self.old ++ Spawn handle ∷ []) }
-        // ensures err { OnErr result (self.new ≡ self.old) }
+        // ensures refused { IfErr result (λ error. self.new ≡ self.old ++ refused_by error) }
 
         // Anything but Memory is the result of one reservation.
         // ensures replies { (reply : Result HandleValue Refusal) → result ≡ returned reply
@@ -193,9 +193,16 @@ impl<C> Log<C> {
         // ensures memory { IsErrOf result ReserveError.Memory → reserver.new ≡ reserver.old }
     {
         self.entries.reserve_fallibly(1)?;
-        let handle = source.serve_one(reserver)?;
-        self.entries.push_reserved(Entry::Spawn(handle));
-        Ok(handle)
+        match source.serve_one(reserver) {
+            Ok(handle) => {
+                self.entries.push_reserved(Entry::Spawn(handle));
+                Ok(handle)
+            }
+            Err(why) => {
+                self.entries.push_reserved(Entry::Refused(why));
+                Err(ReserveError::from(why))
+            }
+        }
     }
 
     /// The entries, to be taken out one by one.

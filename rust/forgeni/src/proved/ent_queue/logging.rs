@@ -26,15 +26,15 @@ impl<C, S: Source> Commands<'_, Log<C>, S> {
         self.output.entries()
     }
 
-    /// Reserves a handle at once, and adds its entry. Room for the entry is allocated first, so each
-    /// handle that is reserved has one.
+    /// Reserves a handle at once, and adds its entry, or that of the refusal. Room for the entry is
+    /// allocated first, so each reservation has one.
     ///
     /// # Errors
     ///
-    /// The log is as it was.
-    ///
-    /// - [`ReserveError::Memory`] if there is no room for the entry. Nothing was reserved.
-    /// - [`ReserveError::Space`] and [`ReserveError::Quota`] as the source returns them.
+    /// - [`ReserveError::Memory`] if there is no room for the entry. The log is as it was, and
+    ///   nothing was reserved.
+    /// - [`ReserveError::Space`] and [`ReserveError::Quota`] as the source returns them. The log has an
+    ///   entry for the [refusal](Entry::Refused), which the sync point hands on in its turn.
     ///   [`ReserveError::or_memory`] lets the system go on.
     ///
     /// <details><summary>Contract</summary>
@@ -46,7 +46,8 @@ impl<C, S: Source> Commands<'_, Log<C>, S> {
     /// ensures extends { Extends Logs S.serves S.may_reply self.old self.new }
     /// ensures ok { IfOk result (λ handle.
     ///     output_of self.new ≡ output_of self.old ++ Spawn handle ∷ []) }
-    /// ensures err { OnErr result (output_of self.new ≡ output_of self.old) }
+    /// ensures refused { IfErr result (λ error.
+    ///     output_of self.new ≡ output_of self.old ++ refused_by error) }
     ///
     /// // Anything but Memory is the result of a reservation.
     /// ensures replies { (reply : Result HandleValue Refusal) → result ≡ returned reply
