@@ -137,7 +137,8 @@ quiet() {
 
 # module TARGET WORD..: builds the library of a folder as a module of WebAssembly.
 module() {
-    quiet rustc --manifest-path "$1/Cargo.toml" --release --lib --crate-type cdylib --target wasm32-unknown-unknown "${@:2}"
+    quiet rustc --manifest-path "$1/Cargo.toml" --release --lib --crate-type cdylib --target wasm32-unknown-unknown \
+        -Zbuild-std=std,panic_abort "${@:2}"
 }
 
 # The page plays the frames of the example `game`, and shows the same digest. Here it also asks the server for a file of that name, or of an
@@ -229,7 +230,7 @@ for target in "$@"; do
     wasm32)
         for built in "" --no-default-features; do
             # shellcheck disable=SC2086
-            module rust/digest $built -Zbuild-std=std,panic_abort
+            module rust/digest $built
             same "wasm32 ${built:-with the feature std}" node rust/digest/run.mjs "$CARGO_TARGET_DIR/wasm32-unknown-unknown/release/digest.wasm"
         done
         ;;
