@@ -37,49 +37,50 @@ used_up : (b : Block) (why : Refused) → (why ≡ refused.Space 1 (left_of b)) 
 used_up b why is within =
     let none : left_of b ≡ 0 = omega (arith, is.1) in (rw none at is.0, omega (arith, none, within))
 
-module _ {C : Type 0} (phase : Phase) where
+module _ (phase : Phase) where
   abbrev pool : List Handle
   pool = phase.phase.start.pool
 
-  drawn : (entries : List (Entry C)) (before after : Reserver)
-      → AreServed (IsDrawn phase) before (flat_map request_of entries) after
-      → Draws pool before.block entries after.block
-  drawn [] before after served = rw served (record { given = search rules; used = search rules; fit = tt })
-  drawn (Spawn h ∷ entries) before after served =
-      let was = served.1 in
-      let then = drawn entries served.0 after served.2 in
-      let used : served.0.block ≡ after_use before.block 1 = let u = was.used in grind (arith, common_steps) in
-      let first : h ∷ [] ≡ take 1 (rest_of pool before.block) = queued.first_listed _ _ h was.given in
-      let more = spawned_in entries in
-      let rest : rest_of pool served.0.block ≡ drop 1 (rest_of pool before.block) =
-      rw used (dropped before.block.used _) in
-      let behind : more ≡ take (length more) (drop 1 (rest_of pool before.block)) = rw rest at then.given in
-      let all : after.block ≡ after_use (after_use before.block 1) (length more) = rw used at then.used in
-      record {
-        given = step _ more h first behind;
-        used = all ∙ used_then before.block (length more);
-        fit = (some_left pool before.block h first, rw used at then.fit);
-      }
-  drawn (entry.Refused why ∷ entries) before after served =
-      let was = served.1 in
-      let then = drawn entries served.0 after served.2 in
-      let same : served.0.block ≡ before.block = let u = was.remembers in search (rules, u) in
-      let kept : FitBlock before.block entries = rw same at then.fit in
-      record {
-        given = rw same at then.given;
-        used = rw same at then.used;
-        fit = (
-          used_up before.block why was.refused was.within,
-          subst (λ b. FitBlock b entries) (used_none before.block) kept,
-        );
-      }
-  drawn (entry.Command command ∷ entries) before after served =
-      let then = drawn entries before after served in
-      record {
-        given = then.given;
-        used = then.used;
-        fit = (tt, subst (λ b. FitBlock b entries) (used_none before.block) then.fit);
-      }
+  module _ {C : Type 0} where
+    drawn : (entries : List (Entry C)) (before after : Reserver)
+        → AreServed (IsDrawn phase) before (flat_map request_of entries) after
+        → Draws pool before.block entries after.block
+    drawn [] before after served = rw served (record { given = search rules; used = search rules; fit = tt })
+    drawn (Spawn h ∷ entries) before after served =
+        let was = served.1 in
+        let then = drawn entries served.0 after served.2 in
+        let used : served.0.block ≡ after_use before.block 1 = let u = was.used in grind (arith, common_steps) in
+        let first : h ∷ [] ≡ take 1 (rest_of pool before.block) = queued.first_listed _ _ h was.given in
+        let more = spawned_in entries in
+        let rest : rest_of pool served.0.block ≡ drop 1 (rest_of pool before.block) =
+        rw used (dropped before.block.used _) in
+        let behind : more ≡ take (length more) (drop 1 (rest_of pool before.block)) = rw rest at then.given in
+        let all : after.block ≡ after_use (after_use before.block 1) (length more) = rw used at then.used in
+        record {
+          given = step _ more h first behind;
+          used = all ∙ used_then before.block (length more);
+          fit = (some_left pool before.block h first, rw used at then.fit);
+        }
+    drawn (entry.Refused why ∷ entries) before after served =
+        let was = served.1 in
+        let then = drawn entries served.0 after served.2 in
+        let same : served.0.block ≡ before.block = let u = was.remembers in search (rules, u) in
+        let kept : FitBlock before.block entries = rw same at then.fit in
+        record {
+          given = rw same at then.given;
+          used = rw same at then.used;
+          fit = (
+            used_up before.block why was.refused was.within,
+            subst (λ b. FitBlock b entries) (used_none before.block) kept,
+          );
+        }
+    drawn (entry.Command command ∷ entries) before after served =
+        let then = drawn entries before after served in
+        record {
+          given = then.given;
+          used = then.used;
+          fit = (tt, subst (λ b. FitBlock b entries) (used_none before.block) then.fit);
+        }
 
 module _ {C : Type 0} where
   -- So the spawns of a system that began with an empty log have the next handles of its block.
