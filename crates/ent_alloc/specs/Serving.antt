@@ -1,5 +1,5 @@
 -- What a caller requested, one request after the other, and the replies.
-use Rattle.std.specs.Prelude.{◌≡◌, ℕ, List, [], Result, Ok, Err}
+use Rattle.std.specs.Prelude.{◌≡◌, ℕ, List, Result}
 use Rattle.std.specs.List.{FoldsTo}
 use Rattle.ent_handle.specs.Handle.{Handle}
 use Rattle.ent_alloc.specs.declared.refused.Refused.{Refused}
@@ -13,11 +13,6 @@ SaysWanted requested (Quota left) = Unit {0}
 -- how many handles were requested, and the reply
 abbrev pub Request : Type 0
 Request = ℕ × Result (List Handle) Refused
-
--- the handles that were given
-abbrev pub given_by : Request → List Handle
-given_by (n, Ok handles) = handles
-given_by (n, Err why) = []
 
 -- What a request for so many handles may have as its reply, and what it makes of the reserver.
 abbrev pub Replying : Type 0 → Type 1
