@@ -19,8 +19,14 @@ dropped (suc n) (x ∷ xs) = let rest = dropped n xs in grind (arith, common_ste
 used_none : (b : Block) → b ≡ after_use b 0
 used_none b = search rules
 
-used_then : (b : Block) (n : ℕ) → after_use (after_use b 1) n ≡ after_use b (1 + n)
-used_then b n = search rules
+one_more : (n : ℕ) → 1 + n ≡ suc n
+one_more n = omega arith
+
+used_one : (b : Block) (n : ℕ) → after_use (after_use b 1) n ≡ after_use b (1 + n)
+used_one b n = search rules
+
+used_then : (b : Block) (n : ℕ) → after_use (after_use b 1) n ≡ after_use b (suc n)
+used_then b n = used_one b n ∙ ap (λ (k : ℕ). after_use b k) (one_more n)
 
 -- a block that gives a handle is not used up
 some_left : (pool : List Handle) (b : Block) (h : Handle) → h ∷ [] ≡ take 1 (rest_of pool b) → b.used < b.size
