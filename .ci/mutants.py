@@ -235,7 +235,7 @@ def empty_bodies(file, module, homes, own, functions):
     while at < len(lines):
         begun = re.match(r"(impl|trait|pub trait|pub\(crate\) trait)\b(.*)", lines[at])
         if begun or lines[at] == "}":
-            owner = owner_of(begun[1], begun[2], homes) if begun else module
+            owner = owner_of(begun[1], begun[2], homes, module) if begun else module
         body = body_of(lines, at)
         if body:
             first, end = body
@@ -288,15 +288,19 @@ def module_of(path):
     return re.sub(r"(^|/)(lib|main|mod)$", "", str(path.with_suffix(""))).replace("/", "::")
 
 
-def owner_of(kind, head, homes):
-    """The module of the type whose own methods stand here, or None if they are those of a trait."""
+def owner_of(kind, head, homes, module):
+    """The type whose own methods stand here, in its module, or None if they are those of a trait."""
     said = re.sub(r"<[^<>]*(?:<[^<>]*>)?[^<>]*>", "", head).split("{")[0].split()
     if kind != "impl" or "for" in said or not said or len(homes.get(said[0], [])) != 1:
         return None
-    # Where the type is that of a type, as `Filled<'_, Log<C>>`, the prover's name has the words of that too: `Filled+Log+C`.
-    within = re.search(rf"\b{said[0]}<(.*<.*)>", head)
-    words = [it for it in re.findall(r"'?\w+", within[1]) if it[0] != "'"] if within else []
-    return "::".join(filter(None, (homes[said[0]][0], "+".join([said[0], *words]))))
+    # Where the type is that of a type, as `Filled<'_, Log<C>>`, the prover's name has the words of that too, in the module of these methods:
+    # `filling::Filled+Log+C`.
+    within = re.search(rf"\b{said[0]}<(.*)>", head)
+    words = [it for it in re.findall(r"'?\w+", within[1]) if it[0] != "'" and it != "_"] if within else []
+    parameters = re.findall(r"(?:^<|, )(\w+)", head.split(f"{said[0]}<")[0])
+    if all(it in parameters for it in words):
+        return "::".join(filter(None, (homes[said[0]][0], said[0])))
+    return "::".join(filter(None, (module, "+".join([said[0], *words]))))
 
 
 def body_of(lines, at):

@@ -113,7 +113,7 @@ LEXEME = re.compile(
 )
 # Conditions that each caller meets: that a closure may be called, as any of Rust's may, and that commands are ready. Only proved code makes
 # commands. It lends those that are ready, and each call leaves them so.
-MET = re.compile(r"requires\s+(?:\w+\s+)?\{\s*(?:[A-Z]\w*\.IsAlwaysCallable\s+\w+|(IsReady)\s+self\.old)\s*\}")
+MET = re.compile(r"requires\s+(?:\w+\s+)?\{\s*(?:[A-Z]\w*\.IsAlwaysCallable\s+\w+|(IsReady)\s+S\.serves\s+self\.old)\s*\}")
 IN_A_CLAUSE = re.compile(r'--.*|"(?:\\.|[^"\\])*"?|\{-|//|[{}]')
 BINARY = set("+ - * / % ^ & | && || << == != < > <= >= = += -= *= /= %= ^= |= &= <<=".split())
 Token = collections.namedtuple("Token", "kind text start end line")
@@ -688,7 +688,7 @@ WORDS = {it.upper(): lambda r, it=it: r.look().kind == it and r.take() for it in
     "UNTIL_SEMICOLON": lambda r: r.set("at", r.text.text.index(";", r.at)),
     "CLAUSE": lambda r: r.sees("{") and r.set("at", r.text.after_clause(r.look().start)),
     "CLAUSE_WORD": lambda r: r.sees("requires", "ensures") and r.set("requires", r.requires or r.sees("requires")) and r.take(),
-    "MET": lambda r: (it := MET.match(r.text.text, r.look().start)) and (not it[1] or r.crate in ("ent_log_runner", "ent_queue")) and r.set("at", it.end()),
+    "MET": lambda r: (it := MET.match(r.text.text, r.look().start)) and (not it[1] or r.crate == "ent_queue") and r.set("at", it.end()),
     "SCOPE": lambda r: r.sees("crate", "super")
     and (r.result in OPENED and r.sees("crate") and r.take() or r.add("super", "visibility" if r.drop().text == "crate" else None)),
     "FORMATTER": lambda r: r.imports.get("fmt") == "std::fmt" and r.add("'_"),

@@ -37,3 +37,4 @@ pub mod Portioned
 pub mod PortionPools
 pub mod Common
 pub mod Laws
+pub mod Served

@@ -18,4 +18,5 @@ pub mod Fault
 pub mod Spent
 pub mod History
 pub mod Runs
+pub mod Serving
 pub mod Within

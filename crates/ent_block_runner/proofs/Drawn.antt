@@ -1,118 +1,146 @@
--- What a call on a system's log draws from its block.
-use Rattle.ent_block_runner.proofs.Common.{rules, ◌≡◌, refl, sym, ap, ◌∙◌, ℕ, List, [], ◌∷◌, ◌++◌, take, append-nil, arith, length, length-take, length-drop, drop, ◌<◌, ◌-◌, Result, Ok, Err, IfOk, IfErr, OnOk, OnErr, IsErrOf, common_steps, Handle, reply_from, listed, Refused, ReserveError, Block, Entry, Spawn, spawned_in, returned, refused_by, rest_of, Source, after_refusal, DrawsOne, Draws, FitBlock, Filling, Extends}
+-- What a system's log has drawn from its block, by the replies to its requests.
+use Rattle.ent_block_runner.proofs.Common.{rules, ◌≡◌, ◌∙◌, ap, refl, sym, subst, ℕ, ◌+◌, ◌-◌, ◌<◌, ◌≤◌, zero, suc, List, [], ◌∷◌, take, drop, length, length-drop, length-take, arith, flat_map, common_steps, Handle, Refused, Block, Phase, Reserver, rest_of, after_use, left_of, IsOfPhase, IsDrawn, AreServed, Request, Entry, Spawn, spawned_in, Commands, Extends, output_of, reserver_of, source_of, Logs, request_of, Draws, FitBlock, Result, Ok, Err, OnOk, OnErr, Some, slice_get, get_or, get_or_from_slice_get, FillsAt, IssuesAt, Command, View}
 use Rattle.ent_alloc.specs.declared.refused.Refused.TheVariants as refused
-use Rattle.ent_alloc.specs.declared.reserve_error.ReserveError.TheVariants as failed
-use Rattle.ent_log.specs.declared.entry.Entry.TheVariants.{Command}
 use Rattle.ent_log.specs.declared.entry.Entry.TheVariants as entry
+use Rattle.ent_queue.proofs.DrawnBlocks as queued
+use Rattle.ent_queue.specs.Issuing.{Issues}
 
-single : (made : ℕ) (x : Handle) → listed made (x ∷ []) ≡ x ∷ []
-single made x = grind (arith, common_steps)
+-- the first handle of the block, and those after it
+step : (rest more : List Handle) (h : Handle) → h ∷ [] ≡ take 1 rest → more ≡ take (length more) (drop 1 rest)
+    → h ∷ more ≡ take (length (h ∷ more)) rest
+step [] more h first then = absurd (cc)
+step (x ∷ rest) more h first then = grind (arith, common_steps)
 
--- a reply with one handle has the first one
-pub first_given : (made : ℕ) (rest : List Handle) (h : Handle) → reply_from made rest 1 ≡ Ok (h ∷ [])
-    → take 1 rest ≡ h ∷ []
-first_given made [] h is = absurd (cc)
-first_given made (x ∷ rest) h is = let one = single made x in grind (arith, common_steps)
+dropped : (n : ℕ) (xs : List Handle) → drop (n + 1) xs ≡ drop 1 (drop n xs)
+dropped zero xs = refl
+dropped (suc n) [] = grind (arith, common_steps)
+dropped (suc n) (x ∷ xs) = let rest = dropped n xs in grind (arith, common_steps)
 
--- It is the same phase and the same block, and no handle of it was used.
-pub record IsStill (before after : Source) : Type 0 where
-  pub phase : after.phase ≡ before.phase
-  pub number : after.reserver.number ≡ before.reserver.number
-  pub block : after.reserver.block ≡ before.reserver.block
+used_none : (b : Block) → b ≡ after_use b 0
+used_none b = search rules
 
-same_still : (before after : Source) → after ≡ before → IsStill before after
-same_still before after same = record {
-  phase = ap (λ (s : Source). s.phase) same;
-  number = ap (λ (s : Source). s.reserver.number) same;
-  block = ap (λ (s : Source). s.reserver.block) same;
-}
+one_more : (n : ℕ) → 1 + n ≡ suc n
+one_more n = omega arith
 
-remembers_still : (before after : Source)
-    → after ≡ record before { reserver = after_refusal before.reserver 1 } → IsStill before after
-remembers_still before after is = record {
-  phase = ap (λ (s : Source). s.phase) is;
-  number = ap (λ (s : Source). s.reserver.number) is;
-  block = ap (λ (s : Source). s.reserver.block) is;
-}
+used_one : (b : Block) (n : ℕ) → after_use (after_use b 1) n ≡ after_use b (1 + n)
+used_one b n = search rules
 
--- a spawn that was refused
-pub refused_still : (before after : Source) (result : Result Handle ReserveError)
-    → ((reply : Result Handle Refused) → result ≡ returned reply → DrawsOne before reply after)
-    → (IsErrOf result failed.Memory → after ≡ before) → OnErr result (IsStill before after)
-refused_still before after (Ok h) replies memory = tt
-refused_still before after (Err (failed.Space wanted rest)) replies memory =
-    remembers_still before after (replies (Err (refused.Space wanted rest)) refl).remembers
-refused_still before after (Err (failed.Quota rest)) replies memory =
-    remembers_still before after (replies (Err (refused.Quota rest)) refl).remembers
-refused_still before after (Err failed.Memory) replies memory = same_still before after (memory refl)
-
-pub no_handle : (before after : Source) (result : Result Handle ReserveError) → OnErr result (IsStill before after)
-    → OnErr result (after.reserver.block ≡ before.reserver.block)
-no_handle before after (Ok h) still = tt
-no_handle before after (Err e) still = still.block
+used_then : (b : Block) (n : ℕ) → after_use (after_use b 1) n ≡ after_use b (suc n)
+used_then b n = used_one b n ∙ ap (λ (k : ℕ). after_use b k) (one_more n)
 
 -- a block that gives a handle is not used up
-some_left : (pool : List Handle) (b : Block) (h : Handle) → take 1 (rest_of pool b) ≡ h ∷ [] → b.used < b.size
+some_left : (pool : List Handle) (b : Block) (h : Handle) → h ∷ [] ≡ take 1 (rest_of pool b) → b.used < b.size
 some_left pool b h is =
-    let one : length (take 1 (rest_of pool b)) ≡ 1 = rw is refl in
+    let one : length (take 1 (rest_of pool b)) ≡ 1 = rw (sym is) refl in
     let kept = length-take b.size (drop b.before pool) in
     let behind = length-drop b.used (take b.size (drop b.before pool)) in
     let first = length-take 1 (rest_of pool b) in
     omega (arith, one, kept, behind, first)
 
+-- a block that gives none is used up
+used_up : (b : Block) (why : Refused) → (why ≡ refused.Space 1 (left_of b)) × (left_of b < 1) → b.used ≤ b.size
+    → (why ≡ refused.Space 1 0) × (b.used ≡ b.size)
+used_up b why is within =
+    let none : left_of b ≡ 0 = omega (arith, is.1) in (rw none at is.0, omega (arith, none, within))
+
+module _ (phase : Phase) where
+  abbrev pool : List Handle
+  pool = phase.phase.start.pool
+
+  module _ {C : Type 0} where
+    drawn : (entries : List (Entry C)) (before after : Reserver)
+        → AreServed (IsDrawn phase) before (flat_map request_of entries) after
+        → Draws pool before.block entries after.block
+    drawn [] before after served = rw served (record { given = search rules; used = search rules; fit = tt })
+    drawn (Spawn h ∷ entries) before after served =
+        let was = served.1 in
+        let then = drawn entries served.0 after served.2 in
+        let used : served.0.block ≡ after_use before.block 1 = let u = was.used in grind (arith, common_steps) in
+        let first : h ∷ [] ≡ take 1 (rest_of pool before.block) = queued.first_listed _ _ h was.given in
+        let more = spawned_in entries in
+        let rest : rest_of pool served.0.block ≡ drop 1 (rest_of pool before.block) =
+        rw used (dropped before.block.used _) in
+        let behind : more ≡ take (length more) (drop 1 (rest_of pool before.block)) = rw rest at then.given in
+        let all : after.block ≡ after_use (after_use before.block 1) (length more) = rw used at then.used in
+        record {
+          given = step _ more h first behind;
+          used = all ∙ used_then before.block (length more);
+          fit = (some_left pool before.block h first, rw used at then.fit);
+        }
+    drawn (entry.Refused why ∷ entries) before after served =
+        let was = served.1 in
+        let then = drawn entries served.0 after served.2 in
+        let same : served.0.block ≡ before.block = let u = was.remembers in search (rules, u) in
+        let kept : FitBlock before.block entries = rw same at then.fit in
+        record {
+          given = rw same at then.given;
+          used = rw same at then.used;
+          fit = (
+            used_up before.block why was.refused was.within,
+            subst (λ b. FitBlock b entries) (used_none before.block) kept,
+          );
+        }
+    drawn (entry.Command command ∷ entries) before after served =
+        let then = drawn entries before after served in
+        record {
+          given = then.given;
+          used = then.used;
+          fit = (tt, subst (λ b. FitBlock b entries) (used_none before.block) then.fit);
+        }
+
 module _ {C : Type 0} where
-  draws_nothing : (pool : List Handle) (b : Block) → Draws {C = C} pool b [] b
-  draws_nothing pool b = record { given = search rules; used = search rules; fit = tt }
+  -- So the spawns of a system that began with an empty log have the next handles of its block.
+  pub draws_extended : (a b : Commands (List (Entry C)) Phase Reserver) → output_of a ≡ []
+      → Extends Logs IsOfPhase IsDrawn a b
+      → Draws (source_of a).phase.start.pool (reserver_of a).block (output_of b) (reserver_of b).block
+  draws_extended a b empty e =
+      let is : output_of b ≡ e.adds.added = rw empty at e.adds.log in
+      rw is (drawn (source_of a) e.adds.added (reserver_of a) (reserver_of b) (rw e.adds.requests_are at e.served))
 
-  -- entries that draw nothing
-  extends_still : (before after : Filling C) (added : List (Entry C)) → spawned_in added ≡ []
-      → FitBlock before.source.reserver.block added → IsStill before.source after.source
-      → after.log ≡ before.log ++ added → Extends before after
-  extends_still before after added none fit still log = record {
-    phase = still.phase;
-    number = still.number;
-    added = added;
-    log = log;
-    draws = rw still.block (search (rules, draws_nothing, none, fit));
-  }
+-- A system that ran as a job, with the reserver at its number: if it ended, and if it stopped.
+module _ {S : Type 0} (systems : List S) (phase : Phase) (reservers : List Reserver) (n : ℕ) (d : S) where
+  of_phase : {O : Type 0} (Adds : O → List Request → O → Type 0) (a b : Commands O Phase Reserver)
+      → Extends Adds IsOfPhase IsDrawn a b → source_of a ≡ phase → (reserver_of b).number ≡ phase.number
+  of_phase Adds a b e source = e.ready ∙ ap (λ (p : Phase). p.number) (e.source ∙ source)
 
-  -- a refusal
-  extends_refused : (before after : Filling C) (why : Refused) → DrawsOne before.source (Err why) after.source
-      → IsStill before.source after.source → after.log ≡ before.log ++ entry.Refused why ∷ [] → Extends before after
-  extends_refused before after why draws still log =
-      extends_still before after (entry.Refused why ∷ []) refl (draws.refused, tt) still log
+  module _ {C : Type 0} (may : S → List (Entry C) → Type 0) (a b : Commands (List (Entry C)) Phase Reserver)
+      (empty : output_of a ≡ []) (e : Extends Logs IsOfPhase IsDrawn a b) (source : source_of a ≡ phase)
+      (is : (r : Reserver) → slice_get reservers n ≡ Some r → reserver_of a ≡ r) (log : List (Entry C))
+      (after : Reserver) (same : log ≡ output_of b) (last : after ≡ reserver_of b) where
+    fills : may (get_or systems n d) (output_of b) → FillsAt may systems phase reservers n (log, after)
+    fills ran = rw (same, last) (record {
+      system = λ system at. search (rules, get_or_from_slice_get);
+      of_phase = of_phase Logs a b e source;
+      draws = λ r at. rw (source, is r at) at (draws_extended a b empty e);
+    })
 
-  pub extends_push : {A E : Type 0} (before after : Filling C) (command : C) (result : Result A E)
-      → after.source ≡ before.source → OnOk result (after.log ≡ before.log ++ Command command ∷ [])
-      → OnErr result (after.log ≡ before.log) → Extends before after
-  extends_push before after command (Ok x) same ok err = extends_still before after (Command command ∷ []) refl (tt, tt)
-      (same_still before.source after.source same) ok
-  extends_push before after command (Err e) same ok err = extends_still before after [] refl tt
-      (same_still before.source after.source same) (err ∙ sym (append-nil before.log))
+    pub filled_ok : {A E : Type 0} (r : Result A E) → OnOk r (may (get_or systems n d) (output_of b))
+        → OnOk r (FillsAt may systems phase reservers n (log, after))
+    filled_ok (Ok x) ran = fills ran
+    filled_ok (Err why) ran = tt
 
-  pub extends_spawn : (before after : Filling C) (result : Result Handle ReserveError)
-      → IfOk result (λ h. after.log ≡ before.log ++ Spawn h ∷ [])
-      → IfErr result (λ error. after.log ≡ before.log ++ refused_by error)
-      → ((reply : Result Handle Refused) → result ≡ returned reply → DrawsOne before.source reply after.source)
-      → OnErr result (IsStill before.source after.source) → Extends before after
-  extends_spawn before after (Ok h) ok err replies still =
-      let drawn = replies (Ok h) refl in
-      let block = before.source.reserver.block in
-      search (rules, drawn, some_left before.source.phase.phase.start.pool block h drawn.given)
-  extends_spawn before after (Err (failed.Space wanted rest)) ok err replies still =
-      let why = refused.Space wanted rest in extends_refused before after why (replies (Err why) refl) still err
-  extends_spawn before after (Err (failed.Quota rest)) ok err replies still =
-      let why = refused.Quota rest in extends_refused before after why (replies (Err why) refl) still err
-  extends_spawn before after (Err failed.Memory) ok err replies still =
-      extends_still before after [] refl tt still err
+    pub filled_err : {A E : Type 0} (r : Result A E) → OnErr r (may (get_or systems n d) (output_of b))
+        → OnErr r (FillsAt may systems phase reservers n (log, after))
+    filled_err (Ok x) ran = tt
+    filled_err (Err why) ran = fills ran
 
--- if memory ran out, both parts are as they were
-pub same_memory : {A C : Type 0} (before after : Filling C) (result : Result A ReserveError)
-    → IfErr result (λ error. after.log ≡ before.log ++ refused_by error)
-    → (IsErrOf result failed.Memory → after.source ≡ before.source) → IsErrOf result failed.Memory → after ≡ before
-same_memory before after (Ok x) log source is = absurd (cc)
-same_memory before after (Err failed.Memory) log source is =
-    let same = source is in
-    let kept = log ∙ append-nil before.log in
-    (λ i. record { source = same i; log = kept i })
-same_memory before after (Err e) log source is = absurd (cc)
+  module _ (may : S → View → List Command → Type 0) (view : View) (a b : Commands (List Command) Phase Reserver)
+      (empty : output_of a ≡ []) (e : Extends Issues IsOfPhase IsDrawn a b) (source : source_of a ≡ phase)
+      (is : (r : Reserver) → slice_get reservers n ≡ Some r → reserver_of a ≡ r) (queue : List Command)
+      (after : Reserver) (same : queue ≡ output_of b) (last : after ≡ reserver_of b) where
+    issues : may (get_or systems n d) view (output_of b) → IssuesAt may systems view phase reservers n (queue, after)
+    issues ran = rw (same, last) (record {
+      system = λ system at. search (rules, get_or_from_slice_get);
+      of_phase = of_phase Issues a b e source;
+      draws = λ r at. rw (source, is r at) at (queued.draws_extended a b empty e);
+    })
+
+    pub issued_ok : {A E : Type 0} (r : Result A E) → OnOk r (may (get_or systems n d) view (output_of b))
+        → OnOk r (IssuesAt may systems view phase reservers n (queue, after))
+    issued_ok (Ok x) ran = issues ran
+    issued_ok (Err why) ran = tt
+
+    pub issued_err : {A E : Type 0} (r : Result A E) → OnErr r (may (get_or systems n d) view (output_of b))
+        → OnErr r (IssuesAt may systems view phase reservers n (queue, after))
+    issued_err (Ok x) ran = tt
+    issued_err (Err why) ran = issues ran

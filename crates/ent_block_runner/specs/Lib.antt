@@ -1,4 +1,3 @@
-pub mod Drawing
 pub mod Filling
 pub mod Running
 pub mod Queues

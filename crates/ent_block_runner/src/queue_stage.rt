@@ -7,7 +7,7 @@ use crate::BlockNumbering;
 use crate::system_in_blocks::SystemInBlocks;
 use ent_blocks::{BlockReserver, Blocks, again};
 use ent_handle::Memory;
-use ent_queue::{CommandQueue, CommandsInBlocks};
+use ent_queue::{CommandQueue, Commands};
 use ent_runner::Jobs;
 use ent_world::View;
 use std::alloc::Global;
@@ -44,9 +44,10 @@ impl<J: BlockNumbering, S: SystemInBlocks<J>> Jobs<(CommandQueue, BlockReserver<
         number: usize,
         lent: &mut (),
     ) -> ((CommandQueue, BlockReserver<J>), Result<(), Memory>) {
-        let reserver = again(&self.reservers[number]);
-        let mut commands = CommandsInBlocks::new(self.alloc, self.blocks, reserver);
+        let mut reserver = again(&self.reservers[number]);
+        let mut commands = Commands::new(self.alloc, self.blocks, &mut reserver);
         let ran = self.systems[number].run(self.alloc, &self.view, &mut commands);
-        (commands.finish(), ran)
+        let queue = commands.finish();
+        ((queue, reserver), ran)
     }
 }

@@ -3,11 +3,11 @@ ghost use Rattle.std.specs.Prelude.{length};
 ghost use Rattle.ent_block_runner.specs.Running.{AreReady, FillsAt};
 
 use crate::BlockNumbering;
-use crate::commands::BlockCommands;
 use crate::system::BlockSystem;
 use ent_blocks::{BlockReserver, Blocks, again};
 use ent_handle::Memory;
 use ent_log::Log;
+use ent_queue::Commands;
 use ent_runner::Jobs;
 use std::alloc::Global;
 
@@ -22,7 +22,7 @@ pub(crate) struct BlockStage<'b, 'r, 's, J: BlockNumbering, S> {
 
 /// Nothing is lent to them: each has its own reserver. So there is nothing that workers share but the
 /// claims.
-impl<J: BlockNumbering, C, S: BlockSystem<J, C>> Jobs<(Log<C>, BlockReserver<J>), ()>
+impl<J: BlockNumbering, C: Drop, S: BlockSystem<J, C>> Jobs<(Log<C>, BlockReserver<J>), ()>
     for BlockStage<'_, '_, '_, J, S> {
     ghost count = { λ stage. length stage.systems.now };
 
@@ -42,9 +42,10 @@ impl<J: BlockNumbering, C, S: BlockSystem<J, C>> Jobs<(Log<C>, BlockReserver<J>)
         number: usize,
         lent: &mut (),
     ) -> ((Log<C>, BlockReserver<J>), Result<(), Memory>) {
-        let reserver = again(&self.reservers[number]);
-        let mut commands = BlockCommands::new(self.alloc, self.blocks, reserver);
+        let mut reserver = again(&self.reservers[number]);
+        let mut commands = Commands::new(self.alloc, self.blocks, &mut reserver);
         let ran = self.systems[number].run(self.alloc, &mut commands);
-        (commands.finish(), ran)
+        let log = commands.finish();
+        ((log, reserver), ran)
     }
 }

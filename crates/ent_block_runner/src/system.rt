@@ -1,10 +1,14 @@
 ghost use Rattle.std.specs.Prelude.{◌≡◌, [], List, OnOk, OnErr};
 ghost use Rattle.ent_log.specs.declared.entry.Entry.{Entry as LogEntry};
-ghost use Rattle.ent_block_runner.specs.Filling.{Extends};
+ghost use Rattle.ent_blocks.specs.Drawing.{IsDrawn, IsOfPhase};
+ghost use Rattle.ent_queue.specs.Commands.{IsReady, Extends, output_of};
+ghost use Rattle.ent_queue.specs.Logging.{Logs};
 
 use crate::BlockNumbering;
-use crate::commands::BlockCommands;
+use ent_blocks::Blocks;
 use ent_handle::Memory;
+use ent_log::Log;
+use ent_queue::Commands;
 use std::alloc::Global;
 
 /// A system that fills a log from a block of its own. `C` is the caller's type of commands.
@@ -23,10 +27,15 @@ pub trait BlockSystem<J: BlockNumbering, C> {
     /// # Errors
     ///
     /// `Memory`, if the system ran out of memory. All logs and all reservers are then dropped.
-    fn run(&self, alloc: Global, commands: &mut BlockCommands<'_, J, C>) -> Result<(), Memory>
-        ensures extends { Extends commands.old commands.new }
-        ensures may { commands.old.log ≡ []
-            → OnOk result (may_log self.now commands.new.log) }
-        ensures leaves { commands.old.log ≡ []
-            → OnErr result (may_leave self.now commands.new.log) };
+    fn run(
+        &self,
+        alloc: Global,
+        commands: &mut Commands<'_, Log<C>, Blocks<J>>,
+    ) -> Result<(), Memory>
+        requires { IsReady IsOfPhase commands.old }
+        ensures extends { Extends Logs IsOfPhase IsDrawn commands.old commands.new }
+        ensures may { output_of commands.old ≡ []
+            → OnOk result (may_log self.now (output_of commands.new)) }
+        ensures leaves { output_of commands.old ≡ []
+            → OnErr result (may_leave self.now (output_of commands.new)) };
 }

@@ -1,11 +1,14 @@
 ghost use Rattle.std.specs.Prelude.{◌≡◌, [], List, OnOk, OnErr};
 ghost use Rattle.ent_queue.specs.Command.{Command};
-ghost use Rattle.ent_queue.specs.InBlocks.{ExtendsInBlocks};
+ghost use Rattle.ent_blocks.specs.Drawing.{IsDrawn, IsOfPhase};
+ghost use Rattle.ent_queue.specs.Commands.{IsReady, Extends, output_of};
+ghost use Rattle.ent_queue.specs.Issuing.{Issues};
 ghost use Rattle.ent_world.specs.OpenWorld.{View as Viewed};
 
 use crate::BlockNumbering;
+use ent_blocks::Blocks;
 use ent_handle::Memory;
-use ent_queue::CommandsInBlocks;
+use ent_queue::{CommandQueue, Commands};
 use ent_world::View;
 use std::alloc::Global;
 
@@ -30,11 +33,12 @@ pub trait SystemInBlocks<J: BlockNumbering> {
         &self,
         alloc: Global,
         view: &View<'_>,
-        commands: &mut CommandsInBlocks<'_, J>,
+        commands: &mut Commands<'_, CommandQueue, Blocks<J>>,
     ) -> Result<(), Memory>
-        ensures extends { ExtendsInBlocks commands.old commands.new }
-        ensures may { commands.old.queue ≡ []
-            → OnOk result (may_issue self.now view.now commands.new.queue) }
-        ensures leaves { commands.old.queue ≡ []
-            → OnErr result (may_leave self.now view.now commands.new.queue) };
+        requires { IsReady IsOfPhase commands.old }
+        ensures extends { Extends Issues IsOfPhase IsDrawn commands.old commands.new }
+        ensures may { output_of commands.old ≡ []
+            → OnOk result (may_issue self.now view.now (output_of commands.new)) }
+        ensures leaves { output_of commands.old ≡ []
+            → OnErr result (may_leave self.now view.now (output_of commands.new)) };
 }

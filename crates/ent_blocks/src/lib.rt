@@ -13,6 +13,7 @@ mod end_error;
 mod numbering;
 mod opening;
 mod part;
+mod source;
 mod taking;
 
 pub use crate::opening::parts_of;

@@ -2,6 +2,7 @@ ghost use Rattle.std.specs.Prelude.{◌≡◌, ◌↔◌, [], ◌∷◌, ◌++�
 ghost use Rattle.std.specs.Prelude.{Result, IfOk, IfErr, OnOk, OnErr, IsErrOf};
 ghost use Rattle.std.specs.Vec.Iter.{into_iter_items};
 ghost use Rattle.ent_handle.specs.Handle.{Handle as HandleValue};
+ghost use Rattle.ent_alloc.specs.Sequential.{listed_alone};
 ghost use Rattle.ent_alloc.specs.declared.refused.Refused.{Refused as Refusal};
 ghost use Rattle.ent_log.specs.declared.entry.Entry.TheVariants.{Spawn, Command};
 ghost use Rattle.ent_log.specs.Logs.{first_unreserved, refused_in, spawned_in};
@@ -9,7 +10,7 @@ ghost use Rattle.ent_log.specs.Spawning.{refused_by, returned};
 
 use crate::entry::Entry;
 use crate::reserves::Reserves;
-use ent_alloc::{Entities, ReserveError, State};
+use ent_alloc::{Entities, ReserveError, Source, State};
 use ent_handle::{Handle, Memory};
 use std::alloc::Global;
 use std::fmt;
@@ -119,6 +120,43 @@ impl<C> Log<C> {
     {
         self.entries.reserve(1)?;
         match source.reserve_one() {
+            Ok(handle) => {
+                self.entries.push_reserved(Entry::Spawn(handle));
+                Ok(handle)
+            }
+            Err(why) => {
+                self.entries.push_reserved(Entry::Refused(why));
+                Err(ReserveError::from(why))
+            }
+        }
+    }
+
+    /// Reserves a handle at once, of a source that serves this reserver, and adds its entry, or that
+    /// of the refusal. Room for the entry is allocated first, so each reservation has one.
+    ///
+    /// # Errors
+    ///
+    /// - [`ReserveError::Memory`] if there is no room for the entry. The log is as it was, and
+    ///   nothing was reserved.
+    /// - [`ReserveError::Space`] and [`ReserveError::Quota`] as the source returns them. The log has
+    ///   an entry for the [refusal](Entry::Refused), which the sync point hands on in its turn.
+    pub fn spawn_from<S: Source>(
+        &mut self,
+        source: &S,
+        reserver: &mut S::Reserver,
+    ) -> Result<Handle, ReserveError>
+        requires { S.serves source.now reserver.old }
+        ensures stays { S.serves source.now reserver.new }
+        ensures ok { IfOk result (λ handle. self.new ≡ self.old ++ Spawn handle ∷ []) }
+        ensures refused { IfErr result (λ error. self.new ≡ self.old ++ refused_by error) }
+
+        // Anything but Memory is the result of one reservation.
+        ensures replies { (reply : Result HandleValue Refusal) → result ≡ returned reply
+            → S.may_reply source.now reserver.old reserver.new 1 (listed_alone reply) }
+        ensures memory { IsErrOf result ReserveError.Memory → reserver.new ≡ reserver.old }
+    {
+        self.entries.reserve(1)?;
+        match source.serve_one(reserver) {
             Ok(handle) => {
                 self.entries.push_reserved(Entry::Spawn(handle));
                 Ok(handle)

@@ -2,5 +2,4 @@ pub mod Gaining
 pub mod Logged
 pub mod Reserved
 pub mod Nothing
-pub mod Extending
 pub mod Common

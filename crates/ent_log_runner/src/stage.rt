@@ -4,10 +4,10 @@ ghost use Rattle.ent_shared.specs.Phase.{IsOf};
 ghost use Rattle.ent_log_runner.specs.Logging.{LogGains};
 ghost use Rattle.ent_log_runner.specs.Running.{SystemMayLog};
 
-use crate::commands::LogCommands;
 use crate::system::LogSystem;
 use ent_handle::Memory;
 use ent_log::Log;
+use ent_queue::Commands;
 use ent_runner::Jobs;
 use ent_shared::{Reserver, Shared};
 use std::alloc::Global;
@@ -20,7 +20,7 @@ pub(crate) struct LogStage<'a, 's, S> {
     pub(crate) systems: &'s [S],
 }
 
-impl<C, S: LogSystem<C>> Jobs<Log<C>, Reserver> for LogStage<'_, '_, S> {
+impl<C: Drop, S: LogSystem<C>> Jobs<Log<C>, Reserver> for LogStage<'_, '_, S> {
     ghost count = { λ stage. length stage.systems.now };
 
     ghost may_have = { λ stage reserver. IsOf stage.shared.now reserver };
@@ -33,7 +33,7 @@ impl<C, S: LogSystem<C>> Jobs<Log<C>, Reserver> for LogStage<'_, '_, S> {
 
     /// Runs the system of this number. Its log has what it entered, also if it stopped.
     fn run(&self, number: usize, reserver: &mut Reserver) -> (Log<C>, Result<(), Memory>) {
-        let mut commands = LogCommands::new(self.alloc, self.shared, reserver);
+        let mut commands = Commands::new(self.alloc, self.shared, reserver);
         let ran = self.systems[number].run(self.alloc, &mut commands);
         (commands.finish(), ran)
     }

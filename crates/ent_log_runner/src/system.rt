@@ -1,10 +1,13 @@
 ghost use Rattle.std.specs.Prelude.{◌≡◌, [], List, OnOk, OnErr};
 ghost use Rattle.ent_log.specs.declared.entry.Entry.{Entry as LogEntry};
-ghost use Rattle.ent_log_runner.specs.Logging.{IsReady, Extends, log_of};
+ghost use Rattle.ent_queue.specs.Commands.{IsReady, Extends, output_of};
+ghost use Rattle.ent_queue.specs.Logging.{Logs};
+ghost use Rattle.ent_shared.specs.Phase.{IsOf};
+ghost use Rattle.ent_shared.specs.Replies.{IsReturned};
 
-use crate::commands::LogCommands;
 use ent_handle::Memory;
 use ent_log::Log;
+use ent_queue::Commands;
 use std::alloc::Global;
 
 /// A system that fills a log. `C` is the caller's type of commands.
@@ -24,11 +27,11 @@ pub trait LogSystem<C> {
     ///
     /// `Memory`, if the system ran out of memory. All logs are then dropped, and what the systems
     /// had reserved stays reserved.
-    fn run(&self, alloc: Global, commands: &mut LogCommands<'_, Log<C>>) -> Result<(), Memory>
-        requires { IsReady commands.old }
-        ensures extends { Extends commands.old commands.new }
-        ensures may { log_of commands.old ≡ []
-            → OnOk result (may_log self.now (log_of commands.new)) }
-        ensures leaves { log_of commands.old ≡ []
-            → OnErr result (may_leave self.now (log_of commands.new)) };
+    fn run(&self, alloc: Global, commands: &mut Commands<'_, Log<C>>) -> Result<(), Memory>
+        requires { IsReady IsOf commands.old }
+        ensures extends { Extends Logs IsOf IsReturned commands.old commands.new }
+        ensures may { output_of commands.old ≡ []
+            → OnOk result (may_log self.now (output_of commands.new)) }
+        ensures leaves { output_of commands.old ≡ []
+            → OnErr result (may_leave self.now (output_of commands.new)) };
 }

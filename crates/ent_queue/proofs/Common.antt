@@ -1,5 +1,5 @@
 -- The names that proofs of this crate cite, of std, of the crates below and of its own specs. Declares nothing.
-pub use Rattle.std.proofs.Common.{Err, Fits, Global, IfErr, IfOk, IsErrOf, IsTrue, List, Ok, OnErr, OnOk, Result, Vec, [], ap, append-nil, append_assoc, arith, drop, inl, inr, length, length-append, length-drop, map, nat_eq, refl, rules, slice_index, subst, suc, sym, take, vec_capacity, vec_len, zero, ℕ, ℤ, ◌*◌, ◌++◌, ◌+◌, ◌-◌, ◌<◌, ◌^◌, ◌∙◌, ◌∷◌, ◌≡◌, ◌≤◌}
+pub use Rattle.std.proofs.Common.{Err, Fits, Global, IfErr, IfOk, IsErrOf, IsTrue, List, Ok, OnErr, OnOk, Result, Vec, [], ap, append-nil, append_assoc, arith, drop, inl, inr, length, length-append, map, nat_eq, refl, rules, slice_index, subst, suc, sym, take, vec_capacity, vec_len, zero, ℕ, ℤ, ◌*◌, ◌++◌, ◌+◌, ◌-◌, ◌<◌, ◌^◌, ◌∙◌, ◌∷◌, ◌≡◌, ◌≤◌}
 pub use Rattle.std.proofs.Math.Facts.{Fits-lt-pow, Fits-of_lt, Fits-of_z}
 pub use Rattle.std.proofs.Math.Seq.{drop-append_seam}
 pub use Rattle.std.proofs.lemmas.Bool.{cases_lt}
@@ -15,25 +15,33 @@ pub use Rattle.std.specs.List.{All, flat_map, sum_by}
 pub use Rattle.std.specs.Simd.{first_chunks}
 pub use Rattle.ent_alloc.specs.Fault.{as_reserve_error}
 pub use Rattle.ent_alloc.specs.Sequential.{Allocator, listed, listed_alone}
+pub use Rattle.ent_alloc.proofs.Served.{one_served, served_none, served_one, served_parts, served_then}
+pub use Rattle.ent_alloc.specs.Serving.{AreServed, Replying, Request, SaysWanted}
 pub use Rattle.ent_alloc.specs.declared.refused.Refused.{Refused as Refusal}
 pub use Rattle.ent_alloc.specs.declared.refused.Refused.TheVariants.{Quota, Space}
 pub use Rattle.ent_alloc.specs.declared.reserve_error.ReserveError.{ReserveError as QueueFault}
 pub use Rattle.ent_blocks.specs.Blocks.{Block, Phase, after_use}
+pub use Rattle.ent_blocks.specs.Drawing.{IsDrawn}
 pub use Rattle.ent_handle.specs.Handle.{Handle, IsHandle, bits}
 pub use Rattle.ent_handle.specs.declared.component.ComponentId.{ComponentId}
 pub use Rattle.ent_handle.specs.declared.memory.Memory.{Memory}
+pub use Rattle.ent_log.specs.Spawning.{refused_by as refusal_entered, returned}
+pub use Rattle.ent_log.specs.declared.entry.Entry.{Entry}
 pub use Rattle.ent_shared.specs.Phase.{Reserver, Shared}
 pub use Rattle.ent_shared.specs.Record.{after_reservation, reservation_at}
+pub use Rattle.ent_shared.specs.Replies.{IsReturned}
 pub use Rattle.ent_shared.specs.declared.record.Record.{Record}
 pub use Rattle.ent_storage.proofs.Few.{few_items}
 pub use Rattle.ent_storage.specs.Bundle.{Bundle, IsBundle, IsItem}
-pub use Rattle.ent_queue.specs.Command.{Command, Despawn, HasRange, Insert, IsCommand, IsRefusal, Refused, Remove, SaysWanted, Spawn, SpawnMany}
-pub use Rattle.ent_queue.specs.Commands.{Extends, IsReady, Issued, queue_of, reserver_of, shared_of}
-pub use Rattle.ent_queue.specs.Drawing.{AreDrawnBy, Draws, IsDrawn, IsDrawnBy, after_commands, left_of, used_by}
+pub use Rattle.ent_queue.specs.Command.{Command, Despawn, HasRange, Insert, IsCommand, IsRefusal, Refused, Remove, Spawn, SpawnMany}
+pub use Rattle.ent_queue.specs.declared.commands.Commands.{Commands}
+pub use Rattle.ent_queue.specs.Commands.{Extends, IsReady, output_of, reserver_of, source_of}
+pub use Rattle.ent_queue.specs.Drawing.{AreDrawnBy, Draws, IsDrawnBy, after_commands, used_by}
 pub use Rattle.ent_queue.specs.Entry.{command_of}
-pub use Rattle.ent_queue.specs.InBlocks.{ExtendsInBlocks, Issuing}
+pub use Rattle.ent_queue.specs.Issuing.{Issues}
+pub use Rattle.ent_queue.specs.Logging.{Logs, request_of}
 pub use Rattle.ent_queue.specs.Packing.{bundle_bytes, command_bytes, handle_bytes, item_bytes, queue_bytes, refusal_bytes}
 unfoldable pub use Rattle.ent_queue.specs.Packing.{bytes_2, bytes_4, bytes_8}
-pub use Rattle.ent_queue.specs.Reserving.{FitQuota, FitsQuota, Gains, IsReturned, as_list, cost, queued, refused_by, stands_for}
+pub use Rattle.ent_queue.specs.Reserving.{FitQuota, FitsQuota, Gains, as_list, cost, queued, refused_by, requests_of, stands_for}
 pub use Rattle.ent_queue.specs.Unpacking.{ArePacked, BeginsWith, after_first, command_of_kind, handle_of_bits, unpacked_bundle, unpacked_command, unpacked_handle, unpacked_handles, unpacked_item, unpacked_refusal}
 unfoldable pub use Rattle.ent_queue.specs.Unpacking.{number_2, number_4, number_8, unpacked_commands}

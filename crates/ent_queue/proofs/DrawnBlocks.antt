@@ -1,9 +1,9 @@
 -- What commands draw from a block, one by one and together.
-use Rattle.ent_queue.proofs.Common.{rules, ◌≡◌, refl, ap, ℕ, ◌+◌, List, [], ◌∷◌, ◌++◌, take, arith, append-nil, Result, Ok, Err, IfOk, IfErr, OnOk, OnErr, IsErrOf, Vec, Global, common_steps, sum_by-append, sum_by-cons, Handle, Allocator, listed, listed_alone, Refusal, Space, Quota, QueueFault, Block, Phase, after_use, Bundle, Command, Spawn, SpawnMany, queued, as_list, refused_by, IsDrawn, IsDrawnBy, AreDrawnBy, Draws, used_by, after_commands, Issuing, ExtendsInBlocks}
-use Rattle.ent_alloc.specs.declared.reserve_error.ReserveError.TheVariants as fault
+use Rattle.ent_queue.proofs.Common.{rules, ◌≡◌, refl, ℕ, ◌+◌, List, [], ◌∷◌, ◌++◌, take, arith, Ok, Err, common_steps, sum_by-append, sum_by-cons, Handle, Allocator, listed, Refusal, Space, Quota, Block, Phase, after_use, Command, Spawn, SpawnMany, IsDrawn, IsDrawnBy, AreDrawnBy, Draws, used_by, after_commands, Insert, Remove, Despawn, Refused, AreServed, requests_of, served_parts, one_served, flat_map, length, ◌∙◌, Commands, Extends, Issues, output_of, reserver_of, source_of}
+use Rattle.ent_blocks.specs.Drawing.{IsOfPhase}
 use Rattle.ent_blocks.specs.Blocks.{Reserver}
 
-first_listed : (made : ℕ) (rest : List Handle) (h : Handle) → h ∷ [] ≡ listed made (take 1 rest) → h ∷ [] ≡ take 1 rest
+pub first_listed : (made : ℕ) (rest : List Handle) (h : Handle) → h ∷ [] ≡ listed made (take 1 rest) → h ∷ [] ≡ take 1 rest
 first_listed made it h is = grind (arith, common_steps)
 
 -- of commands one by one
@@ -35,56 +35,68 @@ pub draws_then : (s : Allocator) (a b c : Block) (cs ds : List Command) → Draw
     → Draws s a (cs ++ ds) c
 draws_then s a b c cs ds first second = grind (arith, common_steps, each_then, used_then, sum_by-append)
 
--- the commands that a call added, and what they drew from the block
-pub record AddedInBlocks (s : Allocator) (old new : List Command) (before after : Reserver)
-    : Type 0 where
-  pub number : after.number ≡ before.number
-  pub added : List Command
-  pub queue : new ≡ old ++ added
-  pub draws : Draws s before.block added after.block
-
-pub extends_in_blocks : (a b : Issuing) → b.phase ≡ a.phase → AddedInBlocks a.phase.phase.start a.queue b.queue
-    a.reserver b.reserver → ExtendsInBlocks a b
-extends_in_blocks a b phase more = search rules
-
--- a command that reserves nothing, or no command
-pub still_added : {E : Type 0} (s : Allocator) (old new : List Command) (r : Reserver) (c : Command)
-    (result : Result (Unit {0}) E) → IsDrawnBy s r.block c → used_by c ≡ 0 → OnOk result (new ≡ old ++ c ∷ [])
-    → OnErr result (new ≡ old) → AddedInBlocks s old new r r
-still_added s old new r c it is none ok err = search (rules, draws_still, draws_nothing, append-nil)
-
 space_is : (n m k left : ℕ) → Space m left ≡ Space n k → (m ≡ n) × (left ≡ k)
 space_is n m k left same = (cc, cc)
 
-module _ (phase : Phase) (old new : List Command) (before after : Reserver) where
-  abbrev pub start : Allocator
+-- what commands drew from the block of a reserver, which is the same one
+record Drawn (s : Allocator) (before : Reserver) (commands : List Command) (after : Reserver) : Type 0 where
+  number : after.number ≡ before.number
+  draws : Draws s before.block commands after.block
+
+module _ (phase : Phase) where
+  abbrev start : Allocator
   start = phase.phase.start
 
-  added_served : (n : ℕ) (hs : List Handle) (c : Command) → IsDrawn phase before after n (Ok hs)
-      → IsDrawnBy start before.block c → used_by c ≡ n → new ≡ old ++ c ∷ [] → AddedInBlocks start old new before after
-  added_served n hs c replied is many queue = search (rules, draws_one)
+  module _ (before after : Reserver) where
+    served : (n : ℕ) (hs : List Handle) (c : Command) → IsDrawn phase before after n (Ok hs)
+        → IsDrawnBy start before.block c → used_by c ≡ n → Drawn start before (c ∷ []) after
+    served n hs c replied is many = search (rules, draws_one)
 
-  added_refusal : (n : ℕ) (f : QueueFault) → new ≡ old ++ refused_by n f → (f ≡ fault.Memory → after ≡ before)
-      → ((why : Refusal) → Err f ≡ queued {X = List Handle} (Err why) → IsDrawn phase before after n (Err why))
-      → AddedInBlocks start old new before after
-  added_refusal n (fault.Space wanted left) queue memory replied =
-      let d = replied (Space wanted left) refl in search (rules, draws_still, d, space_is)
-  added_refusal n (fault.Quota left) queue memory replied =
-      let no = (replied (Quota left) refl).refused.0 in absurd (cc)
-  added_refusal n fault.Memory queue memory replied = search (rules, draws_nothing)
+    refused : (n : ℕ) (why : Refusal) → IsDrawn phase before after n (Err why)
+        → Drawn start before (Refused n why ∷ []) after
+    refused n (Space wanted left) replied = search (rules, draws_still, replied, space_is)
+    refused n (Quota left) replied = let no = replied.refused.0 in absurd (cc)
 
-  pub spawn_added : (items : Bundle) (result : Result Handle QueueFault)
-      → IfOk result (λ h. new ≡ old ++ Spawn h items ∷ []) → IfErr result (λ f. new ≡ old ++ refused_by 1 f)
-      → (IsErrOf result fault.Memory → after ≡ before) → ((reply : Result Handle Refusal) → result ≡ queued reply
-      → IsDrawn phase before after 1 (listed_alone reply)) → AddedInBlocks start old new before after
-  spawn_added items (Ok h) ok refused memory replied =
-      let d = replied (Ok h) refl in search (rules, added_served, first_listed, d)
-  spawn_added items (Err f) ok refused memory replied = added_refusal 1 f refused (λ e. memory (ap Err e))
-      (λ why e. replied (Err why) (cc))
+    -- a command for which nothing was requested
+    still : (c : Command) → IsDrawnBy start before.block c → used_by c ≡ 0 → before ≡ after
+        → Drawn start before (c ∷ []) after
+    still c is none same = rw same (record { number = refl; draws = draws_still start _ c (rw same at is) none })
 
-  pub many_added : (n : ℕ) (items : Bundle) (result : Result (Vec Handle Global) QueueFault)
-      → IfOk result (λ hs. new ≡ old ++ SpawnMany hs.items items ∷ []) → IfErr result (λ f. new ≡ old ++ refused_by n f)
-      → (IsErrOf result fault.Memory → after ≡ before) → ((reply : Result (List Handle) Refusal)
-      → as_list result ≡ queued reply → IsDrawn phase before after n reply) → AddedInBlocks start old new before after
-  many_added n items (Ok hs) ok refused memory replied = search (rules, added_served, replied (Ok hs.items) refl)
-  many_added n items (Err f) ok refused memory replied = search (rules, added_refusal)
+    drawn_at : (c : Command) → AreServed (IsDrawn phase) before (requests_of c) after
+        → Drawn start before (c ∷ []) after
+    drawn_at (Spawn h items) was =
+        let replied = one_served (IsDrawn phase) was in
+        served 1 (h ∷ []) (Spawn h items) replied (first_listed start.made _ h replied.given) refl
+    drawn_at (SpawnMany hs items) was =
+        let replied = one_served (IsDrawn phase) was in
+        served (length hs) hs (SpawnMany hs items) replied replied.given refl
+    drawn_at (Insert h items) was = still (Insert h items) tt refl was
+    drawn_at (Remove h id) was = still (Remove h id) tt refl was
+    drawn_at (Despawn h) was = still (Despawn h) tt refl was
+    drawn_at (Refused wanted why) was = refused wanted why (one_served (IsDrawn phase) was)
+
+  drawn : (before after : Reserver) (commands : List Command)
+      → AreServed (IsDrawn phase) before (flat_map requests_of commands) after → Drawn start before commands after
+  drawn before after [] was = rw was (record { number = refl; draws = draws_nothing start _ })
+  drawn before after (c ∷ commands) was =
+      let parts = served_parts (IsDrawn phase) before after (requests_of c) (flat_map requests_of commands) was in
+      let first = drawn_at before parts.0 c parts.1 in
+      let rest = drawn parts.0 after commands parts.2 in
+      record {
+        number = rest.number ∙ first.number;
+        draws = draws_then start _ _ _ (c ∷ []) commands first.draws rest.draws;
+      }
+
+  -- So what commands drew that blocks served is the next of the block.
+  pub draws_of : (before after : Reserver) (commands : List Command)
+      → AreServed (IsDrawn phase) before (flat_map requests_of commands) after
+      → Draws phase.phase.start before.block commands after.block
+  draws_of before after commands was = (drawn before after commands was).draws
+
+-- So a system that began with an empty queue has drawn what it issued from the block.
+pub draws_extended : (a b : Commands (List Command) Phase Reserver) → output_of a ≡ []
+    → Extends Issues IsOfPhase IsDrawn a b
+    → Draws (source_of a).phase.start (reserver_of a).block (output_of b) (reserver_of b).block
+draws_extended a b empty e =
+    let is : output_of b ≡ e.adds.added = rw empty at e.adds.queue in
+    rw is (draws_of (source_of a) (reserver_of a) (reserver_of b) e.adds.added (rw e.adds.requests_are at e.served))

@@ -1,6 +1,6 @@
--- How a reserver's record gains what commands have asked of it, and what a call of `Commands` adds.
-use Rattle.ent_queue.proofs.Common.{rules, ◌≡◌, refl, ℕ, ◌-◌, ◌<◌, ◌≤◌, ℤ, List, [], ◌∷◌, ◌++◌, arith, ◌∙◌, subst, append_assoc, Ok, Err, inl, inr, common_steps, flat_map-append, sum_by, All-nil, All-cons, cases_lt, sum_by-append, Handle, Record, Refusal, Quota, Space, Shared, Reserver, after_reservation, reservation_at, Command, Refused, HasRange, SaysWanted, IsRefusal, stands_for, cost, FitsQuota, FitQuota, Gains, IsReturned, refused_by, as_reserve_error, map-append, length, Result, IfOk, IfErr, OnOk, OnErr, IsErrOf, Vec, Global, ap, Memory, listed_alone, QueueFault, Bundle, Spawn, SpawnMany, Issued, IsReady, Extends, queue_of, reserver_of, shared_of, queued, as_list}
-use Rattle.ent_alloc.specs.declared.reserve_error.ReserveError.TheVariants as fault
+-- How the record of a reserver of a shared allocator gains what commands have requested with it.
+use Rattle.ent_queue.proofs.Common.{rules, ◌≡◌, refl, ℕ, ◌-◌, ◌<◌, ◌≤◌, ℤ, List, [], ◌∷◌, ◌++◌, arith, ◌∙◌, subst, append_assoc, Ok, Err, inl, inr, common_steps, flat_map-append, sum_by, All-nil, All-cons, cases_lt, sum_by-append, Handle, Record, Refusal, Quota, Space, Shared, Reserver, after_reservation, reservation_at, Command, Refused, HasRange, SaysWanted, IsRefusal, stands_for, cost, FitsQuota, FitQuota, Gains, IsReturned, refused_by, as_reserve_error, map-append, length, Result, Spawn, SpawnMany, Insert, Remove, Despawn, queued, Bundle, AreServed, requests_of, served_parts, one_served, flat_map, Request, Commands, Extends, Issues, output_of, reserver_of, source_of}
+use Rattle.ent_shared.specs.Phase.{IsOf}
 
 pub gains_nothing : (r : Record) → Gains r [] r
 gains_nothing r = grind (arith, common_steps)
@@ -68,54 +68,44 @@ is_refusal n it says range = search rules
 pub refused_by_fault : (n : ℕ) (why : Refusal) → refused_by n (as_reserve_error why) ≡ Refused n why ∷ []
 refused_by_fault n it = search rules
 
--- the commands that a call added, and that the record has gained them
-pub record Added (old new : List Command) (before after : Record) : Type 0 where
-  pub added : List Command
-  pub queue : new ≡ old ++ added
-  pub gains : Gains before added after
-
--- So the call extends what was there, with the same reserver of the same allocator.
-pub extends_added : (a b : Issued) → b.reserver.ghost_name ≡ a.reserver.ghost_name → shared_of b ≡ shared_of a
-    → IsReady b → Added (queue_of a) (queue_of b) (reserver_of a).own (reserver_of b).own → Extends a b
-extends_added a b same shared ready more = search (rules)
+pub queued_ok : (reply : Result (List Handle) Refusal) (hs : List Handle) → Ok hs ≡ queued reply → Ok hs ≡ reply
+queued_ok it hs e = search rules
 
 many_request : (hs : List Handle) (items : Bundle) (n : ℕ) → length hs ≡ n → 0 < n
     → stands_for (SpawnMany hs items) ≡ (n, Ok hs) ∷ []
 many_request hs items n e some = search rules
 
--- a command that reserves nothing, or no command
-pub added_none : (r : Record) (c : Command) (result : Result (Unit {0}) Memory) (old new : List Command)
-    → stands_for c ≡ [] → FitsQuota r.left c → OnOk result (new ≡ old ++ c ∷ []) → OnErr result (new ≡ old)
-    → Added old new r r
-added_none r c it old new none within ok err = grind (arith, common_steps, gains_none)
+-- what one command has gained, by the replies to its requests
+gains_at : (shared : Shared) (before after : Reserver) (c : Command)
+    → AreServed (IsReturned shared) before (requests_of c) after → Gains before.own (c ∷ []) after.own
+gains_at shared before after (Spawn h items) served =
+    served_gains shared before after 1 (h ∷ []) (Spawn h items) (one_served (IsReturned shared) served) (λ some. refl) (λ none. absurd (omega (arith, none)))
+    (λ enough. enough)
+gains_at shared before after (SpawnMany hs items) served =
+    served_gains shared before after (length hs) hs (SpawnMany hs items) (one_served (IsReturned shared) served)
+    (many_request hs items (length hs) refl) (λ none is. rw is refl) (λ enough. enough)
+gains_at shared before after (Insert h items) served = search (rules, gains_none)
+gains_at shared before after (Remove h id) served = search (rules, gains_none)
+gains_at shared before after (Despawn h) served = search (rules, gains_none)
+gains_at shared before after (Refused wanted why) served =
+    refused_gains shared before after wanted why (one_served (IsReturned shared) served)
 
-pub queued_ok : (reply : Result (List Handle) Refusal) (hs : List Handle) → Ok hs ≡ queued reply → Ok hs ≡ reply
-queued_ok it hs e = search rules
+-- So the record has gained the reservations of commands that a shared allocator served, and no others.
+pub gains_of : (shared : Shared) (before after : Reserver) (commands : List Command)
+    → AreServed (IsReturned shared) before (flat_map requests_of commands) after
+    → Gains before.own commands after.own
+gains_of shared before after [] served = search (rules, gains_nothing)
+gains_of shared before after (c ∷ commands) served =
+    let parts = served_parts (IsReturned shared) before after (requests_of c) (flat_map requests_of commands) served in
+    gains_then _ _ _ (c ∷ []) commands (gains_at shared before parts.0 c parts.1)
+    (gains_of shared parts.0 after commands parts.2)
 
-module _ (shared : Shared) (before after : Reserver) (old new : List Command) where
-  added_refusal : (n : ℕ) (f : QueueFault) → new ≡ old ++ refused_by n f → (f ≡ fault.Memory → after ≡ before)
-      → ((why : Refusal) → Err f ≡ queued {X = List Handle} (Err why) → IsReturned shared before after n (Err why))
-      → Added old new before.own after.own
-  added_refusal n (fault.Space wanted left) queue memory replied = search
-      (rules, refused_gains shared before after n (Space wanted left))
-  added_refusal n (fault.Quota left) queue memory replied =
-      search (rules, refused_gains shared before after n (Quota left))
-  added_refusal n fault.Memory queue memory replied = search (rules, gains_nothing)
+-- So a reserver has gained the reservations of what was issued with it.
+pub gains_added : (a b : Commands (List Command) Shared Reserver) (e : Extends Issues IsOf IsReturned a b)
+    → Gains (reserver_of a).own e.adds.added (reserver_of b).own
+gains_added a b e =
+    gains_of (source_of a) (reserver_of a) (reserver_of b) e.adds.added (rw e.adds.requests_are at e.served)
 
-  pub added_spawn : (items : Bundle) (result : Result Handle QueueFault)
-      → IfOk result (λ h. new ≡ old ++ Spawn h items ∷ []) → IfErr result (λ f. new ≡ old ++ refused_by 1 f)
-      → (IsErrOf result fault.Memory → after ≡ before) → ((reply : Result Handle Refusal) → result ≡ queued reply
-      → IsReturned shared before after 1 (listed_alone reply)) → Added old new before.own after.own
-  added_spawn items (Ok h) ok refused memory replied = search
-      (rules, arith, served_gains shared before after 1 (h ∷ []) (Spawn h items) (replied (Ok h) refl))
-  added_spawn items (Err f) ok refused memory replied = added_refusal 1 f refused (λ e. memory (ap Err e))
-      (λ why e. replied (Err why) (cc))
-
-  pub added_many : (n : ℕ) (items : Bundle) (result : Result (Vec Handle Global) QueueFault)
-      → IfOk result (λ hs. new ≡ old ++ SpawnMany hs.items items ∷ []) → IfErr result (λ f. new ≡ old ++ refused_by n f)
-      → (IsErrOf result fault.Memory → after ≡ before) → ((reply : Result (List Handle) Refusal)
-      → as_list result ≡ queued reply → IsReturned shared before after n reply)
-      → IfOk result (λ hs. length hs.items ≡ n) → Added old new before.own after.own
-  added_many n items (Ok hs) ok refused memory replied number = search
-      (rules, served_gains shared before after n hs.items, many_request, replied (Ok hs.items) refl)
-  added_many n items (Err f) ok refused memory replied number = search (rules, added_refusal)
+pub gains_extended : (a b : Commands (List Command) Shared Reserver) → output_of a ≡ []
+    → Extends Issues IsOf IsReturned a b → Gains (reserver_of a).own (output_of b) (reserver_of b).own
+gains_extended a b empty e = let is : output_of b ≡ e.adds.added = rw empty at e.adds.queue in rw is (gains_added a b e)

@@ -1,8 +1,7 @@
 -- The lemmas that close goals without an answer: the prover tries them together at each such goal of this crate.
 use Rattle.ent_queue.proofs.Common.{common_steps, Fits-of_lt, All-head, few_items}
-use Rattle.ent_queue.proofs.DrawnBlocks.{extends_in_blocks, still_added}
 use Rattle.ent_queue.proofs.Gaining.{queued_ok}
 use Rattle.ent_queue.proofs.Parts.{chunks_of_front}
 use Rattle.ent_queue.proofs.Queues.{count_fits, nothing_packed, no_commands, no_commands_iff, others_are_packed}
 
-pub ruleset laws = (common_steps, All-head, Fits-of_lt, chunks_of_front, count_fits, extends_in_blocks, few_items, no_commands, no_commands_iff, nothing_packed, others_are_packed, queued_ok, still_added)
+pub ruleset laws = (common_steps, All-head, Fits-of_lt, chunks_of_front, count_fits, few_items, no_commands, no_commands_iff, nothing_packed, others_are_packed, queued_ok)

@@ -3,6 +3,5 @@ pub mod Queues
 pub mod Gaining
 pub mod Extending
 pub mod DrawnBlocks
-pub mod ExtendingInBlocks
 pub mod Common
 pub mod Laws

@@ -23,12 +23,7 @@ abbrev pub HasRange : Refusal → Type 0
 HasRange (Space wanted left) = left < 2 ^ 32
 HasRange (Quota left) = left < 2 ^ 64
 
--- a refusal for lack of handles says how many were requested
-abbrev pub SaysWanted : ℕ → Refusal → Type 0
-SaysWanted requested (Space wanted left) = wanted ≡ requested
-SaysWanted requested (Quota left) = Unit {0}
-
--- the same within its ranges
+-- A refusal for lack of handles says how many were requested, and is within its ranges.
 abbrev pub IsRefusal : ℕ → Refusal → Type 0
 IsRefusal requested (Space wanted left) = (wanted ≡ requested) × (left < 2 ^ 32)
 IsRefusal requested (Quota left) = left < 2 ^ 64

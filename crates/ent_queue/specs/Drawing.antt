@@ -1,29 +1,12 @@
 -- What the commands of a queue have drawn from the block of the system that filled it.
-use Rattle.std.specs.Prelude.{◌≡◌, ℕ, ◌-◌, ◌<◌, List, [], ◌∷◌, length, take}
-use Rattle.std.specs.Prelude.{Result, IfOk, IfErr, OnOk, OnErr}
+use Rattle.std.specs.Prelude.{◌≡◌, ℕ, ◌<◌, List, [], ◌∷◌, length, take}
 use Rattle.std.specs.List.{sum_by}
 use Rattle.ent_handle.specs.Handle.{Handle}
 use Rattle.ent_alloc.specs.Sequential.{Allocator, listed}
-use Rattle.ent_alloc.specs.declared.refused.Refused.{Refused as Refusal}
 use Rattle.ent_alloc.specs.declared.refused.Refused.TheVariants.{Space, Quota}
-use Rattle.ent_blocks.specs.Blocks.{Block, Phase, Reserver, rest_of, after_use, after_refusal}
+use Rattle.ent_blocks.specs.Blocks.{Block, rest_of, after_use}
+use Rattle.ent_blocks.specs.Drawing.{left_of}
 use Rattle.ent_queue.specs.Command.{Command, Spawn, SpawnMany, Insert, Remove, Despawn, Refused}
-
--- how many handles of a block are left
-abbrev pub left_of : Block → ℕ
-left_of b = b.size - b.used
-
--- The reply to a request for n handles of a block: the next ones, listed as every reply lists them. If
--- fewer are left, there are none, and the reserver remembers how many were wanted.
-pub record IsDrawn (phase : Phase) (before after : Reserver) (n : ℕ)
-    (reply : Result (List Handle) Refusal) : Type 0 where
-  pub given : IfOk reply (λ handles. handles
-      ≡ listed phase.phase.start.made (take n (rest_of phase.phase.start.pool before.block)))
-  pub number : IfOk reply (λ handles. length handles ≡ n)
-  pub used : OnOk reply (after ≡ record before { block = after_use before.block n })
-  pub refused : IfErr reply (λ why.
-      (why ≡ Space n (left_of before.block)) × (left_of before.block < n))
-  pub remembers : OnErr reply (after ≡ after_refusal before n)
 
 -- how many handles of the block a command has used
 abbrev pub used_by : Command → ℕ

@@ -4,5 +4,7 @@ pub mod Unpacking
 pub mod Entry
 pub mod Reserving
 pub mod Drawing
-pub mod InBlocks
+pub mod Issuing
+pub mod Logging
 pub mod Commands
+pub mod OfShared

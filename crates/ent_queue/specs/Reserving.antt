@@ -10,14 +10,23 @@ use Rattle.ent_shared.specs.declared.record.RecordEntry.TheVariants.{Own}
 use Rattle.ent_shared.specs.declared.record.Record.{Record}
 use Rattle.ent_alloc.specs.declared.refused.Refused.{Refused as Refusal}
 use Rattle.ent_alloc.specs.declared.refused.Refused.TheVariants.{Space, Quota}
-use Rattle.ent_shared.specs.Phase.{Shared, Reserver}
-use Rattle.ent_shared.specs.Replies.{Reserves}
 use Rattle.ent_alloc.specs.declared.reserve_error.ReserveError.{ReserveError as QueueFault}
 use Rattle.ent_alloc.specs.declared.reserve_error.ReserveError.TheVariants as fault
 use Rattle.ent_alloc.specs.Fault.{as_reserve_error}
+use Rattle.ent_alloc.specs.Serving.{Request}
 use Rattle.ent_queue.specs.Command.{Command, Spawn, SpawnMany, Insert, Remove, Despawn, Refused}
 
--- the reservations for which a command stands: how many handles were requested, and the reply
+-- the requests for which a command stands
+abbrev pub requests_of : Command → List Request
+requests_of (Spawn h items) = (1, Ok (h ∷ [])) ∷ []
+requests_of (SpawnMany hs items) = (length hs, Ok hs) ∷ []
+requests_of (Insert h items) = []
+requests_of (Remove h id) = []
+requests_of (Despawn h) = []
+requests_of (Refused wanted why) = (wanted, Err why) ∷ []
+
+-- those of them that are reservations of a shared allocator: a request for no handle is none, nor is
+-- one for more than the quota
 abbrev pub stands_for : Command → List (ℕ × Result (List Handle) OutOfSpace)
 stands_for (Spawn h items) = (1, Ok (h ∷ [])) ∷ []
 stands_for (SpawnMany [] items) = []
@@ -76,10 +85,3 @@ abbrev pub refused_by : ℕ → QueueFault → List Command
 refused_by wanted (fault.Space same left) = Refused wanted (Space same left) ∷ []
 refused_by wanted (fault.Quota left) = Refused wanted (Quota left) ∷ []
 refused_by wanted fault.Memory = []
-
--- The result is that of a request for n handles.
-pub record IsReturned (shared : Shared) (before after : Reserver) (n : ℕ)
-    (reply : Result (List Handle) Refusal) : Type 0 where
-  pub quota : before.own.left < n → (reply ≡ Err (Quota before.own.left)) × (after ≡ before)
-  pub nothing : n ≡ 0 → (reply ≡ Ok []) × (after ≡ before)
-  pub gains : 0 < n → n ≤ before.own.left → Reserves shared before after n reply

@@ -10,11 +10,10 @@ ghost use Rattle.ent_queue.specs.Packing.{queue_bytes};
 
 use crate::entries::Entries;
 use crate::kind::{INSERT, SPAWN};
-use crate::serves::Serves;
 use crate::writing::{
     write_bundle, write_despawn, write_many, write_refused, write_remove, write_with_bundle,
 };
-use ent_alloc::ReserveError as QueueFault;
+use ent_alloc::{ReserveError as QueueFault, Source};
 use ent_handle::{ComponentId, Handle, Memory};
 use std::alloc::Global;
 use std::marker::Model;
@@ -102,24 +101,24 @@ impl CommandQueue {
     }
 
     /// Grows first, for the spawn and for a refusal alike, and then reserves.
-    pub(crate) fn spawn<R, A: Serves<R>>(
+    pub(crate) fn spawn<S: Source>(
         &mut self,
-        phase: &A,
-        reserver: &mut R,
+        source: &S,
+        reserver: &mut S::Reserver,
         items: &[(ComponentId, i64)],
     ) -> Result<Handle, QueueFault>
-        requires of { A.serves phase.now reserver.old }
+        requires of { S.serves source.now reserver.old }
         requires is { IsBundle items.now }
-        ensures stays { A.serves phase.now reserver.new }
+        ensures stays { S.serves source.now reserver.new }
         ensures ok { IfOk result (λ handle. self.new ≡ self.old ++ Spawn handle items.now ∷ []) }
         ensures refused { IfErr result (λ fault. self.new ≡ self.old ++ refused_by 1 fault) }
         ensures memory { IsErrOf result QueueFault.Memory → reserver.new ≡ reserver.old }
         ensures replies { (reply : Result HandleValue Refusal) → result ≡ queued reply
-            → A.may_reply phase.now reserver.old reserver.new 1 (listed_alone reply) }
+            → S.may_reply source.now reserver.old reserver.new 1 (listed_alone reply) }
     {
         let own = 11 + 9 * items.len();
         self.bytes.reserve(own.max(REFUSAL))?;
-        match phase.serve_one(reserver) {
+        match source.serve_one(reserver) {
             Ok(handle) => {
                 write_with_bundle(&mut self.bytes, SPAWN, handle, items);
                 self.count += 1;
@@ -134,17 +133,17 @@ impl CommandQueue {
     }
 
     /// Grows first, for the spawn, for a refusal and for the list alike, and then reserves.
-    pub(crate) fn spawn_many<R, A: Serves<R>>(
+    pub(crate) fn spawn_many<S: Source>(
         &mut self,
         alloc: Global,
-        phase: &A,
-        reserver: &mut R,
+        source: &S,
+        reserver: &mut S::Reserver,
         n: u32,
         items: &[(ComponentId, i64)],
     ) -> Result<Vec<Handle>, QueueFault>
-        requires of { A.serves phase.now reserver.old }
+        requires of { S.serves source.now reserver.old }
         requires is { IsBundle items.now }
-        ensures stays { A.serves phase.now reserver.new }
+        ensures stays { S.serves source.now reserver.new }
         ensures ok { IfOk result
             (λ handles. self.new ≡ self.old ++ SpawnMany handles.items items.now ∷ []) }
         ensures length { IfOk result (λ handles. length handles.items ≡ n) }
@@ -152,12 +151,12 @@ impl CommandQueue {
         ensures memory { IsErrOf result QueueFault.Memory → reserver.new ≡ reserver.old }
         ensures replies { (reply : Result (List HandleValue) Refusal)
             → as_list result ≡ queued reply
-            → A.may_reply phase.now reserver.old reserver.new n reply }
+            → S.may_reply source.now reserver.old reserver.new n reply }
     {
         let mut handles = Vec::with_capacity(alloc, n as usize)?;
         let own = 7 + 8 * n as usize + 9 * items.len();
         self.bytes.reserve(own.max(REFUSAL))?;
-        match phase.serve_many(reserver, n) {
+        match source.serve_many(reserver, n) {
             Ok(given) => {
                 write_many(&mut self.bytes, &mut handles, n, given);
                 write_bundle(&mut self.bytes, items);

@@ -35,7 +35,7 @@ pub use Rattle.ent_alloc.specs.Sequential.{Allocator, available, born, stands_in
 pub use Rattle.ent_alloc.specs.Sound.{IsLive, IsSound}
 pub use Rattle.ent_alloc.specs.declared.space.Space.{Space}
 pub use Rattle.ent_handle.specs.Handle.{Handle, handle_cmp}
-pub use Rattle.ent_queue.proofs.Gaining.{gains_nothing, gains_then}
+pub use Rattle.ent_queue.proofs.Gaining.{gains_extended, gains_nothing, gains_then}
 pub use Rattle.ent_queue.specs.Command.{Command}
 pub use Rattle.ent_queue.specs.Reserving.{Gains, stands_for}
 pub use Rattle.ent_shared.proofs.HandedIn.{items_all}

@@ -1,6 +1,7 @@
 ghost use Rattle.std.specs.Prelude.{◌≡◌, [], List, OnOk, OnErr};
 ghost use Rattle.ent_queue.specs.Command.{Command};
-ghost use Rattle.ent_queue.specs.Commands.{IsReady, Extends, queue_of};
+ghost use Rattle.ent_queue.specs.Commands.{output_of};
+ghost use Rattle.ent_queue.specs.OfShared.{IsReady, Extends};
 ghost use Rattle.ent_world.specs.OpenWorld.{View as Viewed};
 
 use ent_handle::Memory;
@@ -32,8 +33,8 @@ pub trait System {
     fn run(&self, alloc: Global, view: &View<'_>, commands: &mut Commands<'_>) -> Result<(), Memory>
         requires { IsReady commands.old }
         ensures extends { Extends commands.old commands.new }
-        ensures may { queue_of commands.old ≡ []
-            → OnOk result (may_issue self.now view.now (queue_of commands.new)) }
-        ensures leaves { queue_of commands.old ≡ []
-            → OnErr result (may_leave self.now view.now (queue_of commands.new)) };
+        ensures may { output_of commands.old ≡ []
+            → OnOk result (may_issue self.now view.now (output_of commands.new)) }
+        ensures leaves { output_of commands.old ≡ []
+            → OnErr result (may_leave self.now view.now (output_of commands.new)) };
 }

@@ -12,4 +12,5 @@ pub mod Closing
 pub mod Losing
 pub mod Holding
 pub mod Laws
+pub mod Returned
 pub mod Common

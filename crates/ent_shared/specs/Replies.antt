@@ -1,5 +1,5 @@
 -- What a reservation returns.
-use Rattle.std.specs.Prelude.{◌≡◌, ℕ, ℤ, ◌≤ℤ◌, List, Result, Ok, Err}
+use Rattle.std.specs.Prelude.{◌≡◌, ℕ, ◌<◌, ◌≤◌, ℤ, ◌≤ℤ◌, List, [], Result, Ok, Err}
 use Rattle.ent_handle.specs.Handle.{Handle}
 use Rattle.ent_alloc.specs.declared.space.Space.{Space}
 use Rattle.ent_alloc.specs.Sequential.{pool_at, reply_from}
@@ -27,3 +27,10 @@ pub record Reserves (shared : Shared) (old new : Reserver) (n : ℕ)
   -- and that is the reply of an allocator whose cursor is there
   pub reply : (reservation_at old.own high n).reply
       ≡ reply_from shared.start.made (pool_at shared.start high) n
+
+-- The result is that of a request for n handles.
+pub record IsReturned (shared : Shared) (before after : Reserver) (n : ℕ)
+    (reply : Result (List Handle) Refused) : Type 0 where
+  pub quota : before.own.left < n → (reply ≡ Err (Quota before.own.left)) × (after ≡ before)
+  pub nothing : n ≡ 0 → (reply ≡ Ok []) × (after ≡ before)
+  pub gains : 0 < n → n ≤ before.own.left → Reserves shared before after n reply

@@ -9,6 +9,7 @@ mod record;
 mod reserver;
 mod rule;
 mod shared;
+mod source;
 mod word;
 
 pub use ent_alloc::Refused;

@@ -1,6 +1,6 @@
 //! Systems as types of their own.
 ghost use Rattle.std.specs.Prelude.{List};
-ghost use Rattle.ent_queue.specs.Commands.{IsReady, Extends};
+ghost use Rattle.ent_queue.specs.OfShared.{IsReady, Extends};
 
 use crate::counts::{Counts, room};
 use crate::rendezvous::Rendezvous;

@@ -4,7 +4,7 @@ pub use Rattle.std.proofs.lemmas.Grind.{common_steps}
 pub use Rattle.std.proofs.lemmas.List.{append-nil, length-append, length-take-le, map-append, nil_from_length, take-append-drop, take_all, take_at}
 pub use Rattle.std.proofs.lemmas.List.Elements.{All-head, All-more, All-push, All-same, All-tail}
 pub use Rattle.std.specs.Prelude.{IfOk, IsErrOf, OnErr, vec_capacity}
-pub use Rattle.ent_alloc.specs.History.{after_history, handles_in}
+pub use Rattle.ent_alloc.specs.History.{after_history}
 pub use Rattle.ent_alloc.specs.Sequential.{Allocator, listed_alone}
 pub use Rattle.ent_alloc.specs.Spent.{AreSpent}
 pub use Rattle.ent_alloc.specs.declared.refused.Refused.{Refused}
@@ -12,14 +12,12 @@ pub use Rattle.ent_alloc.specs.declared.refused.Refused.TheVariants.{Quota, Spac
 pub use Rattle.ent_alloc.specs.declared.reserve_error.ReserveError.{ReserveError}
 pub use Rattle.ent_handle.specs.Handle.{Handle}
 pub use Rattle.ent_queue.specs.Command.{Command}
-pub use Rattle.ent_queue.specs.Reserving.{IsReturned, as_list, queued}
+pub use Rattle.ent_queue.specs.Reserving.{as_list, queued}
 pub use Rattle.ent_runner.specs.Frame.{IsHalf}
-pub use Rattle.ent_shared.proofs.Laws.{handles_of-append}
-pub use Rattle.ent_shared.proofs.Records.{own-made}
+pub use Rattle.ent_shared.proofs.Returned.{given_more, given_no_more}
 pub use Rattle.ent_shared.specs.Order.{handles_given, history_of, own_of_all}
 pub use Rattle.ent_shared.specs.Phase.{IsOf, Reserver, Shared, records_of}
-pub use Rattle.ent_shared.specs.Record.{reservation_at}
-pub use Rattle.ent_shared.specs.Replies.{Reserves}
+pub use Rattle.ent_shared.specs.Replies.{IsReturned}
 pub use Rattle.ent_storage.proofs.ImageBytes.{length-word, same_parts, same_words}
 pub use Rattle.ent_storage.specs.Image.{word}
 pub use Rattle.ent_world.proofs.ImageRead.{bounded as world_bounded, read_is, refused_is}

@@ -15,7 +15,8 @@ use Rattle.ent_shared.specs.Phase.{Shared, Reserver, reserver_code, IsOf, record
 use Rattle.ent_queue.specs.Command.{Command}
 use Rattle.ent_alloc.specs.declared.reserve_error.ReserveError.{ReserveError}
 use Rattle.ent_alloc.specs.declared.reserve_error.ReserveError.TheVariants as fault
-use Rattle.ent_queue.specs.Reserving.{Gains, IsReturned}
+use Rattle.ent_queue.specs.Reserving.{Gains}
+use Rattle.ent_shared.specs.Replies.{IsReturned}
 use Rattle.ent_queue.specs.contracts.queue.CommandQueue as queued
 use Rattle.ent_world.specs.OpenWorld.{OpenWorld as Opened, open_world_code as opened_code}
 use Rattle.ent_world.specs.World.{World, IsWorld}

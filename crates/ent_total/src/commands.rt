@@ -8,7 +8,8 @@ ghost use Rattle.ent_storage.specs.Bundle.{bundle_of};
 ghost use Rattle.ent_storage.specs.EntityMap.{birth_of, value_of};
 ghost use Rattle.ent_storage.specs.BirthOrder.{ListsAll};
 ghost use Rattle.ent_queue.specs.Command.{Spawn, SpawnMany, Insert, Remove, Despawn};
-ghost use Rattle.ent_queue.specs.Reserving.{IsReturned, refused_by};
+ghost use Rattle.ent_queue.specs.Reserving.{refused_by};
+ghost use Rattle.ent_shared.specs.Replies.{IsReturned};
 
 use crate::command_queue::CommandQueue;
 use crate::numbering::Numbering;

@@ -1,13 +1,16 @@
 ghost use Rattle.std.specs.Prelude.{◌≡◌, ◌++◌, ◌∷◌, [], map, OnOk, OnErr};
+ghost use Rattle.ent_queue.specs.Commands.{IsReady, Extends, output_of};
+ghost use Rattle.ent_queue.specs.Issuing.{Issues};
 ghost use Rattle.spawnrun_lib.specs.Issuing.{OnEach};
 ghost use Rattle.spawnrun_lib.specs.Parts.{names_of, command_on, HasIssuedOn};
 ghost use Rattle.spawnrun_lib.specs.Parts.{HasStoppedAmong, HasStoppedOn};
 ghost use Rattle.spawnrun_lib.specs.Rolls.{IsRollOf};
 
 use crate::bindings::Bindings;
-use crate::issue::Issue;
 use crate::roll::Roll;
+use ent_alloc::Source;
 use ent_handle::{ComponentId, Handle, Memory};
+use ent_queue::{CommandQueue, Commands};
 use ent_script::{Bundle, Target};
 use ent_world::View;
 
@@ -24,22 +27,22 @@ pub(crate) enum Change<'a> {
 
 impl Change<'_> {
     /// Issues the change for each handle of the target, in order.
-    pub(crate) fn on_target<Q: Issue>(
+    pub(crate) fn on_target<S: Source>(
         self,
         view: &View<'_>,
         target: Target,
         names: &Bindings,
         roll: &mut Roll,
-        commands: &mut Q,
+        commands: &mut Commands<'_, CommandQueue, S>,
     ) -> Result<(), Memory>
-        requires ready { Q.is_ready commands.old }
+        requires ready { IsReady S.serves commands.old }
         requires roll { IsRollOf view.now roll.old }
         ensures roll { IsRollOf view.now roll.new }
-        ensures extends { Q.extends commands.old commands.new }
+        ensures extends { Extends Issues S.serves S.may_reply commands.old commands.new }
         ensures issued { OnOk result (HasIssuedOn view.now (names_of names.now) target
-            (command_on self.entry) (Q.commands commands.old) (Q.commands commands.new)) }
+            (command_on self.entry) (output_of commands.old) (output_of commands.new)) }
         ensures stopped { OnErr result (HasStoppedOn view.now (names_of names.now) target
-            (command_on self.entry) (Q.commands commands.old) (Q.commands commands.new)) }
+            (command_on self.entry) (output_of commands.old) (output_of commands.new)) }
     {
         match target {
             Target::Name(name) => self.on_each(names.get(name), commands),
@@ -53,13 +56,17 @@ impl Change<'_> {
     }
 
     /// Issues the change for each of the handles, in order.
-    fn on_each<Q: Issue>(self, handles: &[Handle], commands: &mut Q) -> Result<(), Memory>
-        requires { Q.is_ready commands.old }
-        ensures extends { Q.extends commands.old commands.new }
-        ensures ok { OnOk result (Q.commands commands.new
-            ≡ Q.commands commands.old ++ map (command_on self.entry) handles.now) }
+    fn on_each<S: Source>(
+        self,
+        handles: &[Handle],
+        commands: &mut Commands<'_, CommandQueue, S>,
+    ) -> Result<(), Memory>
+        requires { IsReady S.serves commands.old }
+        ensures extends { Extends Issues S.serves S.may_reply commands.old commands.new }
+        ensures ok { OnOk result (output_of commands.new
+            ≡ output_of commands.old ++ map (command_on self.entry) handles.now) }
         ensures stopped { OnErr result (HasStoppedAmong handles.now (command_on self.entry)
-            (Q.commands commands.old) (Q.commands commands.new)) }
+            (output_of commands.old) (output_of commands.new)) }
     {
         for handle in handles {
             self.on_one(*handle, commands)?;
@@ -68,17 +75,21 @@ impl Change<'_> {
     }
 
     /// Issues the change for one handle.
-    fn on_one<Q: Issue>(self, handle: Handle, commands: &mut Q) -> Result<(), Memory>
-        requires { Q.is_ready commands.old }
-        ensures extends { Q.extends commands.old commands.new }
-        ensures ok { OnOk result (Q.commands commands.new
-            ≡ Q.commands commands.old ++ command_on self.entry handle ∷ []) }
-        ensures err { OnErr result (Q.commands commands.new ≡ Q.commands commands.old) }
+    fn on_one<S: Source>(
+        self,
+        handle: Handle,
+        commands: &mut Commands<'_, CommandQueue, S>,
+    ) -> Result<(), Memory>
+        requires { IsReady S.serves commands.old }
+        ensures extends { Extends Issues S.serves S.may_reply commands.old commands.new }
+        ensures ok { OnOk result (output_of commands.new
+            ≡ output_of commands.old ++ command_on self.entry handle ∷ []) }
+        ensures err { OnErr result (output_of commands.new ≡ output_of commands.old) }
     {
         match self {
-            Change::Insert(bundle) => commands.add_insert(handle, bundle),
-            Change::Remove(id) => commands.add_remove(handle, id),
-            Change::Despawn => commands.add_despawn(handle),
+            Change::Insert(bundle) => commands.insert(handle, bundle),
+            Change::Remove(id) => commands.remove(handle, id),
+            Change::Despawn => commands.despawn(handle),
         }
     }
 }

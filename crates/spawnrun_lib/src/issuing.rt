@@ -1,15 +1,18 @@
 //! What the operations of a system issue.
 ghost use Rattle.std.specs.Prelude.{◌≡◌, [], OnOk, OnErr};
+ghost use Rattle.ent_queue.specs.Commands.{IsReady, Extends, output_of};
+ghost use Rattle.ent_queue.specs.Issuing.{Issues};
 ghost use Rattle.spawnrun_lib.specs.Issuing.{MayIssue, MayStop};
 ghost use Rattle.spawnrun_lib.specs.Parts.{HasIssued, HasStopped};
 ghost use Rattle.spawnrun_lib.specs.Rolls.{IsRollOf};
 
 use crate::bindings::Bindings;
 use crate::change::Change;
-use crate::issue::Issue;
 use crate::roll::Roll;
 use crate::spawning::{spawn, spawn_many};
+use ent_alloc::Source;
 use ent_handle::Memory;
+use ent_queue::{CommandQueue, Commands};
 use ent_script::Operation;
 use ent_world::View;
 use std::alloc::Global;
@@ -20,18 +23,18 @@ use std::alloc::Global;
 ///
 /// `Memory`, if one of the operations ran out of memory, and for no other reason. A spawn that is
 /// refused is a command, and the run goes on.
-pub(crate) fn issue_all<Q: Issue>(
+pub(crate) fn issue_all<S: Source>(
     alloc: Global,
     view: &View<'_>,
     operations: &[Operation],
-    commands: &mut Q,
+    commands: &mut Commands<'_, CommandQueue, S>,
 ) -> Result<(), Memory>
-    requires { Q.is_ready commands.old }
-    ensures extends { Q.extends commands.old commands.new }
-    ensures may { Q.commands commands.old ≡ []
-        → OnOk result (MayIssue operations.now view.now (Q.commands commands.new)) }
-    ensures leaves { Q.commands commands.old ≡ []
-        → OnErr result (MayStop operations.now view.now (Q.commands commands.new)) }
+    requires { IsReady S.serves commands.old }
+    ensures extends { Extends Issues S.serves S.may_reply commands.old commands.new }
+    ensures may { output_of commands.old ≡ []
+        → OnOk result (MayIssue operations.now view.now (output_of commands.new)) }
+    ensures leaves { output_of commands.old ≡ []
+        → OnErr result (MayStop operations.now view.now (output_of commands.new)) }
 {
     let mut names = Bindings::new(alloc);
     let mut roll = Roll::new(alloc);
@@ -42,22 +45,22 @@ pub(crate) fn issue_all<Q: Issue>(
 }
 
 /// Issues the commands of one operation, and binds its name.
-fn issue<Q: Issue>(
+fn issue<S: Source>(
     alloc: Global,
     view: &View<'_>,
     operation: &Operation,
     names: &mut Bindings,
     roll: &mut Roll,
-    commands: &mut Q,
+    commands: &mut Commands<'_, CommandQueue, S>,
 ) -> Result<(), Memory>
-    requires ready { Q.is_ready commands.old }
+    requires ready { IsReady S.serves commands.old }
     requires roll { IsRollOf view.now roll.old }
     ensures roll { IsRollOf view.now roll.new }
-    ensures extends { Q.extends commands.old commands.new }
+    ensures extends { Extends Issues S.serves S.may_reply commands.old commands.new }
     ensures issued { OnOk result (HasIssued view.now operation.now
-        (Q.commands commands.old) (Q.commands commands.new) names.old names.new) }
+        (output_of commands.old) (output_of commands.new) names.old names.new) }
     ensures stopped { OnErr result (HasStopped view.now operation.now
-        (Q.commands commands.old) (Q.commands commands.new) names.old) }
+        (output_of commands.old) (output_of commands.new) names.old) }
 {
     match operation {
         Operation::Spawn { bundle, binds } => spawn(alloc, bundle, *binds, names, commands),

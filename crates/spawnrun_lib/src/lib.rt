@@ -17,7 +17,6 @@ mod found;
 mod frame;
 mod frame_in_blocks;
 mod frame_text;
-mod issue;
 mod issuing;
 mod output;
 mod part;

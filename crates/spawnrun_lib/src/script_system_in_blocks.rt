@@ -4,8 +4,9 @@ ghost use Rattle.spawnrun_lib.specs.Issuing.{MayIssue, MayStop};
 use crate::BlockNumbering;
 use crate::issuing::issue_all;
 use ent_block_runner::SystemInBlocks;
+use ent_blocks::Blocks;
 use ent_handle::Memory;
-use ent_queue::CommandsInBlocks;
+use ent_queue::{CommandQueue, Commands};
 use ent_world::View;
 use std::alloc::Global;
 use std::marker::Model;
@@ -47,7 +48,7 @@ impl<J: BlockNumbering> SystemInBlocks<J> for ScriptSystemInBlocks<'_> {
         &self,
         alloc: Global,
         view: &View<'_>,
-        commands: &mut CommandsInBlocks<'_, J>,
+        commands: &mut Commands<'_, CommandQueue, Blocks<J>>,
     ) -> Result<(), Memory> {
         issue_all(alloc, view, self.system.operations(), commands)
     }

@@ -1,12 +1,14 @@
 ghost use Rattle.std.specs.Prelude.{◌≡◌, OnOk, OnErr, Some};
 ghost use Rattle.ent_world.specs.OpenWorld.{View};
 ghost use Rattle.ent_script.specs.declared.operation.Operation.TheVariants.{Spawn, SpawnMany};
+ghost use Rattle.ent_queue.specs.Commands.{IsReady, Extends, output_of};
+ghost use Rattle.ent_queue.specs.Issuing.{Issues};
 ghost use Rattle.spawnrun_lib.specs.Parts.{HasIssued};
 
 use crate::bindings::Bindings;
-use crate::issue::Issue;
+use ent_alloc::Source;
 use ent_handle::Memory;
-use ent_queue::QueueFault;
+use ent_queue::{CommandQueue, Commands, QueueFault};
 use ent_script::Bundle;
 use std::alloc::Global;
 
@@ -16,44 +18,44 @@ use std::alloc::Global;
 /// # Errors
 ///
 /// `Memory`: nothing was issued.
-pub(crate) fn spawn<Q: Issue>(
+pub(crate) fn spawn<S: Source>(
     alloc: Global,
     bundle: &Bundle,
     binds: Option<usize>,
     names: &mut Bindings,
-    commands: &mut Q,
+    commands: &mut Commands<'_, CommandQueue, S>,
 ) -> Result<(), Memory>
-    requires { Q.is_ready commands.old }
-    ensures extends { Q.extends commands.old commands.new }
+    requires { IsReady S.serves commands.old }
+    ensures extends { Extends Issues S.serves S.may_reply commands.old commands.new }
     ensures issued { OnOk result ((view : View) → HasIssued view (Spawn bundle.now binds)
-        (Q.commands commands.old) (Q.commands commands.new) names.old names.new) }
-    ensures err { OnErr result (Q.commands commands.new ≡ Q.commands commands.old) }
+        (output_of commands.old) (output_of commands.new) names.old names.new) }
+    ensures err { OnErr result (output_of commands.new ≡ output_of commands.old) }
 {
     match binds {
         Some(name) => spawn_named(alloc, bundle, name, names, commands),
-        None => match commands.add_spawn(bundle) {
+        None => match commands.spawn(bundle) {
             Err(QueueFault::Memory) => Err(Memory),
             _ => Ok(()),
         },
     }
 }
 
-fn spawn_named<Q: Issue>(
+fn spawn_named<S: Source>(
     alloc: Global,
     bundle: &Bundle,
     name: usize,
     names: &mut Bindings,
-    commands: &mut Q,
+    commands: &mut Commands<'_, CommandQueue, S>,
 ) -> Result<(), Memory>
-    requires { Q.is_ready commands.old }
-    ensures extends { Q.extends commands.old commands.new }
+    requires { IsReady S.serves commands.old }
+    ensures extends { Extends Issues S.serves S.may_reply commands.old commands.new }
     ensures issued { OnOk result ((view : View) → HasIssued view (Spawn bundle.now (Some name))
-        (Q.commands commands.old) (Q.commands commands.new) names.old names.new) }
-    ensures err { OnErr result (Q.commands commands.new ≡ Q.commands commands.old) }
+        (output_of commands.old) (output_of commands.new) names.old names.new) }
+    ensures err { OnErr result (output_of commands.new ≡ output_of commands.old) }
 {
     names.reach(name)?;
     let mut list = Vec::with_capacity(alloc, 1)?;
-    match commands.add_spawn(bundle) {
+    match commands.spawn(bundle) {
         Ok(handle) => {
             list.push_reserved(handle);
             names.bind(name, list);
@@ -70,44 +72,44 @@ fn spawn_named<Q: Issue>(
 /// # Errors
 ///
 /// `Memory`: nothing was issued.
-pub(crate) fn spawn_many<Q: Issue>(
+pub(crate) fn spawn_many<S: Source>(
     count: u32,
     bundle: &Bundle,
     binds: Option<usize>,
     names: &mut Bindings,
-    commands: &mut Q,
+    commands: &mut Commands<'_, CommandQueue, S>,
 ) -> Result<(), Memory>
-    requires { Q.is_ready commands.old }
-    ensures extends { Q.extends commands.old commands.new }
+    requires { IsReady S.serves commands.old }
+    ensures extends { Extends Issues S.serves S.may_reply commands.old commands.new }
     ensures issued { OnOk result ((view : View) → HasIssued view (SpawnMany count bundle.now binds)
-        (Q.commands commands.old) (Q.commands commands.new) names.old names.new) }
-    ensures err { OnErr result (Q.commands commands.new ≡ Q.commands commands.old) }
+        (output_of commands.old) (output_of commands.new) names.old names.new) }
+    ensures err { OnErr result (output_of commands.new ≡ output_of commands.old) }
 {
     match binds {
         Some(name) => spawn_many_named(count, bundle, name, names, commands),
-        None => match commands.add_spawn_many(count, bundle) {
+        None => match commands.spawn_many(count, bundle) {
             Err(QueueFault::Memory) => Err(Memory),
             _ => Ok(()),
         },
     }
 }
 
-fn spawn_many_named<Q: Issue>(
+fn spawn_many_named<S: Source>(
     count: u32,
     bundle: &Bundle,
     name: usize,
     names: &mut Bindings,
-    commands: &mut Q,
+    commands: &mut Commands<'_, CommandQueue, S>,
 ) -> Result<(), Memory>
-    requires { Q.is_ready commands.old }
-    ensures extends { Q.extends commands.old commands.new }
+    requires { IsReady S.serves commands.old }
+    ensures extends { Extends Issues S.serves S.may_reply commands.old commands.new }
     ensures issued { OnOk result ((view : View)
         → HasIssued view (SpawnMany count bundle.now (Some name))
-        (Q.commands commands.old) (Q.commands commands.new) names.old names.new) }
-    ensures err { OnErr result (Q.commands commands.new ≡ Q.commands commands.old) }
+        (output_of commands.old) (output_of commands.new) names.old names.new) }
+    ensures err { OnErr result (output_of commands.new ≡ output_of commands.old) }
 {
     names.reach(name)?;
-    match commands.add_spawn_many(count, bundle) {
+    match commands.spawn_many(count, bundle) {
         Ok(handles) => {
             names.bind(name, handles);
             Ok(())

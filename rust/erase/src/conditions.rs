@@ -21,11 +21,11 @@ fn is_of_a_closure(source: &Source<'_>, open: usize) -> bool {
 
 /// What a `requires` clause says of commands that the package lends to a system: they are ready. Only proved code makes
 /// commands, `System::run` is called with those that are ready, and each call leaves them so. So no caller can have others.
-const READY: [&str; 4] = ["IsReady", "self", ".", "old"];
+const READY: [&str; 7] = ["IsReady", "S", ".", "serves", "self", ".", "old"];
 
 /// Whether the clause whose braces open at `open` is a condition that each caller meets.
 pub(crate) fn is_met(source: &Source<'_>, open: usize) -> bool {
-    let is_ready = source.has(open + 1, &READY) && source.partner(open) == open + 5;
+    let is_ready = source.has(open + 1, &READY) && source.partner(open) == open + 8;
     is_ready || is_of_a_closure(source, open)
 }
 

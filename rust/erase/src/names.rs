@@ -62,8 +62,21 @@ struct Block {
     implemented: Option<String>,
     /// Whether the type has no parameters.
     is_plain: bool,
+    /// The type's arguments that aren't parameters of the block: for each the sources' own type with which it begins.
+    arguments: Vec<Option<String>>,
     /// What it has: how a function takes its `self`, if it does, and the error if the function may not be there.
     methods: BTreeMap<String, (Option<String>, Fault)>,
+}
+
+impl Block {
+    /// Whether no type is one of both blocks, which are of no trait: an argument of the one is another type than that of the other.
+    fn is_apart_from(&self, other: &Block) -> bool {
+        let differ = |(one, other): (&Option<String>, &Option<String>)| {
+            one.is_some() && other.is_some() && one != other
+        };
+        let mut both = self.arguments.iter().zip(&other.arguments);
+        self.implemented.is_none() && other.implemented.is_none() && both.any(differ)
+    }
 }
 
 impl Names {
@@ -282,6 +295,11 @@ impl Names {
                 let unwritten = || (Some("as the trait says".to_owned()), fault(at));
                 methods.entry(name.clone()).or_insert_with(unwritten);
             }
+            let is_type = |name: &str| self.types.contains_key(name) && !header.parameters.contains(name);
+            let arguments = header.arguments.iter();
+            let arguments: Vec<_> = arguments
+                .map(|name| is_type(name).then(|| (*name).to_owned()))
+                .collect();
             let no_file = || BTreeSet::from([String::new()]);
             let files = self.types.get(header.of).cloned().unwrap_or_else(no_file);
             let is_here = files.contains(source.path);
@@ -296,6 +314,7 @@ impl Names {
                 of: (file, header.of.to_owned()),
                 implemented: header.implemented.map(str::to_owned),
                 is_plain: header.is_plain,
+                arguments: arguments.clone(),
                 methods: methods.clone(),
             }));
         }
@@ -337,7 +356,8 @@ impl Names {
         Ok(())
     }
 
-    /// Checks that each method of a type is the only one of its name, so that the order of look-up doesn't matter.
+    /// Checks that each method of a type is the only one of its name, so that the order of look-up doesn't matter. Methods
+    /// of types that differ in an argument are those of several types.
     ///
     /// # Errors
     ///
@@ -355,15 +375,18 @@ impl Names {
             let implemented = block.implemented.as_deref();
             let is_of_std = implemented.is_some_and(|name| forms::kept_trait(name).is_some());
             for (name, (receiver, fault)) in &block.methods {
-                let before = found.insert((&block.of, name), (implemented, receiver));
+                let before: &mut Vec<(&Block, _)> = found.entry((&block.of, name)).or_default();
                 // If both take `self` in the same way, the type's own comes before that of a trait.
-                let is_other = before.is_some_and(|(other, how)| {
+                let is_other = before.iter().any(|(earlier, how)| {
+                    let other = earlier.implemented.as_deref();
                     let is_one_own = other.is_none() != implemented.is_none();
                     let is_same = other == implemented && other.is_some();
                     // No source calls it by a point.
                     let are_texts = forms::are_texts(other, implemented);
-                    !(is_same || are_texts || is_one_own && block.is_plain && how == receiver)
+                    let is_own_first = is_one_own && block.is_plain && *how == receiver;
+                    !(is_same || are_texts || is_own_first || earlier.is_apart_from(block))
                 });
+                before.push((block, receiver));
                 let is_iterator = iterators.contains(&block.of) && !is_of_std;
                 if is_other || is_iterator && receiver.is_some() && forms::is_of_std(name) {
                     let mut fault = fault.clone();
@@ -482,6 +505,8 @@ pub(crate) struct Header<'a> {
     refers: bool,
     /// Its parameters.
     parameters: BTreeSet<&'a str>,
+    /// The first word of each argument of its type.
+    arguments: Vec<&'a str>,
 }
 
 /// The header of the `impl` at this place.
@@ -489,7 +514,7 @@ pub(crate) fn header<'a>(source: &Source<'a>, at: usize) -> Result<Header<'a>, F
     let body = block(source, at)?;
     let (mut next, mut last, mut implemented) = (at + 1, "", None);
     let mut refers = false;
-    let mut parameters = BTreeSet::new();
+    let (mut parameters, mut arguments) = (BTreeSet::new(), Vec::new());
     if source.at(next) == "<" {
         let end = source.after_angles(next)?;
         let declared = parameters_in(source, next, end);
@@ -499,10 +524,16 @@ pub(crate) fn header<'a>(source: &Source<'a>, at: usize) -> Result<Header<'a>, F
     while next < body && source.at(next) != "where" {
         match source.at(next) {
             "<" => {
-                next = source.after_angles(next)?;
+                let end = source.after_angles(next)?;
+                let given = parameters_in(source, next, end);
+                arguments = given.into_iter().map(|at| source.at(at)).collect();
+                next = end;
                 continue;
             }
-            "for" => (implemented, last) = (Some(last), ""),
+            "for" => {
+                (implemented, last) = (Some(last), "");
+                arguments.clear();
+            }
             _ if source.is_word(next) => last = source.at(next),
             "&" => refers = true,
             "::" => {}
@@ -519,6 +550,7 @@ pub(crate) fn header<'a>(source: &Source<'a>, at: usize) -> Result<Header<'a>, F
         is_plain: source.is_word(next - 1),
         refers,
         parameters,
+        arguments,
     })
 }
 

@@ -1,5 +1,7 @@
 //! Systems of frames.
 
+use crate::proved::ent_blocks::Blocks;
+use crate::proved::ent_queue::CommandQueue;
 use crate::shown::shows;
 use crate::{Log, OutOfMemory, View};
 use alloc::boxed::Box;
@@ -7,14 +9,20 @@ use alloc::sync::Arc;
 #[cfg(feature = "std")]
 use std::sync::{Mutex, PoisonError};
 
-pub use crate::proved::ent_block_runner::{BlockCommands, BlockSystem, SystemInBlocks};
+pub use crate::proved::ent_block_runner::{BlockSystem, SystemInBlocks};
 pub use crate::proved::ent_log_runner::LogSystem;
-pub use crate::proved::ent_queue::{Commands as SystemCommands, CommandsInBlocks};
+pub use crate::proved::ent_queue::Commands as SystemCommands;
 pub use crate::proved::ent_runner::System;
 
 /// Fills the log of one system, and reserves by a reserver that is lent to it. `C` is the caller's type of
 /// commands.
-pub type LogCommands<'a, C> = crate::proved::ent_log_runner::LogCommands<'a, Log<C>>;
+pub type LogCommands<'a, C> = SystemCommands<'a, Log<C>>;
+
+/// The same with handles from a block of the system's own.
+pub type BlockCommands<'a, C> = SystemCommands<'a, Log<C>, Blocks>;
+
+/// Issues the commands of one system, with handles from a block of its own.
+pub type CommandsInBlocks<'a> = SystemCommands<'a, CommandQueue, Blocks>;
 
 /// What a system returns.
 type Ran = Result<(), OutOfMemory>;

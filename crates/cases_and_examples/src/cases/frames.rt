@@ -1,5 +1,5 @@
 //! Systems that issue what a case lists.
-ghost use Rattle.ent_queue.specs.Commands.{IsReady, Extends};
+ghost use Rattle.ent_queue.specs.OfShared.{IsReady, Extends};
 
 use crate::cases::call::{Call, component};
 use crate::cases::phase::issue;

@@ -1,6 +1,6 @@
 //! A phase of a world, and what its systems issue.
 ghost use Rattle.std.specs.Prelude.{◌≡◌, ◌<◌, ◌≤◌};
-ghost use Rattle.ent_queue.specs.Commands.{IsReady, Extends};
+ghost use Rattle.ent_queue.specs.OfShared.{IsReady, Extends};
 ghost use Rattle.ent_shared.specs.Phase.{IsOf};
 
 use crate::cases::call::Call;

@@ -41,7 +41,7 @@ fn fill(
     requires own { IsOf shared.now reserver.old }
     ensures own { OnOk result (IsOf shared.now reserver.new) }
 {
-    let mut commands = Commands::new(alloc, shared, reserver);
+    let mut commands: Commands<'_> = Commands::new(alloc, shared, reserver);
     // Each spawn reserves its handle at once.
     let oak = commands.spawn(empty)?;
     let ash = commands.spawn(grown)?;

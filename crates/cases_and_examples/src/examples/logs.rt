@@ -4,7 +4,8 @@ use anyhow::Result;
 use ent_alloc::{Entities, Limits};
 use ent_handle::Memory;
 use ent_log::{Entry, Log, SyncPoint};
-use ent_log_runner::{LogCommands, LogSystem, run_logs};
+use ent_log_runner::{LogSystem, run_logs};
+use ent_queue::Commands;
 use std::alloc::Global;
 use std::sync::atomic::{AtomicU32, Ordering};
 use std::thread;
@@ -41,8 +42,8 @@ impl Sow<'_> {
 impl LogSystem<Met> for Sow<'_> {
     ghost may_log = { λ _ _. Unit {0} };
 
-    #[tactic(auto, using(ent_log_runner::proofs::Extending::extends_then))]
-    fn run(&self, _alloc: Global, commands: &mut LogCommands<'_, Log<Met>>) -> Result<(), Memory> {
+    #[tactic(auto, using(ent_queue::proofs::Extending::log_extends_then))]
+    fn run(&self, _alloc: Global, commands: &mut Commands<'_, Log<Met>>) -> Result<(), Memory> {
         if self.meets() {
             commands.push(Met)?;
         }

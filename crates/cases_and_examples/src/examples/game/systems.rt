@@ -1,6 +1,7 @@
 //! The systems of the game, each a type of its own. `specs/Issuing` says what each of them may issue.
 ghost use Rattle.std.specs.Prelude.{◌≡◌, ◌≤◌, length, OnOk, All};
-ghost use Rattle.ent_queue.specs.Commands.{IsReady, Extends, queue_of};
+ghost use Rattle.ent_queue.specs.Commands.{output_of};
+ghost use Rattle.ent_queue.specs.OfShared.{IsReady, Extends};
 ghost use Rattle.cases_and_examples.specs.Issuing.{IsLaunch, IsOnProjectile};
 
 use crate::examples::game::components::{AGE, TARGET};
@@ -68,8 +69,8 @@ impl Age {
     ) -> Result<(), Memory>
         requires { IsReady commands.old }
         ensures extends { Extends commands.old commands.new }
-        ensures may { OnOk result (All (IsOnProjectile view.now) (queue_of commands.old)
-            → All (IsOnProjectile view.now) (queue_of commands.new)) }
+        ensures may { OnOk result (All (IsOnProjectile view.now) (output_of commands.old)
+            → All (IsOnProjectile view.now) (output_of commands.new)) }
     {
         match view.get(handle, AGE) {
             Some(age) if age < self.limit => {

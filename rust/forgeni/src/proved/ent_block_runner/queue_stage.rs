@@ -4,7 +4,7 @@
 use crate::proved::ent_block_runner::system_in_blocks::SystemInBlocks;
 use crate::proved::ent_blocks::{BlockReserver, Blocks, again};
 use crate::proved::ent_handle::Memory;
-use crate::proved::ent_queue::{CommandQueue, CommandsInBlocks};
+use crate::proved::ent_queue::{CommandQueue, Commands};
 use crate::proved::ent_runner::Jobs;
 use crate::proved::ent_world::View;
 
@@ -28,9 +28,10 @@ impl<S: SystemInBlocks> Jobs<(CommandQueue, BlockReserver), ()>
         number: usize,
         lent: &mut (),
     ) -> ((CommandQueue, BlockReserver), Result<(), Memory>) {
-        let reserver = again(&self.reservers[number]);
-        let mut commands = CommandsInBlocks::new(self.blocks, reserver);
+        let mut reserver = again(&self.reservers[number]);
+        let mut commands = Commands::new(self.blocks, &mut reserver);
         let ran = self.systems[number].run(&self.view, &mut commands);
-        (commands.finish(), ran)
+        let queue = commands.finish();
+        ((queue, reserver), ran)
     }
 }

@@ -1,11 +1,11 @@
 // Made of crates/ent_block_runner/src/stage.rt by rust/erase. It isn't edited by hand.
 
 //! Systems that fill logs from blocks are the jobs of a crew.
-use crate::proved::ent_block_runner::commands::BlockCommands;
 use crate::proved::ent_block_runner::system::BlockSystem;
 use crate::proved::ent_blocks::{BlockReserver, Blocks, again};
 use crate::proved::ent_handle::Memory;
 use crate::proved::ent_log::Log;
+use crate::proved::ent_queue::Commands;
 use crate::proved::ent_runner::Jobs;
 
 /// The systems that fill logs together, each with the reserver at its number.
@@ -27,9 +27,10 @@ impl<C, S: BlockSystem<C>> Jobs<(Log<C>, BlockReserver), ()>
         number: usize,
         lent: &mut (),
     ) -> ((Log<C>, BlockReserver), Result<(), Memory>) {
-        let reserver = again(&self.reservers[number]);
-        let mut commands = BlockCommands::new(self.blocks, reserver);
+        let mut reserver = again(&self.reservers[number]);
+        let mut commands = Commands::new(self.blocks, &mut reserver);
         let ran = self.systems[number].run(&mut commands);
-        (commands.finish(), ran)
+        let log = commands.finish();
+        ((log, reserver), ran)
     }
 }

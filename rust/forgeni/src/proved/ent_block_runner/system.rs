@@ -1,7 +1,9 @@
 // Made of crates/ent_block_runner/src/system.rt by rust/erase. It isn't edited by hand.
 
-use crate::proved::ent_block_runner::commands::BlockCommands;
+use crate::proved::ent_blocks::Blocks;
 use crate::proved::ent_handle::Memory;
+use crate::proved::ent_log::Log;
+use crate::proved::ent_queue::Commands;
 
 /// A system that fills a log from a block of its own. `C` is the caller's type of commands.
 ///
@@ -18,13 +20,17 @@ pub trait BlockSystem<C> {
     /// In the words of the folder `specs/` of crate `ent_block_runner`:
     ///
     /// ```text
-    /// ensures extends { Extends commands.old commands.new }
-    /// ensures may { commands.old.log ≡ []
-    ///     → OnOk result (may_log self.now commands.new.log) }
-    /// ensures leaves { commands.old.log ≡ []
-    ///     → OnErr result (may_leave self.now commands.new.log) }
+    /// requires { IsReady IsOfPhase commands.old }
+    /// ensures extends { Extends Logs IsOfPhase IsDrawn commands.old commands.new }
+    /// ensures may { output_of commands.old ≡ []
+    ///     → OnOk result (may_log self.now (output_of commands.new)) }
+    /// ensures leaves { output_of commands.old ≡ []
+    ///     → OnErr result (may_leave self.now (output_of commands.new)) }
     /// ```
     ///
     /// </details>
-    fn run(&self, commands: &mut BlockCommands<'_, C>) -> Result<(), Memory>;
+    fn run(
+        &self,
+        commands: &mut Commands<'_, Log<C>, Blocks>,
+    ) -> Result<(), Memory>;
 }

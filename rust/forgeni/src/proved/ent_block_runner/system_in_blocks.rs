@@ -1,7 +1,8 @@
 // Made of crates/ent_block_runner/src/system_in_blocks.rt by rust/erase. It isn't edited by hand.
 
+use crate::proved::ent_blocks::Blocks;
 use crate::proved::ent_handle::Memory;
-use crate::proved::ent_queue::CommandsInBlocks;
+use crate::proved::ent_queue::{CommandQueue, Commands};
 use crate::proved::ent_world::View;
 
 /// A system of a frame in blocks: it reads the world as the frame began, and issues commands, with
@@ -20,17 +21,18 @@ pub trait SystemInBlocks {
     /// In the words of the folder `specs/` of crate `ent_block_runner`:
     ///
     /// ```text
-    /// ensures extends { ExtendsInBlocks commands.old commands.new }
-    /// ensures may { commands.old.queue ≡ []
-    ///     → OnOk result (may_issue self.now view.now commands.new.queue) }
-    /// ensures leaves { commands.old.queue ≡ []
-    ///     → OnErr result (may_leave self.now view.now commands.new.queue) }
+    /// requires { IsReady IsOfPhase commands.old }
+    /// ensures extends { Extends Issues IsOfPhase IsDrawn commands.old commands.new }
+    /// ensures may { output_of commands.old ≡ []
+    ///     → OnOk result (may_issue self.now view.now (output_of commands.new)) }
+    /// ensures leaves { output_of commands.old ≡ []
+    ///     → OnErr result (may_leave self.now view.now (output_of commands.new)) }
     /// ```
     ///
     /// </details>
     fn run(
         &self,
         view: &View<'_>,
-        commands: &mut CommandsInBlocks<'_>,
+        commands: &mut Commands<'_, CommandQueue, Blocks>,
     ) -> Result<(), Memory>;
 }

@@ -13,6 +13,7 @@ mod deal_error;
 mod end_error;
 mod opening;
 mod part;
+mod source;
 mod taking;
 
 pub(crate) use crate::proved::ent_blocks::opening::parts_of;

@@ -4,7 +4,7 @@ use alloc::vec::Vec;
 use crate::kit::vec::FallibleVec;
 use crate::proved::ent_log::entry::Entry;
 use crate::proved::ent_log::reserves::Reserves;
-use crate::proved::ent_alloc::{Entities, ReserveError, State};
+use crate::proved::ent_alloc::{Entities, ReserveError, Source, State};
 use crate::proved::ent_handle::{Handle, Memory};
 use core::fmt;
 use alloc::vec::IntoIter;
@@ -156,6 +156,44 @@ impl<C> Log<C> {
     pub fn spawn<S: Reserves>(&mut self, source: &mut S) -> Result<Handle, ReserveError> {
         self.entries.reserve_fallibly(1)?;
         match source.reserve_one() {
+            Ok(handle) => {
+                self.entries.push_reserved(Entry::Spawn(handle));
+                Ok(handle)
+            }
+            Err(why) => {
+                self.entries.push_reserved(Entry::Refused(why));
+                Err(ReserveError::from(why))
+            }
+        }
+    }
+
+    /// Reserves a handle at once, of a source that serves this reserver, and adds its entry, or that
+    /// of the refusal. Room for the entry is allocated first, so each reservation has one.
+    ///
+    /// # Errors
+    ///
+    /// - [`ReserveError::Memory`] if there is no room for the entry. The log is as it was, and
+    ///   nothing was reserved.
+    /// - [`ReserveError::Space`] and [`ReserveError::Quota`] as the source returns them. The log has
+    ///   an entry for the [refusal](Entry::Refused), which the sync point hands on in its turn.
+    #[inline]
+    pub(crate) fn spawn_from<S: Source>(
+        &mut self,
+        source: &S,
+        reserver: &mut S::Reserver,
+    ) -> Result<Handle, ReserveError>
+        // requires { S.serves source.now reserver.old }
+        // ensures stays { S.serves source.now reserver.new }
+        // ensures ok { IfOk result (λ handle. self.new ≡ self.old ++ Spawn handle ∷ []) }
+        // ensures refused { IfErr result (λ error. self.new ≡ self.old ++ refused_by error) }
+
+        // Anything but Memory is the result of one reservation.
+        // ensures replies { (reply : Result HandleValue Refusal) → result ≡ returned reply
+        //     → S.may_reply source.now reserver.old reserver.new 1 (listed_alone reply) }
+        // ensures memory { IsErrOf result ReserveError.Memory → reserver.new ≡ reserver.old }
+    {
+        self.entries.reserve_fallibly(1)?;
+        match source.serve_one(reserver) {
             Ok(handle) => {
                 self.entries.push_reserved(Entry::Spawn(handle));
                 Ok(handle)

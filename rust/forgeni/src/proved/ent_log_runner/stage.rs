@@ -2,10 +2,10 @@
 
 //! Systems that fill logs are the jobs of a crew.
 
-use crate::proved::ent_log_runner::commands::LogCommands;
 use crate::proved::ent_log_runner::system::LogSystem;
 use crate::proved::ent_handle::Memory;
 use crate::proved::ent_log::Log;
+use crate::proved::ent_queue::Commands;
 use crate::proved::ent_runner::Jobs;
 use crate::proved::ent_shared::{Reserver, Shared};
 
@@ -19,7 +19,7 @@ impl<C, S: LogSystem<C>> Jobs<Log<C>, Reserver> for LogStage<'_, '_, S> {
     /// Runs the system of this number. Its log has what it entered, also if it stopped.
     #[inline]
     fn run(&self, number: usize, reserver: &mut Reserver) -> (Log<C>, Result<(), Memory>) {
-        let mut commands = LogCommands::new(self.shared, reserver);
+        let mut commands = Commands::new(self.shared, reserver);
         let ran = self.systems[number].run(&mut commands);
         (commands.finish(), ran)
     }

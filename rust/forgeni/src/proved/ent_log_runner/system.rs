@@ -1,8 +1,8 @@
 // Made of crates/ent_log_runner/src/system.rt by rust/erase. It isn't edited by hand.
 
-use crate::proved::ent_log_runner::commands::LogCommands;
 use crate::proved::ent_handle::Memory;
 use crate::proved::ent_log::Log;
+use crate::proved::ent_queue::Commands;
 
 /// A system that fills a log. `C` is the caller's type of commands.
 ///
@@ -20,14 +20,14 @@ pub trait LogSystem<C> {
     /// In the words of the folder `specs/` of crate `ent_log_runner`:
     ///
     /// ```text
-    /// requires { IsReady commands.old }
-    /// ensures extends { Extends commands.old commands.new }
-    /// ensures may { log_of commands.old ≡ []
-    ///     → OnOk result (may_log self.now (log_of commands.new)) }
-    /// ensures leaves { log_of commands.old ≡ []
-    ///     → OnErr result (may_leave self.now (log_of commands.new)) }
+    /// requires { IsReady IsOf commands.old }
+    /// ensures extends { Extends Logs IsOf IsReturned commands.old commands.new }
+    /// ensures may { output_of commands.old ≡ []
+    ///     → OnOk result (may_log self.now (output_of commands.new)) }
+    /// ensures leaves { output_of commands.old ≡ []
+    ///     → OnErr result (may_leave self.now (output_of commands.new)) }
     /// ```
     ///
     /// </details>
-    fn run(&self, commands: &mut LogCommands<'_, Log<C>>) -> Result<(), Memory>;
+    fn run(&self, commands: &mut Commands<'_, Log<C>>) -> Result<(), Memory>;
 }

@@ -1,27 +1,28 @@
 // Made of crates/ent_queue/src/lib.rt by rust/erase. It isn't edited by hand.
 
-//! Queues of commands that systems write and a world applies.
+//! Queues of commands that systems write and a world applies, and what systems fill them with, or logs.
 
 mod bundle;
 mod bundle_ref;
 mod commands;
-mod commands_in_blocks;
 mod entries;
 mod entry;
 mod handles_ref;
+mod issuing;
 mod kind;
+mod leaving;
+mod logging;
+mod output;
 mod queue;
 mod reading;
-mod serves;
 mod writing;
 
 pub use bundle::Bundle;
 pub use bundle_ref::{BundleItems, BundleRef};
 pub use commands::Commands;
-pub use commands_in_blocks::CommandsInBlocks;
 pub use crate::proved::ent_alloc::ReserveError as QueueFault;
 pub use entries::Entries;
 pub use entry::Entry;
 pub use handles_ref::{Handles, HandlesRef};
+pub use output::Output;
 pub use queue::CommandQueue;
-pub use serves::Serves;

@@ -4,11 +4,10 @@ use alloc::vec::Vec;
 use crate::kit::vec::FallibleVec;
 use crate::proved::ent_queue::entries::Entries;
 use crate::proved::ent_queue::kind::{INSERT, SPAWN};
-use crate::proved::ent_queue::serves::Serves;
 use crate::proved::ent_queue::writing::{
     write_bundle, write_despawn, write_many, write_refused, write_remove, write_with_bundle,
 };
-use crate::proved::ent_alloc::ReserveError as QueueFault;
+use crate::proved::ent_alloc::{ReserveError as QueueFault, Source};
 use crate::proved::ent_handle::{ComponentId, Handle, Memory};
 
 /// How many bytes a refusal has.
@@ -117,24 +116,24 @@ impl CommandQueue {
 
     /// Grows first, for the spawn and for a refusal alike, and then reserves.
     #[inline]
-    pub(super) fn spawn<R, A: Serves<R>>(
+    pub(super) fn spawn<S: Source>(
         &mut self,
-        phase: &A,
-        reserver: &mut R,
+        source: &S,
+        reserver: &mut S::Reserver,
         items: &[(ComponentId, i64)],
     ) -> Result<Handle, QueueFault>
-        // requires of { A.serves phase.now reserver.old }
+        // requires of { S.serves source.now reserver.old }
         // requires is { IsBundle items.now }
-        // ensures stays { A.serves phase.now reserver.new }
+        // ensures stays { S.serves source.now reserver.new }
         // ensures ok { IfOk result (λ handle. self.new ≡ self.old ++ Spawn handle items.now ∷ []) }
         // ensures refused { IfErr result (λ fault. self.new ≡ self.old ++ refused_by 1 fault) }
         // ensures memory { IsErrOf result QueueFault.Memory → reserver.new ≡ reserver.old }
         // ensures replies { (reply : Result HandleValue Refusal) → result ≡ queued reply
-        //     → A.may_reply phase.now reserver.old reserver.new 1 (listed_alone reply) }
+        //     → S.may_reply source.now reserver.old reserver.new 1 (listed_alone reply) }
     {
         let own = 11 + 9 * items.len();
         self.bytes.reserve_fallibly(own.max(REFUSAL))?;
-        match phase.serve_one(reserver) {
+        match source.serve_one(reserver) {
             Ok(handle) => {
                 write_with_bundle(&mut self.bytes, SPAWN, handle, items);
                 self.count += 1;
@@ -150,16 +149,16 @@ impl CommandQueue {
 
     /// Grows first, for the spawn, for a refusal and for the list alike, and then reserves.
     #[inline]
-    pub(super) fn spawn_many<R, A: Serves<R>>(
+    pub(super) fn spawn_many<S: Source>(
         &mut self,
-        phase: &A,
-        reserver: &mut R,
+        source: &S,
+        reserver: &mut S::Reserver,
         n: u32,
         items: &[(ComponentId, i64)],
     ) -> Result<Vec<Handle>, QueueFault>
-        // requires of { A.serves phase.now reserver.old }
+        // requires of { S.serves source.now reserver.old }
         // requires is { IsBundle items.now }
-        // ensures stays { A.serves phase.now reserver.new }
+        // ensures stays { S.serves source.now reserver.new }
         // ensures ok { IfOk result
         //     (λ handles. self.new ≡ self.old ++ SpawnMany handles.items items.now ∷ []) }
         // ensures length { IfOk result (λ handles. length handles.items ≡ n) }
@@ -167,12 +166,12 @@ impl CommandQueue {
         // ensures memory { IsErrOf result QueueFault.Memory → reserver.new ≡ reserver.old }
         // ensures replies { (reply : Result (List HandleValue) Refusal)
         //     → as_list result ≡ queued reply
-        //     → A.may_reply phase.now reserver.old reserver.new n reply }
+        //     → S.may_reply source.now reserver.old reserver.new n reply }
     {
         let mut handles = Vec::with_capacity_fallibly(n as usize)?;
         let own = 7 + 8 * n as usize + 9 * items.len();
         self.bytes.reserve_fallibly(own.max(REFUSAL))?;
-        match phase.serve_many(reserver, n) {
+        match source.serve_many(reserver, n) {
             Ok(given) => {
                 write_many(&mut self.bytes, &mut handles, n, given);
                 write_bundle(&mut self.bytes, items);

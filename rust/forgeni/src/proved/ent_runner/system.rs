@@ -25,10 +25,10 @@ pub trait System {
     /// ```text
     /// requires { IsReady commands.old }
     /// ensures extends { Extends commands.old commands.new }
-    /// ensures may { queue_of commands.old ≡ []
-    ///     → OnOk result (may_issue self.now view.now (queue_of commands.new)) }
-    /// ensures leaves { queue_of commands.old ≡ []
-    ///     → OnErr result (may_leave self.now view.now (queue_of commands.new)) }
+    /// ensures may { output_of commands.old ≡ []
+    ///     → OnOk result (may_issue self.now view.now (output_of commands.new)) }
+    /// ensures leaves { output_of commands.old ≡ []
+    ///     → OnErr result (may_leave self.now view.now (output_of commands.new)) }
     /// ```
     ///
     /// </details>

@@ -10,6 +10,7 @@ mod record;
 mod reserver;
 mod rule;
 mod shared;
+mod source;
 mod word;
 
 pub use crate::proved::ent_alloc::Refused;

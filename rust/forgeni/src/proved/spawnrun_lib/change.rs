@@ -1,9 +1,10 @@
 // Made of crates/spawnrun_lib/src/change.rt by rust/erase. It isn't edited by hand.
 
 use crate::proved::spawnrun_lib::bindings::Bindings;
-use crate::proved::spawnrun_lib::issue::Issue;
 use crate::proved::spawnrun_lib::roll::Roll;
+use crate::proved::ent_alloc::Source;
 use crate::proved::ent_handle::{ComponentId, Handle, Memory};
+use crate::proved::ent_queue::{CommandQueue, Commands};
 use crate::proved::ent_script::{Bundle, Target};
 use crate::proved::ent_world::View;
 
@@ -21,22 +22,22 @@ pub(super) enum Change<'a> {
 impl Change<'_> {
     /// Issues the change for each handle of the target, in order.
     #[inline]
-    pub(super) fn on_target<Q: Issue>(
+    pub(super) fn on_target<S: Source>(
         self,
         view: &View<'_>,
         target: Target,
         names: &Bindings,
         roll: &mut Roll,
-        commands: &mut Q,
+        commands: &mut Commands<'_, CommandQueue, S>,
     ) -> Result<(), Memory>
-        // requires ready { Q.is_ready commands.old }
+        // requires ready { IsReady S.serves commands.old }
         // requires roll { IsRollOf view.now roll.old }
         // ensures roll { IsRollOf view.now roll.new }
-        // ensures extends { Q.extends commands.old commands.new }
+        // ensures extends { Extends Issues S.serves S.may_reply commands.old commands.new }
         // ensures issued { OnOk result (HasIssuedOn view.now (names_of names.now) target
-        //     (command_on self.entry) (Q.commands commands.old) (Q.commands commands.new)) }
+        //     (command_on self.entry) (output_of commands.old) (output_of commands.new)) }
         // ensures stopped { OnErr result (HasStoppedOn view.now (names_of names.now) target
-        //     (command_on self.entry) (Q.commands commands.old) (Q.commands commands.new)) }
+        //     (command_on self.entry) (output_of commands.old) (output_of commands.new)) }
     {
         match target {
             Target::Name(name) => self.on_each(names.get(name), commands),
@@ -51,13 +52,17 @@ impl Change<'_> {
 
     /// Issues the change for each of the handles, in order.
     #[inline]
-    fn on_each<Q: Issue>(self, handles: &[Handle], commands: &mut Q) -> Result<(), Memory>
-        // requires { Q.is_ready commands.old }
-        // ensures extends { Q.extends commands.old commands.new }
-        // ensures ok { OnOk result (Q.commands commands.new
-        //     ≡ Q.commands commands.old ++ map (command_on self.entry) handles.now) }
+    fn on_each<S: Source>(
+        self,
+        handles: &[Handle],
+        commands: &mut Commands<'_, CommandQueue, S>,
+    ) -> Result<(), Memory>
+        // requires { IsReady S.serves commands.old }
+        // ensures extends { Extends Issues S.serves S.may_reply commands.old commands.new }
+        // ensures ok { OnOk result (output_of commands.new
+        //     ≡ output_of commands.old ++ map (command_on self.entry) handles.now) }
         // ensures stopped { OnErr result (HasStoppedAmong handles.now (command_on self.entry)
-        //     (Q.commands commands.old) (Q.commands commands.new)) }
+        //     (output_of commands.old) (output_of commands.new)) }
     {
         for handle in handles {
             self.on_one(*handle, commands)?;
@@ -67,17 +72,21 @@ impl Change<'_> {
 
     /// Issues the change for one handle.
     #[inline]
-    fn on_one<Q: Issue>(self, handle: Handle, commands: &mut Q) -> Result<(), Memory>
-        // requires { Q.is_ready commands.old }
-        // ensures extends { Q.extends commands.old commands.new }
-        // ensures ok { OnOk result (Q.commands commands.new
-        //     ≡ Q.commands commands.old ++ command_on self.entry handle ∷ []) }
-        // ensures err { OnErr result (Q.commands commands.new ≡ Q.commands commands.old) }
+    fn on_one<S: Source>(
+        self,
+        handle: Handle,
+        commands: &mut Commands<'_, CommandQueue, S>,
+    ) -> Result<(), Memory>
+        // requires { IsReady S.serves commands.old }
+        // ensures extends { Extends Issues S.serves S.may_reply commands.old commands.new }
+        // ensures ok { OnOk result (output_of commands.new
+        //     ≡ output_of commands.old ++ command_on self.entry handle ∷ []) }
+        // ensures err { OnErr result (output_of commands.new ≡ output_of commands.old) }
     {
         match self {
-            Change::Insert(bundle) => commands.add_insert(handle, bundle),
-            Change::Remove(id) => commands.add_remove(handle, id),
-            Change::Despawn => commands.add_despawn(handle),
+            Change::Insert(bundle) => commands.insert(handle, bundle),
+            Change::Remove(id) => commands.remove(handle, id),
+            Change::Despawn => commands.despawn(handle),
         }
     }
 }

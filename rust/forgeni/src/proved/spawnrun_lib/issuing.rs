@@ -4,10 +4,11 @@
 
 use crate::proved::spawnrun_lib::bindings::Bindings;
 use crate::proved::spawnrun_lib::change::Change;
-use crate::proved::spawnrun_lib::issue::Issue;
 use crate::proved::spawnrun_lib::roll::Roll;
 use crate::proved::spawnrun_lib::spawning::{spawn, spawn_many};
+use crate::proved::ent_alloc::Source;
 use crate::proved::ent_handle::Memory;
+use crate::proved::ent_queue::{CommandQueue, Commands};
 use crate::proved::ent_script::Operation;
 use crate::proved::ent_world::View;
 
@@ -18,17 +19,17 @@ use crate::proved::ent_world::View;
 /// `Memory`, if one of the operations ran out of memory, and for no other reason. A spawn that is
 /// refused is a command, and the run goes on.
 #[inline]
-pub(super) fn issue_all<Q: Issue>(
+pub(super) fn issue_all<S: Source>(
     view: &View<'_>,
     operations: &[Operation],
-    commands: &mut Q,
+    commands: &mut Commands<'_, CommandQueue, S>,
 ) -> Result<(), Memory>
-    // requires { Q.is_ready commands.old }
-    // ensures extends { Q.extends commands.old commands.new }
-    // ensures may { Q.commands commands.old ≡ []
-    //     → OnOk result (MayIssue operations.now view.now (Q.commands commands.new)) }
-    // ensures leaves { Q.commands commands.old ≡ []
-    //     → OnErr result (MayStop operations.now view.now (Q.commands commands.new)) }
+    // requires { IsReady S.serves commands.old }
+    // ensures extends { Extends Issues S.serves S.may_reply commands.old commands.new }
+    // ensures may { output_of commands.old ≡ []
+    //     → OnOk result (MayIssue operations.now view.now (output_of commands.new)) }
+    // ensures leaves { output_of commands.old ≡ []
+    //     → OnErr result (MayStop operations.now view.now (output_of commands.new)) }
 {
     let mut names = Bindings::new();
     let mut roll = Roll::new();
@@ -40,21 +41,21 @@ pub(super) fn issue_all<Q: Issue>(
 
 /// Issues the commands of one operation, and binds its name.
 #[inline]
-fn issue<Q: Issue>(
+fn issue<S: Source>(
     view: &View<'_>,
     operation: &Operation,
     names: &mut Bindings,
     roll: &mut Roll,
-    commands: &mut Q,
+    commands: &mut Commands<'_, CommandQueue, S>,
 ) -> Result<(), Memory>
-    // requires ready { Q.is_ready commands.old }
+    // requires ready { IsReady S.serves commands.old }
     // requires roll { IsRollOf view.now roll.old }
     // ensures roll { IsRollOf view.now roll.new }
-    // ensures extends { Q.extends commands.old commands.new }
+    // ensures extends { Extends Issues S.serves S.may_reply commands.old commands.new }
     // ensures issued { OnOk result (HasIssued view.now operation.now
-    //     (Q.commands commands.old) (Q.commands commands.new) names.old names.new) }
+    //     (output_of commands.old) (output_of commands.new) names.old names.new) }
     // ensures stopped { OnErr result (HasStopped view.now operation.now
-    //     (Q.commands commands.old) (Q.commands commands.new) names.old) }
+    //     (output_of commands.old) (output_of commands.new) names.old) }
 {
     match operation {
         Operation::Spawn { bundle, binds } => spawn(bundle, *binds, names, commands),

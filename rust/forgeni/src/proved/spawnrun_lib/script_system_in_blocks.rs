@@ -2,8 +2,9 @@
 
 use crate::proved::spawnrun_lib::issuing::issue_all;
 use crate::proved::ent_block_runner::SystemInBlocks;
+use crate::proved::ent_blocks::Blocks;
 use crate::proved::ent_handle::Memory;
-use crate::proved::ent_queue::CommandsInBlocks;
+use crate::proved::ent_queue::{CommandQueue, Commands};
 use crate::proved::ent_world::View;
 
 /// A system of a script, as a frame in blocks runs it. Contracts see the list of its operations.
@@ -30,7 +31,7 @@ impl SystemInBlocks for ScriptSystemInBlocks<'_> {
     fn run(
         &self,
         view: &View<'_>,
-        commands: &mut CommandsInBlocks<'_>,
+        commands: &mut Commands<'_, CommandQueue, Blocks>,
     ) -> Result<(), Memory> {
         issue_all(view, self.system.operations(), commands)
     }

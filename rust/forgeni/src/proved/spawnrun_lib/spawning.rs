@@ -3,9 +3,9 @@
 use alloc::vec::Vec;
 use crate::kit::vec::FallibleVec;
 use crate::proved::spawnrun_lib::bindings::Bindings;
-use crate::proved::spawnrun_lib::issue::Issue;
+use crate::proved::ent_alloc::Source;
 use crate::proved::ent_handle::Memory;
-use crate::proved::ent_queue::QueueFault;
+use crate::proved::ent_queue::{CommandQueue, Commands, QueueFault};
 use crate::proved::ent_script::Bundle;
 
 /// Spawns one entity, and binds the name to the list of its handle. After a refusal, which the
@@ -15,21 +15,21 @@ use crate::proved::ent_script::Bundle;
 ///
 /// `Memory`: nothing was issued.
 #[inline]
-pub(super) fn spawn<Q: Issue>(
+pub(super) fn spawn<S: Source>(
     bundle: &Bundle,
     binds: Option<usize>,
     names: &mut Bindings,
-    commands: &mut Q,
+    commands: &mut Commands<'_, CommandQueue, S>,
 ) -> Result<(), Memory>
-    // requires { Q.is_ready commands.old }
-    // ensures extends { Q.extends commands.old commands.new }
+    // requires { IsReady S.serves commands.old }
+    // ensures extends { Extends Issues S.serves S.may_reply commands.old commands.new }
     // ensures issued { OnOk result ((view : View) → HasIssued view (Spawn bundle.now binds)
-    //     (Q.commands commands.old) (Q.commands commands.new) names.old names.new) }
-    // ensures err { OnErr result (Q.commands commands.new ≡ Q.commands commands.old) }
+    //     (output_of commands.old) (output_of commands.new) names.old names.new) }
+    // ensures err { OnErr result (output_of commands.new ≡ output_of commands.old) }
 {
     match binds {
         Some(name) => spawn_named(bundle, name, names, commands),
-        None => match commands.add_spawn(bundle) {
+        None => match commands.spawn(bundle) {
             Err(QueueFault::Memory) => Err(Memory),
             _ => Ok(()),
         },
@@ -37,21 +37,21 @@ pub(super) fn spawn<Q: Issue>(
 }
 
 #[inline]
-fn spawn_named<Q: Issue>(
+fn spawn_named<S: Source>(
     bundle: &Bundle,
     name: usize,
     names: &mut Bindings,
-    commands: &mut Q,
+    commands: &mut Commands<'_, CommandQueue, S>,
 ) -> Result<(), Memory>
-    // requires { Q.is_ready commands.old }
-    // ensures extends { Q.extends commands.old commands.new }
+    // requires { IsReady S.serves commands.old }
+    // ensures extends { Extends Issues S.serves S.may_reply commands.old commands.new }
     // ensures issued { OnOk result ((view : View) → HasIssued view (Spawn bundle.now (Some name))
-    //     (Q.commands commands.old) (Q.commands commands.new) names.old names.new) }
-    // ensures err { OnErr result (Q.commands commands.new ≡ Q.commands commands.old) }
+    //     (output_of commands.old) (output_of commands.new) names.old names.new) }
+    // ensures err { OnErr result (output_of commands.new ≡ output_of commands.old) }
 {
     names.reach(name)?;
     let mut list = Vec::with_capacity_fallibly(1)?;
-    match commands.add_spawn(bundle) {
+    match commands.spawn(bundle) {
         Ok(handle) => {
             list.push_reserved(handle);
             names.bind(name, list);
@@ -69,22 +69,22 @@ fn spawn_named<Q: Issue>(
 ///
 /// `Memory`: nothing was issued.
 #[inline]
-pub(super) fn spawn_many<Q: Issue>(
+pub(super) fn spawn_many<S: Source>(
     count: u32,
     bundle: &Bundle,
     binds: Option<usize>,
     names: &mut Bindings,
-    commands: &mut Q,
+    commands: &mut Commands<'_, CommandQueue, S>,
 ) -> Result<(), Memory>
-    // requires { Q.is_ready commands.old }
-    // ensures extends { Q.extends commands.old commands.new }
+    // requires { IsReady S.serves commands.old }
+    // ensures extends { Extends Issues S.serves S.may_reply commands.old commands.new }
     // ensures issued { OnOk result ((view : View) → HasIssued view (SpawnMany count bundle.now binds)
-    //     (Q.commands commands.old) (Q.commands commands.new) names.old names.new) }
-    // ensures err { OnErr result (Q.commands commands.new ≡ Q.commands commands.old) }
+    //     (output_of commands.old) (output_of commands.new) names.old names.new) }
+    // ensures err { OnErr result (output_of commands.new ≡ output_of commands.old) }
 {
     match binds {
         Some(name) => spawn_many_named(count, bundle, name, names, commands),
-        None => match commands.add_spawn_many(count, bundle) {
+        None => match commands.spawn_many(count, bundle) {
             Err(QueueFault::Memory) => Err(Memory),
             _ => Ok(()),
         },
@@ -92,22 +92,22 @@ pub(super) fn spawn_many<Q: Issue>(
 }
 
 #[inline]
-fn spawn_many_named<Q: Issue>(
+fn spawn_many_named<S: Source>(
     count: u32,
     bundle: &Bundle,
     name: usize,
     names: &mut Bindings,
-    commands: &mut Q,
+    commands: &mut Commands<'_, CommandQueue, S>,
 ) -> Result<(), Memory>
-    // requires { Q.is_ready commands.old }
-    // ensures extends { Q.extends commands.old commands.new }
+    // requires { IsReady S.serves commands.old }
+    // ensures extends { Extends Issues S.serves S.may_reply commands.old commands.new }
     // ensures issued { OnOk result ((view : View)
     //     → HasIssued view (SpawnMany count bundle.now (Some name))
-    //     (Q.commands commands.old) (Q.commands commands.new) names.old names.new) }
-    // ensures err { OnErr result (Q.commands commands.new ≡ Q.commands commands.old) }
+    //     (output_of commands.old) (output_of commands.new) names.old names.new) }
+    // ensures err { OnErr result (output_of commands.new ≡ output_of commands.old) }
 {
     names.reach(name)?;
-    match commands.add_spawn_many(count, bundle) {
+    match commands.spawn_many(count, bundle) {
         Ok(handles) => {
             names.bind(name, handles);
             Ok(())

@@ -1,4 +1,4 @@
-use Rattle.ent_queue.specs.Commands.{Extends}
+use Rattle.ent_queue.specs.OfShared.{Extends}
 use Rattle.cases_and_examples.proofs.cases.frames.ListedSystem.run.Given as goal
 
 abbrev pub invariant-loop-call : goal.invariant-loop-call

@@ -1,4 +1,4 @@
-use Rattle.ent_queue.specs.Commands.{Extends}
+use Rattle.ent_queue.specs.OfShared.{Extends}
 use Rattle.cases_and_examples.proofs.examples.meadow.GrowSystem.run.Given as goal
 
 -- Commands were added, and the reserver has gained what they stand for.

@@ -1,6 +1,7 @@
 use Rattle.std.specs.Prelude.{◌≡◌, []}
 use Rattle.std.specs.List.{All}
-use Rattle.ent_queue.specs.Commands.{Extends, queue_of}
+use Rattle.ent_queue.specs.Commands.{output_of}
+use Rattle.ent_queue.specs.OfShared.{Extends}
 use Rattle.cases_and_examples.specs.Issuing.{IsOnProjectile}
 use Rattle.cases_and_examples.proofs.examples.game.systems.AgeSystem.run.Given as goal
 
@@ -8,5 +9,5 @@ use Rattle.cases_and_examples.proofs.examples.game.systems.AgeSystem.run.Given a
 abbrev pub invariant-loop-handle : goal.invariant-loop-handle
 invariant-loop-handle l = record {
   extends : Extends l.initial.commands l.commands;
-  may : queue_of l.initial.commands ≡ [] → All (IsOnProjectile l.view) (queue_of l.commands);
+  may : output_of l.initial.commands ≡ [] → All (IsOnProjectile l.view) (output_of l.commands);
 }

@@ -1,0 +1,215 @@
+//! What a system does that fills a queue.
+ghost use Rattle.std.specs.Prelude.{◌≡◌, ◌++◌, ◌∷◌, [], length, IfOk, IfErr, IsErrOf, OnOk, OnErr};
+ghost use Rattle.std.specs.Prelude.{Result, List};
+ghost use Rattle.ent_handle.specs.Handle.{Handle as HandleValue};
+ghost use Rattle.ent_alloc.specs.declared.refused.Refused.{Refused as Refusal};
+ghost use Rattle.ent_alloc.specs.Sequential.{listed_alone};
+ghost use Rattle.ent_storage.specs.Bundle.{bundle_of};
+ghost use Rattle.ent_queue.specs.Command.{Spawn, SpawnMany, Insert, Remove, Despawn};
+ghost use Rattle.ent_queue.specs.Commands.{IsReady, Extends, output_of, reserver_of, source_of};
+ghost use Rattle.ent_queue.specs.Issuing.{Issues};
+ghost use Rattle.ent_queue.specs.Reserving.{refused_by, queued, as_list};
+
+use crate::bundle::Bundle as OwnBundle;
+use crate::commands::Commands;
+use crate::queue::CommandQueue;
+use ent_alloc::{ReserveError as QueueFault, Source};
+use ent_handle::{ComponentId, Handle, Memory};
+use ent_storage::Bundle;
+
+impl<S: Source> Commands<'_, CommandQueue, S> {
+    /// Reserves a handle, which is to have the components.
+    ///
+    /// # Errors
+    ///
+    /// [`QueueFault::Memory`], and then nothing has changed. With [`QueueFault::Space`] and
+    /// [`QueueFault::Quota`] the queue keeps the refusal, which is a fault of the sync point's report,
+    /// and [`QueueFault::or_memory`] lets the system go on.
+    pub fn spawn<const INLINE: usize>(
+        &mut self,
+        bundle: &Bundle<INLINE>,
+    ) -> Result<Handle, QueueFault>
+        requires { IsReady S.serves self.old }
+        ensures extends { Extends Issues S.serves S.may_reply self.old self.new }
+        ensures ok { IfOk result (λ handle.
+            output_of self.new ≡ output_of self.old ++ Spawn handle bundle.now ∷ []) }
+        ensures refused { IfErr result (λ fault.
+            output_of self.new ≡ output_of self.old ++ refused_by 1 fault) }
+        ensures memory { IsErrOf result QueueFault.Memory
+            → reserver_of self.new ≡ reserver_of self.old }
+
+        // Anything but Memory is the result of a reservation.
+        ensures replies { (reply : Result HandleValue Refusal) → result ≡ queued reply
+            → S.may_reply (source_of self.old) (reserver_of self.old) (reserver_of self.new) 1
+            (listed_alone reply) }
+    {
+        self.output
+            .spawn(self.source, self.reserver, bundle.items())
+    }
+
+    /// Reserves a handle, which is to have these components, in any order. If a component is listed
+    /// twice, its last value counts.
+    ///
+    /// # Errors
+    ///
+    /// As of [`Commands::spawn`].
+    #[tactic(auto, using(crate::proofs::Extending::extends_nothing))]
+    pub fn spawn_with(&mut self, components: &[(ComponentId, i64)]) -> Result<Handle, QueueFault>
+        requires { IsReady S.serves self.old }
+        ensures extends { Extends Issues S.serves S.may_reply self.old self.new }
+        ensures ok { IfOk result (λ handle. output_of self.new
+            ≡ output_of self.old ++ Spawn handle (bundle_of components.now) ∷ []) }
+        ensures refused { IfErr result (λ fault.
+            output_of self.new ≡ output_of self.old ++ refused_by 1 fault) }
+        ensures memory { IsErrOf result QueueFault.Memory
+            → reserver_of self.new ≡ reserver_of self.old }
+
+        // Anything but Memory is the result of a reservation.
+        ensures replies { (reply : Result HandleValue Refusal) → result ≡ queued reply
+            → S.may_reply (source_of self.old) (reserver_of self.old) (reserver_of self.new) 1
+            (listed_alone reply) }
+    {
+        let Ok(bundle) = OwnBundle::of(self.alloc, components) else {
+            return Err(QueueFault::Memory);
+        };
+        self.spawn(&bundle)
+    }
+
+    /// Reserves `n` handles at once, each of which is to have the components. It takes time for each
+    /// handle of the list, and of the queue, which has them too.
+    ///
+    /// # Errors
+    ///
+    /// As of [`Commands::spawn`].
+    pub fn spawn_many<const INLINE: usize>(
+        &mut self,
+        n: u32,
+        bundle: &Bundle<INLINE>,
+    ) -> Result<Vec<Handle>, QueueFault>
+        requires { IsReady S.serves self.old }
+        ensures extends { Extends Issues S.serves S.may_reply self.old self.new }
+        ensures ok { IfOk result (λ handles.
+            output_of self.new ≡ output_of self.old ++ SpawnMany handles.items bundle.now ∷ []) }
+        ensures length { IfOk result (λ handles. length handles.items ≡ n) }
+        ensures refused { IfErr result (λ fault.
+            output_of self.new ≡ output_of self.old ++ refused_by n fault) }
+        ensures memory { IsErrOf result QueueFault.Memory
+            → reserver_of self.new ≡ reserver_of self.old }
+
+        // Anything but Memory is the result of a reservation.
+        ensures replies { (reply : Result (List HandleValue) Refusal)
+            → as_list result ≡ queued reply
+            → S.may_reply (source_of self.old) (reserver_of self.old) (reserver_of self.new) n
+            reply }
+    {
+        self.output
+            .spawn_many(self.alloc, self.source, self.reserver, n, bundle.items())
+    }
+
+    /// Reserves `n` handles at once, each of which is to have these components, in any order. If a
+    /// component is listed twice, its last value counts.
+    ///
+    /// # Errors
+    ///
+    /// As of [`Commands::spawn_many`].
+    #[tactic(auto, using(crate::proofs::Extending::extends_nothing))]
+    pub fn spawn_many_with(
+        &mut self,
+        n: u32,
+        components: &[(ComponentId, i64)],
+    ) -> Result<Vec<Handle>, QueueFault>
+        requires { IsReady S.serves self.old }
+        ensures extends { Extends Issues S.serves S.may_reply self.old self.new }
+        ensures ok { IfOk result (λ handles. output_of self.new
+            ≡ output_of self.old ++ SpawnMany handles.items (bundle_of components.now) ∷ []) }
+        ensures length { IfOk result (λ handles. length handles.items ≡ n) }
+        ensures refused { IfErr result (λ fault.
+            output_of self.new ≡ output_of self.old ++ refused_by n fault) }
+        ensures memory { IsErrOf result QueueFault.Memory
+            → reserver_of self.new ≡ reserver_of self.old }
+
+        // Anything but Memory is the result of a reservation.
+        ensures replies { (reply : Result (List HandleValue) Refusal)
+            → as_list result ≡ queued reply
+            → S.may_reply (source_of self.old) (reserver_of self.old) (reserver_of self.new) n
+            reply }
+    {
+        let Ok(bundle) = OwnBundle::of(self.alloc, components) else {
+            return Err(QueueFault::Memory);
+        };
+        self.spawn_many(n, &bundle)
+    }
+
+    /// Gives the entity the components, instead of those that it has under the same numbers.
+    ///
+    /// # Errors
+    ///
+    /// `Memory`, and then nothing has changed.
+    pub fn insert<const INLINE: usize>(
+        &mut self,
+        handle: Handle,
+        bundle: &Bundle<INLINE>,
+    ) -> Result<(), Memory>
+        requires { IsReady S.serves self.old }
+        ensures extends { Extends Issues S.serves S.may_reply self.old self.new }
+        ensures reserver { reserver_of self.new ≡ reserver_of self.old }
+        ensures ok { OnOk result
+            (output_of self.new ≡ output_of self.old ++ Insert handle bundle.now ∷ []) }
+        ensures err { OnErr result (output_of self.new ≡ output_of self.old) }
+    {
+        CommandQueue::insert(&mut self.output, handle, bundle.items())
+    }
+
+    /// Gives the entity these components, in any order, instead of those that it has under the same
+    /// numbers. If a component is listed twice, its last value counts.
+    ///
+    /// # Errors
+    ///
+    /// `Memory`, and then nothing has changed.
+    #[tactic(auto, using(crate::proofs::Extending::extends_nothing))]
+    pub fn insert_with(
+        &mut self,
+        handle: Handle,
+        components: &[(ComponentId, i64)],
+    ) -> Result<(), Memory>
+        requires { IsReady S.serves self.old }
+        ensures extends { Extends Issues S.serves S.may_reply self.old self.new }
+        ensures reserver { reserver_of self.new ≡ reserver_of self.old }
+        ensures ok { OnOk result (output_of self.new
+            ≡ output_of self.old ++ Insert handle (bundle_of components.now) ∷ []) }
+        ensures err { OnErr result (output_of self.new ≡ output_of self.old) }
+    {
+        let bundle = OwnBundle::of(self.alloc, components)?;
+        self.insert(handle, &bundle)
+    }
+
+    /// Takes the component out of the entity, if it has it.
+    ///
+    /// # Errors
+    ///
+    /// `Memory`, and then nothing has changed.
+    pub fn remove(&mut self, handle: Handle, id: ComponentId) -> Result<(), Memory>
+        requires { IsReady S.serves self.old }
+        ensures extends { Extends Issues S.serves S.may_reply self.old self.new }
+        ensures reserver { reserver_of self.new ≡ reserver_of self.old }
+        ensures ok { OnOk result (output_of self.new ≡ output_of self.old ++ Remove handle id ∷ []) }
+        ensures err { OnErr result (output_of self.new ≡ output_of self.old) }
+    {
+        self.output.remove(handle, id)
+    }
+
+    /// Takes the entity out of the world.
+    ///
+    /// # Errors
+    ///
+    /// `Memory`, and then nothing has changed.
+    pub fn despawn(&mut self, handle: Handle) -> Result<(), Memory>
+        requires { IsReady S.serves self.old }
+        ensures extends { Extends Issues S.serves S.may_reply self.old self.new }
+        ensures reserver { reserver_of self.new ≡ reserver_of self.old }
+        ensures ok { OnOk result (output_of self.new ≡ output_of self.old ++ Despawn handle ∷ []) }
+        ensures err { OnErr result (output_of self.new ≡ output_of self.old) }
+    {
+        self.output.despawn(handle)
+    }
+}

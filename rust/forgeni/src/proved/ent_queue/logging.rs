@@ -1,0 +1,101 @@
+// Made of crates/ent_queue/src/logging.rt by rust/erase. It isn't edited by hand.
+
+//! What a system does that fills a log.
+
+use crate::proved::ent_queue::commands::Commands;
+use crate::proved::ent_alloc::{ReserveError, Source};
+use crate::proved::ent_handle::{Handle, Memory};
+use crate::proved::ent_log::{Entry, Log};
+use core::fmt;
+
+impl<C, S: Source> Commands<'_, Log<C>, S> {
+    /// The entries so far, in the order of issue.
+    ///
+    /// <details><summary>Contract</summary>
+    ///
+    /// In the words of the folder `specs/` of crate `ent_queue`:
+    ///
+    /// ```text
+    /// ensures { result.now ≡ output_of self.now }
+    /// ```
+    ///
+    /// </details>
+    #[must_use]
+    #[inline]
+    pub fn entries(&self) -> &[Entry<C>] {
+        self.output.entries()
+    }
+
+    /// Reserves a handle at once, and adds its entry, or that of the refusal. Room for the entry is
+    /// allocated first, so each reservation has one.
+    ///
+    /// # Errors
+    ///
+    /// - [`ReserveError::Memory`] if there is no room for the entry. The log is as it was, and
+    ///   nothing was reserved.
+    /// - [`ReserveError::Space`] and [`ReserveError::Quota`] as the source returns them. The log has
+    ///   an entry for the [refusal](Entry::Refused), which the sync point hands on in its turn.
+    ///   [`ReserveError::or_memory`] lets the system go on.
+    ///
+    /// <details><summary>Contract</summary>
+    ///
+    /// In the words of the folder `specs/` of crate `ent_queue`:
+    ///
+    /// ```text
+    /// requires { IsReady S.serves self.old }
+    /// ensures extends { Extends Logs S.serves S.may_reply self.old self.new }
+    /// ensures ok { IfOk result (λ handle.
+    ///     output_of self.new ≡ output_of self.old ++ Spawn handle ∷ []) }
+    /// ensures refused { IfErr result (λ error.
+    ///     output_of self.new ≡ output_of self.old ++ refused_by error) }
+    ///
+    /// // Anything but Memory is the result of a reservation.
+    /// ensures replies { (reply : Result HandleValue Refusal) → result ≡ returned reply
+    ///     → S.may_reply (source_of self.old) (reserver_of self.old) (reserver_of self.new) 1
+    ///     (listed_alone reply) }
+    /// ensures memory { IsErrOf result ReserveError.Memory
+    ///     → reserver_of self.new ≡ reserver_of self.old }
+    /// ```
+    ///
+    /// </details>
+    #[inline]
+    pub fn spawn(&mut self) -> Result<Handle, ReserveError> {
+        self.output.spawn_from(self.source, self.reserver)
+    }
+}
+
+impl<C, S: Source> Commands<'_, Log<C>, S> {
+    /// Adds a command, which the sync point hands on in its turn.
+    ///
+    /// # Errors
+    ///
+    /// [`OutOfMemory`](Memory) if there is no room for it. The log is as it was, and the command is
+    /// dropped.
+    ///
+    /// <details><summary>Contract</summary>
+    ///
+    /// In the words of the folder `specs/` of crate `ent_queue`:
+    ///
+    /// ```text
+    /// requires { IsReady S.serves self.old }
+    /// ensures extends { Extends Logs S.serves S.may_reply self.old self.new }
+    /// ensures reserver { reserver_of self.new ≡ reserver_of self.old }
+    /// ensures ok { OnOk result (output_of self.new ≡ output_of self.old ++ Command command ∷ []) }
+    /// ensures err { OnErr result (output_of self.new ≡ output_of self.old) }
+    /// ```
+    ///
+    /// </details>
+    #[inline]
+    pub fn push(&mut self, command: C) -> Result<(), Memory> {
+        Log::push(&mut self.output, command)
+    }
+}
+
+/// The log so far.
+impl<C: fmt::Debug, S: Source> fmt::Debug for Commands<'_, Log<C>, S> {
+    #[inline]
+    fn fmt(&self, f: &mut fmt::Formatter<'_>) -> fmt::Result {
+        let log = &self.output;
+        write!(f, "{log:?}")
+    }
+}

@@ -1,0 +1,34 @@
+// Made of crates/ent_queue/src/output.rt by rust/erase. It isn't edited by hand.
+
+use crate::proved::ent_queue::queue::CommandQueue;
+use crate::proved::ent_log::Log;
+
+/// What a system fills: a [`CommandQueue`] of a world, or a [`Log`] of a caller's own commands.
+pub trait Output {
+    /// One without entries. It takes no memory.
+    ///
+    /// <details><summary>Contract</summary>
+    ///
+    /// In the words of the folder `specs/` of crate `ent_queue`:
+    ///
+    /// ```text
+    /// ensures { result ≡ empty }
+    /// ```
+    ///
+    /// </details>
+    fn unfilled() -> Self;
+}
+
+impl Output for CommandQueue {
+    #[inline]
+    fn unfilled() -> Self {
+        CommandQueue::new()
+    }
+}
+
+impl<C> Output for Log<C> {
+    #[inline]
+    fn unfilled() -> Self {
+        Log::new()
+    }
+}
