@@ -1,5 +1,5 @@
 use Rattle.spawnrun_lib.proofs.Common.{rules, ◌∙◌, ap, sym, script_of_text}
-use Rattle.spawnrun_lib.proofs.running.ScriptsWork.make.Goals as goal
+use Rattle.spawnrun_lib.proofs.running.run.Goals as goal
 
 pub returns-in_ok-report-in-Ok : goal.returns-in_ok-report-in-Ok
 returns-in_ok-report-in-Ok g c =
