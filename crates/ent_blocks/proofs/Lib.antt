@@ -3,5 +3,9 @@ pub mod Positions
 pub mod Given
 pub mod Accounts
 pub mod Waiting
+pub mod Dealers
+pub mod GoingPast
+pub mod PastEndings
+pub mod PastClosings
 pub mod Common
 pub mod Laws

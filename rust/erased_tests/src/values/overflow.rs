@@ -1,8 +1,8 @@
 //! Phases in blocks whose callers go past their blocks. If there is memory, opening and ending succeed, which no clause can
 //! say: a body that never asks for memory and says that it ran out meets them all.
 
-use crate::made::ent_overflow::{open_with_overflow, Overflow, OverflowReserver};
 use crate::proved::ent_alloc::{AllocFault, Entities, Limits, Refused};
+use crate::proved::ent_blocks::{open_with_overflow, Overflow, OverflowReserver};
 use crate::proved::ent_handle::Handle;
 
 fn handle(index: u32, generation: u32) -> Handle {
