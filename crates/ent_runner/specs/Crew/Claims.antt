@@ -4,7 +4,7 @@ use Rattle.std.specs.Prelude.{Bool, true, slice_get, Some, refl, flat_map, IsPer
 use Rattle.std.specs.List.{range_with_len}
 use Rattle.std.specs.Coded.{Coded, code_by, coded×, coded_ℕ}
 use Rattle.atomic_table.specs.Seated.{TableId, table_id_coded}
-use Rattle.ent_runner.specs.contracts.record.ClaimRecord as recorded
+use Rattle.ent_runner.specs.contracts.crew.record.ClaimRecord as recorded
 use Rattle.ent_runner.specs.declared.crew.record.ClaimRecord.{ClaimRecord}
 use Rattle.ent_runner.specs.declared.crew.rule.Opening.{Opening}
 use Rattle.ent_runner.specs.Crew.Record.{claims_of}
