@@ -8,6 +8,18 @@ pub use crate::proved::ent_storage::sparse_map::{Entry, OccupiedEntry, VacantEnt
 pub use crate::proved::ent_storage::sparse_map::{Iter, SparseMap};
 
 impl<T> SparseMap<T> {
+    /// The handles that have a value, in the order of [`entries`](Self::entries).
+    #[inline]
+    pub fn keys(&self) -> impl DoubleEndedIterator<Item = Handle> + ExactSizeIterator + Clone {
+        self.entries().iter().map(|(one, _)| *one)
+    }
+
+    /// The values, in the order of [`entries`](Self::entries).
+    #[inline]
+    pub fn values(&self) -> impl DoubleEndedIterator<Item = &T> + ExactSizeIterator + Clone {
+        self.entries().iter().map(|(_, it)| it)
+    }
+
     /// Calls `keep` on each value once, from the last entry to the first, and drops the values of which it
     /// returns `false`. It may change those that stay. The room stays.
     ///
