@@ -5,7 +5,7 @@ use crate::entities::Entities;
 use crate::errors::{HandedBack, OutOfMemory};
 use crate::follows::Follows;
 use crate::handle::Handle;
-use crate::shown::walks;
+use crate::shown::{shows, walks};
 use alloc::alloc::handle_alloc_error;
 use alloc::vec;
 use core::alloc::Layout;
@@ -361,3 +361,11 @@ walks!(debug_map: Iter<'_, T>, T: fmt::Debug);
 walks!(debug_map: SparseIter<'_, T>, T: fmt::Debug);
 walks!(debug_list: Keys<'_, T>, T);
 walks!(debug_list: Values<'_, T>, T: fmt::Debug);
+
+shows! {
+    Entry<'_>[T]: handle;
+    OccupiedEntry<'_>[T]: handle;
+    VacantEntry<'_>[T]: handle;
+    SlotsMut<'_>[T]: slots;
+    IterMut<'_>[T]:;
+}

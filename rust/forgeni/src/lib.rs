@@ -77,7 +77,7 @@ pub use joining::JoinMaps;
 pub use lent::Lent;
 pub use log::{BeginError, Entry, Log, Reserves, SyncPoint};
 #[cfg(feature = "rayon")]
-pub use on_rayon::Rayon;
+pub use on_rayon::{ParIter, ParJoinMaps, Rayon};
 pub use proved::ent_alloc::Limits;
 #[cfg(feature = "std")]
 pub use reservers::{Lends, Reservers};

@@ -2,6 +2,7 @@
 //! [`SparseMap`]; here are traits of std, and `handle_map` has those that both kinds of maps have.
 
 use crate::handle::Handle;
+use crate::shown::shows;
 use alloc::vec;
 
 pub use crate::proved::ent_storage::sparse_map::{Entry, OccupiedEntry, VacantEntry};
@@ -64,4 +65,10 @@ impl<T> IntoIterator for SparseMap<T> {
     fn into_iter(self) -> vec::IntoIter<(Handle, T)> {
         self.into_entries().into_iter()
     }
+}
+
+shows! {
+    Entry<'_>[T]: handle;
+    OccupiedEntry<'_>[T]: handle;
+    VacantEntry<'_>[T]: handle;
 }

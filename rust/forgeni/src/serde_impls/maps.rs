@@ -168,6 +168,7 @@ macro_rules! tables_serde {
 
 /// The names of maps, each of which may be read once.
 #[doc(hidden)]
+#[derive(Debug)]
 pub struct Names<const N: usize>(pub &'static [&'static str], pub [bool; N]);
 
 impl<'de, const N: usize> DeserializeSeed<'de> for &mut Names<N> {
