@@ -1,4 +1,4 @@
-// Made of crates/ent_total/src/log_error.rt by rust/erase. It isn't edited by hand.
+// Made of crates/ent_runner/src/logs/log_error.rt by rust/erase. It isn't edited by hand.
 
 /// Why systems filled no logs. The allocator is in its place again.
 #[non_exhaustive]
