@@ -1,10 +1,9 @@
-//! A game in lockstep over TCP, on std alone: a host on one worker, a guest on four, and a third player who joins in
-//! the middle by an image. Nobody waits for late inputs: a machine plays the player's last one, and steps back if
-//! another one comes. Eight frames later all inputs are known, and the machines compare a digest of the world:
-//! entities, components, births, and the handles that come next.
+//! A game in lockstep over TCP: a host on one worker, a guest on four, and a third player who joins
+//! by an image. Nobody waits for late inputs: a machine plays the player's last one, and steps back
+//! if another one comes. Eight frames later it compares a digest of its world with the others'.
 //!
-//! In a second game the guest's machine does something else in frame 100. The digests after that frame differ, and the
-//! images of both machines say in which slot. It prints
+//! In a second game the guest's machine loses an entity in frame 100. The digests after that frame
+//! differ, and the images of both machines say in which slot. It prints
 //!
 //! ```text
 //! frame 120: a third player joins by 10082 bytes
@@ -13,8 +12,7 @@
 //! a machine that goes wrong in frame 100: slot 159 differs first
 //! ```
 //!
-//! What is played when depends on the messages alone, so it is the same each time. `lockstep_net PORT PLAYER ..` is a
-//! guest, which the host starts.
+//! What is played when depends on the messages alone, so it is the same each time.
 
 use forgeni::{fill_in_blocks, BlockSize, CommandsInBlocks, ComponentId, Handle, View, World};
 use forgeni::{OutOfMemory, StdThreads};
@@ -32,7 +30,7 @@ const SYSTEMS: usize = 4;
 /// So many frames later, each machine knows all inputs, and none steps back further.
 const LAG: usize = 8;
 const KEPT: usize = LAG + 2;
-/// The frame before which the third player joins the first game, and the one that goes wrong in the second.
+/// The frame from which on the third player plays, and the one that goes wrong in the second game.
 const JOINS: usize = 120;
 const WRONG: usize = 100;
 /// Of an image from elsewhere, how many bytes and how many slots are read at most.
@@ -47,7 +45,7 @@ fn mixed(number: u64) -> u64 {
     all ^ all >> 31
 }
 
-/// What a player does in a frame: mostly the same as before, and never 0, which is for what isn't known.
+/// What a player does in a frame: mostly the same as before, and never 0, which means unknown.
 fn input(player: usize, frame: usize) -> u64 {
     mixed((PLAYERS * (frame / 3) + player) as u64) | 1
 }
@@ -73,7 +71,7 @@ impl Game {
         Ok(Self { world, sizes })
     }
 
-    /// One frame. Of its share of the entities, a system lets some spawn two more, some go, and changes the others.
+    /// One frame. Of a system's entities some spawn two more, some go, and the others change.
     fn step(&mut self, inputs: [u64; PLAYERS], workers: usize) -> Result<()> {
         let input = inputs.into_iter().fold(0, |all, one| mixed(all ^ one));
         let systems: [_; SYSTEMS] = std::array::from_fn(|system| {
@@ -139,14 +137,14 @@ impl Game {
     }
 }
 
-/// A machine of one player. The host, of player 0, hands on to each guest what it knows of the others.
+/// A machine of one player. The host, of player 0, hands on to each guest what it knows.
 struct Machine {
     player: usize,
     /// The frames from which on the third player plays, and in which this machine goes wrong.
     joins: usize,
     wrong: usize,
     links: Vec<TcpStream>,
-    /// The next frame, and the game before it and before each of the last ones, at their number modulo `KEPT`.
+    /// The next frame, and the game before it and the last ones, at their number modulo `KEPT`.
     frame: usize,
     ring: Vec<Game>,
     /// Of each frame: the inputs that are known, those that were played, and the digest before it.
@@ -177,7 +175,7 @@ impl Machine {
         Ok(machine)
     }
 
-    /// One frame: inputs and digests go to and fro, and what is known is played. Whether the digests are the same.
+    /// Inputs and digests go to and fro, and a frame is played. Whether the digests are the same.
     fn go_on(&mut self, now: usize) -> Result<bool> {
         if self.player < 2 || now >= self.joins {
             self.known[now][self.player] = input(self.player, now);
