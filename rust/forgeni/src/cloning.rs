@@ -1,5 +1,6 @@
-//! Std's `Default` and `Clone` of what has proved calls `new` and `try_clone`, and `PartialEq` of what has an image. If
-//! memory runs out, a clone ends the process, as when a `Vec` is cloned, and so does a comparison.
+//! Std's `Default` and `Clone` of what has proved calls `new` and `try_clone`, and `PartialEq` of
+//! what has an image. If memory runs out, a clone ends the process, as when a `Vec` is cloned, and
+//! so does a comparison.
 
 use crate::entities::Entities;
 use crate::errors::OutOfMemory;
@@ -17,8 +18,8 @@ macro_rules! begins_and_clones {
             }
         }
 
-        /// By [`try_clone`](Self::try_clone) and [`try_clone_from`](Self::try_clone_from). If memory runs
-        /// out, the process ends, as when a `Vec` is cloned.
+        /// By [`try_clone`](Self::try_clone) and [`try_clone_from`](Self::try_clone_from). If
+        /// memory runs out, the process ends, as when a `Vec` is cloned.
         impl Clone for $name {
             fn clone(&self) -> Self {
                 self.try_clone().unwrap_or_else(|refused| end(refused))
@@ -36,8 +37,8 @@ begins_and_clones!(Entities);
 begins_and_clones!(World);
 begins_and_clones!(Storage);
 
-/// Two allocators are equal if they are the same to every call, whatever came before: if they have one image. The
-/// comparison takes memory for the images. If memory runs out, the process ends.
+/// Two allocators are equal if they are the same to every call, whatever came before: if they have
+/// one image. The comparison takes memory for the images. If memory runs out, the process ends.
 ///
 /// ```
 /// use forgeni::Entities;

@@ -1,17 +1,20 @@
-//! Maps that lose an entity's values when it goes. By hand: what a map loses is what its proved `remove` takes out.
+//! Maps that lose an entity's values when it goes. By hand: what a map loses is what its proved
+//! `remove` takes out.
 
 use crate::handle::Handle;
 use crate::{Entities, FreeError, Freed, HandleMap, SparseMap};
 
-/// What has something for each of some entities: a map of components, several of them, or a type of your own.
+/// What has something for each of some entities: a map of components, several of them, or a type of
+/// your own.
 ///
-/// It is implemented for both kinds of maps, and for tuples, slices and arrays of what implements it. A struct of maps
-/// gets it by [`tables!`](crate::tables).
+/// It is implemented for both kinds of maps, and for tuples, slices and arrays of what implements
+/// it. A struct of maps gets it by [`tables!`](crate::tables).
 ///
 /// ```
 /// use forgeni::{Entities, Follows, HandleMap, SparseMap};
 ///
-/// let (mut entities, mut places, mut names) = (Entities::new(), HandleMap::new(), SparseMap::new());
+/// let (mut places, mut names) = (HandleMap::new(), SparseMap::new());
+/// let mut entities = Entities::new();
 /// let ship = entities.alloc()?;
 /// places.insert(ship, [0.0, 0.0])?;
 /// names.insert(ship, "Argo")?;
@@ -24,7 +27,8 @@ pub trait Follows {
     ///
     /// # Panics
     ///
-    /// If a value panics when it is dropped, the other maps forget the handle all the same, and the panic is handed on.
+    /// If a value panics when it is dropped, the other maps forget the handle all the same, and the
+    /// panic is handed on.
     fn forget(&mut self, handle: Handle);
 
     /// Frees an entity, and forgets its handle.
@@ -112,17 +116,20 @@ tuples_follow!(A a B b C c D d E e F f G g H h);
 
 /// A struct of maps, one for each component, which [`Follows`] the entities.
 ///
-/// Each field is a [`HandleMap`] or a [`SparseMap`], and has the attributes and the visibility that it is given.
-/// Beside what derives give, the struct has:
+/// Each field is a [`HandleMap`] or a [`SparseMap`], and has the attributes and the visibility that
+/// it is given. Beside what derives give, the struct has:
 /// - `forget(handle)` and `despawn(&mut entities, handle)`, those of [`Follows`];
-/// - `sweep(&entities)`, which drops the values of all handles that are neither alive nor reserved, for who freed
-///   elsewhere or has read a save: see [`AnyMap::sweep`](crate::AnyMap::sweep);
-/// - `clear()`, which drops all values, and `lens()`, which returns the name of each map and how many values it has;
-/// - `try_clone()` and `try_clone_from(&source)`, if the values are `Clone`: a snapshot, and the way back. If memory
-///   runs out, `try_clone_from` has changed nothing. If a clone panics, call it once more, with this source or another;
-/// - `Default`, and with the feature `serde` `Serialize` and `Deserialize`, with the names of the maps, if the values
-///   are. A map that is left out has no values. `DeserializeSeed` of `&mut Parts` reads in place of the values that
-///   there are, and keeps the limit of each map: use it for what may be forged.
+/// - `sweep(&entities)`, which drops the values of all handles that are neither alive nor reserved,
+///   for who freed elsewhere or has read a save: see [`AnyMap::sweep`](crate::AnyMap::sweep);
+/// - `clear()`, which drops all values, and `lens()`, which returns the name of each map and how
+///   many values it has;
+/// - `try_clone()` and `try_clone_from(&source)`, if the values are `Clone`: a snapshot, and the
+///   way back. If memory runs out, `try_clone_from` has changed nothing. If a clone panics, call it
+///   once more, with this source or another;
+/// - `Default`, and with the feature `serde` `Serialize` and `Deserialize`, with the names of the
+///   maps, if the values are. A map that is left out has no values. `DeserializeSeed` of `&mut
+///   Parts` reads in place of the values that there are, and keeps the limit of each map: use it
+///   for what may be forged.
 ///
 /// ```
 /// use forgeni::{tables, Entities, Follows, HandleMap, SparseMap};
@@ -209,7 +216,8 @@ macro_rules! tables {
                 Ok(Self { $($map: self.$map.try_clone()?,)+ })
             }
 
-            /// Makes each map a clone of the source's. It takes memory only for room that a map lacks.
+            /// Makes each map a clone of the source's. It takes memory only for room that a map
+            /// lacks.
             ///
             /// # Errors
             ///

@@ -1,5 +1,6 @@
-//! Values of any type, by handle. What is proved of them is in the contracts of [`HandleMap`]; here are
-//! the traits of std, and the calls that end the process when memory runs out, as those of `Vec` do.
+//! Values of any type, by handle. What is proved of them is in the contracts of [`HandleMap`]; here
+//! are the traits of std, and the calls that end the process when memory runs out, as those of
+//! `Vec` do.
 
 use crate::entities::Entities;
 use crate::errors::{HandedBack, OutOfMemory};
@@ -19,7 +20,8 @@ pub use crate::proved::ent_storage::handle_map::{Entry, HandleMap, InsertError, 
 pub use crate::proved::ent_storage::handle_map::{OccupiedEntry, VacantEntry, Values};
 pub use crate::several::{IterMut, SlotsMut};
 
-/// Ends the process as `Vec` does: there is no memory for a value, and the caller can't return an error.
+/// Ends the process as `Vec` does: there is no memory for a value, and the caller can't return an
+/// error.
 #[cold]
 fn out_of_memory<T>() -> ! {
     handle_alloc_error(Layout::new::<(u32, T)>())
@@ -84,7 +86,8 @@ pub trait AnyMap:
         self.len() == 0
     }
 
-    /// The handles and their values: by rising slot of a `HandleMap`, in the order of `entries` of a `SparseMap`.
+    /// The handles and their values: by rising slot of a `HandleMap`, in the order of `entries` of
+    /// a `SparseMap`.
     fn iter(&self) -> impl DoubleEndedIterator<Item = (Handle, &Self::Value)> + Clone;
 
     /// The handles and their values in the same order, to be changed.
@@ -98,8 +101,8 @@ pub trait AnyMap:
 
     /// Drops the values of all handles that are neither alive nor reserved.
     ///
-    /// It is for who freed entities elsewhere, or has read a map from a save: what names a dead handle or one of
-    /// another allocator goes. The time is that of a look at each value.
+    /// It is for who freed entities elsewhere, or has read a map from a save: what names a dead
+    /// handle or one of another allocator goes. The time is that of a look at each value.
     fn sweep(&mut self, entities: &Entities) {
         self.retain(|one, _| entities.contains(one));
     }
@@ -160,7 +163,8 @@ macro_rules! traits_of_a_map {
         }
 
         impl<T> $Map<T> {
-            /// As [`reserve`](Self::reserve), by the name that std has for a call that returns an error.
+            /// As [`reserve`](Self::reserve), by the name that std has for a call that returns an
+            /// error.
             ///
             /// # Errors
             ///
@@ -184,7 +188,8 @@ macro_rules! traits_of_a_map {
             ///
             /// # Panics
             ///
-            /// A panic of `change` is handed on. All values stay, changed as far as `change` had changed them.
+            /// A panic of `change` is handed on. All values stay, changed as far as `change` had
+            /// changed them.
             #[inline]
             pub fn for_each_mut(&mut self, mut change: impl FnMut(Handle, &mut T)) {
                 self.iter_mut().for_each(|(one, it)| change(one, it));
@@ -234,8 +239,8 @@ macro_rules! traits_of_a_map {
             }
         }
 
-        /// The clone has the same limit. If memory runs out, the process ends, as when a `Vec` is cloned.
-        /// [`try_clone`](Self::try_clone) returns an error instead.
+        /// The clone has the same limit. If memory runs out, the process ends, as when a `Vec` is
+        /// cloned. [`try_clone`](Self::try_clone) returns an error instead.
         impl<T: Clone> Clone for $Map<T> {
             fn clone(&self) -> Self {
                 self.try_clone().unwrap_or_else(|_| out_of_memory::<T>())
@@ -293,9 +298,10 @@ macro_rules! traits_of_a_map {
             }
         }
 
-        /// Inserts each value, in their order, as `insert` does. A value is dropped if it is refused:
-        /// if a later occupant of its slot has a value, the slot is at or above the limit, or the handle is the
-        /// placeholder. If memory runs out, the process ends, as when a `Vec` is extended.
+        /// Inserts each value, in their order, as `insert` does. A value is dropped if it is
+        /// refused: if a later occupant of its slot has a value, the slot is at or above the limit,
+        /// or the handle is the placeholder. If memory runs out, the process ends, as when a `Vec`
+        /// is extended.
         impl<T> Extend<(Handle, T)> for $Map<T> {
             fn extend<I: IntoIterator<Item = (Handle, T)>>(&mut self, values: I) {
                 for (handle, value) in values {
@@ -345,8 +351,8 @@ fn no_value(handle: Handle) -> ! {
     panic!("{handle} has no value")
 }
 
-/// The values are moved into a list first. If memory runs out for it, the process ends, as when a `Vec` is
-/// filled. [`into_entries`](HandleMap::into_entries) returns an error instead.
+/// The values are moved into a list first. If memory runs out for it, the process ends, as when a
+/// `Vec` is filled. [`into_entries`](HandleMap::into_entries) returns an error instead.
 impl<T> IntoIterator for HandleMap<T> {
     type Item = (Handle, T);
     type IntoIter = vec::IntoIter<(Handle, T)>;

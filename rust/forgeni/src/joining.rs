@@ -4,7 +4,8 @@ use crate::handle::Handle;
 use crate::{AnyMap, HandleMap, SparseMap};
 use alloc::vec::Vec;
 
-/// Two to six maps in a tuple, which are walked at once: over the handles that have a value in each of them.
+/// Two to six maps in a tuple, which are walked at once: over the handles that have a value in each
+/// of them.
 ///
 /// ```
 /// use forgeni::{Handle, HandleMap, JoinMaps, SparseMap};
@@ -23,13 +24,14 @@ pub trait JoinMaps {
     /// A handle, and its value in each of the maps.
     type Item;
 
-    /// The handles that have a value in each of the maps, with their values. The first map may be borrowed mutably: its
-    /// values may be changed.
+    /// The handles that have a value in each of the maps, with their values. The first map may be
+    /// borrowed mutably: its values may be changed.
     ///
-    /// The time is that of a look at each value of the map with the fewest values (of a `HandleMap`, at each slot), and
-    /// of a look-up in the other maps for each. If that is the first map, its order is that of the walk, and no memory
-    /// is taken. If it is another one, the walk goes by rising slot, and first lists that map's handles. If there is
-    /// no memory for the list, and if the first map is a mutable `SparseMap`, the walk goes over the first map.
+    /// The time is that of a look at each value of the map with the fewest values (of a
+    /// `HandleMap`, at each slot), and of a look-up in the other maps for each. If that is the
+    /// first map, its order is that of the walk, and no memory is taken. If it is another one, the
+    /// walk goes by rising slot, and first lists that map's handles. If there is no memory for the
+    /// list, and if the first map is a mutable `SparseMap`, the walk goes over the first map.
     fn join(self) -> impl Iterator<Item = Self::Item>;
 }
 
@@ -37,7 +39,8 @@ pub trait JoinMaps {
 pub trait First {
     type Lent;
 
-    /// How many values a walk over this map comes to. A walk goes over another map only if that has fewer.
+    /// How many values a walk over this map comes to. A walk goes over another map only if that has
+    /// fewer.
     fn count(&self) -> usize;
 
     /// The values of these handles, which come by rising slot. If there is no list, all values.
@@ -137,7 +140,8 @@ impl<M: AnyMap> Other for M {
     }
 }
 
-/// The handles of the map with the fewest values, by rising slot, if it has fewer than `most` and there is memory.
+/// The handles of the map with the fewest values, by rising slot, if it has fewer than `most` and
+/// there is memory.
 fn listed(others: &[&dyn Other], most: usize) -> Option<Vec<Handle>> {
     let fewest = others.iter().min_by_key(|map| map.count())?;
     (fewest.count() < most).then_some(())?;

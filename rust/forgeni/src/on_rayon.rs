@@ -1,7 +1,7 @@
 //! Frames on the threads of rayon, and walks over maps.
 //!
-//! The thread that calls `rayon::join` runs the first closure, and offers the second one to others. So the
-//! second one here, which offers more, is rayon's first.
+//! The thread that calls `rayon::join` runs the first closure, and offers the second one to others.
+//! So the second one here, which offers more, is rayon's first.
 
 use crate::frames::Join;
 use crate::handle::Handle;
@@ -101,7 +101,8 @@ goes_to_threads!(
     |it| it
 );
 
-/// A `HandleMap` and one to five other maps in a tuple, which are walked at once on several threads.
+/// A `HandleMap` and one to five other maps in a tuple, which are walked at once on several
+/// threads.
 ///
 /// ```
 /// use forgeni::{Handle, HandleMap, ParJoinMaps, SparseMap};
@@ -117,8 +118,8 @@ pub trait ParJoinMaps {
     /// A handle, and its value in each of the maps.
     type Item: Send;
 
-    /// The handles that have a value in each of the maps, with their values. The first map may be borrowed mutably: its
-    /// values may be changed. The walk goes over the slots of the first map.
+    /// The handles that have a value in each of the maps, with their values. The first map may be
+    /// borrowed mutably: its values may be changed. The walk goes over the slots of the first map.
     fn par_join(self) -> impl ParallelIterator<Item = Self::Item>;
 }
 

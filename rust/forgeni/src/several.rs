@@ -1,5 +1,6 @@
-//! Several values of a map lent at once, or all moved out. No contract can say what a map is while they are, so
-//! this is by hand, in safe Rust. It changes no slot's generation, and leaves the count right.
+//! Several values of a map lent at once, or all moved out. No contract can say what a map is while
+//! they are, so this is by hand, in safe Rust. It changes no slot's generation, and leaves the
+//! count right.
 
 use crate::errors::OutOfMemory;
 use crate::handle::Handle;
@@ -9,9 +10,11 @@ use core::iter::{Enumerate, FusedIterator, Map};
 use core::ops::Range;
 use core::{mem, slice};
 
-/// Slots of a [`HandleMap`], side by side, of which the values may be changed. None is added or removed.
+/// Slots of a [`HandleMap`], side by side, of which the values may be changed. None is added or
+/// removed.
 ///
-/// [`HandleMap::split_at_mut`] makes two, so that two threads write to one map. It has the index of the first.
+/// [`HandleMap::split_at_mut`] makes two, so that two threads write to one map. It has the index of
+/// the first.
 pub struct SlotsMut<'a, T>(&'a mut [Slot<T>], u32);
 
 impl<'a, T> SlotsMut<'a, T> {
@@ -21,7 +24,8 @@ impl<'a, T> SlotsMut<'a, T> {
         self.1..self.1 + self.0.len() as u32
     }
 
-    /// Those below this slot of the map, and the others. So a part is split again, for more threads.
+    /// Those below this slot of the map, and the others. So a part is split again, for more
+    /// threads.
     pub fn split_at_mut(self, slot: u32) -> (Self, Self) {
         let Self(slots, first) = self;
         let count = slot.saturating_sub(first) as usize;
@@ -66,7 +70,8 @@ impl<'a, T> IntoIterator for SlotsMut<'a, T> {
     }
 }
 
-/// The handles of a [`HandleMap`], or of some slots of it, and their values, by rising slot, to be changed.
+/// The handles of a [`HandleMap`], or of some slots of it, and their values, by rising slot, to be
+/// changed.
 ///
 /// [`HandleMap::iter_mut`] makes it.
 #[must_use]
@@ -126,7 +131,8 @@ fn within(slots: Range<u32>, count: usize) -> Range<usize> {
 }
 
 impl<T> HandleMap<T> {
-    /// The handles and their values, by rising slot, to be changed. The time is that of a look at each slot.
+    /// The handles and their values, by rising slot, to be changed. The time is that of a look at
+    /// each slot.
     ///
     /// ```
     /// use forgeni::{Handle, HandleMap};
@@ -148,7 +154,8 @@ impl<T> HandleMap<T> {
         SlotsMut(&mut self.slots, 0)
     }
 
-    /// The handles of some slots and their values, by rising slot. The time is that of a look at each of these slots.
+    /// The handles of some slots and their values, by rising slot. The time is that of a look at
+    /// each of these slots.
     ///
     /// ```
     /// use forgeni::{Handle, HandleMap};
@@ -175,8 +182,8 @@ impl<T> HandleMap<T> {
         SlotsMut(&mut self.slots[slots], first).into_iter()
     }
 
-    /// Makes room for all slots of another map, so that [`try_clone_from`](Self::try_clone_from) takes no memory for
-    /// them.
+    /// Makes room for all slots of another map, so that [`try_clone_from`](Self::try_clone_from)
+    /// takes no memory for them.
     ///
     /// # Errors
     ///
@@ -185,8 +192,8 @@ impl<T> HandleMap<T> {
         self.reserve(source.slots.len().saturating_sub(self.slots.len()))
     }
 
-    /// The slots below this one, and the others, so that two threads write to one map. A part gives its values by
-    /// [`get_mut`](SlotsMut::get_mut) and [`iter_mut`](SlotsMut::iter_mut).
+    /// The slots below this one, and the others, so that two threads write to one map. A part gives
+    /// its values by [`get_mut`](SlotsMut::get_mut) and [`iter_mut`](SlotsMut::iter_mut).
     ///
     /// ```
     /// use forgeni::{Handle, HandleMap};
@@ -205,8 +212,8 @@ impl<T> HandleMap<T> {
         self.all_slots().split_at_mut(slot)
     }
 
-    /// Moves all values out, by rising slot. Those that the iterator doesn't come to are dropped with it. The map
-    /// has no values, and its room stays.
+    /// Moves all values out, by rising slot. Those that the iterator doesn't come to are dropped
+    /// with it. The map has no values, and its room stays.
     ///
     /// ```
     /// use forgeni::{Handle, HandleMap};
@@ -225,7 +232,8 @@ impl<T> HandleMap<T> {
         })
     }
 
-    /// The values of several handles, to be changed. `None` if one of them has none, or stands here twice.
+    /// The values of several handles, to be changed. `None` if one of them has none, or stands here
+    /// twice.
     ///
     /// ```
     /// use forgeni::{Handle, HandleMap};
@@ -257,7 +265,8 @@ impl<'a, T> IntoIterator for &'a mut HandleMap<T> {
 }
 
 impl<T> SparseMap<T> {
-    /// A map without values and without a limit, with room for that many values. It takes no memory for none.
+    /// A map without values and without a limit, with room for that many values. It takes no memory
+    /// for none.
     ///
     /// # Errors
     ///
@@ -268,8 +277,8 @@ impl<T> SparseMap<T> {
         Ok(map)
     }
 
-    /// Makes room for that many more values. A value of a slot that has none yet also takes four bytes for each slot
-    /// up to its own.
+    /// Makes room for that many more values. A value of a slot that has none yet also takes four
+    /// bytes for each slot up to its own.
     ///
     /// # Errors
     ///
@@ -278,8 +287,8 @@ impl<T> SparseMap<T> {
         Ok(self.entries.try_reserve(additional)?)
     }
 
-    /// Makes room for all that another map has, so that [`try_clone_from`](Self::try_clone_from) takes no memory for
-    /// it.
+    /// Makes room for all that another map has, so that [`try_clone_from`](Self::try_clone_from)
+    /// takes no memory for it.
     ///
     /// # Errors
     ///
@@ -303,13 +312,14 @@ impl<T> SparseMap<T> {
         self.entries.iter_mut().map(|(one, it)| (*one, it))
     }
 
-    /// Moves all values out, in the order of [`entries`](Self::entries). Those that the iterator doesn't come to
-    /// are dropped with it. The map has no values, and its room stays.
+    /// Moves all values out, in the order of [`entries`](Self::entries). Those that the iterator
+    /// doesn't come to are dropped with it. The map has no values, and its room stays.
     pub fn drain(&mut self) -> impl DoubleEndedIterator<Item = (Handle, T)> {
         self.entries.drain(..)
     }
 
-    /// The values of several handles, to be changed. `None` if one of them has none, or stands here twice.
+    /// The values of several handles, to be changed. `None` if one of them has none, or stands here
+    /// twice.
     pub fn get_disjoint_mut<const N: usize>(&mut self, all: [Handle; N]) -> Option<[&mut T; N]> {
         let known = all.iter().all(|one| self.contains(*one));
         let slots = known.then_some(all)?.map(|one| one.index() as usize);

@@ -21,8 +21,8 @@ impl<T> SparseMap<T> {
         self.entries().iter().map(|(_, it)| it)
     }
 
-    /// Calls `keep` on each value once, from the last entry to the first, and drops the values of which it
-    /// returns `false`. It may change those that stay. The room stays.
+    /// Calls `keep` on each value once, from the last entry to the first, and drops the values of
+    /// which it returns `false`. It may change those that stay. The room stays.
     ///
     /// ```
     /// use forgeni::{Entities, SparseMap};
@@ -42,8 +42,8 @@ impl<T> SparseMap<T> {
     ///
     /// # Panics
     ///
-    /// A panic of `keep` is handed on. The map then has the values that were kept, those that `keep`
-    /// wasn't called on, and the one on which it panicked, as far as `keep` had changed it.
+    /// A panic of `keep` is handed on. The map then has the values that were kept, those that
+    /// `keep` wasn't called on, and the one on which it panicked, as far as `keep` had changed it.
     #[inline]
     pub fn retain(&mut self, mut keep: impl FnMut(Handle, &mut T) -> bool) {
         // The last entry takes the place of one that goes. `keep` was called on it before.

@@ -1,5 +1,5 @@
-//! Maps that follow their entities, in a struct, a tuple and a slice, beside lists of what is alive and what has
-//! values. `FORGENI_SEEDS` sets how many seeds are run, `FORGENI_SEED` runs one alone.
+//! Maps that follow their entities, in a struct, a tuple and a slice, beside lists of what is alive
+//! and what has values. `FORGENI_SEEDS` sets how many seeds are run, `FORGENI_SEED` runs one alone.
 
 use crate::common::counted::{Counted, Made, Panics};
 use crate::common::{handle, seeds, Numbers};
@@ -148,7 +148,8 @@ fn random_calls_whose_values_panic() {
     });
 }
 
-/// Whichever of a tuple's or a slice's values panics when it is dropped, all maps forget the handle.
+/// Whichever of a tuple's or a slice's values panics when it is dropped, all maps forget the
+/// handle.
 #[test]
 fn each_map_forgets() {
     let one = handle(3, 1);

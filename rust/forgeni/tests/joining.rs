@@ -1,5 +1,5 @@
-//! Walks over several maps at once, beside look-ups of each handle. `FORGENI_SEEDS` sets how many seeds are run,
-//! `FORGENI_SEED` runs one alone.
+//! Walks over several maps at once, beside look-ups of each handle. `FORGENI_SEEDS` sets how many
+//! seeds are run, `FORGENI_SEED` runs one alone.
 
 use crate::common::{handle, seeds, Numbers};
 use forgeni::{AnyMap, Handle, HandleMap, JoinMaps, SparseMap};
@@ -14,7 +14,8 @@ fn some<M: AnyMap<Value = u64>>(numbers: &mut Numbers) -> M {
     map
 }
 
-/// The handles that have a value in all maps, with their values: in the order of the first map, or by rising slot.
+/// The handles that have a value in all maps, with their values: in the order of the first map, or
+/// by rising slot.
 fn looked_up<const N: usize>(
     first: &impl AnyMap<Value = u64>,
     by_slot: bool,
@@ -60,7 +61,8 @@ macro_rules! walks {
         }));
 
         let is_less = second.len() < first.len();
-        let two = looked_up(&first, is_less && $sorts_mut, [&|one| first.get(one).copied(), &other]);
+        let own = |one| first.get(one).copied();
+        let two = looked_up(&first, is_less && $sorts_mut, [&own, &other]);
         let mut told = vec![];
         (&mut first, &second).join().for_each(|(one, a, b)| told.push((one, [*a, *b])));
         assert_eq!(told, two, "{place}");

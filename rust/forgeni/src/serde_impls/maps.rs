@@ -15,11 +15,12 @@ macro_rules! is_a_map {
             }
         }
 
-        /// Reads a map without a limit. Its handles may come in any order, at most one for each slot: a second
-        /// one is an error, and so are the placeholder and a lack of memory.
+        /// Reads a map without a limit. Its handles may come in any order, at most one for each
+        /// slot: a second one is an error, and so are the placeholder and a lack of memory.
         ///
-        /// A greatest index of `n` takes room for `n` + 1 slots, whatever else was read. So if what is read may
-        /// be forged, make a map with a limit, and have it read: see the impl of `DeserializeSeed`.
+        /// A greatest index of `n` takes room for `n` + 1 slots, whatever else was read. So if what
+        /// is read may be forged, make a map with a limit, and have it read: see the impl of
+        /// `DeserializeSeed`.
         impl<'de, T: Deserialize<'de>> Deserialize<'de> for $Map<T> {
             fn deserialize<D: Deserializer<'de>>(deserializer: D) -> Result<Self, D::Error> {
                 let mut map = Self::new();
@@ -28,9 +29,9 @@ macro_rules! is_a_map {
             }
         }
 
-        /// Reads values in place of those that the map has: `map.deserialize(deserializer)`. The map keeps its
-        /// limit. It is an error if the map refuses a handle, or if two handles have one slot, and then the map
-        /// is as it was.
+        /// Reads values in place of those that the map has: `map.deserialize(deserializer)`. The
+        /// map keeps its limit. It is an error if the map refuses a handle, or if two handles have
+        /// one slot, and then the map is as it was.
         impl<'de, T: Deserialize<'de>> DeserializeSeed<'de> for &mut $Map<T> {
             type Value = ();
 
@@ -116,8 +117,8 @@ macro_rules! tables_serde {
                 }
             }
 
-            /// Reads values in place of those that the maps have. Each map keeps its limit. After an error all are
-            /// as they were.
+            /// Reads values in place of those that the maps have. Each map keeps its limit. After
+            /// an error all are as they were.
             impl<'de> DeserializeSeed<'de> for &mut $Name
             where
                 $(for<'any> $Value: Deserialize<'de>,)+
