@@ -7,5 +7,6 @@ pub mod Dealers
 pub mod GoingPast
 pub mod PastEndings
 pub mod PastClosings
+pub mod PastLosing
 pub mod Common
 pub mod Laws

@@ -93,7 +93,7 @@ behind_past : (p : Overflow) (callers : List Caller) → All (IsCallerOf p) call
     → All (λ (r : Record). AreBehind p.dealer.own.mark (own_reservations r.entries)) (past_records callers)
 behind_past p [] own = search (rules, All-nil)
 behind_past p (c ∷ callers) own = All-cons (λ (r : Record). AreBehind p.dealer.own.mark (own_reservations r.entries))
-    c.past.own (past_records callers) (All-head (IsCallerOf p) c callers own).all
+    c.past.own (past_records callers) (λ k d lt. ((All-head (IsCallerOf p) c callers own).all k d lt).high)
     (behind_past p callers (All-tail (IsCallerOf p) c callers own))
 
 pub ending : (p : Overflow) (callers : List Caller) (a : Allocator) → IsPhase p.shared p.dealer p.blocks

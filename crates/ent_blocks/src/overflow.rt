@@ -7,6 +7,7 @@ mod ended;
 mod opening;
 mod phase;
 mod reserver;
+mod source;
 
 pub use ended::Ended;
 pub use opening::open_with_overflow;

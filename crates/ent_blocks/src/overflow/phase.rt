@@ -1,17 +1,19 @@
-ghost use Rattle.std.specs.Prelude.{◌≡◌, ℕ, ◌+◌, ◌-◌, ◌<◌, ◌≤◌, ◌<ℤ◌, ◌↔◌, ◌++◌, ◌∷◌, []};
-ghost use Rattle.std.specs.Prelude.{length, take, drop, map, sum, All, AllPairs, Contains};
-ghost use Rattle.std.specs.Prelude.{Ok, Err, vec_len};
+ghost use Rattle.std.specs.Prelude.{◌≡◌, ◌≢◌, ◌+◌, ◌-◌, ◌*◌, ◌<◌, ◌≤◌, ◌<ℤ◌, ◌↔◌, ◌++◌, [], true};
+ghost use Rattle.std.specs.Prelude.{length, take, drop, map, sum, sum_by, All, AllPairs, Contains};
+ghost use Rattle.std.specs.Prelude.{IfOk, IsTrue, OnSome, vec_len};
+ghost use Rattle.std.specs.FinSet as set;
+ghost use Rattle.std.specs.FinMap as maps;
 ghost use Rattle.std.specs.Vec.{vec_capacity};
 ghost use Rattle.ent_handle.specs.Handle.{Handle as HandleValue};
-ghost use Rattle.ent_alloc.specs.Sequential.{reply_from, listed, listed_alone, after_take};
+ghost use Rattle.ent_alloc.specs.Limits.{quota};
+ghost use Rattle.ent_alloc.specs.Sequential.{listed_alone, after_take, before_requests};
 ghost use Rattle.ent_alloc.specs.History.{IsLegal, given_in, requests_of};
-ghost use Rattle.ent_alloc.specs.declared.refused.Refused.TheVariants.{Quota};
-ghost use Rattle.ent_shared.specs.Phase.{IsOf as IsReserverOf};
-ghost use Rattle.ent_shared.specs.Order.{reservations_of};
-ghost use Rattle.ent_shared.specs.Replies.{Tells, Reserves};
-ghost use Rattle.ent_blocks.specs.Blocks.{rest_of, unused, after_use, dealt};
-ghost use Rattle.ent_blocks.specs.Overflow.{IsCallerOf, IsPhase, own_blocks, past_of, past_records};
-ghost use Rattle.ent_blocks.specs.Overflow.{past_history, past_block, IsInOrder};
+ghost use Rattle.ent_shared.specs.Order.{reservations_of, handles_given, handles_of, own_of_all};
+ghost use Rattle.ent_shared.specs.Record.{requested_by};
+ghost use Rattle.ent_blocks.specs.Blocks.{unused, dealt, lesser, are_among, accounted};
+ghost use Rattle.ent_blocks.specs.Overflow.{IsCallerOf, IsPhase, IsServed, own_blocks, past_of};
+ghost use Rattle.ent_blocks.specs.Overflow.{past_records, past_history, past_block};
+ghost use Rattle.ent_blocks.specs.Overflow.{IsInOrder, AreUsedOf};
 
 use crate::overflow::dealing::dealt;
 use crate::overflow::ended::Ended;
@@ -90,6 +92,22 @@ impl Overflow {
         self.parts.len()
     }
 
+    /// Whether the handle was alive when the phase was opened. It takes constant time.
+    pub fn is_alive(&self, handle: Handle) -> bool
+        ensures { result ≡ set.contains self.now.shared.start.live handle }
+    {
+        self.shared.is_alive(handle)
+    }
+
+    /// The row that was kept with the handle when the phase was opened. `None` if it was not alive
+    /// then, or had no row. It takes constant time.
+    pub fn row(&self, handle: Handle) -> Option<u32>
+        ensures value { result ≡ maps.get self.now.shared.rows handle }
+        ensures alive { OnSome result (set.contains self.now.shared.start.live handle ≡ true) }
+    {
+        self.shared.row(handle)
+    }
+
     /// Reserves one handle: the next one of the caller's block, and if the block is used up, one
     /// that all callers share, by one atomic step. It takes no memory and waits for nobody.
     ///
@@ -101,27 +119,15 @@ impl Overflow {
     pub fn reserve(&self, caller: &mut OverflowReserver) -> Result<Handle, Refused>
         requires { IsCallerOf self.now caller.old }
         ensures stays { IsCallerOf self.now caller.new }
-
-        // As long as the block lasts, what is returned is its next handle.
-        ensures block { let start = self.now.shared.start in
-            caller.old.block.used < caller.old.block.size
-            → Tells (listed_alone result)
-            (reply_from start.made (rest_of start.pool caller.old.block) 1)
-            × (caller.new ≡ record caller.old { block = after_use caller.old.block 1 }) }
-
-        // Past it, it is what the shared cursor gives.
-        ensures quota { caller.old.block.used ≡ caller.old.block.size
-            → caller.old.past.own.left ≡ 0
-            → (result ≡ Err (Quota 0)) × (caller.new ≡ caller.old) }
-        ensures past { caller.old.block.used ≡ caller.old.block.size
-            → 0 < caller.old.past.own.left
-            → (caller.new.block ≡ caller.old.block)
-            × Reserves self.now.shared caller.old.past caller.new.past 1 (listed_alone result) }
+        ensures served { IsServed self.now caller.old caller.new 1 (listed_alone result) }
     {
         if caller.part.left() == 0 {
             return self.shared.reserve(&mut caller.past);
         }
-        Ok(take_one(self.shared.opened(), &mut caller.part)?)
+        let Ok(handle) = take_one(self.shared.opened(), &mut caller.part) else {
+            unreachable!()
+        };
+        Ok(handle)
     }
 
     /// Reserves `n` handles at once: all from the caller's block if it has so many left, and else
@@ -143,17 +149,8 @@ impl Overflow {
     ) -> Result<Reserved<'_>, Refused>
         requires { IsCallerOf self.now caller.old }
         ensures stays { IsCallerOf self.now caller.new }
-        ensures block { let start = self.now.shared.start in
-            n ≤ caller.old.block.size - caller.old.block.used
-            → (result ≡ Ok (listed start.made (take n (rest_of start.pool caller.old.block))))
-            × (caller.new ≡ record caller.old { block = after_use caller.old.block n }) }
-        ensures quota { caller.old.block.size - caller.old.block.used < n
-            → caller.old.past.own.left < n
-            → (result ≡ Err (Quota caller.old.past.own.left)) × (caller.new ≡ caller.old) }
-        ensures past { caller.old.block.size - caller.old.block.used < n
-            → n ≤ caller.old.past.own.left
-            → (caller.new.block ≡ caller.old.block)
-            × Reserves self.now.shared caller.old.past caller.new.past n result }
+        ensures served { IsServed self.now caller.old caller.new n result }
+        ensures length { IfOk result (λ handles. length handles ≡ n) }
     {
         if n > caller.part.left() {
             return self.shared.reserve_many(&mut caller.past, n);
@@ -197,31 +194,125 @@ impl Overflow {
             mut reservers,
         } = self;
         let before = dealt(&parts);
+        account_for(&parts, &callers, &mut ends);
         reservers.push_reserved(dealer);
-        take_apart(callers, &mut ends, &mut reservers);
-        let mut entities = shared.close(reservers);
-        let requested = entities.asked() - u64::from(before);
-        let given = entities.reserved() - before;
-        cancel_requests(&mut entities);
-        append_past(&mut ends, before, given);
-        Ended::new(entities, ends, requested)
+        take_past(callers, &mut reservers);
+        let entities = shared.close(reservers);
+        finish(entities, before, ends)
+    }
+
+    /// Ends the phase although some callers may be lost: they were dropped, as by a thread that
+    /// panicked. The others are in the order in which they were made. It takes no memory.
+    ///
+    /// What is left of a lost one's block counts as used. The cursor tells how many handles were
+    /// requested past the blocks, but not which of the lost callers' requests were refused. So the
+    /// front of what lies behind the blocks counts as given, as far as it goes, also those handles
+    /// that nobody got.
+    pub fn close_lost(self, callers: Vec<OverflowReserver>) -> Ended
+        requires own { All (IsCallerOf self) callers.items }
+        requires among { IsTrue (are_among self.blocks (own_blocks callers.items)) }
+        ensures start { result.phase.start ≡ self.shared.start }
+        ensures rows { result.phase.rows ≡ self.shared.rows }
+
+        // Behind the blocks comes what was requested, as far as the pool goes.
+        ensures blocks { let behind = drop (dealt self.blocks) self.shared.start.pool in
+            result.phase.blocks ≡ accounted self.blocks (own_blocks callers.items)
+            ++ past_block (dealt self.blocks) (lesser result.requested (length behind)) }
+
+        // It counts what the callers that are here have requested, and of the others no more than
+        // their quota.
+        ensures least { sum_by (λ r. requested_by r.own) (past_of callers.items)
+            ≤ result.requested }
+        ensures most { sum_by (λ r. r.own.left) (past_of callers.items) + result.requested
+            ≤ length self.blocks * quota }
+
+        // If all are here, it counts what they have requested.
+        ensures requested { length callers.items ≡ length self.blocks
+            → sum_by (λ r. requested_by r.own) (past_of callers.items) ≡ result.requested }
+
+        // What the callers that are here were given past their blocks is there. No handle was given
+        // to two of them.
+        ensures given { let behind = drop (dealt self.blocks) self.shared.start.pool in
+            All (λ r. All (Contains (take (lesser result.requested (length behind)) behind))
+            (handles_given r.own)) (past_of callers.items) }
+        ensures distinct { AllPairs (λ g h. g ≢ h)
+            (handles_of (own_of_all (past_records callers.items))) }
+    {
+        let Overflow {
+            shared,
+            dealer,
+            parts,
+            mut ends,
+            mut reservers,
+        } = self;
+        let before = dealt(&parts);
+        account_for(&parts, &callers, &mut ends);
+        reservers.push_reserved(dealer);
+        take_past(callers, &mut reservers);
+        let entities = shared.close_lost(reservers);
+        finish(entities, before, ends)
     }
 }
 
-/// Appends the blocks of the callers to one list, and what they went past them with to another.
-/// There is room for them.
-fn take_apart(callers: Vec<OverflowReserver>, ends: &mut Vec<Part>, reservers: &mut Vec<Reserver>)
-    requires ends { vec_len ends.old + length callers.items ≤ vec_capacity ends.old }
-    requires reservers { vec_len reservers.old + length callers.items ≤ vec_capacity reservers.old }
-    ensures ends { ends.new.items ≡ ends.old.items ++ own_blocks callers.items }
-    ensures reservers { reservers.new.items ≡ reservers.old.items ++ past_of callers.items }
+/// Appends all blocks with what was used of each: all of it, if its caller isn't here. There is room
+/// for them.
+#[tactic(auto, using(crate::proofs::Laws::caller_laws))]
+fn account_for(parts: &[Part], callers: &[OverflowReserver], ends: &mut Vec<Part>)
+    requires none { ends.old.items ≡ [] }
+    requires room { length parts.now ≤ vec_capacity ends.old }
+    ensures all { ends.new.items ≡ accounted parts.now (own_blocks callers.now) }
+    ensures count { vec_len ends.new ≡ length parts.now }
     ensures room { vec_capacity ends.new ≡ vec_capacity ends.old }
 {
-    for caller in callers {
-        let OverflowReserver { part, past } = caller;
-        ends.push_reserved(part);
-        reservers.push_reserved(past);
+    let mut next = 0;
+    for part in parts {
+        let mut used = part.size();
+        if next < callers.len() {
+            let caller = &callers[next];
+            if part.is_same(&caller.part) {
+                used = caller.part.used();
+                next += 1;
+            }
+        }
+        ends.push_reserved(part.with_used(used));
     }
+}
+
+/// Appends what the callers went past their blocks with. There is room for it.
+fn take_past(callers: Vec<OverflowReserver>, reservers: &mut Vec<Reserver>)
+    requires { vec_len reservers.old + length callers.items ≤ vec_capacity reservers.old }
+    ensures { reservers.new.items ≡ reservers.old.items ++ past_of callers.items }
+{
+    for caller in callers {
+        reservers.push_reserved(caller.past);
+    }
+}
+
+/// What the shared allocator has reserved behind so many handles, those of the blocks, is one more
+/// block.
+fn finish(mut entities: Entities, before: u32, mut ends: Vec<Part>) -> Ended
+    requires asked { before ≤ entities.allocator.asked }
+    requires taken { before ≤ length entities.allocator.taken }
+    requires room { vec_len ends + 1 ≤ vec_capacity ends }
+    requires used { AreUsedOf (record {
+      start = before_requests entities.allocator;
+      rows = entities.rows;
+      blocks = ends.items ++ past_block before (length entities.allocator.taken - before);
+    }) }
+    ensures { result ≡ record {
+      phase = record {
+        start = before_requests entities.allocator;
+        rows = entities.rows;
+        blocks = ends.items ++ past_block before (length entities.allocator.taken - before);
+      };
+      requested = entities.allocator.asked - before;
+    } }
+{
+    let requested = entities.asked() - u64::from(before);
+    let given = entities.reserved() - before;
+    cancel_requests(&mut entities);
+    append_past(&mut ends, before, given);
+    Ended::new(entities, ends, requested)
 }
 
 /// Appends what came from the shared cursor, as one more block. There is room for it.

@@ -8,6 +8,7 @@ mod ended;
 mod opening;
 mod phase;
 mod reserver;
+mod source;
 
 pub use ended::Ended;
 pub(crate) use opening::open_with_overflow;

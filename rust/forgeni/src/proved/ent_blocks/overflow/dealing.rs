@@ -23,10 +23,10 @@ pub(super) fn dealt(parts: &[Part]) -> u32
 /// begun.
 #[inline]
 pub(super) fn deal(shared: &Shared, dealer: &mut Reserver, count: u32)
-    // requires of { IsReserverOf shared.now dealer.old }
-    // requires nothing { dealer.old.own.entries ≡ [] }
+    // requires { IsFresh shared.now dealer.old }
     // ensures of { IsReserverOf shared.now dealer.new }
     // ensures dealt { IsDealer count dealer.new.own }
+    // ensures mark { dealer.new.own.mark ≤ℤ (cursor shared.now.start -ℤ pos count) }
 {
     if count > 0 {
         let _blocks = shared.reserve_many(dealer, count);
