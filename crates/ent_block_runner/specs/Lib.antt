@@ -3,3 +3,4 @@ pub mod Running
 pub mod Queues
 pub mod FrameInBlocks
 pub mod Unframed
+pub mod Refusing

@@ -5,3 +5,4 @@ pub mod Crew
 pub mod Frame
 pub mod Worker
 pub mod Collecting
+pub mod Refusing
