@@ -8,5 +8,5 @@ returns-in-Ok-clause-ended g c =
     let same : c.in-Ok.shared ≡ c.args.self.shared = search rules in
     let e = c.close.ensures in
     let ended : EndsWithAll c.in-Ok.shared c.in-Ok.returned.items c.close.result.allocator =
-        search (rules, e, e.brings_to_life) in
+    search (rules, e, e.brings_to_life) in
     rw (all, same) at ended

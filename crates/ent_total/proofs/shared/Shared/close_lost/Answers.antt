@@ -8,5 +8,5 @@ returns-in-Ok-clause-ended g c =
     let same : c.in-Ok.shared ≡ c.args.self.shared = search rules in
     let e = c.close_lost.ensures in
     let ended : EndsWithSome c.in-Ok.shared c.in-Ok.returned.items c.close_lost.result.allocator =
-        search (rules, e, e.given, e.brings_to_life) in
+    search (rules, e, e.given, e.brings_to_life) in
     rw (all, same) at ended
