@@ -8,11 +8,17 @@ ghost use Rattle.ent_runner.specs.Frame.{IfSyncStopped, IfStoppedAt, reserved_by
 ghost use Rattle.ent_world.specs.Memory.{TakesMemoryAt};
 ghost use Rattle.ent_world.specs.Sync.{sync, IsStop};
 
+pub(super) mod gate;
+pub(super) mod report;
+mod side;
+mod stage;
+pub(super) mod system;
+
 use crate::crew::Crew;
-use crate::gate::Gate;
-use crate::report::{FrameFault, FrameReport};
-use crate::stage::Stage;
-use crate::system::System;
+use crate::frame::gate::Gate;
+use crate::frame::report::{FrameFault, FrameReport};
+use crate::frame::stage::Stage;
+use crate::frame::system::System;
 use ent_alloc::Limits;
 use ent_world::{SyncFault, World};
 use std::alloc::Global;

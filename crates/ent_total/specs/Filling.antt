@@ -4,7 +4,7 @@ use Rattle.ent_handle.specs.Handle.{Handle}
 use Rattle.ent_alloc.specs.Sequential.{Allocator, after_flush, born}
 use Rattle.ent_log.specs.declared.entry.Entry.{Entry}
 use Rattle.ent_log.specs.Logs.{entries_of}
-use Rattle.ent_log_runner.specs.Running.{HaveLogged}
+use Rattle.ent_runner.specs.Logs.{HaveLogged}
 
 module _ {C S : Type 0} where
   -- All systems have run, and each filled a log that it may fill so. The flush brought to life what

@@ -1,6 +1,6 @@
 -- What is said of a frame that didn't do all.
 use Rattle.std.specs.Prelude.{◌≡◌, ℕ, List, Result, Ok, Err}
-use Rattle.ent_runner.specs.declared.report.FrameReport.{FrameReport}
+use Rattle.ent_runner.specs.declared.frame.report.FrameReport.{FrameReport}
 use Rattle.ent_queue.specs.Command.{Command}
 use Rattle.ent_world.specs.Sync.{IsStop}
 use Rattle.ent_world.specs.declared.fault.SyncFault.{SyncFault}

@@ -2,7 +2,7 @@
 use Rattle.std.specs.Prelude.{◌≡◌, ℕ, List}
 use Rattle.ent_blocks.specs.Blocks.{Reserver}
 use Rattle.ent_blocks.specs.declared.end_error.EndError.{EndError}
-use Rattle.ent_block_runner.specs.declared.run_error.RunError.{RunError}
+use Rattle.ent_runner.specs.declared.blocks.run_error.RunError.{RunError}
 use Rattle.ent_queue.specs.Command.{Command}
 use Rattle.ent_world.specs.World.{World as Inner}
 use Rattle.ent_world.specs.declared.fault.SyncFault.{SyncFault}

@@ -5,7 +5,7 @@ ghost use Rattle.std.specs.Prelude.{Err, IfOk, IfErr, OnErr, IsErrOf, None};
 ghost use Rattle.ent_alloc.specs.Sequential.{made_at_flush};
 ghost use Rattle.ent_alloc.specs.Sound.{IsLive};
 ghost use Rattle.ent_log.specs.Logs.{entries_of, spawned_in, first_unreserved};
-ghost use Rattle.ent_log_runner.specs.Running.{HaveLogged, IsBrokenOff};
+ghost use Rattle.ent_runner.specs.Logs.{HaveLogged, IsBrokenOff};
 ghost use Rattle.ent_total.specs.Faults.{IsErrWith};
 ghost use Rattle.ent_total.specs.Filling.{HaveBegun};
 ghost use Rattle.ent_total.specs.declared.log_error.LogError.TheVariants as failed;
@@ -15,7 +15,7 @@ use crate::log_error::LogError;
 use ent_alloc::Entities;
 use ent_handle::{HandedBack, Handle, Memory};
 use ent_log::{Log, SyncPoint};
-use ent_log_runner::{LogFault, LogSystem};
+use ent_runner::{LogFault, LogSystem};
 use std::alloc::Global;
 use std::thread::Threads;
 
@@ -80,7 +80,7 @@ where
     if systems.len() > SYSTEMS {
         return Err(LogError::Systems);
     }
-    match ent_log_runner::run_logs(rt, alloc, entities, systems, workers) {
+    match ent_runner::run_logs(rt, alloc, entities, systems, workers) {
         Ok(logs) => Ok(logs),
         Err(LogFault::Memory) => Err(LogError::Memory),
         Err(LogFault::Lost) => Err(LogError::Lost),

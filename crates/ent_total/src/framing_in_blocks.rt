@@ -3,11 +3,11 @@ ghost use Rattle.std.specs.Prelude.{◌≡◌, ◌≢◌, ◌<◌, ◌≤◌, �
 ghost use Rattle.std.specs.Prelude.{IfOk, OnOk, IfErr};
 ghost use Rattle.ent_blocks.specs.Blocks.{blocks_of, unused};
 ghost use Rattle.ent_blocks.specs.declared.end_error.EndError.TheVariants as unended;
-ghost use Rattle.ent_block_runner.specs.FrameInBlocks.{EndsInBlocks, StopsInBlocks, view_in_blocks};
-ghost use Rattle.ent_block_runner.specs.Queues.{HaveStopped, HaveIssued};
-ghost use Rattle.ent_block_runner.specs.Unframed.{IsWhyUnended};
-ghost use Rattle.ent_block_runner.specs.declared.run_error.RunError.{RunError};
-ghost use Rattle.ent_block_runner.specs.declared.run_error.RunError.TheVariants as failed;
+ghost use Rattle.ent_runner.specs.Blocks.Frame.{EndsInBlocks, StopsInBlocks, view_in_blocks};
+ghost use Rattle.ent_runner.specs.Blocks.Queues.{HaveStopped, HaveIssued};
+ghost use Rattle.ent_runner.specs.Blocks.Unframed.{IsWhyUnended};
+ghost use Rattle.ent_runner.specs.declared.blocks.run_error.RunError.{RunError};
+ghost use Rattle.ent_runner.specs.declared.blocks.run_error.RunError.TheVariants as failed;
 ghost use Rattle.ent_total.specs.Faults.{IsErrWith};
 ghost use Rattle.ent_total.specs.Framing.{HasStop, spawned_after};
 ghost use Rattle.ent_total.specs.Unframed.{IsUnrun, IfUnrun, IfUnended, IfHeld, IfStoppedAt, held_in};
@@ -22,10 +22,9 @@ use crate::stopped::Stopped;
 use crate::unframed::Unframed;
 use crate::world::World;
 use crate::world_in_blocks::WorldInBlocks;
-use ent_block_runner::{RunError, SystemInBlocks};
 use ent_blocks::BlockReserver;
 use ent_handle::HandedBack;
-use ent_runner::FrameReport;
+use ent_runner::{FrameReport, RunError, SystemInBlocks};
 use ent_world::SyncFault;
 use std::alloc::Global;
 use std::thread::Threads;
@@ -122,7 +121,7 @@ where
     ensures lost_some { IsErrWith result (λ h. h.error ≡ failed.Lost) → 0 < length systems.now }
     ensures lost_reservers { IfErr result (λ h. h.error ≡ failed.Lost → h.value.items ≡ []) }
 {
-    let filled = ent_block_runner::fill_in_blocks(
+    let filled = ent_runner::fill_in_blocks(
         rt,
         alloc,
         opened.blocks(),
@@ -264,7 +263,7 @@ where
         of_world,
         spawned,
     } = opened;
-    let ran = ent_block_runner::run_frame_in_blocks(rt, alloc, opened, reservers, systems, workers);
+    let ran = ent_runner::run_frame_in_blocks(rt, alloc, opened, reservers, systems, workers);
     match ran {
         Ok((world, report)) => {
             let world = World {
@@ -275,7 +274,7 @@ where
             Ok((world, report))
         }
         Err(
-            ent_block_runner::Unframed::Unrun {
+            ent_runner::Unframed::Unrun {
                 world,
                 reservers,
                 error,
@@ -292,12 +291,12 @@ where
                 error,
             })
         }
-        Err(ent_block_runner::Unframed::Unended { unended, queues }) => Err(Unframed::Unended {
+        Err(ent_runner::Unframed::Unended { unended, queues }) => Err(Unframed::Unended {
             unended: WorldInBlocks::handed_back(unended, of_world, spawned),
             queues: Queues::new(of_world, queues),
         }),
         Err(
-            ent_block_runner::Unframed::Sync {
+            ent_runner::Unframed::Sync {
                 world,
                 fault,
                 queues,

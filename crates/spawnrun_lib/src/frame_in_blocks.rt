@@ -7,9 +7,9 @@ ghost use Rattle.spawnrun_lib.specs.CourseInBlocks.{EndsInBlocks, StopsInBlocks,
 
 use crate::BlockNumbering;
 use crate::script_system_in_blocks::ScriptSystemInBlocks;
-use ent_block_runner::{RunError, Unframed, run_frame_in_blocks};
 use ent_blocks::DealError;
 use ent_handle::Memory;
+use ent_runner::{RunError, Unframed, run_frame_in_blocks};
 use ent_script::System;
 use ent_world::{PlacedWorld, SyncReport, World, WorldDeal};
 use std::alloc::Global;

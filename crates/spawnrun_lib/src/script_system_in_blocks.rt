@@ -3,10 +3,10 @@ ghost use Rattle.spawnrun_lib.specs.Issuing.{MayIssue, MayStop};
 
 use crate::BlockNumbering;
 use crate::issuing::issue_all;
-use ent_block_runner::SystemInBlocks;
 use ent_blocks::Blocks;
 use ent_handle::Memory;
 use ent_queue::{CommandQueue, Commands};
+use ent_runner::SystemInBlocks;
 use ent_world::View;
 use std::alloc::Global;
 use std::marker::Model;

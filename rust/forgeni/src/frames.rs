@@ -7,8 +7,7 @@ use crate::{Entities, HandedBack, Handle, Log, LogSystem, Report, SyncPoint, Sys
 use alloc::vec::Vec;
 
 pub use crate::kit::thread::{StdThreads, Threads as Join};
-pub use crate::proved::ent_block_runner::{run_in_blocks, RunError};
-pub use crate::proved::ent_runner::FrameReport;
+pub use crate::proved::ent_runner::{run_in_blocks, FrameReport, RunError};
 pub use crate::proved::ent_total::{fill_in_blocks, run_frame_in_blocks};
 pub use crate::proved::ent_total::{FrameError, LogError, Unframed};
 

@@ -9,10 +9,8 @@ use alloc::sync::Arc;
 #[cfg(feature = "std")]
 use std::sync::{Mutex, PoisonError};
 
-pub use crate::proved::ent_block_runner::{BlockSystem, SystemInBlocks};
-pub use crate::proved::ent_log_runner::LogSystem;
 pub use crate::proved::ent_queue::Commands as SystemCommands;
-pub use crate::proved::ent_runner::System;
+pub use crate::proved::ent_runner::{BlockSystem, LogSystem, System, SystemInBlocks};
 
 /// Fills the log of one system, and reserves by a reserver that is lent to it. `C` is the caller's type of
 /// commands.

@@ -1,4 +1,4 @@
-use Rattle.ent_block_runner.specs.declared.run_error.RunError.TheVariants as failed
+use Rattle.ent_runner.specs.declared.blocks.run_error.RunError.TheVariants as failed
 use Rattle.ent_total.proofs.Held.{stop_of}
 use Rattle.ent_total.proofs.framing_in_blocks.run_frame_in_blocks.Goals as goal
 

@@ -3,12 +3,18 @@
 //! A frame: workers run the systems while the world is open, and the sync point applies their
 //! queues.
 
+pub(super) mod gate;
+pub(super) mod report;
+mod side;
+mod stage;
+pub(super) mod system;
+
 use alloc::vec::Vec;
 use crate::proved::ent_runner::crew::Crew;
-use crate::proved::ent_runner::gate::Gate;
-use crate::proved::ent_runner::report::{FrameFault, FrameReport};
-use crate::proved::ent_runner::stage::Stage;
-use crate::proved::ent_runner::system::System;
+use crate::proved::ent_runner::frame::gate::Gate;
+use crate::proved::ent_runner::frame::report::{FrameFault, FrameReport};
+use crate::proved::ent_runner::frame::stage::Stage;
+use crate::proved::ent_runner::frame::system::System;
 use crate::proved::ent_alloc::Limits;
 use crate::proved::ent_world::{SyncFault, World};
 use core::mem;

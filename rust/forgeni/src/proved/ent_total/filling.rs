@@ -8,7 +8,7 @@ use crate::proved::ent_total::log_error::LogError;
 use crate::proved::ent_alloc::Entities;
 use crate::proved::ent_handle::{HandedBack, Handle, Memory};
 use crate::proved::ent_log::{Log, SyncPoint};
-use crate::proved::ent_log_runner::{LogFault, LogSystem};
+use crate::proved::ent_runner::{LogFault, LogSystem};
 use crate::kit::thread::Threads;
 
 /// Runs each system once, on that many workers side by side, each with a log of its own. The logs
@@ -81,7 +81,7 @@ where
     if systems.len() > SYSTEMS {
         return Err(LogError::Systems);
     }
-    match crate::proved::ent_log_runner::run_logs(rt, entities, systems, workers) {
+    match crate::proved::ent_runner::run_logs(rt, entities, systems, workers) {
         Ok(logs) => Ok(logs),
         Err(LogFault::Memory) => Err(LogError::Memory),
         Err(LogFault::Lost) => Err(LogError::Lost),

@@ -8,10 +8,9 @@ use crate::proved::ent_total::stopped::Stopped;
 use crate::proved::ent_total::unframed::Unframed;
 use crate::proved::ent_total::world::World;
 use crate::proved::ent_total::world_in_blocks::WorldInBlocks;
-use crate::proved::ent_block_runner::{RunError, SystemInBlocks};
 use crate::proved::ent_blocks::BlockReserver;
 use crate::proved::ent_handle::HandedBack;
-use crate::proved::ent_runner::FrameReport;
+use crate::proved::ent_runner::{FrameReport, RunError, SystemInBlocks};
 use crate::proved::ent_world::SyncFault;
 use crate::kit::thread::Threads;
 
@@ -116,7 +115,7 @@ where
     R: Threads + Sync,
     S: SystemInBlocks + Sync,
 {
-    let filled = crate::proved::ent_block_runner::fill_in_blocks(
+    let filled = crate::proved::ent_runner::fill_in_blocks(
         rt,
         opened.blocks(),
         reservers,
@@ -266,7 +265,7 @@ where
         of_world,
         spawned,
     } = opened;
-    let ran = crate::proved::ent_block_runner::run_frame_in_blocks(rt, opened, reservers, systems, workers);
+    let ran = crate::proved::ent_runner::run_frame_in_blocks(rt, opened, reservers, systems, workers);
     match ran {
         Ok((world, report)) => {
             let world = World {
@@ -277,7 +276,7 @@ where
             Ok((world, report))
         }
         Err(
-            crate::proved::ent_block_runner::Unframed::Unrun {
+            crate::proved::ent_runner::Unframed::Unrun {
                 world,
                 reservers,
                 error,
@@ -294,12 +293,12 @@ where
                 error,
             })
         }
-        Err(crate::proved::ent_block_runner::Unframed::Unended { unended, queues }) => Err(Unframed::Unended {
+        Err(crate::proved::ent_runner::Unframed::Unended { unended, queues }) => Err(Unframed::Unended {
             unended: WorldInBlocks::handed_back(unended, of_world, spawned),
             queues: Queues::new(of_world, queues),
         }),
         Err(
-            crate::proved::ent_block_runner::Unframed::Sync {
+            crate::proved::ent_runner::Unframed::Sync {
                 world,
                 fault,
                 queues,

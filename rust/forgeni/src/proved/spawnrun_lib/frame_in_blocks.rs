@@ -4,9 +4,9 @@
 use alloc::vec::Vec;
 use crate::kit::vec::FallibleVec;
 use crate::proved::spawnrun_lib::script_system_in_blocks::ScriptSystemInBlocks;
-use crate::proved::ent_block_runner::{RunError, Unframed, run_frame_in_blocks};
 use crate::proved::ent_blocks::DealError;
 use crate::proved::ent_handle::Memory;
+use crate::proved::ent_runner::{RunError, Unframed, run_frame_in_blocks};
 use crate::proved::ent_script::System;
 use crate::proved::ent_world::{PlacedWorld, SyncReport, World, WorldDeal};
 use crate::kit::thread::Threads;

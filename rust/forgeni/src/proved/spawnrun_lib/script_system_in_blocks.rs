@@ -1,10 +1,10 @@
 // Made of crates/spawnrun_lib/src/script_system_in_blocks.rt by rust/erase. It isn't edited by hand.
 
 use crate::proved::spawnrun_lib::issuing::issue_all;
-use crate::proved::ent_block_runner::SystemInBlocks;
 use crate::proved::ent_blocks::Blocks;
 use crate::proved::ent_handle::Memory;
 use crate::proved::ent_queue::{CommandQueue, Commands};
+use crate::proved::ent_runner::SystemInBlocks;
 use crate::proved::ent_world::View;
 
 /// A system of a script, as a frame in blocks runs it. Contracts see the list of its operations.

@@ -1,0 +1,147 @@
+-- What a system's log has drawn from its block, by the replies to its requests.
+use Rattle.ent_runner.proofs.Common.{rules, ◌≡◌, ◌∙◌, ap, refl, sym, subst, ℕ, ◌+◌, ◌-◌, ◌<◌, ◌≤◌, zero, suc, List, [], ◌∷◌, take, drop, length, length-drop, length-take, arith, flat_map, common_steps, Handle, Refused, Block, Phase, rest_of, after_use, left_of, IsOfPhase, IsDrawn, AreServed, Request, Entry, Spawn, spawned_in, Commands, Extends, output_of, reserver_of, source_of, Logs, request_of, Draws, FitBlock, Result, Ok, Err, OnOk, OnErr, Some, slice_get, get_or, get_or_from_slice_get, FillsAt, IssuesAt, Command, View}
+use Rattle.ent_blocks.specs.Blocks.{Reserver}
+use Rattle.ent_alloc.specs.declared.refused.Refused.TheVariants as refused
+use Rattle.ent_log.specs.declared.entry.Entry.TheVariants as entry
+use Rattle.ent_queue.proofs.DrawnBlocks as queued
+use Rattle.ent_queue.specs.Issuing.{Issues}
+
+-- the first handle of the block, and those after it
+step : (rest more : List Handle) (h : Handle) → h ∷ [] ≡ take 1 rest → more ≡ take (length more) (drop 1 rest)
+    → h ∷ more ≡ take (length (h ∷ more)) rest
+step [] more h first then = absurd (cc)
+step (x ∷ rest) more h first then = grind (arith, common_steps)
+
+dropped : (n : ℕ) (xs : List Handle) → drop (n + 1) xs ≡ drop 1 (drop n xs)
+dropped zero xs = refl
+dropped (suc n) [] = grind (arith, common_steps)
+dropped (suc n) (x ∷ xs) = let rest = dropped n xs in grind (arith, common_steps)
+
+used_none : (b : Block) → b ≡ after_use b 0
+used_none b = search rules
+
+one_more : (n : ℕ) → 1 + n ≡ suc n
+one_more n = omega arith
+
+used_one : (b : Block) (n : ℕ) → after_use (after_use b 1) n ≡ after_use b (1 + n)
+used_one b n = search rules
+
+used_then : (b : Block) (n : ℕ) → after_use (after_use b 1) n ≡ after_use b (suc n)
+used_then b n = used_one b n ∙ ap (λ (k : ℕ). after_use b k) (one_more n)
+
+-- a block that gives a handle is not used up
+some_left : (pool : List Handle) (b : Block) (h : Handle) → h ∷ [] ≡ take 1 (rest_of pool b) → b.used < b.size
+some_left pool b h is =
+    let one : length (take 1 (rest_of pool b)) ≡ 1 = rw (sym is) refl in
+    let kept = length-take b.size (drop b.before pool) in
+    let behind = length-drop b.used (take b.size (drop b.before pool)) in
+    let first = length-take 1 (rest_of pool b) in
+    omega (arith, one, kept, behind, first)
+
+-- a block that gives none is used up
+used_up : (b : Block) (why : Refused) → (why ≡ refused.Space 1 (left_of b)) × (left_of b < 1) → b.used ≤ b.size
+    → (why ≡ refused.Space 1 0) × (b.used ≡ b.size)
+used_up b why is within =
+    let none : left_of b ≡ 0 = omega (arith, is.1) in (rw none at is.0, omega (arith, none, within))
+
+module _ (phase : Phase) where
+  abbrev pool : List Handle
+  pool = phase.phase.start.pool
+
+  module _ {C : Type 0} where
+    drawn : (entries : List (Entry C)) (before after : Reserver)
+        → AreServed (IsDrawn phase) before (flat_map request_of entries) after
+        → Draws pool before.block entries after.block
+    drawn [] before after served = rw served (record { given = search rules; used = search rules; fit = tt })
+    drawn (Spawn h ∷ entries) before after served =
+        let was = served.1 in
+        let then = drawn entries served.0 after served.2 in
+        let used : served.0.block ≡ after_use before.block 1 = let u = was.used in grind (arith, common_steps) in
+        let first : h ∷ [] ≡ take 1 (rest_of pool before.block) = queued.first_listed _ _ h was.given in
+        let more = spawned_in entries in
+        let rest : rest_of pool served.0.block ≡ drop 1 (rest_of pool before.block) =
+        rw used (dropped before.block.used _) in
+        let behind : more ≡ take (length more) (drop 1 (rest_of pool before.block)) = rw rest at then.given in
+        let all : after.block ≡ after_use (after_use before.block 1) (length more) = rw used at then.used in
+        record {
+          given = step _ more h first behind;
+          used = all ∙ used_then before.block (length more);
+          fit = (some_left pool before.block h first, rw used at then.fit);
+        }
+    drawn (entry.Refused why ∷ entries) before after served =
+        let was = served.1 in
+        let then = drawn entries served.0 after served.2 in
+        let same : served.0.block ≡ before.block = let u = was.remembers in search (rules, u) in
+        let kept : FitBlock before.block entries = rw same at then.fit in
+        record {
+          given = rw same at then.given;
+          used = rw same at then.used;
+          fit = (
+            used_up before.block why was.refused was.within,
+            subst (λ b. FitBlock b entries) (used_none before.block) kept,
+          );
+        }
+    drawn (entry.Command command ∷ entries) before after served =
+        let then = drawn entries before after served in
+        record {
+          given = then.given;
+          used = then.used;
+          fit = (tt, subst (λ b. FitBlock b entries) (used_none before.block) then.fit);
+        }
+
+module _ {C : Type 0} where
+  -- So the spawns of a system that began with an empty log have the next handles of its block.
+  pub draws_extended : (a b : Commands (List (Entry C)) Phase Reserver) → output_of a ≡ []
+      → Extends Logs IsOfPhase IsDrawn a b
+      → Draws (source_of a).phase.start.pool (reserver_of a).block (output_of b) (reserver_of b).block
+  draws_extended a b empty e =
+      let is : output_of b ≡ e.adds.added = rw empty at e.adds.log in
+      rw is (drawn (source_of a) e.adds.added (reserver_of a) (reserver_of b) (rw e.adds.requests_are at e.served))
+
+-- A system that ran as a job, with the reserver at its number: if it ended, and if it stopped.
+module _ {S : Type 0} (systems : List S) (phase : Phase) (reservers : List Reserver) (n : ℕ) (d : S) where
+  of_phase : {O : Type 0} (Adds : O → List Request → O → Type 0) (a b : Commands O Phase Reserver)
+      → Extends Adds IsOfPhase IsDrawn a b → source_of a ≡ phase → (reserver_of b).number ≡ phase.number
+  of_phase Adds a b e source = e.ready ∙ ap (λ (p : Phase). p.number) (e.source ∙ source)
+
+  module _ {C : Type 0} (may : S → List (Entry C) → Type 0) (a b : Commands (List (Entry C)) Phase Reserver)
+      (empty : output_of a ≡ []) (e : Extends Logs IsOfPhase IsDrawn a b) (source : source_of a ≡ phase)
+      (is : (r : Reserver) → slice_get reservers n ≡ Some r → reserver_of a ≡ r) (log : List (Entry C))
+      (after : Reserver) (same : log ≡ output_of b) (last : after ≡ reserver_of b) where
+    fills : may (get_or systems n d) (output_of b) → FillsAt may systems phase reservers n (log, after)
+    fills ran = rw (same, last) (record {
+      system = λ system at. search (rules, get_or_from_slice_get);
+      of_phase = of_phase Logs a b e source;
+      draws = λ r at. rw (source, is r at) at (draws_extended a b empty e);
+    })
+
+    pub filled_ok : {A E : Type 0} (r : Result A E) → OnOk r (may (get_or systems n d) (output_of b))
+        → OnOk r (FillsAt may systems phase reservers n (log, after))
+    filled_ok (Ok x) ran = fills ran
+    filled_ok (Err why) ran = tt
+
+    pub filled_err : {A E : Type 0} (r : Result A E) → OnErr r (may (get_or systems n d) (output_of b))
+        → OnErr r (FillsAt may systems phase reservers n (log, after))
+    filled_err (Ok x) ran = tt
+    filled_err (Err why) ran = fills ran
+
+  module _ (may : S → View → List Command → Type 0) (view : View) (a b : Commands (List Command) Phase Reserver)
+      (empty : output_of a ≡ []) (e : Extends Issues IsOfPhase IsDrawn a b) (source : source_of a ≡ phase)
+      (is : (r : Reserver) → slice_get reservers n ≡ Some r → reserver_of a ≡ r) (queue : List Command)
+      (after : Reserver) (same : queue ≡ output_of b) (last : after ≡ reserver_of b) where
+    issues : may (get_or systems n d) view (output_of b) → IssuesAt may systems view phase reservers n (queue, after)
+    issues ran = rw (same, last) (record {
+      system = λ system at. search (rules, get_or_from_slice_get);
+      of_phase = of_phase Issues a b e source;
+      draws = λ r at. rw (source, is r at) at (queued.draws_extended a b empty e);
+    })
+
+    pub issued_ok : {A E : Type 0} (r : Result A E) → OnOk r (may (get_or systems n d) view (output_of b))
+        → OnOk r (IssuesAt may systems view phase reservers n (queue, after))
+    issued_ok (Ok x) ran = issues ran
+    issued_ok (Err why) ran = tt
+
+    pub issued_err : {A E : Type 0} (r : Result A E) → OnErr r (may (get_or systems n d) view (output_of b))
+        → OnErr r (IssuesAt may systems view phase reservers n (queue, after))
+    issued_err (Ok x) ran = tt
+    issued_err (Err why) ran = issues ran

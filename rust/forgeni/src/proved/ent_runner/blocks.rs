@@ -1,0 +1,22 @@
+// Made of crates/ent_runner/src/blocks.rt by rust/erase. It isn't edited by hand.
+
+//! Logs and queues that systems fill side by side, each from a block of handles of its own: so which
+//! handles a system gets depends on no other system, and on no thread.
+
+mod filling;
+mod frame;
+mod queue_stage;
+mod room;
+mod run_error;
+mod running;
+mod splitting;
+mod stage;
+mod system;
+mod system_in_blocks;
+
+pub use crate::proved::ent_runner::blocks::filling::fill_in_blocks;
+pub use crate::proved::ent_runner::blocks::frame::{Unframed, run_frame_in_blocks};
+pub use crate::proved::ent_runner::blocks::run_error::RunError;
+pub use crate::proved::ent_runner::blocks::running::run_in_blocks;
+pub use crate::proved::ent_runner::blocks::system::BlockSystem;
+pub use crate::proved::ent_runner::blocks::system_in_blocks::SystemInBlocks;
