@@ -2,3 +2,4 @@ pub mod Crew
 pub mod Frame
 pub mod Logs
 pub mod Blocks
+pub mod Stage

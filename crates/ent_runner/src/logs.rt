@@ -4,16 +4,16 @@ ghost use Rattle.ent_log.specs.Logs.{entries_of, spawned_in, first_unreserved};
 ghost use Rattle.ent_runner.specs.Logs.{HaveLogged, IsBrokenOff};
 
 pub(super) mod fault;
-mod stage;
 pub(super) mod system;
 
 use crate::crew::Crew;
 use crate::logs::fault::LogFault;
-use crate::logs::stage::LogStage;
 use crate::logs::system::LogSystem;
+use crate::stage::SharedStage;
+use crate::systems::Loggers;
 use ent_alloc::{Entities, Limits};
 use ent_log::Log;
-use ent_shared::share;
+use ent_shared::{Shared, share};
 use std::alloc::Global;
 use std::mem;
 use std::thread::Threads;
@@ -48,7 +48,7 @@ pub fn run_logs<R, C, S>(
 where
     R: Threads + Sync,
     C: Drop + Send,
-    S: LogSystem<C> + Sync,
+    S: LogSystem<C, Shared> + Sync,
     requires flushed { entities.old.allocator.asked ≡ 0 }
     requires systems { length systems.now ≤ 2 ^ 16 }
     requires some { 0 < workers }
@@ -82,10 +82,11 @@ where
             return Err(LogFault::Memory);
         }
     };
-    let stage = LogStage {
+    let loggers = Loggers { systems };
+    let stage = SharedStage {
         alloc,
         shared: &shared,
-        systems,
+        systems: &loggers,
     };
     // A command may panic when it is dropped. So no log is dropped before the allocator is in its place.
     let logs = crew.work(rt, &mut reservers, &stage);

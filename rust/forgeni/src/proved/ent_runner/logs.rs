@@ -3,17 +3,17 @@
 //! Logs that systems fill side by side, over an allocator of the caller's.
 
 pub(super) mod fault;
-mod stage;
 pub(super) mod system;
 
 use alloc::vec::Vec;
 use crate::proved::ent_runner::crew::Crew;
 use crate::proved::ent_runner::logs::fault::LogFault;
-use crate::proved::ent_runner::logs::stage::LogStage;
 use crate::proved::ent_runner::logs::system::LogSystem;
+use crate::proved::ent_runner::stage::SharedStage;
+use crate::proved::ent_runner::systems::Loggers;
 use crate::proved::ent_alloc::{Entities, Limits};
 use crate::proved::ent_log::Log;
-use crate::proved::ent_shared::share;
+use crate::proved::ent_shared::{Shared, share};
 use core::mem;
 use crate::kit::thread::Threads;
 
@@ -47,7 +47,7 @@ pub(crate) fn run_logs<R, C, S>(
 where
     R: Threads + Sync,
     C: Send,
-    S: LogSystem<C> + Sync,
+    S: LogSystem<C, Shared> + Sync,
     // requires flushed { entities.old.allocator.asked ≡ 0 }
     // requires systems { length systems.now ≤ 2 ^ 16 }
     // requires some { 0 < workers }
@@ -81,9 +81,10 @@ where
             return Err(LogFault::Memory);
         }
     };
-    let stage = LogStage {
+    let loggers = Loggers { systems };
+    let stage = SharedStage {
         shared: &shared,
-        systems,
+        systems: &loggers,
     };
     // A command may panic when it is dropped. So no log is dropped before the allocator is in its place.
     let logs = crew.work(rt, &mut reservers, &stage);

@@ -9,6 +9,7 @@ use crate::proved::ent_alloc::Entities;
 use crate::proved::ent_handle::{HandedBack, Handle, Memory};
 use crate::proved::ent_log::{Log, SyncPoint};
 use crate::proved::ent_runner::{LogFault, LogSystem};
+use crate::proved::ent_shared::Shared;
 use crate::kit::thread::Threads;
 
 /// Runs each system once, on that many workers side by side, each with a log of its own. The logs
@@ -70,7 +71,7 @@ pub fn run_logs<R, C, S>(
 where
     R: Threads + Sync,
     C: Send,
-    S: LogSystem<C> + Sync,
+    S: LogSystem<C, Shared> + Sync,
 {
     if entities.needs_flush() {
         return Err(LogError::NeedsFlush);
@@ -154,7 +155,7 @@ pub fn run_to_sync_point<R, C, S>(
 where
     R: Threads + Sync,
     C: Send,
-    S: LogSystem<C> + Sync,
+    S: LogSystem<C, Shared> + Sync,
 {
     let mut logs = match run_logs(rt, entities, systems, workers) {
         Ok(logs) => logs,
