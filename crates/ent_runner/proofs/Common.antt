@@ -36,7 +36,7 @@ pub use Rattle.ent_alloc.proofs.Served.{one_served, served_parts}
 pub use Rattle.ent_alloc.specs.History.{AreGivenOnce, Call, IsLegal, after_history, given_in, handles_in}
 pub use Rattle.ent_alloc.specs.Limits.{quota}
 pub use Rattle.ent_alloc.specs.Sequential.{Allocator, available, born, listed_alone, stands_in, state_of}
-pub use Rattle.ent_alloc.specs.Serving.{AreServed, Request}
+pub use Rattle.ent_alloc.specs.Serving.{AreServed, Replying, Request}
 pub use Rattle.ent_alloc.specs.Sound.{IsLive, IsSound}
 pub use Rattle.ent_alloc.specs.declared.refused.Refused.{Refused}
 pub use Rattle.ent_alloc.specs.declared.space.Space.{Space}
@@ -61,7 +61,7 @@ pub use Rattle.ent_blocks.specs.Blocks.{Block, Phase, after_use, are_among, bloc
 pub use Rattle.ent_blocks.specs.Drawing.{IsDrawn, IsOfPhase, left_of}
 pub use Rattle.ent_blocks.specs.Faults.{IsMissing}
 pub use Rattle.ent_blocks.specs.declared.end_error.EndError.{EndError}
-pub use Rattle.ent_queue.proofs.Gaining.{gains_extended, gains_nothing, gains_then}
+pub use Rattle.ent_queue.proofs.Gaining.{gains_nothing, gains_of, gains_then}
 pub use Rattle.ent_queue.specs.Command.{Command}
 pub use Rattle.ent_queue.specs.Commands.{Extends, output_of, reserver_of, source_of}
 pub use Rattle.ent_queue.specs.Drawing.{after_commands}
@@ -81,9 +81,9 @@ pub use lib.ListN.{get_elem?}
 pub use mathlib.Core.Logic.{dite}
 pub use mathlib.Core.Option.{some}
 pub use native.Mathlib.Decide.{ℕ_discrete}
-pub use Rattle.ent_runner.specs.Blocks.{AreReady, FillsAt, HaveFilled, blocks_after}
+pub use Rattle.ent_runner.specs.Blocks.{HaveFilled, blocks_after}
 pub use Rattle.ent_runner.specs.Blocks.Filling.{Draws, FitBlock}
-pub use Rattle.ent_runner.specs.Blocks.Queues.{HaveIssued, HaveStopped, IssuesAt, blocks_after_queues}
+pub use Rattle.ent_runner.specs.Blocks.Queues.{HaveIssued, HaveStopped, blocks_after_queues}
 pub use Rattle.ent_runner.specs.Blocks.Unframed.{IsWhyUnended}
 pub use Rattle.ent_runner.specs.Crew.{AreBrokenOff, AreDone, Crew, DidAll, DidUntil, DoesAt, OfEach}
 pub use Rattle.ent_runner.specs.Crew.Claims.{AreFirst, Claimer, Claims, IsClaimedBy, IsClaimerHolding, IsClaimerOf}
@@ -95,6 +95,7 @@ pub use Rattle.ent_runner.specs.Frame.{Ends, EndsInOrder, IsBrokenOff, IsFrame, 
 pub use Rattle.ent_runner.specs.Logs.{HaveLogged, HaveRun, SystemMayHaveLogged, SystemMayLog, entries_by, given_to, log_at}
 pub use Rattle.ent_runner.specs.Logs.Calls.{FitQuota, FitsQuota, cost}
 pub use Rattle.ent_runner.specs.Logs.Logging.{HasGained, LogGains}
+pub use Rattle.ent_runner.specs.Stage.{AreReady, IsDealt, IsFilled}
 pub use Rattle.ent_runner.specs.declared.crew.record.ClaimRecord.{ClaimRecord, ClaimRecord as Claimed}
 pub use Rattle.ent_runner.specs.declared.crew.worker.Done.{Done}
 pub use Rattle.ent_runner.specs.declared.crew.worker.Worker.{Worker}

@@ -4,6 +4,7 @@ use Rattle.ent_blocks.specs.Blocks.{Reserver}
 use Rattle.ent_alloc.specs.declared.refused.Refused.TheVariants as refused
 use Rattle.ent_log.specs.declared.entry.Entry.TheVariants as entry
 use Rattle.ent_queue.proofs.DrawnBlocks as queued
+use Rattle.ent_queue.specs.Drawing as drawing
 use Rattle.ent_queue.specs.Issuing.{Issues}
 
 -- the first handle of the block, and those after it
@@ -89,59 +90,13 @@ module _ (phase : Phase) where
           fit = (tt, subst (λ b. FitBlock b entries) (used_none before.block) then.fit);
         }
 
-module _ {C : Type 0} where
-  -- So the spawns of a system that began with an empty log have the next handles of its block.
-  pub draws_extended : (a b : Commands (List (Entry C)) Phase Reserver) → output_of a ≡ []
-      → Extends Logs IsOfPhase IsDrawn a b
-      → Draws (source_of a).phase.start.pool (reserver_of a).block (output_of b) (reserver_of b).block
-  draws_extended a b empty e =
-      let is : output_of b ≡ e.adds.added = rw empty at e.adds.log in
-      rw is (drawn (source_of a) e.adds.added (reserver_of a) (reserver_of b) (rw e.adds.requests_are at e.served))
+-- So the spawns of a system have the next handles of its block.
+module _ (phase : Phase) (before after : Reserver) where
+  pub log_draws : {C : Type 0} (log : List (Entry C)) → IsFilled Logs [] (IsDrawn phase) before log after
+      → Draws phase.phase.start.pool before.block log after.block
+  log_draws log f = rw f.adds.log (drawn phase f.adds.added before after (rw f.adds.requests_are at f.served))
 
--- A system that ran as a job, with the reserver at its number: if it ended, and if it stopped.
-module _ {S : Type 0} (systems : List S) (phase : Phase) (reservers : List Reserver) (n : ℕ) (d : S) where
-  of_phase : {O : Type 0} (Adds : O → List Request → O → Type 0) (a b : Commands O Phase Reserver)
-      → Extends Adds IsOfPhase IsDrawn a b → source_of a ≡ phase → (reserver_of b).number ≡ phase.number
-  of_phase Adds a b e source = e.ready ∙ ap (λ (p : Phase). p.number) (e.source ∙ source)
-
-  module _ {C : Type 0} (may : S → List (Entry C) → Type 0) (a b : Commands (List (Entry C)) Phase Reserver)
-      (empty : output_of a ≡ []) (e : Extends Logs IsOfPhase IsDrawn a b) (source : source_of a ≡ phase)
-      (is : (r : Reserver) → slice_get reservers n ≡ Some r → reserver_of a ≡ r) (log : List (Entry C))
-      (after : Reserver) (same : log ≡ output_of b) (last : after ≡ reserver_of b) where
-    fills : may (get_or systems n d) (output_of b) → FillsAt may systems phase reservers n (log, after)
-    fills ran = rw (same, last) (record {
-      system = λ system at. search (rules, get_or_from_slice_get);
-      of_phase = of_phase Logs a b e source;
-      draws = λ r at. rw (source, is r at) at (draws_extended a b empty e);
-    })
-
-    pub filled_ok : {A E : Type 0} (r : Result A E) → OnOk r (may (get_or systems n d) (output_of b))
-        → OnOk r (FillsAt may systems phase reservers n (log, after))
-    filled_ok (Ok x) ran = fills ran
-    filled_ok (Err why) ran = tt
-
-    pub filled_err : {A E : Type 0} (r : Result A E) → OnErr r (may (get_or systems n d) (output_of b))
-        → OnErr r (FillsAt may systems phase reservers n (log, after))
-    filled_err (Ok x) ran = tt
-    filled_err (Err why) ran = fills ran
-
-  module _ (may : S → View → List Command → Type 0) (view : View) (a b : Commands (List Command) Phase Reserver)
-      (empty : output_of a ≡ []) (e : Extends Issues IsOfPhase IsDrawn a b) (source : source_of a ≡ phase)
-      (is : (r : Reserver) → slice_get reservers n ≡ Some r → reserver_of a ≡ r) (queue : List Command)
-      (after : Reserver) (same : queue ≡ output_of b) (last : after ≡ reserver_of b) where
-    issues : may (get_or systems n d) view (output_of b) → IssuesAt may systems view phase reservers n (queue, after)
-    issues ran = rw (same, last) (record {
-      system = λ system at. search (rules, get_or_from_slice_get);
-      of_phase = of_phase Issues a b e source;
-      draws = λ r at. rw (source, is r at) at (queued.draws_extended a b empty e);
-    })
-
-    pub issued_ok : {A E : Type 0} (r : Result A E) → OnOk r (may (get_or systems n d) view (output_of b))
-        → OnOk r (IssuesAt may systems view phase reservers n (queue, after))
-    issued_ok (Ok x) ran = issues ran
-    issued_ok (Err why) ran = tt
-
-    pub issued_err : {A E : Type 0} (r : Result A E) → OnErr r (may (get_or systems n d) view (output_of b))
-        → OnErr r (IssuesAt may systems view phase reservers n (queue, after))
-    issued_err (Ok x) ran = tt
-    issued_err (Err why) ran = issues ran
+  pub queue_draws : (queue : List Command) → IsFilled Issues [] (IsDrawn phase) before queue after
+      → drawing.Draws phase.phase.start before.block queue after.block
+  queue_draws queue f =
+      rw f.adds.queue (queued.draws_of phase before after f.adds.added (rw f.adds.requests_are at f.served))

@@ -1,12 +1,14 @@
 -- Systems that filled lists as the jobs of a crew, each from its own block. The lists are logs or queues.
-use Rattle.ent_runner.proofs.Common.{AllPairs, All-nil, All-cons, all_pairs_push, common_steps, DidAll, DidUntil, ◌++◌, ◌-◌, get_or, slice_get, [], zero, suc, All, All-map, List, Option, Some, rules, arith, inl, inr, length, map, refl, sym, ℕ, ⊎_elim, ◌<◌, ◌∙◌, ◌∷◌, ◌≡◌, ◌⊎◌, length-map, get_or_from_slice_get, slice_get-get_or, slice_get_within, Block, Phase, after_use, blocks_of, spawned_in, Entry, Command, after_commands, AreBrokenOff, AreDone, Draws, AreReady, FillsAt, HaveFilled, blocks_after, SystemMayIssue, View, HaveIssued, HaveStopped, IssuesAt, blocks_after_queues}
+use Rattle.ent_runner.proofs.Common.{AllPairs, All-nil, All-cons, all_pairs_push, common_steps, DidAll, DidUntil, ◌++◌, ◌-◌, get_or, slice_get, [], zero, suc, All, All-map, List, Option, Some, rules, arith, inl, inr, length, map, refl, sym, ℕ, ⊎_elim, ◌<◌, ◌∙◌, ◌∷◌, ◌≡◌, ◌⊎◌, length-map, get_or_from_slice_get, slice_get-get_or, slice_get_within, Block, Phase, after_use, blocks_of, spawned_in, Entry, Command, after_commands, AreBrokenOff, AreDone, Draws, AreReady, IsDealt, Logs, HaveFilled, blocks_after, SystemMayIssue, View, HaveIssued, HaveStopped, blocks_after_queues}
 use Rattle.ent_runner.specs.Blocks.{IsBrokenOff}
 use Rattle.ent_runner.specs.Logs.{SystemMayLog}
 use Rattle.ent_blocks.specs.Blocks.{Reserver}
 use Rattle.ent_runner.proofs.Adding.{last_pushed}
 use Rattle.ent_runner.proofs.EachOutput.{HoldsAt, each_done, each_either}
 use Rattle.ent_runner.proofs.Lists.{at_within, get_mapped, mapped_at}
+use Rattle.ent_runner.proofs.Drawn.{log_draws, queue_draws}
 use Rattle.ent_queue.specs.Drawing.{AreDrawnBy}
+use Rattle.ent_queue.specs.Issuing.{Issues}
 
 module _ {E : Type 0} where
   -- the lists that systems hand back, and the reservers
@@ -168,12 +170,14 @@ module _ {C S L : Type 0} (may leave : S → List (Entry C) → Type 0) (systems
   DrawsLog block log = Draws phase.phase.start.pool block log (uses block log)
 
   fits_log : (may : S → List (Entry C) → Type 0) (n : ℕ) (one : List (Entry C) × Reserver)
-      → FillsAt may systems phase reservers n one → Fills DrawsLog uses blocks_after refl (λ b bs l ls. refl)
+      → IsDealt Logs [] (SystemMayLog may systems) phase reservers n one → Fills DrawsLog uses blocks_after refl (λ b bs l ls. refl)
       phase.number reservers (SystemMayLog may systems) n one
-  fits_log may n one f = (f.system, f.of_phase, λ r at. search (rules, f.draws r at))
+  fits_log may n one f =
+      (f.system, f.of_phase, λ r at. search (rules, log_draws phase r one.1 one.0 (f.filled r at)))
 
   pub filled_done : (all : List (List (Entry C) × Reserver))
-      → AreDone (λ n a one b. FillsAt may systems phase reservers n one) (length systems) before all after
+      → AreDone (λ n a one b. IsDealt Logs [] (SystemMayLog may systems) phase reservers n one) (length systems)
+      before all after
       → HaveFilled may systems phase.phase.start.pool (blocks_of reservers) (filled_of all)
       (blocks_of (reservers_of all)) × All (λ (r : Reserver). r.number ≡ phase.number) (reservers_of all)
   filled_done all done =
@@ -182,8 +186,8 @@ module _ {C S L : Type 0} (may leave : S → List (Entry C) → Type 0) (systems
       (search (rules, d.0, d.1, d.2, done.count, length-map, slice_get_within), d.3)
 
   pub lost_off : (workers : ℕ) → length before ≡ workers → (left : List (Option (List (Entry C) × Reserver)))
-      → AreBrokenOff (λ n a one b. FillsAt may systems phase reservers n one)
-      (λ n a one b. FillsAt leave systems phase reservers n one) (length systems) before left after
+      → AreBrokenOff (λ n a one b. IsDealt Logs [] (SystemMayLog may systems) phase reservers n one)
+      (λ n a one b. IsDealt Logs [] (SystemMayLog leave systems) phase reservers n one) (length systems) before left after
       → IsBrokenOff may leave systems workers phase.phase.start.pool (blocks_of reservers)
   lost_off workers team left done =
       let d = lost_all DrawsLog uses blocks_after refl (λ b bs l ls. refl) phase.number reservers before after same _
@@ -210,12 +214,14 @@ module _ {S L : Type 0} (may leave : S → View → List Command → Type 0) (sy
     (reservers : List Reserver) (ready : AreReady phase (length systems) reservers) (before after : List L)
     (same : length after ≡ length before) where
   fits_queue : (may : S → View → List Command → Type 0) (n : ℕ) (one : List Command × Reserver)
-      → IssuesAt may systems view phase reservers n one → Fills (AreDrawnBy phase.phase.start) after_commands
+      → IsDealt Issues [] (SystemMayIssue may systems view) phase reservers n one → Fills (AreDrawnBy phase.phase.start) after_commands
       blocks_after_queues refl (λ b bs l ls. refl) phase.number reservers (SystemMayIssue may systems view) n one
-  fits_queue may n one f = (f.system, f.of_phase, λ r at. search (rules, f.draws r at))
+  fits_queue may n one f =
+      (f.system, f.of_phase, λ r at. search (rules, queue_draws phase r one.1 one.0 (f.filled r at)))
 
   pub issued_done : (all : List (List Command × Reserver))
-      → AreDone (λ n a one b. IssuesAt may systems view phase reservers n one) (length systems) before all after
+      → AreDone (λ n a one b. IsDealt Issues [] (SystemMayIssue may systems view) phase reservers n one)
+      (length systems) before all after
       → HaveIssued may systems view phase.phase.start (blocks_of reservers) (filled_of all)
       (blocks_of (reservers_of all)) × All (λ (r : Reserver). r.number ≡ phase.number) (reservers_of all)
   issued_done all done =
@@ -224,8 +230,9 @@ module _ {S L : Type 0} (may leave : S → View → List Command → Type 0) (sy
       (search (rules, d.0, d.1, d.2, done.count, length-map, slice_get_within), d.3)
 
   pub issued_lost : (workers : ℕ) → length before ≡ workers → (left : List (Option (List Command × Reserver)))
-      → AreBrokenOff (λ n a one b. IssuesAt may systems view phase reservers n one)
-      (λ n a one b. IssuesAt leave systems view phase reservers n one) (length systems) before left after
+      → AreBrokenOff (λ n a one b. IsDealt Issues [] (SystemMayIssue may systems view) phase reservers n one)
+      (λ n a one b. IsDealt Issues [] (SystemMayIssue leave systems view) phase reservers n one) (length systems) before
+      left after
       → HaveStopped may leave systems workers view phase.phase.start (blocks_of reservers)
   issued_lost workers team left done =
       let d = lost_all (AreDrawnBy phase.phase.start) after_commands blocks_after_queues refl (λ b bs l ls. refl)

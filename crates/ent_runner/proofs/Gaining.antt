@@ -136,27 +136,7 @@ module _ {C : Type 0} where
       log_gains_then _ _ _ (e ∷ []) entries (gains_at shared before parts.0 e parts.1)
       (gains_of shared parts.0 after entries parts.2)
 
-  gains_extended : (a b : Commands (List (Entry C)) Shared Reserver) → output_of a ≡ []
-      → Extends Logs IsOf IsReturned a b → LogGains (reserver_of a).own (output_of b) (reserver_of b).own
-  gains_extended a b empty e =
-      let is : output_of b ≡ e.adds.added = rw empty at e.adds.log in
-      rw is (gains_of (source_of a) (reserver_of a) (reserver_of b) e.adds.added (rw e.adds.requests_are at e.served))
-
--- A system that ran as a job: if it ended, and if it stopped.
-module _ {C S : Type 0} (may : S → List (Entry C) → Type 0) (systems : List S) (n : ℕ) (d : S)
-    (a b : Commands (List (Entry C)) Shared Reserver) (empty : output_of a ≡ []) (e : Extends Logs IsOf IsReturned a b)
-    (before : Record) (log : List (Entry C)) (after : Record) (first : before ≡ (reserver_of a).own)
-    (same : log ≡ output_of b) (last : after ≡ (reserver_of b).own) where
-  logs : may (get_or systems n d) (output_of b) → LogGains before log after × SystemMayLog may systems n log
-  logs ran =
-      rw (first, same, last) (gains_extended a b empty e, λ system at. search (rules, get_or_from_slice_get))
-
-  pub logged_ok : {A E : Type 0} (r : Result A E) → OnOk r (may (get_or systems n d) (output_of b))
-      → OnOk r (LogGains before log after × SystemMayLog may systems n log)
-  logged_ok (Ok x) ran = logs ran
-  logged_ok (Err why) ran = tt
-
-  pub logged_err : {A E : Type 0} (r : Result A E) → OnErr r (may (get_or systems n d) (output_of b))
-      → OnErr r (LogGains before log after × SystemMayLog may systems n log)
-  logged_err (Ok x) ran = tt
-  logged_err (Err why) ran = logs ran
+  pub log_gains : (shared : Shared) (before after : Reserver) (log : List (Entry C))
+      → IsFilled Logs [] (IsReturned shared) before log after → LogGains before.own log after.own
+  log_gains shared before after log f =
+      rw f.adds.log (gains_of shared before after f.adds.added (rw f.adds.requests_are at f.served))

@@ -22,4 +22,5 @@ pub mod Nothing
 pub mod Drawn
 pub mod Filled
 pub mod Whole
+pub mod Staged
 pub mod Common

@@ -1,11 +1,13 @@
 -- What a crew did whose jobs are systems that fill logs, and the history of its reservers.
-use Rattle.ent_runner.proofs.Common.{rules, All, slice_get, List, Some, Option, Vec, Global, Result, IfOk, IfErr, OnErr, IfOk-weaker, ap, length, sym, ℕ, ◌<◌, ◌∙◌, ◌≡◌, slice_get_within, AllPairs, flat_map, range_with_len, IsPermutation, ◌==◌, Call, IsLegal, after_history, given_in, Allocator, spawned_in, Entry, map, AreBrokenOff, AreDone, DidAll, OfEach, Respects, as_call, handles_of, history_of, reservations_by, reservations_of, opened, opened_records, Record, Reservation, requests_by, quota, FitQuota, LogGains, HaveLogged, HaveRun, SystemMayHaveLogged, SystemMayLog, entries_by, given_to, log_at}
+use Rattle.ent_runner.proofs.Common.{rules, [], IsFilled, IsReturned, Shared, Reserver, records_of, All, slice_get, List, Some, Option, Vec, Global, Result, IfOk, IfErr, OnErr, IfOk-weaker, ap, length, sym, ℕ, ◌<◌, ◌∙◌, ◌≡◌, slice_get_within, AllPairs, flat_map, range_with_len, IsPermutation, ◌==◌, Call, IsLegal, after_history, given_in, Allocator, spawned_in, Entry, map, AreBrokenOff, AreDone, DidAll, OfEach, Respects, as_call, handles_of, history_of, reservations_by, reservations_of, opened, opened_records, Record, Reservation, requests_by, quota, FitQuota, LogGains, HaveLogged, HaveRun, SystemMayHaveLogged, SystemMayLog, entries_by, given_to, log_at}
+use Rattle.ent_queue.specs.Logging as logging
 use Rattle.ent_runner.specs.Logs.Calls.{stands_for}
 use Rattle.ent_runner.specs.Logs.{IsBrokenOff}
 use Rattle.ent_runner.proofs.Adding.{added_at, all_either, each_may, ended_by, of_each, ours, own_mapped, stopped_last}
 use Rattle.ent_runner.proofs.Conducting.{err_follows}
+use Rattle.ent_runner.proofs.EachOutput.{done_seen, broken_off_seen}
 use Rattle.ent_runner.proofs.Lists.{each_of_all, filter_map_is, map_map_is}
-use Rattle.ent_runner.proofs.Gaining.{log_gains_nothing, log_gains_then}
+use Rattle.ent_runner.proofs.Gaining.{log_gains, log_gains_nothing, log_gains_then}
 
 -- the calls of one caller in the history
 by_caller : (k : ℕ) (records : List Record) → requests_by k (history_of records)
@@ -16,6 +18,29 @@ by_caller k records = search (rules, filter_map_is, map_map_is)
 abbrev pub Logs : {C S : Type 0} → (S → List (Entry C) → Type 0) → List S → ℕ → Record → List (Entry C) → Record
     → Type 0
 Logs may systems n before log after = LogGains before log after × SystemMayLog may systems n log
+
+module _ {C S : Type 0} (may : S → List (Entry C) → Type 0) (systems : List S) (shared : Shared) where
+  -- seen with the whole reserver that was lent to it
+  abbrev pub Fills : ℕ → Reserver → List (Entry C) → Reserver → Type 0
+  Fills n before log after =
+      IsFilled logging.Logs [] (IsReturned shared) before log after × SystemMayLog may systems n log
+
+  pub fills_gain : (n : ℕ) (before : Reserver) (log : List (Entry C)) (after : Reserver)
+      → Fills n before log after → Logs may systems n before.own log after.own
+  fills_gain n before log after (f, system) = (log_gains shared before after log f, system)
+
+module _ {C S : Type 0} (may leave : S → List (Entry C) → Type 0) (systems : List S) (shared : Shared) where
+  pub all_gained : (jobs : ℕ) (before : List Reserver) (logs : List (List (Entry C))) (after : List Reserver)
+      → AreDone (Fills may systems shared) jobs before logs after
+      → AreDone (Logs may systems) jobs (records_of before) logs (records_of after)
+  all_gained = done_seen (λ (r : Reserver). r.own) _ _ _ _ (fills_gain may systems shared)
+      (fills_gain leave systems shared)
+
+  pub some_gained : (jobs : ℕ) (before : List Reserver) (left : List (Option (List (Entry C)))) (after : List Reserver)
+      → AreBrokenOff (Fills may systems shared) (Fills leave systems shared) jobs before left after
+      → AreBrokenOff (Logs may systems) (Logs leave systems) jobs (records_of before) left (records_of after)
+  some_gained = broken_off_seen (λ (r : Reserver). r.own) _ _ _ _ (fills_gain may systems shared)
+      (fills_gain leave systems shared)
 
 module _ {C : Type 0} (start after : Allocator) (workers : ℕ) (opens records : List Record)
     (opened_are : opens ≡ opened_records start 0 workers) (many : length opens ≡ workers)

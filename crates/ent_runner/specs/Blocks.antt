@@ -10,7 +10,7 @@ use Rattle.std.specs.Prelude.{◌≡◌, ℕ, ◌<◌, ◌≤◌, ◌⊎◌, Lis
 use Rattle.std.specs.List.{All, AllPairs, flat_map, range_with_len}
 use Rattle.std.specs.List.Sorted.{IsPermutation}
 use Rattle.ent_handle.specs.Handle.{Handle}
-use Rattle.ent_blocks.specs.Blocks.{Block, Phase, Reserver, after_use}
+use Rattle.ent_blocks.specs.Blocks.{Block, after_use}
 use Rattle.ent_log.specs.declared.entry.Entry.{Entry}
 use Rattle.ent_log.specs.Logs.{spawned_in}
 use Rattle.ent_runner.specs.Blocks.Filling.{Draws}
@@ -61,17 +61,3 @@ module _ {C : Type 0} where
     -- left, each worker has run at least one, for whose log it had room from the beginning.
     pub why : HasStopped leave systems logs ran ⊎ (count < length systems)
     pub busy : count < length systems → All (λ mine. 0 < length mine) ran
-
--- For private contracts: each system has a reserver of the phase.
-pub record AreReady (phase : Phase) (systems : ℕ) (reservers : List Reserver) : Type 0 where
-  pub count : length reservers ≡ systems
-  pub of_phase : All (λ (r : Reserver). r.number ≡ phase.number) reservers
-
--- The job of this number filled the log from its own block, and hands back the log and the reserver.
-pub record FillsAt {C S : Type 0} (may : S → List (Entry C) → Type 0) (systems : List S)
-    (phase : Phase) (reservers : List Reserver) (n : ℕ) (done : List (Entry C) × Reserver)
-    : Type 0 where
-  pub system : SystemMayLog may systems n done.0
-  pub of_phase : done.1.number ≡ phase.number
-  pub draws : (r : Reserver) → slice_get reservers n ≡ Some r
-      → Draws phase.phase.start.pool r.block done.0 done.1.block

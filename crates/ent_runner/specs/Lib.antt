@@ -3,3 +3,4 @@ pub mod Frame
 pub mod Logs
 pub mod Blocks
 pub mod Refusing
+pub mod Stage

@@ -3,18 +3,12 @@
 
 mod filling;
 mod frame;
-mod queue_stage;
 mod room;
 mod run_error;
 mod running;
 mod splitting;
-mod stage;
-mod system;
-mod system_in_blocks;
 
 pub use crate::blocks::filling::fill_in_blocks;
 pub use crate::blocks::frame::{Unframed, run_frame_in_blocks};
 pub use crate::blocks::run_error::RunError;
 pub use crate::blocks::running::run_in_blocks;
-pub use crate::blocks::system::BlockSystem;
-pub use crate::blocks::system_in_blocks::SystemInBlocks;

@@ -11,15 +11,16 @@ ghost use Rattle.ent_world.specs.Sync.{sync, IsStop};
 pub(super) mod gate;
 pub(super) mod report;
 mod side;
-mod stage;
 pub(super) mod system;
 
 use crate::crew::Crew;
 use crate::frame::gate::Gate;
 use crate::frame::report::{FrameFault, FrameReport};
-use crate::frame::stage::Stage;
 use crate::frame::system::System;
+use crate::stage::SharedStage;
+use crate::systems::Issuers;
 use ent_alloc::Limits;
+use ent_shared::Shared;
 use ent_world::{SyncFault, World};
 use std::alloc::Global;
 use std::mem;
@@ -56,7 +57,7 @@ pub fn run_frame<R, S, G>(
 ) -> Result<FrameReport, FrameFault>
 where
     R: Threads + Sync,
-    S: System + Sync,
+    S: System<Shared> + Sync,
     G: Gate + Sync,
     requires flushed { world.old.allocator.asked ≡ 0 }
     requires systems { length systems.now ≤ 2 ^ 16 }
@@ -108,12 +109,15 @@ where
             return Err(FrameFault::Memory);
         }
     };
-    let stage = Stage {
-        alloc,
-        shared: opened.shared(),
+    let issuers = Issuers {
         view: opened.view(),
         systems,
         gate,
+    };
+    let stage = SharedStage {
+        alloc,
+        shared: opened.shared(),
+        systems: &issuers,
     };
     let queues = crew.work(rt, &mut reservers, &stage);
     *world = opened.close(reservers);

@@ -6,11 +6,10 @@ mod blocks;
 mod crew;
 mod frame;
 mod logs;
+mod stage;
+mod systems;
 
-pub use blocks::{
-    BlockSystem, RunError, SystemInBlocks, Unframed, fill_in_blocks, run_frame_in_blocks,
-    run_in_blocks,
-};
+pub use blocks::{RunError, Unframed, fill_in_blocks, run_frame_in_blocks, run_in_blocks};
 pub use crew::{ClaimRecord, Claimer, Claims, Crew, Jobs};
 pub use either::{Either, Left, Right};
 pub use ent_blocks::BlockNumbering;

@@ -6,16 +6,16 @@ ghost use Rattle.ent_runner.specs.Logs.{HaveLogged, IsBrokenOff};
 
 pub(super) mod beginning;
 pub(super) mod log_error;
-mod stage;
 pub(super) mod system;
 
 use crate::crew::Crew;
 use crate::logs::log_error::LogError;
-use crate::logs::stage::LogStage;
 use crate::logs::system::LogSystem;
+use crate::stage::SharedStage;
+use crate::systems::Loggers;
 use ent_alloc::{Entities, Limits};
 use ent_log::Log;
-use ent_shared::share;
+use ent_shared::{Shared, share};
 use std::alloc::Global;
 use std::mem;
 use std::thread::Threads;
@@ -52,7 +52,7 @@ pub fn run_logs<R, C, S>(
 where
     R: Threads + Sync,
     C: Drop + Send,
-    S: LogSystem<C> + Sync,
+    S: LogSystem<C, Shared> + Sync,
     ensures ok { IfOk result (λ logs. HaveLogged S.may_log systems.now workers
         entities.old.allocator logs.items entities.new.allocator) }
     ensures rows { entities.new.rows ≡ entities.old.rows }
@@ -101,10 +101,11 @@ where
             return Err(LogError::Memory);
         }
     };
-    let stage = LogStage {
+    let loggers = Loggers { systems };
+    let stage = SharedStage {
         alloc,
         shared: &shared,
-        systems,
+        systems: &loggers,
     };
     // A command may panic when it is dropped. So no log is dropped before the allocator is in its place.
     let logs = crew.work(rt, &mut reservers, &stage);

@@ -10,6 +10,7 @@ use crate::stop::Stop;
 use crate::stopped::Stopped;
 use crate::world::World;
 use ent_runner::{FrameFault, FrameReport, Gate, System};
+use ent_shared::Shared;
 use ent_world::SyncFault;
 use std::alloc::Global;
 use std::thread::Threads;
@@ -47,7 +48,7 @@ pub fn run_frame<R, S, G>(
 ) -> Result<FrameReport, FrameError>
 where
     R: Threads + Sync,
-    S: System + Sync,
+    S: System<Shared> + Sync,
     G: Gate + Sync,
     ensures ok { IfOk result (λ report. Ends S.may_issue systems.now workers world.old.world
         report.queues.items world.new.world report.sync.born.items report.sync.faults.items) }

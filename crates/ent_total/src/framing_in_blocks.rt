@@ -15,9 +15,9 @@ use crate::stopped::Stopped;
 use crate::unframed::Unframed;
 use crate::world::World;
 use crate::world_in_blocks::WorldInBlocks;
-use ent_blocks::BlockReserver;
+use ent_blocks::{BlockReserver, Blocks};
 use ent_handle::HandedBack;
-use ent_runner::{FrameReport, RunError, SystemInBlocks};
+use ent_runner::{FrameReport, RunError, System};
 use ent_world::SyncFault;
 use std::alloc::Global;
 use std::thread::Threads;
@@ -82,7 +82,7 @@ pub fn fill_in_blocks<R, J: BlockNumbering + Send + Sync, S>(
 ) -> Result<(Queues, Vec<BlockReserver<J>>), HandedBack<Vec<BlockReserver<J>>, RunError>>
 where
     R: Threads + Sync,
-    S: SystemInBlocks<J> + Sync,
+    S: System<Blocks<J>> + Sync,
     ensures ok { IfOk result (λ ran. HaveIssued S.may_issue systems.now
         (view_in_blocks opened.now.world) opened.now.world.blocks.phase.start
         (blocks_of reservers.items) ran.0.queues (blocks_of ran.1.items)) }
@@ -161,7 +161,7 @@ pub fn run_frame_in_blocks<R, J: BlockNumbering + Send + Sync, S>(
 ) -> Result<(World, FrameReport), Unframed<J>>
 where
     R: Threads + Sync,
-    S: SystemInBlocks<J> + Sync,
+    S: System<Blocks<J>> + Sync,
     ensures ok { IfOk result (λ ended. EndsInBlocks S.may_issue systems.now opened.world
         (blocks_of reservers.items) ended.1.queues.items ended.0.world ended.1.sync.born.items
         ended.1.sync.faults.items) }

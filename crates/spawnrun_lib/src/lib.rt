@@ -31,7 +31,6 @@ mod script;
 mod script_run;
 mod script_run_in_blocks;
 mod script_system;
-mod script_system_in_blocks;
 mod show;
 mod shown;
 mod spawning;

@@ -5,9 +5,9 @@ use Rattle.std.specs.Prelude.{◌≡◌, ℕ, ◌<◌, ◌≤◌, ◌⊎◌, Lis
 use Rattle.std.specs.List.{All, AllPairs, flat_map, range_with_len}
 use Rattle.std.specs.List.Sorted.{IsPermutation}
 use Rattle.ent_alloc.specs.Sequential.{Allocator}
-use Rattle.ent_blocks.specs.Blocks.{Block, Phase, Reserver}
+use Rattle.ent_blocks.specs.Blocks.{Block}
 use Rattle.ent_queue.specs.Command.{Command}
-use Rattle.ent_queue.specs.Drawing.{AreDrawnBy, Draws, after_commands}
+use Rattle.ent_queue.specs.Drawing.{AreDrawnBy, after_commands}
 use Rattle.ent_runner.specs.Frame.{HasStopped, queue_at, SystemMayIssue, SystemMayHaveIssued}
 use Rattle.ent_world.specs.OpenWorld.{View}
 
@@ -58,13 +58,3 @@ pub record HaveStopped {S : Type 0} (may leave : S → View → List Command →
   -- left, each worker has run at least one, for whose queue it had room from the beginning.
   pub why : HasStopped leave systems view queues ran ⊎ (count < length systems)
   pub busy : count < length systems → All (λ mine. 0 < length mine) ran
-
--- For private contracts: the job of this number filled the queue from its own block, and hands back the
--- queue and the reserver.
-pub record IssuesAt {S : Type 0} (may : S → View → List Command → Type 0) (systems : List S)
-    (view : View) (phase : Phase) (reservers : List Reserver) (n : ℕ)
-    (done : List Command × Reserver) : Type 0 where
-  pub system : SystemMayIssue may systems view n done.0
-  pub of_phase : done.1.number ≡ phase.number
-  pub draws : (r : Reserver) → slice_get reservers n ≡ Some r
-      → Draws phase.phase.start r.block done.0 done.1.block

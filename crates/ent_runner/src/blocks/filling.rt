@@ -5,11 +5,13 @@ ghost use Rattle.ent_runner.specs.Blocks.Queues.{HaveIssued, HaveStopped};
 ghost use Rattle.ent_runner.specs.declared.blocks.run_error.RunError.TheVariants as failed;
 
 use crate::BlockNumbering;
-use crate::blocks::queue_stage::QueueStage;
 use crate::blocks::room::{Room, WORKERS, check, prepare};
 use crate::blocks::run_error::RunError;
 use crate::blocks::splitting::split;
-use crate::blocks::system_in_blocks::SystemInBlocks;
+use crate::frame::gate::NoGate;
+use crate::frame::system::System;
+use crate::stage::BlockStage;
+use crate::systems::Issuers;
 use ent_blocks::{BlockReserver, Blocks};
 use ent_handle::HandedBack;
 use ent_queue::CommandQueue;
@@ -46,7 +48,7 @@ pub fn fill_in_blocks<R, J: BlockNumbering + Send + Sync, S>(
 ) -> Result<(Vec<CommandQueue>, Vec<BlockReserver<J>>), HandedBack<Vec<BlockReserver<J>>, RunError>>
 where
     R: Threads + Sync,
-    S: SystemInBlocks<J> + Sync,
+    S: System<Blocks<J>> + Sync,
     ensures ok { IfOk result (λ ran. HaveIssued S.may_issue systems.now view.entry blocks.now.phase.start
         (blocks_of reservers.items) ran.0.items (blocks_of ran.1.items)) }
     ensures of { IfOk result (λ ran. All (λ r. r.number ≡ blocks.now.number) ran.1.items) }
@@ -86,12 +88,16 @@ where
         outputs: mut queues,
         reservers: mut returned,
     } = room;
-    let stage = QueueStage {
+    let issuers = Issuers {
+        view,
+        systems,
+        gate: &NoGate,
+    };
+    let stage = BlockStage {
         alloc,
         blocks,
         reservers: &reservers,
-        view,
-        systems,
+        systems: &issuers,
     };
     let mut nothing = [(); WORKERS];
     let Ok(done) = crew.work(rt, &mut nothing[..workers], &stage) else {

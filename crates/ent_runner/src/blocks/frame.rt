@@ -14,9 +14,9 @@ ghost use Rattle.ent_world.specs.declared.fault.SyncFault.TheVariants as stop;
 use crate::BlockNumbering;
 use crate::blocks::filling::fill_in_blocks;
 use crate::blocks::run_error::RunError;
-use crate::blocks::system_in_blocks::SystemInBlocks;
 use crate::frame::report::FrameReport;
-use ent_blocks::{BlockReserver, EndError};
+use crate::frame::system::System;
+use ent_blocks::{BlockReserver, Blocks, EndError};
 use ent_handle::HandedBack;
 use ent_queue::CommandQueue;
 use ent_world::{SyncFault, World, WorldInBlocks};
@@ -79,7 +79,7 @@ pub fn run_frame_in_blocks<R, J: BlockNumbering + Send + Sync, S>(
 ) -> Result<(World, FrameReport), Unframed<J>>
 where
     R: Threads + Sync,
-    S: SystemInBlocks<J> + Sync,
+    S: System<Blocks<J>> + Sync,
     ensures ok { IfOk result (λ ended. EndsInBlocks S.may_issue systems.now opened
         (blocks_of reservers.items) ended.1.queues.items ended.0 ended.1.sync.born.items
         ended.1.sync.faults.items) }

@@ -1,7 +1,7 @@
 //! What systems in blocks need before they run: a reserver each, a crew, and room for what they hand back.
 ghost use Rattle.std.specs.Prelude.{◌≡◌, ◌≢◌, ◌<◌, ◌≤◌, ◌^◌, ◌↔◌, ◌⊎◌, [], length, All, IfOk, OnOk, IsErrOf};
 ghost use Rattle.std.specs.Prelude.{IsTrue, vec_capacity};
-ghost use Rattle.ent_runner.specs.Blocks.{AreReady};
+ghost use Rattle.ent_runner.specs.Stage.{AreReady};
 ghost use Rattle.ent_runner.specs.declared.blocks.run_error.RunError.TheVariants as failed;
 
 use crate::BlockNumbering;

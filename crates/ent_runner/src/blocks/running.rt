@@ -8,8 +8,9 @@ use crate::BlockNumbering;
 use crate::blocks::room::{Room, WORKERS, check, prepare};
 use crate::blocks::run_error::RunError;
 use crate::blocks::splitting::split;
-use crate::blocks::stage::BlockStage;
-use crate::blocks::system::BlockSystem;
+use crate::logs::system::LogSystem;
+use crate::stage::BlockStage;
+use crate::systems::Loggers;
 use ent_blocks::{BlockReserver, Blocks};
 use ent_handle::HandedBack;
 use ent_log::Log;
@@ -69,7 +70,7 @@ pub fn run_in_blocks<R, J: BlockNumbering + Send + Sync, C, S>(
 where
     R: Threads + Sync,
     C: Drop + Send,
-    S: BlockSystem<J, C> + Sync,
+    S: LogSystem<C, Blocks<J>> + Sync,
     ensures ok { IfOk result (λ ran. HaveFilled S.may_log systems.now blocks.now.phase.start.pool
         (blocks_of reservers.items) ran.0.items (blocks_of ran.1.items)) }
     ensures of { IfOk result (λ ran. All (λ r. r.number ≡ blocks.now.number) ran.1.items) }
@@ -109,11 +110,12 @@ where
         outputs: mut logs,
         reservers: mut returned,
     } = room;
+    let loggers = Loggers { systems };
     let stage = BlockStage {
         alloc,
         blocks,
         reservers: &reservers,
-        systems,
+        systems: &loggers,
     };
     let mut nothing = [(); WORKERS];
     let Ok(done) = crew.work(rt, &mut nothing[..workers], &stage) else {

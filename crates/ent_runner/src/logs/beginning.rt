@@ -14,6 +14,7 @@ use crate::logs::system::LogSystem;
 use ent_alloc::Entities;
 use ent_handle::{HandedBack, Handle, Memory};
 use ent_log::{Log, SyncPoint};
+use ent_shared::Shared;
 use std::alloc::Global;
 use std::thread::Threads;
 
@@ -43,7 +44,7 @@ pub fn run_to_sync_point<R, C, S>(
 where
     R: Threads + Sync,
     C: Drop + Send,
-    S: LogSystem<C> + Sync,
+    S: LogSystem<C, Shared> + Sync,
     ensures ok { IfOk result (λ point. HaveBegun S.may_log systems.now workers
         entities.old.allocator out.old.items point entities.new.allocator out.new.items) }
     ensures alive { IfOk result (λ point. All (IsLive entities.new.allocator) (spawned_in point)) }

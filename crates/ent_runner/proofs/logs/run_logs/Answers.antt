@@ -1,8 +1,7 @@
 use Rattle.ent_runner.proofs.Common.{rules, ◌≡◌, ◌∙◌, ap, length, refl, length-map, IfOk, OnErr, IfOk-weaker, IfErr-weaker, Reserver, records_of, HaveLogged}
 use Rattle.ent_runner.specs.Logs.{IsBrokenOff}
 use Rattle.ent_runner.proofs.Conducting.{written_back}
-use Rattle.ent_runner.proofs.EachOutput.{done_seen, broken_off_seen}
-use Rattle.ent_runner.proofs.Logged.{Logs, ran}
+use Rattle.ent_runner.proofs.Logged.{all_gained, some_gained, ran}
 use Rattle.ent_runner.proofs.Nothing.{logged_nothing}
 use Rattle.ent_runner.proofs.Reserved.{reserved_all}
 use Rattle.ent_runner.proofs.logs.run_logs.Given as given
@@ -22,18 +21,18 @@ closed g c =
     let own = λ (r : Reserver). r.own in
     let e = c.close.ensures in
     let w = c.work-logs.ensures in
-    let may = Logs g.S.LogSystem.may_log c.args.systems.now in
-    let leave = Logs g.S.LogSystem.may_leave c.args.systems.now in
+    let may = g.S.LogSystem.may_log in
+    let leave = g.S.LogSystem.may_leave in
     let back = written_back _ _ c.work-logs.new.lent c.in-Ok-share.made.1.ok.0
     (w.count ∙ ap length c.deref_mut.ensures.value) in
     let many : length c.deref_mut.result.now ≡ c.args.workers = rw c.deref_mut.ensures.value (search rules) in
     ran c.args.entities.now.allocator c.close.result.allocator c.args.workers (records_of c.deref_mut.result.now)
     (records_of c.work-logs.new.lent) (rw c.deref_mut.ensures.value (search rules))
     (length-map c.deref_mut.result.now own ∙ many) (length-map c.work-logs.new.lent own ∙ (w.count ∙ many))
-    (rw (back, same g c) at e.legal) (rw back at e.respects) (rw (back, same g c) at e.after) g.S.LogSystem.may_log
-    g.S.LogSystem.may_leave c.args.systems.now c.work-logs.result _ (search rules)
-    (IfOk-weaker c.work-logs.result _ _ (λ logs. done_seen own may leave _ c.deref_mut.result.now logs.items
-    c.work-logs.new.lent) w.done) (IfErr-weaker c.work-logs.result _ _ (λ left. broken_off_seen own may leave _
+    (rw (back, same g c) at e.legal) (rw back at e.respects) (rw (back, same g c) at e.after) may leave c.args.systems.now c.work-logs.result _ (search rules)
+    (IfOk-weaker c.work-logs.result _ _ (λ logs. all_gained may leave c.args.systems.now c.in-Ok-share.made.0 _
+    c.deref_mut.result.now logs.items c.work-logs.new.lent) w.done)
+    (IfErr-weaker c.work-logs.result _ _ (λ left. some_gained may leave c.args.systems.now c.in-Ok-share.made.0 _
     c.deref_mut.result.now left.items c.work-logs.new.lent) w.broken_off)
 
 pub returns-clause-ok : goal.returns-clause-ok

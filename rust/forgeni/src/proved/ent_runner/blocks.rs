@@ -5,18 +5,12 @@
 
 mod filling;
 mod frame;
-mod queue_stage;
 mod room;
 mod run_error;
 mod running;
 mod splitting;
-mod stage;
-mod system;
-mod system_in_blocks;
 
 pub use crate::proved::ent_runner::blocks::filling::fill_in_blocks;
 pub use crate::proved::ent_runner::blocks::frame::{Unframed, run_frame_in_blocks};
 pub use crate::proved::ent_runner::blocks::run_error::RunError;
 pub use crate::proved::ent_runner::blocks::running::run_in_blocks;
-pub use crate::proved::ent_runner::blocks::system::BlockSystem;
-pub use crate::proved::ent_runner::blocks::system_in_blocks::SystemInBlocks;

@@ -4,17 +4,17 @@
 
 pub(super) mod beginning;
 pub(super) mod log_error;
-mod stage;
 pub(super) mod system;
 
 use alloc::vec::Vec;
 use crate::proved::ent_runner::crew::Crew;
 use crate::proved::ent_runner::logs::log_error::LogError;
-use crate::proved::ent_runner::logs::stage::LogStage;
 use crate::proved::ent_runner::logs::system::LogSystem;
+use crate::proved::ent_runner::stage::SharedStage;
+use crate::proved::ent_runner::systems::Loggers;
 use crate::proved::ent_alloc::{Entities, Limits};
 use crate::proved::ent_log::Log;
-use crate::proved::ent_shared::share;
+use crate::proved::ent_shared::{Shared, share};
 use core::mem;
 use crate::kit::thread::Threads;
 
@@ -83,7 +83,7 @@ pub fn run_logs<R, C, S>(
 where
     R: Threads + Sync,
     C: Send,
-    S: LogSystem<C> + Sync,
+    S: LogSystem<C, Shared> + Sync,
 {
     if entities.needs_flush() {
         return Err(LogError::NeedsFlush);
@@ -108,9 +108,10 @@ where
             return Err(LogError::Memory);
         }
     };
-    let stage = LogStage {
+    let loggers = Loggers { systems };
+    let stage = SharedStage {
         shared: &shared,
-        systems,
+        systems: &loggers,
     };
     // A command may panic when it is dropped. So no log is dropped before the allocator is in its place.
     let logs = crew.work(rt, &mut reservers, &stage);

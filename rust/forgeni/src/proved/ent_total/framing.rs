@@ -8,6 +8,7 @@ use crate::proved::ent_total::stop::Stop;
 use crate::proved::ent_total::stopped::Stopped;
 use crate::proved::ent_total::world::World;
 use crate::proved::ent_runner::{FrameFault, FrameReport, Gate, System};
+use crate::proved::ent_shared::Shared;
 use crate::proved::ent_world::SyncFault;
 use crate::kit::thread::Threads;
 
@@ -67,7 +68,7 @@ pub fn run_frame<R, S, G>(
 ) -> Result<FrameReport, FrameError>
 where
     R: Threads + Sync,
-    S: System + Sync,
+    S: System<Shared> + Sync,
     G: Gate + Sync,
 {
     if world.world.needs_flush() {

@@ -8,9 +8,9 @@ use crate::proved::ent_total::stopped::Stopped;
 use crate::proved::ent_total::unframed::Unframed;
 use crate::proved::ent_total::world::World;
 use crate::proved::ent_total::world_in_blocks::WorldInBlocks;
-use crate::proved::ent_blocks::BlockReserver;
+use crate::proved::ent_blocks::{BlockReserver, Blocks};
 use crate::proved::ent_handle::HandedBack;
-use crate::proved::ent_runner::{FrameReport, RunError, SystemInBlocks};
+use crate::proved::ent_runner::{FrameReport, RunError, System};
 use crate::proved::ent_world::SyncFault;
 use crate::kit::thread::Threads;
 
@@ -94,7 +94,7 @@ pub fn fill_in_blocks<R, S>(
 ) -> Result<(Queues, Vec<BlockReserver>), HandedBack<Vec<BlockReserver>, RunError>>
 where
     R: Threads + Sync,
-    S: SystemInBlocks + Sync,
+    S: System<Blocks> + Sync,
 {
     let filled = crate::proved::ent_runner::fill_in_blocks(
         rt,
@@ -185,7 +185,7 @@ pub fn run_frame_in_blocks<R, S>(
 ) -> Result<(World, FrameReport), Unframed>
 where
     R: Threads + Sync,
-    S: SystemInBlocks + Sync,
+    S: System<Blocks> + Sync,
 {
     let WorldInBlocks {
         world: opened,

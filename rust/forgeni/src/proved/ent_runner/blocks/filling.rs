@@ -1,11 +1,13 @@
 // Made of crates/ent_runner/src/blocks/filling.rt by rust/erase. It isn't edited by hand.
 
 use alloc::vec::Vec;
-use crate::proved::ent_runner::blocks::queue_stage::QueueStage;
 use crate::proved::ent_runner::blocks::room::{Room, WORKERS, check, prepare};
 use crate::proved::ent_runner::blocks::run_error::RunError;
 use crate::proved::ent_runner::blocks::splitting::split;
-use crate::proved::ent_runner::blocks::system_in_blocks::SystemInBlocks;
+use crate::proved::ent_runner::frame::gate::NoGate;
+use crate::proved::ent_runner::frame::system::System;
+use crate::proved::ent_runner::stage::BlockStage;
+use crate::proved::ent_runner::systems::Issuers;
 use crate::proved::ent_blocks::{BlockReserver, Blocks};
 use crate::proved::ent_handle::HandedBack;
 use crate::proved::ent_queue::CommandQueue;
@@ -74,7 +76,7 @@ pub fn fill_in_blocks<R, S>(
 ) -> Result<(Vec<CommandQueue>, Vec<BlockReserver>), HandedBack<Vec<BlockReserver>, RunError>>
 where
     R: Threads + Sync,
-    S: SystemInBlocks + Sync,
+    S: System<Blocks> + Sync,
 {
     if let Err(error) = check(blocks, &reservers, systems.len(), workers) {
         return Err(HandedBack::new(reservers, error));
@@ -90,11 +92,15 @@ where
         outputs: mut queues,
         reservers: mut returned,
     } = room;
-    let stage = QueueStage {
-        blocks,
-        reservers: &reservers,
+    let issuers = Issuers {
         view,
         systems,
+        gate: &NoGate,
+    };
+    let stage = BlockStage {
+        blocks,
+        reservers: &reservers,
+        systems: &issuers,
     };
     let mut nothing = [(); WORKERS];
     let Ok(done) = crew.work(rt, &mut nothing[..workers], &stage) else {

@@ -3,9 +3,9 @@
 use alloc::vec::Vec;
 use crate::proved::ent_runner::blocks::filling::fill_in_blocks;
 use crate::proved::ent_runner::blocks::run_error::RunError;
-use crate::proved::ent_runner::blocks::system_in_blocks::SystemInBlocks;
 use crate::proved::ent_runner::frame::report::FrameReport;
-use crate::proved::ent_blocks::{BlockReserver, EndError};
+use crate::proved::ent_runner::frame::system::System;
+use crate::proved::ent_blocks::{BlockReserver, Blocks, EndError};
 use crate::proved::ent_handle::HandedBack;
 use crate::proved::ent_queue::CommandQueue;
 use crate::proved::ent_world::{SyncFault, World, WorldInBlocks};
@@ -130,7 +130,7 @@ pub fn run_frame_in_blocks<R, S>(
 ) -> Result<(World, FrameReport), Unframed>
 where
     R: Threads + Sync,
-    S: SystemInBlocks + Sync,
+    S: System<Blocks> + Sync,
 {
     let view = opened.view();
     let filled = fill_in_blocks(

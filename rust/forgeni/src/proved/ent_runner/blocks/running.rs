@@ -4,8 +4,9 @@ use alloc::vec::Vec;
 use crate::proved::ent_runner::blocks::room::{Room, WORKERS, check, prepare};
 use crate::proved::ent_runner::blocks::run_error::RunError;
 use crate::proved::ent_runner::blocks::splitting::split;
-use crate::proved::ent_runner::blocks::stage::BlockStage;
-use crate::proved::ent_runner::blocks::system::BlockSystem;
+use crate::proved::ent_runner::logs::system::LogSystem;
+use crate::proved::ent_runner::stage::BlockStage;
+use crate::proved::ent_runner::systems::Loggers;
 use crate::proved::ent_blocks::{BlockReserver, Blocks};
 use crate::proved::ent_handle::HandedBack;
 use crate::proved::ent_log::Log;
@@ -97,7 +98,7 @@ pub fn run_in_blocks<R, C, S>(
 where
     R: Threads + Sync,
     C: Send,
-    S: BlockSystem<C> + Sync,
+    S: LogSystem<C, Blocks> + Sync,
 {
     if let Err(error) = check(blocks, &reservers, systems.len(), workers) {
         return Err(HandedBack::new(reservers, error));
@@ -113,10 +114,11 @@ where
         outputs: mut logs,
         reservers: mut returned,
     } = room;
+    let loggers = Loggers { systems };
     let stage = BlockStage {
         blocks,
         reservers: &reservers,
-        systems,
+        systems: &loggers,
     };
     let mut nothing = [(); WORKERS];
     let Ok(done) = crew.work(rt, &mut nothing[..workers], &stage) else {

@@ -4,18 +4,19 @@
 
 use crate::proved::ent_runner::frame::system::System;
 use crate::kit::either::{Either, Left, Right};
+use crate::proved::ent_alloc::Source;
 use crate::proved::ent_handle::Memory;
-use crate::proved::ent_queue::Commands;
+use crate::proved::ent_queue::{CommandQueue, Commands};
 use crate::proved::ent_world::View;
 
 /// A system of one of two types, so that one list holds systems of both. For three types there is
 /// `Either<A, Either<B, C>>`, and so on.
-impl<A: System, B: System> System for Either<A, B> {
+impl<S: Source, A: System<S>, B: System<S>> System<S> for Either<A, B> {
     #[inline]
     fn run(
         &self,
         view: &View<'_>,
-        commands: &mut Commands<'_>,
+        commands: &mut Commands<'_, CommandQueue, S>,
     ) -> Result<(), Memory> {
         match self {
             Left(system) => system.run(view, commands),

@@ -9,6 +9,7 @@ use crate::proved::ent_runner::logs::system::LogSystem;
 use crate::proved::ent_alloc::Entities;
 use crate::proved::ent_handle::{HandedBack, Handle, Memory};
 use crate::proved::ent_log::{Log, SyncPoint};
+use crate::proved::ent_shared::Shared;
 use crate::kit::thread::Threads;
 
 /// [`run_logs`], and then the beginning of the sync point of these logs. It brings to life what the
@@ -77,7 +78,7 @@ pub fn run_to_sync_point<R, C, S>(
 where
     R: Threads + Sync,
     C: Send,
-    S: LogSystem<C> + Sync,
+    S: LogSystem<C, Shared> + Sync,
 {
     let mut logs = match run_logs(rt, entities, systems, workers) {
         Ok(logs) => logs,
