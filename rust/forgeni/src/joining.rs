@@ -27,11 +27,10 @@ pub trait JoinMaps {
     /// The handles that have a value in each of the maps, with their values. The first map may be
     /// borrowed mutably: its values may be changed.
     ///
-    /// The time is that of a look at each value of the map with the fewest values (of a
-    /// `HandleMap`, at each slot), and of a look-up in the other maps for each. If that is the
-    /// first map, its order is that of the walk, and no memory is taken. If it is another one, the
-    /// walk goes by rising slot, and first lists that map's handles. If there is no memory for the
-    /// list, and if the first map is a mutable `SparseMap`, the walk goes over the first map.
+    /// The walk goes over the first map, in its order, and looks each handle up in the others. It
+    /// takes no memory. But if another map has less than half as many values, the walk lists that
+    /// map's handles and goes by these, by rising slot. If there is no memory for the list, or if
+    /// the first map is a mutable `SparseMap`, the walk goes over the first map all the same.
     fn join(self) -> impl Iterator<Item = Self::Item>;
 }
 
@@ -40,7 +39,7 @@ pub trait First {
     type Lent;
 
     /// How many values a walk over this map comes to. A walk goes over another map only if that has
-    /// fewer.
+    /// less than half as many.
     fn count(&self) -> usize;
 
     /// The values of these handles, which come by rising slot. If there is no list, all values.
@@ -140,11 +139,11 @@ impl<M: AnyMap> Other for M {
     }
 }
 
-/// The handles of the map with the fewest values, by rising slot, if it has fewer than `most` and
-/// there is memory.
+/// The handles of the map with the fewest values, by rising slot, if it has less than half of `most`
+/// and there is memory.
 fn listed(others: &[&dyn Other], most: usize) -> Option<Vec<Handle>> {
     let fewest = others.iter().min_by_key(|map| map.count())?;
-    (fewest.count() < most).then_some(())?;
+    (fewest.count() < most.div_ceil(2)).then_some(())?;
     let mut handles = Vec::new();
     handles.try_reserve_exact(fewest.count()).ok()?;
     fewest.list(&mut handles);

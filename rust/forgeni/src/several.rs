@@ -8,7 +8,7 @@ use crate::proved::ent_storage::handle_map::slot::Slot;
 use crate::{HandleMap, SparseMap};
 use core::iter::{Enumerate, FusedIterator, Map};
 use core::ops::Range;
-use core::{mem, slice};
+use core::slice;
 
 /// Slots of a [`HandleMap`], side by side, of which the values may be changed. None is added or
 /// removed.
@@ -48,14 +48,13 @@ impl<'a, T> SlotsMut<'a, T> {
 
     /// The values that these handles have here. The handles come by rising slot.
     pub(crate) fn pick(
-        mut self,
+        self,
         handles: impl Iterator<Item = Handle>,
     ) -> impl Iterator<Item = (Handle, &'a mut T)> {
+        let (mut slots, mut first) = (self.0.iter_mut(), self.1);
         handles.filter_map(move |one| {
-            let at = one.index().checked_sub(self.1)?;
-            let (_, above) = mem::take(&mut self.0).split_at_mut_checked(at as usize)?;
-            let (slot, above) = above.split_first_mut()?;
-            self = SlotsMut(above, one.index() + 1);
+            let slot = slots.nth(one.index().checked_sub(first)? as usize)?;
+            first = one.index() + 1;
             (slot.generation() == one.generation()).then(|| (one, slot.value_mut()))
         })
     }
@@ -301,7 +300,8 @@ impl<T> SparseMap<T> {
 
     /// The handles and their values, by rising slot. The time is that of a look at each slot.
     pub(crate) fn by_slot(&self) -> impl Iterator<Item = (Handle, &T)> {
-        (0..).zip(&self.positions).filter_map(|(slot, at)| {
+        let slots = self.positions.iter().zip(0..);
+        slots.filter_map(|(at, slot)| {
             let (one, it) = self.entries.get(*at as usize)?;
             (one.index() == slot).then_some((*one, it))
         })

@@ -40,7 +40,7 @@ macro_rules! walks {
         let (second, third): ($Second<u64>, $Third<u64>) = (some($numbers), some($numbers));
         let other = |one| second.get(one).copied();
         let last = |one| third.get(one).copied();
-        let is_less = second.len().min(third.len()) < first.len();
+        let is_less = 2 * second.len().min(third.len()) < first.len();
         let three = |map: &$First<u64>, by_slot| {
             looked_up(map, by_slot, [&|one| map.get(one).copied(), &other, &last])
         };
@@ -60,7 +60,7 @@ macro_rules! walks {
             (*it >= 100) == changed
         }));
 
-        let is_less = second.len() < first.len();
+        let is_less = 2 * second.len() < first.len();
         let own = |one| first.get(one).copied();
         let two = looked_up(&first, is_less && $sorts_mut, [&own, &other]);
         let mut told = vec![];
