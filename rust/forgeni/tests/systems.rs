@@ -32,12 +32,12 @@ macro_rules! runs_all {
         impl<S: Source> $kind for All {
             fn run(&self, $($with: $type),*) -> Ran {
                 let (one, mut calls) = ($spawn::<S>, 0);
-                let changes = Mutex::new(|$($with: $type),*| {
+                let counts = |$($with: $type),*| {
                     calls += 1;
                     $spawn($($with),*)
-                });
+                };
                 $through(one, $($with),*)?;
-                $through::<S, &(dyn $kind + '_)>(&changes, $($with),*)?;
+                $through::<S, &(dyn $kind + '_)>(&Mutex::new(counts), $($with),*)?;
                 $through::<S, &(dyn $kind + Sync + '_)>(&one, $($with),*)?;
                 $through::<S, &(dyn $kind + Send + Sync + '_)>(&one, $($with),*)?;
                 $through::<S, Box<dyn $kind + '_>>(Box::new(&one), $($with),*)?;
@@ -45,7 +45,6 @@ macro_rules! runs_all {
                 $through::<S, Box<dyn $kind + Send + Sync + '_>>(Box::new(one), $($with),*)?;
                 $through(Arc::new(one), $($with),*)?;
                 $through::<S, Arc<dyn $kind + '_>>(Arc::new(one), $($with),*)?;
-                drop(changes);
                 assert_eq!(calls, 1);
                 Ok(())
             }
