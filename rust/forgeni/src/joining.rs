@@ -152,7 +152,7 @@ macro_rules! tuples_are_joined {
             #[inline]
             fn join(self) -> impl Iterator<Item = Self::Item> {
                 let (first, $($map),*) = self;
-                let fewest = usize::MAX$(.min($map.len()))*;
+                let fewest = [$($map.len()),*].into_iter().min().unwrap_or_default();
                 let is_less = fewest < first.count().div_ceil(2);
                 let handles = is_less.then(|| handles_of!(fewest: $($map)*));
                 let walk = first.walk(handles.flatten());
