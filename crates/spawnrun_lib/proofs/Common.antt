@@ -95,7 +95,7 @@ pub use Rattle.spawnrun_lib.specs.FrameText.{fault_line, frame_line, frame_text,
 pub use Rattle.spawnrun_lib.specs.Given.{handles_in_run}
 pub use Rattle.spawnrun_lib.specs.IssuedAlone.{AreGranted, BirthBindings, IsGranted, IsNoHandle, NamesNoHandle, NeedsNoHandle, births_from, births_meant, issued_alone, queues_alone, with_binding}
 pub use Rattle.spawnrun_lib.specs.Issuing.{Bindings, IsOfBirth, IsSpawn, IsSpawnMany, IsTargeted, Issues, IssuesAll, MayIssue, MayStop, OnEach, Stops, StopsAmong, StopsOnEach, bound, names_after, unbound}
-pub use Rattle.spawnrun_lib.specs.Parts.{HasIssued, HasIssuedOn, HasStopped, HasStoppedOn, command_on, names_of}
+pub use Rattle.spawnrun_lib.specs.Parts.{HasIssued, HasIssuedOn, HasStopped, HasStoppedAmong, HasStoppedOn, command_on, names_of}
 pub use Rattle.spawnrun_lib.specs.Place.{bad_name, is_among, is_listed, is_text, key_but, key_char, quoted, twice, unwhole_in}
 pub use Rattle.spawnrun_lib.specs.Replay.{outcome_lines}
 pub use Rattle.spawnrun_lib.specs.Report.{AreExecutions, Execution, IsReport, IsReportOf, born_in, frames_text, last_world, synced}

@@ -1,5 +1,5 @@
 -- A system whose first operations have run: what they have issued, the names that they bound, and their targets.
-use Rattle.spawnrun_lib.proofs.Common.{rules, ◌≡◌, refl, ◌∙◌, ℕ, ◌+◌, ◌<◌, List, [], ◌∷◌, ◌++◌, length, get_or, drop, inr, append_assoc, append-nil, arith, drop_more, Handle, Command, View, Operation, Bindings, unbound, IssuesAll, MayIssue, StopsAmong, names_of, HasIssued, common_steps, set, eqb-suc-zero, eqb-zero-suc, eqb-suc-suc, bound, map, Result, OnOk, OnErr, Memory, Target, IsTargeted, StopsOnEach, Stops, HasIssuedOn, HasStoppedOn, HasStopped}
+use Rattle.spawnrun_lib.proofs.Common.{rules, ◌≡◌, refl, ◌∙◌, ℕ, ◌+◌, ◌<◌, List, [], ◌∷◌, ◌++◌, length, get_or, drop, inr, append_assoc, append-nil, arith, drop_more, Handle, Command, View, Operation, Bindings, unbound, IssuesAll, MayIssue, StopsAmong, names_of, HasIssued, common_steps, set, eqb-suc-zero, eqb-zero-suc, eqb-suc-suc, bound, map, Result, Ok, Err, OnOk, OnErr, Memory, Target, IsTargeted, StopsOnEach, Stops, HasIssuedOn, HasStoppedOn, HasStopped, HasStoppedAmong}
 use Rattle.ent_script.specs.declared.target.Target.TheVariants as target
 
 -- The first i operations have issued what was added; whatever the others may issue, all may issue
@@ -63,6 +63,24 @@ pub issued_on : (view : View) (names : Bindings) (on : Target) (command : Handle
     (before after : List Command) (hs : List Handle) (result : Result (Unit {0}) Memory) → IsTargeted view names on hs
     → OnOk result (after ≡ before ++ map command hs) → OnOk result (HasIssuedOn view names on command before after)
 issued_on view names on command before after hs it targeted queue = search rules
+
+-- The handles of a target were known when memory ran out.
+pub stopped_on : (view : View) (names : Bindings) (on : Target) (command : Handle → Command)
+    (before after : List Command) (hs : List Handle) (result : Result (Unit {0}) Memory)
+    → IsTargeted view names on hs → OnErr result (HasStoppedAmong hs command before after)
+    → OnErr result (HasStoppedOn view names on command before after)
+stopped_on view names on command before after hs (Ok x) targeted stopped = tt
+stopped_on view names on command before after hs (Err why) targeted stopped = record {
+  issued = map command stopped.done;
+  queue = stopped.queue;
+  may = inr (record {
+    done = stopped.done;
+    missing = stopped.missing;
+    others = stopped.others;
+    target = rw stopped.all targeted;
+    commands = refl;
+  });
+}
 
 -- what holds anyway holds of an error
 pub on_error : (result : Result (Unit {0}) Memory) (P : Type 0) → P → OnErr result P

@@ -1,5 +1,5 @@
 use Rattle.spawnrun_lib.proofs.Common.{rules, ◌∷◌, [], IsTargeted, names_of}
-use Rattle.spawnrun_lib.proofs.SystemRunning.{issued_on}
+use Rattle.spawnrun_lib.proofs.SystemRunning.{issued_on, stopped_on}
 use Rattle.spawnrun_lib.proofs.change.Change.on_target.Given as given
 use Rattle.spawnrun_lib.proofs.change.Change.on_target.Goals.{After-drop-branch}
 use Rattle.spawnrun_lib.proofs.change.Change.on_target.Goals as goal
@@ -17,7 +17,7 @@ pub returns-in_ok-with-in-Each-clause-issued : goal.returns-in_ok-with-in-Each-c
 returns-in_ok-with-in-Each-clause-issued g c = search (rules, issued_on, listed g c)
 
 pub returns-in_ok-with-in-Each-clause-stopped : goal.returns-in_ok-with-in-Each-clause-stopped
-returns-in_ok-with-in-Each-clause-stopped g c = search (rules, listed g c)
+returns-in_ok-with-in-Each-clause-stopped g c = search (rules, stopped_on, listed g c)
 
 pub returns-in-Some-clause-issued : goal.returns-in-Some-clause-issued
 returns-in-Some-clause-issued g c = issued_on _ _ _ _ _ _ (c.in-Some.handle ∷ []) _ (search rules)
