@@ -1,5 +1,6 @@
 -- A system whose first operations have run: what they have issued, the names that they bound, and their targets.
-use Rattle.spawnrun_lib.proofs.Common.{rules, ◌≡◌, refl, ◌∙◌, ℕ, ◌+◌, ◌<◌, List, [], ◌∷◌, ◌++◌, length, get_or, drop, inr, append_assoc, append-nil, arith, drop_more, Handle, Command, View, Operation, Bindings, unbound, IssuesAll, MayIssue, StopsAmong, names_of, HasIssued, common_steps, set, eqb-suc-zero, eqb-zero-suc, eqb-suc-suc, bound, map, Result, Ok, Err, OnOk, OnErr, Memory, Target, IsTargeted, StopsOnEach, Stops, HasIssuedOn, HasStoppedOn, HasStopped, HasStoppedAmong}
+use Rattle.spawnrun_lib.proofs.Common.{rules, ◌≡◌, refl, ◌∙◌, ℕ, ◌+◌, ◌<◌, List, [], ◌∷◌, ◌++◌, length, get_or, drop, inr, append_assoc, append-nil, arith, drop_more, Handle, Command, View, Operation, Bindings, unbound, IssuesAll, MayIssue, StopsAmong, names_of, HasIssued, common_steps, set, eqb-suc-zero, eqb-zero-suc, eqb-suc-suc, bound, map, Result, OnOk, OnErr, Memory, Target, IsTargeted, StopsOnEach, Stops, HasIssuedOn, HasStoppedOn, HasStopped, HasStoppedAmong}
+use Rattle.std.specs.Prelude.{Ok, Err}
 use Rattle.ent_script.specs.declared.target.Target.TheVariants as target
 
 -- The first i operations have issued what was added; whatever the others may issue, all may issue

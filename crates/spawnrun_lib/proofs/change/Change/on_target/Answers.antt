@@ -22,3 +22,7 @@ returns-in_ok-with-in-Each-clause-stopped g c = search (rules, stopped_on, liste
 pub returns-in-Some-clause-issued : goal.returns-in-Some-clause-issued
 returns-in-Some-clause-issued g c = issued_on _ _ _ _ _ _ (c.in-Some.handle ∷ []) _ (search rules)
     c.on_each-in-Some.ensures.ok
+
+pub returns-in-Some-clause-stopped : goal.returns-in-Some-clause-stopped
+returns-in-Some-clause-stopped g c = stopped_on _ _ _ _ _ _ (c.in-Some.handle ∷ []) _ (search rules)
+    c.on_each-in-Some.ensures.stopped
