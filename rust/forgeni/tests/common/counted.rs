@@ -1,4 +1,4 @@
-//! Values that count how often they are dropped, and panic where they are told to.
+//! Values that count how often they are dropped, and panic on demand.
 
 use std::cell::{Cell, RefCell};
 use std::panic::{catch_unwind, resume_unwind, AssertUnwindSafe};
