@@ -1,5 +1,5 @@
 -- What a system's log has drawn from its block, by the replies to its requests.
-use Rattle.ent_runner.proofs.Common.{rules, ◌≡◌, ◌∙◌, ap, refl, sym, subst, ℕ, ◌+◌, ◌-◌, ◌<◌, ◌≤◌, zero, suc, List, [], ◌∷◌, take, drop, length, length-drop, length-take, arith, flat_map, common_steps, Handle, Refused, Block, Phase, rest_of, after_use, left_of, IsOfPhase, IsDrawn, AreServed, Request, Entry, Spawn, spawned_in, Commands, Extends, output_of, reserver_of, source_of, Logs, request_of, Draws, FitBlock, Result, Ok, Err, OnOk, OnErr, Some, slice_get, get_or, get_or_from_slice_get, FillsAt, IssuesAt, Command, View}
+use Rattle.ent_runner.proofs.Common.{rules, ◌≡◌, ◌∙◌, ap, refl, sym, subst, ℕ, ◌+◌, ◌-◌, ◌<◌, ◌≤◌, zero, suc, List, [], ◌∷◌, take, drop, length, length-drop, length-take, arith, flat_map, common_steps, Handle, Refused, Block, Phase, rest_of, after_use, left_of, IsDrawn, AreServed, Entry, Spawn, spawned_in, Logs, request_of, Draws, FitBlock, IsFilled, Command}
 use Rattle.ent_blocks.specs.Blocks.{Reserver}
 use Rattle.ent_alloc.specs.declared.refused.Refused.TheVariants as refused
 use Rattle.ent_log.specs.declared.entry.Entry.TheVariants as entry

@@ -1,6 +1,6 @@
 -- What a crew did whose jobs are the systems of a frame, and the history of its reservers, are a frame.
 -- What a frame leaves if no queue was applied.
-use Rattle.ent_runner.proofs.Common.{rules, ◌≡◌, ℕ, List, [], OnErr, IsFilled, IsReturned, Shared, Reserver, records_of, gains_of, Record, Command, Gains, View, SystemMayIssue, Result, All, slice_get, Some, length, map, ◌<◌, ◌∙◌, slice_get_within, AllPairs, flat_map, range_with_len, IsPermutation, Call, IsLegal, gains_nothing, gains_then, Respects, history_of, reservations_by, reservations_of, opened_records, Reservation, World, some, AreBrokenOff, AreDone, DidAll, OfEach, IsBrokenOff, IsFrame, IsWork, SystemMayHaveIssued, queue_at, requests_by, view_of, sym, Option, Vec, Global, ap, IfOk, IfErr, IfOk-weaker, IsErr, drop_of_length-le, IsSound, after_history, after_takes-sound, available-after_takes, limits-after_takes, live-after_takes, made-after_takes, length-taken, after_history-takes, OpenWorld, world_at_start, IsLost, reserved_by, None}
+use Rattle.ent_runner.proofs.Common.{rules, ◌≡◌, ℕ, List, [], OnErr, IsFilled, IsReturned, Shared, Reserver, records_of, gains_of, Record, Command, Gains, View, SystemMayIssue, Result, All, slice_get, Some, length, map, ◌<◌, ◌∙◌, slice_get_within, AllPairs, flat_map, range_with_len, IsPermutation, Call, IsLegal, gains_nothing, gains_then, Respects, history_of, reservations_by, reservations_of, opened_records, Reservation, World, some, AreBrokenOff, AreDone, DidAll, OfEach, IsBrokenOff, IsFrame, IsWork, SystemMayHaveIssued, queue_at, requests_by, view_of, sym, Option, Vec, Global, ap, IfOk, IfErr, IfOk-weaker, IsErr, drop_of_length-le, IsSound, after_history, after_takes-sound, available-after_takes, limits-after_takes, live-after_takes, made-after_takes, length-taken, after_history-takes, OpenWorld, world_at_start, IsLost, reserved_by}
 use Rattle.ent_queue.specs.Issuing as issuing
 use Rattle.ent_runner.proofs.Lists.{each_of_all, filter_map_is, map_map_is}
 use Rattle.ent_runner.proofs.Adding.{own_mapped, all_either, ended_by, stopped_last, added_at, ours, each_may}

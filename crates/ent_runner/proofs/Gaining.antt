@@ -1,5 +1,5 @@
 -- What a system's log has gained by the replies to its requests.
-use Rattle.ent_runner.proofs.Common.{rules, ◌≡◌, refl, sym, ap, ◌∙◌, ℕ, ◌-◌, ◌<◌, List, [], ◌∷◌, ◌++◌, append-nil, append_assoc, arith, common_steps, subst, sum_by, sum_by-append, Result, Ok, Err, inl, inr, All-nil, All-cons, All-append, OnOk, OnErr, cases_lt, flat_map, map-append, flat_map-append, Handle, Refused, Space, Tells, listed_alone, AreServed, one_served, served_parts, Record, Reservation, reservation_at, handles_given, given_more, given_no_more, Shared, Reserver, IsOf, IsReturned, Entry, Spawn, spawned_in, spawned_by, Commands, Extends, output_of, reserver_of, source_of, Logs, request_of, cost, FitsQuota, FitQuota, HasGained, LogGains, SystemMayLog, get_or, get_or_from_slice_get}
+use Rattle.ent_runner.proofs.Common.{rules, ◌≡◌, refl, sym, ap, ◌∙◌, ℕ, ◌-◌, ◌<◌, List, [], ◌∷◌, ◌++◌, append-nil, append_assoc, arith, common_steps, subst, sum_by, sum_by-append, Result, Ok, Err, inl, inr, All-nil, All-cons, All-append, cases_lt, flat_map, map-append, flat_map-append, Handle, Refused, Space, Tells, listed_alone, AreServed, one_served, served_parts, Record, Reservation, reservation_at, handles_given, given_more, given_no_more, Shared, Reserver, IsReturned, Entry, Spawn, spawned_in, spawned_by, Logs, request_of, cost, FitsQuota, FitQuota, HasGained, LogGains, IsFilled}
 use Rattle.ent_log.specs.declared.entry.Entry.TheVariants.{Command}
 use Rattle.ent_runner.specs.Logs.Calls.{stands_for}
 use Rattle.ent_alloc.specs.declared.refused.Refused.TheVariants as refused

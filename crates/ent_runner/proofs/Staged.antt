@@ -3,15 +3,15 @@ use Rattle.ent_runner.proofs.Common.{rules, ◌≡◌, ◌∙◌, ap, ℕ, List,
 use Rattle.ent_blocks.specs.Blocks.{Reserver}
 
 -- what the system of this number may do with its output
-module _ {S O A E : Type 0} (may : S → O → Type 0) (systems : List S) (n : ℕ) (d : S) (output : O) where
+module _ {S O : Type 0} (may : S → O → Type 0) (systems : List S) (n : ℕ) (d : S) (output : O) where
   abbrev May : Type 0
   May = (system : S) → slice_get systems n ≡ Some system → may system output
 
-  pub may_ok : (r : Result A E) → OnOk r (may (get_or systems n d) output) → OnOk r May
+  pub may_ok : {A E : Type 0} (r : Result A E) → OnOk r (may (get_or systems n d) output) → OnOk r May
   may_ok (Ok x) ran = λ system at. search (rules, get_or_from_slice_get)
   may_ok (Err why) ran = tt
 
-  pub may_err : (r : Result A E) → OnErr r (may (get_or systems n d) output) → OnErr r May
+  pub may_err : {A E : Type 0} (r : Result A E) → OnErr r (may (get_or systems n d) output) → OnErr r May
   may_err (Ok x) ran = tt
   may_err (Err why) ran = λ system at. search (rules, get_or_from_slice_get)
 

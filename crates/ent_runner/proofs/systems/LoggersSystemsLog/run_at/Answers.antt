@@ -1,4 +1,3 @@
-use Rattle.ent_runner.proofs.Common.{rules}
 use Rattle.ent_runner.proofs.Staged.{may_ok, may_err}
 use Rattle.ent_runner.proofs.systems.LoggersSystemsLog.run_at.Goals as goal
 
