@@ -1,11 +1,11 @@
 -- What a crew did whose jobs are systems that fill logs, and the history of its reservers.
-use Rattle.ent_runner.proofs.Common.{rules, [], IsFilled, IsReturned, Shared, Reserver, records_of, All, slice_get, List, Some, Option, Vec, Global, Result, IfOk, IfErr, OnErr, IfOk-weaker, ap, length, sym, ℕ, ◌<◌, ◌∙◌, ◌≡◌, slice_get_within, AllPairs, flat_map, range_with_len, IsPermutation, ◌==◌, Call, IsLegal, after_history, given_in, Allocator, spawned_in, Entry, map, AreBrokenOff, AreDone, DidAll, OfEach, Respects, as_call, handles_of, history_of, reservations_by, reservations_of, opened, opened_records, Record, Reservation, requests_by, quota, FitQuota, LogGains, HaveLogged, HaveRun, SystemMayHaveLogged, SystemMayLog, entries_by, given_to, log_at}
+use Rattle.ent_runner.proofs.Common.{rules, [], IsFilled, IsReturned, Shared, Reserver, records_of, All, slice_get, List, Some, Option, Vec, Global, Result, IfOk, IfErr, OnErr, IfOk-weaker, ap, length, sym, ℕ, ◌<◌, ◌∙◌, ◌≡◌, slice_get_within, AllPairs, flat_map, range_with_len, IsPermutation, ◌==◌, Call, IsLegal, after_history, given_in, Allocator, spawned_in, Entry, map, AreBrokenOff, AreDone, DidAll, OfEach, Respects, as_call, handles_of, history_of, reservations_by, reservations_of, opened, opened_records, Record, Reservation, requests_by, quota, FitQuota, LogGains, HaveLogged, HaveRun, AreRun, get_or_from_slice_get, ◌⊎◌, SystemMayLog, entries_by, given_to, log_at}
 use Rattle.ent_queue.specs.Logging as logging
 use Rattle.ent_runner.specs.Logs.Calls.{stands_for}
 use Rattle.ent_runner.specs.Logs.{IsBrokenOff}
-use Rattle.ent_runner.proofs.Adding.{added_at, all_either, each_may, ended_by, of_each, ours, own_mapped, stopped_last}
+use Rattle.ent_runner.proofs.Adding.{added_at, all_either, each_may, of_each, ours, own_mapped}
 use Rattle.ent_runner.proofs.Conducting.{err_follows}
-use Rattle.ent_runner.proofs.EachOutput.{done_seen, broken_off_seen}
+use Rattle.ent_runner.proofs.EachOutput.{done_seen, broken_off_seen, stop_short}
 use Rattle.ent_runner.proofs.Lists.{each_of_all, filter_map_is, map_map_is}
 use Rattle.ent_runner.proofs.Gaining.{log_gains, log_gains_nothing, log_gains_then}
 
@@ -80,15 +80,15 @@ module _ {C : Type 0} (start after : Allocator) (workers : ℕ) (opens records :
         long ran each did (λ call. call.requested ≡ 1)
         (λ k xs r less g. rw (g.gained.entries, own_mapped g.gained.reservations) g.gained.one_each)
 
+    runs : AreRun workers count ran
+    runs = record { each_worker = each ∙ many; once = once; rising = rising }
+
     run_is : HaveRun workers count start logs after
     run_is = search (
       rules,
       legal,
       after_is,
-      many,
-      each,
-      once,
-      rising,
+      runs,
       calls_at,
       within_at,
       given_at,
@@ -124,21 +124,17 @@ module _ {C : Type 0} (start after : Allocator) (workers : ℕ) (opens records :
     unfolding run_is
     broken_off left done =
         let logs : List (List (Entry C)) = done.outputs in
-        let Left : ℕ → List (Entry C) → Type 0 = SystemMayHaveLogged may leave systems in
+        let Left : ℕ → List (Entry C) → Type 0 = λ n log. May n log ⊎ Leave n log in
         let did : OfEach done.ran opens records (λ mine a b. DidAll (λ n before log after. LogGains before log after
         × Left n log) logs a mine b) = λ k mine a b at at_a at_b. all_either LogGains May Leave logs a mine b
         (done.did k mine a b at at_a at_b) in
+        let here = λ (n : ℕ) (log : List (Entry C)). get_or_from_slice_get logs n log [] in
         record {
           count = done.count;
-          within = done.within;
-          some = done.some;
           logs = logs;
           run = run_is Left done.count logs done.ran done.each_worker done.once done.rising done.each_output did;
-          each_system = each_holds Left done.count logs done.ran done.each_worker done.once done.rising done.each_output
-              did;
-          ended = ended_by LogGains May Leave logs done.ran opens records (long ∙ sym many) done.each_worker done.did;
-          why = stopped_last LogGains May Leave logs done.ran opens records (done.count < length systems) done.why;
-          busy = done.busy;
+          short = stop_short _ _ May Leave _ opens left records (long ∙ sym many) done logs [] done.each_output
+              (λ n a log b at it. rw (here n log at) it.1) (λ n a log b at it. rw (here n log at) it.1);
         }
 
     -- the crew has worked, and the allocator was closed
