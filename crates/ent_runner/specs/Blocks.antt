@@ -5,6 +5,7 @@ pub mod Filling
 pub mod Queues
 pub mod Frame
 pub mod Unframed
+pub mod Refusing
 use Rattle.std.specs.Prelude.{◌≡◌, ℕ, ◌<◌, ◌≤◌, ◌⊎◌, List, [], ◌∷◌, length, slice_get, Some}
 use Rattle.std.specs.List.{All, AllPairs, flat_map, range_with_len}
 use Rattle.std.specs.List.Sorted.{IsPermutation}

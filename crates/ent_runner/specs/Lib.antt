@@ -2,4 +2,5 @@ pub mod Crew
 pub mod Frame
 pub mod Logs
 pub mod Blocks
+pub mod Refusing
 pub mod Stage
