@@ -3,5 +3,10 @@ pub mod Positions
 pub mod Given
 pub mod Accounts
 pub mod Waiting
+pub mod Dealers
+pub mod GoingPast
+pub mod PastEndings
+pub mod PastClosings
+pub mod PastLosing
 pub mod Common
 pub mod Laws

@@ -9,7 +9,11 @@ use ent_handle::Memory;
 use std::alloc::Global;
 
 /// Takes what was used of these blocks, and leaves what is left of them in the pool.
-pub fn take_used(alloc: Global, entities: &mut Entities, blocks: &[Part]) -> Result<(), Memory>
+pub(crate) fn take_used(
+    alloc: Global,
+    entities: &mut Entities,
+    blocks: &[Part],
+) -> Result<(), Memory>
     requires flushed { entities.old.allocator.asked ≡ 0 }
     requires laid { AreLaid 0 (map unused blocks.now) }
     requires within { dealt blocks.now ≤ length entities.old.allocator.pool }

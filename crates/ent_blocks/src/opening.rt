@@ -139,7 +139,11 @@ fn hand_out<J: BlockNumbering>(parts: &[Part], number: u64, reservers: &mut Vec<
 }
 
 /// Blocks of these sizes.
-pub fn parts_of(alloc: Global, entities: &Entities, sizes: &[u32]) -> Result<Vec<Part>, Memory>
+pub(crate) fn parts_of(
+    alloc: Global,
+    entities: &Entities,
+    sizes: &[u32],
+) -> Result<Vec<Part>, Memory>
     requires flushed { entities.now.allocator.asked ≡ 0 }
     ensures blocks { IfOk result (λ parts. parts.items
         ≡ blocks_from 0 (length entities.now.allocator.pool) sizes.now) }

@@ -5,6 +5,7 @@ pub mod Filling
 pub mod Queues
 pub mod Frame
 pub mod Unframed
+pub mod Refusing
 use Rattle.std.specs.Prelude.{◌≡◌, ℕ, ◌<◌, List, [], ◌∷◌, length, slice_get, Some}
 use Rattle.ent_handle.specs.Handle.{Handle}
 use Rattle.ent_blocks.specs.Blocks.{Block, after_use}

@@ -3,4 +3,5 @@ pub mod Runs
 pub mod Frame
 pub mod Logs
 pub mod Blocks
+pub mod Refusing
 pub mod Stage

@@ -1,15 +1,15 @@
 -- Systems that fill logs: they run on workers, each with a log of its own, over one shared allocator.
 pub mod Calls
 pub mod Logging
-use Rattle.std.specs.Prelude.{◌≡◌, ℕ, ◌<◌, ◌==◌, List, [], length, filter}
+use Rattle.std.specs.Prelude.{◌≡◌, ℕ, ◌<◌, ◌==◌, List, [], ◌++◌, length, filter}
 use Rattle.std.specs.Prelude.{slice_get, slice_index_or, Some}
 use Rattle.std.specs.List.{All, flat_map}
 use Rattle.ent_handle.specs.Handle.{Handle}
 use Rattle.ent_alloc.specs.Limits.{quota}
-use Rattle.ent_alloc.specs.Sequential.{Allocator}
+use Rattle.ent_alloc.specs.Sequential.{Allocator, after_flush, born}
 use Rattle.ent_alloc.specs.History.{Call, IsLegal, after_history, given_in}
 use Rattle.ent_log.specs.declared.entry.Entry.{Entry}
-use Rattle.ent_log.specs.Logs.{spawned_in}
+use Rattle.ent_log.specs.Logs.{spawned_in, entries_of}
 use Rattle.ent_runner.specs.Frame.{requests_by}
 use Rattle.ent_runner.specs.Logs.Calls.{stands_for, FitQuota}
 use Rattle.ent_runner.specs.Runs.{AreRun, StopShort}
@@ -75,3 +75,16 @@ module _ {C : Type 0} where
     pub run : HaveRun workers count before logs after
     pub short : StopShort (SystemMayLog may systems) (SystemMayLog leave systems) logs []
         (length systems) count run.ran
+
+  -- All systems have run, and each filled a log that it may fill so. The flush brought to life what
+  -- they had reserved, and listed it behind what was in the list. The entries are those of all logs,
+  -- one log after the other.
+  pub record HaveBegun {S : Type 0} (may : S → List (Entry C) → Type 0) (systems : List S)
+      (workers : ℕ) (before : Allocator) (listed : List Handle) (entries : List (Entry C))
+      (after : Allocator) (list : List Handle) : Type 0 where
+    pub logs : List (List (Entry C))
+    pub filled : Allocator
+    pub logged : HaveLogged may systems workers before logs filled
+    pub entries_are : entries ≡ entries_of logs
+    pub after_is : after ≡ after_flush filled
+    pub list_is : list ≡ listed ++ born filled

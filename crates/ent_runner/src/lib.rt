@@ -17,6 +17,7 @@ pub use frame::gate::{Gate, NoGate};
 pub use frame::report::{FrameFault, FrameReport};
 pub use frame::run_frame;
 pub use frame::system::System;
-pub use logs::fault::LogFault;
+pub use logs::beginning::run_to_sync_point;
+pub use logs::log_error::LogError;
 pub use logs::run_logs;
 pub use logs::system::LogSystem;

@@ -1,13 +1,15 @@
 //! Logs that systems fill side by side, over an allocator of the caller's.
-ghost use Rattle.std.specs.Prelude.{◌≡◌, ◌<◌, ◌≤◌, ◌^◌, length, IfOk, IsErrOf, None};
+ghost use Rattle.std.specs.Prelude.{◌≡◌, ◌≢◌, ◌<◌, ◌≤◌, ◌^◌, ◌↔◌, ◌⊎◌, length};
+ghost use Rattle.std.specs.Prelude.{IfOk, IfErr, IsErrOf, Err, None};
 ghost use Rattle.ent_log.specs.Logs.{entries_of, spawned_in, first_unreserved};
 ghost use Rattle.ent_runner.specs.Logs.{HaveLogged, IsBrokenOff};
 
-pub(super) mod fault;
+pub(super) mod beginning;
+pub(super) mod log_error;
 pub(super) mod system;
 
 use crate::crew::Crew;
-use crate::logs::fault::LogFault;
+use crate::logs::log_error::LogError;
 use crate::logs::system::LogSystem;
 use crate::stage::SharedStage;
 use crate::systems::Loggers;
@@ -18,41 +20,39 @@ use std::alloc::Global;
 use std::mem;
 use std::thread::Threads;
 
+/// How many workers may run systems.
+const WORKERS: usize = 64;
+
+/// How many systems run together.
+const SYSTEMS: usize = 65_536;
+
 /// Runs each system once, on that many workers side by side, each with a log of its own. The logs
-/// are in the order of the systems, whatever the order in which they ended.
+/// are in the order of the systems, whatever the order in which they ended, and
+/// [`SyncPoint::begin`](ent_log::SyncPoint::begin) takes them.
 ///
-/// A worker has one reserver, and takes the next system that nobody has taken yet until none is
-/// left. If a thread can't be started, another one does its work. All reservations are as if they had
-/// been made one after the other, those of each system in its order.
-///
-/// Each handle that a spawn returned is reserved in the allocator then, so
-/// [`SyncPoint::begin`](ent_log::SyncPoint::begin) doesn't refuse it.
-///
-/// There have to be 1 to 64 workers and at most 65,536 systems. No handle may have been requested
-/// since the allocator's last flush, not even by a request that was refused. If there are no
-/// systems, nothing takes memory.
+/// A worker takes the next system that nobody has taken yet, until none is left. If a thread can't
+/// be started, another one does its work. One worker starts no thread.
 ///
 /// # Errors
 ///
-/// - [`LogFault::Memory`] if memory ran out before any system ran. The allocator is as it was.
-/// - [`LogFault::Lost`] if a system returned `Memory`, or if systems are left and no worker has
-///   memory for the log of another one. The logs are dropped. What the systems that ran had reserved
-///   stays reserved, and nothing else is: [`Entities::flush`] brings it to life.
+/// It is the first of these that holds.
+///
+/// - [`LogError::NeedsFlush`], [`LogError::Workers`], [`LogError::Systems`], [`LogError::Memory`]:
+///   no system ran, and the allocator is as it was.
+/// - [`LogError::Lost`]: a system returned an error, or systems are left and no worker has memory
+///   for the log of another one. The logs are dropped. What the systems that ran had reserved stays
+///   reserved, and nothing else is: [`Entities::flush`] brings it to life.
 pub fn run_logs<R, C, S>(
     rt: &R,
     alloc: Global,
     entities: &mut Entities,
     systems: &[S],
     workers: usize,
-) -> Result<Vec<Log<C>>, LogFault>
+) -> Result<Vec<Log<C>>, LogError>
 where
     R: Threads + Sync,
     C: Drop + Send,
     S: LogSystem<C, Shared> + Sync,
-    requires flushed { entities.old.allocator.asked ≡ 0 }
-    requires systems { length systems.now ≤ 2 ^ 16 }
-    requires some { 0 < workers }
-    requires few { workers ≤ 64 }
     ensures ok { IfOk result (λ logs. HaveLogged S.may_log systems.now workers
         entities.old.allocator logs.items entities.new.allocator) }
     ensures rows { entities.new.rows ≡ entities.old.rows }
@@ -60,26 +60,45 @@ where
     // The handles of all spawns are reserved.
     ensures reserved { IfOk result (λ logs. first_unreserved entities.new.allocator
         (spawned_in (entries_of logs.items)) ≡ None) }
-    ensures memory { IsErrOf result LogFault.Memory → entities.new ≡ entities.old }
-    ensures memory_some { IsErrOf result LogFault.Memory → 0 < length systems.now }
-    ensures lost { IsErrOf result LogFault.Lost → IsBrokenOff S.may_log S.may_leave systems.now
-        workers entities.old.allocator entities.new.allocator }
 
-    // So late, memory runs out only in a system, or in workers that have run one.
-    ensures lost_some { IsErrOf result LogFault.Lost → 0 < length systems.now }
+    ensures needs_flush { IsErrOf result LogError.NeedsFlush
+        ↔ (0 < entities.old.allocator.asked) }
+    ensures no_crew { IsErrOf result LogError.Workers
+        ↔ ((entities.old.allocator.asked ≡ 0) × ((workers ≡ 0) ⊎ (64 < workers))) }
+    ensures too_many { IsErrOf result LogError.Systems
+        ↔ ((entities.old.allocator.asked ≡ 0) × (0 < workers) × (workers ≤ 64)
+        × (2 ^ 16 < length systems.now)) }
+    ensures memory_some { IsErrOf result LogError.Memory → 0 < length systems.now }
+    ensures nothing { IfErr result (λ error. error ≢ LogError.Lost
+        → entities.new ≡ entities.old) }
+
+    // What is left of a run that was broken off.
+    ensures lost { IsErrOf result LogError.Lost → IsBrokenOff S.may_log S.may_leave systems.now
+        workers entities.old.allocator entities.new.allocator }
+    ensures lost_some { IsErrOf result LogError.Lost → 0 < length systems.now }
+    ensures unborn { result ≢ Err LogError.Unborn }
 {
+    if entities.needs_flush() {
+        return Err(LogError::NeedsFlush);
+    }
+    if workers == 0 || workers > WORKERS {
+        return Err(LogError::Workers);
+    }
+    if systems.len() > SYSTEMS {
+        return Err(LogError::Systems);
+    }
     if systems.is_empty() {
         return Ok(Vec::new(alloc));
     }
     let Ok(crew) = Crew::new(alloc, systems.len(), workers) else {
-        return Err(LogFault::Memory);
+        return Err(LogError::Memory);
     };
     let flushed = mem::replace(entities, Entities::new(alloc, Limits::default_limits()));
     let (shared, mut reservers) = match share(alloc, flushed, workers) {
         Ok(made) => made,
         Err((flushed, _)) => {
             *entities = flushed;
-            return Err(LogFault::Memory);
+            return Err(LogError::Memory);
         }
     };
     let loggers = Loggers { systems };
@@ -92,7 +111,7 @@ where
     let logs = crew.work(rt, &mut reservers, &stage);
     *entities = shared.close(reservers);
     let Ok(logs) = logs else {
-        return Err(LogFault::Lost);
+        return Err(LogError::Lost);
     };
     Ok(logs)
 }

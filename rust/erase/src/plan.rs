@@ -36,7 +36,7 @@ const PROGRAM_CRATES: &[&str] = &[
 const PROGRAM_FEATURE: &str = "programs";
 
 /// The tests of those crates, and what only the tests in plain Rust use.
-const TESTS: &[&str] = &["cases_and_examples", "devices", "ent_overflow", "ent_tests"];
+const TESTS: &[&str] = &["cases_and_examples", "devices", "ent_tests"];
 
 /// A module of the tests that isn't erased: the package has no scripts.
 const SCRIPTS: &str = "scripts";

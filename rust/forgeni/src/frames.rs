@@ -2,16 +2,16 @@
 
 use crate::guarding::{caught, guarded};
 use crate::proved::ent_runner::NoGate;
-use crate::proved::ent_total;
+use crate::proved::{ent_runner, ent_total};
 use crate::{
     Entities, HandedBack, Handle, Log, LogSystem, Report, SharedSource, SyncPoint, System, World,
 };
 use alloc::vec::Vec;
 
 pub use crate::kit::thread::{StdThreads, Threads as Join};
-pub use crate::proved::ent_runner::{run_in_blocks, FrameReport, RunError};
+pub use crate::proved::ent_runner::{run_in_blocks, FrameReport, LogError, RunError};
 pub use crate::proved::ent_total::{fill_in_blocks, run_frame_in_blocks};
-pub use crate::proved::ent_total::{FrameError, LogError, Unframed};
+pub use crate::proved::ent_total::{FrameError, Unframed};
 
 /// Runs each system once, on that many workers side by side, and then the sync point. It returns
 /// the report of the sync point.
@@ -235,7 +235,7 @@ pub fn run_logs_on<J: Join + Sync, C: Send, S: LogSystem<C, SharedSource> + Sync
     workers: usize,
 ) -> Result<Vec<Log<C>>, LogError> {
     guarded(join, systems, LogError::Memory, |join, systems| {
-        caught(|| ent_total::run_logs(join, entities, systems, workers))
+        caught(|| ent_runner::run_logs(join, entities, systems, workers))
     })
 }
 
@@ -291,6 +291,6 @@ pub fn run_to_sync_point<J: Join + Sync, C: Send, S: LogSystem<C, SharedSource> 
 ) -> Result<SyncPoint<C>, HandedBack<Vec<Log<C>>, LogError>> {
     let memory = HandedBack::new(Vec::new(), LogError::Memory);
     guarded(join, systems, memory, |join, systems| {
-        caught(|| ent_total::run_to_sync_point(join, entities, systems, workers, born))
+        caught(|| ent_runner::run_to_sync_point(join, entities, systems, workers, born))
     })
 }

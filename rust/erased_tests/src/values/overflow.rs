@@ -1,8 +1,8 @@
 //! Phases in blocks whose callers go past their blocks. If there is memory, opening and ending succeed, which no clause can
 //! say: a body that never asks for memory and says that it ran out meets them all.
 
-use crate::made::ent_overflow::{open_with_overflow, Overflow, OverflowReserver};
-use crate::proved::ent_alloc::{AllocFault, Entities, Limits, Refused};
+use crate::proved::ent_alloc::{AllocFault, Entities, Limits, Refused, Source};
+use crate::proved::ent_blocks::{open_with_overflow, Overflow, OverflowReserver};
 use crate::proved::ent_handle::Handle;
 
 fn handle(index: u32, generation: u32) -> Handle {
@@ -78,6 +78,59 @@ fn what_is_left_of_a_block_is_given_again() {
     for next in [handle(1, 2), handle(0, 2), handle(4, 1)] {
         assert_eq!(entities.alloc(), Ok(next));
     }
+}
+
+#[test]
+fn lost_callers_count_as_used_up() {
+    let (phase, mut callers) = open(allocator(), &[2, 1, 1]);
+    assert_eq!(phase.reserve(&mut callers[2]), Ok(handle(4, 1)));
+    assert_eq!(phase.reserve(&mut callers[0]), Ok(handle(1, 2)));
+    // Two are behind the blocks. The lost caller is given one, and then two are refused.
+    assert_eq!(phase.reserve(&mut callers[1]), Ok(handle(3, 1)));
+    assert_eq!(phase.reserve(&mut callers[1]), Ok(handle(5, 1)));
+    let many = phase.reserve_many(&mut callers[1], 2).map(Vec::from_iter);
+    assert_eq!(many, Err(Refused::Space { wanted: 2, left: 1 }));
+    drop(callers.remove(1));
+    let ended = phase.close_lost(callers);
+    assert_eq!(ended.requested_past(), 1 + 2);
+    let Ok(mut entities) = ended.into_entities() else {
+        panic!("memory for three blocks");
+    };
+    // Nobody got 6v1, but the refused request may have been served.
+    let born = [(3, 1), (4, 1), (5, 1), (6, 1), (1, 2)]
+        .map(|(index, generation)| handle(index, generation));
+    assert_flushes(&mut entities, &born);
+    assert_eq!(entities.alloc(), Ok(handle(0, 2)));
+    assert_eq!(entities.alloc(), Err(AllocFault::Space));
+}
+
+#[test]
+fn close_lost_with_all_callers() {
+    let (phase, mut callers) = open(allocator(), &[2, 2]);
+    for _ in 0..3 {
+        phase.reserve(&mut callers[0]).expect("a handle");
+    }
+    let ended = phase.close_lost(callers);
+    assert_eq!(ended.requested_past(), 1);
+    let Ok(mut entities) = ended.into_entities() else {
+        panic!("memory for two blocks");
+    };
+    let born = [(5, 1), (0, 2), (1, 2)].map(|(index, generation)| handle(index, generation));
+    assert_flushes(&mut entities, &born);
+    assert_eq!(entities.alloc(), Ok(handle(3, 1)));
+}
+
+#[test]
+fn it_is_a_source() {
+    let mut entities = allocator();
+    entities.try_set_row(handle(2, 1), 7).expect("memory for a row");
+    let (phase, mut callers) = open(entities, &[1]);
+    assert!(phase.was_alive(handle(2, 1)) && !phase.was_alive(handle(1, 2)));
+    assert_eq!(phase.had_row(handle(2, 1)), Some(7));
+    assert_eq!(phase.serve_one(&mut callers[0]), Ok(handle(1, 2)));
+    let many = phase.serve_many(&mut callers[0], 2).map(Vec::from_iter);
+    assert_eq!(many, Ok(vec![handle(0, 2), handle(3, 1)]));
+    assert_eq!(phase.close(callers).requested_past(), 2);
 }
 
 #[test]

@@ -44,7 +44,7 @@ returns-in_default-logs-clause-lost g c lost = search
 
 pub returns-clause-reserved : goal.returns-clause-reserved
 returns-clause-reserved g c = reserved_all _ _ _ _ _ (returns-clause-ok g c).run
-    (rw (same g (goal.at.returns-clause-reserved g c).After-close) at c.in-Ok-share.ensures.sound) c.requires.flushed
+    (rw (same g (goal.at.returns-clause-reserved g c).After-close) at c.in-Ok-share.ensures.sound) (search rules)
 
 pub close-requires-clause-own : goal.close-requires-clause-own
 close-requires-clause-own g c =

@@ -8,7 +8,10 @@ use crate::proved::ent_handle::Memory;
 
 /// Takes what was used of these blocks, and leaves what is left of them in the pool.
 #[inline]
-pub(crate) fn take_used(entities: &mut Entities, blocks: &[Part]) -> Result<(), Memory>
+pub(super) fn take_used(
+    entities: &mut Entities,
+    blocks: &[Part],
+) -> Result<(), Memory>
     // requires flushed { entities.old.allocator.asked ≡ 0 }
     // requires laid { AreLaid 0 (map unused blocks.now) }
     // requires within { dealt blocks.now ≤ length entities.old.allocator.pool }

@@ -112,7 +112,10 @@ fn hand_out(parts: &[Part], number: u64, reservers: &mut Vec<BlockReserver>)
 
 /// Blocks of these sizes.
 #[inline]
-pub(crate) fn parts_of(entities: &Entities, sizes: &[u32]) -> Result<Vec<Part>, Memory>
+pub(super) fn parts_of(
+    entities: &Entities,
+    sizes: &[u32],
+) -> Result<Vec<Part>, Memory>
     // requires flushed { entities.now.allocator.asked ≡ 0 }
     // ensures blocks { IfOk result (λ parts. parts.items
     //     ≡ blocks_from 0 (length entities.now.allocator.pool) sizes.now) }

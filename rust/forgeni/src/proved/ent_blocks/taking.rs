@@ -10,7 +10,7 @@ use crate::proved::ent_handle::Handle;
 
 /// Uses the next handle of the block.
 #[inline]
-pub(crate) fn take_one(entities: &Entities, part: &mut Part) -> Result<Handle, Space>
+pub(super) fn take_one(entities: &Entities, part: &mut Part) -> Result<Handle, Space>
     // requires flushed { entities.now.allocator.asked ≡ 0 }
     // requires within { part.old.before + part.old.size ≤ length entities.now.allocator.pool }
     // requires few { part.old.before + part.old.size < 2 ^ 32 }
@@ -31,7 +31,7 @@ pub(crate) fn take_one(entities: &Entities, part: &mut Part) -> Result<Handle, S
 
 /// Uses the next `n` handles of the block, which has so many left.
 #[inline]
-pub(crate) fn take_many<'a>(entities: &'a Entities, part: &mut Part, n: u32) -> Reserved<'a>
+pub(super) fn take_many<'a>(entities: &'a Entities, part: &mut Part, n: u32) -> Reserved<'a>
     // requires flushed { entities.now.allocator.asked ≡ 0 }
     // requires within { part.old.before + part.old.size ≤ length entities.now.allocator.pool }
     // requires few { part.old.before + part.old.size < 2 ^ 32 }

@@ -1,0 +1,15 @@
+//! Blocks whose callers go on to one cursor that all share. As long as nobody goes past its block,
+//! which handle each is given depends on no other.
+#![tactic(auto, using(crate::proofs::Laws::past_laws))]
+
+mod dealing;
+mod ended;
+mod opening;
+mod phase;
+mod reserver;
+mod source;
+
+pub use ended::Ended;
+pub use opening::open_with_overflow;
+pub use phase::Overflow;
+pub use reserver::OverflowReserver;

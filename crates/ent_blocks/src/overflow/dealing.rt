@@ -1,0 +1,35 @@
+//! The dealer reserves all blocks, and every other reserver comes after it.
+ghost use Rattle.std.specs.Prelude.{◌≡◌, ◌^◌, ◌<◌, pos, ◌-ℤ◌, ◌≤ℤ◌};
+ghost use Rattle.ent_alloc.specs.Sequential.{cursor};
+ghost use Rattle.ent_blocks.specs.Blocks.{dealt};
+ghost use Rattle.ent_shared.specs.Phase.{IsOf as IsReserverOf};
+ghost use Rattle.ent_blocks.specs.Overflow.{IsDealer, IsFresh};
+
+use crate::overflow::reserver::OverflowReserver;
+use crate::part::Part;
+use ent_shared::{Reserver, Shared};
+
+/// How many handles the blocks have in all.
+pub(super) fn dealt(parts: &[Part]) -> u32
+    requires { dealt parts.now < 2 ^ 32 }
+    ensures { result ≡ dealt parts.now }
+{
+    let mut count = 0;
+    for part in parts {
+        count += part.size();
+    }
+    count
+}
+
+/// Reserves that many handles, as the first reservation of the phase if no other reserver has
+/// begun.
+pub(super) fn deal(shared: &Shared, dealer: &mut Reserver, count: u32)
+    requires { IsFresh shared.now dealer.old }
+    ensures of { IsReserverOf shared.now dealer.new }
+    ensures dealt { IsDealer count dealer.new.own }
+    ensures mark { dealer.new.own.mark ≤ℤ (cursor shared.now.start -ℤ pos count) }
+{
+    if count > 0 {
+        let _blocks = shared.reserve_many(dealer, count);
+    }
+}

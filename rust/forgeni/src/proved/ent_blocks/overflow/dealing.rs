@@ -1,0 +1,34 @@
+// Made of crates/ent_blocks/src/overflow/dealing.rt by rust/erase. It isn't edited by hand.
+
+//! The dealer reserves all blocks, and every other reserver comes after it.
+
+use crate::proved::ent_blocks::overflow::reserver::OverflowReserver;
+use crate::proved::ent_blocks::part::Part;
+use crate::proved::ent_shared::{Reserver, Shared};
+
+/// How many handles the blocks have in all.
+#[inline]
+pub(super) fn dealt(parts: &[Part]) -> u32
+    // requires { dealt parts.now < 2 ^ 32 }
+    // ensures { result ≡ dealt parts.now }
+{
+    let mut count = 0;
+    for part in parts {
+        count += part.size();
+    }
+    count
+}
+
+/// Reserves that many handles, as the first reservation of the phase if no other reserver has
+/// begun.
+#[inline]
+pub(super) fn deal(shared: &Shared, dealer: &mut Reserver, count: u32)
+    // requires { IsFresh shared.now dealer.old }
+    // ensures of { IsReserverOf shared.now dealer.new }
+    // ensures dealt { IsDealer count dealer.new.own }
+    // ensures mark { dealer.new.own.mark ≤ℤ (cursor shared.now.start -ℤ pos count) }
+{
+    if count > 0 {
+        let _blocks = shared.reserve_many(dealer, count);
+    }
+}

@@ -1,0 +1,100 @@
+// Made of crates/ent_blocks/src/overflow/opening.rt by rust/erase. It isn't edited by hand.
+
+//! An allocator is dealt in blocks, and the rest of it is shared.
+
+use alloc::vec::Vec;
+use crate::kit::vec::FallibleVec;
+use crate::proved::ent_blocks::opening::parts_of;
+use crate::proved::ent_blocks::overflow::dealing::{deal, dealt};
+use crate::proved::ent_blocks::overflow::phase::Overflow;
+use crate::proved::ent_blocks::overflow::reserver::OverflowReserver;
+use crate::proved::ent_blocks::part::Part;
+use crate::proved::ent_alloc::Entities;
+use crate::proved::ent_handle::Memory;
+use crate::proved::ent_shared::{Reserver, Shared, share};
+
+/// Deals the pool's front in blocks of these sizes, one after the other, and shares the rest of it:
+/// at most 1,023 blocks. A block is smaller where the pool ends.
+///
+/// No slot is made, and no list of handles. It takes time and memory for each block, however large
+/// they are.
+///
+/// # Errors
+///
+/// [`Memory`], with the allocator as it was, if an allocation fails, and for no other reason. Some
+/// memory is for the cursor, so it may run out without blocks too.
+#[inline]
+pub(crate) fn open_with_overflow(
+    entities: Entities,
+    sizes: &[u32],
+) -> Result<(Overflow, Vec<OverflowReserver>), (Entities, Memory)>
+    // requires flushed { entities.allocator.asked ≡ 0 }
+    // requires few { length sizes.now < 1024 }
+    // ensures start { IfOk result (λ made. made.0.shared.start ≡ entities.allocator) }
+    // ensures rows { IfOk result (λ made. made.0.shared.rows ≡ entities.rows) }
+    // ensures blocks { IfOk result (λ made. made.0.blocks
+    //     ≡ blocks_from 0 (length entities.allocator.pool) sizes.now) }
+    // ensures reservers { IfOk result (λ made. own_blocks made.1.items ≡ made.0.blocks) }
+    // ensures own { IfOk result (λ made. All (IsCallerOf made.0) made.1.items) }
+    // Nobody has gone past its block yet, and each has its whole quota for it.
+    // ensures nothing { IfOk result (λ made. past_history made.1.items ≡ []) }
+    // ensures quota { IfOk result (λ made. All (λ c. c.past.own.left ≡ quota) made.1.items) }
+    // ensures err { IfErr result (λ refused. refused.0 ≡ entities) }
+{
+    let count = sizes.len();
+    let Ok(parts) = parts_of(&entities, sizes) else {
+        return Err((entities, Memory));
+    };
+    let Ok(mut callers) = Vec::with_capacity_fallibly(count) else {
+        return Err((entities, Memory));
+    };
+    let Ok(ends) = Vec::with_capacity_fallibly(count + 1) else {
+        return Err((entities, Memory));
+    };
+    let Ok(returned) = Vec::with_capacity_fallibly(count + 1) else {
+        return Err((entities, Memory));
+    };
+    let (shared, mut reservers) = share(entities, count + 1)?;
+    let Some(mut dealer) = reservers.pop() else {
+        unreachable!()
+    };
+    deal(&shared, &mut dealer, dealt(&parts));
+    hand_out(&shared, &mut dealer, &parts, &mut reservers, &mut callers);
+    Ok((
+        Overflow::new(shared, dealer, parts, ends, returned),
+        callers,
+    ))
+}
+
+/// Gives each block one of the reservers, which comes after the dealer from then on.
+#[inline]
+fn hand_out(
+    shared: &Shared,
+    dealer: &mut Reserver,
+    parts: &[Part],
+    reservers: &mut Vec<Reserver>,
+    callers: &mut Vec<OverflowReserver>,
+)
+    // requires phase { IsPhase shared.now dealer.old parts.now }
+    // requires fresh { All (IsFresh shared.now) reservers.old.items }
+    // requires many { length reservers.old.items ≡ length parts.now }
+    // requires none { callers.old.items ≡ [] }
+    // requires room { length parts.now ≤ vec_capacity callers.old }
+    // ensures dealer { dealer.new ≡ dealer.old }
+    // ensures blocks { own_blocks callers.new.items ≡ parts.now }
+    // ensures own { All (IsCallerOf (record { shared = shared.now; dealer = dealer.old; blocks = parts.now }))
+    //     callers.new.items }
+    // ensures nothing { past_history callers.new.items ≡ [] }
+    // ensures quota { All (λ c. c.past.own.left ≡ quota) callers.new.items }
+{
+    for part in parts {
+        let Some(mut past) = reservers.pop() else {
+            unreachable!()
+        };
+        shared.meet(&mut past, dealer);
+        callers.push_reserved(OverflowReserver {
+            part: part.with_used(0),
+            past,
+        });
+    }
+}

@@ -1,0 +1,326 @@
+// Made of crates/ent_blocks/src/overflow/phase.rt by rust/erase. It isn't edited by hand.
+
+use alloc::vec::Vec;
+use crate::kit::vec::FallibleVec;
+use crate::proved::ent_blocks::overflow::dealing::dealt;
+use crate::proved::ent_blocks::overflow::ended::Ended;
+use crate::proved::ent_blocks::overflow::reserver::OverflowReserver;
+use crate::proved::ent_blocks::part::Part;
+use crate::proved::ent_blocks::taking::{take_many, take_one};
+use crate::proved::ent_alloc::{Entities, Refused, Reserved, cancel_requests};
+use crate::proved::ent_handle::Handle;
+use crate::proved::ent_shared::{Reserver, Shared};
+
+/// An allocator whose pool's front is dealt in blocks, one to each [`OverflowReserver`], and whose
+/// rest all of them share. [`open_with_overflow`](crate::proved::ent_blocks::open_with_overflow) makes it.
+///
+/// As long as no caller goes past its block, which handles it gets depends on the allocator, on the
+/// sizes, and on what it has reserved before: on no other caller, and on no thread. What it gets
+/// past its block depends on when the others go past theirs.
+pub struct Overflow {
+    shared: Shared,
+    dealer: Reserver,
+    parts: Vec<Part>,
+    // Room for what comes back at the close.
+    ends: Vec<Part>,
+    reservers: Vec<Reserver>,
+}
+
+impl Overflow {
+    #[inline]
+    pub(super) fn new(
+        shared: Shared,
+        dealer: Reserver,
+        parts: Vec<Part>,
+        ends: Vec<Part>,
+        reservers: Vec<Reserver>,
+    ) -> Self
+        // requires phase { IsPhase shared dealer parts.items }
+        // requires no_ends { ends.items ≡ [] }
+        // requires ends { length parts.items + 1 ≤ vec_capacity ends }
+        // requires no_reservers { reservers.items ≡ [] }
+        // requires reservers { length parts.items + 1 ≤ vec_capacity reservers }
+        // ensures { result ≡ record { shared = shared; dealer = dealer; blocks = parts.items } }
+    {
+        Overflow {
+            shared,
+            dealer,
+            parts,
+            ends,
+            reservers,
+        }
+    }
+
+    /// How many blocks it has.
+    ///
+    /// <details><summary>Contract</summary>
+    ///
+    /// In the words of the folder `specs/` of crate `ent_blocks`:
+    ///
+    /// ```text
+    /// ensures { result ≡ length self.now.blocks }
+    /// ```
+    ///
+    /// </details>
+    #[inline]
+    pub fn count(&self) -> usize {
+        self.parts.len()
+    }
+
+    /// Whether the handle was alive when the phase was opened. It takes constant time.
+    ///
+    /// <details><summary>Contract</summary>
+    ///
+    /// In the words of the folder `specs/` of crate `ent_blocks`:
+    ///
+    /// ```text
+    /// ensures { result ≡ set.contains self.now.shared.start.live handle }
+    /// ```
+    ///
+    /// </details>
+    #[inline]
+    pub fn is_alive(&self, handle: Handle) -> bool {
+        self.shared.is_alive(handle)
+    }
+
+    /// The row that was kept with the handle when the phase was opened. `None` if it was not alive
+    /// then, or had no row. It takes constant time.
+    ///
+    /// <details><summary>Contract</summary>
+    ///
+    /// In the words of the folder `specs/` of crate `ent_blocks`:
+    ///
+    /// ```text
+    /// ensures value { result ≡ maps.get self.now.shared.rows handle }
+    /// ensures alive { OnSome result (set.contains self.now.shared.start.live handle ≡ true) }
+    /// ```
+    ///
+    /// </details>
+    #[inline]
+    pub fn row(&self, handle: Handle) -> Option<u32> {
+        self.shared.row(handle)
+    }
+
+    /// Reserves one handle: the next one of the caller's block, and if the block is used up, one
+    /// that all callers share, by one atomic step. It takes no memory and waits for nobody.
+    ///
+    /// # Errors
+    ///
+    /// Only if the block is used up:
+    /// - [`Refused::Quota`] if no quota is left. Nothing has changed.
+    /// - [`Refused::Space`] if the pool is empty. The request is taken from the quota all the same.
+    #[inline]
+    pub(crate) fn reserve(&self, caller: &mut OverflowReserver) -> Result<Handle, Refused>
+        // requires { IsCallerOf self.now caller.old }
+        // ensures stays { IsCallerOf self.now caller.new }
+        // ensures served { IsServed self.now caller.old caller.new 1 (listed_alone result) }
+    {
+        if caller.part.left() == 0 {
+            return self.shared.reserve(&mut caller.past);
+        }
+        let Ok(handle) = take_one(self.shared.opened(), &mut caller.part) else {
+            unreachable!()
+        };
+        Ok(handle)
+    }
+
+    /// Reserves `n` handles at once: all from the caller's block if it has so many left, and else
+    /// all from those that the callers share, by one atomic step. The block then keeps what it has
+    /// left. They are listed in the order of [`Entities::reply`]. It takes no memory and waits for
+    /// nobody.
+    ///
+    /// # Errors
+    ///
+    /// Only if the block has fewer than `n` handles left:
+    /// - [`Refused::Quota`] if `n` is above the quota that is left. Nothing has changed.
+    /// - [`Refused::Space`] if the pool has fewer than `n` handles behind the blocks. The request is
+    ///   taken from the quota all the same, and no request past a block is served until the next
+    ///   flush.
+    #[inline]
+    pub(crate) fn reserve_many(
+        &self,
+        caller: &mut OverflowReserver,
+        n: u32,
+    ) -> Result<Reserved<'_>, Refused>
+        // requires { IsCallerOf self.now caller.old }
+        // ensures stays { IsCallerOf self.now caller.new }
+        // ensures served { IsServed self.now caller.old caller.new n result }
+        // ensures length { IfOk result (λ handles. length handles ≡ n) }
+    {
+        if n > caller.part.left() {
+            return self.shared.reserve_many(&mut caller.past, n);
+        }
+        Ok(take_many(self.shared.opened(), &mut caller.part, n))
+    }
+
+    /// Ends the phase with all its callers, in the order in which they were made. It takes no
+    /// memory. [`Ended::into_entities`] then gives the allocator.
+    #[inline]
+    pub(crate) fn close(self, callers: Vec<OverflowReserver>) -> Ended
+        // requires own { All (IsCallerOf self) callers.items }
+        // requires all { map unused (own_blocks callers.items) ≡ self.blocks }
+        // ensures start { result.phase.start ≡ self.shared.start }
+        // ensures rows { result.phase.rows ≡ self.shared.rows }
+
+        // Behind the blocks comes what the shared cursor gave.
+        // ensures blocks { result.phase.blocks ≡ own_blocks callers.items
+        //     ++ past_block (dealt self.blocks) (length (given_in (past_history callers.items))) }
+        // ensures handles { let given = given_in (past_history callers.items) in (h : HandleValue) →
+        //     Contains given h
+        //     ↔ Contains (take (length given) (drop (dealt self.blocks) self.shared.start.pool)) h }
+
+        // What was requested past a block is as if it had been requested one after the other, when
+        // all blocks were reserved.
+        // ensures legal { IsLegal (after_take self.shared.start (dealt self.blocks))
+        //     (past_history callers.items) }
+        // ensures in_order { All (IsInOrder (reservations_of (past_records callers.items)))
+        //     (past_records callers.items) }
+        // ensures falls { AllPairs (λ earlier later. later.high <ℤ earlier.high)
+        //     (reservations_of (past_records callers.items)) }
+
+        // Whether the handles depend on the threads: only if some caller went past its block.
+        // ensures requested { result.requested ≡ sum (requests_of (past_history callers.items)) }
+        // ensures alone { result.requested ≡ 0 ↔ past_history callers.items ≡ [] }
+    {
+        let Overflow {
+            shared,
+            dealer,
+            parts,
+            mut ends,
+            mut reservers,
+        } = self;
+        let before = dealt(&parts);
+        account_for(&parts, &callers, &mut ends);
+        reservers.push_reserved(dealer);
+        take_past(callers, &mut reservers);
+        let entities = shared.close(reservers);
+        finish(entities, before, ends)
+    }
+
+    /// Ends the phase although some callers may be lost: they were dropped, as by a thread that
+    /// panicked. The others are in the order in which they were made. It takes no memory.
+    ///
+    /// What is left of a lost one's block counts as used. The cursor tells how many handles were
+    /// requested past the blocks, but not which of the lost callers' requests were refused. So the
+    /// front of what lies behind the blocks counts as given, as far as it goes, also those handles
+    /// that nobody got.
+    #[inline]
+    pub(crate) fn close_lost(self, callers: Vec<OverflowReserver>) -> Ended
+        // requires own { All (IsCallerOf self) callers.items }
+        // requires among { IsTrue (are_among self.blocks (own_blocks callers.items)) }
+        // ensures start { result.phase.start ≡ self.shared.start }
+        // ensures rows { result.phase.rows ≡ self.shared.rows }
+
+        // Behind the blocks comes what was requested, as far as the pool goes.
+        // ensures blocks { let behind = drop (dealt self.blocks) self.shared.start.pool in
+        //     result.phase.blocks ≡ accounted self.blocks (own_blocks callers.items)
+        //     ++ past_block (dealt self.blocks) (lesser result.requested (length behind)) }
+
+        // It counts what the callers that are here have requested, and of the others no more than
+        // their quota.
+        // ensures least { sum_by (λ r. requested_by r.own) (past_of callers.items)
+        //     ≤ result.requested }
+        // ensures most { sum_by (λ r. r.own.left) (past_of callers.items) + result.requested
+        //     ≤ length self.blocks * quota }
+
+        // If all are here, it counts what they have requested.
+        // ensures requested { length callers.items ≡ length self.blocks
+        //     → sum_by (λ r. requested_by r.own) (past_of callers.items) ≡ result.requested }
+
+        // What the callers that are here were given past their blocks is there. No handle was given
+        // to two of them.
+        // ensures given { let behind = drop (dealt self.blocks) self.shared.start.pool in
+        //     All (λ r. All (Contains (take (lesser result.requested (length behind)) behind))
+        //     (handles_given r.own)) (past_of callers.items) }
+        // ensures distinct { AllPairs (λ g h. g ≢ h)
+        //     (handles_of (own_of_all (past_records callers.items))) }
+    {
+        let Overflow {
+            shared,
+            dealer,
+            parts,
+            mut ends,
+            mut reservers,
+        } = self;
+        let before = dealt(&parts);
+        account_for(&parts, &callers, &mut ends);
+        reservers.push_reserved(dealer);
+        take_past(callers, &mut reservers);
+        let entities = shared.close_lost(reservers);
+        finish(entities, before, ends)
+    }
+}
+
+/// Appends all blocks with what was used of each: all of it, if its caller isn't here. There is room
+/// for them.
+#[inline]
+fn account_for(parts: &[Part], callers: &[OverflowReserver], ends: &mut Vec<Part>)
+    // requires none { ends.old.items ≡ [] }
+    // requires room { length parts.now ≤ vec_capacity ends.old }
+    // ensures all { ends.new.items ≡ accounted parts.now (own_blocks callers.now) }
+    // ensures count { vec_len ends.new ≡ length parts.now }
+    // ensures room { vec_capacity ends.new ≡ vec_capacity ends.old }
+{
+    let mut next = 0;
+    for part in parts {
+        let mut used = part.size();
+        if next < callers.len() {
+            let caller = &callers[next];
+            if part.is_same(&caller.part) {
+                used = caller.part.used();
+                next += 1;
+            }
+        }
+        ends.push_reserved(part.with_used(used));
+    }
+}
+
+/// Appends what the callers went past their blocks with. There is room for it.
+#[inline]
+fn take_past(callers: Vec<OverflowReserver>, reservers: &mut Vec<Reserver>)
+    // requires { vec_len reservers.old + length callers.items ≤ vec_capacity reservers.old }
+    // ensures { reservers.new.items ≡ reservers.old.items ++ past_of callers.items }
+{
+    for caller in callers {
+        reservers.push_reserved(caller.past);
+    }
+}
+
+/// What the shared allocator has reserved behind so many handles, those of the blocks, is one more
+/// block.
+#[inline]
+fn finish(mut entities: Entities, before: u32, mut ends: Vec<Part>) -> Ended
+    // requires asked { before ≤ entities.allocator.asked }
+    // requires taken { before ≤ length entities.allocator.taken }
+    // requires room { vec_len ends + 1 ≤ vec_capacity ends }
+    // requires used { AreUsedOf (record {
+    //   start = before_requests entities.allocator;
+    //   rows = entities.rows;
+    //   blocks = ends.items ++ past_block before (length entities.allocator.taken - before);
+    // }) }
+    // ensures { result ≡ record {
+    //   phase = record {
+    //     start = before_requests entities.allocator;
+    //     rows = entities.rows;
+    //     blocks = ends.items ++ past_block before (length entities.allocator.taken - before);
+    //   };
+    //   requested = entities.allocator.asked - before;
+    // } }
+{
+    let requested = entities.asked() - u64::from(before);
+    let given = entities.reserved() - before;
+    cancel_requests(&mut entities);
+    append_past(&mut ends, before, given);
+    Ended::new(entities, ends, requested)
+}
+
+/// Appends what came from the shared cursor, as one more block. There is room for it.
+#[inline]
+fn append_past(ends: &mut Vec<Part>, before: u32, given: u32)
+    // requires { vec_len ends.old + 1 ≤ vec_capacity ends.old }
+    // ensures { ends.new.items ≡ ends.old.items ++ past_block before given }
+{
+    if given > 0 {
+        ends.push_reserved(Part::new(before, given).with_used(given));
+    }
+}
