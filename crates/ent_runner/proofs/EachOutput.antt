@@ -1,6 +1,6 @@
 -- What a relation says of the output of a job alone holds of each output. What jobs did with what was lent to them,
 -- seen by one part of it.
-use Rattle.ent_runner.proofs.Common.{rules, arith, common_steps, all_pairs_push, All, AllPairs, AreRun, StopShort, get_or, slice_get, [], List, Some, inl, inr, length, ℕ, Option, ◌<◌, ◌∷◌, ◌≡◌, ◌⊎◌, FoldsTo-push, All-cons, All-nil, get_or-range_with_len, length-range_with_len, All-permutation, get_or_from_slice_get, slice_get_within, flat_map, range_with_len, IsPermutation, AreBrokenOff, AreDone, DidAll, DidUntil, DoesAt, OfEach, map, ap, sym, ◌∙◌, ⊎_elim, length-map}
+use Rattle.ent_runner.proofs.Common.{rules, arith, common_steps, all_pairs_push, All, AllPairs, StopShort, get_or, slice_get, [], List, Some, inl, inr, length, ℕ, Option, ◌<◌, ◌∷◌, ◌≡◌, ◌⊎◌, FoldsTo-push, All-cons, All-nil, get_or-range_with_len, length-range_with_len, All-permutation, get_or_from_slice_get, slice_get_within, flat_map, range_with_len, IsPermutation, AreBrokenOff, AreDone, DidAll, DidUntil, DoesAt, OfEach, map, ap, ◌∙◌, ⊎_elim, length-map}
 use Rattle.ent_runner.proofs.Lists.{at_within, all_flat, all_from_each, mapped_at, get_mapped, last_pushed}
 
 -- what holds of the jobs of each worker, holds of each job
@@ -87,12 +87,12 @@ module _ {O L : Type 0} where
       each_system = each_held Either done.outputs
           (λ n. May n (get_or seen n empty) ⊎ Leave n (get_or seen n empty))
           (λ n a o b at. ⊎_elim (λ did. inl (ends n a o b at did)) (λ did. inr (stops n a o b at did))) done.count
-          before after done.ran done.each_worker same done.once (λ k mine a b x y z. did_either may leave Either
+          before after done.ran done.run.each_worker same done.run.once (λ k mine a b x y z. did_either may leave Either
           (λ n a o b it. inl it) (λ n a o b it. inr it) done.outputs a mine b (done.did k mine a b x y z));
       ended = λ worker mine at.
           let within = slice_get_within done.ran worker mine at in
-          let a = at_within before worker (omega (arith, within, done.each_worker)) in
-          let b = at_within after worker (omega (arith, within, done.each_worker, same)) in
+          let a = at_within before worker (omega (arith, within, done.run.each_worker)) in
+          let b = at_within after worker (omega (arith, within, done.run.each_worker, same)) in
           in_turn a.0 mine b.0 (done.did worker mine a.0 b.0 at a.1 b.1);
       why = ⊎_elim (λ s.
           let d = s.7 in
@@ -108,13 +108,6 @@ module _ {O L : Type 0} where
       busy = done.busy;
     }
 
-  -- the workers of a crew that was broken off, and of one that has done all
-  pub ran_first : (may leave : ℕ → L → O → L → Type 0) (jobs workers : ℕ) (before : List L) (left : List (Option O))
-      (after : List L) → length before ≡ workers → (done : AreBrokenOff may leave jobs before left after)
-      → AreRun workers done.count done.ran
-  ran_first may leave jobs workers before left after many done =
-      record { each_worker = done.each_worker ∙ many; once = done.once; rising = done.rising }
-
   abbrev Alone : (ℕ → O → Type 0) → ℕ → L → O → L → Type 0
   Alone P number before output after = P number output
 
@@ -124,7 +117,7 @@ module _ {O L : Type 0} where
   each_done P jobs before outputs after same done n less output at = rw (get_or_from_slice_get outputs n output output at)
       at (each_held (Alone P) outputs (λ m. P m (get_or outputs m output))
       (λ m a o b there it. rw (get_or_from_slice_get outputs m o output there) it) jobs before after done.ran
-      done.each_worker same done.once done.did n less)
+      done.run.each_worker same done.run.once done.did n less)
 
   pub each_either : (P Q : ℕ → O → Type 0) (jobs : ℕ) (before : List L) (left : List (Option O)) (after : List L)
       → length after ≡ length before → (done : AreBrokenOff (Alone P) (Alone Q) jobs before left after) → (n : ℕ)
@@ -160,19 +153,22 @@ module _ {O L K : Type 0} (f : L → K) (may leave : ℕ → K → O → K → T
 
   pub done_seen : (jobs : ℕ) (before : List L) (outputs : List O) (after : List L)
       → AreDone done jobs before outputs after → AreDone may jobs (map f before) outputs (map f after)
-  done_seen jobs before outputs after all = search (rules, length-map, mapped_at, did_seen)
+  done_seen jobs before outputs after all = record {
+    ran = all.ran;
+    run = rw (length-map before f) all.run;
+    count = all.count;
+    did = λ worker mine a b at at_a at_b. search (rules, all.did worker mine, mapped_at, did_seen outputs mine);
+  }
 
   pub broken_off_seen : (jobs : ℕ) (before : List L) (left_out : List (Option O)) (after : List L)
       → AreBrokenOff done left jobs before left_out after
       → AreBrokenOff may leave jobs (map f before) left_out (map f after)
   broken_off_seen jobs before left_out after all = record {
     ran = all.ran;
-    each_worker = all.each_worker ∙ sym (length-map before f);
     count = all.count;
+    run = rw (length-map before f) all.run;
     within = all.within;
     some = all.some;
-    once = all.once;
-    rising = all.rising;
     outputs = all.outputs;
     each_output = all.each_output;
     left_are = all.left_are;

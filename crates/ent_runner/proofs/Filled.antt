@@ -3,7 +3,7 @@ use Rattle.ent_runner.proofs.Common.{StopShort, get_or, slice_get, [], zero, suc
 use Rattle.ent_runner.specs.Blocks.{IsBrokenOff}
 use Rattle.ent_runner.specs.Logs.{SystemMayLog}
 use Rattle.ent_blocks.specs.Blocks.{Reserver}
-use Rattle.ent_runner.proofs.EachOutput.{HoldsAt, each_done, each_either, ran_first, stop_short}
+use Rattle.ent_runner.proofs.EachOutput.{HoldsAt, each_done, each_either, stop_short}
 use Rattle.ent_runner.proofs.Lists.{at_within, get_mapped, mapped_at}
 use Rattle.ent_runner.proofs.Drawn.{log_draws, queue_draws}
 use Rattle.ent_queue.specs.Drawing.{AreDrawnBy}
@@ -144,7 +144,7 @@ module _ {C S L : Type 0} (may leave : S → List (Entry C) → Type 0) (systems
       record {
         ran = done.ran;
         count = done.count;
-        run = ran_first _ _ _ workers before left after team done;
+        run = rw team at done.run;
         logs = filled_of done.outputs;
         short = d.0;
         draws = d.1;
@@ -181,7 +181,7 @@ module _ {S L : Type 0} (may leave : S → View → List Command → Type 0) (sy
       record {
         ran = done.ran;
         count = done.count;
-        run = ran_first _ _ _ workers before left after team done;
+        run = rw team at done.run;
         queues = filled_of done.outputs;
         short = d.0;
         draws = d.1;

@@ -1,5 +1,5 @@
 -- What a crew did whose jobs are systems that fill logs, and the history of its reservers.
-use Rattle.ent_runner.proofs.Common.{rules, [], IsFilled, IsReturned, Shared, Reserver, records_of, All, slice_get, List, Some, Option, Vec, Global, Result, IfOk, IfErr, OnErr, IfOk-weaker, ap, length, sym, ℕ, ◌<◌, ◌∙◌, ◌≡◌, slice_get_within, AllPairs, flat_map, range_with_len, IsPermutation, ◌==◌, Call, IsLegal, after_history, given_in, Allocator, spawned_in, Entry, map, AreBrokenOff, AreDone, DidAll, OfEach, Respects, as_call, handles_of, history_of, reservations_by, reservations_of, opened, opened_records, Record, Reservation, requests_by, quota, FitQuota, LogGains, HaveLogged, HaveRun, AreRun, get_or_from_slice_get, ◌⊎◌, SystemMayLog, entries_by, given_to, log_at}
+use Rattle.ent_runner.proofs.Common.{rules, [], IsFilled, IsReturned, Shared, Reserver, records_of, All, slice_get, List, Some, Option, Vec, Global, Result, IfOk, IfErr, OnErr, IfOk-weaker, ap, length, sym, ℕ, ◌<◌, ◌∙◌, ◌≡◌, slice_get_within, flat_map, ◌==◌, Call, IsLegal, after_history, given_in, Allocator, spawned_in, Entry, map, AreBrokenOff, AreDone, DidAll, OfEach, Respects, as_call, handles_of, history_of, reservations_by, reservations_of, opened, opened_records, Record, Reservation, requests_by, quota, FitQuota, LogGains, HaveLogged, HaveRun, AreRun, get_or_from_slice_get, ◌⊎◌, SystemMayLog, entries_by, given_to, log_at}
 use Rattle.ent_queue.specs.Logging as logging
 use Rattle.ent_runner.specs.Logs.Calls.{stands_for}
 use Rattle.ent_runner.specs.Logs.{IsBrokenOff}
@@ -48,8 +48,7 @@ module _ {C : Type 0} (start after : Allocator) (workers : ℕ) (opens records :
     (respects : All (Respects (reservations_of records)) records)
     (after_is : after ≡ after_history start (history_of records)) where
   module _ (P : ℕ → List (Entry C) → Type 0) (count : ℕ) (logs : List (List (Entry C))) (ran : List (List ℕ))
-      (each : length ran ≡ length opens) (once : IsPermutation (flat_map (λ mine. mine) ran) (range_with_len 0 count))
-      (rising : All (AllPairs (λ m n. m < n)) ran) (each_log : length logs ≡ count)
+      (each : length ran ≡ length opens) (runs : AreRun workers count ran) (each_log : length logs ≡ count)
       (did : OfEach ran opens records (λ mine a b. DidAll (λ n before log after. LogGains before log after × P n log)
       logs a mine b)) where
     worked_at : (k : ℕ) (mine : List ℕ) → slice_get ran k ≡ Some mine → (r : Record) × (slice_get records k ≡ Some r)
@@ -80,9 +79,6 @@ module _ {C : Type 0} (start after : Allocator) (workers : ℕ) (opens records :
         long ran each did (λ call. call.requested ≡ 1)
         (λ k xs r less g. rw (g.gained.entries, own_mapped g.gained.reservations) g.gained.one_each)
 
-    runs : AreRun workers count ran
-    runs = record { each_worker = each ∙ many; once = once; rising = rising }
-
     run_is : HaveRun workers count start logs after
     run_is = search (
       rules,
@@ -100,7 +96,7 @@ module _ {C : Type 0} (start after : Allocator) (workers : ℕ) (opens records :
 
     each_holds : (n : ℕ) → n < count → P n (log_at logs n)
     each_holds = each_may LogGains log_gains_nothing log_gains_then P logs start workers opens records opened_are many
-        long ran each did count once
+        long ran each did count runs.once
 
   module _ {S : Type 0} (may leave : S → List (Entry C) → Type 0) (systems : List S) where
     abbrev May : ℕ → List (Entry C) → Type 0
@@ -113,8 +109,8 @@ module _ {C : Type 0} (start after : Allocator) (workers : ℕ) (opens records :
         → HaveLogged may systems workers start logs after
     logged logs done = search (
       rules,
-      run_is May (length systems) logs done.ran done.each_worker done.once done.rising done.count done.did,
-      each_holds May (length systems) logs done.ran done.each_worker done.once done.rising done.count done.did,
+      run_is May (length systems) logs done.ran done.run.each_worker (rw many at done.run) done.count done.did,
+      each_holds May (length systems) logs done.ran done.run.each_worker (rw many at done.run) done.count done.did,
       slice_get_within,
     )
 
@@ -132,7 +128,7 @@ module _ {C : Type 0} (start after : Allocator) (workers : ℕ) (opens records :
         record {
           count = done.count;
           logs = logs;
-          run = run_is Left done.count logs done.ran done.each_worker done.once done.rising done.each_output did;
+          run = run_is Left done.count logs done.ran done.run.each_worker (rw many at done.run) done.each_output did;
           short = stop_short _ _ May Leave _ opens left records (long ∙ sym many) done logs [] done.each_output
               (λ n a log b at it. rw (here n log at) it.1) (λ n a log b at it. rw (here n log at) it.1);
         }

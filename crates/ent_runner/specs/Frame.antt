@@ -3,8 +3,7 @@
 use Rattle.std.specs.Prelude.{◌≡◌, ℕ, ◌<◌, ◌≤◌, ◌==◌, List, [], length, map, filter}
 use Rattle.std.specs.Prelude.{Result, Ok, Err}
 use Rattle.std.specs.Prelude.{slice_get, slice_index_or, Some}
-use Rattle.std.specs.List.{All, AllPairs, flat_map, range_with_len}
-use Rattle.std.specs.List.Sorted.{IsPermutation}
+use Rattle.std.specs.List.{All, flat_map}
 use Rattle.ent_handle.specs.Handle.{Handle}
 use Rattle.ent_alloc.specs.declared.space.Space.{Space}
 use Rattle.ent_alloc.specs.Limits.{quota}
@@ -50,7 +49,6 @@ requests_by caller history =
 -- reservations of their queues, and each fitted the quota that the worker had left.
 pub record IsWork (queues : List (List Command)) (history : List Call) (worker : ℕ)
     (systems : List ℕ) : Type 0 where
-  pub rising : AllPairs (λ m n. m < n) systems
   pub calls : requests_by worker history ≡ flat_map stands_for (commands_of queues systems)
   pub within : FitQuota quota (commands_of queues systems)
 
@@ -63,8 +61,7 @@ pub record IsFrame {S : Type 0} (may : S → View → List Command → Type 0) (
   pub callers : All (λ (call : Call). call.caller < workers) history
   -- for each worker the systems that it ran: each system is run once
   pub ran : List (List ℕ)
-  pub each_worker : length ran ≡ workers
-  pub once : IsPermutation (flat_map (λ mine. mine) ran) (range_with_len 0 (length systems))
+  pub run : AreRun workers (length systems) ran
   pub work : (worker : ℕ) (mine : List ℕ) → slice_get ran worker ≡ Some mine
       → IsWork queues history worker mine
   -- each system has a queue, which it may issue
