@@ -86,6 +86,8 @@ READS, WITHOUT_METHODS = {"beyond", "cursor"}, {"", "either::Either"}
 LAYOUTS = dict.fromkeys(named("ent_blocks: BlockReserver; ent_replay: Log; ent_total: Commands Reserver"), "#[repr(align(128))]")
 LAYOUTS |= {"ent_handle::Handle": "#[repr(transparent)]"}
 WORD_TYPE, DATA = "ent_handle::Handle", named("ent_replay: Call CheckError Difference FlushReply Log Reservation ReserveReply")
+# Traits whose parameter `S` has a default in the results, and the default.
+DEFAULTED, DEFAULT = named("ent_runner: LogSystem System"), "= crate::proved::ent_shared::Shared"
 # What a type derives in the results, if nothing is left of its derive: errors that hand back queues, and reports.
 DERIVES = {"ent_world::SyncReport": "Clone, PartialEq, Eq"}
 # Types whose `Debug` the package has by hand.
@@ -403,6 +405,12 @@ class Reader:
         if has_ghosts and self.texts(mark)[-2:] == ["{", "}"]:
             self.note("fact", "ghost", self.declared)
             self.gone(mark, "ghost trait")
+
+        if f"{self.crate}::{self.declared}" in DEFAULTED:
+            words = self.texts(mark)
+            at = words.index("{") - 1
+            fits = words[at - 3 : at + 1] == ["S", ":", "Source", ">"]
+            self.insert(mark + at, DEFAULT, "default") if fits else self.use("refused", "a trait whose last parameter isn't the source")
 
     def after_module(self, mark, _):
         inside = self.result.removesuffix("/mod") + "/" + self.declared

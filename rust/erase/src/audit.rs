@@ -250,6 +250,9 @@ impl Audit<'_> {
         if let Some(len) = self.added_layout() {
             return Ok(Some(out + len));
         }
+        if let Some(len) = self.added_default() {
+            return Ok(Some(out + len));
+        }
         if let Some(len) = self.added_import() {
             return Ok(Some(out + len));
         }
@@ -311,6 +314,20 @@ impl Audit<'_> {
             is_above.then_some(attribute.len())
         });
         lengths.next()
+    }
+
+    /// The length of the default that the result has here, at the end of a trait's parameters.
+    fn added_default(&self) -> Option<usize> {
+        let (source, default) = (self.source, pieces(forms::DEFAULT));
+        let is_last = self.at >= 3 && source.has(self.at - 3, forms::SOURCE);
+        let is_once = self.result.before(self.out) == "Source";
+        if !is_last || !is_once || !has(self.result, self.out, &default) {
+            return None;
+        }
+        let of = (0..self.at).rev().find(|at| source.at(*at) == "trait")?;
+        let is_of = source.find(of, self.at, &["{", "}", ";"]).is_none();
+        let is_known = forms::is_defaulted(self.krate, source.at(of + 1));
+        (is_of && is_known).then_some(default.len())
     }
 
     /// The length of an import from the kit that the result has here.

@@ -478,6 +478,21 @@ pub fn layout_of(krate: &str, name: &str) -> Option<&'static Layout> {
         .find(|layout| layout.krate == krate && layout.name == name)
 }
 
+/// Traits whose last parameter has a default in the package: the crate and the trait. In the sources a trait's
+/// parameter can have none.
+const DEFAULTED: &[(&str, &str)] = &[("ent_runner", "System"), ("ent_runner", "LogSystem")];
+
+/// Whether the trait of this crate is one of them.
+pub fn is_defaulted(krate: &str, name: &str) -> bool {
+    DEFAULTED.contains(&(krate, name))
+}
+
+/// How the parameters of such a trait end.
+pub const SOURCE: &[&str] = &["S", ":", "Source", ">", "{"];
+
+/// That default.
+pub const DEFAULT: &str = " = crate::proved::ent_shared::Shared";
+
 /// A struct of one field whose `impl PartialEq` compares this field of the two, and nothing else.
 pub struct Compared {
     /// The crate that declares the type.

@@ -252,10 +252,23 @@ impl Walk<'_> {
             }
         }
         self.signature(at + 1, body)?;
+        if scope == Scope::Trait && forms::is_defaulted(self.krate, self.source.at(at + 1)) {
+            self.default_source(at, body)?;
+        }
         let end = self.source.partner(body);
         self.is_public_trait = scope == Scope::Trait && self.source.before(at) == "pub";
         self.items(body + 1, end, scope)?;
         Ok(end + 1)
+    }
+
+    /// The default of a trait's last parameter.
+    fn default_source(&mut self, at: usize, body: usize) -> Result<(), Fault> {
+        if !self.source.has(body - 4, forms::SOURCE) {
+            let what = "a trait whose last parameter isn't the source";
+            return Err(self.source.fault(at, what));
+        }
+        self.insert_after(body - 2, forms::DEFAULT.to_owned());
+        Ok(())
     }
 
     /// The attribute of a type whose layout the package chooses.

@@ -382,6 +382,39 @@ fn layouts() {
     stays("pub struct Handle {\n    bits: u32,\n}\n");
 }
 
+/// The source of a system's handles has a default, once. No other parameter has one, nor another trait.
+#[test]
+fn default_of_a_parameter() {
+    let header = "pub trait System<S: Source>";
+    let source = format!("trait Source {{}}\n\n{header} {{\n    fn a<S: Source>();\n}}\n");
+    let default = ": Source = crate::proved::ent_shared::Shared>";
+    let wanted = source.replace(": Source> {", &format!("{default} {{"));
+    let misplaced = source.replace(": Source>(", &format!("{default}("));
+    let twice = wanted.replace("Shared", "Shared = crate::proved::ent_shared::Shared");
+    let other = source.replace("System", "Systems");
+    let of_another = wanted.replace("System", "Systems");
+    for result in [misplaced, twice] {
+        let (made, audited) = erased_of("ent_runner", PATH, &source, &result).expect("known forms");
+        assert_eq!(body(&made), Some(wanted.as_str()));
+        assert!(audited.is_err(), "{result}");
+    }
+    for (krate, source, result) in [
+        ("ent_runner", &other, &of_another),
+        ("ent_alloc", &source, &wanted),
+    ] {
+        let (made, audited) = erased_of(krate, PATH, source, result).expect("known forms");
+        assert_eq!(body(&made), Some(source.as_str()));
+        assert!(audited.is_err(), "{result}");
+    }
+    for parameters in ["<S: Source, O>", "<S: Source>: Source", ""] {
+        let source = source.replace("System<S: Source>", &format!("System{parameters}"));
+        assert!(
+            erased_of("ent_runner", PATH, &source, "").is_err(),
+            "{source}"
+        );
+    }
+}
+
 /// A type with another name in the package shows that name, by hand. No other type of its crate or of another
 /// crate does, and the audit wants no `Debug` of it.
 #[test]

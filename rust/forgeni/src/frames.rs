@@ -3,9 +3,7 @@
 use crate::guarding::{caught, guarded};
 use crate::proved::ent_runner::NoGate;
 use crate::proved::{ent_runner, ent_total};
-use crate::{
-    Entities, HandedBack, Handle, Log, LogSystem, Report, SharedSource, SyncPoint, System, World,
-};
+use crate::{Entities, HandedBack, Handle, Log, LogSystem, Report, SyncPoint, System, World};
 use alloc::vec::Vec;
 
 pub use crate::kit::thread::{StdThreads, Threads as Join};
@@ -84,7 +82,7 @@ pub use crate::proved::ent_total::{FrameError, Unframed};
 /// With more than one worker, threads are started as [`std::thread::scope`] starts them. If memory
 /// for that runs out, it ends the process. Without the feature `std`, and where no thread can be started,
 /// as on `wasm32-unknown-unknown`, the caller's thread does all the work.
-pub fn run_frame<S: System<SharedSource> + Sync>(
+pub fn run_frame<S: System + Sync>(
     world: &mut World,
     systems: &[S],
     workers: usize,
@@ -128,7 +126,7 @@ pub fn run_frame<S: System<SharedSource> + Sync>(
 ///
 /// The same as [`run_frame`]. If no system panics but the `Join` does, its panic is handed on when all
 /// workers have ended. The frame is complete then: only its report is lost.
-pub fn run_frame_on<J: Join + Sync, S: System<SharedSource> + Sync>(
+pub fn run_frame_on<J: Join + Sync, S: System + Sync>(
     join: &J,
     world: &mut World,
     systems: &[S],
@@ -209,7 +207,7 @@ pub fn run_frame_on<J: Join + Sync, S: System<SharedSource> + Sync>(
 /// # Aborts
 ///
 /// As of [`run_frame`].
-pub fn run_logs<C: Send, S: LogSystem<C, SharedSource> + Sync>(
+pub fn run_logs<C: Send, S: LogSystem<C> + Sync>(
     entities: &mut Entities,
     systems: &[S],
     workers: usize,
@@ -228,7 +226,7 @@ pub fn run_logs<C: Send, S: LogSystem<C, SharedSource> + Sync>(
 /// The same as [`run_logs`]. If no system panics but the `Join` does, its panic is handed on when all
 /// workers have ended. What they reserved stays reserved, and the logs are dropped. If a command panics then,
 /// that panic is lost.
-pub fn run_logs_on<J: Join + Sync, C: Send, S: LogSystem<C, SharedSource> + Sync>(
+pub fn run_logs_on<J: Join + Sync, C: Send, S: LogSystem<C> + Sync>(
     join: &J,
     entities: &mut Entities,
     systems: &[S],
@@ -282,7 +280,7 @@ pub fn run_logs_on<J: Join + Sync, C: Send, S: LogSystem<C, SharedSource> + Sync
 /// If a system panics, or a command that is dropped, as of [`run_logs`]. If no system panics but the `Join`
 /// does, its panic is handed on when all workers have ended. What they reserved is alive, and their logs are
 /// dropped.
-pub fn run_to_sync_point<J: Join + Sync, C: Send, S: LogSystem<C, SharedSource> + Sync>(
+pub fn run_to_sync_point<J: Join + Sync, C: Send, S: LogSystem<C> + Sync>(
     join: &J,
     entities: &mut Entities,
     systems: &[S],

@@ -1,8 +1,7 @@
 //! Systems whose panics don't leave them.
 
 use crate::frames::Join;
-use crate::proved::ent_queue::CommandQueue;
-use crate::{Log, LogSystem, OutOfMemory, Source, System, SystemCommands, View};
+use crate::{LogCommands, LogSystem, OutOfMemory, Source, System, View, WorldCommands};
 use alloc::boxed::Box;
 use alloc::vec::Vec;
 use core::any::Any;
@@ -78,18 +77,14 @@ impl<T> Guarded<'_, T> {
 impl<S: Source, T: System<S>> System<S> for Guarded<'_, T> {
     /// A system that panics has stopped, like one that ran out of memory: the frame is lost, and the
     /// world is closed with what was reserved.
-    fn run(
-        &self,
-        view: &View<'_>,
-        commands: &mut SystemCommands<'_, CommandQueue, S>,
-    ) -> Result<(), OutOfMemory> {
+    fn run(&self, view: &View<'_>, commands: &mut WorldCommands<'_, S>) -> Result<(), OutOfMemory> {
         self.run(|| self.0.run(view, commands), Err(OutOfMemory))
     }
 }
 
 /// The same of a system that fills a log.
 impl<C, S: Source, T: LogSystem<C, S>> LogSystem<C, S> for Guarded<'_, T> {
-    fn run(&self, commands: &mut SystemCommands<'_, Log<C>, S>) -> Result<(), OutOfMemory> {
+    fn run(&self, commands: &mut LogCommands<'_, C, S>) -> Result<(), OutOfMemory> {
         self.run(|| self.0.run(commands), Err(OutOfMemory))
     }
 }

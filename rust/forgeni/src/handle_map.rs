@@ -90,6 +90,10 @@ pub trait AnyMap:
     /// a `SparseMap`.
     fn iter(&self) -> impl DoubleEndedIterator<Item = (Handle, &Self::Value)> + Clone;
 
+    /// The handles that have a value, by rising slot. Those of a `SparseMap` are listed first:
+    /// `None` if there is no memory for that.
+    fn keys_by_slot(&self) -> Option<impl Iterator<Item = Handle>>;
+
     /// The handles and their values in the same order, to be changed.
     fn iter_mut(&mut self) -> impl DoubleEndedIterator<Item = (Handle, &mut Self::Value)>;
 
@@ -146,6 +150,11 @@ macro_rules! traits_of_a_map {
             #[inline]
             fn iter(&self) -> impl DoubleEndedIterator<Item = (Handle, &T)> + Clone {
                 self.iter()
+            }
+
+            #[inline]
+            fn keys_by_slot(&self) -> Option<impl Iterator<Item = Handle>> {
+                self.sorted_keys()
             }
 
             #[inline]
@@ -339,6 +348,13 @@ macro_rules! traits_of_a_map {
             }
         }
     };
+}
+
+impl<T> HandleMap<T> {
+    #[inline]
+    fn sorted_keys(&self) -> Option<Keys<'_, T>> {
+        Some(self.keys())
+    }
 }
 
 traits_of_a_map!(HandleMap, Iter, iter);

@@ -2,7 +2,6 @@
 
 use crate::handle::Handle;
 use crate::{AnyMap, HandleMap, SparseMap};
-use alloc::vec::Vec;
 
 /// Two to six maps in a tuple, which are walked at once: over the handles that have a value in each
 /// of them.
@@ -27,10 +26,11 @@ pub trait JoinMaps {
     /// The handles that have a value in each of the maps, with their values. The first map may be
     /// borrowed mutably: its values may be changed.
     ///
-    /// The walk goes over the first map, in its order, and looks each handle up in the others. It
-    /// takes no memory. But if another map has less than half as many values, the walk lists that
-    /// map's handles and goes by these, by rising slot. If there is no memory for the list, or if
-    /// the first map is a mutable `SparseMap`, the walk goes over the first map all the same.
+    /// The walk goes over the first map, in its order, and looks each handle up in the others. But
+    /// if another map has less than half as many values, it goes by that map's handles, by rising
+    /// slot. It takes no memory, unless that map is a `SparseMap`, whose handles it lists. If there
+    /// is no memory for the list, or if the first map is a mutable `SparseMap`, the walk goes over
+    /// the first map all the same.
     fn join(self) -> impl Iterator<Item = Self::Item>;
 }
 
@@ -42,8 +42,11 @@ pub trait First {
     /// less than half as many.
     fn count(&self) -> usize;
 
-    /// The values of these handles, which come by rising slot. If there is no list, all values.
-    fn walk(self, handles: Option<Vec<Handle>>) -> impl Iterator<Item = (Handle, Self::Lent)>;
+    /// The values of these handles, which come by rising slot. If there are none, all values.
+    fn walk<H: Iterator<Item = Handle>>(
+        self,
+        handles: Option<H>,
+    ) -> impl Iterator<Item = (Handle, Self::Lent)>;
 }
 
 impl<'a, M: AnyMap> First for &'a M {
@@ -54,13 +57,13 @@ impl<'a, M: AnyMap> First for &'a M {
     }
 
     #[inline]
-    fn walk(self, handles: Option<Vec<Handle>>) -> impl Iterator<Item = (Handle, Self::Lent)> {
+    fn walk<H: Iterator<Item = Handle>>(
+        self,
+        handles: Option<H>,
+    ) -> impl Iterator<Item = (Handle, Self::Lent)> {
         match handles {
-            None => Walk::All(self.iter()),
-            Some(handles) => {
-                let handles = handles.into_iter();
-                Walk::Listed(handles.filter_map(|one| Some((one, self.get(one)?))))
-            }
+            None => Walk::First(self.iter()),
+            Some(handles) => Walk::Other(handles.filter_map(|one| Some((one, self.get(one)?)))),
         }
     }
 }
@@ -73,10 +76,13 @@ impl<'a, T> First for &'a mut HandleMap<T> {
     }
 
     #[inline]
-    fn walk(self, handles: Option<Vec<Handle>>) -> impl Iterator<Item = (Handle, Self::Lent)> {
+    fn walk<H: Iterator<Item = Handle>>(
+        self,
+        handles: Option<H>,
+    ) -> impl Iterator<Item = (Handle, Self::Lent)> {
         match handles {
-            None => Walk::All(self.iter_mut()),
-            Some(handles) => Walk::Listed(self.all_slots().pick(handles.into_iter())),
+            None => Walk::First(self.iter_mut()),
+            Some(handles) => Walk::Other(self.all_slots().pick(handles)),
         }
     }
 }
@@ -90,65 +96,52 @@ impl<'a, T> First for &'a mut SparseMap<T> {
     }
 
     #[inline]
-    fn walk(self, _none: Option<Vec<Handle>>) -> impl Iterator<Item = (Handle, Self::Lent)> {
+    fn walk<H: Iterator<Item = Handle>>(
+        self,
+        _none: Option<H>,
+    ) -> impl Iterator<Item = (Handle, Self::Lent)> {
         self.into_iter()
     }
 }
 
 /// One of two walks.
-enum Walk<A, L> {
-    All(A),
-    Listed(L),
+enum Walk<F, O> {
+    First(F),
+    Other(O),
 }
 
-impl<T, A: Iterator<Item = T>, L: Iterator<Item = T>> Iterator for Walk<A, L> {
+impl<T, F: Iterator<Item = T>, O: Iterator<Item = T>> Iterator for Walk<F, O> {
     type Item = T;
 
     #[inline]
     fn next(&mut self) -> Option<T> {
         match self {
-            Walk::All(values) => values.next(),
-            Walk::Listed(values) => values.next(),
+            Walk::First(walk) => walk.next(),
+            Walk::Other(walk) => walk.next(),
         }
     }
 
     #[inline]
-    fn fold<B, F: FnMut(B, T) -> B>(self, init: B, each: F) -> B {
+    fn fold<B, G: FnMut(B, T) -> B>(self, init: B, each: G) -> B {
         match self {
-            Walk::All(values) => values.fold(init, each),
-            Walk::Listed(values) => values.fold(init, each),
+            Walk::First(walk) => walk.fold(init, each),
+            Walk::Other(walk) => walk.fold(init, each),
         }
     }
 }
 
-/// A map of values of any type, which may be walked over in the place of the first one.
-trait Other {
-    fn count(&self) -> usize;
-
-    /// Appends the handles that have a value.
-    fn list(&self, handles: &mut Vec<Handle>);
-}
-
-impl<M: AnyMap> Other for M {
-    fn count(&self) -> usize {
-        self.len()
-    }
-
-    fn list(&self, handles: &mut Vec<Handle>) {
-        handles.extend(self.iter().map(|(one, _)| one));
-    }
-}
-
-/// The handles of the map with the fewest values, by rising slot, if it has less than half of `most`
-/// and there is memory.
-fn listed(others: &[&dyn Other], most: usize) -> Option<Vec<Handle>> {
-    let fewest = others.iter().min_by_key(|map| map.count())?;
-    (fewest.count() < most.div_ceil(2)).then_some(())?;
-    let mut handles = Vec::new();
-    handles.try_reserve_exact(fewest.count()).ok()?;
-    fewest.list(&mut handles);
-    handles.sort_unstable();
-    Some(handles)
+/// The handles of the map that has so many values.
+macro_rules! handles_of {
+    ($count:ident: $last:ident) => {
+        $last.keys_by_slot()
+    };
+    ($count:ident: $map:ident $($rest:ident)+) => {
+        if $map.len() == $count {
+            $map.keys_by_slot().map(Walk::First)
+        } else {
+            handles_of!($count: $($rest)+).map(Walk::Other)
+        }
+    };
 }
 
 macro_rules! tuples_are_joined {
@@ -159,8 +152,10 @@ macro_rules! tuples_are_joined {
             #[inline]
             fn join(self) -> impl Iterator<Item = Self::Item> {
                 let (first, $($map),*) = self;
-                let handles = listed(&[$($map),*], first.count());
-                let walk = first.walk(handles);
+                let fewest = [$($map.len()),*].into_iter().min().unwrap_or_default();
+                let is_less = fewest < first.count().div_ceil(2);
+                let handles = is_less.then(|| handles_of!(fewest: $($map)*));
+                let walk = first.walk(handles.flatten());
                 walk.filter_map(move |(one, it)| Some((one, it, $($map.get(one)?),*)))
             }
         }

@@ -3,7 +3,7 @@
 
 use crate::handle::Handle;
 use crate::shown::shows;
-use alloc::vec;
+use alloc::vec::{self, Vec};
 
 pub use crate::proved::ent_storage::sparse_map::{Entry, OccupiedEntry, VacantEntry};
 pub use crate::proved::ent_storage::sparse_map::{Iter, SparseMap};
@@ -19,6 +19,15 @@ impl<T> SparseMap<T> {
     #[inline]
     pub fn values(&self) -> impl DoubleEndedIterator<Item = &T> + ExactSizeIterator + Clone {
         self.entries().iter().map(|(_, it)| it)
+    }
+
+    /// The handles that have a value, by rising slot, if there is memory for a list of them.
+    pub(crate) fn sorted_keys(&self) -> Option<vec::IntoIter<Handle>> {
+        let mut handles = Vec::new();
+        handles.try_reserve_exact(self.len()).ok()?;
+        handles.extend(self.keys());
+        handles.sort_unstable();
+        Some(handles.into_iter())
     }
 
     /// Calls `keep` on each value once, from the last entry to the first, and drops the values of

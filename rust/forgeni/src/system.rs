@@ -14,15 +14,44 @@ pub use crate::proved::ent_queue::Commands as SystemCommands;
 pub use crate::proved::ent_runner::{LogSystem, System};
 pub use crate::proved::ent_shared::Shared as SharedSource;
 
-/// Fills the log of one system, and reserves by a reserver that is lent to it. `C` is the caller's type of
-/// commands.
-pub type LogCommands<'a, C> = SystemCommands<'a, Log<C>>;
+/// Issues the commands of one system of a world, with handles from the source `S`.
+pub type WorldCommands<'a, S = SharedSource> = SystemCommands<'a, CommandQueue, S>;
 
-/// The same with handles from a block of the system's own.
-pub type BlockCommands<'a, C> = SystemCommands<'a, Log<C>, Blocks>;
+/// Fills the log of one system, with handles from the source `S`. `C` is the caller's type of commands.
+///
+/// What several systems do may be a function of its own, for every source:
+///
+/// ```
+/// # #[cfg(feature = "std")] {
+/// use forgeni::{run_in_blocks, run_logs, StdThreads};
+/// use forgeni::{Entities, LogCommands, OutOfMemory, Source};
+///
+/// fn burst<S: Source>(commands: &mut LogCommands<'_, u8, S>) -> Result<(), OutOfMemory> {
+///     for heat in 1..=3 {
+///         commands.push(heat)?;
+///         if let Err(refused) = commands.spawn() {
+///             refused.or_memory()?;
+///         }
+///     }
+///     Ok(())
+/// }
+///
+/// let mut entities = Entities::new();
+/// let shared = run_logs(&mut entities, &[burst; 2], 2)?;
+/// entities.flush(&mut Vec::new())?;
+/// let (blocks, reservers) = entities.open_in_blocks(&[3, 3])?;
+/// let (in_blocks, _) = run_in_blocks(&StdThreads, &blocks, reservers, &[burst; 2], 2)?;
+/// assert!(shared.iter().chain(&in_blocks).all(|log| log.len() == 6));
+/// # }
+/// # Ok::<(), Box<dyn std::error::Error>>(())
+/// ```
+pub type LogCommands<'a, C, S = SharedSource> = SystemCommands<'a, Log<C>, S>;
 
-/// Issues the commands of one system, with handles from a block of its own.
-pub type CommandsInBlocks<'a> = SystemCommands<'a, CommandQueue, Blocks>;
+/// Fills the log of one system, with handles from a block of its own.
+pub type BlockCommands<'a, C> = LogCommands<'a, C, Blocks>;
+
+/// Issues the commands of one system of a world, with handles from a block of its own.
+pub type CommandsInBlocks<'a> = WorldCommands<'a, Blocks>;
 
 /// What a system returns.
 type Ran = Result<(), OutOfMemory>;
@@ -45,53 +74,43 @@ pub fn system<F: Fn(&View<'_>, &mut SystemCommands<'_>) -> Ran>(run: F) -> F {
     run
 }
 
-/// Closures are systems, whatever the source of their handles.
-impl<S: Source, F> System<S> for F
-where
-    F: Fn(&View<'_>, &mut SystemCommands<'_, CommandQueue, S>) -> Ran,
-{
-    fn run(&self, view: &View<'_>, commands: &mut SystemCommands<'_, CommandQueue, S>) -> Ran {
-        self(view, commands)
-    }
-}
-
-impl<C, S: Source, F: Fn(&mut SystemCommands<'_, Log<C>, S>) -> Ran> LogSystem<C, S> for F {
-    fn run(&self, commands: &mut SystemCommands<'_, Log<C>, S>) -> Ran {
-        self(commands)
-    }
-}
-
-/// A system that changes what it borrows.
-#[cfg(feature = "std")]
-impl<C, S: Source, F> LogSystem<C, S> for Mutex<F>
-where
-    F: FnMut(&mut SystemCommands<'_, Log<C>, S>) -> Ran,
-{
-    fn run(&self, commands: &mut SystemCommands<'_, Log<C>, S>) -> Ran {
-        self.lock().unwrap_or_else(PoisonError::into_inner)(commands)
-    }
-}
-
-/// Systems of several types go into one list behind these.
-macro_rules! systems_behind {
-    ($([$($of:tt)*] $pointer:ty;)*) => {$(
-        impl<S: Source, $($of)*> System<S> for $pointer {
-            fn run(&self, view: &View<'_>, commands: &mut SystemCommands<'_, CommandQueue, S>) -> Ran {
-                (**self).run(view, commands)
+/// Systems of a kind: closures, those in a `Mutex`, which change what they borrow, and systems behind pointers,
+/// so that several types go into one list.
+macro_rules! systems {
+    ([$($of:tt)*] $kind:path, $($with:ident: $type:ty),*) => {
+        impl<$($of)*, F: Fn($($type),*) -> Ran> $kind for F {
+            fn run(&self, $($with: $type),*) -> Ran {
+                self($($with),*)
             }
+        }
+
+        #[cfg(feature = "std")]
+        impl<$($of)*, F: FnMut($($type),*) -> Ran> $kind for Mutex<F> {
+            fn run(&self, $($with: $type),*) -> Ran {
+                self.lock().unwrap_or_else(PoisonError::into_inner)($($with),*)
+            }
+        }
+
+        systems! {
+            $kind, (&self, $($with: $type),*) { (**self).run($($with),*) }
+            [$($of)*] &(dyn $kind + '_);
+            [$($of)*] &(dyn $kind + Sync + '_);
+            [$($of)*] &(dyn $kind + Send + Sync + '_);
+            [$($of)*] Box<dyn $kind + '_>;
+            [$($of)*] Box<dyn $kind + Sync + '_>;
+            [$($of)*] Box<dyn $kind + Send + Sync + '_>;
+            [$($of)*, T: $kind + ?Sized] Arc<T>;
+        }
+    };
+    ($kind:path, $with:tt $run:tt $([$($of:tt)*] $pointer:ty;)*) => {$(
+        impl<$($of)*> $kind for $pointer {
+            fn run $with -> Ran $run
         }
     )*};
 }
 
-systems_behind! {
-    [] &(dyn System<S> + '_);
-    [] &(dyn System<S> + Sync + '_);
-    [] &(dyn System<S> + Send + Sync + '_);
-    [] Box<dyn System<S> + '_>;
-    [] Box<dyn System<S> + Sync + '_>;
-    [] Box<dyn System<S> + Send + Sync + '_>;
-    [T: System<S> + ?Sized] Arc<T>;
-}
+systems!([S: Source] System<S>, view: &View<'_>, commands: &mut WorldCommands<'_, S>);
+systems!([C, S: Source] LogSystem<C, S>, commands: &mut LogCommands<'_, C, S>);
 
 shows! {
     SystemCommands<'_>:;

@@ -37,6 +37,8 @@ mod reserving;
 mod sharing;
 mod sparse_map;
 mod storage_model;
+#[cfg(feature = "std")]
+mod systems;
 mod texts;
 mod threads;
 mod trace;

@@ -5,8 +5,7 @@
 use crate::common::{flushed, seeds, Numbers};
 use forgeni::{run_frame_on, run_logs_on, run_to_sync_point, Entities, Handle, Join, Log};
 use forgeni::{
-    ComponentId, FrameError, LogCommands, LogError, OutOfMemory, ShareError, SharedSource,
-    StdThreads,
+    ComponentId, FrameError, LogCommands, LogError, OutOfMemory, ShareError, StdThreads,
 };
 use forgeni::{SyncPoint, SystemCommands, View, World};
 use std::collections::HashSet;
@@ -63,7 +62,7 @@ impl System {
     }
 }
 
-impl forgeni::LogSystem<Loud, SharedSource> for System {
+impl forgeni::LogSystem<Loud> for System {
     fn run(&self, commands: &mut LogCommands<'_, Loud>) -> Result<(), OutOfMemory> {
         for _ in 0..self.spawns {
             commands.spawn().expect("a handle");
@@ -73,7 +72,7 @@ impl forgeni::LogSystem<Loud, SharedSource> for System {
     }
 }
 
-impl forgeni::System<SharedSource> for System {
+impl forgeni::System for System {
     fn run(&self, _: &View<'_>, commands: &mut SystemCommands<'_>) -> Result<(), OutOfMemory> {
         for _ in 0..self.spawns {
             commands

@@ -969,23 +969,28 @@ fn clones_of_structs_of_maps() {
     }
 }
 
-/// A walk that gets no memory for a list goes over its first map, and comes to the same. It needs none
-/// if the first map has the fewest values.
+/// A walk by a sparse map lists its handles. Without memory it goes over its first map, and comes to the
+/// same. Other walks take none.
 #[test]
 fn walks_over_maps() {
     each_in_turn(|refusal| {
-        let (mut places, speeds) = (numbers(3_000), numbers(100));
-        let rare: SparseMap<u64> = numbers(200).into_iter().skip(50).collect();
-        let wanted: u64 = (50..100).map(|it| it + 2 * it).sum();
-        let walk = || -> u64 {
+        let (mut places, speeds) = (numbers(3_000), numbers(200));
+        let rare: SparseMap<u64> = numbers(100).into_iter().skip(50).collect();
+        let wanted: u64 = (50..100).map(|it| 3 * it).sum();
+        let (sum, refused) = refusing(refusal, || -> u64 {
             let walk = (&mut places, &speeds, &rare).join();
             walk.map(|(_, a, b, c)| *a + b + c).sum()
-        };
-        let (sum, refused) = refusing(refusal, walk);
+        });
         assert_eq!(sum, wanted);
-        let few = || (&speeds, &places, &rare).join().count();
-        let (count, unasked) = refusing(Refusal::All { after: 0 }, few);
-        assert_eq!((count, unasked), (50, 0));
+        let few = || {
+            let walks = [
+                (&rare, &places).join().count(),
+                (&speeds, &places).join().count(),
+            ];
+            (walks, (&mut places, &speeds).join().count())
+        };
+        let none = Refusal::All { after: 0 };
+        assert_eq!(refusing(none, few), (([50, 200], 200), 0));
         refused
     });
 }

@@ -19,9 +19,7 @@ fn one() -> World {
 #[cfg(feature = "std")]
 mod frames {
     use super::*;
-    use forgeni::{
-        run_frame, Birth, FrameError, OutOfMemory, SharedSource, System, SystemCommands, View,
-    };
+    use forgeni::{run_frame, Birth, FrameError, OutOfMemory, System, SystemCommands, View};
     use std::panic::panic_any;
 
     /// What a system does.
@@ -37,7 +35,7 @@ mod frames {
         Memory,
     }
 
-    impl System<SharedSource> for Does {
+    impl System for Does {
         fn run(
             &self,
             view: &View<'_>,

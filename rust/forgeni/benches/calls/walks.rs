@@ -94,13 +94,13 @@ walks! {
     join_each, join_each_by_hand: |parts| {
         let mut sum = 0;
         let walk = (&parts.place, &parts.speed, &parts.team).join();
-        walk.for_each(|(_, place, speed, team)| sum += place ^ speed * team);
+        walk.for_each(|(_, place, speed, team)| sum += place ^ (speed * team));
         sum
     }, {
         let mut sum = 0;
         for (one, place) in &parts.place {
             if let (Some(speed), Some(team)) = (parts.speed.get(one), parts.team.get(one)) {
-                sum += place ^ speed * team;
+                sum += place ^ (speed * team);
             }
         }
         sum

@@ -28,6 +28,7 @@ use core::mem;
 ///
 /// It does not know which handles an allocator has given or freed. A value that nobody removes
 /// stays until a later occupant of its slot gets one, and can't be found by that one's handle.
+/// [`Follows::despawn`](crate::Follows::despawn) frees an entity and removes its value.
 ///
 /// ```
 /// use forgeni::{Entities, SparseMap};

@@ -11,7 +11,7 @@ use crate::proved::ent_world::View;
 /// One value of it may run on any worker, so what it knows of the world is what the view says. In plain
 /// Rust a function is a system, and so is a closure: `system` tells Rust the types of its parameters.
 /// Systems of several types go into one list in boxes, or behind `&dyn System<S>`.
-pub trait System<S: Source> {
+pub trait System<S: Source = crate::proved::ent_shared::Shared> {
     /// Runs it once.
     ///
     /// # Errors

@@ -9,7 +9,7 @@ use crate::proved::ent_queue::Commands;
 /// shared allocator, or blocks.
 ///
 /// One value of it may run on any worker.
-pub trait LogSystem<C, S: Source> {
+pub trait LogSystem<C, S: Source = crate::proved::ent_shared::Shared> {
     /// Runs it once.
     ///
     /// # Errors

@@ -7,3 +7,6 @@ loop-call-init c = search (rules, extends_nothing)
 
 pub loop-call-preserved : goal.loop-call-preserved
 loop-call-preserved c = search (rules, extends_then)
+
+pub returns-in_err-run-clause-extends : goal.returns-in_err-run-clause-extends
+returns-in_err-run-clause-extends c = extends_then _ _ _ c.loop-call.invariant c.run.ensures
