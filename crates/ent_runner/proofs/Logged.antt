@@ -1,13 +1,13 @@
 -- What a crew did whose jobs are systems that fill logs, and the history of its reservers.
-use Rattle.ent_runner.proofs.Common.{rules, [], IsFilled, IsReturned, Shared, Reserver, records_of, All, slice_get, List, Some, Option, Vec, Global, Result, IfOk, IfErr, OnErr, IfOk-weaker, ap, length, sym, ℕ, ◌<◌, ◌∙◌, ◌≡◌, slice_get_within, flat_map, ◌==◌, Call, IsLegal, after_history, given_in, Allocator, spawned_in, Entry, map, AreBrokenOff, AreDone, DidAll, OfEach, Respects, as_call, handles_of, history_of, reservations_by, reservations_of, opened, opened_records, Record, Reservation, requests_by, quota, FitQuota, LogGains, HaveLogged, HaveRun, AreRun, get_or_from_slice_get, ◌⊎◌, SystemMayLog, entries_by, given_to, log_at}
+use Rattle.ent_runner.proofs.Common.{rules, [], IsFilled, IsReturned, Shared, Reserver, records_of, All, slice_get, List, Some, Option, Vec, Global, Result, IfOk, IfErr, OnErr, IfOk-weaker, ap, length, sym, ℕ, ◌<◌, ◌∙◌, ◌≡◌, slice_get_within, flat_map, ◌==◌, Call, IsLegal, after_history, given_in, Allocator, spawned_in, Entry, map, AreBrokenOff, AreDone, DidAll, OfEach, Respects, as_call, handles_of, history_of, reservations_by, reservations_of, opened, opened_records, Record, Reservation, requests_by, quota, HaveLogged, HaveRun, AreRun, get_or_from_slice_get, ◌⊎◌, SystemMayLog, entries_by, given_to, log_at, requests_in}
 use Rattle.ent_queue.specs.Logging as logging
-use Rattle.ent_runner.specs.Logs.Calls.{stands_for}
+use Rattle.ent_shared.specs.Requests.{stands_for, FitQuota}
 use Rattle.ent_runner.specs.Logs.{IsBrokenOff}
 use Rattle.ent_runner.proofs.Adding.{added_at, all_either, each_may, of_each, ours, own_mapped}
 use Rattle.ent_runner.proofs.Conducting.{err_follows}
 use Rattle.ent_runner.proofs.EachOutput.{done_seen, broken_off_seen, stop_short}
 use Rattle.ent_runner.proofs.Lists.{each_of_all, filter_map_is, map_map_is}
-use Rattle.ent_runner.proofs.Gaining.{log_gains, log_gains_nothing, log_gains_then}
+use Rattle.ent_runner.proofs.Gaining.{LogGains, log_gains, log_gains_nothing, log_gains_then, one_each as each_one, spawned}
 
 -- the calls of one caller in the history
 by_caller : (k : ℕ) (records : List Record) → requests_by k (history_of records)
@@ -57,13 +57,14 @@ module _ {C : Type 0} (start after : Allocator) (workers : ℕ) (opens records :
         long ran each did
 
     calls_at : (k : ℕ) (mine : List ℕ) → slice_get ran k ≡ Some mine → requests_by k (history_of records)
-        ≡ flat_map stands_for (entries_by logs mine)
+        ≡ flat_map stands_for (requests_in (entries_by logs mine))
     calls_at k mine at =
         let r = worked_at k mine at in
         let own = each_of_all (Respects (reservations_of records)) records k r.0 respects r.1 in
-        search (rules, by_caller k records, own.own, own_mapped r.2.gained.reservations, r.2)
+        search (rules, by_caller k records, own.own, own_mapped r.2.reservations, r.2)
 
-    within_at : (k : ℕ) (mine : List ℕ) → slice_get ran k ≡ Some mine → FitQuota quota (entries_by logs mine)
+    within_at : (k : ℕ) (mine : List ℕ) → slice_get ran k ≡ Some mine → FitQuota quota (requests_in
+        (entries_by logs mine))
     within_at k mine at = (worked_at k mine at).2.within
 
     given_at : (k : ℕ) (mine : List ℕ) → slice_get ran k ≡ Some mine → given_to k (history_of records) ≡ spawned_in
@@ -72,12 +73,12 @@ module _ {C : Type 0} (start after : Allocator) (workers : ℕ) (opens records :
         let r = worked_at k mine at in
         let own = each_of_all (Respects (reservations_of records)) records k r.0 respects r.1 in
         ap given_in (filter_map_is (λ (call : Call). call.caller == k) as_call (reservations_of records))
-        ∙ (ap handles_of (rw r.2.gained.number at own.own) ∙ r.2.given)
+        ∙ (ap handles_of (rw r.2.number at own.own) ∙ (r.2.given ∙ spawned (entries_by logs mine)))
 
     one_each : All (λ (call : Call). call.requested ≡ 1) (history_of records)
     one_each = of_each LogGains log_gains_nothing log_gains_then P logs start workers opens records opened_are many
         long ran each did (λ call. call.requested ≡ 1)
-        (λ k xs r less g. rw (g.gained.entries, own_mapped g.gained.reservations) g.gained.one_each)
+        (λ k xs r less g. rw (g.entries, own_mapped g.reservations) (each_one _ _ xs g))
 
     run_is : HaveRun workers count start logs after
     run_is = search (
@@ -90,7 +91,7 @@ module _ {C : Type 0} (start after : Allocator) (workers : ℕ) (opens records :
       given_at,
       each_log,
       ours LogGains log_gains_nothing log_gains_then P logs start workers opens records opened_are many long ran each
-          did (λ k xs r g. rw (g.gained.entries, own_mapped g.gained.reservations) g.callers),
+          did (λ k xs r g. rw (g.entries, own_mapped g.reservations) g.callers),
       one_each,
     )
 

@@ -1,6 +1,4 @@
 -- Systems that fill logs: they run on workers, each with a log of its own, over one shared allocator.
-pub mod Calls
-pub mod Logging
 use Rattle.std.specs.Prelude.{◌≡◌, ℕ, ◌<◌, ◌==◌, List, [], ◌++◌, length, filter}
 use Rattle.std.specs.Prelude.{slice_get, slice_index_or, Some}
 use Rattle.std.specs.List.{All, flat_map}
@@ -10,9 +8,11 @@ use Rattle.ent_alloc.specs.Sequential.{Allocator, after_flush, born}
 use Rattle.ent_alloc.specs.History.{Call, IsLegal, after_history, given_in}
 use Rattle.ent_log.specs.declared.entry.Entry.{Entry}
 use Rattle.ent_log.specs.Logs.{spawned_in, entries_of}
+use Rattle.ent_alloc.specs.Serving.{Request}
+use Rattle.ent_queue.specs.Logging.{request_of}
 use Rattle.ent_runner.specs.Frame.{requests_by}
-use Rattle.ent_runner.specs.Logs.Calls.{stands_for, FitQuota}
 use Rattle.ent_runner.specs.Runs.{AreRun, StopShort}
+use Rattle.ent_shared.specs.Requests.{stands_for, FitQuota}
 
 -- the handles that one caller was given in a history, in order
 abbrev pub given_to : ℕ → List Call → List Handle
@@ -26,6 +26,10 @@ module _ {C : Type 0} where
   -- the entries of these systems, one log after the other
   abbrev pub entries_by : List (List (Entry C)) → List ℕ → List (Entry C)
   entries_by logs systems = flat_map (log_at logs) systems
+
+  -- the requests for which these entries stand
+  abbrev pub requests_in : List (Entry C) → List Request
+  requests_in entries = flat_map request_of entries
 
   -- the system of this number may enter this in its log
   abbrev pub SystemMayLog : {S : Type 0} → (S → List (Entry C) → Type 0) → List S → ℕ
@@ -50,10 +54,10 @@ module _ {C : Type 0} where
     pub ran : List (List ℕ)
     pub run : AreRun workers count ran
     pub calls : (worker : ℕ) (mine : List ℕ) → slice_get ran worker ≡ Some mine
-        → requests_by worker history ≡ flat_map stands_for (entries_by logs mine)
+        → requests_by worker history ≡ flat_map stands_for (requests_in (entries_by logs mine))
     -- The quota refused a spawn only if the worker had used it up.
     pub within : (worker : ℕ) (mine : List ℕ) → slice_get ran worker ≡ Some mine
-        → FitQuota quota (entries_by logs mine)
+        → FitQuota quota (requests_in (entries_by logs mine))
     pub given : (worker : ℕ) (mine : List ℕ) → slice_get ran worker ≡ Some mine
         → given_to worker history ≡ spawned_in (entries_by logs mine)
     pub each_log : length logs ≡ count
