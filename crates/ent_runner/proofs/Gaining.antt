@@ -6,12 +6,16 @@ use Rattle.ent_runner.proofs.Lists.{of_mapped}
 use Rattle.ent_shared.proofs.Requested as requested
 use Rattle.ent_shared.specs.Requests.{Gains, handles_in, stands_for}
 
+-- a call for one handle
+abbrev OfOne : ℕ × Result (List Handle) Space → Type 0
+OfOne call = call.0 ≡ 1
+
+pub log_gains_nothing : (C : Type 0) (r : Record) → Gains r (requests_in {C = C} []) r
+log_gains_nothing C r = requested.gains_nothing r
+
 module _ {C : Type 0} where
   abbrev pub LogGains : Record → List (Entry C) → Record → Type 0
   LogGains before log after = Gains before (requests_in log) after
-
-  pub log_gains_nothing : (r : Record) → LogGains r [] r
-  log_gains_nothing r = requested.gains_nothing r
 
   -- where one log follows another
   pub log_gains_then : (a b c : Record) (xs ys : List (Entry C)) → LogGains a xs b → LogGains b ys c
@@ -30,9 +34,6 @@ module _ {C : Type 0} where
   spawned (Spawn h ∷ log) = ap (λ hs. h ∷ hs) (spawned log)
   spawned (entry.Refused why ∷ log) = spawned log
   spawned (entry.Command command ∷ log) = spawned log
-
-  abbrev OfOne : ℕ × Result (List Handle) Space → Type 0
-  OfOne call = call.0 ≡ 1
 
   each_one : (log : List (Entry C)) → All OfOne (flat_map stands_for (requests_in log))
   each_one [] = All-nil OfOne

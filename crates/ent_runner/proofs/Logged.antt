@@ -53,7 +53,7 @@ module _ {C : Type 0} (start after : Allocator) (workers : ℕ) (opens records :
       logs a mine b)) where
     worked_at : (k : ℕ) (mine : List ℕ) → slice_get ran k ≡ Some mine → (r : Record) × (slice_get records k ≡ Some r)
         × LogGains (opened start k) (entries_by logs mine) r
-    worked_at = added_at LogGains log_gains_nothing log_gains_then P logs start workers opens records opened_are many
+    worked_at = added_at LogGains (log_gains_nothing C) log_gains_then P logs start workers opens records opened_are many
         long ran each did
 
     calls_at : (k : ℕ) (mine : List ℕ) → slice_get ran k ≡ Some mine → requests_by k (history_of records)
@@ -76,7 +76,7 @@ module _ {C : Type 0} (start after : Allocator) (workers : ℕ) (opens records :
         ∙ (ap handles_of (rw r.2.number at own.own) ∙ (r.2.given ∙ spawned (entries_by logs mine)))
 
     one_each : All (λ (call : Call). call.requested ≡ 1) (history_of records)
-    one_each = of_each LogGains log_gains_nothing log_gains_then P logs start workers opens records opened_are many
+    one_each = of_each LogGains (log_gains_nothing C) log_gains_then P logs start workers opens records opened_are many
         long ran each did (λ call. call.requested ≡ 1)
         (λ k xs r less g. rw (g.entries, own_mapped g.reservations) (each_one _ _ xs g))
 
@@ -90,13 +90,13 @@ module _ {C : Type 0} (start after : Allocator) (workers : ℕ) (opens records :
       within_at,
       given_at,
       each_log,
-      ours LogGains log_gains_nothing log_gains_then P logs start workers opens records opened_are many long ran each
+      ours LogGains (log_gains_nothing C) log_gains_then P logs start workers opens records opened_are many long ran each
           did (λ k xs r g. rw (g.entries, own_mapped g.reservations) g.callers),
       one_each,
     )
 
     each_holds : (n : ℕ) → n < count → P n (log_at logs n)
-    each_holds = each_may LogGains log_gains_nothing log_gains_then P logs start workers opens records opened_are many
+    each_holds = each_may LogGains (log_gains_nothing C) log_gains_then P logs start workers opens records opened_are many
         long ran each did count runs.once
 
   module _ {S : Type 0} (may leave : S → List (Entry C) → Type 0) (systems : List S) where
