@@ -25,7 +25,7 @@ use ent_alloc::{Entities, Living, Refused, Reserved, Span};
 use ent_handle::Handle;
 use std::marker::Model;
 
-/// An allocator that many callers reserve from at once, each with a [`Reserver`] of its own.
+/// An allocator that many callers reserve from at once, each with a reserver of its own.
 #[derive(Drop)]
 pub struct Shared {
     entities: Entities,

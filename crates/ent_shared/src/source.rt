@@ -3,7 +3,7 @@ use crate::shared::Shared;
 use ent_alloc::{Refused, Reserved, Source};
 use ent_handle::Handle;
 
-/// Each reservation is an [atomic step](Shared::reserve) of all reservers' one cursor.
+/// Each reservation is an atomic step of all reservers' one cursor.
 impl Source for Shared {
     ghost use Rattle.ent_shared.specs.Phase.{IsOf};
     ghost use Rattle.ent_shared.specs.Replies.{IsReturned};

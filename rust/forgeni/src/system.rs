@@ -1,4 +1,4 @@
-//! Systems of frames.
+//! Systems, and what they fill.
 
 use crate::proved::ent_blocks::Blocks;
 use crate::proved::ent_queue::CommandQueue;
@@ -9,9 +9,12 @@ use alloc::sync::Arc;
 #[cfg(feature = "std")]
 use std::sync::{Mutex, PoisonError};
 
+/// Where the handles of a system come from: [`SharedSource`] or [`Blocks`]. As a bound it makes a function or a
+/// system one for both, as at [`LogCommands`].
 pub use crate::proved::ent_alloc::Source;
 pub use crate::proved::ent_queue::Commands as SystemCommands;
 pub use crate::proved::ent_runner::{LogSystem, System};
+/// The source of the systems of [`run_frame`](crate::run_frame) and [`run_logs`](crate::run_logs).
 pub use crate::proved::ent_shared::Shared as SharedSource;
 
 /// Issues the commands of one system of a world, with handles from the source `S`.
@@ -19,7 +22,7 @@ pub type WorldCommands<'a, S = SharedSource> = SystemCommands<'a, CommandQueue, 
 
 /// Fills the log of one system, with handles from the source `S`. `C` is the caller's type of commands.
 ///
-/// What several systems do may be a function of its own, for every source:
+/// What several systems do may be one function, for every source:
 ///
 /// ```
 /// # #[cfg(feature = "std")] {

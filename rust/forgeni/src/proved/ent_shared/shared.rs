@@ -8,7 +8,7 @@ use crate::proved::ent_shared::word::Word;
 use crate::proved::ent_alloc::{Entities, Living, Refused, Reserved, Span};
 use crate::proved::ent_handle::Handle;
 
-/// An allocator that many callers reserve from at once, each with a [`Reserver`] of its own.
+/// An allocator that many callers reserve from at once, each with a reserver of its own.
 pub struct Shared {
     entities: Entities,
     word: Word,

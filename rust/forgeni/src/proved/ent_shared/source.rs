@@ -5,7 +5,7 @@ use crate::proved::ent_shared::shared::Shared;
 use crate::proved::ent_alloc::{Refused, Reserved, Source};
 use crate::proved::ent_handle::Handle;
 
-/// Each reservation is an [atomic step](Shared::reserve) of all reservers' one cursor.
+/// Each reservation is an atomic step of all reservers' one cursor.
 impl Source for Shared {
     type Reserver = Reserver;
 

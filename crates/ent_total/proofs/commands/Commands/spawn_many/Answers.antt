@@ -5,7 +5,7 @@ use Rattle.ent_total.proofs.commands.Commands.spawn_many.Goals as goal
 pub returns-clause-recorded : goal.returns-clause-recorded
 returns-clause-recorded g c = search (
   rules,
-  recorded_many c.spawn_many_with-spawned.new.self.source.now c.resume-commands.result.reserver.now
+  recorded_many c.resume-commands.result.source.now c.resume-commands.result.reserver.now
       c.spawn_many_with-spawned.new.self.reserver.now c.args.n c.spawn_many_with-spawned.result
       c.spawn_many_with-spawned.ensures.replies,
 )
@@ -13,7 +13,7 @@ returns-clause-recorded g c = search (
 pub returns-clause-unrecorded : goal.returns-clause-unrecorded
 returns-clause-unrecorded g c = search (
   rules,
-  unrecorded c.spawn_many_with-spawned.new.self.source.now c.resume-commands.result.reserver.now
+  unrecorded c.resume-commands.result.source.now c.resume-commands.result.reserver.now
       c.spawn_many_with-spawned.new.self.reserver.now c.args.n c.spawn_many_with-spawned.result
       (λ why is. c.spawn_many_with-spawned.ensures.replies (Err why) (search (rules, is)))
       c.spawn_many_with-spawned.ensures.memory,
