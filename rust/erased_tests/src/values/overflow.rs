@@ -96,8 +96,9 @@ fn lost_callers_count_as_used_up() {
     let Ok(mut entities) = ended.into_entities() else {
         panic!("memory for three blocks");
     };
-    // Nobody got 6v1, but the refused request may have been served.
-    let born = [(3, 1), (4, 1), (5, 1), (6, 1), (1, 2)]
+    // Nobody got 6v1, but the refused request may have been served. 0v2 is left before the others, so
+    // their slots are made.
+    let born = [(6, 1), (5, 1), (4, 1), (3, 1), (1, 2)]
         .map(|(index, generation)| handle(index, generation));
     assert_flushes(&mut entities, &born);
     assert_eq!(entities.alloc(), Ok(handle(0, 2)));
