@@ -16,7 +16,7 @@ import second_eraser
 TOP = pathlib.Path(__file__).resolve().parent.parent
 CASES = TOP / ".ci" / "erase_holes.case"
 # The first eraser erases these crates, and knows of the last two that they have these types. A case is the first crate.
-CRATES = {"ent_block_runner": "", "ent_blocks": "pub struct BlockReserver;\n", "ent_log": "", "ent_log_runner": "", "ent_runner": "", "ent_replay": "pub struct Log;\n", "ent_total": "pub struct Commands;\npub struct Reserver;\n"}
+CRATES = {"ent_blocks": "pub struct BlockReserver;\n", "ent_log": "", "ent_runner": "", "ent_replay": "pub struct Log;\n", "ent_total": "pub struct Commands;\npub struct Reserver;\n"}
 CASE = "ent_runner"
 KEYS = ("edition: ", "refused: ", "erased: ")
 

@@ -1,5 +1,6 @@
 #!/usr/bin/env python3
-"""Compares README and the pages with what they quote. It needs the program that the gate built, and runs at the top of the repository.
+"""Compares README and the pages with what they quote. It needs the programs that the gate built, and runs at the top of the repository.
+With `--unbuilt` it leaves out what the programs print, and needs none.
 
 Above each fenced block stands a line that says what the block is:
 
@@ -76,8 +77,8 @@ def blocks_of(page):
         above = above or ""
 
 
-def fault_of(mark, block):
-    """What is wrong with a block under this line, or None."""
+def fault_of(mark, block, built):
+    """What is wrong with a block under this line, or None. What a command prints is compared if the programs are built."""
     what = MARK.match(mark.strip())
     if not what:
         return "has no line that says what it is"
@@ -85,7 +86,7 @@ def fault_of(mark, block):
     if kind == "from":
         lines = pathlib.Path(object).read_text().splitlines()
         return None if all(has_run(lines, it) for it in runs_of(block)) else f"doesn't stand in {object}"
-    if kind == "prints":
+    if kind == "prints" and built:
         lines = printed(object) or printed(f"{object} 2>&1")
         same = all(has_run(lines, it) for it in runs_of(block)) if ".." in block else lines == block
         return None if same else f"isn't what this prints: {object}"
@@ -154,7 +155,7 @@ def faults_of_text(page):
 
 
 def main():
-    faults, count = [], 0
+    built, faults, count = "--unbuilt" not in sys.argv[1:], [], 0
     pages = [*sorted(pathlib.Path().glob("*.md")), *sorted(pathlib.Path("docs").glob("*.md"))]
     pages += sorted(pathlib.Path("crates").glob("*/README.md"))
     pages += sorted(pathlib.Path("rust").glob("*/README.md"))
@@ -162,10 +163,12 @@ def main():
         faults += faults_of_text(page)
         for at, mark, block in blocks_of(page):
             count += 1
-            fault = fault_of(mark, block)
+            fault = fault_of(mark, block, built)
             if fault:
                 faults.append(f"{page}:{at}: the block {fault}")
-    faults += [*faults_of_schedule(), *faults_of_refusals(), *faults_of_touched(), *faults_of_replaced()]
+    faults += [*faults_of_touched(), *faults_of_replaced()]
+    if built:
+        faults += [*faults_of_schedule(), *faults_of_refusals()]
     print(*faults, f"pages: {count} blocks of {len(pages)} pages compared, {len(faults)} faults", sep="\n")
     return 1 if faults else 0
 

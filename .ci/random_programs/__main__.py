@@ -20,7 +20,7 @@ from pieces import TRACE, Program
 
 TOP = pathlib.Path(__file__).resolve().parent.parent.parent
 # The first eraser erases these crates and those that they use.
-CRATES = ["ent_replay", "ent_block_runner", "ent_blocks", "ent_log", "ent_log_runner", "ent_runner", "ent_total"]
+CRATES = ["ent_replay", "ent_blocks", "ent_log", "ent_runner", "ent_total"]
 # Their types for which the eraser has a layout.
 TYPES = {"ent_blocks": "pub struct BlockReserver;\n", "ent_replay": "pub struct Log;\n", "ent_total": "pub struct Commands;\npub struct Reserver;\n"}
 # How a program's first note begins: its number stands in the last six digits.

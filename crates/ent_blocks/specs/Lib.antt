@@ -1,4 +1,5 @@
 pub mod Blocks
 pub mod Faults
 pub mod Drawing
+pub mod Ending
 pub mod Overflow

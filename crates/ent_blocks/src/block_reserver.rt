@@ -122,7 +122,7 @@ impl<J: BlockNumbering> Held for BlockReserver<J> {
 }
 
 /// A reserver of the same block, which remembers as much. The two give the same handles, so one of
-/// them has to be dropped unused, and no contract sees to that. It is for `ent_block_runner` alone: a
+/// them has to be dropped unused, and no contract sees to that. It is for `ent_runner` alone: a
 /// frame owns the reservers of its systems, makes another one for a job, which is done once, and drops
 /// its own.
 pub fn again<J: BlockNumbering>(reserver: &BlockReserver<J>) -> BlockReserver<J>

@@ -38,6 +38,18 @@ impl BlockSize {
         }
     }
 
+    /// One of this size, or of the limit if that is less: for a first phase in which more is wanted
+    /// than 64 handles, or as it was saved.
+    #[must_use]
+    pub fn with_size(size: u32, limit: u32) -> Self
+        ensures { result ≡ record { size = min size limit; limit = limit } }
+    {
+        BlockSize {
+            size: if size <= limit { size } else { limit },
+            limit,
+        }
+    }
+
     /// How many handles the block has in the next phase.
     #[must_use]
     pub fn size(&self) -> u32

@@ -1,7 +1,7 @@
 -- What all claimers together have claimed.
 use Rattle.ent_runner.proofs.Lists.{each_of_all, get_mapped}
 use Rattle.ent_runner.proofs.Common.{flat_map, IsPermutation, common_steps, rules, ◌≡◌, ℕ, zero, suc, ◌<◌, ◌≤◌, List, [], ◌∷◌, length, map, refl, ap, arith, inl, inr, none-some, cases_lt, true, slice_get, sum_by, All, range_with_len, All-head, length-map, fold-map, sum_by-flat_map, ClaimRecord, IsClaimKept, AreClaimsClosed, Claimer, IsClaimedBy, AreFirst, Some}
-use Rattle.ent_runner.specs.Claims.{HaveEnded}
+use Rattle.ent_runner.specs.Crew.Claims.{HaveEnded}
 use Rattle.ent_runner.proofs.Counting.{is, inside, in_range, weigh_same}
 
 abbrev pub records_of : List Claimer → List ClaimRecord

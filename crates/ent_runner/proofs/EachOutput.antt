@@ -83,40 +83,48 @@ module _ {O L : Type 0} where
         (λ n a o b it. inr it) done.outputs a mine b (done.did k mine a b m x y)) n less,
   )
 
-module _ {O L K : Type 0} (f : L → K) (may leave : ℕ → K → O → K → Type 0) where
-  abbrev Of : (ℕ → K → O → K → Type 0) → ℕ → L → O → L → Type 0
-  Of may number before output after = may number (f before) output (f after)
-
-  did_seen : (outputs : List O) (mine : List ℕ) (a b : L) → DidAll (Of may) outputs a mine b
+-- What was done with what was lent says this of the part that is seen.
+module _ {O L K : Type 0} (f : L → K) (may leave : ℕ → K → O → K → Type 0) (done left : ℕ → L → O → L → Type 0)
+    (ended : (n : ℕ) (a : L) (o : O) (b : L) → done n a o b → may n (f a) o (f b))
+    (stopped : (n : ℕ) (a : L) (o : O) (b : L) → left n a o b → leave n (f a) o (f b)) where
+  did_seen : (outputs : List O) (mine : List ℕ) (a b : L) → DidAll done outputs a mine b
       → DidAll may outputs (f a) mine (f b)
   did_seen outputs [] a b same = ap f same
-  did_seen outputs (n ∷ mine) a b (j, did, rest) = (f j, did, did_seen outputs mine j b rest)
+  did_seen outputs (n ∷ mine) a b (j, (o, at, does), rest) =
+      (f j, (o, at, ended n a o j does), did_seen outputs mine j b rest)
 
-  until_seen : (outputs : List O) (mine : List ℕ) (a b : L) → DidUntil (Of may) (Of leave) outputs a mine b
+  until_seen : (outputs : List O) (mine : List ℕ) (a b : L) → DidUntil done left outputs a mine b
       → DidUntil may leave outputs (f a) mine (f b)
-  until_seen outputs mine a b did = search (rules, did_seen)
+  until_seen outputs mine a b did = record {
+    earlier = did.earlier;
+    last = did.last;
+    numbers_are = did.numbers_are;
+    between = f did.between;
+    ended = did_seen outputs did.earlier a did.between did.ended;
+    stopped = (did.stopped.0, did.stopped.1, stopped did.last did.between did.stopped.0 b did.stopped.2);
+  }
 
   pub done_seen : (jobs : ℕ) (before : List L) (outputs : List O) (after : List L)
-      → AreDone (Of may) jobs before outputs after → AreDone may jobs (map f before) outputs (map f after)
-  done_seen jobs before outputs after done = search (rules, length-map, mapped_at, did_seen)
+      → AreDone done jobs before outputs after → AreDone may jobs (map f before) outputs (map f after)
+  done_seen jobs before outputs after all = search (rules, length-map, mapped_at, did_seen)
 
-  pub broken_off_seen : (jobs : ℕ) (before : List L) (left : List (Option O)) (after : List L)
-      → AreBrokenOff (Of may) (Of leave) jobs before left after
-      → AreBrokenOff may leave jobs (map f before) left (map f after)
-  broken_off_seen jobs before left after done = record {
-    ran = done.ran;
-    each_worker = done.each_worker ∙ sym (length-map before f);
-    count = done.count;
-    within = done.within;
-    some = done.some;
-    once = done.once;
-    rising = done.rising;
-    outputs = done.outputs;
-    each_output = done.each_output;
-    left_are = done.left_are;
+  pub broken_off_seen : (jobs : ℕ) (before : List L) (left_out : List (Option O)) (after : List L)
+      → AreBrokenOff done left jobs before left_out after
+      → AreBrokenOff may leave jobs (map f before) left_out (map f after)
+  broken_off_seen jobs before left_out after all = record {
+    ran = all.ran;
+    each_worker = all.each_worker ∙ sym (length-map before f);
+    count = all.count;
+    within = all.within;
+    some = all.some;
+    once = all.once;
+    rising = all.rising;
+    outputs = all.outputs;
+    each_output = all.each_output;
+    left_are = all.left_are;
     did = λ worker mine a b at at_a at_b. search
-        (rules, done.did worker mine, mapped_at, did_seen done.outputs mine, until_seen done.outputs mine);
+        (rules, all.did worker mine, mapped_at, did_seen all.outputs mine, until_seen all.outputs mine);
     why = ⊎_elim (λ s. inl (search
-        (rules, s, get_mapped f before s.0 s.2 s.5, get_mapped f after s.0 s.3 s.6, until_seen done.outputs s.1 s.2 s.3 s.7))) inr done.why;
-    busy = done.busy;
+        (rules, s, get_mapped f before s.0 s.2 s.5, get_mapped f after s.0 s.3 s.6, until_seen all.outputs s.1 s.2 s.3 s.7))) inr all.why;
+    busy = all.busy;
   }

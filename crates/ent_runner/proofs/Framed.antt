@@ -1,22 +1,11 @@
 -- What a crew did whose jobs are the systems of a frame, and the history of its reservers, are a frame.
 -- What a frame leaves if no queue was applied.
-use Rattle.ent_runner.proofs.Common.{rules, ◌≡◌, ℕ, List, get_or, Ok, Err, OnOk, OnErr, get_or_from_slice_get, Record, Command, Gains, View, SystemMayIssue, Result, All, slice_get, Some, length, map, ◌<◌, ◌∙◌, slice_get_within, AllPairs, flat_map, range_with_len, IsPermutation, Call, IsLegal, gains_nothing, gains_then, Respects, history_of, reservations_by, reservations_of, opened_records, Reservation, World, some, AreBrokenOff, AreDone, DidAll, OfEach, IsBrokenOff, IsFrame, IsWork, SystemMayHaveIssued, queue_at, requests_by, view_of, sym, Option, Vec, Global, ap, IfOk, IfErr, IfOk-weaker, IsErr, drop_of_length-le, IsSound, after_history, after_takes-sound, available-after_takes, limits-after_takes, live-after_takes, made-after_takes, length-taken, after_history-takes, OpenWorld, world_at_start, IsLost, reserved_by, None}
+use Rattle.ent_runner.proofs.Common.{rules, ◌≡◌, ℕ, List, [], OnErr, IsFilled, IsReturned, Shared, Reserver, records_of, gains_of, Record, Command, Gains, View, SystemMayIssue, Result, All, slice_get, Some, length, map, ◌<◌, ◌∙◌, slice_get_within, AllPairs, flat_map, range_with_len, IsPermutation, Call, IsLegal, gains_nothing, gains_then, Respects, history_of, reservations_by, reservations_of, opened_records, Reservation, World, some, AreBrokenOff, AreDone, DidAll, OfEach, IsBrokenOff, IsFrame, IsWork, SystemMayHaveIssued, queue_at, requests_by, view_of, sym, Option, Vec, Global, ap, IfOk, IfErr, IfOk-weaker, IsErr, drop_of_length-le, IsSound, after_history, after_takes-sound, available-after_takes, limits-after_takes, live-after_takes, made-after_takes, length-taken, after_history-takes, OpenWorld, world_at_start, IsLost, reserved_by, None}
+use Rattle.ent_queue.specs.Issuing as issuing
 use Rattle.ent_runner.proofs.Lists.{each_of_all, filter_map_is, map_map_is}
 use Rattle.ent_runner.proofs.Adding.{own_mapped, all_either, ended_by, stopped_last, added_at, ours, each_may}
 use Rattle.ent_runner.proofs.Conducting.{err_follows}
-
-module _ {S A E : Type 0} (may : S → View → List Command → Type 0) (systems : List S) (view : View) (n : ℕ) (d : S)
-    (a b : Record) (queue finished : List Command) (same : finished ≡ queue) (gains : Gains a finished b) where
-  -- if it ended, and if it stopped
-  pub issued_ok : (r : Result A E) → OnOk r (may (get_or systems n d) view queue)
-      → OnOk r (Gains a finished b × SystemMayIssue may systems view n finished)
-  issued_ok (Ok x) ran = (gains, λ system at. search (rules, get_or_from_slice_get))
-  issued_ok (Err e) ran = tt
-
-  pub issued_err : (r : Result A E) → OnErr r (may (get_or systems n d) view queue)
-      → OnErr r (Gains a finished b × SystemMayIssue may systems view n finished)
-  issued_err (Ok x) ran = tt
-  issued_err (Err e) ran = (gains, λ system at. search (rules, get_or_from_slice_get))
+use Rattle.ent_runner.proofs.EachOutput.{done_seen, broken_off_seen}
 
 -- the calls of one caller in the history
 by_caller : (k : ℕ) (records : List Record) → requests_by k (history_of records)
@@ -27,6 +16,34 @@ module _ {S : Type 0} (may : S → View → List Command → Type 0) (systems : 
   -- what a system may do as a job
   abbrev pub Issues : ℕ → Record → List Command → Record → Type 0
   Issues n before queue after = Gains before queue after × SystemMayIssue may systems view n queue
+
+  module _ (shared : Shared) where
+    -- seen with the whole reserver that was lent to it
+    abbrev pub Fills : ℕ → Reserver → List Command → Reserver → Type 0
+    Fills n before queue after = IsFilled issuing.Issues [] (IsReturned shared) before queue after
+        × SystemMayIssue may systems view n queue
+
+    pub fills_gain : (n : ℕ) (before : Reserver) (queue : List Command) (after : Reserver)
+        → Fills n before queue after → Issues n before.own queue after.own
+    fills_gain n before queue after (f, system) = (
+      rw f.adds.queue (gains_of shared before after f.adds.added (rw f.adds.requests_are at f.served)),
+      system,
+    )
+
+module _ {S : Type 0} (may leave : S → View → List Command → Type 0) (systems : List S) (view : View) (shared : Shared)
+  where
+    pub all_gained : (jobs : ℕ) (before : List Reserver) (queues : List (List Command)) (after : List Reserver)
+        → AreDone (Fills may systems view shared) jobs before queues after
+        → AreDone (Issues may systems view) jobs (records_of before) queues (records_of after)
+    all_gained = done_seen (λ (r : Reserver). r.own) _ _ _ _ (fills_gain may systems view shared)
+        (fills_gain leave systems view shared)
+
+    pub some_gained : (jobs : ℕ) (before : List Reserver) (left : List (Option (List Command))) (after : List Reserver)
+        → AreBrokenOff (Fills may systems view shared) (Fills leave systems view shared) jobs before left after
+        → AreBrokenOff (Issues may systems view) (Issues leave systems view) jobs (records_of before) left
+        (records_of after)
+    some_gained = broken_off_seen (λ (r : Reserver). r.own) _ _ _ _ (fills_gain may systems view shared)
+        (fills_gain leave systems view shared)
 
 -- what the workers gained, and their histories
 module _ (before : World) (workers : ℕ) (opens records : List Record)

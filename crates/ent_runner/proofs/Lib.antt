@@ -15,4 +15,12 @@ pub mod Working
 pub mod EachOutput
 pub mod Disbanding
 pub mod NoSystems
+pub mod Gaining
+pub mod Logged
+pub mod Reserved
+pub mod Nothing
+pub mod Drawn
+pub mod Filled
+pub mod Whole
+pub mod Staged
 pub mod Common

@@ -1,4 +1,9 @@
 -- What a crew does: jobs with numbers, each with what its worker lends to it, and with one output.
+pub mod Record
+pub mod Rule
+pub mod Claims
+pub mod Worker
+pub mod Collecting
 use Rattle.std.specs.Prelude.{◌≡◌, ℕ, ◌<◌, ◌≤◌, List, [], ◌∷◌, ◌++◌, length, slice_get, Some}
 use Rattle.std.specs.Prelude.{◌⊎◌, ◌-◌, Option, None, map, replicate}
 use Rattle.std.specs.List.{All, AllPairs, FoldsTo, flat_map, range_with_len}

@@ -20,8 +20,8 @@ use Rattle.ent_world.specs.declared.fault.Fault.{Fault}
 use Rattle.ent_world.specs.declared.fault.SyncFault.{SyncFault}
 use Rattle.ent_world.specs.declared.fault.SyncFault.TheVariants as stop
 use Rattle.ent_world.specs.declared.fault.SyncReport.{SyncReport}
-use Rattle.ent_runner.specs.declared.report.FrameFault.{FrameFault}
-use Rattle.ent_runner.specs.declared.report.FrameFault.TheVariants as frame
+use Rattle.ent_runner.specs.declared.frame.report.FrameFault.{FrameFault}
+use Rattle.ent_runner.specs.declared.frame.report.FrameFault.TheVariants as frame
 
 -- what systems see of a world
 abbrev pub view_of : World → View

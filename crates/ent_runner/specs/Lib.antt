@@ -1,7 +1,6 @@
-pub mod Record
-pub mod Rule
-pub mod Claims
 pub mod Crew
 pub mod Frame
-pub mod Worker
-pub mod Collecting
+pub mod Logs
+pub mod Blocks
+pub mod Refusing
+pub mod Stage

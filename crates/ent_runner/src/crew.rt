@@ -2,15 +2,25 @@
 ghost use Rattle.std.specs.Prelude.{◌≡◌, ◌<◌, ◌≤◌, ◌^◌, ◌-◌, [], length, map, reverse, replicate};
 ghost use Rattle.std.specs.Prelude.{All, Any, IfOk, IfErr, OnErr, None, true, false, flat_map};
 ghost use Rattle.std.specs.Prelude.{vec_capacity};
-ghost use Rattle.ent_runner.specs.Collecting.{outputs_put};
+ghost use Rattle.ent_runner.specs.Crew.Collecting.{outputs_put};
 ghost use Rattle.ent_runner.specs.Crew.{AreDone, AreBrokenOff};
-ghost use Rattle.ent_runner.specs.Worker.{IsRoomForOne};
+ghost use Rattle.ent_runner.specs.Crew.Worker.{IsRoomForOne};
 
-use crate::claimer::Claimer;
-use crate::claims::Claims;
-use crate::collecting::{collect, put_all};
-use crate::jobs::Jobs;
-use crate::worker::{Site, Worker, run_all};
+mod claimer;
+mod claims;
+mod collecting;
+mod jobs;
+mod record;
+mod rule;
+mod word;
+mod worker;
+
+pub use crate::crew::claimer::Claimer;
+pub use crate::crew::claims::Claims;
+use crate::crew::collecting::{collect, put_all};
+pub use crate::crew::jobs::Jobs;
+pub use crate::crew::record::ClaimRecord;
+use crate::crew::worker::{Site, Worker, run_all};
 use ent_handle::Memory;
 use std::alloc::{AllocError, Global};
 use std::marker::Model;
@@ -34,7 +44,7 @@ pub struct Crew<O> {
 
 impl<O> Model for Crew<O> {
     ghost use Rattle.ent_runner.specs.Crew.{Crew};
-    ghost use Rattle.ent_runner.specs.Worker.{IsRoom};
+    ghost use Rattle.ent_runner.specs.Crew.Worker.{IsRoom};
 
     ghost Value = { Crew };
 

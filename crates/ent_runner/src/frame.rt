@@ -8,12 +8,19 @@ ghost use Rattle.ent_runner.specs.Frame.{IfSyncStopped, IfStoppedAt, reserved_by
 ghost use Rattle.ent_world.specs.Memory.{TakesMemoryAt};
 ghost use Rattle.ent_world.specs.Sync.{sync, IsStop};
 
+pub(super) mod gate;
+pub(super) mod report;
+mod side;
+pub(super) mod system;
+
 use crate::crew::Crew;
-use crate::gate::Gate;
-use crate::report::{FrameFault, FrameReport};
-use crate::stage::Stage;
-use crate::system::System;
+use crate::frame::gate::Gate;
+use crate::frame::report::{FrameFault, FrameReport};
+use crate::frame::system::System;
+use crate::stage::SharedStage;
+use crate::systems::Issuers;
 use ent_alloc::Limits;
+use ent_shared::Shared;
 use ent_world::{SyncFault, World};
 use std::alloc::Global;
 use std::mem;
@@ -50,7 +57,7 @@ pub fn run_frame<R, S, G>(
 ) -> Result<FrameReport, FrameFault>
 where
     R: Threads + Sync,
-    S: System + Sync,
+    S: System<Shared> + Sync,
     G: Gate + Sync,
     requires flushed { world.old.allocator.asked ≡ 0 }
     requires systems { length systems.now ≤ 2 ^ 16 }
@@ -102,12 +109,15 @@ where
             return Err(FrameFault::Memory);
         }
     };
-    let stage = Stage {
-        alloc,
-        shared: opened.shared(),
+    let issuers = Issuers {
         view: opened.view(),
         systems,
         gate,
+    };
+    let stage = SharedStage {
+        alloc,
+        shared: opened.shared(),
+        systems: &issuers,
     };
     let queues = crew.work(rt, &mut reservers, &stage);
     *world = opened.close(reservers);

@@ -1,44 +1,78 @@
-//! The systems of a frame are the jobs of a crew.
-ghost use Rattle.std.specs.Prelude.{length};
-ghost use Rattle.ent_queue.specs.Reserving.{Gains};
+//! The systems of a run are the jobs of a crew.
+ghost use Rattle.ent_blocks.specs.Drawing.{IsDrawn};
 ghost use Rattle.ent_shared.specs.Phase.{IsOf};
-ghost use Rattle.ent_runner.specs.Frame.{SystemMayIssue};
+ghost use Rattle.ent_shared.specs.Replies.{IsReturned};
+ghost use Rattle.ent_runner.specs.Stage.{IsFilled, IsDealt, AreReady};
 
-use crate::gate::Gate;
-use crate::jobs::Jobs;
-use crate::system::System;
+use crate::BlockNumbering;
+use crate::crew::Jobs;
+use crate::systems::Systems;
+use ent_blocks::{BlockReserver, Blocks, again};
 use ent_handle::Memory;
-use ent_queue::{CommandQueue, Commands};
+use ent_queue::{Commands, Output};
 use ent_shared::{Reserver, Shared};
-use ent_world::View;
 use std::alloc::Global;
 
-/// The systems of a frame, and what they have in common.
+/// Systems over a shared allocator. A worker lends each of its systems its one reserver.
 #[derive(Drop)]
-pub(crate) struct Stage<'a, 'v, 's, 'g, S, G> {
+pub(crate) struct SharedStage<'a, 's, T> {
     pub(crate) alloc: Global,
     pub(crate) shared: &'a Shared,
-    pub(crate) view: View<'v>,
-    pub(crate) systems: &'s [S],
-    pub(crate) gate: &'g G,
+    pub(crate) systems: &'s T,
 }
 
-impl<S: System, G: Gate> Jobs<CommandQueue, Reserver> for Stage<'_, '_, '_, '_, S, G> {
-    ghost count = { λ stage. length stage.systems.now };
+impl<O: Output, T: Systems<O, Shared>> Jobs<O, Reserver> for SharedStage<'_, '_, T> {
+    ghost count = { λ stage. T.count stage.systems.now };
 
     ghost may_have = { λ stage reserver. IsOf stage.shared.now reserver };
 
-    ghost may_do = { λ stage number before queue after. Gains before.own queue after.own
-        × SystemMayIssue S.may_issue stage.systems.now stage.view number queue };
+    ghost may_do = { λ stage number before output after.
+        IsFilled O.adds O.empty (IsReturned stage.shared.now) before output after
+        × T.may_fill stage.systems.now number output };
 
-    ghost may_leave = { λ stage number before queue after. Gains before.own queue after.own
-        × SystemMayIssue S.may_leave stage.systems.now stage.view number queue };
+    ghost may_leave = { λ stage number before output after.
+        IsFilled O.adds O.empty (IsReturned stage.shared.now) before output after
+        × T.may_leave stage.systems.now number output };
 
-    /// Runs the system of this number. Its queue has what it issued, also if it stopped.
-    fn run(&self, number: usize, reserver: &mut Reserver) -> (CommandQueue, Result<(), Memory>) {
-        self.gate.entered(number);
+    /// Runs the system of this number. Its output has what it added, also if it stopped.
+    fn run(&self, number: usize, reserver: &mut Reserver) -> (O, Result<(), Memory>) {
         let mut commands = Commands::new(self.alloc, self.shared, reserver);
-        let ran = self.systems[number].run(self.alloc, &self.view, &mut commands);
+        let ran = self.systems.run_at(number, self.alloc, &mut commands);
         (commands.finish(), ran)
+    }
+}
+
+/// Systems in blocks, each with the reserver at its number.
+#[derive(Drop)]
+pub(crate) struct BlockStage<'b, 'r, 's, J: BlockNumbering, T> {
+    pub(crate) alloc: Global,
+    pub(crate) blocks: &'b Blocks<J>,
+    pub(crate) reservers: &'r [BlockReserver<J>],
+    pub(crate) systems: &'s T,
+}
+
+/// Nothing is lent to them: each has its own reserver. So there is nothing that workers share but the
+/// claims.
+impl<J: BlockNumbering, O: Output, T: Systems<O, Blocks<J>>> Jobs<(O, BlockReserver<J>), ()>
+    for BlockStage<'_, '_, '_, J, T> {
+    ghost count = { λ stage. T.count stage.systems.now };
+
+    ghost may_have = { λ stage nothing.
+        AreReady stage.blocks.now (T.count stage.systems.now) stage.reservers.now };
+
+    ghost may_do = { λ stage number before done after. IsDealt O.adds O.empty
+        (T.may_fill stage.systems.now) stage.blocks.now stage.reservers.now number done };
+
+    ghost may_leave = { λ stage number before done after. IsDealt O.adds O.empty
+        (T.may_leave stage.systems.now) stage.blocks.now stage.reservers.now number done };
+
+    /// Runs the system of this number, which is run once. Its output has what it added, also if it
+    /// stopped.
+    fn run(&self, number: usize, lent: &mut ()) -> ((O, BlockReserver<J>), Result<(), Memory>) {
+        let mut reserver = again(&self.reservers[number]);
+        let mut commands = Commands::new(self.alloc, self.blocks, &mut reserver);
+        let ran = self.systems.run_at(number, self.alloc, &mut commands);
+        let output = commands.finish();
+        ((output, reserver), ran)
     }
 }

@@ -5,3 +5,4 @@ pub mod Rule
 pub mod Phase
 pub mod Order
 pub mod Replies
+pub mod Ending

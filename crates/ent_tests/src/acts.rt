@@ -7,6 +7,7 @@ use crate::rendezvous::Rendezvous;
 use ent_handle::{ComponentId, Handle, Memory};
 use ent_queue::{Bundle, Commands};
 use ent_runner::System;
+use ent_shared::Shared;
 use ent_world::View;
 use std::alloc::Global;
 use std::process::Abort;
@@ -28,7 +29,7 @@ pub enum Act {
     Insert(Handle, i64),
 }
 
-impl System for Act {
+impl System<Shared> for Act {
     ghost may_issue = { λ system view queue. Unit {0} };
 
     #[tactic(auto, using(ent_queue::proofs::Extending::extends_nothing, ent_queue::proofs::Extending::extends_then))]
@@ -58,7 +59,7 @@ pub struct Count<'a> {
     pub gate: &'a Rendezvous,
 }
 
-impl System for Count<'_> {
+impl System<Shared> for Count<'_> {
     ghost may_issue = { λ system view queue. Unit {0} };
 
     #[tactic(auto, using(ent_queue::proofs::Extending::extends_then))]
@@ -80,7 +81,7 @@ pub struct Counted<'a> {
     act: Act,
 }
 
-impl System for Counted<'_> {
+impl System<Shared> for Counted<'_> {
     ghost may_issue = { λ system view queue. Unit {0} };
 
     fn run(

@@ -1,6 +1,6 @@
 //! Claims that run out of memory when they are opened.
 ghost use Rattle.std.specs.Prelude.{All};
-ghost use Rattle.ent_runner.specs.Claims.{IsClaimerOf};
+ghost use Rattle.ent_runner.specs.Crew.Claims.{IsClaimerOf};
 
 use ent_handle::Memory;
 use ent_runner::{Claimer, Claims};

@@ -11,9 +11,7 @@ pub use Rattle.ent_alloc.specs.declared.refused.Refused.{Refused}
 pub use Rattle.ent_alloc.specs.declared.refused.Refused.TheVariants.{Quota, Space}
 pub use Rattle.ent_alloc.specs.declared.reserve_error.ReserveError.{ReserveError}
 pub use Rattle.ent_handle.specs.Handle.{Handle}
-pub use Rattle.ent_queue.specs.Command.{Command}
 pub use Rattle.ent_queue.specs.Reserving.{as_list, queued}
-pub use Rattle.ent_runner.specs.Frame.{IsHalf}
 pub use Rattle.ent_shared.proofs.Returned.{given_more, given_no_more}
 pub use Rattle.ent_shared.specs.Order.{handles_given, history_of, own_of_all}
 pub use Rattle.ent_shared.specs.Phase.{IsOf, Reserver, Shared, records_of}
@@ -24,12 +22,9 @@ pub use Rattle.ent_world.proofs.ImageRead.{bounded as world_bounded, read_is, re
 pub use Rattle.ent_world.specs.FirstFault.{HasFault, MayTakeMemory}
 pub use Rattle.ent_world.specs.Image.{HasImage, image as world_image, least, magic}
 pub use Rattle.ent_world.specs.OpenWorld.{OpenWorld}
-pub use Rattle.ent_world.specs.World.{World, World as WorldValue}
-pub use Rattle.ent_world.specs.declared.fault.SyncFault.{SyncFault}
-pub use Rattle.ent_world.specs.declared.fault.SyncReport.{SyncReport}
+pub use Rattle.ent_world.specs.World.{World as WorldValue}
 pub use Rattle.ent_world.specs.declared.image_fault.WorldImageFault.{WorldImageFault}
 pub use Rattle.ent_world.specs.declared.image_fault.WorldImageFault.TheVariants.{Memory}
-pub use Rattle.ent_total.specs.Framing.{HasStop}
 pub use Rattle.ent_total.specs.Image.{before_count, image}
 pub use Rattle.ent_total.specs.Issuing.{AreCommandsOf, AreNew, Commands, IsRefused, issued, issuing}
 pub use Rattle.ent_total.specs.Sharing.{AreOf, all_returned, reservers_of}

@@ -1,14 +1,9 @@
 -- What is said of a refusal.
-use Rattle.std.specs.Prelude.{ℕ, Result, Ok, Err}
+use Rattle.std.specs.Prelude.{ℕ}
 use Rattle.ent_alloc.specs.declared.refused.Refused.{Refused}
 use Rattle.ent_alloc.specs.declared.refused.Refused.TheVariants as refused
 use Rattle.ent_alloc.specs.declared.reserve_error.ReserveError.{ReserveError}
 use Rattle.ent_alloc.specs.declared.reserve_error.ReserveError.TheVariants as failed
-
--- it was refused, and this is true of the refusal
-abbrev pub IsErrWith : {A E : Type 0} → Result A E → (E → Type 0) → Type 0
-IsErrWith (Ok a) P = ⊥
-IsErrWith (Err e) P = P e
 
 -- the pool had too few
 abbrev pub IsSpace : ReserveError → Type 0

@@ -1,22 +1,14 @@
 -- What contracts see of a world in a phase, and of a system that issues commands in it.
-use Rattle.std.specs.Prelude.{◌≡◌, ◌≢◌, ◌↔◌, ◌⊎◌, ◌+◌, ◌*◌, ◌≤◌, ◌≤ℤ◌, ◌<ℤ◌, ℕ, List, [], ◌++◌}
-use Rattle.std.specs.Prelude.{Err, refl, All, AllPairs, Contains, length, map, sum_by}
+use Rattle.std.specs.Prelude.{◌≡◌, ◌≤◌, ℕ, List, [], ◌++◌, Err, refl, All, length, map}
 use Rattle.std.specs.Coded.{Coded, code_by, coded×, coded_ℕ, coded_list}
-use Rattle.ent_handle.specs.Handle.{Handle}
-use Rattle.ent_alloc.specs.Limits.{quota}
-use Rattle.ent_alloc.specs.Sequential.{Allocator, cursor, after_flush}
-use Rattle.ent_alloc.specs.History.{IsLegal, after_history, given_in}
-use Rattle.ent_alloc.specs.Sound.{IsLive}
-use Rattle.ent_shared.specs.Order.{reservations_of, history_of, handles_given, Respects}
-use Rattle.ent_shared.specs.Order.{handles_of, own_of_all}
 use Rattle.ent_alloc.specs.declared.refused.Refused.TheVariants.{Space, Quota}
-use Rattle.ent_shared.specs.Record.{requested_by}
-use Rattle.ent_shared.specs.Phase.{Shared, Reserver, reserver_code, IsOf, records_of, after_loss}
-use Rattle.ent_queue.specs.Command.{Command}
 use Rattle.ent_alloc.specs.declared.reserve_error.ReserveError.{ReserveError}
 use Rattle.ent_alloc.specs.declared.reserve_error.ReserveError.TheVariants as fault
-use Rattle.ent_queue.specs.Reserving.{Gains}
+use Rattle.ent_shared.specs.Ending.{EndsWithAll, EndsWithSome}
+use Rattle.ent_shared.specs.Phase.{Shared, Reserver, reserver_code, IsOf}
 use Rattle.ent_shared.specs.Replies.{IsReturned}
+use Rattle.ent_queue.specs.Command.{Command}
+use Rattle.ent_queue.specs.Reserving.{Gains}
 use Rattle.ent_queue.specs.contracts.queue.CommandQueue as queued
 use Rattle.ent_world.specs.OpenWorld.{OpenWorld as Opened, open_world_code as opened_code}
 use Rattle.ent_world.specs.World.{World, IsWorld}
@@ -104,59 +96,20 @@ IsRefused shared before after n (fault.Quota left) =
     IsReturned shared before after n (Err (Quota left))
 IsRefused shared before after n fault.Memory = Unit {0}
 
--- A flush of this allocator brings to life these handles and no others: those live that lived at
--- the start, and these.
-pub record BringsToLife (start after : Allocator) (given : List Handle) : Type 0 where
-  pub lives : (h : Handle) → IsLive (after_flush after) h ↔ (IsLive start h ⊎ Contains given h)
+-- The world is the one that was opened, but for its allocator.
+pub record IsWorldOf (opened : Opened) (after : World) : Type 0 where
+  pub phase : after.phase ≡ opened.phase
+  pub entities : after.entities ≡ opened.entities
+  pub world : IsWorld after
 
--- What these reservers were given is reserved in the allocator.
-pub record AreTaken (a : Allocator) (reservers : List Reserver) : Type 0 where
-  pub given : All (λ (r : Reserver). All (Contains a.taken) (handles_given r.own)) reservers
-
--- The phase ended with all its reservers: the world is the one that was opened, with all that was
--- reserved. The reservations stand in one history that is legal and respects each reserver; each
--- stands there once. No handle was given twice, and none was alive. A flush brings to life just
--- what was given.
+-- The phase ended with all its reservers, or with those that are returned.
 pub record IsClosed (opened : Opened) (returned : List Reserver) (after : World) : Type 0 where
-  pub phase : after.phase ≡ opened.phase
-  pub entities : after.entities ≡ opened.entities
-  pub world : IsWorld after
-  pub allocator : after.allocator
-      ≡ after_history opened.shared.start (history_of (records_of returned))
-  pub legal : IsLegal opened.shared.start (history_of (records_of returned))
-  pub respects : All (Respects (reservations_of (records_of returned))) (records_of returned)
-  pub falls : AllPairs (λ earlier later. later.high <ℤ earlier.high)
-      (reservations_of (records_of returned))
-  pub numbers : AllPairs (λ r s. r.number ≢ s.number) (records_of returned)
-  pub distinct : AllPairs (λ g h. g ≢ h) (given_in (history_of (records_of returned)))
-  pub not_live : All (λ h. ¬ (IsLive opened.shared.start h))
-      (given_in (history_of (records_of returned)))
-  pub brings_to_life : BringsToLife opened.shared.start after.allocator
-      (given_in (history_of (records_of returned)))
+  pub same : IsWorldOf opened after
+  pub ended : EndsWithAll opened.shared returned after.allocator
 
--- The phase ended with those of its reservers that are returned: the world is the one that was
--- opened, and a front of the pool is reserved. It counts what these have requested, and of the
--- others no more than their quota. It has all handles that these got: they differ, and none was
--- alive. A flush brings to life just what is reserved. If all are returned, it counts exactly what
--- they have requested, and the cursor is where their history leaves it.
 pub record IsClosedLost (opened : Opened) (returned : List Reserver) (after : World) : Type 0 where
-  pub phase : after.phase ≡ opened.phase
-  pub entities : after.entities ≡ opened.entities
-  pub world : IsWorld after
-  pub allocator : after.allocator ≡ after_loss opened.shared.start after.allocator.asked
-  pub least : sum_by (λ (r : Reserver). requested_by r.own) returned ≤ after.allocator.asked
-  pub most : sum_by (λ (r : Reserver). r.own.left) returned + after.allocator.asked
-      ≤ opened.shared.count * quota
-  pub reached : All (λ (r : Reserver). cursor after.allocator ≤ℤ r.own.mark) returned
-  pub asked : length returned ≡ opened.shared.count
-      → sum_by (λ (r : Reserver). requested_by r.own) returned ≡ after.allocator.asked
-  pub whole : length returned ≡ opened.shared.count
-      → cursor after.allocator
-      ≡ cursor (after_history opened.shared.start (history_of (records_of returned)))
-  pub given : AreTaken after.allocator returned
-  pub distinct : AllPairs (λ g h. g ≢ h) (handles_of (own_of_all (records_of returned)))
-  pub not_live : All (λ h. ¬ (IsLive opened.shared.start h)) after.allocator.taken
-  pub brings_to_life : BringsToLife opened.shared.start after.allocator after.allocator.taken
+  pub same : IsWorldOf opened after
+  pub ended : EndsWithSome opened.shared returned after.allocator
 
 -- each is stored as the tuple of its parts
 abbrev pub world_opening_code : Coded WorldOpening

@@ -3,7 +3,6 @@ pub mod Batch
 pub mod Births
 pub mod Closing
 pub mod Faults
-pub mod Filling
 pub mod Framing
 pub mod Issuing
 pub mod Sharing

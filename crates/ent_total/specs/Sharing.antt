@@ -7,9 +7,12 @@ use Rattle.ent_handle.specs.Handle.{Handle}
 use Rattle.ent_alloc.specs.Sequential.{listed_alone}
 use Rattle.ent_alloc.specs.declared.refused.Refused.{Refused}
 use Rattle.ent_alloc.specs.declared.refused.Refused.TheVariants.{Quota}
+use Rattle.ent_alloc.specs.declared.reserve_error.ReserveError.{ReserveError}
+use Rattle.ent_alloc.specs.declared.reserve_error.ReserveError.TheVariants as failed
 use Rattle.ent_shared.specs.Phase as inner
 use Rattle.ent_shared.specs.Order.{handles_given}
 use Rattle.ent_shared.specs.Replies.{Reserves}
+use Rattle.ent_total.specs.Faults.{IsSpace, IfSpace, IfQuota}
 
 -- the allocator that is shared, and all its reservers
 pub record Opening : Type 0 where
@@ -76,6 +79,16 @@ pub record GivesReply (before after : Reserver) (n : ℕ) (old new : List Handle
   pub reserves : MakesReservation before after n (Ok given)
   pub many : length given ≡ n
   pub recorded : handles_given after.reserver.own ≡ handles_given before.reserver.own ++ given
+
+-- A request for n handles was refused, for the first of these that holds: the quota has too few, there is
+-- no memory, the pool has too few. Only in the last case a reservation was made. Nothing is recorded as
+-- given.
+pub record IsUnserved (before after : Reserver) (n : ℕ) (error : ReserveError) : Type 0 where
+  pub quota_left : IfQuota error (λ left. left ≡ before.reserver.own.left)
+  pub memory : error ≡ failed.Memory → MayBeServed before n
+  pub space : IfSpace error (λ why. MakesReservation before after n (Err why))
+  pub unchanged : ¬ (IsSpace error) → after ≡ before
+  pub recorded : handles_given after.reserver.own ≡ handles_given before.reserver.own
 
 -- each is stored as the tuple of its parts
 abbrev pub opening_code : Coded Opening

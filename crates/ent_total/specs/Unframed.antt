@@ -1,67 +1,85 @@
 -- What is said of a frame in blocks that didn't end.
-use Rattle.std.specs.Prelude.{◌≡◌, ℕ, List}
-use Rattle.ent_blocks.specs.Blocks.{Reserver}
+use Rattle.std.specs.Prelude.{◌≡◌, ◌≢◌, ◌<◌, ℕ, List, [], All, length, map}
+use Rattle.ent_blocks.specs.Blocks.{Reserver, blocks_of, unused}
 use Rattle.ent_blocks.specs.declared.end_error.EndError.{EndError}
-use Rattle.ent_block_runner.specs.declared.run_error.RunError.{RunError}
+use Rattle.ent_blocks.specs.declared.end_error.EndError.TheVariants as unended
+use Rattle.ent_runner.specs.Blocks.Frame.{StopsInBlocks, view_in_blocks}
+use Rattle.ent_runner.specs.Blocks.Queues.{HaveStopped, HaveIssued}
+use Rattle.ent_runner.specs.Blocks.Unframed.{IsWhyUnended}
+use Rattle.ent_runner.specs.declared.blocks.run_error.RunError.{RunError}
+use Rattle.ent_runner.specs.declared.blocks.run_error.RunError.TheVariants as failed
 use Rattle.ent_queue.specs.Command.{Command}
-use Rattle.ent_world.specs.World.{World as Inner}
+use Rattle.ent_world.specs.Memory.{TakesMemoryAt}
+use Rattle.ent_world.specs.OpenWorld.{View}
 use Rattle.ent_world.specs.declared.fault.SyncFault.{SyncFault}
 use Rattle.ent_world.specs.declared.fault.SyncFault.TheVariants as fault
-use Rattle.ent_total.specs.Batch.{Queues}
-use Rattle.ent_total.specs.declared.stop.Stop.{Stop}
+use Rattle.ent_total.specs.Batch.{Queues, Stopped}
+use Rattle.ent_total.specs.Framing.{spawned_after}
 use Rattle.ent_total.specs.declared.unframed.Unframed.{Unframed}
 use Rattle.ent_total.specs.declared.unframed.Unframed.TheVariants as unframed
 use Rattle.ent_total.specs.declared.world.World.{World}
 use Rattle.ent_total.specs.declared.world_in_blocks.WorldInBlocks.{WorldInBlocks}
 
 -- no queues were filled, for this reason
-abbrev pub IsUnrun : {J : Type 0} → RunError → Unframed J → Type 0
-IsUnrun e (unframed.Unrun world reservers error) = error ≡ e
-IsUnrun e (unframed.Unended left queues) = ⊥
-IsUnrun e (unframed.Unapplied world queues) = ⊥
-IsUnrun e (unframed.Stopped world stopped) = ⊥
+abbrev pub IsUnrunFor : {J : Type 0} → Unframed J → RunError → Type 0
+IsUnrunFor (unframed.Unrun world reservers error) why = error ≡ why
+IsUnrunFor (unframed.Unended left queues) why = ⊥
+IsUnrunFor (unframed.Unapplied world queues) why = ⊥
+IsUnrunFor (unframed.Stopped world stopped) why = ⊥
 
--- what holds if no queues were filled
-abbrev pub IfUnrun : {J : Type 0} → (WorldInBlocks J → List Reserver → RunError → Type 0)
-    → Unframed J → Type 0
-IfUnrun P (unframed.Unrun world reservers error) = P world reservers.items error
-IfUnrun P (unframed.Unended left queues) = Unit {0}
-IfUnrun P (unframed.Unapplied world queues) = Unit {0}
-IfUnrun P (unframed.Stopped world stopped) = Unit {0}
+module _ {S : Type 0} (may leave : S → View → List Command → Type 0) (systems : List S)
+    (workers : ℕ) where
+  -- What holds if these systems, with reservers of these, filled no queues. Only if they were broken
+  -- off are the reservers lost.
+  pub record AreUnfilled {J : Type 0} (opened : WorldInBlocks J) (reservers left : List Reserver)
+      (error : RunError) : Type 0 where
+    pub handed_back : error ≢ failed.Lost → left ≡ reservers
+    pub memory_some : error ≡ failed.Memory → 0 < length systems
+    pub lost : error ≡ failed.Lost → HaveStopped may leave systems workers
+        (view_in_blocks opened.world) opened.world.blocks.phase.start (blocks_of reservers)
+    pub lost_some : error ≡ failed.Lost → 0 < length systems
+    pub lost_reservers : error ≡ failed.Lost → left ≡ []
 
--- what holds if the world was not closed
-abbrev pub IfUnended : {J : Type 0}
-    → (WorldInBlocks J → List Reserver → EndError → Queues → Type 0) → Unframed J → Type 0
-IfUnended P (unframed.Unrun world reservers error) = Unit {0}
-IfUnended P (unframed.Unended left queues) = P left.value.0 left.value.1.items left.error queues
-IfUnended P (unframed.Unapplied world queues) = Unit {0}
-IfUnended P (unframed.Stopped world stopped) = Unit {0}
+  -- What holds if all systems ran, and the world was not closed. If the reservers are those of all
+  -- blocks, in their order, it is because memory ran out.
+  pub record IsUnended {J : Type 0} (opened world : WorldInBlocks J) (reservers left : List Reserver)
+      (error : EndError) (queues : Queues) : Type 0 where
+    pub same : world ≡ opened
+    pub issued : HaveIssued may systems (view_in_blocks opened.world) opened.world.blocks.phase.start
+        (blocks_of reservers) queues.queues (blocks_of left)
+    pub of : All (λ (r : Reserver). r.number ≡ opened.world.blocks.number) left
+    pub of_world : queues.world ≡ opened.of_world
+    pub why : IsWhyUnended opened.world.blocks.phase.blocks (blocks_of reservers) error
+    pub whole : map unused (blocks_of reservers) ≡ opened.world.blocks.phase.blocks
+        → error ≡ unended.Memory
 
--- what holds if the sync point stopped
-abbrev pub IfHeld : {J : Type 0} → (World → SyncFault → Queues → Type 0) → Unframed J → Type 0
-IfHeld P (unframed.Unrun world reservers error) = Unit {0}
-IfHeld P (unframed.Unended left queues) = Unit {0}
-IfHeld P (unframed.Unapplied world queues) = P world fault.FlushMemory queues
-IfHeld P (unframed.Stopped world stopped) =
-    P world (fault.Memory stopped.stop.system stopped.stop.command stopped.stop.done stopped.so_far)
-    stopped.queues
+  -- What holds if all systems ran, with the reservers of all blocks, and the sync point stopped.
+  pub record IsHeld {J : Type 0} (opened : WorldInBlocks J) (reservers : List Reserver) (world : World)
+      (why : SyncFault) (queues : Queues) : Type 0 where
+    pub all : map unused (blocks_of reservers) ≡ opened.world.blocks.phase.blocks
+    pub stops : StopsInBlocks may systems opened.world (blocks_of reservers) queues.queues world.world
+        why
+    pub number : world.number ≡ opened.of_world
+    pub counted : world.spawned ≡ spawned_after why opened.spawned
+    pub of_world : queues.world ≡ opened.of_world
 
--- what holds if it stopped at a command
-abbrev pub IfStoppedAt : {J : Type 0} → (World → Stop → List (List Command) → Type 0)
-    → Unframed J → Type 0
-IfStoppedAt P (unframed.Unrun world reservers error) = Unit {0}
-IfStoppedAt P (unframed.Unended left queues) = Unit {0}
-IfStoppedAt P (unframed.Unapplied world queues) = Unit {0}
-IfStoppedAt P (unframed.Stopped world stopped) = P world stopped.stop stopped.queues.queues
+  -- and if it stopped at a command
+  pub record IsStopped {J : Type 0} (opened : WorldInBlocks J) (reservers : List Reserver)
+      (world : World) (stopped : Stopped) : Type 0 where
+    pub held : IsHeld opened reservers world (fault.Memory stopped.stop.system
+        stopped.stop.command stopped.stop.done stopped.so_far) stopped.queues
+    pub flushed : world.world.allocator.asked ≡ 0
+    pub memory : TakesMemoryAt world.world stopped.stop.system stopped.stop.command
+        stopped.stop.done stopped.queues.queues
 
--- For private contracts and proofs: the frame whose sync point stopped so, in the world of this number.
-abbrev pub held_in : {J : Type 0} → ℕ → ℕ → Inner → SyncFault → List (List Command) → Unframed J
-held_in number spawned w fault.FlushMemory queues =
-    unframed.Unapplied (record { world = w; number = number; spawned = spawned })
-    (record { world = number; queues = queues })
-held_in number spawned w (fault.Memory system command done so_far) queues =
-    unframed.Stopped (record { world = w; number = number; spawned = 0 }) (record {
-      queues = record { world = number; queues = queues };
-      stop = record { system = system; command = command; done = done };
-      so_far = so_far;
-    })
+  -- A frame of these systems left this.
+  abbrev pub IsLeft : {J : Type 0} → WorldInBlocks J → List Reserver → Unframed J → Type 0
+  IsLeft opened reservers (unframed.Unrun world left error) =
+      (world ≡ opened) × AreUnfilled opened reservers left.items error
+  IsLeft opened reservers (unframed.Unended left queues) =
+      IsUnended opened left.value.0 reservers left.value.1.items left.error queues
+  IsLeft opened reservers (unframed.Unapplied world queues) =
+      IsHeld opened reservers world fault.FlushMemory queues
+      × (0 < length world.world.allocator.taken)
+  IsLeft opened reservers (unframed.Stopped world stopped) =
+      IsStopped opened reservers world stopped

@@ -1,17 +1,8 @@
 //! A phase ends, and gives the allocator back.
-ghost use Rattle.std.specs.Prelude.{◌≡◌, ◌≢◌, ◌↔◌, ◌⊎◌, ◌+◌, ◌*◌, ◌<◌, ◌≤◌, ◌≤ℤ◌, ◌<ℤ◌, [], ◌∷◌};
-ghost use Rattle.std.specs.Prelude.{length, sum_by, All, AllPairs, Contains, IfOk, OnOk, IfErr, IsSome, IfSome};
-ghost use Rattle.ent_handle.specs.Handle.{Handle as HandleValue};
-ghost use Rattle.ent_alloc.specs.Limits.{quota};
-ghost use Rattle.ent_alloc.specs.Sequential.{cursor, after_flush};
-ghost use Rattle.ent_alloc.specs.History.{IsLegal, after_history, given_in};
-ghost use Rattle.ent_alloc.specs.Sound.{IsLive};
+ghost use Rattle.std.specs.Prelude.{◌≡◌, ◌≢◌, ◌↔◌, ◌+◌, ◌<◌, [], length};
+ghost use Rattle.std.specs.Prelude.{IfOk, OnOk, IfErr, IsErrAnd, IsSome, IfSome};
 ghost use Rattle.ent_alloc.specs.Entities.{HasRowsOfLiving};
-ghost use Rattle.ent_shared.specs.Record.{requested_by};
-ghost use Rattle.ent_shared.specs.Phase.{IsOf, records_of, after_loss};
-ghost use Rattle.ent_shared.specs.Order.{reservations_of, history_of, handles_given, Respects};
-ghost use Rattle.ent_shared.specs.Order.{handles_of, own_of_all};
-ghost use Rattle.ent_total.specs.Faults.{IsErrWith};
+ghost use Rattle.ent_shared.specs.Ending.{EndsWithAll, EndsWithSome};
 ghost use Rattle.ent_total.specs.Sharing.{MayReturn, all_returned};
 ghost use Rattle.ent_total.specs.Closing.{IsMissing, count_missing};
 ghost use Rattle.ent_total.specs.declared.close_error.CloseError.TheVariants.{OtherPhase, InUse};
@@ -56,41 +47,17 @@ impl<J: Numbering> Shared<J> {
         mut self,
         reservers: Vec<Reserver<J>>,
     ) -> Result<Entities, HandedBack<(Self, Vec<Reserver<J>>), CloseError>>
-        // All reservations stand in one history that is legal and respects every reserver.
-        ensures legal { OnOk result (IsLegal self.shared.start
-            (history_of (records_of (all_returned self reservers.items)))) }
-        ensures respects { OnOk result (let records = records_of (all_returned self reservers.items) in
-            All (Respects (reservations_of records)) records) }
-        ensures after { IfOk result (λ entities. entities.allocator ≡ after_history
-            self.shared.start (history_of (records_of (all_returned self reservers.items)))) }
-        ensures rows { IfOk result (λ entities. entities.rows ≡ self.shared.rows) }
-        ensures rows_of_living { IfOk result HasRowsOfLiving }
-
-        // Each reservation is there once, where its step came: the cursor falls with each.
-        ensures falls { OnOk result (AllPairs (λ earlier later. later.high <ℤ earlier.high)
-            (reservations_of (records_of (all_returned self reservers.items)))) }
-
-        // Each reserver has a number of its own.
-        ensures numbers { OnOk result (AllPairs (λ r s. r.number ≢ s.number)
-            (records_of (all_returned self reservers.items))) }
-
-        // No handle was given twice, and none was alive.
-        ensures distinct { OnOk result (AllPairs (λ g h. g ≢ h)
-            (given_in (history_of (records_of (all_returned self reservers.items))))) }
-        ensures not_live { OnOk result (All (λ h. ¬ (IsLive self.shared.start h))
-            (given_in (history_of (records_of (all_returned self reservers.items))))) }
-
-        // A flush brings to life exactly what was given.
-        ensures brings_to_life { IfOk result (λ entities. (h : HandleValue) →
-            IsLive (after_flush entities.allocator) h ↔ (IsLive self.shared.start h
-            ⊎ Contains (given_in (history_of (records_of (all_returned self reservers.items)))) h)) }
+        ensures ended { IfOk result (λ entities. EndsWithAll
+            self.shared (all_returned self reservers.items) entities.allocator) }
+        ensures rows { IfOk result (λ entities.
+            (entities.rows ≡ self.shared.rows) × HasRowsOfLiving entities) }
 
         // When it succeeds, when it is refused, and what holds then.
-        ensures may_return { OnOk result (MayReturn self reservers.items) }
-        ensures all { OnOk result (length (all_returned self reservers.items) ≡ self.shared.count) }
-        ensures other_phase { IsErrWith result (λ h. h.error ≡ OtherPhase)
+        ensures all { OnOk result (MayReturn self reservers.items
+            × (length (all_returned self reservers.items) ≡ self.shared.count)) }
+        ensures other_phase { IsErrAnd result (λ h. h.error ≡ OtherPhase)
             ↔ ¬ (MayReturn self reservers.items) }
-        ensures missing { IsErrWith result (λ h. IsMissing h.error)
+        ensures missing { IsErrAnd result (λ h. IsMissing h.error)
             ↔ (MayReturn self reservers.items
             × (length (all_returned self reservers.items) < self.shared.count)) }
         ensures how_many { IfErr result (λ h. IsMissing h.error
@@ -145,51 +112,14 @@ impl<J: Numbering> Shared<J> {
         mut self,
         reservers: Vec<Reserver<J>>,
     ) -> Result<Entities, HandedBack<(Self, Vec<Reserver<J>>), CloseError>>
-        ensures after { IfOk result (λ entities.
-            entities.allocator ≡ after_loss self.shared.start entities.allocator.asked) }
-        ensures rows { IfOk result (λ entities. entities.rows ≡ self.shared.rows) }
-        ensures rows_of_living { IfOk result HasRowsOfLiving }
-
-        // It counts what the reservers that are here have requested, and of the others no more than
-        // their quota.
-        ensures least { IfOk result (λ entities.
-            sum_by (λ r. requested_by r.own) (all_returned self reservers.items)
-            ≤ entities.allocator.asked) }
-        ensures most { IfOk result (λ entities.
-            sum_by (λ r. r.own.left) (all_returned self reservers.items) + entities.allocator.asked
-            ≤ self.shared.count * quota) }
-        ensures reached { IfOk result (λ entities.
-            All (λ r. cursor entities.allocator ≤ℤ r.own.mark) (all_returned self reservers.items)) }
-
-        // If all are here, it counts what they have requested, and the cursor is where `close`
-        // leaves it.
-        ensures asked { IfOk result (λ entities.
-            length (all_returned self reservers.items) ≡ self.shared.count
-            → sum_by (λ r. requested_by r.own) (all_returned self reservers.items)
-            ≡ entities.allocator.asked) }
-        ensures whole { IfOk result (λ entities.
-            length (all_returned self reservers.items) ≡ self.shared.count
-            → cursor entities.allocator ≡ cursor (after_history self.shared.start
-            (history_of (records_of (all_returned self reservers.items))))) }
-
-        // What the reservers that are here were given is reserved. No handle was given to two of
-        // them, and none was alive.
-        ensures given { IfOk result (λ entities.
-            All (λ r. All (Contains entities.allocator.taken) (handles_given r.own))
-            (all_returned self reservers.items)) }
-        ensures distinct { OnOk result (AllPairs (λ g h. g ≢ h)
-            (handles_of (own_of_all (records_of (all_returned self reservers.items))))) }
-        ensures not_live { IfOk result (λ entities.
-            All (λ h. ¬ (IsLive self.shared.start h)) entities.allocator.taken) }
-
-        // A flush brings to life exactly what is reserved.
-        ensures brings_to_life { IfOk result (λ entities. (h : HandleValue) →
-            IsLive (after_flush entities.allocator) h
-            ↔ (IsLive self.shared.start h ⊎ Contains entities.allocator.taken h)) }
+        ensures ended { IfOk result (λ entities. EndsWithSome
+            self.shared (all_returned self reservers.items) entities.allocator) }
+        ensures rows { IfOk result (λ entities.
+            (entities.rows ≡ self.shared.rows) × HasRowsOfLiving entities) }
 
         // When it succeeds, when it is refused, and what holds then.
         ensures may_return { OnOk result (MayReturn self reservers.items) }
-        ensures other_phase { IsErrWith result (λ h. h.error ≡ OtherPhase)
+        ensures other_phase { IsErrAnd result (λ h. h.error ≡ OtherPhase)
             ↔ ¬ (MayReturn self reservers.items) }
         ensures no_missing { IfErr result (λ h. ¬ (IsMissing h.error)) }
         ensures handed_back { IfErr result (λ h. h.error ≢ InUse

@@ -1,8 +1,7 @@
 //! A world is opened in blocks.
-ghost use Rattle.std.specs.Prelude.{◌≡◌, ◌<◌, ◌↔◌, All, IfOk, IfErr, length};
+ghost use Rattle.std.specs.Prelude.{◌≡◌, ◌<◌, ◌↔◌, All, IfOk, IfErr, IsErrAnd, length};
 ghost use Rattle.ent_blocks.specs.Blocks.{blocks_from, blocks_of};
 ghost use Rattle.ent_blocks.specs.declared.deal_error.DealError.TheVariants as failed;
-ghost use Rattle.ent_total.specs.Faults.{IsErrWith};
 ghost use Rattle.ent_world.specs.InBlocks.{world_dealt};
 
 use crate::BlockNumbering;
@@ -36,9 +35,9 @@ pub fn open_in_blocks<J: BlockNumbering>(
         world_dealt d.deal.blocks d.deal.phase d.deal.entities ≡ world.world) }
     ensures blocks { IfOk result (λ d. d.deal.blocks.blocks
         ≡ blocks_from 0 (length world.world.allocator.pool) sizes.now) }
-    ensures needs_flush { IsErrWith result (λ h. h.error ≡ failed.NeedsFlush)
+    ensures needs_flush { IsErrAnd result (λ h. h.error ≡ failed.NeedsFlush)
         ↔ (0 < world.world.allocator.asked) }
-    ensures memory { IsErrWith result (λ h. h.error ≡ failed.Memory) → 0 < length sizes.now }
+    ensures memory { IsErrAnd result (λ h. h.error ≡ failed.Memory) → 0 < length sizes.now }
     ensures handed_back { IfErr result (λ h. h.value ≡ world) }
 {
     let World {

@@ -1,8 +1,7 @@
 //! A phase of a world ends, and gives the world back, with the queues of its systems.
-ghost use Rattle.std.specs.Prelude.{◌≡◌, ◌≢◌, ◌↔◌, ◌+◌, ◌<◌, ◌≤◌, ◌^◌, [], All, IfOk, IfErr, length};
+ghost use Rattle.std.specs.Prelude.{◌≡◌, ◌≢◌, ◌↔◌, ◌+◌, ◌<◌, ◌≤◌, ◌^◌, [], All, IfOk, IfErr, IsErrAnd, length};
 ghost use Rattle.std.specs.Prelude.{IfSome, IsSome, OnOk};
 ghost use Rattle.ent_shared.specs.Phase.{IsOf};
-ghost use Rattle.ent_total.specs.Faults.{IsErrWith};
 ghost use Rattle.ent_total.specs.Issuing.{MayReturn, reservers_returned, queues_returned, with_returned};
 ghost use Rattle.ent_total.specs.Issuing.{IsClosed, IsClosedLost};
 ghost use Rattle.ent_total.specs.Closing.{IsMissing, count_missing};
@@ -63,9 +62,9 @@ impl<J: Numbering> OpenWorld<J> {
         ensures may_return { OnOk result (MayReturn self queues.items) }
         ensures all { OnOk result
             (length (reservers_returned self queues.items) ≡ self.world.shared.count) }
-        ensures other_phase { IsErrWith result (λ h. h.error ≡ OtherPhase)
+        ensures other_phase { IsErrAnd result (λ h. h.error ≡ OtherPhase)
             ↔ ¬ (MayReturn self queues.items) }
-        ensures missing { IsErrWith result (λ h. IsMissing h.error)
+        ensures missing { IsErrAnd result (λ h. IsMissing h.error)
             ↔ (MayReturn self queues.items
             × (length (reservers_returned self queues.items) < self.world.shared.count)) }
         ensures how_many { IfErr result (λ h. IsMissing h.error
@@ -118,7 +117,7 @@ impl<J: Numbering> OpenWorld<J> {
 
         // When it succeeds, when it is refused, and what holds then.
         ensures may_return { OnOk result (MayReturn self queues.items) }
-        ensures other_phase { IsErrWith result (λ h. h.error ≡ OtherPhase)
+        ensures other_phase { IsErrAnd result (λ h. h.error ≡ OtherPhase)
             ↔ ¬ (MayReturn self queues.items) }
         ensures no_missing { IfErr result (λ h. ¬ (IsMissing h.error)) }
         ensures handed_back { IfErr result (λ h. h.error ≢ InUse

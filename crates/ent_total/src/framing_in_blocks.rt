@@ -1,19 +1,12 @@
 //! Frames in blocks: what a system reserves depends on no other system, and on no thread.
-ghost use Rattle.std.specs.Prelude.{◌≡◌, ◌≢◌, ◌<◌, ◌≤◌, ◌^◌, ◌↔◌, ◌⊎◌, [], length, map, All};
-ghost use Rattle.std.specs.Prelude.{IfOk, OnOk, IfErr};
+ghost use Rattle.std.specs.Prelude.{◌≡◌, length, map, IfOk, IfErr, IsErrAnd, OnOk};
 ghost use Rattle.ent_blocks.specs.Blocks.{blocks_of, unused};
-ghost use Rattle.ent_blocks.specs.declared.end_error.EndError.TheVariants as unended;
-ghost use Rattle.ent_block_runner.specs.FrameInBlocks.{EndsInBlocks, StopsInBlocks, view_in_blocks};
-ghost use Rattle.ent_block_runner.specs.Queues.{HaveStopped, HaveIssued};
-ghost use Rattle.ent_block_runner.specs.Unframed.{IsWhyUnended};
-ghost use Rattle.ent_block_runner.specs.declared.run_error.RunError.{RunError};
-ghost use Rattle.ent_block_runner.specs.declared.run_error.RunError.TheVariants as failed;
-ghost use Rattle.ent_total.specs.Faults.{IsErrWith};
-ghost use Rattle.ent_total.specs.Framing.{HasStop, spawned_after};
-ghost use Rattle.ent_total.specs.Unframed.{IsUnrun, IfUnrun, IfUnended, IfHeld, IfStoppedAt, held_in};
-ghost use Rattle.ent_world.specs.Memory.{TakesMemoryAt};
+ghost use Rattle.ent_blocks.specs.Ending.{AreOf};
+ghost use Rattle.ent_runner.specs.Blocks.Frame.{EndsInBlocks, view_in_blocks};
+ghost use Rattle.ent_runner.specs.Blocks.Queues.{HaveIssued};
+ghost use Rattle.ent_runner.specs.Blocks.Refusing.{IsRefused};
+ghost use Rattle.ent_total.specs.Unframed.{AreUnfilled, IsLeft, IsUnrunFor};
 ghost use Rattle.ent_world.specs.World.{IsWorld};
-ghost use Rattle.ent_world.specs.declared.fault.SyncFault.TheVariants as stop;
 
 use crate::BlockNumbering;
 use crate::queues::Queues;
@@ -22,10 +15,9 @@ use crate::stopped::Stopped;
 use crate::unframed::Unframed;
 use crate::world::World;
 use crate::world_in_blocks::WorldInBlocks;
-use ent_block_runner::{RunError, SystemInBlocks};
-use ent_blocks::BlockReserver;
+use ent_blocks::{BlockReserver, Blocks};
 use ent_handle::HandedBack;
-use ent_runner::FrameReport;
+use ent_runner::{FrameReport, RunError, System};
 use ent_world::SyncFault;
 use std::alloc::Global;
 use std::thread::Threads;
@@ -90,39 +82,20 @@ pub fn fill_in_blocks<R, J: BlockNumbering + Send + Sync, S>(
 ) -> Result<(Queues, Vec<BlockReserver<J>>), HandedBack<Vec<BlockReserver<J>>, RunError>>
 where
     R: Threads + Sync,
-    S: SystemInBlocks<J> + Sync,
+    S: System<Blocks<J>> + Sync,
     ensures ok { IfOk result (λ ran. HaveIssued S.may_issue systems.now
         (view_in_blocks opened.now.world) opened.now.world.blocks.phase.start
         (blocks_of reservers.items) ran.0.queues (blocks_of ran.1.items)) }
-    ensures of { IfOk result (λ ran.
-        All (λ r. r.number ≡ opened.now.world.blocks.number) ran.1.items) }
-    ensures of_world { IfOk result (λ ran. ran.0.world ≡ opened.now.of_world) }
+    ensures of { IfOk result (λ ran. AreOf opened.now.world.blocks ran.1.items
+        × (ran.0.world ≡ opened.now.of_world)) }
 
     // When the systems are refused, and what is left then.
-    ensures workers { IsErrWith result (λ h. h.error ≡ failed.Workers)
-        ↔ ((workers ≡ 0) ⊎ (64 < workers)) }
-    ensures systems { IsErrWith result (λ h. h.error ≡ failed.Systems)
-        ↔ ((0 < workers) × (workers ≤ 64) × (2 ^ 16 < length systems.now)) }
-    ensures reservers { IsErrWith result (λ h. h.error ≡ failed.Reservers)
-        ↔ ((0 < workers) × (workers ≤ 64) × (length systems.now ≤ 2 ^ 16)
-        × (length reservers.items ≢ length systems.now)) }
-    ensures other_phase { IsErrWith result (λ h. h.error ≡ failed.OtherPhase)
-        ↔ ((0 < workers) × (workers ≤ 64) × (length systems.now ≤ 2 ^ 16)
-        × (length reservers.items ≡ length systems.now)
-        × ¬ (All (λ r. r.number ≡ opened.now.world.blocks.number) reservers.items)) }
-    ensures memory_some { IsErrWith result (λ h. h.error ≡ failed.Memory)
-        → 0 < length systems.now }
-    ensures handed_back { IfErr result (λ h. h.error ≢ failed.Lost
-        → h.value.items ≡ reservers.items) }
-
-    // What is left if the systems were broken off.
-    ensures lost { IsErrWith result (λ h. h.error ≡ failed.Lost) → HaveStopped S.may_issue
-        S.may_leave systems.now workers (view_in_blocks opened.now.world)
-        opened.now.world.blocks.phase.start (blocks_of reservers.items) }
-    ensures lost_some { IsErrWith result (λ h. h.error ≡ failed.Lost) → 0 < length systems.now }
-    ensures lost_reservers { IfErr result (λ h. h.error ≡ failed.Lost → h.value.items ≡ []) }
+    ensures refused { IsRefused workers (length systems.now) opened.now.world.blocks.number
+        reservers.items (λ why. IsErrAnd result (λ h. h.error ≡ why)) }
+    ensures left { IfErr result (λ h. AreUnfilled S.may_issue S.may_leave systems.now workers
+        opened.now reservers.items h.value.items h.error) }
 {
-    let filled = ent_block_runner::fill_in_blocks(
+    let filled = ent_runner::fill_in_blocks(
         rt,
         alloc,
         opened.blocks(),
@@ -188,83 +161,29 @@ pub fn run_frame_in_blocks<R, J: BlockNumbering + Send + Sync, S>(
 ) -> Result<(World, FrameReport), Unframed<J>>
 where
     R: Threads + Sync,
-    S: SystemInBlocks<J> + Sync,
+    S: System<Blocks<J>> + Sync,
     ensures ok { IfOk result (λ ended. EndsInBlocks S.may_issue systems.now opened.world
         (blocks_of reservers.items) ended.1.queues.items ended.0.world ended.1.sync.born.items
         ended.1.sync.faults.items) }
     ensures all { OnOk result
         (map unused (blocks_of reservers.items) ≡ opened.world.blocks.phase.blocks) }
-    ensures world { IfOk result (λ ended. IsWorld ended.0.world) }
-    ensures flushed { IfOk result (λ ended. ended.0.world.allocator.asked ≡ 0) }
-    ensures number { IfOk result (λ ended. ended.0.number ≡ opened.of_world) }
-    ensures counted { IfOk result (λ ended. ended.0.spawned ≡ 0) }
+    ensures world { IfOk result (λ ended.
+        IsWorld ended.0.world × (ended.0.world.allocator.asked ≡ 0)) }
+    ensures number { IfOk result (λ ended.
+        (ended.0.number ≡ opened.of_world) × (ended.0.spawned ≡ 0)) }
 
-    // When the systems are refused, and what is left then.
-    ensures workers { IsErrWith result (IsUnrun failed.Workers) ↔ ((workers ≡ 0) ⊎ (64 < workers)) }
-    ensures systems { IsErrWith result (IsUnrun failed.Systems)
-        ↔ ((0 < workers) × (workers ≤ 64) × (2 ^ 16 < length systems.now)) }
-    ensures reservers { IsErrWith result (IsUnrun failed.Reservers)
-        ↔ ((0 < workers) × (workers ≤ 64) × (length systems.now ≤ 2 ^ 16)
-        × (length reservers.items ≢ length systems.now)) }
-    ensures other_phase { IsErrWith result (IsUnrun failed.OtherPhase)
-        ↔ ((0 < workers) × (workers ≤ 64) × (length systems.now ≤ 2 ^ 16)
-        × (length reservers.items ≡ length systems.now)
-        × ¬ (All (λ r. r.number ≡ opened.world.blocks.number) reservers.items)) }
-    ensures memory_some { IsErrWith result (IsUnrun failed.Memory) → 0 < length systems.now }
-    ensures unrun { IfErr result (IfUnrun (λ world _ _. world ≡ opened)) }
-    ensures handed_back { IfErr result (IfUnrun (λ _ left error.
-        error ≢ failed.Lost → left ≡ reservers.items)) }
-
-    // What is left if the systems were broken off.
-    ensures lost { IfErr result (IfUnrun (λ _ _ error. error ≡ failed.Lost
-        → HaveStopped S.may_issue S.may_leave systems.now workers
-        (view_in_blocks opened.world) opened.world.blocks.phase.start (blocks_of reservers.items))) }
-    ensures lost_some { IfErr result (IfUnrun (λ _ _ error. error ≡ failed.Lost
-        → 0 < length systems.now)) }
-    ensures lost_reservers { IfErr result (IfUnrun (λ _ left error. error ≡ failed.Lost
-        → left ≡ [])) }
-
-    // All systems ran, and the world was not closed.
-    ensures unended { IfErr result (IfUnended (λ world _ _ _. world ≡ opened)) }
-    ensures unended_issued { IfErr result (IfUnended (λ _ left _ queues.
-        HaveIssued S.may_issue systems.now (view_in_blocks opened.world)
-        opened.world.blocks.phase.start (blocks_of reservers.items) queues.queues
-        (blocks_of left))) }
-    ensures unended_of { IfErr result (IfUnended (λ _ left _ _.
-        All (λ r. r.number ≡ opened.world.blocks.number) left)) }
-    ensures unended_of_world { IfErr result (IfUnended (λ _ _ _ queues.
-        queues.world ≡ opened.of_world)) }
-
-    // Why not. If the reservers are those of all blocks, in their order, it is because memory ran out.
-    ensures unended_why { IfErr result (IfUnended (λ _ _ error _.
-        IsWhyUnended opened.world.blocks.phase.blocks (blocks_of reservers.items) error)) }
-    ensures whole { map unused (blocks_of reservers.items) ≡ opened.world.blocks.phase.blocks
-        → IfErr result (IfUnended (λ _ _ error _. error ≡ unended.Memory)) }
-
-    // What holds if the sync point stopped, whose queues are of this world. The reservers were those
-    // of all blocks.
-    ensures stopped_all { IfErr result (IfHeld (λ _ _ _.
-        map unused (blocks_of reservers.items) ≡ opened.world.blocks.phase.blocks)) }
-    ensures stopped { IfErr result (IfHeld (λ world fault queues. StopsInBlocks S.may_issue
-        systems.now opened.world (blocks_of reservers.items) queues.queues world.world fault)) }
-    ensures stopped_number { IfErr result (IfHeld (λ world _ _. world.number ≡ opened.of_world)) }
-    ensures stopped_counted { IfErr result (IfHeld (λ world fault _.
-        world.spawned ≡ spawned_after fault opened.spawned)) }
-    ensures stopped_of_world { IfErr result (IfHeld (λ _ _ queues.
-        queues.world ≡ opened.of_world)) }
-    ensures stopped_flushed { IfErr result (IfStoppedAt (λ world _ _.
-        world.world.allocator.asked ≡ 0)) }
-    ensures stopped_memory { IfErr result (IfStoppedAt (λ world stop queues.
-        TakesMemoryAt world.world stop.system stop.command stop.done queues)) }
-    ensures flush_reserved { IfErr result (IfHeld (λ world fault _.
-        fault ≡ stop.FlushMemory → 0 < length world.world.allocator.taken)) }
+    // When the systems are refused, and what is left of a frame that didn't end.
+    ensures refused { IsRefused workers (length systems.now) opened.world.blocks.number
+        reservers.items (λ why. IsErrAnd result (λ left. IsUnrunFor left why)) }
+    ensures left { IfErr result (IsLeft S.may_issue S.may_leave systems.now workers opened
+        reservers.items) }
 {
     let WorldInBlocks {
         world: opened,
         of_world,
         spawned,
     } = opened;
-    let ran = ent_block_runner::run_frame_in_blocks(rt, alloc, opened, reservers, systems, workers);
+    let ran = ent_runner::run_frame_in_blocks(rt, alloc, opened, reservers, systems, workers);
     match ran {
         Ok((world, report)) => {
             let world = World {
@@ -275,7 +194,7 @@ where
             Ok((world, report))
         }
         Err(
-            ent_block_runner::Unframed::Unrun {
+            ent_runner::Unframed::Unrun {
                 world,
                 reservers,
                 error,
@@ -292,61 +211,47 @@ where
                 error,
             })
         }
-        Err(ent_block_runner::Unframed::Unended { unended, queues }) => Err(Unframed::Unended {
+        Err(ent_runner::Unframed::Unended { unended, queues }) => Err(Unframed::Unended {
             unended: WorldInBlocks::handed_back(unended, of_world, spawned),
             queues: Queues::new(of_world, queues),
         }),
         Err(
-            ent_block_runner::Unframed::Sync {
+            ent_runner::Unframed::Sync {
                 world,
                 fault,
                 queues,
             },
-        ) => Err(hold(of_world, spawned, world, fault, queues)),
-    }
-}
-
-/// A frame whose sync point stopped, in the world of this number.
-fn hold<J: BlockNumbering>(
-    number: u64,
-    spawned: u32,
-    world: ent_world::World,
-    fault: SyncFault,
-    queues: Vec<ent_queue::CommandQueue>,
-) -> Unframed<J>
-    requires stop { HasStop fault queues.items }
-    requires few { length queues.items ≤ 2 ^ 16 }
-    ensures held { result ≡ held_in number spawned world fault queues.items }
-    ensures ran { (why : RunError) → ¬ (IsUnrun why result) }
-{
-    let queues = Queues::new(number, queues);
-    match fault {
-        SyncFault::FlushMemory => {
-            let world = World {
-                world,
-                number,
-                spawned,
-            };
-            Unframed::Unapplied { world, queues }
-        }
-        SyncFault::Memory {
-            system,
-            command,
-            done,
-            so_far,
-        } => {
-            let world = World {
-                world,
-                number,
-                spawned: 0,
-            };
-            let stop = Stop {
-                system,
-                command,
-                done,
-            };
-            let stopped = Stopped::new(queues, stop, so_far);
-            Unframed::Stopped { world, stopped }
+        ) => {
+            let queues = Queues::new(of_world, queues);
+            match fault {
+                SyncFault::FlushMemory => {
+                    let world = World {
+                        world,
+                        number: of_world,
+                        spawned,
+                    };
+                    Err(Unframed::Unapplied { world, queues })
+                }
+                SyncFault::Memory {
+                    system,
+                    command,
+                    done,
+                    so_far,
+                } => {
+                    let world = World {
+                        world,
+                        number: of_world,
+                        spawned: 0,
+                    };
+                    let stop = Stop {
+                        system,
+                        command,
+                        done,
+                    };
+                    let stopped = Stopped::new(queues, stop, so_far);
+                    Err(Unframed::Stopped { world, stopped })
+                }
+            }
         }
     }
 }

@@ -1,9 +1,8 @@
 //! An allocator is shared.
-ghost use Rattle.std.specs.Prelude.{◌≡◌, ◌≢◌, ◌<◌, ◌≤◌, ◌↔◌, ◌⊎◌, [], ◌++◌, All, IfOk, IfErr};
+ghost use Rattle.std.specs.Prelude.{◌≡◌, ◌≢◌, ◌<◌, ◌≤◌, ◌↔◌, ◌⊎◌, [], ◌++◌, All, IfOk, IfErr, IsErrAnd};
 ghost use Rattle.std.specs.Prelude.{reverse};
 ghost use Rattle.ent_shared.specs.Phase.{records_of};
 ghost use Rattle.ent_shared.specs.Record.{opened_records};
-ghost use Rattle.ent_total.specs.Faults.{IsErrWith};
 ghost use Rattle.ent_total.specs.Sharing.{AreOf, reservers_of};
 ghost use Rattle.ent_total.specs.declared.share_error.ShareError.TheVariants.{NeedsFlush, Count};
 
@@ -65,9 +64,9 @@ pub fn share<J: Numbering>(
     ensures rows { IfOk result (λ o. o.shared.rows ≡ entities.rows) }
     ensures count { IfOk result (λ o. o.shared.count ≡ count) }
     ensures may_return { IfOk result (λ o. records_of o.returned ≡ opened_records entities.allocator 0 count) }
-    ensures needs_flush { IsErrWith result (λ h. h.error ≡ NeedsFlush)
+    ensures needs_flush { IsErrAnd result (λ h. h.error ≡ NeedsFlush)
         ↔ (0 < entities.allocator.asked) }
-    ensures no_count { IsErrWith result (λ h. h.error ≡ Count)
+    ensures no_count { IsErrAnd result (λ h. h.error ≡ Count)
         ↔ ((entities.allocator.asked ≡ 0) × ((count ≡ 0) ⊎ (1024 < count))) }
     ensures handed_back { IfErr result (λ h. h.value ≡ entities) }
 {
@@ -77,43 +76,28 @@ pub fn share<J: Numbering>(
     if count == 0 || count > CALLERS {
         return Err(HandedBack::new(entities, ShareError::Count));
     }
-    match Opening::new(alloc, entities, count) {
-        Ok(opening) => Ok(opening),
-        Err(entities) => Err(HandedBack::new(entities, ShareError::Memory)),
+    let Ok(reservers) = Vec::with_capacity(alloc, count) else {
+        return Err(HandedBack::new(entities, ShareError::Memory));
+    };
+    let (shared, returned) = match ent_shared::share(alloc, entities, count) {
+        Ok(made) => made,
+        Err((entities, _)) => return Err(HandedBack::new(entities, ShareError::Memory)),
+    };
+    match Arc::new(alloc, shared) {
+        Ok(shared) => Ok(Opening {
+            alloc,
+            shared,
+            returned,
+            reservers,
+        }),
+        Err(refused) => {
+            let entities = refused.value.close(returned);
+            Err(HandedBack::new(entities, ShareError::Memory))
+        }
     }
 }
 
 impl<J: Numbering> Opening<J> {
-    /// Shares a flushed allocator. If memory runs out, it comes back.
-    fn new(alloc: Global, entities: Entities, count: usize) -> Result<Self, Entities>
-        requires flushed { entities.allocator.asked ≡ 0 }
-        requires some { 0 < count }
-        requires few { count ≤ 1024 }
-        ensures start { IfOk result (λ o. o.shared.start ≡ entities.allocator) }
-        ensures rows { IfOk result (λ o. o.shared.rows ≡ entities.rows) }
-        ensures count { IfOk result (λ o. o.shared.count ≡ count) }
-        ensures may_return { IfOk result (λ o.
-            records_of o.returned ≡ opened_records entities.allocator 0 count) }
-        ensures err { IfErr result (λ refused. refused ≡ entities) }
-    {
-        let Ok(reservers) = Vec::with_capacity(alloc, count) else {
-            return Err(entities);
-        };
-        let (shared, returned) = match ent_shared::share(alloc, entities, count) {
-            Ok(made) => made,
-            Err((entities, _)) => return Err(entities),
-        };
-        match Arc::new(alloc, shared) {
-            Ok(shared) => Ok(Opening {
-                alloc,
-                shared,
-                returned,
-                reservers,
-            }),
-            Err(refused) => Err(refused.value.close(returned)),
-        }
-    }
-
     /// The phase under this number, which no other phase has, and all its reservers, in the order of
     /// their numbers. It takes no memory.
     ///

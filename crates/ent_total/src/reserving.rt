@@ -1,13 +1,13 @@
 //! What a reserver reserves: one handle, or many at once.
-ghost use Rattle.std.specs.Prelude.{◌≡◌, ◌↔◌, ◌+◌, ◌<◌, ◌≤◌, [], ◌∷◌, ◌++◌, length};
-ghost use Rattle.std.specs.Prelude.{Ok, Err, IfOk, IfErr, OnOk, OnErr, IsOk, IsErrOf, IsTrue};
+ghost use Rattle.std.specs.Prelude.{◌≡◌, ◌↔◌, ◌⊎◌, ◌+◌, ◌<◌, ◌≤◌, [], ◌∷◌, ◌++◌, length};
+ghost use Rattle.std.specs.Prelude.{Ok, Err, IfOk, IfErr, IsErrAnd, OnOk, OnErr, IsOk, IsErrOf, IsTrue};
 ghost use Rattle.std.specs.Prelude.{vec_len, vec_capacity};
 ghost use Rattle.ent_alloc.specs.Sequential.{listed_alone};
 ghost use Rattle.ent_alloc.specs.declared.refused.Refused.TheVariants as refused;
 ghost use Rattle.ent_alloc.specs.declared.reserve_error.ReserveError.TheVariants as failed;
 ghost use Rattle.ent_shared.specs.Order.{handles_given};
-ghost use Rattle.ent_total.specs.Faults.{IsErrWith, IsSpace, IfSpace, IfQuota};
-ghost use Rattle.ent_total.specs.Sharing.{MakesReservation, GivesReply, MayBeServed};
+ghost use Rattle.ent_total.specs.Faults.{IsSpace};
+ghost use Rattle.ent_total.specs.Sharing.{MakesReservation, GivesReply, IsUnserved, MayBeServed};
 
 use crate::numbering::Numbering;
 use crate::reserver::Reserver;
@@ -81,20 +81,13 @@ impl<J: Numbering> Reserver<J> {
         // The first that holds: the quota has too few, there is no memory, the pool has too few.
         ensures quota { IsErrOf result (failed.Quota self.old.reserver.own.left)
             ↔ (self.old.reserver.own.left < n) }
-        ensures quota_left { IfErr result (λ error. IfQuota error
-            (λ left. left ≡ self.old.reserver.own.left)) }
-        ensures memory { IsErrOf result failed.Memory → MayBeServed self.old n }
-        ensures space { IfErr result (λ error. IfSpace error
-            (λ why. MakesReservation self.old self.new n (Err why))) }
         ensures short { n ≤ self.old.reserver.own.left
-            → length self.old.shared.start.pool < n → IsErrWith result IsSpace }
-        ensures unchanged { IfErr result (λ error. ¬ (IsSpace error) → self.new ≡ self.old) }
+            → length self.old.shared.start.pool < n → IsErrAnd result IsSpace }
+        ensures refused { IfErr result (IsUnserved self.old self.new n) }
 
         // What was given is recorded.
         ensures given { IfOk result (λ handles. handles_given self.new.reserver.own
             ≡ handles_given self.old.reserver.own ++ handles.items) }
-        ensures refused { OnErr result
-            (handles_given self.new.reserver.own ≡ handles_given self.old.reserver.own) }
     {
         let mut handles = Vec::new(self.alloc);
         self.reserve_into(&mut handles, n)?;
@@ -129,25 +122,15 @@ impl<J: Numbering> Reserver<J> {
         // The first that holds: the quota has too few, there is no memory, the pool has too few.
         ensures quota { IsErrOf result (failed.Quota self.old.reserver.own.left)
             ↔ (self.old.reserver.own.left < n) }
-        ensures quota_left { IfErr result (λ error. IfQuota error
-            (λ left. left ≡ self.old.reserver.own.left)) }
-        ensures memory { IsErrOf result failed.Memory → MayBeServed self.old n
-            × (vec_capacity handles.old < vec_len handles.old + n) }
-        ensures space { IfErr result (λ error. IfSpace error
-            (λ why. MakesReservation self.old self.new n (Err why))) }
         ensures short { n ≤ self.old.reserver.own.left
-            → length self.old.shared.start.pool < n → IsErrWith result IsSpace }
-        ensures unchanged { IfErr result (λ error. ¬ (IsSpace error) → self.new ≡ self.old) }
+            → length self.old.shared.start.pool < n → IsErrAnd result IsSpace }
+        ensures refused { IfErr result (IsUnserved self.old self.new n) }
 
         // It takes memory only if the list has no room, and if so many may be served.
-        ensures room { vec_len handles.old + n ≤ vec_capacity handles.old
-            → vec_capacity handles.new ≡ vec_capacity handles.old }
-        ensures no_memory { ¬ (MayBeServed self.old n)
-            → vec_capacity handles.new ≡ vec_capacity handles.old }
-
-        // Nothing is recorded as given.
-        ensures refused { OnErr result
-            (handles_given self.new.reserver.own ≡ handles_given self.old.reserver.own) }
+        ensures memory { IsErrOf result failed.Memory
+            → vec_capacity handles.old < vec_len handles.old + n }
+        ensures room { (vec_len handles.old + n ≤ vec_capacity handles.old)
+            ⊎ ¬ (MayBeServed self.old n) → vec_capacity handles.new ≡ vec_capacity handles.old }
     {
         if handles.capacity() - handles.len() < n as usize && self.may_be_served(n) {
             handles.reserve(n as usize)?;

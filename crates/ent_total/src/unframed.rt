@@ -3,9 +3,9 @@ use crate::queues::Queues;
 use crate::stopped::Stopped;
 use crate::world::World;
 use crate::world_in_blocks::WorldInBlocks;
-use ent_block_runner::RunError;
 use ent_blocks::{BlockReserver, EndError};
 use ent_handle::HandedBack;
+use ent_runner::RunError;
 use std::error::Error;
 use std::fmt;
 

@@ -1,12 +1,8 @@
-ghost use Rattle.std.specs.Prelude.{◌≡◌, ◌≢◌, ℕ, ◌↔◌, ◌⊎◌, ◌-◌, ◌<◌, length, map};
-ghost use Rattle.std.specs.Prelude.{All, AllPairs, Contains, IfOk, IfErr, OnOk, IsTrue};
-ghost use Rattle.ent_alloc.specs.Sequential.{after_flush};
-ghost use Rattle.ent_alloc.specs.Sound.{IsLive};
-ghost use Rattle.ent_handle.specs.Handle.{Handle as HandleValue};
+ghost use Rattle.std.specs.Prelude.{◌≡◌, ℕ, ◌↔◌, ◌-◌, ◌<◌, length, map};
+ghost use Rattle.std.specs.Prelude.{IfOk, IfErr, IsErrAnd, OnOk, IsTrue};
 ghost use Rattle.ent_blocks.specs.Blocks.{blocks_of, unused, are_among, accounted};
+ghost use Rattle.ent_blocks.specs.Ending.{AreOf, IsRefused, TakesAnew};
 ghost use Rattle.ent_blocks.specs.Faults.{IsMissing};
-ghost use Rattle.ent_blocks.specs.declared.end_error.EndError.TheVariants as unended;
-ghost use Rattle.ent_total.specs.Faults.{IsErrWith};
 ghost use Rattle.ent_world.specs.InBlocks.{world_dealt, world_after};
 ghost use Rattle.ent_world.specs.World.{IsWorld};
 
@@ -65,37 +61,23 @@ impl<J: BlockNumbering> WorldInBlocks<J> {
         ensures after { let before = world_dealt self.world.blocks.phase self.world.phase
             self.world.entities in
             IfOk result (λ w. w.world ≡ world_after before (blocks_of reservers.items)) }
-        ensures world { IfOk result (λ w. IsWorld w.world) }
-        ensures number { IfOk result (λ w. w.number ≡ self.of_world) }
-        ensures spawned { IfOk result (λ w. w.spawned ≡ self.spawned) }
-
-        // No handle was given twice, and none was alive. A flush brings to life exactly what was
-        // used.
-        ensures distinct { IfOk result (λ w. AllPairs (λ g h. g ≢ h) w.world.allocator.taken) }
-        ensures not_live { IfOk result (λ w.
-            All (λ h. ¬ (IsLive self.world.blocks.phase.start h)) w.world.allocator.taken) }
-        ensures brings_to_life { IfOk result (λ w. (h : HandleValue) →
-            IsLive (after_flush w.world.allocator) h
-            ↔ (IsLive self.world.blocks.phase.start h ⊎ Contains w.world.allocator.taken h)) }
+        ensures world { IfOk result (λ w. IsWorld w.world
+            × TakesAnew self.world.blocks.phase.start w.world.allocator) }
+        ensures same { IfOk result (λ w.
+            (w.number ≡ self.of_world) × (w.spawned ≡ self.spawned)) }
 
         // When it succeeds, when it is refused, and what stands then.
-        ensures of { OnOk result (All (λ r. r.number ≡ self.world.blocks.number) reservers.items) }
-        ensures all { OnOk result
-            (map unused (blocks_of reservers.items) ≡ self.world.blocks.phase.blocks) }
-        ensures other_phase { IsErrWith result (λ h. h.error ≡ unended.OtherPhase)
-            ↔ ¬ (All (λ r. r.number ≡ self.world.blocks.number) reservers.items) }
-        ensures order { IsErrWith result (λ h. h.error ≡ unended.Order)
-            ↔ (All (λ r. r.number ≡ self.world.blocks.number) reservers.items
-            × ¬ (IsTrue (are_among self.world.blocks.phase.blocks (blocks_of reservers.items)))) }
-        ensures missing { IsErrWith result (λ h.
+        ensures all { OnOk result (AreOf self.world.blocks reservers.items
+            × (map unused (blocks_of reservers.items) ≡ self.world.blocks.phase.blocks)) }
+        ensures refused { IsRefused self.world.blocks reservers.items
+            (λ holds. IsErrAnd result (λ h. holds h.error)) }
+        ensures missing { IsErrAnd result (λ h.
             IsMissing (length self.world.blocks.phase.blocks - length reservers.items) h.error)
-            ↔ (All (λ r. r.number ≡ self.world.blocks.number) reservers.items
+            ↔ (AreOf self.world.blocks reservers.items
             × (IsTrue (are_among self.world.blocks.phase.blocks (blocks_of reservers.items))
             × (length reservers.items < length self.world.blocks.phase.blocks))) }
         ensures missing_count { IfErr result (λ h. (n : ℕ) → IsMissing n h.error
             → n ≡ length self.world.blocks.phase.blocks - length reservers.items) }
-        ensures memory { IsErrWith result (λ h. h.error ≡ unended.Memory)
-            → 0 < length self.world.blocks.phase.blocks }
         ensures handed_back { IfErr result (λ h. (h.value.0 ≡ self)
             × (h.value.1.items ≡ reservers.items)) }
     {
@@ -128,30 +110,17 @@ impl<J: BlockNumbering> WorldInBlocks<J> {
             self.world.entities in
             IfOk result (λ w. w.world ≡ world_after before
             (accounted self.world.blocks.phase.blocks (blocks_of reservers.items))) }
-        ensures world { IfOk result (λ w. IsWorld w.world) }
-        ensures number { IfOk result (λ w. w.number ≡ self.of_world) }
-        ensures spawned { IfOk result (λ w. w.spawned ≡ self.spawned) }
-
-        // No handle is taken twice, and none was alive. A flush brings to life exactly these.
-        ensures distinct { IfOk result (λ w. AllPairs (λ g h. g ≢ h) w.world.allocator.taken) }
-        ensures not_live { IfOk result (λ w.
-            All (λ h. ¬ (IsLive self.world.blocks.phase.start h)) w.world.allocator.taken) }
-        ensures brings_to_life { IfOk result (λ w. (h : HandleValue) →
-            IsLive (after_flush w.world.allocator) h
-            ↔ (IsLive self.world.blocks.phase.start h ⊎ Contains w.world.allocator.taken h)) }
+        ensures world { IfOk result (λ w. IsWorld w.world
+            × TakesAnew self.world.blocks.phase.start w.world.allocator) }
+        ensures same { IfOk result (λ w.
+            (w.number ≡ self.of_world) × (w.spawned ≡ self.spawned)) }
 
         // When it succeeds, when it is refused, and what stands then.
-        ensures of { OnOk result (All (λ r. r.number ≡ self.world.blocks.number) reservers.items) }
-        ensures among { OnOk result
-            (IsTrue (are_among self.world.blocks.phase.blocks (blocks_of reservers.items))) }
-        ensures other_phase { IsErrWith result (λ h. h.error ≡ unended.OtherPhase)
-            ↔ ¬ (All (λ r. r.number ≡ self.world.blocks.number) reservers.items) }
-        ensures order { IsErrWith result (λ h. h.error ≡ unended.Order)
-            ↔ (All (λ r. r.number ≡ self.world.blocks.number) reservers.items
-            × ¬ (IsTrue (are_among self.world.blocks.phase.blocks (blocks_of reservers.items)))) }
+        ensures among { OnOk result (AreOf self.world.blocks reservers.items
+            × IsTrue (are_among self.world.blocks.phase.blocks (blocks_of reservers.items))) }
+        ensures refused { IsRefused self.world.blocks reservers.items
+            (λ holds. IsErrAnd result (λ h. holds h.error)) }
         ensures no_missing { IfErr result (λ h. (n : ℕ) → ¬ (IsMissing n h.error)) }
-        ensures memory { IsErrWith result (λ h. h.error ≡ unended.Memory)
-            → 0 < length self.world.blocks.phase.blocks }
         ensures handed_back { IfErr result (λ h. (h.value.0 ≡ self)
             × (h.value.1.items ≡ reservers.items)) }
     {

@@ -1,9 +1,8 @@
 //! A world is opened.
-ghost use Rattle.std.specs.Prelude.{◌≡◌, ◌≢◌, ◌<◌, ◌≤◌, ◌↔◌, ◌⊎◌, ◌++◌, [], All, IfOk, IfErr};
+ghost use Rattle.std.specs.Prelude.{◌≡◌, ◌≢◌, ◌<◌, ◌≤◌, ◌↔◌, ◌⊎◌, ◌++◌, [], All, IfOk, IfErr, IsErrAnd};
 ghost use Rattle.std.specs.Prelude.{reverse};
 ghost use Rattle.ent_shared.specs.Phase.{records_of};
 ghost use Rattle.ent_shared.specs.Record.{opened_records};
-ghost use Rattle.ent_total.specs.Faults.{IsErrWith};
 ghost use Rattle.ent_total.specs.Issuing.{AreNew, issuing};
 ghost use Rattle.ent_total.specs.declared.share_error.ShareError.TheVariants.{NeedsFlush, Count};
 
@@ -82,9 +81,9 @@ pub fn open<J: Numbering>(
         × (o.world.entities ≡ world.world.entities)) }
     ensures may_return { IfOk result (λ o.
         records_of o.returned ≡ opened_records world.world.allocator 0 count) }
-    ensures needs_flush { IsErrWith result (λ h. h.error ≡ NeedsFlush)
+    ensures needs_flush { IsErrAnd result (λ h. h.error ≡ NeedsFlush)
         ↔ (0 < world.world.allocator.asked) }
-    ensures no_count { IsErrWith result (λ h. h.error ≡ Count)
+    ensures no_count { IsErrAnd result (λ h. h.error ≡ Count)
         ↔ ((world.world.allocator.asked ≡ 0) × ((count ≡ 0) ⊎ (1024 < count))) }
     ensures handed_back { IfErr result (λ h. h.value ≡ world) }
 {

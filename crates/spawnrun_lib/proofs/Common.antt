@@ -53,7 +53,8 @@ pub use Rattle.ent_alloc.proofs.Taken.{after_take-served}
 unfoldable pub use Rattle.ent_alloc.specs.Limits.{quota}
 pub use Rattle.ent_alloc.specs.declared.space.Space.{Space}
 pub use Rattle.ent_blocks.specs.Blocks.{Block, after_use, blocks_from, lesser, rest_of}
-pub use Rattle.ent_queue.proofs.Common.{AreDrawnBy, Command, Despawn, FitQuota, FitsQuota, Memory, Refused, Remove, Spawn, SpawnMany, cost, flat_map-append, left_of, stands_for, sum_by-append, used_by}
+pub use Rattle.ent_blocks.specs.Drawing.{left_of}
+pub use Rattle.ent_queue.proofs.Common.{AreDrawnBy, Command, Despawn, FitQuota, FitsQuota, Memory, Refused, Remove, Spawn, SpawnMany, cost, flat_map-append, stands_for, sum_by-append, used_by}
 pub use Rattle.ent_replay.proofs.ScheduleWords.{IsWithout, lines_first, lines_whole}
 pub use Rattle.ent_replay.proofs.Schedules.{after_events-append, outcomes_of-append}
 pub use Rattle.ent_replay.specs.Schedule.{MachineState, after_event, after_events, outcomes_of, starting}
@@ -110,4 +111,4 @@ pub use Rattle.spawnrun_lib.specs.WorldText.{IsWorldText, alive_line, item_text,
 pub use Rattle.spawnrun_lib.specs.declared.show.Show.{Show}
 pub use Rattle.spawnrun_lib.specs.declared.show.Show.TheVariants.{Births, Handles}
 pub use Rattle.spawnrun_lib.specs.declared.task.Task.{Task}
-pub use Rattle.spawnrun_lib.specs.declared.work.Product.{Product}
+pub use Rattle.spawnrun_lib.specs.declared.product.Product.{Product}

@@ -9,7 +9,7 @@ use Rattle.ent_world.specs.Sync.{sync}
 use Rattle.ent_world.specs.World.{World}
 use Rattle.ent_world.specs.declared.fault.Fault.{Fault}
 use Rattle.ent_runner.specs.Frame.{view_of}
-use Rattle.ent_block_runner.specs.Queues.{HaveIssued, HaveStopped, blocks_after_queues}
+use Rattle.ent_runner.specs.Blocks.Queues.{HaveIssued, HaveStopped, blocks_after_queues}
 use Rattle.ent_script.specs.declared.operation.Operation.{Operation}
 use Rattle.spawnrun_lib.specs.Issuing.{MayIssue, MayStop}
 use Rattle.spawnrun_lib.specs.ReportInBlocks.{IsTextFrom}

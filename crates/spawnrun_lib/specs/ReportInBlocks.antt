@@ -11,7 +11,7 @@ use Rattle.ent_world.specs.InBlocks.{world_after}
 use Rattle.ent_world.specs.Sync.{sync}
 use Rattle.ent_world.specs.World.{World, first_world}
 use Rattle.ent_runner.specs.Frame.{view_of}
-use Rattle.ent_block_runner.specs.Queues.{HaveIssued, blocks_after_queues}
+use Rattle.ent_runner.specs.Blocks.Queues.{HaveIssued, blocks_after_queues}
 use Rattle.ent_script.specs.Script.{Script}
 use Rattle.ent_script.specs.declared.operation.Operation.{Operation}
 use Rattle.spawnrun_lib.specs.Issuing.{MayIssue}

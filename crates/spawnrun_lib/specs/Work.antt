@@ -3,9 +3,9 @@ use Rattle.std.specs.Prelude.{◌≡◌, ℕ, ◌<◌, ◌≤◌, List, [], ◌+
 use Rattle.std.specs.Fmt.InlineText.{inline_text}
 use Rattle.devices.specs.Device.{Writes}
 use Rattle.spawnrun_lib.specs.Wants.{size_wants}
-use Rattle.spawnrun_lib.specs.declared.work.Product.{Product}
-use Rattle.spawnrun_lib.specs.declared.work.Product.TheVariants as product
-use Rattle.spawnrun_lib.specs.declared.work.Refusal.{Refusal as RefusalValue}
+use Rattle.spawnrun_lib.specs.declared.product.Product.{Product}
+use Rattle.spawnrun_lib.specs.declared.product.Product.TheVariants as product
+use Rattle.spawnrun_lib.specs.declared.product.Refusal.{Refusal as RefusalValue}
 
 -- the longest input, in bytes
 abbrev pub input_limit : ℕ

@@ -5,24 +5,13 @@ ghost use Rattle.ent_runner.specs.Frame.{Ends};
 ghost use Rattle.ent_script.specs.Sizes.{most_systems};
 ghost use Rattle.spawnrun_lib.specs.Issuing.{MayIssue};
 
-use crate::script_system::ScriptSystem;
+use crate::script_system::runnable;
 use ent_handle::Memory;
 use ent_runner::{NoGate, run_frame};
 use ent_script::System;
 use ent_world::{SyncReport, World};
 use std::alloc::Global;
 use std::thread::Threads;
-
-/// The systems of a script, as a frame runs them.
-fn runnable<'a>(alloc: Global, systems: &'a [System]) -> Result<Vec<ScriptSystem<'a>>, Memory>
-    ensures { IfOk result (λ runnable. runnable.items ≡ systems.now) }
-{
-    let mut runnable = Vec::with_capacity(alloc, systems.len())?;
-    for system in systems {
-        runnable.push_reserved(ScriptSystem::new(system));
-    }
-    Ok(runnable)
-}
 
 /// Runs a frame of these systems on that many workers, with its sync point.
 pub(crate) fn run<R>(

@@ -6,10 +6,10 @@ ghost use Rattle.spawnrun_lib.specs.ReportInBlocks.{sizes_of};
 ghost use Rattle.spawnrun_lib.specs.CourseInBlocks.{EndsInBlocks, StopsInBlocks, dealt_blocks};
 
 use crate::BlockNumbering;
-use crate::script_system_in_blocks::ScriptSystemInBlocks;
-use ent_block_runner::{RunError, Unframed, run_frame_in_blocks};
+use crate::script_system::{ScriptSystem, runnable};
 use ent_blocks::DealError;
 use ent_handle::Memory;
+use ent_runner::{RunError, Unframed, run_frame_in_blocks};
 use ent_script::System;
 use ent_world::{PlacedWorld, SyncReport, World, WorldDeal};
 use std::alloc::Global;
@@ -23,20 +23,6 @@ pub(crate) enum Undone {
     Memory,
     /// While the systems ran.
     Lost,
-}
-
-/// The systems of a script, as a frame in blocks runs them.
-fn runnable<'a>(
-    alloc: Global,
-    systems: &'a [System],
-) -> Result<Vec<ScriptSystemInBlocks<'a>>, Memory>
-    ensures { IfOk result (λ runnable. runnable.items ≡ systems.now) }
-{
-    let mut runnable = Vec::with_capacity(alloc, systems.len())?;
-    for system in systems {
-        runnable.push_reserved(ScriptSystemInBlocks::new(system));
-    }
-    Ok(runnable)
 }
 
 /// As many handles for each of the systems.
@@ -56,7 +42,7 @@ fn run_dealt<R, J: BlockNumbering + Send + Sync>(
     alloc: Global,
     world: PlacedWorld,
     sizes: &[u32],
-    systems: &[ScriptSystemInBlocks<'_>],
+    systems: &[ScriptSystem<'_>],
     workers: usize,
 ) -> Result<(World, SyncReport), Undone>
 where

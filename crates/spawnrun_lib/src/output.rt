@@ -3,8 +3,8 @@ ghost use Rattle.std.specs.Prelude.{◌≡◌, ◌≢◌, ◌+◌, ◌⊎◌, �
 ghost use Rattle.std.specs.Fmt.InlineText.{inline_text};
 ghost use Rattle.std.specs.Io.KnownBytes.{Appends};
 
+use crate::product::Refusal;
 use crate::status::Status;
-use crate::work::Refusal;
 use devices::{Failed, Sink};
 
 /// Writes a text, and ends with the status.

@@ -10,11 +10,9 @@ ghost use Rattle.spawnrun_lib.specs.Program.{AsksTo, Fails, Gives};
 ghost use Rattle.spawnrun_lib.specs.Work.{HasAdvised, HasDone, HasRefused, input_limit};
 
 use crate::progress::Progress;
-use crate::replaying::replay;
-use crate::running::run;
-use crate::running_in_blocks::run_in_blocks;
 use crate::status::Status;
-use crate::task::{Task, command_line};
+use crate::task::command_line;
+use crate::work::do_task;
 use cli::{LineFault, finish, refuse_line};
 use devices::{Sink, Source};
 use std::alloc::Global;
@@ -87,19 +85,7 @@ where
 {
     match command_line(alloc, words) {
         Ok(task) => {
-            let status = match task {
-                Task::Replay(limits) => replay(alloc, input, output, errors, progress, limits),
-                Task::Run { workers, show } => {
-                    run(rt, alloc, input, output, errors, progress, workers, show)
-                }
-                Task::RunInBlocks {
-                    size,
-                    workers,
-                    show,
-                } => run_in_blocks(
-                    rt, alloc, input, output, errors, progress, size, workers, show,
-                ),
-            };
+            let status = do_task(rt, alloc, task, input, output, errors, progress);
             finish(errors, status.number())
         }
         Err(LineFault::Line(error)) => refuse_line(format!(in alloc; "{error}"), errors),

@@ -1,16 +1,13 @@
 //! The run of a schedule: bytes in, bytes out.
-ghost use Rattle.std.specs.Prelude.{⊤, ◌≡◌, ◌≢◌, ◌+◌, min, length, Err, IfOk, IfSome, OnOk};
+ghost use Rattle.std.specs.Prelude.{◌≡◌, ◌≢◌, Err, IfOk, OnOk};
 ghost use Rattle.ent_replay.specs.Schedule.{after_event, outcome_of, outcomes_of, starting};
-ghost use Rattle.devices.specs.Device.{OneFails, Takes, TakesAtMost};
 ghost use Rattle.spawnrun_lib.specs.Replay.{Replays, SpellsNone, outcome_lines, refused_line};
-ghost use Rattle.spawnrun_lib.specs.Work.{HasAdvised, HasDone, HasRefused, input_limit};
+ghost use Rattle.spawnrun_lib.specs.Work.{IsProductOf};
 
+use crate::product::{Product, Refusal};
 use crate::progress::Progress;
 use crate::schedule::schedule_found;
-use crate::status::Status;
 use crate::wants::line_wants;
-use crate::work::{Product, Refusal, Work, do_work};
-use devices::{Sink, Source};
 use ent_alloc::Limits;
 use ent_handle::Memory;
 use ent_replay::{
@@ -21,85 +18,33 @@ use std::alloc::Global;
 // The events between two reports of how far a run is.
 const STEP: usize = 65_536;
 
-// Runs schedules over an empty allocator of these limits.
-#[derive(Drop)]
-struct Schedules {
-    limits: Limits,
-}
-
-impl Work for Schedules {
-    ghost gives = { λ schedules. Replays schedules.limits };
-
-    ghost fails = { λ _. SpellsNone };
-
-    ghost can_make = { λ _. ⊤ };
-
-    fn make<P: Progress>(
-        self,
-        alloc: Global,
-        input: Vec<u8>,
-        progress: &mut P,
-    ) -> Result<Product, Memory> {
-        match read_schedule(alloc, &input) {
-            Ok(events) => {
-                let text = outcome_text(alloc, self.limits, &events, progress);
-                progress.end();
-                Ok(Product::Output(text?))
-            }
-            Err(ReadFault::Line { line, cause }) => Ok(Product::Refusal(Refusal {
-                line: refused_line(alloc, line, cause)?,
-                wants: line_wants(cause),
-                found: schedule_found(&input, line),
-            })),
-            Err(ReadFault::Memory) => Err(Memory),
-        }
-    }
-}
-
-/// Runs the schedule that the input spells over an empty allocator of these limits, and writes a
-/// line for each event. An input that is no schedule is refused by one line.
+/// Runs the schedule that the input spells over an empty allocator of these limits, and gives a line
+/// for each event, or says why the input spells no schedule.
 ///
-/// It reads and writes as `run` does: all of the input before an event is applied, and all of the
-/// output at once.
-pub fn replay<I: Source, O: Sink, E: Sink, P: Progress>(
+/// # Errors
+///
+/// [`Memory`], if there is no memory for it.
+pub(crate) fn replay<P: Progress>(
     alloc: Global,
-    input: &mut I,
-    output: &mut O,
-    errors: &mut E,
-    progress: &mut P,
+    input: Vec<u8>,
     limits: Limits,
-) -> Status
-    ensures done { result ≡ Status.Done → HasDone (Replays limits)
-        (I.remaining input.old) (O.written output.old) (O.written output.new) }
-    ensures refused { result ≡ Status.Refused → HasRefused SpellsNone
-        (I.remaining input.old) (O.written output.old) (O.written output.new) }
-    ensures memory { result ≡ Status.Memory → output.new ≡ output.old }
-
-    // The failures of the two devices.
-    ensures device { result ≡ Status.Device → OneFails
-        (I.failures input.old) (I.failures input.new)
-        (O.failures output.old) (O.failures output.new) }
-    ensures input_unfailed { result ≢ Status.Device → I.failures input.new ≡ I.failures input.old }
-    ensures output_unfailed { result ≢ Status.Device
-        → O.failures output.new ≡ O.failures output.old }
-    ensures unread { I.failures input.new ≢ I.failures input.old → output.new ≡ output.old }
-
-    // What the error stream tells.
-    ensures quiet { result ≢ Status.Refused → errors.new ≡ errors.old }
-    ensures advised { result ≡ Status.Refused → E.failures errors.new ≡ E.failures errors.old
-        → HasAdvised SpellsNone
-        (I.remaining input.old) (E.written errors.old) (E.written errors.new) }
-
-    // What is taken of an input that didn't fail: all of it, or one byte more than the limit.
-    ensures reads { I.failures input.new ≡ I.failures input.old → result ≢ Status.Memory
-        → IfSome (I.remaining input.old) (λ all.
-        Takes (I.remaining input.old) (I.remaining input.new)
-        (min (length all) (input_limit + 1))) }
-    ensures stops { I.failures input.new ≡ I.failures input.old
-        → TakesAtMost (I.remaining input.old) (I.remaining input.new) (input_limit + 1) }
+    progress: &mut P,
+) -> Result<Product, Memory>
+    ensures { IfOk result (IsProductOf (Replays limits) SpellsNone input.items) }
 {
-    let work = Schedules { limits };
-    do_work(alloc, input, output, errors, progress, work)
+    match read_schedule(alloc, &input) {
+        Ok(events) => {
+            let text = outcome_text(alloc, limits, &events, progress);
+            progress.end();
+            Ok(Product::Output(text?))
+        }
+        Err(ReadFault::Line { line, cause }) => Ok(Product::Refusal(Refusal {
+            line: refused_line(alloc, line, cause)?,
+            wants: line_wants(cause),
+            found: schedule_found(&input, line),
+        })),
+        Err(ReadFault::Memory) => Err(Memory),
+    }
 }
 
 // The lines of what the events give, from an empty allocator.

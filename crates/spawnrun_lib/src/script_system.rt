@@ -1,9 +1,10 @@
-ghost use Rattle.std.specs.Prelude.{◌≡◌};
+ghost use Rattle.std.specs.Prelude.{◌≡◌, IfOk};
 ghost use Rattle.spawnrun_lib.specs.Issuing.{MayIssue, MayStop};
 
 use crate::issuing::issue_all;
+use ent_alloc::Source;
 use ent_handle::Memory;
-use ent_queue::Commands;
+use ent_queue::{CommandQueue, Commands};
 use ent_runner::System;
 use ent_world::View;
 use std::alloc::Global;
@@ -33,7 +34,7 @@ impl<'a> ScriptSystem<'a> {
     }
 }
 
-impl System for ScriptSystem<'_> {
+impl<S: Source> System<S> for ScriptSystem<'_> {
     ghost may_issue = { MayIssue };
 
     ghost may_leave = { MayStop };
@@ -41,13 +42,27 @@ impl System for ScriptSystem<'_> {
     /// # Errors
     ///
     /// `Memory`, if one of the operations ran out of memory, and for no other reason. A spawn
-    /// that is refused for lack of slots or quota is a command of the queue, and the run goes on.
+    /// that is refused is a command of the queue, and the run goes on.
     fn run(
         &self,
         alloc: Global,
         view: &View<'_>,
-        commands: &mut Commands<'_>,
+        commands: &mut Commands<'_, CommandQueue, S>,
     ) -> Result<(), Memory> {
         issue_all(alloc, view, self.system.operations(), commands)
     }
+}
+
+/// The systems of a script, as a frame runs them.
+pub(crate) fn runnable<'a>(
+    alloc: Global,
+    systems: &'a [ent_script::System],
+) -> Result<Vec<ScriptSystem<'a>>, Memory>
+    ensures { IfOk result (λ runnable. runnable.items ≡ systems.now) }
+{
+    let mut runnable = Vec::with_capacity(alloc, systems.len())?;
+    for system in systems {
+        runnable.push_reserved(ScriptSystem::new(system));
+    }
+    Ok(runnable)
 }

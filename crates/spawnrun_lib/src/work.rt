@@ -1,89 +1,53 @@
 //! The work on an input: all of it is read, something is made of it, and that is written.
-ghost use Rattle.std.specs.Prelude.{◌≡◌, ◌≢◌, ◌+◌, ◌⊎◌, ℕ, List, [], Err, IfOk, IfErr, IfSome};
+ghost use Rattle.std.specs.Prelude.{◌≡◌, ◌≢◌, ◌+◌, ◌⊎◌, [], Err, IfOk, IfErr, IfSome};
 ghost use Rattle.std.specs.Prelude.{min, length};
 ghost use Rattle.devices.specs.Device.{OneFails, Takes, TakesAtMost};
+ghost use Rattle.spawnrun_lib.specs.Program.{CanDo, Fails, Gives};
 ghost use Rattle.spawnrun_lib.specs.Wants.{size_wants};
 ghost use Rattle.spawnrun_lib.specs.Work.{Accepts, HasAdvised, HasDone, HasRefused, IsProductOf};
-ghost use Rattle.spawnrun_lib.specs.Work.{Refusal as Refused, Refuses, input_limit, refusal_of};
-ghost use Rattle.spawnrun_lib.specs.Work.{size_line};
+ghost use Rattle.spawnrun_lib.specs.Work.{Refuses, input_limit, refusal_of, size_line};
 
 use crate::found::Found;
 use crate::output::{refuse, write};
+use crate::product::{INPUT_LIMIT, Product, Refusal};
 use crate::progress::Progress;
+use crate::replaying::replay;
+use crate::running::{run, run_in_blocks};
 use crate::status::Status;
+use crate::task::Task;
 use crate::wants::size_wants;
 use devices::{InputFault, Sink, Source, read_all};
 use ent_handle::Memory;
 use std::alloc::Global;
+use std::thread::Threads;
 
-/// The longest input that the program reads, in bytes.
-pub const INPUT_LIMIT: usize = 67_108_864;
-
-/// What is made of an input.
-#[derive(Drop)]
-pub(crate) enum Product {
-    /// The input is accepted, and this is the output.
-    Output(Vec<u8>),
-    /// It is refused.
-    Refusal(Refusal),
-}
-
-/// What is said of an input that is refused.
-#[derive(Drop)]
-pub(crate) struct Refusal {
-    /// The line of output.
-    pub line: Vec<u8>,
-    /// What the test wants that the input fails.
-    pub wants: &'static str,
-    /// What the test found.
-    pub found: Found,
-}
-
-/// Work on an input that was read whole.
-pub(crate) trait Work: Drop {
-    /// The outputs that an input gives.
-    ghost gives: { Self → List ℕ → List ℕ → Type 0 };
-
-    /// How an input fails a test.
-    ghost fails: { Self → List ℕ → Refused → Type 0 };
-
-    /// Whether the work can be done: its numbers are in their ranges.
-    ghost can_make: { Self → Type 0 };
-
-    /// Makes it, if there is memory for it, and tells how far it is.
-    fn make<P: Progress>(
-        self,
-        alloc: Global,
-        input: Vec<u8>,
-        progress: &mut P,
-    ) -> Result<Product, Memory>
-        requires { can_make self }
-        ensures { IfOk result (IsProductOf (gives self) (fails self) input.items) };
-}
-
-/// Reads all of the input, does the work, and writes what it made.
+/// Reads all of the input, does the task with it, and writes what that gave. A task has 1 to 64
+/// workers.
 ///
 /// Nothing is made before the whole input is read, and nothing is written before all of the output
-/// is made. An input of more than 67,108,864 bytes is refused, and just one byte more than that is
-/// taken of it.
+/// is made. An input of more than 67,108,864 bytes is refused by one line, and so is one that is no
+/// schedule or no script. Of a longer input just one byte more than the limit is taken.
 ///
 /// After `Memory`, or a failure of the input, the output is as it was. `Device` is one failed call
 /// of one of the two devices.
 ///
 /// Only a refused input writes to the error stream: what the input has to be, and what was found
 /// instead. If the error stream fails, nothing else changes.
-pub(crate) fn do_work<W: Work, I: Source, O: Sink, E: Sink, P: Progress>(
+pub fn do_task<R, I: Source, O: Sink, E: Sink, P: Progress>(
+    rt: &R,
     alloc: Global,
+    task: Task,
     input: &mut I,
     output: &mut O,
     errors: &mut E,
     progress: &mut P,
-    work: W,
 ) -> Status
-    requires { W.can_make work }
-    ensures done { result ≡ Status.Done → HasDone (W.gives work)
+where
+    R: Threads + Sync,
+    requires { CanDo task }
+    ensures done { result ≡ Status.Done → HasDone (Gives task)
         (I.remaining input.old) (O.written output.old) (O.written output.new) }
-    ensures refused { result ≡ Status.Refused → HasRefused (W.fails work)
+    ensures refused { result ≡ Status.Refused → HasRefused (Fails task)
         (I.remaining input.old) (O.written output.old) (O.written output.new) }
     ensures memory { result ≡ Status.Memory → output.new ≡ output.old }
 
@@ -99,7 +63,7 @@ pub(crate) fn do_work<W: Work, I: Source, O: Sink, E: Sink, P: Progress>(
     // What the error stream tells.
     ensures quiet { result ≢ Status.Refused → errors.new ≡ errors.old }
     ensures advised { result ≡ Status.Refused → E.failures errors.new ≡ E.failures errors.old
-        → HasAdvised (W.fails work)
+        → HasAdvised (Fails task)
         (I.remaining input.old) (E.written errors.old) (E.written errors.new) }
 
     // What is taken of an input that didn't fail: all of it, or one byte more than the limit.
@@ -110,24 +74,27 @@ pub(crate) fn do_work<W: Work, I: Source, O: Sink, E: Sink, P: Progress>(
     ensures stops { I.failures input.new ≡ I.failures input.old
         → TakesAtMost (I.remaining input.old) (I.remaining input.new) (input_limit + 1) }
 {
-    match product_of(alloc, input, progress, work) {
+    match product_of(rt, alloc, task, input, progress) {
         Ok(Product::Output(text)) => write(output, &text, Status::Done),
         Ok(Product::Refusal(refusal)) => refuse(output, errors, &refusal),
         Err(status) => status,
     }
 }
 
-// Reads all of the input, and makes what the work makes of it. If nothing is made, it gives the
-// status with which the work ends.
-fn product_of<W: Work, I: Source, P: Progress>(
+// Reads all of the input, and does the task with it. If that gives nothing, it returns the status
+// with which the work ends.
+fn product_of<R, I: Source, P: Progress>(
+    rt: &R,
     alloc: Global,
+    task: Task,
     input: &mut I,
     progress: &mut P,
-    work: W,
 ) -> Result<Product, Status>
-    requires { W.can_make work }
+where
+    R: Threads + Sync,
+    requires { CanDo task }
     ensures gives { IfOk result (λ product. IfSome (I.remaining input.old) (λ all.
-        IsProductOf (Accepts (W.gives work)) (Refuses (W.fails work)) all product)) }
+        IsProductOf (Accepts (Gives task)) (Refuses (Fails task)) all product)) }
     ensures ends { IfErr result (λ status. (status ≡ Status.Memory) ⊎ (status ≡ Status.Device)) }
     ensures failed { result ≡ Err Status.Device
         → I.failures input.new ≡ I.failures input.old + 1 }
@@ -140,10 +107,34 @@ fn product_of<W: Work, I: Source, P: Progress>(
         → TakesAtMost (I.remaining input.old) (I.remaining input.new) (input_limit + 1) }
 {
     match read_all(alloc, input, INPUT_LIMIT) {
-        Ok(bytes) => Ok(work.make(alloc, bytes, progress)?),
+        Ok(bytes) => Ok(make(rt, alloc, task, bytes, progress)?),
         Err(InputFault::TooLong) => Ok(Product::Refusal(too_long(alloc)?)),
         Err(InputFault::Memory) => Err(Status::Memory),
         Err(InputFault::Device) => Err(Status::Device),
+    }
+}
+
+// What the task makes of an input, if there is memory for it.
+fn make<R, P: Progress>(
+    rt: &R,
+    alloc: Global,
+    task: Task,
+    input: Vec<u8>,
+    progress: &mut P,
+) -> Result<Product, Memory>
+where
+    R: Threads + Sync,
+    requires { CanDo task }
+    ensures { IfOk result (IsProductOf (Gives task) (Fails task) input.items) }
+{
+    match task {
+        Task::Replay(limits) => replay(alloc, input, limits, progress),
+        Task::Run { workers, show } => run(rt, alloc, input, workers, show, progress),
+        Task::RunInBlocks {
+            size,
+            workers,
+            show,
+        } => run_in_blocks(rt, alloc, input, size, workers, show, progress),
     }
 }
 

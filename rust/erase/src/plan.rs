@@ -15,10 +15,8 @@ use std::{fs, io};
 
 /// The crates that the package's face calls. They are erased with all that they stand on.
 const TOPS: &[&str] = &[
-    "ent_block_runner",
     "ent_blocks",
     "ent_log",
-    "ent_log_runner",
     "ent_replay",
     "ent_runner",
     "ent_total",

@@ -12,7 +12,7 @@ use crate::proved::cli::{refuse_file, refuse_words};
 use crate::proved::devices::{read_all, Counted, InputFault, Sink, Source};
 use crate::proved::ent_alloc::Limits;
 use crate::proved::ent_replay::read_schedule;
-use crate::proved::spawnrun_lib::{replay, Status, INPUT_LIMIT};
+use crate::proved::spawnrun_lib::{do_task, Status, Task, INPUT_LIMIT};
 use std::format;
 use std::io::Read;
 use std::process::ExitCode;
@@ -67,7 +67,7 @@ fn draw_input(
     match limits(words) {
         Ok(limits) => {
             let (mut input, mut output) = (Counted::new(input), Counted::new(rt.stdout()));
-            draw(&mut input, &mut output, errors, limits).number()
+            draw(rt, &mut input, &mut output, errors, limits).number()
         }
         Err(error) => {
             let _ = errors.put(format!("{error}").as_bytes());
@@ -85,13 +85,14 @@ fn limits(words: &[impl AsStr]) -> Result<Limits, Error> {
 
 /// Reads a schedule, and writes its picture.
 fn draw(
+    rt: HostRuntime,
     input: &mut impl Source,
     output: &mut impl Sink,
     errors: &mut impl Sink,
     limits: Limits,
 ) -> Status {
     let status = match read_all(input, INPUT_LIMIT) {
-        Ok(text) => draw_text(&text, output, errors, limits),
+        Ok(text) => draw_text(rt, &text, output, errors, limits),
         Err(InputFault::TooLong) => refuse(output, errors, "found more than 67108864 bytes"),
         Err(InputFault::Memory) => Status::Memory,
         Err(InputFault::Device) => Status::Device,
@@ -105,14 +106,16 @@ fn draw(
 }
 
 fn draw_text(
+    rt: HostRuntime,
     text: &[u8],
     output: &mut impl Sink,
     errors: &mut impl Sink,
     limits: Limits,
 ) -> Status {
     let (Ok(events), Ok(lines)) = (read_schedule(text), core::str::from_utf8(text)) else {
-        // What is no schedule is refused as `replay` refuses it.
-        return replay(&mut Counted::new(text), output, errors, &mut (), limits);
+        // What is no schedule is refused as `spawnrun replay` refuses it.
+        let (task, input) = (Task::Replay(limits), &mut Counted::new(text));
+        return do_task(&rt, task, input, output, errors, &mut ());
     };
     match replayed(limits, lines, &events) {
         Ok(timeline) => put(output, &picture_of(&timeline), Status::Done),

@@ -12,7 +12,7 @@
 //! threads: 8, launched: 46519, lost: 15871, digest: 782db46486321508
 //! ```
 
-use forgeni::{Entities, Entry, Handle, HandleMap, Lent, Log, ReserveError, SyncPoint};
+use forgeni::{Entities, Entry, Follows, Handle, HandleMap, Lent, Log, ReserveError, SyncPoint};
 use std::{error::Error, iter, sync::Mutex, thread};
 
 const SHIPS: i32 = 10_000;
@@ -213,10 +213,7 @@ impl Parts {
         if !entities.is_alive(one) {
             return Ok(());
         }
-        entities.free(one)?;
-        self.bodies.remove(one);
-        self.tanks.remove(one);
-        self.names.remove(one);
+        (&mut self.bodies, &mut self.tanks, &mut self.names).despawn(entities, one)?;
         self.events.push(Event::Lost);
         let ship = self.ships.remove(one);
         if let Some(drones) = ship.and_then(|ship| self.drones.get_mut(ship)) {

@@ -11,7 +11,7 @@
 //! the same on 1, 2, 4 and 8 threads: 66638ffbec3d58b8
 //! ```
 
-use forgeni::{Entities, Handle, HandleMap, Lent};
+use forgeni::{Entities, Follows, Handle, HandleMap, JoinMaps, Lent};
 use std::error::Error;
 use std::sync::atomic::{AtomicUsize, Ordering};
 use std::time::Instant;
@@ -114,11 +114,9 @@ impl Game {
 
     /// One frame: the systems, and then the sync point.
     fn frame(&mut self, threads: usize) -> Result<(), Failed> {
-        let speeds = &self.speeds;
-        self.places.for_each_mut(|one, Place(place)| {
-            let Speed(speed) = speeds[one];
+        for (_, Place(place), Speed(speed)) in (&mut self.places, &self.speeds).join() {
             *place = [place[0] + speed[0], place[1] + speed[1]];
-        });
+        }
         self.fires.for_each_mut(|_, fire| fire.frames_left -= 1);
         let wanted = self.systems(threads)?;
         self.sync(wanted)
@@ -154,10 +152,8 @@ impl Game {
             self.counts.burnt += burnt.len();
             self.counts.lit += lit.len();
             for one in burnt {
-                self.entities.free(one)?;
-                self.places.remove(one);
-                self.speeds.remove(one);
-                self.fires.remove(one);
+                let mut spark = (&mut self.places, &mut self.speeds, &mut self.fires);
+                spark.despawn(&mut self.entities, one)?;
             }
             for (one, spark) in lit {
                 self.light(one, spark)?;

@@ -17,7 +17,7 @@
 //! 8 frames again on one worker: the same handles too
 //! ```
 
-use forgeni::{Entities, Handle, HandleMap, Lent};
+use forgeni::{tables, Entities, Follows, Handle, HandleMap, JoinMaps, Lent};
 use std::thread;
 use std::time::Instant;
 
@@ -50,15 +50,21 @@ fn mixed(number: u64) -> u64 {
 /// The game before each of the last frames: before frame `n` at place `n` modulo their number.
 type Ring = [Game; BACK];
 
+tables! {
+    struct Sparks {
+        /// Where each spark is, in whole numbers, which all machines add in the same way.
+        places: HandleMap<[i32; 2]>,
+        /// How far it flies in a frame.
+        speeds: HandleMap<[i32; 2]>,
+        lives: HandleMap<Life>,
+    }
+}
+
 #[derive(Default)]
 struct Game {
     workers: usize,
     entities: Entities,
-    /// Where each spark is, in whole numbers, which all machines add in the same way.
-    places: HandleMap<[i32; 2]>,
-    /// How far it flies in a frame.
-    speeds: HandleMap<[i32; 2]>,
-    lives: HandleMap<Life>,
+    sparks: Sparks,
 }
 
 impl Game {
@@ -84,38 +90,33 @@ impl Game {
     /// Takes the state of another game. Memory is needed only for what that one has more slots.
     fn take_over(&mut self, other: &Self) -> Result<()> {
         self.entities.try_clone_from(&other.entities)?;
-        self.places.try_clone_from(&other.places)?;
-        self.speeds.try_clone_from(&other.speeds)?;
-        Ok(self.lives.try_clone_from(&other.lives)?)
+        Ok(self.sparks.try_clone_from(&other.sparks)?)
     }
 
     /// Gives a living entity its components.
     fn light(&mut self, one: Handle, seed: u64, place: [i32; 2]) -> Result<()> {
         let [_, x, y, frames, ..] = seed.to_le_bytes().map(i32::from);
         let frames_left = 1 + frames as u32 % 60;
-        self.places.insert(one, place)?;
-        self.speeds.insert(one, [x - 128, y - 128])?;
-        self.lives.insert(one, Life { seed, frames_left })?;
+        self.sparks.places.insert(one, place)?;
+        self.sparks.speeds.insert(one, [x - 128, y - 128])?;
+        self.sparks.lives.insert(one, Life { seed, frames_left })?;
         Ok(())
     }
 
     /// One frame: the systems that change sparks, those that reserve, and the sync point.
     fn frame(&mut self, input: i32) -> Result<()> {
+        let all = &mut self.sparks;
         thread::scope(|scope| {
-            scope.spawn(|| self.lives.for_each_mut(|_, life| life.frames_left -= 1));
-            self.speeds
-                .for_each_mut(|_, it| *it = [it[0] + input, it[1] - 1]);
-            self.places.for_each_mut(|one, [x, y]| {
-                let [dx, dy] = self.speeds[one];
+            scope.spawn(|| all.lives.for_each_mut(|_, life| life.frames_left -= 1));
+            all.speeds
+                .for_each_mut(|_, [dx, dy]| (*dx, *dy) = (*dx + input, *dy - 1));
+            for (_, [x, y], [dx, dy]) in (&mut all.places, &all.speeds).join() {
                 (*x, *y) = (*x + dx, *y + dy);
-            });
+            }
         });
         for (one, lit) in self.burn_all()? {
-            let (seed, place) = (self.lives[one].seed, self.places[one]);
-            self.entities.free(one)?;
-            self.places.remove(one);
-            self.speeds.remove(one);
-            self.lives.remove(one);
+            let (seed, place) = (self.sparks.lives[one].seed, self.sparks.places[one]);
+            self.sparks.despawn(&mut self.entities, one)?;
             for (new, number) in lit.into_iter().zip(1..) {
                 self.light(new, mixed(seed.wrapping_add(number)), place)?;
             }
@@ -126,7 +127,8 @@ impl Game {
     /// Runs `burn` on each worker, for its part of the sparks. What they reserve is alive at the end.
     fn burn_all(&mut self) -> Result<Vec<Burnt>> {
         let living: Vec<Handle> = self.entities.iter().collect();
-        let (lives, parts) = (&self.lives, living.chunks(living.len() / self.workers + 1));
+        let (lives, part) = (&self.sparks.lives, living.len() / self.workers + 1);
+        let parts = living.chunks(part);
         let burnt: Result<Vec<_>> = self.entities.phase(self.workers, |_, reservers| {
             thread::scope(|scope| {
                 let start = |(part, reserver)| scope.spawn(move || burn(part, lives, reserver));
@@ -141,10 +143,11 @@ impl Game {
 
     /// All that the game is but its handles, in 64 bits.
     fn digest(&self) -> u64 {
-        let sparks = self.entities.iter().map(|one| {
-            let ([x, y], [dx, dy], life) = (self.places[one], self.speeds[one], self.lives[one]);
-            let numbers = [x, y, dx, dy, life.frames_left as i32].map(|number| number as u64);
-            let mix = |all, number| mixed(all ^ number);
+        let all = &self.sparks;
+        let walk = (&all.places, &all.speeds, &all.lives).join();
+        let sparks = walk.map(|(_, [x, y], [dx, dy], life)| {
+            let numbers = [*x, *y, *dx, *dy, life.frames_left as i32];
+            let mix = |all, number| mixed(all ^ number as u64);
             numbers.into_iter().fold(life.seed, mix)
         });
         sparks.fold(0, u64::wrapping_add)
@@ -186,7 +189,7 @@ fn main() -> Result<()> {
     end.take_over(&alone)?;
     alone.take_over(&ring[then % BACK])?;
     alone.play(&mut ring, then, 0)?;
-    let same = alone.entities.iter().eq(&end.entities) && alone.places == end.places;
+    let same = alone.entities.iter().eq(&end.entities) && alone.sparks.places == end.sparks.places;
     holds(same, "8 frames again on one worker: the same handles too")?;
 
     let start = Instant::now();

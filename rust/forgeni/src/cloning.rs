@@ -1,11 +1,13 @@
-//! Std's `Default` and `Clone` of what has proved calls `new` and `try_clone`. If memory runs out, a clone
-//! ends the process, as when a `Vec` is cloned.
+//! Std's `Default` and `Clone` of what has proved calls `new` and `try_clone`, and `PartialEq` of
+//! what has an image. If memory runs out, a clone ends the process, as when a `Vec` is cloned, and
+//! so does a comparison.
 
 use crate::entities::Entities;
 use crate::errors::OutOfMemory;
 use crate::storage::Storage;
 use crate::world::World;
 use alloc::alloc::handle_alloc_error;
+use alloc::vec::Vec;
 use core::alloc::Layout;
 
 macro_rules! begins_and_clones {
@@ -16,8 +18,8 @@ macro_rules! begins_and_clones {
             }
         }
 
-        /// By [`try_clone`](Self::try_clone) and [`try_clone_from`](Self::try_clone_from). If memory runs
-        /// out, the process ends, as when a `Vec` is cloned.
+        /// By [`try_clone`](Self::try_clone) and [`try_clone_from`](Self::try_clone_from). If
+        /// memory runs out, the process ends, as when a `Vec` is cloned.
         impl Clone for $name {
             fn clone(&self) -> Self {
                 self.try_clone().unwrap_or_else(|refused| end(refused))
@@ -34,6 +36,36 @@ macro_rules! begins_and_clones {
 begins_and_clones!(Entities);
 begins_and_clones!(World);
 begins_and_clones!(Storage);
+
+/// Two allocators are equal if they are the same to every call, whatever came before: if they have
+/// one image. The comparison takes memory for the images. If memory runs out, the process ends.
+///
+/// ```
+/// use forgeni::Entities;
+///
+/// let (mut one, mut other) = (Entities::new(), Entities::new());
+/// let cart = one.alloc()?;
+/// assert!(one != other);
+/// other.flush(&mut Vec::from([other.request()?]))?;
+/// assert!(one == other);
+/// one.try_set_row(cart, 5)?;
+/// assert!(one != other);
+/// # Ok::<(), Box<dyn std::error::Error>>(())
+/// ```
+impl PartialEq for Entities {
+    fn eq(&self, other: &Self) -> bool {
+        self.total() == other.total() && image(self) == image(other)
+    }
+}
+
+impl Eq for Entities {}
+
+fn image(entities: &Entities) -> Vec<u8> {
+    let mut image = Vec::new();
+    let written = entities.write_image(&mut image);
+    written.unwrap_or_else(|refused| end(refused));
+    image
+}
 
 /// Ends the process: the caller can't return an error.
 #[cold]

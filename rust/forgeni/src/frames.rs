@@ -2,15 +2,16 @@
 
 use crate::guarding::{caught, guarded};
 use crate::proved::ent_runner::NoGate;
-use crate::proved::ent_total;
-use crate::{Entities, HandedBack, Handle, Log, LogSystem, Report, SyncPoint, System, World};
+use crate::proved::{ent_runner, ent_total};
+use crate::{
+    Entities, HandedBack, Handle, Log, LogSystem, Report, SharedSource, SyncPoint, System, World,
+};
 use alloc::vec::Vec;
 
 pub use crate::kit::thread::{StdThreads, Threads as Join};
-pub use crate::proved::ent_block_runner::{run_in_blocks, RunError};
-pub use crate::proved::ent_runner::FrameReport;
+pub use crate::proved::ent_runner::{run_in_blocks, FrameReport, LogError, RunError};
 pub use crate::proved::ent_total::{fill_in_blocks, run_frame_in_blocks};
-pub use crate::proved::ent_total::{FrameError, LogError, Unframed};
+pub use crate::proved::ent_total::{FrameError, Unframed};
 
 /// Runs each system once, on that many workers side by side, and then the sync point. It returns
 /// the report of the sync point.
@@ -83,7 +84,7 @@ pub use crate::proved::ent_total::{FrameError, LogError, Unframed};
 /// With more than one worker, threads are started as [`std::thread::scope`] starts them. If memory
 /// for that runs out, it ends the process. Without the feature `std`, and where no thread can be started,
 /// as on `wasm32-unknown-unknown`, the caller's thread does all the work.
-pub fn run_frame<S: System + Sync>(
+pub fn run_frame<S: System<SharedSource> + Sync>(
     world: &mut World,
     systems: &[S],
     workers: usize,
@@ -127,7 +128,7 @@ pub fn run_frame<S: System + Sync>(
 ///
 /// The same as [`run_frame`]. If no system panics but the `Join` does, its panic is handed on when all
 /// workers have ended. The frame is complete then: only its report is lost.
-pub fn run_frame_on<J: Join + Sync, S: System + Sync>(
+pub fn run_frame_on<J: Join + Sync, S: System<SharedSource> + Sync>(
     join: &J,
     world: &mut World,
     systems: &[S],
@@ -208,7 +209,7 @@ pub fn run_frame_on<J: Join + Sync, S: System + Sync>(
 /// # Aborts
 ///
 /// As of [`run_frame`].
-pub fn run_logs<C: Send, S: LogSystem<C> + Sync>(
+pub fn run_logs<C: Send, S: LogSystem<C, SharedSource> + Sync>(
     entities: &mut Entities,
     systems: &[S],
     workers: usize,
@@ -227,14 +228,14 @@ pub fn run_logs<C: Send, S: LogSystem<C> + Sync>(
 /// The same as [`run_logs`]. If no system panics but the `Join` does, its panic is handed on when all
 /// workers have ended. What they reserved stays reserved, and the logs are dropped. If a command panics then,
 /// that panic is lost.
-pub fn run_logs_on<J: Join + Sync, C: Send, S: LogSystem<C> + Sync>(
+pub fn run_logs_on<J: Join + Sync, C: Send, S: LogSystem<C, SharedSource> + Sync>(
     join: &J,
     entities: &mut Entities,
     systems: &[S],
     workers: usize,
 ) -> Result<Vec<Log<C>>, LogError> {
     guarded(join, systems, LogError::Memory, |join, systems| {
-        caught(|| ent_total::run_logs(join, entities, systems, workers))
+        caught(|| ent_runner::run_logs(join, entities, systems, workers))
     })
 }
 
@@ -281,7 +282,7 @@ pub fn run_logs_on<J: Join + Sync, C: Send, S: LogSystem<C> + Sync>(
 /// If a system panics, or a command that is dropped, as of [`run_logs`]. If no system panics but the `Join`
 /// does, its panic is handed on when all workers have ended. What they reserved is alive, and their logs are
 /// dropped.
-pub fn run_to_sync_point<J: Join + Sync, C: Send, S: LogSystem<C> + Sync>(
+pub fn run_to_sync_point<J: Join + Sync, C: Send, S: LogSystem<C, SharedSource> + Sync>(
     join: &J,
     entities: &mut Entities,
     systems: &[S],
@@ -290,6 +291,6 @@ pub fn run_to_sync_point<J: Join + Sync, C: Send, S: LogSystem<C> + Sync>(
 ) -> Result<SyncPoint<C>, HandedBack<Vec<Log<C>>, LogError>> {
     let memory = HandedBack::new(Vec::new(), LogError::Memory);
     guarded(join, systems, memory, |join, systems| {
-        caught(|| ent_total::run_to_sync_point(join, entities, systems, workers, born))
+        caught(|| ent_runner::run_to_sync_point(join, entities, systems, workers, born))
     })
 }

@@ -1,7 +1,8 @@
 //! Systems whose panics don't leave them.
 
 use crate::frames::Join;
-use crate::{LogCommands, LogSystem, OutOfMemory, System, SystemCommands, View};
+use crate::proved::ent_queue::CommandQueue;
+use crate::{Log, LogSystem, OutOfMemory, Source, System, SystemCommands, View};
 use alloc::boxed::Box;
 use alloc::vec::Vec;
 use core::any::Any;
@@ -74,17 +75,21 @@ impl<T> Guarded<'_, T> {
     }
 }
 
-impl<S: System> System for Guarded<'_, S> {
+impl<S: Source, T: System<S>> System<S> for Guarded<'_, T> {
     /// A system that panics has stopped, like one that ran out of memory: the frame is lost, and the
     /// world is closed with what was reserved.
-    fn run(&self, view: &View<'_>, commands: &mut SystemCommands<'_>) -> Result<(), OutOfMemory> {
+    fn run(
+        &self,
+        view: &View<'_>,
+        commands: &mut SystemCommands<'_, CommandQueue, S>,
+    ) -> Result<(), OutOfMemory> {
         self.run(|| self.0.run(view, commands), Err(OutOfMemory))
     }
 }
 
 /// The same of a system that fills a log.
-impl<C, S: LogSystem<C>> LogSystem<C> for Guarded<'_, S> {
-    fn run(&self, commands: &mut LogCommands<'_, C>) -> Result<(), OutOfMemory> {
+impl<C, S: Source, T: LogSystem<C, S>> LogSystem<C, S> for Guarded<'_, T> {
+    fn run(&self, commands: &mut SystemCommands<'_, Log<C>, S>) -> Result<(), OutOfMemory> {
         self.run(|| self.0.run(commands), Err(OutOfMemory))
     }
 }

@@ -1,5 +1,6 @@
 //! What the proved handle can't have in its source: a constant, and parsing by Rust's trait.
 
+use core::num::NonZeroU64;
 use core::str::FromStr;
 
 pub use crate::proved::ent_handle::{Handle, TextFault as ParseHandleError};
@@ -45,5 +46,54 @@ impl FromStr for Handle {
     #[inline]
     fn from_str(text: &str) -> Result<Self, ParseHandleError> {
         Self::read_text(text.as_bytes())
+    }
+}
+
+/// The bits, as [`to_bits`](Handle::to_bits) returns them.
+impl From<Handle> for u64 {
+    #[inline]
+    fn from(handle: Handle) -> Self {
+        handle.to_bits()
+    }
+}
+
+/// The bits, which are never 0: the upper half is the generation.
+impl From<Handle> for NonZeroU64 {
+    #[inline]
+    fn from(handle: Handle) -> Self {
+        Self::new(handle.to_bits()).unwrap_or(Self::MAX)
+    }
+}
+
+/// The handle of these bits.
+impl TryFrom<u64> for Handle {
+    type Error = ParseHandleError;
+
+    /// The handle of these bits.
+    ///
+    /// # Errors
+    ///
+    /// `Range`: no handle has them.
+    ///
+    /// ```
+    /// use forgeni::{Handle, ParseHandleError};
+    ///
+    /// let handle = Handle::new(7, 2).unwrap();
+    /// assert_eq!(Handle::try_from(u64::from(handle)), Ok(handle));
+    /// assert_eq!(Handle::try_from(7), Err(ParseHandleError::Range));
+    /// ```
+    #[inline]
+    fn try_from(bits: u64) -> Result<Self, ParseHandleError> {
+        Self::from_bits(bits).ok_or(ParseHandleError::Range)
+    }
+}
+
+/// The handle of these bits, as of a `u64`.
+impl TryFrom<NonZeroU64> for Handle {
+    type Error = ParseHandleError;
+
+    #[inline]
+    fn try_from(bits: NonZeroU64) -> Result<Self, ParseHandleError> {
+        bits.get().try_into()
     }
 }

@@ -1,31 +1,179 @@
-//! Values of any type, by handle. What is proved of them is in the contracts of [`HandleMap`]; here are
-//! the traits of std, and the calls that end the process when memory runs out, as those of `Vec` do.
+//! Values of any type, by handle. What is proved of them is in the contracts of [`HandleMap`]; here
+//! are the traits of std, and the calls that end the process when memory runs out, as those of
+//! `Vec` do.
 
-use crate::errors::HandedBack;
+use crate::entities::Entities;
+use crate::errors::{HandedBack, OutOfMemory};
+use crate::follows::Follows;
 use crate::handle::Handle;
-use crate::shown::walks;
+use crate::shown::{shows, walks};
 use alloc::alloc::handle_alloc_error;
 use alloc::vec;
 use core::alloc::Layout;
 use core::fmt;
+use core::hash::{Hash, Hasher};
 use core::ops::{Index, IndexMut};
 
 use crate::proved::ent_storage::sparse_map::{Iter as SparseIter, SparseMap};
 
 pub use crate::proved::ent_storage::handle_map::{Entry, HandleMap, InsertError, Iter, Keys};
 pub use crate::proved::ent_storage::handle_map::{OccupiedEntry, VacantEntry, Values};
-pub use crate::several::SlotsMut;
+pub use crate::several::{IterMut, SlotsMut};
 
-/// Ends the process as `Vec` does: there is no memory for a value, and the caller can't return an error.
+/// Ends the process as `Vec` does: there is no memory for a value, and the caller can't return an
+/// error.
 #[cold]
 fn out_of_memory<T>() -> ! {
     handle_alloc_error(Layout::new::<(u32, T)>())
 }
 
-/// What both kinds of maps have by hand.
+/// What both kinds of maps do, for functions that take either.
+///
+/// The types say more of each call: [`HandleMap`] and [`SparseMap`].
+///
+/// ```
+/// use forgeni::{AnyMap, Handle, HandleMap, SparseMap};
+///
+/// fn most(map: &impl AnyMap<Value = u32>) -> Option<Handle> {
+///     map.iter().max_by_key(|(_, it)| **it).map(|(one, _)| one)
+/// }
+///
+/// let [ball, cart] = [Handle::new(0, 1).unwrap(), Handle::new(7, 1).unwrap()];
+/// assert_eq!(most(&HandleMap::from([(ball, 3), (cart, 2)])), Some(ball));
+/// assert_eq!(most(&SparseMap::from([(ball, 1), (cart, 2)])), Some(cart));
+/// ```
+pub trait AnyMap:
+    Follows
+    + Default
+    + Extend<(Handle, <Self as AnyMap>::Value)>
+    + Index<Handle, Output = <Self as AnyMap>::Value>
+    + IndexMut<Handle>
+    + IntoIterator<Item = (Handle, <Self as AnyMap>::Value)>
+{
+    /// The type of the values.
+    type Value;
+
+    /// The value of the handle, if it has one.
+    fn get(&self, handle: Handle) -> Option<&Self::Value>;
+
+    /// The value of the handle, if it has one, to be changed.
+    fn get_mut(&mut self, handle: Handle) -> Option<&mut Self::Value>;
+
+    /// Whether the handle has a value.
+    fn contains(&self, handle: Handle) -> bool {
+        self.get(handle).is_some()
+    }
+
+    /// Gives the handle a value, and returns the one that it had.
+    ///
+    /// # Errors
+    ///
+    /// Those of [`HandleMap::insert`].
+    fn insert(
+        &mut self,
+        handle: Handle,
+        value: Self::Value,
+    ) -> Result<Option<Self::Value>, HandedBack<Self::Value, InsertError>>;
+
+    /// Removes the value of the handle, and returns it if it had one.
+    fn remove(&mut self, handle: Handle) -> Option<Self::Value>;
+
+    /// How many values there are.
+    fn len(&self) -> usize;
+
+    /// Whether there is no value.
+    fn is_empty(&self) -> bool {
+        self.len() == 0
+    }
+
+    /// The handles and their values: by rising slot of a `HandleMap`, in the order of `entries` of
+    /// a `SparseMap`.
+    fn iter(&self) -> impl DoubleEndedIterator<Item = (Handle, &Self::Value)> + Clone;
+
+    /// The handles and their values in the same order, to be changed.
+    fn iter_mut(&mut self) -> impl DoubleEndedIterator<Item = (Handle, &mut Self::Value)>;
+
+    /// Drops the values of which `keep` returns `false`.
+    fn retain(&mut self, keep: impl FnMut(Handle, &mut Self::Value) -> bool);
+
+    /// Drops all values. The room stays.
+    fn clear(&mut self);
+
+    /// Drops the values of all handles that are neither alive nor reserved.
+    ///
+    /// It is for who freed entities elsewhere, or has read a map from a save: what names a dead
+    /// handle or one of another allocator goes. The time is that of a look at each value.
+    fn sweep(&mut self, entities: &Entities) {
+        self.retain(|one, _| entities.contains(one));
+    }
+}
+
+/// What both kinds of maps have by hand. `$by_slot` goes over the values by rising slot.
 macro_rules! traits_of_a_map {
-    ($Map:ident, $Iter:ident) => {
+    ($Map:ident, $Iter:ident, $by_slot:ident) => {
+        impl<T> AnyMap for $Map<T> {
+            type Value = T;
+
+            #[inline]
+            fn get(&self, handle: Handle) -> Option<&T> {
+                self.get(handle)
+            }
+
+            #[inline]
+            fn get_mut(&mut self, handle: Handle) -> Option<&mut T> {
+                self.get_mut(handle)
+            }
+
+            #[inline]
+            fn insert(
+                &mut self,
+                handle: Handle,
+                value: T,
+            ) -> Result<Option<T>, HandedBack<T, InsertError>> {
+                self.insert(handle, value)
+            }
+
+            #[inline]
+            fn remove(&mut self, handle: Handle) -> Option<T> {
+                self.remove(handle)
+            }
+
+            #[inline]
+            fn len(&self) -> usize {
+                self.len()
+            }
+
+            #[inline]
+            fn iter(&self) -> impl DoubleEndedIterator<Item = (Handle, &T)> + Clone {
+                self.iter()
+            }
+
+            #[inline]
+            fn iter_mut(&mut self) -> impl DoubleEndedIterator<Item = (Handle, &mut T)> {
+                self.iter_mut()
+            }
+
+            fn retain(&mut self, keep: impl FnMut(Handle, &mut T) -> bool) {
+                self.retain(keep);
+            }
+
+            fn clear(&mut self) {
+                self.clear();
+            }
+        }
+
         impl<T> $Map<T> {
+            /// As [`reserve`](Self::reserve), by the name that std has for a call that returns an
+            /// error.
+            ///
+            /// # Errors
+            ///
+            /// Out of memory.
+            #[inline]
+            pub fn try_reserve(&mut self, additional: usize) -> Result<(), OutOfMemory> {
+                self.reserve(additional)
+            }
+
             /// Calls `change` on each value once, in the order of [`iter`](Self::iter).
             ///
             /// ```
@@ -40,7 +188,8 @@ macro_rules! traits_of_a_map {
             ///
             /// # Panics
             ///
-            /// A panic of `change` is handed on. All values stay, changed as far as `change` had changed them.
+            /// A panic of `change` is handed on. All values stay, changed as far as `change` had
+            /// changed them.
             #[inline]
             pub fn for_each_mut(&mut self, mut change: impl FnMut(Handle, &mut T)) {
                 self.iter_mut().for_each(|(one, it)| change(one, it));
@@ -76,26 +225,6 @@ macro_rules! traits_of_a_map {
             pub fn values_mut(&mut self) -> impl DoubleEndedIterator<Item = &mut T> {
                 self.iter_mut().map(|(_, it)| it)
             }
-
-            /// The handles that have a value in this map and in another one, with both, in the order of this
-            /// map. Call it on the map with fewer values.
-            ///
-            /// ```
-            /// use forgeni::{Handle, HandleMap, SparseMap};
-            ///
-            /// let handle = |index| Handle::new(index, 1).unwrap();
-            /// let places: HandleMap<u32> = (0..9).map(|index| (handle(index), 10 * index)).collect();
-            /// let names: SparseMap<&str> = [(handle(4), "Ada"), (handle(99), "Bob")].into_iter().collect();
-            /// assert!(names.join(&places).eq([(handle(4), &"Ada", &40)]));
-            /// ```
-            #[inline]
-            pub fn join<'a, U>(
-                &'a self,
-                other: &'a HandleMap<U>,
-            ) -> impl Iterator<Item = (Handle, &'a T, &'a U)> {
-                let walk = self.iter();
-                walk.filter_map(|(one, it)| Some((one, it, other.get(one)?)))
-            }
         }
 
         impl<T> Default for $Map<T> {
@@ -110,8 +239,8 @@ macro_rules! traits_of_a_map {
             }
         }
 
-        /// The clone has the same limit. If memory runs out, the process ends, as when a `Vec` is cloned.
-        /// [`try_clone`](Self::try_clone) returns an error instead.
+        /// The clone has the same limit. If memory runs out, the process ends, as when a `Vec` is
+        /// cloned. [`try_clone`](Self::try_clone) returns an error instead.
         impl<T: Clone> Clone for $Map<T> {
             fn clone(&self) -> Self {
                 self.try_clone().unwrap_or_else(|_| out_of_memory::<T>())
@@ -132,6 +261,14 @@ macro_rules! traits_of_a_map {
 
         impl<T: Eq> Eq for $Map<T> {}
 
+        /// By rising slot, so that equal maps have equal hashes.
+        impl<T: Hash> Hash for $Map<T> {
+            fn hash<H: Hasher>(&self, state: &mut H) {
+                state.write_usize(self.len());
+                self.$by_slot().for_each(|entry| entry.hash(state));
+            }
+        }
+
         impl<T> Index<Handle> for $Map<T> {
             type Output = T;
 
@@ -141,21 +278,30 @@ macro_rules! traits_of_a_map {
             ///
             /// If it has none.
             #[inline]
+            #[track_caller]
             fn index(&self, handle: Handle) -> &T {
-                self.get(handle).unwrap_or_else(|| no_value(handle))
+                match self.get(handle) {
+                    Some(value) => value,
+                    None => no_value(handle),
+                }
             }
         }
 
         impl<T> IndexMut<Handle> for $Map<T> {
             #[inline]
+            #[track_caller]
             fn index_mut(&mut self, handle: Handle) -> &mut T {
-                self.get_mut(handle).unwrap_or_else(|| no_value(handle))
+                match self.get_mut(handle) {
+                    Some(value) => value,
+                    None => no_value(handle),
+                }
             }
         }
 
-        /// Inserts each value, in their order, as `insert` does. A value is dropped if it is refused:
-        /// if a later occupant of its slot has a value, the slot is at or above the limit, or the handle is the
-        /// placeholder. If memory runs out, the process ends, as when a `Vec` is extended.
+        /// Inserts each value, in their order, as `insert` does. A value is dropped if it is
+        /// refused: if a later occupant of its slot has a value, the slot is at or above the limit,
+        /// or the handle is the placeholder. If memory runs out, the process ends, as when a `Vec`
+        /// is extended.
         impl<T> Extend<(Handle, T)> for $Map<T> {
             fn extend<I: IntoIterator<Item = (Handle, T)>>(&mut self, values: I) {
                 for (handle, value) in values {
@@ -176,6 +322,13 @@ macro_rules! traits_of_a_map {
             }
         }
 
+        /// As `Extend` of an empty map.
+        impl<T, const N: usize> From<[(Handle, T); N]> for $Map<T> {
+            fn from(values: [(Handle, T); N]) -> Self {
+                values.into_iter().collect()
+            }
+        }
+
         impl<'a, T> IntoIterator for &'a $Map<T> {
             type Item = (Handle, &'a T);
             type IntoIter = $Iter<'a, T>;
@@ -188,8 +341,8 @@ macro_rules! traits_of_a_map {
     };
 }
 
-traits_of_a_map!(HandleMap, Iter);
-traits_of_a_map!(SparseMap, SparseIter);
+traits_of_a_map!(HandleMap, Iter, iter);
+traits_of_a_map!(SparseMap, SparseIter, by_slot);
 
 #[cold]
 #[inline(never)]
@@ -198,8 +351,8 @@ fn no_value(handle: Handle) -> ! {
     panic!("{handle} has no value")
 }
 
-/// The values are moved into a list first. If memory runs out for it, the process ends, as when a `Vec` is
-/// filled. [`into_entries`](HandleMap::into_entries) returns an error instead.
+/// The values are moved into a list first. If memory runs out for it, the process ends, as when a
+/// `Vec` is filled. [`into_entries`](HandleMap::into_entries) returns an error instead.
 impl<T> IntoIterator for HandleMap<T> {
     type Item = (Handle, T);
     type IntoIter = vec::IntoIter<(Handle, T)>;
@@ -214,3 +367,11 @@ walks!(debug_map: Iter<'_, T>, T: fmt::Debug);
 walks!(debug_map: SparseIter<'_, T>, T: fmt::Debug);
 walks!(debug_list: Keys<'_, T>, T);
 walks!(debug_list: Values<'_, T>, T: fmt::Debug);
+
+shows! {
+    Entry<'_>[T]: handle;
+    OccupiedEntry<'_>[T]: handle;
+    VacantEntry<'_>[T]: handle;
+    SlotsMut<'_>[T]: slots;
+    IterMut<'_>[T]:;
+}

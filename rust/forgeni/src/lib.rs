@@ -19,6 +19,7 @@ mod component;
 mod drawing;
 mod entities;
 mod errors;
+mod follows;
 mod frames;
 #[cfg(feature = "std")]
 mod guarding;
@@ -28,6 +29,7 @@ mod guarding;
 mod handle;
 mod handle_list;
 pub mod handle_map;
+mod joining;
 #[allow(dead_code, missing_docs, unreachable_pub)]
 mod kit;
 mod lending;
@@ -67,16 +69,21 @@ pub use blocks::*;
 pub use component::{Birth, ComponentId};
 pub use entities::{Entities, Freed, Living, State};
 pub use errors::*;
+pub use follows::Follows;
 pub use frames::*;
 pub use handle::{Handle, ParseHandleError};
-pub use handle_map::{HandleMap, InsertError};
+pub use handle_map::{AnyMap, HandleMap, InsertError};
+pub use joining::JoinMaps;
 pub use lent::Lent;
 pub use log::{BeginError, Entry, Log, Reserves, SyncPoint};
 #[cfg(feature = "rayon")]
-pub use on_rayon::Rayon;
+pub use on_rayon::{ParIter, ParJoinMaps, Rayon};
 pub use proved::ent_alloc::Limits;
 #[cfg(feature = "std")]
 pub use reservers::{Lends, Reservers};
+#[cfg(feature = "serde")]
+#[doc(hidden)]
+pub use serde_impls::for_tables;
 pub use sharing::{CloseError, OtherPhase, Reserver, ShareError, Shared};
 pub use sparse_map::SparseMap;
 pub use storage::{Bundle, Items, Storage, StorageError};

@@ -2,6 +2,13 @@
 //! No macro derives it, so the package needs none at compile time.
 
 mod handle;
-mod handle_map;
 mod images;
+mod maps;
 mod numbers;
+
+/// What `tables!` calls.
+#[doc(hidden)]
+pub mod for_tables {
+    pub use super::maps::Names;
+    pub use serde;
+}

@@ -1,17 +1,31 @@
-//! Several values of a map lent at once, or all moved out. No contract can say what a map is while they are, so
-//! this is by hand, in safe Rust. It changes no slot's generation, and leaves the count right.
+//! Several values of a map lent at once, or all moved out. No contract can say what a map is while
+//! they are, so this is by hand, in safe Rust. It changes no slot's generation, and leaves the
+//! count right.
 
+use crate::errors::OutOfMemory;
 use crate::handle::Handle;
 use crate::proved::ent_storage::handle_map::slot::Slot;
 use crate::{HandleMap, SparseMap};
+use core::iter::{Enumerate, FusedIterator, Map};
+use core::ops::Range;
+use core::slice;
 
-/// Slots of a [`HandleMap`], side by side, of which the values may be changed. None is added or removed.
+/// Slots of a [`HandleMap`], side by side, of which the values may be changed. None is added or
+/// removed.
 ///
-/// [`HandleMap::split_at_mut`] makes two, so that two threads write to one map. It has the index of the first.
+/// [`HandleMap::split_at_mut`] makes two, so that two threads write to one map. It has the index of
+/// the first.
 pub struct SlotsMut<'a, T>(&'a mut [Slot<T>], u32);
 
 impl<'a, T> SlotsMut<'a, T> {
-    /// Those below this slot of the map, and the others. So a part is split again, for more threads.
+    /// Which slots of the map these are.
+    #[must_use]
+    pub fn slots(&self) -> Range<u32> {
+        self.1..self.1 + self.0.len() as u32
+    }
+
+    /// Those below this slot of the map, and the others. So a part is split again, for more
+    /// threads.
     pub fn split_at_mut(self, slot: u32) -> (Self, Self) {
         let Self(slots, first) = self;
         let count = slot.saturating_sub(first) as usize;
@@ -28,19 +42,96 @@ impl<'a, T> SlotsMut<'a, T> {
     }
 
     /// The handles and their values, by rising slot, to be changed.
-    pub fn iter_mut(&mut self) -> impl DoubleEndedIterator<Item = (Handle, &mut T)> {
-        lent(self.0, self.1)
+    pub fn iter_mut(&mut self) -> IterMut<'_, T> {
+        SlotsMut(self.0, self.1).into_iter()
+    }
+
+    /// The values that these handles have here. The handles come by rising slot.
+    pub(crate) fn pick(
+        self,
+        handles: impl Iterator<Item = Handle>,
+    ) -> impl Iterator<Item = (Handle, &'a mut T)> {
+        let (mut slots, mut first) = (self.0.iter_mut(), self.1);
+        handles.filter_map(move |one| {
+            let slot = slots.nth(one.index().checked_sub(first)? as usize)?;
+            first = one.index() + 1;
+            (slot.generation() == one.generation()).then(|| (one, slot.value_mut()))
+        })
     }
 }
 
-/// What these slots have, of which the first has that index.
-fn lent<T>(slots: &mut [Slot<T>], first: u32) -> impl DoubleEndedIterator<Item = (Handle, &mut T)> {
-    let slots = slots.iter_mut().enumerate();
-    slots.filter_map(move |(at, slot)| Some((slot.handle(first + at as u32)?, slot.value_mut())))
+impl<'a, T> IntoIterator for SlotsMut<'a, T> {
+    type Item = (Handle, &'a mut T);
+    type IntoIter = IterMut<'a, T>;
+
+    fn into_iter(self) -> IterMut<'a, T> {
+        IterMut(self.0.iter_mut().enumerate(), self.1)
+    }
+}
+
+/// The handles of a [`HandleMap`], or of some slots of it, and their values, by rising slot, to be
+/// changed.
+///
+/// [`HandleMap::iter_mut`] makes it.
+#[must_use]
+pub struct IterMut<'a, T>(Enumerate<slice::IterMut<'a, Slot<T>>>, u32);
+
+impl<'a, T> Iterator for IterMut<'a, T> {
+    type Item = (Handle, &'a mut T);
+
+    #[inline]
+    fn next(&mut self) -> Option<Self::Item> {
+        self.0.find_map(|it| lent(self.1, it))
+    }
+
+    #[inline]
+    fn size_hint(&self) -> (usize, Option<usize>) {
+        (0, Some(self.0.len()))
+    }
+
+    #[inline]
+    fn fold<B, F: FnMut(B, Self::Item) -> B>(self, init: B, change: F) -> B {
+        let first = self.1;
+        let values = self.0.filter_map(|it| lent(first, it));
+        values.fold(init, change)
+    }
+}
+
+impl<T> DoubleEndedIterator for IterMut<'_, T> {
+    #[inline]
+    fn next_back(&mut self) -> Option<Self::Item> {
+        let first = self.1;
+        let mut values = self.0.by_ref().filter_map(|it| lent(first, it));
+        values.next_back()
+    }
+}
+
+impl<T> FusedIterator for IterMut<'_, T> {}
+
+/// The value of a slot, to be changed. The slots are numbered from this first one on.
+#[inline]
+fn lent<T>(first: u32, (at, slot): (usize, &mut Slot<T>)) -> Option<(Handle, &mut T)> {
+    Some((slot.handle(first + at as u32)?, slot.value_mut()))
+}
+
+/// The value of a slot. The slots are numbered from this first one on.
+#[inline]
+fn seen<T>(first: u32, (at, slot): (usize, &Slot<T>)) -> Option<(Handle, &T)> {
+    match slot {
+        Slot::Vacant => None,
+        Slot::Occupied { value, .. } => Some((slot.handle(first + at as u32)?, value)),
+    }
+}
+
+/// Those of these slots that there are.
+fn within(slots: Range<u32>, count: usize) -> Range<usize> {
+    let end = count.min(slots.end as usize);
+    end.min(slots.start as usize)..end
 }
 
 impl<T> HandleMap<T> {
-    /// The handles and their values, by rising slot, to be changed. The time is that of a look at each slot.
+    /// The handles and their values, by rising slot, to be changed. The time is that of a look at
+    /// each slot.
     ///
     /// ```
     /// use forgeni::{Handle, HandleMap};
@@ -52,12 +143,56 @@ impl<T> HandleMap<T> {
     /// }
     /// assert!(places.values().eq(&[0.0, 1.0, 2.0]));
     /// ```
-    pub fn iter_mut(&mut self) -> impl DoubleEndedIterator<Item = (Handle, &mut T)> {
-        lent(&mut self.slots, 0)
+    #[inline]
+    pub fn iter_mut(&mut self) -> IterMut<'_, T> {
+        self.all_slots().into_iter()
     }
 
-    /// The slots below this one, and the others, so that two threads write to one map. A part gives its values by
-    /// [`get_mut`](SlotsMut::get_mut) and [`iter_mut`](SlotsMut::iter_mut).
+    /// All slots, of which the values may be changed.
+    pub(crate) fn all_slots(&mut self) -> SlotsMut<'_, T> {
+        SlotsMut(&mut self.slots, 0)
+    }
+
+    /// The handles of some slots and their values, by rising slot. The time is that of a look at
+    /// each of these slots.
+    ///
+    /// ```
+    /// use forgeni::{Handle, HandleMap};
+    ///
+    /// let handle = |index| Handle::new(index, 1).unwrap();
+    /// let mut places: HandleMap<u32> = (0..9).map(|index| (handle(index), index)).collect();
+    /// places.iter_range_mut(2..4).for_each(|(_, place)| *place *= 10);
+    /// assert!(places.iter_range(3..5).eq([(handle(3), &30), (handle(4), &4)]));
+    /// ```
+    pub fn iter_range(
+        &self,
+        slots: Range<u32>,
+    ) -> impl DoubleEndedIterator<Item = (Handle, &T)> + Clone {
+        let slots = within(slots, self.slots.len());
+        let first = slots.start as u32;
+        let slots = self.slots[slots].iter().enumerate();
+        slots.filter_map(move |it| seen(first, it))
+    }
+
+    /// The handles of some slots and their values, by rising slot, to be changed.
+    pub fn iter_range_mut(&mut self, slots: Range<u32>) -> IterMut<'_, T> {
+        let slots = within(slots, self.slots.len());
+        let first = slots.start as u32;
+        SlotsMut(&mut self.slots[slots], first).into_iter()
+    }
+
+    /// Makes room for all slots of another map, so that [`try_clone_from`](Self::try_clone_from)
+    /// takes no memory for them.
+    ///
+    /// # Errors
+    ///
+    /// Out of memory.
+    pub fn reserve_for(&mut self, source: &Self) -> Result<(), OutOfMemory> {
+        self.reserve(source.slots.len().saturating_sub(self.slots.len()))
+    }
+
+    /// The slots below this one, and the others, so that two threads write to one map. A part gives
+    /// its values by [`get_mut`](SlotsMut::get_mut) and [`iter_mut`](SlotsMut::iter_mut).
     ///
     /// ```
     /// use forgeni::{Handle, HandleMap};
@@ -73,11 +208,11 @@ impl<T> HandleMap<T> {
     /// assert_eq!((places[handle(49)], places[handle(50)]), (1, 2));
     /// ```
     pub fn split_at_mut(&mut self, slot: u32) -> (SlotsMut<'_, T>, SlotsMut<'_, T>) {
-        SlotsMut(&mut self.slots, 0).split_at_mut(slot)
+        self.all_slots().split_at_mut(slot)
     }
 
-    /// Moves all values out, by rising slot. Those that the iterator doesn't come to are dropped with it. The map
-    /// has no values, and its room stays.
+    /// Moves all values out, by rising slot. Those that the iterator doesn't come to are dropped
+    /// with it. The map has no values, and its room stays.
     ///
     /// ```
     /// use forgeni::{Handle, HandleMap};
@@ -96,7 +231,8 @@ impl<T> HandleMap<T> {
         })
     }
 
-    /// The values of several handles, to be changed. `None` if one of them has none, or stands here twice.
+    /// The values of several handles, to be changed. `None` if one of them has none, or stands here
+    /// twice.
     ///
     /// ```
     /// use forgeni::{Handle, HandleMap};
@@ -117,24 +253,88 @@ impl<T> HandleMap<T> {
     }
 }
 
+impl<'a, T> IntoIterator for &'a mut HandleMap<T> {
+    type Item = (Handle, &'a mut T);
+    type IntoIter = IterMut<'a, T>;
+
+    #[inline]
+    fn into_iter(self) -> IterMut<'a, T> {
+        self.iter_mut()
+    }
+}
+
 impl<T> SparseMap<T> {
+    /// A map without values and without a limit, with room for that many values. It takes no memory
+    /// for none.
+    ///
+    /// # Errors
+    ///
+    /// Out of memory.
+    pub fn with_capacity(values: usize) -> Result<Self, OutOfMemory> {
+        let mut map = Self::new();
+        map.entries.try_reserve_exact(values)?;
+        Ok(map)
+    }
+
+    /// Makes room for that many more values. A value of a slot that has none yet also takes four
+    /// bytes for each slot up to its own.
+    ///
+    /// # Errors
+    ///
+    /// Out of memory.
+    pub fn reserve(&mut self, additional: usize) -> Result<(), OutOfMemory> {
+        Ok(self.entries.try_reserve(additional)?)
+    }
+
+    /// Makes room for all that another map has, so that [`try_clone_from`](Self::try_clone_from)
+    /// takes no memory for it.
+    ///
+    /// # Errors
+    ///
+    /// Out of memory.
+    pub fn reserve_for(&mut self, source: &Self) -> Result<(), OutOfMemory> {
+        self.reserve(source.len().saturating_sub(self.len()))?;
+        let slots = source.positions.len().saturating_sub(self.positions.len());
+        Ok(self.positions.try_reserve(slots)?)
+    }
+
+    /// The handles and their values, by rising slot. The time is that of a look at each slot.
+    pub(crate) fn by_slot(&self) -> impl Iterator<Item = (Handle, &T)> {
+        let slots = self.positions.iter().zip(0..);
+        slots.filter_map(|(at, slot)| {
+            let (one, it) = self.entries.get(*at as usize)?;
+            (one.index() == slot).then_some((*one, it))
+        })
+    }
+
     /// The handles and their values, in the order of [`entries`](Self::entries), to be changed.
     pub fn iter_mut(&mut self) -> impl DoubleEndedIterator<Item = (Handle, &mut T)> {
         self.entries.iter_mut().map(|(one, it)| (*one, it))
     }
 
-    /// Moves all values out, in the order of [`entries`](Self::entries). Those that the iterator doesn't come to
-    /// are dropped with it. The map has no values, and its room stays.
+    /// Moves all values out, in the order of [`entries`](Self::entries). Those that the iterator
+    /// doesn't come to are dropped with it. The map has no values, and its room stays.
     pub fn drain(&mut self) -> impl DoubleEndedIterator<Item = (Handle, T)> {
         self.entries.drain(..)
     }
 
-    /// The values of several handles, to be changed. `None` if one of them has none, or stands here twice.
+    /// The values of several handles, to be changed. `None` if one of them has none, or stands here
+    /// twice.
     pub fn get_disjoint_mut<const N: usize>(&mut self, all: [Handle; N]) -> Option<[&mut T; N]> {
         let known = all.iter().all(|one| self.contains(*one));
         let slots = known.then_some(all)?.map(|one| one.index() as usize);
         let entries = slots.map(|slot| self.positions[slot] as usize);
         let entries = self.entries.get_disjoint_mut(entries).ok()?;
         Some(entries.map(|(_, it)| it))
+    }
+}
+
+impl<'a, T> IntoIterator for &'a mut SparseMap<T> {
+    type Item = (Handle, &'a mut T);
+    type IntoIter = Map<slice::IterMut<'a, (Handle, T)>, fn(&'a mut (Handle, T)) -> Self::Item>;
+
+    #[inline]
+    fn into_iter(self) -> Self::IntoIter {
+        self.entries.iter_mut().map(|(one, it)| (*one, it))
     }
 }

@@ -24,7 +24,7 @@ impl fmt::Debug for Report {
 /// brackets.
 macro_rules! shows {
     ($($name:ident $(<$life:lifetime>)? $([$of:ident])?: $($call:ident)*;)*) => {$(
-        impl $(<$of>)? core::fmt::Debug for $name $(<$life>)? $(<$of>)? {
+        impl $(<$of>)? core::fmt::Debug for $name<$($life,)? $($of)?> {
             fn fmt(&self, out: &mut core::fmt::Formatter<'_>) -> core::fmt::Result {
                 out.debug_struct(stringify!($name))
                     $(.field(stringify!($call), &self.$call()))*

@@ -2,14 +2,27 @@
 //! [`SparseMap`]; here are traits of std, and `handle_map` has those that both kinds of maps have.
 
 use crate::handle::Handle;
+use crate::shown::shows;
 use alloc::vec;
 
 pub use crate::proved::ent_storage::sparse_map::{Entry, OccupiedEntry, VacantEntry};
 pub use crate::proved::ent_storage::sparse_map::{Iter, SparseMap};
 
 impl<T> SparseMap<T> {
-    /// Calls `keep` on each value once, from the last entry to the first, and drops the values of which it
-    /// returns `false`. It may change those that stay. The room stays.
+    /// The handles that have a value, in the order of [`entries`](Self::entries).
+    #[inline]
+    pub fn keys(&self) -> impl DoubleEndedIterator<Item = Handle> + ExactSizeIterator + Clone {
+        self.entries().iter().map(|(one, _)| *one)
+    }
+
+    /// The values, in the order of [`entries`](Self::entries).
+    #[inline]
+    pub fn values(&self) -> impl DoubleEndedIterator<Item = &T> + ExactSizeIterator + Clone {
+        self.entries().iter().map(|(_, it)| it)
+    }
+
+    /// Calls `keep` on each value once, from the last entry to the first, and drops the values of
+    /// which it returns `false`. It may change those that stay. The room stays.
     ///
     /// ```
     /// use forgeni::{Entities, SparseMap};
@@ -29,8 +42,8 @@ impl<T> SparseMap<T> {
     ///
     /// # Panics
     ///
-    /// A panic of `keep` is handed on. The map then has the values that were kept, those that `keep`
-    /// wasn't called on, and the one on which it panicked, as far as `keep` had changed it.
+    /// A panic of `keep` is handed on. The map then has the values that were kept, those that
+    /// `keep` wasn't called on, and the one on which it panicked, as far as `keep` had changed it.
     #[inline]
     pub fn retain(&mut self, mut keep: impl FnMut(Handle, &mut T) -> bool) {
         // The last entry takes the place of one that goes. `keep` was called on it before.
@@ -52,4 +65,10 @@ impl<T> IntoIterator for SparseMap<T> {
     fn into_iter(self) -> vec::IntoIter<(Handle, T)> {
         self.into_entries().into_iter()
     }
+}
+
+shows! {
+    Entry<'_>[T]: handle;
+    OccupiedEntry<'_>[T]: handle;
+    VacantEntry<'_>[T]: handle;
 }

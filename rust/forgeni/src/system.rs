@@ -9,10 +9,10 @@ use alloc::sync::Arc;
 #[cfg(feature = "std")]
 use std::sync::{Mutex, PoisonError};
 
-pub use crate::proved::ent_block_runner::{BlockSystem, SystemInBlocks};
-pub use crate::proved::ent_log_runner::LogSystem;
+pub use crate::proved::ent_alloc::Source;
 pub use crate::proved::ent_queue::Commands as SystemCommands;
-pub use crate::proved::ent_runner::System;
+pub use crate::proved::ent_runner::{LogSystem, System};
+pub use crate::proved::ent_shared::Shared as SharedSource;
 
 /// Fills the log of one system, and reserves by a reserver that is lent to it. `C` is the caller's type of
 /// commands.
@@ -45,28 +45,29 @@ pub fn system<F: Fn(&View<'_>, &mut SystemCommands<'_>) -> Ran>(run: F) -> F {
     run
 }
 
-/// Closures are systems.
-macro_rules! closures {
-    ($([$($of:ident)?] $system:path: $($name:ident: $type:ty),*;)*) => {$(
-        impl<$($of,)? F: Fn($($type),*) -> Ran> $system for F {
-            fn run(&self, $($name: $type),*) -> Ran {
-                self($($name),*)
-            }
-        }
-    )*};
+/// Closures are systems, whatever the source of their handles.
+impl<S: Source, F> System<S> for F
+where
+    F: Fn(&View<'_>, &mut SystemCommands<'_, CommandQueue, S>) -> Ran,
+{
+    fn run(&self, view: &View<'_>, commands: &mut SystemCommands<'_, CommandQueue, S>) -> Ran {
+        self(view, commands)
+    }
 }
 
-closures! {
-    [] System: view: &View<'_>, commands: &mut SystemCommands<'_>;
-    [] SystemInBlocks: view: &View<'_>, commands: &mut CommandsInBlocks<'_>;
-    [C] LogSystem<C>: commands: &mut LogCommands<'_, C>;
-    [C] BlockSystem<C>: commands: &mut BlockCommands<'_, C>;
+impl<C, S: Source, F: Fn(&mut SystemCommands<'_, Log<C>, S>) -> Ran> LogSystem<C, S> for F {
+    fn run(&self, commands: &mut SystemCommands<'_, Log<C>, S>) -> Ran {
+        self(commands)
+    }
 }
 
 /// A system that changes what it borrows.
 #[cfg(feature = "std")]
-impl<C, F: FnMut(&mut LogCommands<'_, C>) -> Ran> LogSystem<C> for Mutex<F> {
-    fn run(&self, commands: &mut LogCommands<'_, C>) -> Ran {
+impl<C, S: Source, F> LogSystem<C, S> for Mutex<F>
+where
+    F: FnMut(&mut SystemCommands<'_, Log<C>, S>) -> Ran,
+{
+    fn run(&self, commands: &mut SystemCommands<'_, Log<C>, S>) -> Ran {
         self.lock().unwrap_or_else(PoisonError::into_inner)(commands)
     }
 }
@@ -74,8 +75,8 @@ impl<C, F: FnMut(&mut LogCommands<'_, C>) -> Ran> LogSystem<C> for Mutex<F> {
 /// Systems of several types go into one list behind these.
 macro_rules! systems_behind {
     ($([$($of:tt)*] $pointer:ty;)*) => {$(
-        impl $($of)* System for $pointer {
-            fn run(&self, view: &View<'_>, commands: &mut SystemCommands<'_>) -> Ran {
+        impl<S: Source, $($of)*> System<S> for $pointer {
+            fn run(&self, view: &View<'_>, commands: &mut SystemCommands<'_, CommandQueue, S>) -> Ran {
                 (**self).run(view, commands)
             }
         }
@@ -83,13 +84,13 @@ macro_rules! systems_behind {
 }
 
 systems_behind! {
-    [] &(dyn System + '_);
-    [] &(dyn System + Sync + '_);
-    [] &(dyn System + Send + Sync + '_);
-    [] Box<dyn System + '_>;
-    [] Box<dyn System + Sync + '_>;
-    [] Box<dyn System + Send + Sync + '_>;
-    [<S: System + ?Sized>] Arc<S>;
+    [] &(dyn System<S> + '_);
+    [] &(dyn System<S> + Sync + '_);
+    [] &(dyn System<S> + Send + Sync + '_);
+    [] Box<dyn System<S> + '_>;
+    [] Box<dyn System<S> + Sync + '_>;
+    [] Box<dyn System<S> + Send + Sync + '_>;
+    [T: System<S> + ?Sized] Arc<T>;
 }
 
 shows! {

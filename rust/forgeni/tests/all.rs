@@ -11,6 +11,7 @@ mod blocks;
 mod clones;
 mod entries;
 mod errors;
+mod follows;
 #[cfg(feature = "std")]
 mod frames;
 mod handle_map;
@@ -20,6 +21,7 @@ mod image;
 mod in_place;
 #[cfg(feature = "std")]
 mod joiners;
+mod joining;
 mod like_bevy;
 mod like_hecs;
 mod like_slotmap;

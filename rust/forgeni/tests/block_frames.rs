@@ -5,8 +5,8 @@ use crate::blocks::{close, dealt};
 use crate::common::{flushed, seeds, small, Model, Numbers};
 use forgeni::{
     fill_in_blocks, run_frame_in_blocks, run_in_blocks, Birth, BlockCommands, BlockReserver,
-    BlockSize, BlockSystem, Blocks, CommandsInBlocks, ComponentId, DealError, EndError, Entities,
-    Limits, SystemInBlocks, Unframed, View, World, WorldInBlocks,
+    BlockSize, Blocks, CommandsInBlocks, ComponentId, DealError, EndError, Entities, Limits,
+    LogSystem, System, Unframed, View, World, WorldInBlocks,
 };
 use forgeni::{
     Entry, Handle, HandleMap, Log, OutOfMemory, Refused, ReserveError, RunError, StdThreads,
@@ -29,7 +29,7 @@ enum Does {
     Panic,
 }
 
-impl BlockSystem<u32> for Does {
+impl LogSystem<u32, Blocks> for Does {
     fn run(&self, commands: &mut BlockCommands<'_, u32>) -> Result<(), OutOfMemory> {
         let spawn = |commands: &mut BlockCommands<'_, u32>| match commands.spawn() {
             Ok(_) => Ok(()),
@@ -369,7 +369,7 @@ enum Step {
 #[derive(Clone)]
 struct Script(Vec<Step>);
 
-impl SystemInBlocks for Script {
+impl System<Blocks> for Script {
     fn run(&self, view: &View<'_>, commands: &mut CommandsInBlocks<'_>) -> Result<(), OutOfMemory> {
         let living = view.by_birth()?;
         let at = |rank: usize| living.get(rank % living.len().max(1)).copied();

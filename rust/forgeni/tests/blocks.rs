@@ -294,6 +294,27 @@ fn a_refused_bulk_fits_the_next_block() {
     }
 }
 
+/// A size that was saved is the same again, and no block is larger than its limit.
+#[test]
+fn a_block_may_begin_with_a_size() {
+    for (size, limit, is) in [
+        (0, 5, 0),
+        (10, 20, 10),
+        (20, 20, 20),
+        (30, 20, 20),
+        (900, u32::MAX, 900),
+    ] {
+        let begun = BlockSize::with_size(size, limit);
+        assert_eq!((begun.size(), begun.limit()), (is, limit));
+    }
+    let mut adapted = BlockSize::new(1000);
+    adapted.adapt(150);
+    assert_eq!(
+        BlockSize::with_size(adapted.size(), adapted.limit()),
+        adapted
+    );
+}
+
 /// The largest refused request counts, whichever call made it, and none that failed otherwise.
 #[test]
 fn a_reserver_remembers_the_largest_refused_request() {

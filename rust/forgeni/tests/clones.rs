@@ -28,6 +28,12 @@ fn run(seed: u64, steps: u32) {
             2 => both[at].0 = Entities::read_image(&image(&both[at].0)).expect(&place),
             call => act(&mut both[at], call - 1, any, &mut numbers, &place),
         }
+        let [one, other] = [0, 1].map(|at| {
+            let mut model = both[at].1.clone();
+            model.live.sort_unstable();
+            model
+        });
+        assert_eq!(both[0].0 == both[1].0, one == other, "{place}");
         for (entities, model) in &both {
             assert_eq!(entities.state(any), model.state(any), "{place}");
             model.expect(entities, &place);

@@ -5,7 +5,7 @@
 use crate::common::{handle, seeds, Numbers};
 use forgeni::{
     run_frame, Birth, Commands, ComponentId, FaultKind, FrameError, Handle, Limits, OutOfMemory,
-    Report, ReserveError, System, SystemCommands, View, World,
+    Report, ReserveError, SharedSource, System, SystemCommands, View, World,
 };
 use std::sync::atomic::{AtomicUsize, Ordering};
 use std::sync::Barrier;
@@ -111,7 +111,7 @@ fn run_steps(steps: &[Step], living: &Living, commands: &mut impl Issues) {
 
 struct Script(Vec<Step>);
 
-impl System for Script {
+impl System<SharedSource> for Script {
     fn run(&self, view: &View<'_>, commands: &mut SystemCommands<'_>) -> Result<(), OutOfMemory> {
         let all = view.by_birth()?;
         let age = |one| (one, view.get(one, AGE).expect("it has one"));
@@ -259,7 +259,7 @@ fn two_spawns(world: &mut World, workers: usize) -> Report {
         }
         spawned.map_or_else(ReserveError::or_memory, |_| Ok(()))
     };
-    let systems: [&(dyn System + Sync); 2] = [&first, &second];
+    let systems: [&(dyn System<SharedSource> + Sync); 2] = [&first, &second];
     run_frame(world, &systems, workers).expect("memory")
 }
 
@@ -361,9 +361,10 @@ fn systems_of_several_types() {
     }
     let script = Script(vec![Step::Age]);
     let mut world = World::new();
-    let systems: [&(dyn System + Sync); 2] = [&launch, &script];
+    let systems: [&(dyn System<SharedSource> + Sync); 2] = [&launch, &script];
     run_frame(&mut world, &systems, 2).expect("memory");
-    let boxed: Vec<Box<dyn System + Send + Sync>> = vec![Box::new(launch), Box::new(script)];
+    let boxed: Vec<Box<dyn System<SharedSource> + Send + Sync>> =
+        vec![Box::new(launch), Box::new(script)];
     run_frame(&mut world, &boxed, 2).expect("memory");
     let ages = world.by_birth().expect("memory");
     let ages: Vec<_> = ages.into_iter().map(|one| world.get(one, AGE)).collect();
@@ -384,9 +385,9 @@ fn systems_that_lack_memory() {
     };
     let mut world = World::new();
     lost(run_frame(&mut world, &[lacks], 1));
-    let lent: &(dyn System + Sync) = &lacks;
+    let lent: &(dyn System<SharedSource> + Sync) = &lacks;
     lost(run_frame(&mut world, &[lent], 1));
-    let boxed: Box<dyn System + Send + Sync> = Box::new(lacks);
+    let boxed: Box<dyn System<SharedSource> + Send + Sync> = Box::new(lacks);
     lost(run_frame(&mut world, &[boxed], 1));
     assert_eq!((world.frame(), world.len()), (0, 0));
 }

@@ -2,7 +2,7 @@
 //! dropped exactly once. `FORGENI_SEEDS` sets how many seeds are run, `FORGENI_SEED` runs one alone.
 
 use crate::common::{handle, seeds, Numbers};
-use forgeni::{HandedBack, Handle, HandleMap, InsertError, SparseMap};
+use forgeni::{HandedBack, Handle, HandleMap, InsertError};
 use std::cell::Cell;
 use std::collections::{HashMap, HashSet, VecDeque};
 use std::fmt::Debug;
@@ -429,38 +429,6 @@ fn a_value_that_is_made_only_if_there_is_none() {
     let mut refused = |one| map.get_or_insert_with(one, || 3).map(|it| *it).unwrap_err();
     assert_eq!(refused(handle(5, 1)).into_parts(), (3, InsertError::Limit));
     assert_eq!(refused(handle(4, 1)).into_parts(), (3, InsertError::Later));
-}
-
-/// The handles that have values in two maps, of either kind.
-#[test]
-fn two_maps_at_once() {
-    seeds(500, |seed| {
-        let mut numbers = Numbers::of(seed);
-        let mut some = |count: u64| -> Vec<(Handle, u64)> {
-            let one = |number| {
-                (
-                    handle(numbers.below(9) as u32, 1 + numbers.below(2) as u32),
-                    number,
-                )
-            };
-            (0..count).map(one).collect()
-        };
-        let first: HandleMap<u64> = some(7).into_iter().collect();
-        let second: HandleMap<u64> = some(7).into_iter().collect();
-        let rare: SparseMap<u64> = first.clone().into_iter().collect();
-        let wanted: Vec<(Handle, u64, u64)> = first
-            .iter()
-            .filter_map(|(one, it)| Some((one, *it, second.get(one).copied()?)))
-            .collect();
-        let told = first.join(&second).map(|(one, a, b)| (one, *a, *b));
-        assert!(told.eq(wanted.iter().copied()), "seed {seed}");
-        let mut told: Vec<_> = rare
-            .join(&second)
-            .map(|(one, a, b)| (one, *a, *b))
-            .collect();
-        told.sort_unstable();
-        assert_eq!(told, wanted, "seed {seed}");
-    });
 }
 
 /// No map takes the placeholder, and a map with a limit takes no handle of a slot at or above it. Neither refusal

@@ -5,6 +5,7 @@ use std::cmp::Ordering;
 use std::collections::{BTreeSet, HashSet};
 use std::hash::{Hash, Hasher};
 use std::mem::{align_of, size_of};
+use std::num::NonZeroU64;
 
 fn handle(index: u32, generation: u32) -> Handle {
     Handle::new(index, generation).expect("a handle")
@@ -26,6 +27,22 @@ fn it_is_one_word() {
     );
     assert_eq!(size_of::<Option<Handle>>(), 8);
     assert_eq!(size_of::<[Option<Handle>; 100]>(), 800);
+}
+
+#[test]
+fn it_is_its_bits() {
+    for one in edges() {
+        let bits = (u64::from(one.generation()) << 32) + u64::from(one.index());
+        let nonzero = NonZeroU64::new(bits).expect("a generation");
+        assert_eq!((u64::from(one), NonZeroU64::from(one)), (bits, nonzero));
+        assert_eq!((bits.try_into(), nonzero.try_into()), (Ok(one), Ok(one)));
+    }
+    let none = [0, u64::from(u32::MAX), (1 << 33) - 1, 1 << 63, u64::MAX];
+    for bits in none {
+        assert_eq!(Handle::try_from(bits), Err(ParseHandleError::Range));
+        let nonzero = NonZeroU64::new(bits).map(Handle::try_from);
+        assert!(nonzero.is_none_or(|it| it == Err(ParseHandleError::Range)));
+    }
 }
 
 /// Handles can be constants, and patterns.

@@ -5,7 +5,8 @@
 use crate::common::{flushed, seeds, Numbers};
 use forgeni::{run_frame_on, run_logs_on, run_to_sync_point, Entities, Handle, Join, Log};
 use forgeni::{
-    ComponentId, FrameError, LogCommands, LogError, OutOfMemory, ShareError, StdThreads,
+    ComponentId, FrameError, LogCommands, LogError, OutOfMemory, ShareError, SharedSource,
+    StdThreads,
 };
 use forgeni::{SyncPoint, SystemCommands, View, World};
 use std::collections::HashSet;
@@ -62,7 +63,7 @@ impl System {
     }
 }
 
-impl forgeni::LogSystem<Loud> for System {
+impl forgeni::LogSystem<Loud, SharedSource> for System {
     fn run(&self, commands: &mut LogCommands<'_, Loud>) -> Result<(), OutOfMemory> {
         for _ in 0..self.spawns {
             commands.spawn().expect("a handle");
@@ -72,7 +73,7 @@ impl forgeni::LogSystem<Loud> for System {
     }
 }
 
-impl forgeni::System for System {
+impl forgeni::System<SharedSource> for System {
     fn run(&self, _: &View<'_>, commands: &mut SystemCommands<'_>) -> Result<(), OutOfMemory> {
         for _ in 0..self.spawns {
             commands

@@ -2,7 +2,9 @@
 
 use crate::common::{flushed, small};
 use forgeni::{run_logs, run_logs_on, run_to_sync_point, Entities, Entry, Handle, HandleMap, Join};
-use forgeni::{Log, LogCommands, LogError, LogSystem, OutOfMemory, StdThreads, SyncPoint};
+use forgeni::{
+    Log, LogCommands, LogError, LogSystem, OutOfMemory, SharedSource, StdThreads, SyncPoint,
+};
 use std::convert::Infallible;
 use std::panic::{catch_unwind, resume_unwind, AssertUnwindSafe};
 use std::sync::{Barrier, Mutex};
@@ -22,7 +24,7 @@ enum Does {
 
 struct Numbered(usize, Does);
 
-impl LogSystem<(Handle, usize)> for Numbered {
+impl LogSystem<(Handle, usize), SharedSource> for Numbered {
     fn run(&self, commands: &mut LogCommands<'_, (Handle, usize)>) -> Result<(), OutOfMemory> {
         let (Does::Spawn(count) | Does::Panic(count, _)) = self.1 else {
             commands.spawn().expect("a handle");

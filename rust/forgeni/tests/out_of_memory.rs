@@ -13,10 +13,10 @@ use forgeni::trace::{Call, CheckError, Checker, FreeReply, Log, Reservation};
 #[cfg(feature = "std")]
 use forgeni::{run_to_sync_point, LogCommands, LogError, StdThreads};
 use forgeni::{
-    AllocError, BeginError, Birth, CommandQueue, Commands, ComponentId, Entities, Entry, Fault,
-    FreeError, GoOnError, Handle, HandleMap, ImageFault, InsertError, Limits, OpenWorld,
-    OutOfMemory, Queues, Report, ReserveError, ShareError, SparseMap, State, Stop, Storage,
-    StorageError, SyncError, SyncPoint, World, WorldImageFault,
+    tables, AllocError, BeginError, Birth, CommandQueue, Commands, ComponentId, Entities, Entry,
+    Fault, Follows, FreeError, GoOnError, Handle, HandleMap, ImageFault, InsertError, JoinMaps,
+    Limits, OpenWorld, OutOfMemory, Queues, Report, ReserveError, ShareError, SparseMap, State,
+    Stop, Storage, StorageError, SyncError, SyncPoint, World, WorldImageFault,
 };
 use refusing::{asked, held, most_held, refusing, Refusal};
 use std::rc::Rc;
@@ -917,6 +917,95 @@ fn clones_of_a_map() {
     assert_eq!(unasked, 0);
     assert!(has_numbers(&target, 0, 3) && has_numbers(&clone, 0, 3));
     assert_eq!((target.slots(), target.capacity()), (0, room));
+}
+
+tables! {
+    #[derive(Debug, PartialEq)]
+    struct Parts {
+        place: HandleMap<u64>,
+        speed: HandleMap<u64>,
+        name: SparseMap<u64>,
+    }
+}
+
+/// Whichever map of a struct gets no memory, all are as they were. With room for the source none is
+/// asked for, nor by what drops values.
+#[test]
+fn clones_of_structs_of_maps() {
+    let one = handle(7, 3);
+    let parts = |count| Parts {
+        place: numbers(count),
+        speed: numbers(count),
+        name: numbers(count).into_iter().collect(),
+    };
+    for count in [10, 3_000] {
+        let source = parts(count);
+        each_in_turn(|refusal| {
+            let (clone, refused) = insist(refusal, OutOfMemory, || source.try_clone());
+            assert_eq!(clone, source);
+            refused
+        });
+        each_in_turn(|refusal| {
+            let (mut target, before) = (parts(5), parts(5));
+            let (cloned, refused) = refusing(refusal, || target.try_clone_from(&source));
+            if cloned.is_err() {
+                assert!(refused > 0);
+                assert_eq!(target, before);
+                target.try_clone_from(&source).expect("memory");
+            }
+            assert_eq!(target, source);
+            let (done, unasked) = refusing(Refusal::All { after: 0 }, || {
+                target.forget(one);
+                target.sweep(&Entities::new());
+                assert!(target.lens().iter().all(|(_, len)| *len == 0));
+                target.try_clone_from(&source)?;
+                target.clear();
+                target.try_clone_from(&source)
+            });
+            assert_eq!((done, unasked), (Ok(()), 0));
+            assert_eq!(target, source);
+            refused
+        });
+    }
+}
+
+/// A walk that gets no memory for a list goes over its first map, and comes to the same. It needs none
+/// if the first map has the fewest values.
+#[test]
+fn walks_over_maps() {
+    each_in_turn(|refusal| {
+        let (mut places, speeds) = (numbers(3_000), numbers(100));
+        let rare: SparseMap<u64> = numbers(200).into_iter().skip(50).collect();
+        let wanted: u64 = (50..100).map(|it| it + 2 * it).sum();
+        let walk = || -> u64 {
+            let walk = (&mut places, &speeds, &rare).join();
+            walk.map(|(_, a, b, c)| *a + b + c).sum()
+        };
+        let (sum, refused) = refusing(refusal, walk);
+        assert_eq!(sum, wanted);
+        let few = || (&speeds, &places, &rare).join().count();
+        let (count, unasked) = refusing(Refusal::All { after: 0 }, few);
+        assert_eq!((count, unasked), (50, 0));
+        refused
+    });
+}
+
+/// Room for a sparse map, or for all that another one has.
+#[test]
+fn room_for_a_sparse_map() {
+    let source: SparseMap<u64> = numbers(3_000).into_iter().collect();
+    each_in_turn(|refusal| {
+        let with_capacity = || SparseMap::<u64>::with_capacity(1_000);
+        let (mut map, refused) = insist(refusal, OutOfMemory, with_capacity);
+        assert_eq!((map.capacity(), map.slots()), (1_000, 0));
+        let (_, also) = insist(refusal, OutOfMemory, || map.try_reserve(2_000));
+        assert!(map.capacity() >= 2_000 && map.is_empty());
+        let (_, last) = insist(refusal, OutOfMemory, || map.reserve_for(&source));
+        let all = Refusal::All { after: 0 };
+        assert_eq!(refusing(all, || map.try_clone_from(&source)), (Ok(()), 0));
+        assert!(map == source);
+        refused + also + last
+    });
 }
 
 /// A storage of the first slots. An entity has a component in two of three slots.

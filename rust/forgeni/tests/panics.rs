@@ -19,7 +19,9 @@ fn one() -> World {
 #[cfg(feature = "std")]
 mod frames {
     use super::*;
-    use forgeni::{run_frame, Birth, FrameError, OutOfMemory, System, SystemCommands, View};
+    use forgeni::{
+        run_frame, Birth, FrameError, OutOfMemory, SharedSource, System, SystemCommands, View,
+    };
     use std::panic::panic_any;
 
     /// What a system does.
@@ -35,7 +37,7 @@ mod frames {
         Memory,
     }
 
-    impl System for Does {
+    impl System<SharedSource> for Does {
         fn run(
             &self,
             view: &View<'_>,

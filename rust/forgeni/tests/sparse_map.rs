@@ -2,10 +2,11 @@
 //! how many seeds are run, `FORGENI_SEED` runs one alone.
 
 use crate::common::{handle, seeds, Numbers};
-use forgeni::{Handle, HandleMap, InsertError, SparseMap};
+use forgeni::{AnyMap, Follows, Handle, HandleMap, InsertError, SparseMap};
 use std::cell::Cell;
 use std::collections::BTreeMap;
 use std::fmt::Debug;
+use std::hash::{DefaultHasher, Hash, Hasher};
 use std::panic::{catch_unwind, resume_unwind, AssertUnwindSafe};
 use std::rc::Rc;
 
@@ -209,6 +210,110 @@ fn limits() {
     let mut target: SparseMap<u8> = [(handle(7, 1), 6)].into_iter().collect();
     target.clone_from(&map);
     assert_eq!((target == map, target.limit()), (true, 2));
+}
+
+/// What one map has, in another order and in the other kind of map.
+#[test]
+fn both_kinds_have_the_same_calls() {
+    fn hash(map: &impl Hash) -> u64 {
+        let mut state = DefaultHasher::new();
+        map.hash(&mut state);
+        state.finish()
+    }
+
+    /// Calls that both kinds have, by the trait. The values are those of slots 1 and 7.
+    fn expect<M: AnyMap<Value = u32> + Hash>(mut map: M) -> u64 {
+        let [one, other] = [handle(1, 1), handle(7, 2)];
+        let hashed = hash(&map);
+        assert_eq!(
+            (map.len(), map.is_empty(), map[one], map[other]),
+            (2, false, 10, 70)
+        );
+        assert_eq!((map.get(handle(7, 1)), map.contains(other)), (None, true));
+        let refused = map
+            .insert(handle(7, 1), 5)
+            .expect_err("a later one has a value");
+        assert_eq!(refused.into_parts(), (5, InsertError::Later));
+        assert_eq!(map.insert(one, 11).expect("memory"), Some(10));
+        assert_ne!(hash(&map), hashed);
+        map[one] += 1;
+        map.iter_mut().for_each(|(_, it)| *it += 1);
+        *map.get_mut(other).expect("a value") += 1;
+        assert_eq!(map.iter().map(|(_, it)| *it).sum::<u32>(), 13 + 72);
+        map.retain(|_, it| *it > 70);
+        assert_eq!(
+            (map.len(), map.remove(other), map.remove(other)),
+            (1, Some(72), None)
+        );
+        map.extend([(one, 1), (other, 2)]);
+        Follows::forget(&mut map, one);
+        assert_eq!((map.get(one), map.get(other)), (None, Some(&2)));
+        map.clear();
+        assert_eq!(
+            (map.into_iter().count(), hash(&M::default())),
+            (0, hash(&M::default()))
+        );
+        hashed
+    }
+
+    let entries = [(handle(7, 2), 70), (handle(1, 1), 10)];
+    let (mut map, mut sparse) = (HandleMap::from(entries), SparseMap::from(entries));
+    assert!(sparse.keys().eq([handle(7, 2), handle(1, 1)]) && sparse.keys().len() == 2);
+    assert!(sparse.values().rev().eq(&[10, 70]));
+    for (_, it) in &mut sparse {
+        *it += 1;
+    }
+    for (_, it) in &mut map {
+        *it += 1;
+    }
+    assert!(sparse.values_mut().eq(&mut [71, 11]) && map.values_mut().eq(&mut [11, 71]));
+    sparse.for_each_mut(|_, it| *it -= 1);
+    map.for_each_mut(|_, it| *it -= 1);
+    assert!(map.try_reserve(100).is_ok() && map.capacity() >= 108);
+    assert!(sparse.try_reserve(100).is_ok() && sparse.capacity() >= 102);
+    assert!(sparse.try_reserve(usize::MAX / 8).is_err());
+    assert!(SparseMap::<u8>::with_capacity(usize::MAX / 4).is_err());
+
+    let mut roomy = SparseMap::with_capacity(2).expect("memory");
+    assert_eq!(
+        (roomy.len(), roomy.slots(), roomy.limit()),
+        (0, 0, u32::MAX)
+    );
+    roomy.extend([entries[1], entries[0]]);
+    assert_eq!(roomy.capacity(), 2);
+    // The order of the values counts neither for `==` nor for the hash.
+    assert_eq!((&roomy, hash(&roomy)), (&sparse, hash(&sparse)));
+    assert_eq!(expect(map), expect(sparse));
+}
+
+/// A panic names the line that looked.
+#[test]
+#[cfg(feature = "std")]
+fn where_an_index_panics() {
+    let (mut map, mut sparse) = (HandleMap::<u8>::new(), SparseMap::<u8>::new());
+    let lines = std::sync::Arc::new(std::sync::Mutex::new(vec![]));
+    let (before, seen) = (std::panic::take_hook(), lines.clone());
+    let this = std::thread::current().id();
+    std::panic::set_hook(Box::new(move |panic| {
+        if std::thread::current().id() == this {
+            let place = panic.location().expect("a place");
+            seen.lock()
+                .expect("no panic")
+                .push((place.file().to_owned(), place.line()));
+        } else {
+            before(panic);
+        }
+    }));
+    let first = line!() + 1;
+    let _ = catch_unwind(AssertUnwindSafe(|| map[handle(0, 1)]));
+    let _ = catch_unwind(AssertUnwindSafe(|| map[handle(0, 1)] = 1));
+    let _ = catch_unwind(AssertUnwindSafe(|| sparse[handle(0, 1)]));
+    let _ = catch_unwind(AssertUnwindSafe(|| sparse[handle(0, 1)] = 1));
+    drop(std::panic::take_hook());
+    let told = lines.lock().expect("no panic").clone();
+    assert!(told
+        .into_iter()
+        .eq((first..first + 4).map(|line| (file!().to_owned(), line))));
 }
 
 /// More slots than a request of memory may have at once, in each order.

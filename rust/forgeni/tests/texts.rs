@@ -4,10 +4,10 @@ use crate::common::{handle, small};
 use forgeni::trace::{AllocReply, Call, CheckError, Checker, Difference, FlushReply, FreeReply};
 use forgeni::trace::{Log, Recorder, Reservation, ReserveReply};
 use forgeni::{
-    Absent, AllocError, Birth, CloseError, Commands, ComponentId, Entities, Fault, FaultKind,
-    FreeError, Freed, Handle, HandleMap, InsertError, Limits, OtherPhase, OutOfMemory,
-    ParseHandleError, Refused, ReserveError, ShareError, State, Stop, Storage, StorageError,
-    SyncError, World,
+    handle_map, sparse_map, Absent, AllocError, Birth, CloseError, Commands, ComponentId, Entities,
+    Fault, FaultKind, FreeError, Freed, Handle, HandleMap, InsertError, Limits, OtherPhase,
+    OutOfMemory, ParseHandleError, Refused, ReserveError, ShareError, SparseMap, State, Stop,
+    Storage, StorageError, SyncError, World,
 };
 use std::fmt::{Debug, Display};
 
@@ -102,6 +102,37 @@ fn errors_of_components_and_worlds() {
         "a later occupant of the slot has a value",
     )]);
     debugs([(&refused as &dyn Debug, "Later")]);
+}
+
+#[test]
+fn what_a_map_lends() {
+    let (one, other) = (handle(3, 2), handle(4, 1));
+    let (mut map, mut sparse) = (HandleMap::from([(one, 1)]), SparseMap::from([(one, 1)]));
+    let entry = "Entry { handle: 3v2, .. }";
+    debugs([
+        (&map.entry(one) as &dyn Debug, entry),
+        (&sparse.entry(one), entry),
+    ]);
+    for (text, one) in [("Occupied", one), ("Vacant", other)] {
+        let text = format!("{text}Entry {{ handle: {one}, .. }}");
+        let told = match map.entry(one) {
+            handle_map::Entry::Occupied(it) => format!("{it:?}"),
+            handle_map::Entry::Vacant(it) => format!("{it:?}"),
+        };
+        assert_eq!(told, text);
+        let told = match sparse.entry(one) {
+            sparse_map::Entry::Occupied(it) => format!("{it:?}"),
+            sparse_map::Entry::Vacant(it) => format!("{it:?}"),
+        };
+        assert_eq!(told, text);
+    }
+    debugs([(&map.iter_mut() as &dyn Debug, "IterMut { .. }")]);
+    let (low, high) = map.split_at_mut(1);
+    let slots = "SlotsMut { slots: 1..4, .. }";
+    debugs([
+        (&low as &dyn Debug, "SlotsMut { slots: 0..1, .. }"),
+        (&high, slots),
+    ]);
 }
 
 /// An error that hands something back says what the plain error says.

@@ -1,7 +1,9 @@
 //! What a frame of eight empty systems costs on rayon, beside the same eight closures by `rayon::scope` and
-//! by a loop: medians in microseconds.
+//! by a loop: medians in microseconds. And how long a walk over a map takes on one thread and on four.
 
-use forgeni::{run_frame, run_frame_on, Rayon, SystemCommands, View, World};
+use forgeni::{run_frame, run_frame_on, Handle, HandleMap, Rayon, SystemCommands, View, World};
+use rayon::iter::{IntoParallelRefMutIterator, ParallelIterator};
+use rayon::ThreadPoolBuilder;
 use std::hint::black_box;
 use std::time::{Duration, Instant};
 
@@ -12,6 +14,23 @@ fn took(work: impl FnOnce()) -> Duration {
     let start = Instant::now();
     work();
     start.elapsed()
+}
+
+/// A walk over a million values, each of which takes some steps to compute.
+fn walk(threads: usize) {
+    let pool = ThreadPoolBuilder::new().num_threads(threads).build();
+    let pool = pool.expect("threads");
+    let handle = |index| Handle::new(index, 1).expect("a handle");
+    let mut map: HandleMap<u64> = (0..1_000_000).map(|it| (handle(it), 1)).collect();
+    let change = |it: &mut u64| (0..50).for_each(|_| *it = it.wrapping_mul(*it | 5).rotate_left(7));
+    let mut times: Vec<Duration> = (0..21)
+        .map(|_| took(|| pool.install(|| map.par_iter_mut().for_each(|(_, it)| change(it)))))
+        .collect();
+    times.sort();
+    println!(
+        "par_iter_mut on {threads} threads: {:.0} µs",
+        times[10].as_nanos() as f64 / 1e3
+    );
 }
 
 fn main() {
@@ -46,4 +65,5 @@ fn main() {
             times[ROUNDS / 2].as_nanos() as f64 / 1000.0
         );
     }
+    [1, 2, 4].into_iter().for_each(walk);
 }

@@ -7,6 +7,7 @@ use crate::cases::writing::Out;
 use ent_handle::{ComponentId, Handle, Memory};
 use ent_queue::{Bundle, Commands};
 use ent_runner::System;
+use ent_shared::Shared;
 use ent_world::View;
 use std::alloc::Global;
 
@@ -19,7 +20,7 @@ pub struct Listed {
     pub calls: String,
 }
 
-impl System for Listed {
+impl System<Shared> for Listed {
     ghost may_issue = { λ system view queue. Unit {0} };
 
     #[tactic(auto, using(ent_queue::proofs::Extending::extends_nothing, ent_queue::proofs::Extending::extends_then))]

@@ -4,8 +4,9 @@ use anyhow::Result;
 use ent_alloc::{Entities, Limits};
 use ent_handle::Memory;
 use ent_log::{Entry, Log, SyncPoint};
-use ent_log_runner::{LogSystem, run_logs};
 use ent_queue::Commands;
+use ent_runner::{LogSystem, run_logs};
+use ent_shared::Shared;
 use std::alloc::Global;
 use std::sync::atomic::{AtomicU32, Ordering};
 use std::thread;
@@ -39,7 +40,7 @@ impl Sow<'_> {
     }
 }
 
-impl LogSystem<Met> for Sow<'_> {
+impl LogSystem<Met, Shared> for Sow<'_> {
     ghost may_log = { λ _ _. Unit {0} };
 
     #[tactic(auto, using(ent_queue::proofs::Extending::log_extends_then))]

@@ -4,6 +4,7 @@ ghost use Rattle.std.specs.Prelude.{◌≤◌, length};
 use ent_handle::{ComponentId, Memory};
 use ent_queue::{Bundle, Commands};
 use ent_runner::System;
+use ent_shared::Shared;
 use ent_world::View;
 use std::alloc::Global;
 
@@ -14,7 +15,7 @@ pub const AGE: ComponentId = ComponentId(0);
 #[derive(Clone, Copy)]
 pub struct Sow;
 
-impl System for Sow {
+impl System<Shared> for Sow {
     ghost may_issue = { λ _ _ _. Unit {0} };
 
     fn run(
@@ -34,7 +35,7 @@ impl System for Sow {
 #[derive(Clone, Copy)]
 pub struct Grow;
 
-impl System for Grow {
+impl System<Shared> for Grow {
     ghost may_issue = { λ _ _ _. Unit {0} };
 
     #[tactic(auto, using(ent_queue::proofs::Extending::extends_then))]
@@ -60,7 +61,7 @@ pub struct Reap {
     pub ripe: i64,
 }
 
-impl System for Reap {
+impl System<Shared> for Reap {
     ghost may_issue = { λ _ _ queue. length queue ≤ 1 };
 
     fn run(

@@ -1,7 +1,7 @@
-//! A call of `replay` or `run` on devices in memory, and what it must write.
+//! A task on devices in memory, and what it must write.
 use super::memory::{MemorySink, NEVER};
 use super::source::MemorySource;
-use spawnrun_lib::{Sink, Source, Status, Task, command_line, replay, run, run_in_blocks};
+use spawnrun_lib::{Sink, Source, Status, Task, command_line, do_task};
 use std::alloc::Global;
 use std::process::Abort;
 use std::thread::Threads;
@@ -29,40 +29,10 @@ where
     let Ok(task) = command_line(alloc, words) else {
         panic!(rt; "words that are taken")
     };
-    let status = match task {
-        Task::Replay(limits) => replay(alloc, input, output, &mut errors, &mut (), limits),
-        Task::Run { workers, show } => {
-            assert!(rt; 1 <= workers && workers <= 64);
-            run(
-                rt,
-                alloc,
-                input,
-                output,
-                &mut errors,
-                &mut (),
-                workers,
-                show,
-            )
-        }
-        Task::RunInBlocks {
-            size,
-            workers,
-            show,
-        } => {
-            assert!(rt; 1 <= workers && workers <= 64);
-            run_in_blocks(
-                rt,
-                alloc,
-                input,
-                output,
-                &mut errors,
-                &mut (),
-                size,
-                workers,
-                show,
-            )
-        }
-    };
+    if let Task::Run { workers, .. } | Task::RunInBlocks { workers, .. } = task {
+        assert!(rt; 1 <= workers && workers <= 64);
+    }
+    let status = do_task(rt, alloc, task, input, output, &mut errors, &mut ());
     assert!(rt; errors.bytes.is_empty() == (status != Status::Refused));
     status
 }

@@ -1,7 +1,7 @@
 //! Frames of systems that compute, on some workers, beside threads of plain Rust.
 
 use crate::{counted, median, timed, Places, Run};
-use forgeni::{run_frame, OutOfMemory, System, SystemCommands, View, World};
+use forgeni::{run_frame, OutOfMemory, SharedSource, System, SystemCommands, View, World};
 use std::hint::black_box;
 use std::sync::atomic::{AtomicUsize, Ordering};
 use std::thread;
@@ -18,7 +18,7 @@ const STEPS: u64 = 50_000;
 /// A system that computes, and asks nothing of the world.
 struct Computes(u64);
 
-impl System for Computes {
+impl System<SharedSource> for Computes {
     fn run(&self, _: &View<'_>, _: &mut SystemCommands<'_>) -> Result<(), OutOfMemory> {
         black_box(computed(self.0));
         Ok(())

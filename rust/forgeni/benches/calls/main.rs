@@ -26,6 +26,7 @@ mod refusing;
 mod slots;
 mod sync;
 mod threads;
+mod walks;
 
 use std::hint::black_box;
 use std::time::Instant;
@@ -110,6 +111,10 @@ fn main() {
     let is_named = |name: &str| named.iter().any(|it| it == name);
     if is_named("layouts") {
         layouts::table();
+        println!();
+    }
+    if wanted("walks") {
+        walks::table();
         println!();
     }
     if wanted("logs") {

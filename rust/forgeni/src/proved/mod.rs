@@ -15,11 +15,9 @@ pub mod cli;
 #[cfg(feature = "programs")]
 pub mod devices;
 pub mod ent_alloc;
-pub mod ent_block_runner;
 pub mod ent_blocks;
 pub mod ent_handle;
 pub mod ent_log;
-pub mod ent_log_runner;
 pub mod ent_queue;
 pub mod ent_replay;
 pub mod ent_runner;

@@ -3,10 +3,10 @@
 
 use crate::component::{Birth, ComponentId};
 use crate::proved::ent_alloc::Limits;
+use crate::BlockSize;
 use serde::de::{Deserialize, Deserializer, Error};
 use serde::ser::{Serialize, Serializer};
 
-/// As its number.
 /// A type that is written as some numbers, and made of them again. `D` is the type of what reads them.
 macro_rules! is_its_numbers {
     ($name:ident, $doc:literal: $own:ident => $numbers:expr, $read:pat => $made:expr) => {
@@ -36,4 +36,12 @@ self => (self.slots(), self.generations()), (slots, generations) => {
     // It is an error if there are no such limits.
     let text = format_args!("no allocator has {slots} slots of {generations} generations");
     Self::new(slots, generations).ok_or_else(|| D::Error::custom(text))
+});
+is_its_numbers!(BlockSize, "its size and its limit.":
+self => (self.size(), self.limit()), (size, limit) => {
+    // The number of handles after which the size is this one, if it is the size of any block.
+    let mut block = Self::new(limit);
+    block.adapt(u32::div_ceil(size, 2));
+    let text = format_args!("no block adapts to {size} handles with a limit of {limit}");
+    (block.size() == size).then_some(block).ok_or_else(|| D::Error::custom(text))
 });

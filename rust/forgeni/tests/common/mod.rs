@@ -1,6 +1,8 @@
 //! What several tests need: the allocator as its rules say it, and numbers from a seed.
 #![allow(dead_code)]
 
+pub mod counted;
+
 use forgeni::{AllocError, Entities, FreeError, Freed, Handle, Limits, ReserveError, State};
 use std::ffi::OsString;
 

@@ -1,5 +1,5 @@
 use crate::common::{refused, written};
-use forgeni::{Handle, HandleMap};
+use forgeni::{tables, Handle, HandleMap, SparseMap};
 use serde::de::DeserializeSeed;
 
 fn handle(index: u32, generation: u32) -> Handle {
@@ -157,4 +157,103 @@ fn into_a_map_with_a_limit() {
 
     read_into(&mut map, "{}").expect("a map");
     assert_eq!((map.len(), map.limit()), (0, 8));
+}
+
+/// A sparse map is written in the order of its entries, and read in that order.
+#[test]
+fn sparse_maps() {
+    written(&SparseMap::<u8>::new(), "{}", &[0; 8]);
+    let map = SparseMap::from([(handle(7, 2), 6u8), (handle(0, 1), 5)]);
+    let bytes = [
+        2, 0, 0, 0, 0, 0, 0, 0, 7, 0, 0, 0, 2, 0, 0, 0, 6, 0, 0, 0, 0, 1, 0, 0, 0, 5,
+    ];
+    written(&map, r#"{"7v2":6,"0v1":5}"#, &bytes);
+    let read: SparseMap<u8> = bincode::deserialize(&bytes).expect("a map");
+    assert_eq!(read.entries(), map.entries());
+    let taken = "7v2: its slot has a value already at line 1 column";
+    refused::<SparseMap<u8>>(r#"{"7v2":6,"7v2":6}"#, taken);
+    let mut limited = SparseMap::<u8>::with_limit(7);
+    let read = limited.deserialize(&mut serde_json::Deserializer::from_str(r#"{"7v2":6}"#));
+    let error = read.expect_err("above the limit").to_string();
+    assert!(
+        error.starts_with("7v2: the handle is above the map's limit"),
+        "{error}"
+    );
+    assert_eq!((limited.len(), limited.slots(), limited.limit()), (0, 0, 7));
+}
+
+tables! {
+    #[derive(Debug, PartialEq)]
+    struct Parts {
+        place: HandleMap<u8>,
+        name: SparseMap<String>,
+    }
+}
+
+// The feature `serde` asks nothing of values that aren't written.
+tables! {
+    struct Unwritten { locks: HandleMap<std::sync::Mutex<u8>> }
+}
+
+#[test]
+fn structs_of_maps() {
+    let empty = r#"{"place":{},"name":{}}"#;
+    written(&Parts::default(), empty, &[0; 16]);
+    let mut parts = Parts::default();
+    parts.place.insert(handle(1, 1), 7).expect("memory");
+    parts
+        .name
+        .insert(handle(1, 1), "a".to_owned())
+        .expect("memory");
+    let json = r#"{"place":{"1v1":7},"name":{"1v1":"a"}}"#;
+    let one = [1, 0, 0, 0, 0, 0, 0, 0, 1, 0, 0, 0, 1, 0, 0, 0];
+    let bytes = [&one[..], &[7], &one, &[1, 0, 0, 0, 0, 0, 0, 0, b'a']].concat();
+    written(&parts, json, &bytes);
+
+    // In any order, and with a map left out.
+    let turned = r#"{"name":{"1v1":"a"},"place":{"1v1":7}}"#;
+    assert_eq!(serde_json::from_str::<Parts>(turned).expect("maps"), parts);
+    let part: Parts = serde_json::from_str(r#"{"name":{"1v1":"a"}}"#).expect("a map");
+    assert_eq!(part.lens(), [("place", 0), ("name", 1)]);
+
+    for (json, message) in [
+        (r#"{"place":{},"place":{}}"#, "duplicate field `place`"),
+        (
+            r#"{"speed":{}}"#,
+            "unknown field `speed`, expected `place` or `name`",
+        ),
+        (
+            r#"{"place":{"1v1":true}}"#,
+            "invalid type: boolean `true`, expected u8",
+        ),
+        (
+            "5",
+            "invalid type: integer `5`, expected a struct of the maps place name",
+        ),
+        ("[{}]", "fewer than the maps place name"),
+    ] {
+        refused::<Parts>(json, message);
+    }
+
+    // In place: the limits stay, and after an error all is as it was.
+    parts.name.set_limit(2);
+    let mut read = |json| {
+        let read = parts.deserialize(&mut serde_json::Deserializer::from_str(json));
+        (
+            read.map_err(|error| error.to_string()),
+            parts.lens().map(|(_, len)| len),
+        )
+    };
+    let (error, lens) = read(r#"{"place":{},"name":{"200000000v1":"b"}}"#);
+    let error = error.expect_err("above the limit");
+    assert!(
+        error.starts_with("200000000v1: the handle is above the map's limit"),
+        "{error}"
+    );
+    assert_eq!(lens, [1, 1]);
+    assert_eq!(read(r#"{"place":{"1v1":7}}"#), (Ok(()), [1, 0]));
+    assert_eq!(
+        (parts.name.limit(), Unwritten::default().lens()),
+        (2, [("locks", 0)])
+    );
 }

@@ -1,5 +1,5 @@
 use crate::common::{refused, refused_bytes, written};
-use forgeni::{Birth, ComponentId, Limits};
+use forgeni::{Birth, BlockSize, ComponentId, Limits};
 use std::collections::BTreeMap;
 
 #[test]
@@ -90,4 +90,27 @@ fn no_limits() {
         refused_bytes::<Limits>(&bytes, &message);
     }
     refused::<Limits>("[1]", "invalid length 1, expected a tuple of size 2");
+}
+
+#[test]
+fn sizes_of_blocks() {
+    for limit in [0, 1, 63, 64, 65, 101, 1000, u32::MAX] {
+        for wanted in [0, 1, 31, 32, 33, 50, 51, 500, 1 << 31, u32::MAX] {
+            let mut size = BlockSize::new(limit);
+            let bytes = |size: BlockSize| [size.size().to_le_bytes(), limit.to_le_bytes()].concat();
+            written(&size, &format!("[{},{limit}]", size.size()), &bytes(size));
+            size.adapt(wanted);
+            written(&size, &format!("[{},{limit}]", size.size()), &bytes(size));
+        }
+    }
+    for [size, limit] in [
+        [0u32, 1],
+        [63, 64],
+        [65, 1000],
+        [1001, 1000],
+        [u32::MAX, 1000],
+    ] {
+        let message = format!("no block adapts to {size} handles with a limit of {limit}");
+        refused::<BlockSize>(&format!("[{size},{limit}]"), &message);
+    }
 }

@@ -4,6 +4,7 @@ use crate::examples::game::systems::{Age, Aim, Launch};
 use ent_handle::Memory;
 use ent_queue::Commands;
 use ent_runner::System;
+use ent_shared::Shared;
 use ent_world::View;
 use std::alloc::Global;
 
@@ -15,7 +16,7 @@ pub enum Role {
     Aim(Aim),
 }
 
-impl System for Role {
+impl System<Shared> for Role {
     ghost may_issue = { role_may };
 
     fn run(

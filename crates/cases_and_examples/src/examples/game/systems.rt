@@ -8,6 +8,7 @@ use crate::examples::game::components::{AGE, TARGET};
 use ent_handle::{ComponentId, Handle, Memory};
 use ent_queue::{Bundle, Commands, QueueFault};
 use ent_runner::System;
+use ent_shared::Shared;
 use ent_world::View;
 use std::alloc::Global;
 
@@ -18,7 +19,7 @@ pub struct Launch {
     pub count: u32,
 }
 
-impl System for Launch {
+impl System<Shared> for Launch {
     ghost may_issue = { λ launch _ queue. IsLaunch launch.count queue };
 
     fn run(
@@ -42,7 +43,7 @@ pub struct Age {
     pub limit: i64,
 }
 
-impl System for Age {
+impl System<Shared> for Age {
     ghost may_issue = { λ _ view queue. All (IsOnProjectile view) queue };
 
     #[tactic(auto, using(ent_queue::proofs::Extending::extends_then))]
@@ -90,7 +91,7 @@ pub struct Aim {
     pub rank: usize,
 }
 
-impl System for Aim {
+impl System<Shared> for Aim {
     ghost may_issue = { λ _ _ queue. length queue ≤ 1 };
 
     fn run(

@@ -1,8 +1,7 @@
 use Rattle.ent_runner.proofs.Common.{rules, ◌≡◌, ◌∙◌, ap, length, length-map, Reserver, records_of, world_at_start, IfOk-weaker, IfErr-weaker}
 use Rattle.ent_runner.proofs.Alone.{ends_in_order}
 use Rattle.ent_runner.proofs.Conducting.{written_back}
-use Rattle.ent_runner.proofs.Framed.{Issues, ClosedAgain, closed_again, lost_again, broken_again, view_is}
-use Rattle.ent_runner.proofs.EachOutput.{done_seen, broken_off_seen}
+use Rattle.ent_runner.proofs.Framed.{all_gained, some_gained, ClosedAgain, closed_again, lost_again, broken_again, view_is}
 use Rattle.ent_runner.proofs.NoSystems.{ends_none}
 use Rattle.ent_runner.proofs.frame.run_frame.Given as given
 use Rattle.ent_runner.proofs.frame.run_frame.Goals.{In-Ok-open, After-close}
@@ -19,20 +18,21 @@ closed g c =
     let e = c.close.ensures in
     let w = c.work-queues.ensures in
     let own = λ (r : Reserver). r.own in
-    let may = Issues g.S.System.may_issue c.args.systems.now c.view.result in
-    let leave = Issues g.S.System.may_leave c.args.systems.now c.view.result in
+    let may = g.S.System.may_issue in
+    let leave = g.S.System.may_leave in
     let back = written_back _ _ c.work-queues.new.lent c.in-Ok-open.made.1.ok.0
     (w.count ∙ ap length c.deref_mut.ensures.value) in
     let many : length c.deref_mut.result.now ≡ c.in-Ok-open.made.0.shared.count = rw c.deref_mut.ensures.value
     (search rules) in
-    closed_again g.S.System.may_issue g.S.System.may_leave c.args.systems.now c.in-Ok-open.made.0 c.close.result
+    closed_again may leave c.args.systems.now c.in-Ok-open.made.0 c.close.result
     c.work-queues.result (records_of c.deref_mut.result.now) (records_of c.work-queues.new.lent) _ c.view.result
     (search rules) (view_is c.in-Ok-open.made.0 c.view.result c.view.ensures.phase c.view.ensures.entities)
     (rw c.deref_mut.ensures.value (search rules)) (length-map c.deref_mut.result.now own ∙ many)
     (length-map c.work-queues.new.lent own ∙ (w.count ∙ many))
-    (IfOk-weaker c.work-queues.result _ _ (λ q. done_seen own may leave _ c.deref_mut.result.now q.items
-    c.work-queues.new.lent) w.done) (IfErr-weaker c.work-queues.result _ _ (λ left. broken_off_seen own may leave _
-    c.deref_mut.result.now left.items c.work-queues.new.lent) w.broken_off) e.phase e.entities
+    (IfOk-weaker c.work-queues.result _ _ (λ q. all_gained may leave c.args.systems.now c.view.result
+    c.shared.result.now _ c.deref_mut.result.now q.items c.work-queues.new.lent) w.done)
+    (IfErr-weaker c.work-queues.result _ _ (λ left. some_gained may leave c.args.systems.now c.view.result
+    c.shared.result.now _ c.deref_mut.result.now left.items c.work-queues.new.lent) w.broken_off) e.phase e.entities
     (rw back at e.after) (rw back at e.legal) (rw back at e.respects)
 
 pub close-requires-clause-own : goal.close-requires-clause-own

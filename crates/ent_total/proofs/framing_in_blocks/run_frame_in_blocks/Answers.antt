@@ -1,17 +1,27 @@
-use Rattle.ent_block_runner.specs.declared.run_error.RunError.TheVariants as failed
-use Rattle.ent_total.proofs.Held.{stop_of}
 use Rattle.ent_total.proofs.framing_in_blocks.run_frame_in_blocks.Goals as goal
 
-pub hold-requires-clause-stop : goal.hold-requires-clause-stop
-hold-requires-clause-stop g c =
+pub returns-in-Ok-clause-refused : goal.returns-in-Ok-clause-refused
+returns-in-Ok-clause-refused g c =
+    let e = c.in-Ok.ensures in
+    record {
+      workers_are = e.workers;
+      systems_are = e.systems;
+      reservers_are = e.reservers;
+      other_phase = e.other_phase;
+    }
+
+pub returns-in-Err-Unrun-clause-refused : goal.returns-in-Err-Unrun-clause-refused
+returns-in-Err-Unrun-clause-refused g c =
+    let is = c.in-Err-Unrun.field-0-is in
+    let e = c.in-Err-Unrun.ensures in
+    record {
+      workers_are = rw is at e.workers;
+      systems_are = rw is at e.systems;
+      reservers_are = rw is at e.reservers;
+      other_phase = rw is at e.other_phase;
+    }
+
+pub new-stopped-requires : goal.new-stopped-requires
+new-stopped-requires g c =
     let stopped = rw c.in-Err-Sync.field-0-is at c.in-Err-Sync.ensures.stopped in
-    stop_of c.in-Err-Sync.fault c.in-Err-Sync.queues.items _ _ stopped.memory
-
-pub returns-in-Err-Unrun-clause-other_phase : goal.returns-in-Err-Unrun-clause-other_phase
-returns-in-Err-Unrun-clause-other_phase g c = rw c.in-Err-Unrun.field-0-is at c.in-Err-Unrun.ensures.other_phase
-
--- The systems ran, so no reserver was of another phase.
-pub returns-in-Err-Sync-clause-other_phase : goal.returns-in-Err-Sync-clause-other_phase
-returns-in-Err-Sync-clause-other_phase g c =
-    let other_phase = rw c.in-Err-Sync.field-0-is at c.in-Err-Sync.ensures.other_phase in
-    (λ is. absurd (c.hold.ensures.ran failed.OtherPhase is), λ so. absurd (other_phase.1 so))
+    rw c.new-queues.ensures (stopped.memory _ _ _ _ c.in-Memory.is).stop

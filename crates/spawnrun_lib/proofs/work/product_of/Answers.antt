@@ -1,4 +1,5 @@
 use Rattle.spawnrun_lib.proofs.Common.{rules, arith, ◌≡◌, ◌≤◌, ◌<◌, List, [], ℕ, Option, length, IfSome, size_wants, Product, Accepts, IsProductOf, Refusal, Refuses, fails, input_limit, is_too_long, size_line}
+use Rattle.spawnrun_lib.specs.Program.{Gives as GivesBy, Fails as FailsBy}
 use Rattle.spawnrun_lib.proofs.work.product_of.Goals as goal
 
 module _ (Gives : List ℕ → List ℕ → Type 0) (Fails : List ℕ → Refusal → Type 0) where
@@ -16,11 +17,11 @@ module _ (Gives : List ℕ → List ℕ → Type 0) (Fails : List ℕ → Refusa
       → IfSome told (λ all. Refuses Fails all refusal)
   refused_too_long it refusal longer is = search (rules, is_too_long)
 
-pub returns-in-Ok-clause-gives : goal.returns-in-Ok-clause-gives
-returns-in-Ok-clause-gives g c = made_of_read (g.W.Work.gives c.args.work) (g.W.Work.fails c.args.work)
+pub returns-in_ok-make-in-Ok-clause-gives : goal.returns-in_ok-make-in-Ok-clause-gives
+returns-in_ok-make-in-Ok-clause-gives g c = made_of_read (GivesBy c.args.task) (FailsBy c.args.task)
     (g.I.Source.remaining c.args.input.now) c.in-Ok.bytes.items _ c.in-Ok.ensures.whole
     (omega (arith, c.in-Ok.bytes.ok.0, c.in-Ok.ensures.within)) c.in_ok-make-in-Ok.ensures
 
-pub returns-in-Err-TooLong-clause-gives : goal.returns-in-Err-TooLong-clause-gives
-returns-in-Err-TooLong-clause-gives g c =
-    search (rules, refused_too_long (g.W.Work.gives c.args.work) (g.W.Work.fails c.args.work))
+pub returns-in_ok-too_long-in-Err-TooLong-clause-gives : goal.returns-in_ok-too_long-in-Err-TooLong-clause-gives
+returns-in_ok-too_long-in-Err-TooLong-clause-gives g c =
+    search (rules, refused_too_long (GivesBy c.args.task) (FailsBy c.args.task))

@@ -47,6 +47,27 @@ impl BlockSize {
         }
     }
 
+    /// One of this size, or of the limit if that is less: for a first phase in which more is wanted
+    /// than 64 handles, or as it was saved.
+    ///
+    /// <details><summary>Contract</summary>
+    ///
+    /// In the words of the folder `specs/` of crate `ent_blocks`:
+    ///
+    /// ```text
+    /// ensures { result ≡ record { size = min size limit; limit = limit } }
+    /// ```
+    ///
+    /// </details>
+    #[must_use]
+    #[inline]
+    pub fn with_size(size: u32, limit: u32) -> Self {
+        BlockSize {
+            size: if size <= limit { size } else { limit },
+            limit,
+        }
+    }
+
     /// How many handles the block has in the next phase.
     ///
     /// <details><summary>Contract</summary>

@@ -2,13 +2,23 @@
 
 //! A crew: workers that do jobs side by side, in room that was asked for before.
 
+mod claimer;
+mod claims;
+mod collecting;
+mod jobs;
+mod record;
+mod rule;
+mod word;
+mod worker;
+
 use alloc::vec::Vec;
 use crate::kit::vec::FallibleVec;
-use crate::proved::ent_runner::claimer::Claimer;
-use crate::proved::ent_runner::claims::Claims;
-use crate::proved::ent_runner::collecting::{collect, put_all};
-use crate::proved::ent_runner::jobs::Jobs;
-use crate::proved::ent_runner::worker::{Site, Worker, run_all};
+pub use crate::proved::ent_runner::crew::claimer::Claimer;
+pub use crate::proved::ent_runner::crew::claims::Claims;
+use crate::proved::ent_runner::crew::collecting::{collect, put_all};
+pub use crate::proved::ent_runner::crew::jobs::Jobs;
+pub use crate::proved::ent_runner::crew::record::ClaimRecord;
+use crate::proved::ent_runner::crew::worker::{Site, Worker, run_all};
 use crate::proved::ent_handle::Memory;
 use crate::kit::alloc::AllocError;
 use crate::kit::thread::Threads;

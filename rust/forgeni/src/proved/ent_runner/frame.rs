@@ -3,13 +3,20 @@
 //! A frame: workers run the systems while the world is open, and the sync point applies their
 //! queues.
 
+pub(super) mod gate;
+pub(super) mod report;
+mod side;
+pub(super) mod system;
+
 use alloc::vec::Vec;
 use crate::proved::ent_runner::crew::Crew;
-use crate::proved::ent_runner::gate::Gate;
-use crate::proved::ent_runner::report::{FrameFault, FrameReport};
-use crate::proved::ent_runner::stage::Stage;
-use crate::proved::ent_runner::system::System;
+use crate::proved::ent_runner::frame::gate::Gate;
+use crate::proved::ent_runner::frame::report::{FrameFault, FrameReport};
+use crate::proved::ent_runner::frame::system::System;
+use crate::proved::ent_runner::stage::SharedStage;
+use crate::proved::ent_runner::systems::Issuers;
 use crate::proved::ent_alloc::Limits;
+use crate::proved::ent_shared::Shared;
 use crate::proved::ent_world::{SyncFault, World};
 use core::mem;
 use crate::kit::thread::Threads;
@@ -45,7 +52,7 @@ pub(crate) fn run_frame<R, S, G>(
 ) -> Result<FrameReport, FrameFault>
 where
     R: Threads + Sync,
-    S: System + Sync,
+    S: System<Shared> + Sync,
     G: Gate + Sync,
     // requires flushed { world.old.allocator.asked ≡ 0 }
     // requires systems { length systems.now ≤ 2 ^ 16 }
@@ -97,11 +104,14 @@ where
             return Err(FrameFault::Memory);
         }
     };
-    let stage = Stage {
-        shared: opened.shared(),
+    let issuers = Issuers {
         view: opened.view(),
         systems,
         gate,
+    };
+    let stage = SharedStage {
+        shared: opened.shared(),
+        systems: &issuers,
     };
     let queues = crew.work(rt, &mut reservers, &stage);
     *world = opened.close(reservers);

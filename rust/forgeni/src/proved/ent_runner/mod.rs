@@ -1,31 +1,23 @@
 // Made of crates/ent_runner/src/lib.rt by rust/erase. It isn't edited by hand.
 
-//! Frames: systems run on workers over one shared world, each with a queue of its own, and the
-//! sync point applies the queues in the order of the systems.
+//! Systems run on workers. Each fills an output of its own, a queue of a world or a log, with handles of
+//! one shared allocator or of a block of its own.
 
-mod claimer;
-mod claims;
-mod collecting;
+mod blocks;
 mod crew;
 mod frame;
-mod gate;
-mod jobs;
-mod record;
-mod report;
-mod rule;
-mod side;
+mod logs;
 mod stage;
-mod system;
-mod word;
-mod worker;
+mod systems;
 
-pub use claimer::Claimer;
-pub use claims::Claims;
-pub use crew::Crew;
+pub use blocks::{RunError, Unframed, fill_in_blocks, run_frame_in_blocks, run_in_blocks};
+pub use crew::{ClaimRecord, Claimer, Claims, Crew, Jobs};
 pub use crate::kit::either::{Either, Left, Right};
+pub use frame::gate::{Gate, NoGate};
+pub use frame::report::{FrameFault, FrameReport};
 pub(crate) use frame::run_frame;
-pub use gate::{Gate, NoGate};
-pub use jobs::Jobs;
-pub use record::ClaimRecord;
-pub use report::{FrameFault, FrameReport};
-pub use system::System;
+pub use frame::system::System;
+pub use logs::beginning::run_to_sync_point;
+pub use logs::log_error::LogError;
+pub use logs::run_logs;
+pub use logs::system::LogSystem;

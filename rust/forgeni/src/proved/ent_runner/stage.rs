@@ -1,30 +1,48 @@
 // Made of crates/ent_runner/src/stage.rt by rust/erase. It isn't edited by hand.
 
-//! The systems of a frame are the jobs of a crew.
-
-use crate::proved::ent_runner::gate::Gate;
-use crate::proved::ent_runner::jobs::Jobs;
-use crate::proved::ent_runner::system::System;
+//! The systems of a run are the jobs of a crew.
+use crate::proved::ent_runner::crew::Jobs;
+use crate::proved::ent_runner::systems::Systems;
+use crate::proved::ent_blocks::{BlockReserver, Blocks, again};
 use crate::proved::ent_handle::Memory;
-use crate::proved::ent_queue::{CommandQueue, Commands};
+use crate::proved::ent_queue::{Commands, Output};
 use crate::proved::ent_shared::{Reserver, Shared};
-use crate::proved::ent_world::View;
 
-/// The systems of a frame, and what they have in common.
-pub(super) struct Stage<'a, 'v, 's, 'g, S, G> {
+/// Systems over a shared allocator. A worker lends each of its systems its one reserver.
+pub(super) struct SharedStage<'a, 's, T> {
     pub(super) shared: &'a Shared,
-    pub(super) view: View<'v>,
-    pub(super) systems: &'s [S],
-    pub(super) gate: &'g G,
+    pub(super) systems: &'s T,
 }
 
-impl<S: System, G: Gate> Jobs<CommandQueue, Reserver> for Stage<'_, '_, '_, '_, S, G> {
-    /// Runs the system of this number. Its queue has what it issued, also if it stopped.
+impl<O: Output, T: Systems<O, Shared>> Jobs<O, Reserver> for SharedStage<'_, '_, T> {
+    /// Runs the system of this number. Its output has what it added, also if it stopped.
     #[inline]
-    fn run(&self, number: usize, reserver: &mut Reserver) -> (CommandQueue, Result<(), Memory>) {
-        self.gate.entered(number);
+    fn run(&self, number: usize, reserver: &mut Reserver) -> (O, Result<(), Memory>) {
         let mut commands = Commands::new(self.shared, reserver);
-        let ran = self.systems[number].run(&self.view, &mut commands);
+        let ran = self.systems.run_at(number, &mut commands);
         (commands.finish(), ran)
+    }
+}
+
+/// Systems in blocks, each with the reserver at its number.
+pub(super) struct BlockStage<'b, 'r, 's, T> {
+    pub(super) blocks: &'b Blocks,
+    pub(super) reservers: &'r [BlockReserver],
+    pub(super) systems: &'s T,
+}
+
+/// Nothing is lent to them: each has its own reserver. So there is nothing that workers share but the
+/// claims.
+impl<O: Output, T: Systems<O, Blocks>> Jobs<(O, BlockReserver), ()>
+    for BlockStage<'_, '_, '_, T> {
+    /// Runs the system of this number, which is run once. Its output has what it added, also if it
+    /// stopped.
+    #[inline]
+    fn run(&self, number: usize, lent: &mut ()) -> ((O, BlockReserver), Result<(), Memory>) {
+        let mut reserver = again(&self.reservers[number]);
+        let mut commands = Commands::new(self.blocks, &mut reserver);
+        let ran = self.systems.run_at(number, &mut commands);
+        let output = commands.finish();
+        ((output, reserver), ran)
     }
 }

@@ -49,8 +49,8 @@ impl World {
     ///     IsSyncedUntil stopped.stop queues.queues self.old.world self.new.world
     ///     stopped.so_far)) }
     /// ensures stays { IfErr result (λ error. queues_in error ≡ queues) }
-    /// ensures other_world { IsErrWith result IsOtherWorld ↔ (queues.world ≢ self.old.number) }
-    /// ensures reserved { IsErrWith result IsMemory
+    /// ensures other_world { IsErrAnd result IsOtherWorld ↔ (queues.world ≢ self.old.number) }
+    /// ensures reserved { IsErrAnd result IsMemory
     ///     → 0 < length self.old.world.allocator.taken }
     /// ensures nothing { IfErr result (λ error. IsUnbegun error → self.new ≡ self.old) }
     /// ensures number { self.new.number ≡ self.old.number }
@@ -86,7 +86,7 @@ fn sync(world: &mut crate::proved::ent_world::World, queues: Queues) -> Result<S
     //     IsSyncedUntil stopped.stop queues.queues world.old world.new stopped.so_far)) }
     // ensures stays { IfErr result (λ error. queues_in error ≡ queues) }
     // ensures error { IfErr result (λ error. ¬ (IsOtherWorld error)) }
-    // ensures reserved { IsErrWith result IsMemory → 0 < length world.old.allocator.taken }
+    // ensures reserved { IsErrAnd result IsMemory → 0 < length world.old.allocator.taken }
     // ensures nothing { IfErr result (λ error. IsUnbegun error → world.new ≡ world.old) }
 {
     match world.apply(queues.list()) {
@@ -154,9 +154,9 @@ impl Stopped {
     ///     IsLeftUntil self.stop later.stop self.queues.queues world.old.world world.new.world
     ///     later.so_far)) }
     /// ensures stays { IfErr result (λ error. (stopped_in error).queues ≡ self.queues) }
-    /// ensures other_world { IsErrWith result IsOfOtherWorld
+    /// ensures other_world { IsErrAnd result IsOfOtherWorld
     ///     ↔ (self.queues.world ≢ world.old.number) }
-    /// ensures needs_flush { IsErrWith result IsUnflushed
+    /// ensures needs_flush { IsErrAnd result IsUnflushed
     ///     ↔ ((self.queues.world ≡ world.old.number) × (0 < world.old.world.allocator.asked)) }
     /// ensures nothing { IfErr result (λ error. IsUnmoved error
     ///     → (stopped_in error ≡ self) × (world.new ≡ world.old)) }

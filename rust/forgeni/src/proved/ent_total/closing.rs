@@ -44,41 +44,17 @@ impl Shared {
     /// In the words of the folder `specs/` of crate `ent_total`:
     ///
     /// ```text
-    /// // All reservations stand in one history that is legal and respects every reserver.
-    /// ensures legal { OnOk result (IsLegal self.shared.start
-    ///     (history_of (records_of (all_returned self reservers.items)))) }
-    /// ensures respects { OnOk result (let records = records_of (all_returned self reservers.items) in
-    ///     All (Respects (reservations_of records)) records) }
-    /// ensures after { IfOk result (λ entities. entities.allocator ≡ after_history
-    ///     self.shared.start (history_of (records_of (all_returned self reservers.items)))) }
-    /// ensures rows { IfOk result (λ entities. entities.rows ≡ self.shared.rows) }
-    /// ensures rows_of_living { IfOk result HasRowsOfLiving }
-    ///
-    /// // Each reservation is there once, where its step came: the cursor falls with each.
-    /// ensures falls { OnOk result (AllPairs (λ earlier later. later.high <ℤ earlier.high)
-    ///     (reservations_of (records_of (all_returned self reservers.items)))) }
-    ///
-    /// // Each reserver has a number of its own.
-    /// ensures numbers { OnOk result (AllPairs (λ r s. r.number ≢ s.number)
-    ///     (records_of (all_returned self reservers.items))) }
-    ///
-    /// // No handle was given twice, and none was alive.
-    /// ensures distinct { OnOk result (AllPairs (λ g h. g ≢ h)
-    ///     (given_in (history_of (records_of (all_returned self reservers.items))))) }
-    /// ensures not_live { OnOk result (All (λ h. ¬ (IsLive self.shared.start h))
-    ///     (given_in (history_of (records_of (all_returned self reservers.items))))) }
-    ///
-    /// // A flush brings to life exactly what was given.
-    /// ensures brings_to_life { IfOk result (λ entities. (h : HandleValue) →
-    ///     IsLive (after_flush entities.allocator) h ↔ (IsLive self.shared.start h
-    ///     ⊎ Contains (given_in (history_of (records_of (all_returned self reservers.items)))) h)) }
+    /// ensures ended { IfOk result (λ entities. EndsWithAll
+    ///     self.shared (all_returned self reservers.items) entities.allocator) }
+    /// ensures rows { IfOk result (λ entities.
+    ///     (entities.rows ≡ self.shared.rows) × HasRowsOfLiving entities) }
     ///
     /// // When it succeeds, when it is refused, and what holds then.
-    /// ensures may_return { OnOk result (MayReturn self reservers.items) }
-    /// ensures all { OnOk result (length (all_returned self reservers.items) ≡ self.shared.count) }
-    /// ensures other_phase { IsErrWith result (λ h. h.error ≡ OtherPhase)
+    /// ensures all { OnOk result (MayReturn self reservers.items
+    ///     × (length (all_returned self reservers.items) ≡ self.shared.count)) }
+    /// ensures other_phase { IsErrAnd result (λ h. h.error ≡ OtherPhase)
     ///     ↔ ¬ (MayReturn self reservers.items) }
-    /// ensures missing { IsErrWith result (λ h. IsMissing h.error)
+    /// ensures missing { IsErrAnd result (λ h. IsMissing h.error)
     ///     ↔ (MayReturn self reservers.items
     ///     × (length (all_returned self reservers.items) < self.shared.count)) }
     /// ensures how_many { IfErr result (λ h. IsMissing h.error
@@ -142,51 +118,14 @@ impl Shared {
     /// In the words of the folder `specs/` of crate `ent_total`:
     ///
     /// ```text
-    /// ensures after { IfOk result (λ entities.
-    ///     entities.allocator ≡ after_loss self.shared.start entities.allocator.asked) }
-    /// ensures rows { IfOk result (λ entities. entities.rows ≡ self.shared.rows) }
-    /// ensures rows_of_living { IfOk result HasRowsOfLiving }
-    ///
-    /// // It counts what the reservers that are here have requested, and of the others no more than
-    /// // their quota.
-    /// ensures least { IfOk result (λ entities.
-    ///     sum_by (λ r. requested_by r.own) (all_returned self reservers.items)
-    ///     ≤ entities.allocator.asked) }
-    /// ensures most { IfOk result (λ entities.
-    ///     sum_by (λ r. r.own.left) (all_returned self reservers.items) + entities.allocator.asked
-    ///     ≤ self.shared.count * quota) }
-    /// ensures reached { IfOk result (λ entities.
-    ///     All (λ r. cursor entities.allocator ≤ℤ r.own.mark) (all_returned self reservers.items)) }
-    ///
-    /// // If all are here, it counts what they have requested, and the cursor is where `close`
-    /// // leaves it.
-    /// ensures asked { IfOk result (λ entities.
-    ///     length (all_returned self reservers.items) ≡ self.shared.count
-    ///     → sum_by (λ r. requested_by r.own) (all_returned self reservers.items)
-    ///     ≡ entities.allocator.asked) }
-    /// ensures whole { IfOk result (λ entities.
-    ///     length (all_returned self reservers.items) ≡ self.shared.count
-    ///     → cursor entities.allocator ≡ cursor (after_history self.shared.start
-    ///     (history_of (records_of (all_returned self reservers.items))))) }
-    ///
-    /// // What the reservers that are here were given is reserved. No handle was given to two of
-    /// // them, and none was alive.
-    /// ensures given { IfOk result (λ entities.
-    ///     All (λ r. All (Contains entities.allocator.taken) (handles_given r.own))
-    ///     (all_returned self reservers.items)) }
-    /// ensures distinct { OnOk result (AllPairs (λ g h. g ≢ h)
-    ///     (handles_of (own_of_all (records_of (all_returned self reservers.items))))) }
-    /// ensures not_live { IfOk result (λ entities.
-    ///     All (λ h. ¬ (IsLive self.shared.start h)) entities.allocator.taken) }
-    ///
-    /// // A flush brings to life exactly what is reserved.
-    /// ensures brings_to_life { IfOk result (λ entities. (h : HandleValue) →
-    ///     IsLive (after_flush entities.allocator) h
-    ///     ↔ (IsLive self.shared.start h ⊎ Contains entities.allocator.taken h)) }
+    /// ensures ended { IfOk result (λ entities. EndsWithSome
+    ///     self.shared (all_returned self reservers.items) entities.allocator) }
+    /// ensures rows { IfOk result (λ entities.
+    ///     (entities.rows ≡ self.shared.rows) × HasRowsOfLiving entities) }
     ///
     /// // When it succeeds, when it is refused, and what holds then.
     /// ensures may_return { OnOk result (MayReturn self reservers.items) }
-    /// ensures other_phase { IsErrWith result (λ h. h.error ≡ OtherPhase)
+    /// ensures other_phase { IsErrAnd result (λ h. h.error ≡ OtherPhase)
     ///     ↔ ¬ (MayReturn self reservers.items) }
     /// ensures no_missing { IfErr result (λ h. ¬ (IsMissing h.error)) }
     /// ensures handed_back { IfErr result (λ h. h.error ≢ InUse

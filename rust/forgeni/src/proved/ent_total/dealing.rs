@@ -33,9 +33,9 @@ pub struct WorldDeal {
 ///     world_dealt d.deal.blocks d.deal.phase d.deal.entities ≡ world.world) }
 /// ensures blocks { IfOk result (λ d. d.deal.blocks.blocks
 ///     ≡ blocks_from 0 (length world.world.allocator.pool) sizes.now) }
-/// ensures needs_flush { IsErrWith result (λ h. h.error ≡ failed.NeedsFlush)
+/// ensures needs_flush { IsErrAnd result (λ h. h.error ≡ failed.NeedsFlush)
 ///     ↔ (0 < world.world.allocator.asked) }
-/// ensures memory { IsErrWith result (λ h. h.error ≡ failed.Memory) → 0 < length sizes.now }
+/// ensures memory { IsErrAnd result (λ h. h.error ≡ failed.Memory) → 0 < length sizes.now }
 /// ensures handed_back { IfErr result (λ h. h.value ≡ world) }
 /// ```
 ///

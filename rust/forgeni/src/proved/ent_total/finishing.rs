@@ -59,9 +59,9 @@ impl OpenWorld {
     /// ensures may_return { OnOk result (MayReturn self queues.items) }
     /// ensures all { OnOk result
     ///     (length (reservers_returned self queues.items) ≡ self.world.shared.count) }
-    /// ensures other_phase { IsErrWith result (λ h. h.error ≡ OtherPhase)
+    /// ensures other_phase { IsErrAnd result (λ h. h.error ≡ OtherPhase)
     ///     ↔ ¬ (MayReturn self queues.items) }
-    /// ensures missing { IsErrWith result (λ h. IsMissing h.error)
+    /// ensures missing { IsErrAnd result (λ h. IsMissing h.error)
     ///     ↔ (MayReturn self queues.items
     ///     × (length (reservers_returned self queues.items) < self.world.shared.count)) }
     /// ensures how_many { IfErr result (λ h. IsMissing h.error
@@ -123,7 +123,7 @@ impl OpenWorld {
     ///
     /// // When it succeeds, when it is refused, and what holds then.
     /// ensures may_return { OnOk result (MayReturn self queues.items) }
-    /// ensures other_phase { IsErrWith result (λ h. h.error ≡ OtherPhase)
+    /// ensures other_phase { IsErrAnd result (λ h. h.error ≡ OtherPhase)
     ///     ↔ ¬ (MayReturn self queues.items) }
     /// ensures no_missing { IfErr result (λ h. ¬ (IsMissing h.error)) }
     /// ensures handed_back { IfErr result (λ h. h.error ≢ InUse

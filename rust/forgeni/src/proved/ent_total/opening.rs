@@ -36,9 +36,9 @@ pub struct Opening {
 /// ensures rows { IfOk result (λ o. o.shared.rows ≡ entities.rows) }
 /// ensures count { IfOk result (λ o. o.shared.count ≡ count) }
 /// ensures may_return { IfOk result (λ o. records_of o.returned ≡ opened_records entities.allocator 0 count) }
-/// ensures needs_flush { IsErrWith result (λ h. h.error ≡ NeedsFlush)
+/// ensures needs_flush { IsErrAnd result (λ h. h.error ≡ NeedsFlush)
 ///     ↔ (0 < entities.allocator.asked) }
-/// ensures no_count { IsErrWith result (λ h. h.error ≡ Count)
+/// ensures no_count { IsErrAnd result (λ h. h.error ≡ Count)
 ///     ↔ ((entities.allocator.asked ≡ 0) × ((count ≡ 0) ⊎ (1024 < count))) }
 /// ensures handed_back { IfErr result (λ h. h.value ≡ entities) }
 /// ```
@@ -55,43 +55,27 @@ pub fn share(
     if count == 0 || count > CALLERS {
         return Err(HandedBack::new(entities, ShareError::Count));
     }
-    match Opening::new(entities, count) {
-        Ok(opening) => Ok(opening),
-        Err(entities) => Err(HandedBack::new(entities, ShareError::Memory)),
+    let Ok(reservers) = Vec::with_capacity_fallibly(count) else {
+        return Err(HandedBack::new(entities, ShareError::Memory));
+    };
+    let (shared, returned) = match crate::proved::ent_shared::share(entities, count) {
+        Ok(made) => made,
+        Err((entities, _)) => return Err(HandedBack::new(entities, ShareError::Memory)),
+    };
+    match Arc::new(shared) {
+        Ok(shared) => Ok(Opening {
+            shared,
+            returned,
+            reservers,
+        }),
+        Err(refused) => {
+            let entities = refused.value.close(returned);
+            Err(HandedBack::new(entities, ShareError::Memory))
+        }
     }
 }
 
 impl Opening {
-    /// Shares a flushed allocator. If memory runs out, it comes back.
-    #[inline]
-    fn new(entities: Entities, count: usize) -> Result<Self, Entities>
-        // requires flushed { entities.allocator.asked ≡ 0 }
-        // requires some { 0 < count }
-        // requires few { count ≤ 1024 }
-        // ensures start { IfOk result (λ o. o.shared.start ≡ entities.allocator) }
-        // ensures rows { IfOk result (λ o. o.shared.rows ≡ entities.rows) }
-        // ensures count { IfOk result (λ o. o.shared.count ≡ count) }
-        // ensures may_return { IfOk result (λ o.
-        //     records_of o.returned ≡ opened_records entities.allocator 0 count) }
-        // ensures err { IfErr result (λ refused. refused ≡ entities) }
-    {
-        let Ok(reservers) = Vec::with_capacity_fallibly(count) else {
-            return Err(entities);
-        };
-        let (shared, returned) = match crate::proved::ent_shared::share(entities, count) {
-            Ok(made) => made,
-            Err((entities, _)) => return Err(entities),
-        };
-        match Arc::new(shared) {
-            Ok(shared) => Ok(Opening {
-                shared,
-                returned,
-                reservers,
-            }),
-            Err(refused) => Err(refused.value.close(returned)),
-        }
-    }
-
     /// The phase under this number, which no other phase has, and all its reservers, in the order of
     /// their numbers. It takes no memory.
     ///

@@ -88,20 +88,13 @@ impl Reserver {
     /// // The first that holds: the quota has too few, there is no memory, the pool has too few.
     /// ensures quota { IsErrOf result (failed.Quota self.old.reserver.own.left)
     ///     ↔ (self.old.reserver.own.left < n) }
-    /// ensures quota_left { IfErr result (λ error. IfQuota error
-    ///     (λ left. left ≡ self.old.reserver.own.left)) }
-    /// ensures memory { IsErrOf result failed.Memory → MayBeServed self.old n }
-    /// ensures space { IfErr result (λ error. IfSpace error
-    ///     (λ why. MakesReservation self.old self.new n (Err why))) }
     /// ensures short { n ≤ self.old.reserver.own.left
-    ///     → length self.old.shared.start.pool < n → IsErrWith result IsSpace }
-    /// ensures unchanged { IfErr result (λ error. ¬ (IsSpace error) → self.new ≡ self.old) }
+    ///     → length self.old.shared.start.pool < n → IsErrAnd result IsSpace }
+    /// ensures refused { IfErr result (IsUnserved self.old self.new n) }
     ///
     /// // What was given is recorded.
     /// ensures given { IfOk result (λ handles. handles_given self.new.reserver.own
     ///     ≡ handles_given self.old.reserver.own ++ handles.items) }
-    /// ensures refused { OnErr result
-    ///     (handles_given self.new.reserver.own ≡ handles_given self.old.reserver.own) }
     /// ```
     ///
     /// </details>
@@ -145,25 +138,15 @@ impl Reserver {
     /// // The first that holds: the quota has too few, there is no memory, the pool has too few.
     /// ensures quota { IsErrOf result (failed.Quota self.old.reserver.own.left)
     ///     ↔ (self.old.reserver.own.left < n) }
-    /// ensures quota_left { IfErr result (λ error. IfQuota error
-    ///     (λ left. left ≡ self.old.reserver.own.left)) }
-    /// ensures memory { IsErrOf result failed.Memory → MayBeServed self.old n
-    ///     × (vec_capacity handles.old < vec_len handles.old + n) }
-    /// ensures space { IfErr result (λ error. IfSpace error
-    ///     (λ why. MakesReservation self.old self.new n (Err why))) }
     /// ensures short { n ≤ self.old.reserver.own.left
-    ///     → length self.old.shared.start.pool < n → IsErrWith result IsSpace }
-    /// ensures unchanged { IfErr result (λ error. ¬ (IsSpace error) → self.new ≡ self.old) }
+    ///     → length self.old.shared.start.pool < n → IsErrAnd result IsSpace }
+    /// ensures refused { IfErr result (IsUnserved self.old self.new n) }
     ///
     /// // It takes memory only if the list has no room, and if so many may be served.
-    /// ensures room { vec_len handles.old + n ≤ vec_capacity handles.old
-    ///     → vec_capacity handles.new ≡ vec_capacity handles.old }
-    /// ensures no_memory { ¬ (MayBeServed self.old n)
-    ///     → vec_capacity handles.new ≡ vec_capacity handles.old }
-    ///
-    /// // Nothing is recorded as given.
-    /// ensures refused { OnErr result
-    ///     (handles_given self.new.reserver.own ≡ handles_given self.old.reserver.own) }
+    /// ensures memory { IsErrOf result failed.Memory
+    ///     → vec_capacity handles.old < vec_len handles.old + n }
+    /// ensures room { (vec_len handles.old + n ≤ vec_capacity handles.old)
+    ///     ⊎ ¬ (MayBeServed self.old n) → vec_capacity handles.new ≡ vec_capacity handles.old }
     /// ```
     ///
     /// </details>

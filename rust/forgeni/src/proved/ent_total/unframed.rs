@@ -5,9 +5,9 @@ use crate::proved::ent_total::queues::Queues;
 use crate::proved::ent_total::stopped::Stopped;
 use crate::proved::ent_total::world::World;
 use crate::proved::ent_total::world_in_blocks::WorldInBlocks;
-use crate::proved::ent_block_runner::RunError;
 use crate::proved::ent_blocks::{BlockReserver, EndError};
 use crate::proved::ent_handle::HandedBack;
+use crate::proved::ent_runner::RunError;
 use core::error::Error;
 use core::fmt;
 

@@ -44,9 +44,9 @@ pub struct WorldOpening {
 ///     × (o.world.entities ≡ world.world.entities)) }
 /// ensures may_return { IfOk result (λ o.
 ///     records_of o.returned ≡ opened_records world.world.allocator 0 count) }
-/// ensures needs_flush { IsErrWith result (λ h. h.error ≡ NeedsFlush)
+/// ensures needs_flush { IsErrAnd result (λ h. h.error ≡ NeedsFlush)
 ///     ↔ (0 < world.world.allocator.asked) }
-/// ensures no_count { IsErrWith result (λ h. h.error ≡ Count)
+/// ensures no_count { IsErrAnd result (λ h. h.error ≡ Count)
 ///     ↔ ((world.world.allocator.asked ≡ 0) × ((count ≡ 0) ⊎ (1024 < count))) }
 /// ensures handed_back { IfErr result (λ h. h.value ≡ world) }
 /// ```

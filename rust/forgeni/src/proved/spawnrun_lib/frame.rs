@@ -2,26 +2,12 @@
 
 //! One frame of a script.
 
-use alloc::vec::Vec;
-use crate::kit::vec::FallibleVec;
-use crate::proved::spawnrun_lib::script_system::ScriptSystem;
+use crate::proved::spawnrun_lib::script_system::runnable;
 use crate::proved::ent_handle::Memory;
 use crate::proved::ent_runner::{NoGate, run_frame};
 use crate::proved::ent_script::System;
 use crate::proved::ent_world::{SyncReport, World};
 use crate::kit::thread::Threads;
-
-/// The systems of a script, as a frame runs them.
-#[inline]
-fn runnable<'a>(systems: &'a [System]) -> Result<Vec<ScriptSystem<'a>>, Memory>
-    // ensures { IfOk result (λ runnable. runnable.items ≡ systems.now) }
-{
-    let mut runnable = Vec::with_capacity_fallibly(systems.len())?;
-    for system in systems {
-        runnable.push_reserved(ScriptSystem::new(system));
-    }
-    Ok(runnable)
-}
 
 /// Runs a frame of these systems on that many workers, with its sync point.
 #[inline]

@@ -3,10 +3,10 @@
 //! One frame of a script whose systems get their handles from blocks.
 use alloc::vec::Vec;
 use crate::kit::vec::FallibleVec;
-use crate::proved::spawnrun_lib::script_system_in_blocks::ScriptSystemInBlocks;
-use crate::proved::ent_block_runner::{RunError, Unframed, run_frame_in_blocks};
+use crate::proved::spawnrun_lib::script_system::{ScriptSystem, runnable};
 use crate::proved::ent_blocks::DealError;
 use crate::proved::ent_handle::Memory;
+use crate::proved::ent_runner::{RunError, Unframed, run_frame_in_blocks};
 use crate::proved::ent_script::System;
 use crate::proved::ent_world::{PlacedWorld, SyncReport, World, WorldDeal};
 use crate::kit::thread::Threads;
@@ -18,20 +18,6 @@ pub(super) enum Undone {
     Memory,
     /// While the systems ran.
     Lost,
-}
-
-/// The systems of a script, as a frame in blocks runs them.
-#[inline]
-fn runnable<'a>(
-    systems: &'a [System],
-) -> Result<Vec<ScriptSystemInBlocks<'a>>, Memory>
-    // ensures { IfOk result (λ runnable. runnable.items ≡ systems.now) }
-{
-    let mut runnable = Vec::with_capacity_fallibly(systems.len())?;
-    for system in systems {
-        runnable.push_reserved(ScriptSystemInBlocks::new(system));
-    }
-    Ok(runnable)
 }
 
 /// As many handles for each of the systems.
@@ -52,7 +38,7 @@ fn run_dealt<R>(
     rt: &R,
     world: PlacedWorld,
     sizes: &[u32],
-    systems: &[ScriptSystemInBlocks<'_>],
+    systems: &[ScriptSystem<'_>],
     workers: usize,
 ) -> Result<(World, SyncReport), Undone>
 where

@@ -2,8 +2,8 @@
 
 //! What the work on an input writes, after all of it is made.
 
+use crate::proved::spawnrun_lib::product::Refusal;
 use crate::proved::spawnrun_lib::status::Status;
-use crate::proved::spawnrun_lib::work::Refusal;
 use crate::proved::devices::{Failed, Sink};
 
 /// Writes a text, and ends with the status.

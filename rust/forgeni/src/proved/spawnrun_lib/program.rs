@@ -5,11 +5,9 @@
 
 use crate::kit::programs::format;
 use crate::proved::spawnrun_lib::progress::Progress;
-use crate::proved::spawnrun_lib::replaying::replay;
-use crate::proved::spawnrun_lib::running::run;
-use crate::proved::spawnrun_lib::running_in_blocks::run_in_blocks;
 use crate::proved::spawnrun_lib::status::Status;
-use crate::proved::spawnrun_lib::task::{Task, command_line};
+use crate::proved::spawnrun_lib::task::command_line;
+use crate::proved::spawnrun_lib::work::do_task;
 use crate::proved::cli::{LineFault, finish, refuse_line};
 use crate::proved::devices::{Sink, Source};
 use crate::kit::programs::string::AsStr;
@@ -90,19 +88,7 @@ where
 {
     match command_line(words) {
         Ok(task) => {
-            let status = match task {
-                Task::Replay(limits) => replay(input, output, errors, progress, limits),
-                Task::Run { workers, show } => {
-                    run(rt, input, output, errors, progress, workers, show)
-                }
-                Task::RunInBlocks {
-                    size,
-                    workers,
-                    show,
-                } => run_in_blocks(
-                    rt, input, output, errors, progress, size, workers, show,
-                ),
-            };
+            let status = do_task(rt, task, input, output, errors, progress);
             finish(errors, status.number())
         }
         Err(LineFault::Line(error)) => refuse_line(format!("{error}"), errors),

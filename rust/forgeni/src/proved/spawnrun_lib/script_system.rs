@@ -1,8 +1,11 @@
 // Made of crates/spawnrun_lib/src/script_system.rt by rust/erase. It isn't edited by hand.
 
+use alloc::vec::Vec;
+use crate::kit::vec::FallibleVec;
 use crate::proved::spawnrun_lib::issuing::issue_all;
+use crate::proved::ent_alloc::Source;
 use crate::proved::ent_handle::Memory;
-use crate::proved::ent_queue::Commands;
+use crate::proved::ent_queue::{CommandQueue, Commands};
 use crate::proved::ent_runner::System;
 use crate::proved::ent_world::View;
 
@@ -29,17 +32,31 @@ impl<'a> ScriptSystem<'a> {
     }
 }
 
-impl System for ScriptSystem<'_> {
+impl<S: Source> System<S> for ScriptSystem<'_> {
     /// # Errors
     ///
     /// `Memory`, if one of the operations ran out of memory, and for no other reason. A spawn
-    /// that is refused for lack of slots or quota is a command of the queue, and the run goes on.
+    /// that is refused is a command of the queue, and the run goes on.
     #[inline]
     fn run(
         &self,
         view: &View<'_>,
-        commands: &mut Commands<'_>,
+        commands: &mut Commands<'_, CommandQueue, S>,
     ) -> Result<(), Memory> {
         issue_all(view, self.system.operations(), commands)
     }
+}
+
+/// The systems of a script, as a frame runs them.
+#[inline]
+pub(super) fn runnable<'a>(
+    systems: &'a [crate::proved::ent_script::System],
+) -> Result<Vec<ScriptSystem<'a>>, Memory>
+    // ensures { IfOk result (λ runnable. runnable.items ≡ systems.now) }
+{
+    let mut runnable = Vec::with_capacity_fallibly(systems.len())?;
+    for system in systems {
+        runnable.push_reserved(ScriptSystem::new(system));
+    }
+    Ok(runnable)
 }

@@ -6,50 +6,23 @@ use alloc::vec::Vec;
 use crate::kit::vec::FallibleVec;
 use crate::proved::spawnrun_lib::found::Found;
 use crate::proved::spawnrun_lib::output::{refuse, write};
+use crate::proved::spawnrun_lib::product::{INPUT_LIMIT, Product, Refusal};
 use crate::proved::spawnrun_lib::progress::Progress;
+use crate::proved::spawnrun_lib::replaying::replay;
+use crate::proved::spawnrun_lib::running::{run, run_in_blocks};
 use crate::proved::spawnrun_lib::status::Status;
+use crate::proved::spawnrun_lib::task::Task;
 use crate::proved::spawnrun_lib::wants::size_wants;
 use crate::proved::devices::{InputFault, Sink, Source, read_all};
 use crate::proved::ent_handle::Memory;
+use crate::kit::thread::Threads;
 
-/// The longest input that the program reads, in bytes.
-pub const INPUT_LIMIT: usize = 67_108_864;
-
-/// What is made of an input.
-pub(super) enum Product {
-    /// The input is accepted, and this is the output.
-    Output(Vec<u8>),
-    /// It is refused.
-    Refusal(Refusal),
-}
-
-/// What is said of an input that is refused.
-pub(super) struct Refusal {
-    /// The line of output.
-    pub line: Vec<u8>,
-    /// What the test wants that the input fails.
-    pub wants: &'static str,
-    /// What the test found.
-    pub found: Found,
-}
-
-/// Work on an input that was read whole.
-pub(super) trait Work {
-    /// Makes it, if there is memory for it, and tells how far it is.
-    fn make<P: Progress>(
-        self,
-        input: Vec<u8>,
-        progress: &mut P,
-    ) -> Result<Product, Memory>;
-        // requires { can_make self }
-        // ensures { IfOk result (IsProductOf (gives self) (fails self) input.items) }
-}
-
-/// Reads all of the input, does the work, and writes what it made.
+/// Reads all of the input, does the task with it, and writes what that gave. A task has 1 to 64
+/// workers.
 ///
 /// Nothing is made before the whole input is read, and nothing is written before all of the output
-/// is made. An input of more than 67,108,864 bytes is refused, and just one byte more than that is
-/// taken of it.
+/// is made. An input of more than 67,108,864 bytes is refused by one line, and so is one that is no
+/// schedule or no script. Of a longer input just one byte more than the limit is taken.
 ///
 /// After `Memory`, or a failure of the input, the output is as it was. `Device` is one failed call
 /// of one of the two devices.
@@ -57,17 +30,20 @@ pub(super) trait Work {
 /// Only a refused input writes to the error stream: what the input has to be, and what was found
 /// instead. If the error stream fails, nothing else changes.
 #[inline]
-pub(super) fn do_work<W: Work, I: Source, O: Sink, E: Sink, P: Progress>(
+pub(crate) fn do_task<R, I: Source, O: Sink, E: Sink, P: Progress>(
+    rt: &R,
+    task: Task,
     input: &mut I,
     output: &mut O,
     errors: &mut E,
     progress: &mut P,
-    work: W,
 ) -> Status
-    // requires { W.can_make work }
-    // ensures done { result ≡ Status.Done → HasDone (W.gives work)
+where
+    R: Threads + Sync,
+    // requires { CanDo task }
+    // ensures done { result ≡ Status.Done → HasDone (Gives task)
     //     (I.remaining input.old) (O.written output.old) (O.written output.new) }
-    // ensures refused { result ≡ Status.Refused → HasRefused (W.fails work)
+    // ensures refused { result ≡ Status.Refused → HasRefused (Fails task)
     //     (I.remaining input.old) (O.written output.old) (O.written output.new) }
     // ensures memory { result ≡ Status.Memory → output.new ≡ output.old }
 
@@ -83,7 +59,7 @@ pub(super) fn do_work<W: Work, I: Source, O: Sink, E: Sink, P: Progress>(
     // What the error stream tells.
     // ensures quiet { result ≢ Status.Refused → errors.new ≡ errors.old }
     // ensures advised { result ≡ Status.Refused → E.failures errors.new ≡ E.failures errors.old
-    //     → HasAdvised (W.fails work)
+    //     → HasAdvised (Fails task)
     //     (I.remaining input.old) (E.written errors.old) (E.written errors.new) }
 
     // What is taken of an input that didn't fail: all of it, or one byte more than the limit.
@@ -94,24 +70,27 @@ pub(super) fn do_work<W: Work, I: Source, O: Sink, E: Sink, P: Progress>(
     // ensures stops { I.failures input.new ≡ I.failures input.old
     //     → TakesAtMost (I.remaining input.old) (I.remaining input.new) (input_limit + 1) }
 {
-    match product_of(input, progress, work) {
+    match product_of(rt, task, input, progress) {
         Ok(Product::Output(text)) => write(output, &text, Status::Done),
         Ok(Product::Refusal(refusal)) => refuse(output, errors, &refusal),
         Err(status) => status,
     }
 }
 
-// Reads all of the input, and makes what the work makes of it. If nothing is made, it gives the
-// status with which the work ends.
+// Reads all of the input, and does the task with it. If that gives nothing, it returns the status
+// with which the work ends.
 #[inline]
-fn product_of<W: Work, I: Source, P: Progress>(
+fn product_of<R, I: Source, P: Progress>(
+    rt: &R,
+    task: Task,
     input: &mut I,
     progress: &mut P,
-    work: W,
 ) -> Result<Product, Status>
-    // requires { W.can_make work }
+where
+    R: Threads + Sync,
+    // requires { CanDo task }
     // ensures gives { IfOk result (λ product. IfSome (I.remaining input.old) (λ all.
-    //     IsProductOf (Accepts (W.gives work)) (Refuses (W.fails work)) all product)) }
+    //     IsProductOf (Accepts (Gives task)) (Refuses (Fails task)) all product)) }
     // ensures ends { IfErr result (λ status. (status ≡ Status.Memory) ⊎ (status ≡ Status.Device)) }
     // ensures failed { result ≡ Err Status.Device
     //     → I.failures input.new ≡ I.failures input.old + 1 }
@@ -124,10 +103,34 @@ fn product_of<W: Work, I: Source, P: Progress>(
     //     → TakesAtMost (I.remaining input.old) (I.remaining input.new) (input_limit + 1) }
 {
     match read_all(input, INPUT_LIMIT) {
-        Ok(bytes) => Ok(work.make(bytes, progress)?),
+        Ok(bytes) => Ok(make(rt, task, bytes, progress)?),
         Err(InputFault::TooLong) => Ok(Product::Refusal(too_long()?)),
         Err(InputFault::Memory) => Err(Status::Memory),
         Err(InputFault::Device) => Err(Status::Device),
+    }
+}
+
+// What the task makes of an input, if there is memory for it.
+#[inline]
+fn make<R, P: Progress>(
+    rt: &R,
+    task: Task,
+    input: Vec<u8>,
+    progress: &mut P,
+) -> Result<Product, Memory>
+where
+    R: Threads + Sync,
+    // requires { CanDo task }
+    // ensures { IfOk result (IsProductOf (Gives task) (Fails task) input.items) }
+{
+    match task {
+        Task::Replay(limits) => replay(input, limits, progress),
+        Task::Run { workers, show } => run(rt, input, workers, show, progress),
+        Task::RunInBlocks {
+            size,
+            workers,
+            show,
+        } => run_in_blocks(rt, input, size, workers, show, progress),
     }
 }
 

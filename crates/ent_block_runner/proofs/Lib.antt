@@ -1,4 +1,0 @@
-pub mod Drawn
-pub mod Filled
-pub mod Whole
-pub mod Common

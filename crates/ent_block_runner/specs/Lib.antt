@@ -1,5 +1,0 @@
-pub mod Filling
-pub mod Running
-pub mod Queues
-pub mod FrameInBlocks
-pub mod Unframed

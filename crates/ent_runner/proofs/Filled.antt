@@ -1,0 +1,255 @@
+-- Systems that filled lists as the jobs of a crew, each from its own block. The lists are logs or queues.
+use Rattle.ent_runner.proofs.Common.{AllPairs, All-nil, All-cons, all_pairs_push, common_steps, DidAll, DidUntil, ◌++◌, ◌-◌, get_or, slice_get, [], zero, suc, All, All-map, List, Option, Some, rules, arith, inl, inr, length, map, refl, sym, ℕ, ⊎_elim, ◌<◌, ◌∙◌, ◌∷◌, ◌≡◌, ◌⊎◌, length-map, get_or_from_slice_get, slice_get-get_or, slice_get_within, Block, Phase, after_use, blocks_of, spawned_in, Entry, Command, after_commands, AreBrokenOff, AreDone, Draws, AreReady, IsDealt, Logs, HaveFilled, blocks_after, SystemMayIssue, View, HaveIssued, HaveStopped, blocks_after_queues}
+use Rattle.ent_runner.specs.Blocks.{IsBrokenOff}
+use Rattle.ent_runner.specs.Logs.{SystemMayLog}
+use Rattle.ent_blocks.specs.Blocks.{Reserver}
+use Rattle.ent_runner.proofs.Adding.{last_pushed}
+use Rattle.ent_runner.proofs.EachOutput.{HoldsAt, each_done, each_either}
+use Rattle.ent_runner.proofs.Lists.{at_within, get_mapped, mapped_at}
+use Rattle.ent_runner.proofs.Drawn.{log_draws, queue_draws}
+use Rattle.ent_queue.specs.Drawing.{AreDrawnBy}
+use Rattle.ent_queue.specs.Issuing.{Issues}
+
+module _ {E : Type 0} where
+  -- the lists that systems hand back, and the reservers
+  abbrev filled_of : List (List E × Reserver) → List (List E)
+  filled_of all = map (λ (one : List E × Reserver). one.0) all
+
+  abbrev reservers_of : List (List E × Reserver) → List Reserver
+  reservers_of all = map (λ (one : List E × Reserver). one.1) all
+
+  filled_is : (all : List (List E × Reserver)) (n : ℕ) (one : List E × Reserver) → slice_get all n ≡ Some one
+      → get_or (filled_of all) n [] ≡ one.0
+  filled_is all n one at =
+      search (rules, get_or_from_slice_get, get_mapped (λ (one : List E × Reserver). one.0) all n one)
+
+  module _ (Drawn : Block → List E → Type 0) (use_one : Block → List E → Block)
+      (use_all : List Block → List (List E) → List Block) (none : use_all [] [] ≡ [])
+      (more : (b : Block) (bs : List Block) (l : List E) (ls : List (List E)) → use_all (b ∷ bs) (l ∷ ls) ≡ use_one b l
+      ∷ use_all bs ls) where
+    -- each block is used as its system's list says
+    blocks_are : (before : List Reserver) (all : List (List E × Reserver)) → length all ≡ length before
+        → ((n : ℕ) (r : Reserver) (one : List E × Reserver) → slice_get before n ≡ Some r → slice_get all n ≡ Some one
+        → one.1.block ≡ use_one r.block one.0)
+        → blocks_of (reservers_of all) ≡ use_all (blocks_of before) (filled_of all)
+    blocks_are [] [] same each = sym none
+    blocks_are (r ∷ before) (one ∷ all) same each = search (
+      rules,
+      arith,
+      each zero r one refl refl,
+      blocks_are before all (omega arith) (λ n s other at there. each (suc n) s other at there),
+      more,
+    )
+    blocks_are _ _ same _ = absurd (omega arith)
+
+    module _ (number : ℕ) (reservers : List Reserver) where
+      -- the job of this number filled the list from its own block, and hands back the list and the reserver
+      abbrev Fills : (ℕ → List E → Type 0) → ℕ → List E × Reserver → Type 0
+      Fills May n one = May n one.0 × (one.1.number ≡ number) × ((r : Reserver) → slice_get reservers n ≡ Some r
+          → Drawn r.block one.0 × (one.1.block ≡ use_one r.block one.0))
+
+      module _ (May : ℕ → List E → Type 0) (all : List (List E × Reserver)) (n : ℕ) (less : n < length all)
+          (each : HoldsAt (Fills May) all n) where
+        may_at : May n (get_or (filled_of all) n [])
+        may_at = let one = at_within all n less in rw (filled_is all n one.0 one.1) ((each one.0 one.1).0)
+
+        drawn_at : (block : Block) → slice_get (blocks_of reservers) n ≡ Some block
+            → Drawn block (get_or (filled_of all) n [])
+        drawn_at block at =
+            let one = at_within all n less in
+            let r = mapped_at (λ (r : Reserver). r.block) reservers n block at in
+            rw (filled_is all n one.0 one.1, sym r.2) (((each one.0 one.1).2 r.0 r.1).0)
+
+      module _ {L : Type 0} (before after : List L) (same : length after ≡ length before) (jobs : ℕ)
+          (count : length reservers ≡ jobs) (Fits Left : ℕ → List E × Reserver → Type 0)
+          (May Leave : ℕ → List E → Type 0) (fits : (n : ℕ) (one : List E × Reserver) → Fits n one → Fills May n one)
+          (left : (n : ℕ) (one : List E × Reserver) → Left n one → Fills Leave n one) where
+        done_all : (all : List (List E × Reserver)) → AreDone (λ n a one b. Fits n one) jobs before all after
+            → ((n : ℕ) → n < jobs → May n (get_or (filled_of all) n []))
+            × ((n : ℕ) (block : Block) → slice_get (blocks_of reservers) n ≡ Some block
+            → Drawn block (get_or (filled_of all) n []))
+            × (blocks_of (reservers_of all) ≡ use_all (blocks_of reservers) (filled_of all))
+            × All (λ (r : Reserver). r.number ≡ number) (reservers_of all)
+        done_all all done =
+            let each : (n : ℕ) → n < length all → HoldsAt (Fills May) all n = λ n less one at.
+            fits n one (each_done Fits jobs before all after same done n (omega (arith, less, done.count)) one at) in
+            let of_phase = λ (k : ℕ) (d : List E × Reserver) (within : k < length all).
+            (each k within (get_or all k d) (slice_get-get_or all k d within)).1 in (
+              λ n less. let here : n < length all = omega (arith, done.count) in may_at May all n here (each n here),
+              λ n block at.
+                  let here : n < length all = omega (
+                    arith,
+                    slice_get_within (blocks_of reservers) n block at,
+                    length-map reservers (λ (r : Reserver). r.block),
+                    count,
+                    done.count,
+                  ) in
+                  drawn_at May all n here (each n here) block at,
+              blocks_are reservers all (omega (arith, done.count))
+                  (λ n r one at there. ((each n (slice_get_within all n one there) one there).2 r at).1),
+              All-map (λ (r : Reserver). r.number ≡ number) (λ (one : List E × Reserver). one.1) all of_phase,
+            )
+
+        -- what a worker's systems filled, each of which had ended
+        all_ended : (outputs : List (List E × Reserver)) (a : L) (mine : List ℕ) (b : L)
+            → DidAll (λ n a one b. Fits n one) outputs a mine b
+            → All (λ n. May n (get_or (filled_of outputs) n [])) mine
+        all_ended outputs a [] b same = All-nil (λ n. May n (get_or (filled_of outputs) n []))
+        all_ended outputs a (n ∷ mine) b (j, (one, at, does), rest) = search (
+          rules,
+          All-cons,
+          filled_is outputs n one at,
+          (fits n one does).0,
+          all_ended outputs j mine b rest,
+        )
+
+        -- A worker ran a system after another one only if that one had ended.
+        in_turn : (outputs : List (List E × Reserver)) (a : L) (mine : List ℕ) (b : L)
+            → DidAll (λ n a one b. Fits n one) outputs a mine b
+            ⊎ DidUntil (λ n a one b. Fits n one) (λ n a one b. Left n one) outputs a mine b
+            → AllPairs (λ earlier later. May earlier (get_or (filled_of outputs) earlier [])) mine
+        in_turn outputs a mine b (inl did) = search (rules, all_ended outputs a mine b did)
+        in_turn outputs a mine b (inr did) = grind (
+          arith,
+          common_steps,
+          all_pairs_push,
+          all_ended outputs a did.earlier did.between did.ended,
+        )
+
+        -- the last system of a worker stopped
+        abbrev LastLeft : List (List E) → List (List ℕ) → Type 0
+        LastLeft lists ran = (worker : ℕ) × (mine : List ℕ) × (last : ℕ)
+            × (slice_get ran worker ≡ Some mine) × (slice_get mine (length mine - 1) ≡ Some last)
+            × Leave last (get_or lists last [])
+
+        lost_all : (left_out : List (Option (List E × Reserver)))
+            → (done : AreBrokenOff (λ n a one b. Fits n one) (λ n a one b. Left n one) jobs before left_out after)
+            → (length (filled_of done.outputs) ≡ done.count)
+            × ((n : ℕ) → n < done.count → May n (get_or (filled_of done.outputs) n [])
+            ⊎ Leave n (get_or (filled_of done.outputs) n []))
+            × ((n : ℕ) (block : Block) → n < done.count → slice_get (blocks_of reservers) n ≡ Some block
+            → Drawn block (get_or (filled_of done.outputs) n []))
+            × ((worker : ℕ) (mine : List ℕ) → slice_get done.ran worker ≡ Some mine
+            → AllPairs (λ earlier later. May earlier (get_or (filled_of done.outputs) earlier [])) mine)
+            × (LastLeft (filled_of done.outputs) done.ran ⊎ (done.count < jobs))
+        lost_all left_out done =
+            let Either : ℕ → List E → Type 0 = λ n l. May n l ⊎ Leave n l in
+            let each : (n : ℕ) → n < done.count → HoldsAt (Fills Either) done.outputs n = λ n less one at. ⊎_elim
+            (λ f. let g = fits n one f in (inl g.0, g.1, g.2)) (λ f. let g = left n one f in (inr g.0, g.1, g.2))
+            (each_either Fits Left jobs before left_out after same done n less one at) in (
+              length-map done.outputs (λ (one : List E × Reserver). one.0) ∙ done.each_output,
+              λ n less. may_at Either done.outputs n (omega (arith, less, done.each_output)) (each n less),
+              λ n block less. drawn_at Either done.outputs n (omega (arith, less, done.each_output)) (each n less)
+                  block,
+              λ worker mine at.
+                  let within = slice_get_within done.ran worker mine at in
+                  let a = at_within before worker (omega (arith, within, done.each_worker)) in
+                  let b = at_within after worker (omega (arith, within, done.each_worker, same)) in
+                  in_turn done.outputs a.0 mine b.0 (done.did worker mine a.0 b.0 at a.1 b.1),
+              ⊎_elim (λ s.
+                  let d = s.7 in
+                  let last = d.stopped in
+                  inl (
+                    s.0,
+                    s.1,
+                    d.last,
+                    s.4,
+                    rw d.numbers_are (last_pushed d.earlier d.last),
+                    rw (filled_is done.outputs d.last last.0 last.1) ((left d.last last.0 last.2).0),
+                  )) inr done.why,
+            )
+
+-- logs
+module _ {C S L : Type 0} (may leave : S → List (Entry C) → Type 0) (systems : List S) (phase : Phase)
+    (reservers : List Reserver) (ready : AreReady phase (length systems) reservers) (before after : List L)
+    (same : length after ≡ length before) where
+  abbrev uses : Block → List (Entry C) → Block
+  uses block log = after_use block (length (spawned_in log))
+
+  abbrev DrawsLog : Block → List (Entry C) → Type 0
+  DrawsLog block log = Draws phase.phase.start.pool block log (uses block log)
+
+  fits_log : (may : S → List (Entry C) → Type 0) (n : ℕ) (one : List (Entry C) × Reserver)
+      → IsDealt Logs [] (SystemMayLog may systems) phase reservers n one → Fills DrawsLog uses blocks_after refl (λ b bs l ls. refl)
+      phase.number reservers (SystemMayLog may systems) n one
+  fits_log may n one f =
+      (f.system, f.of_phase, λ r at. search (rules, log_draws phase r one.1 one.0 (f.filled r at)))
+
+  pub filled_done : (all : List (List (Entry C) × Reserver))
+      → AreDone (λ n a one b. IsDealt Logs [] (SystemMayLog may systems) phase reservers n one) (length systems)
+      before all after
+      → HaveFilled may systems phase.phase.start.pool (blocks_of reservers) (filled_of all)
+      (blocks_of (reservers_of all)) × All (λ (r : Reserver). r.number ≡ phase.number) (reservers_of all)
+  filled_done all done =
+      let d = done_all DrawsLog uses blocks_after refl (λ b bs l ls. refl) phase.number reservers before after same _
+      ready.count _ _ _ _ (fits_log may) (fits_log leave) all done in
+      (search (rules, d.0, d.1, d.2, done.count, length-map, slice_get_within), d.3)
+
+  pub lost_off : (workers : ℕ) → length before ≡ workers → (left : List (Option (List (Entry C) × Reserver)))
+      → AreBrokenOff (λ n a one b. IsDealt Logs [] (SystemMayLog may systems) phase reservers n one)
+      (λ n a one b. IsDealt Logs [] (SystemMayLog leave systems) phase reservers n one) (length systems) before left after
+      → IsBrokenOff may leave systems workers phase.phase.start.pool (blocks_of reservers)
+  lost_off workers team left done =
+      let d = lost_all DrawsLog uses blocks_after refl (λ b bs l ls. refl) phase.number reservers before after same _
+      ready.count _ _ _ _ (fits_log may) (fits_log leave) left done in
+      record {
+        ran = done.ran;
+        each_worker = done.each_worker ∙ team;
+        count = done.count;
+        within = done.within;
+        some = done.some;
+        once = done.once;
+        rising = done.rising;
+        logs = filled_of done.outputs;
+        each_log = d.0;
+        each_system = d.1;
+        draws = d.2;
+        ended = d.3;
+        why = d.4;
+        busy = done.busy;
+      }
+
+-- queues
+module _ {S L : Type 0} (may leave : S → View → List Command → Type 0) (systems : List S) (view : View) (phase : Phase)
+    (reservers : List Reserver) (ready : AreReady phase (length systems) reservers) (before after : List L)
+    (same : length after ≡ length before) where
+  fits_queue : (may : S → View → List Command → Type 0) (n : ℕ) (one : List Command × Reserver)
+      → IsDealt Issues [] (SystemMayIssue may systems view) phase reservers n one → Fills (AreDrawnBy phase.phase.start) after_commands
+      blocks_after_queues refl (λ b bs l ls. refl) phase.number reservers (SystemMayIssue may systems view) n one
+  fits_queue may n one f =
+      (f.system, f.of_phase, λ r at. search (rules, queue_draws phase r one.1 one.0 (f.filled r at)))
+
+  pub issued_done : (all : List (List Command × Reserver))
+      → AreDone (λ n a one b. IsDealt Issues [] (SystemMayIssue may systems view) phase reservers n one)
+      (length systems) before all after
+      → HaveIssued may systems view phase.phase.start (blocks_of reservers) (filled_of all)
+      (blocks_of (reservers_of all)) × All (λ (r : Reserver). r.number ≡ phase.number) (reservers_of all)
+  issued_done all done =
+      let d = done_all (AreDrawnBy phase.phase.start) after_commands blocks_after_queues refl (λ b bs l ls. refl)
+      phase.number reservers before after same _ ready.count _ _ _ _ (fits_queue may) (fits_queue leave) all done in
+      (search (rules, d.0, d.1, d.2, done.count, length-map, slice_get_within), d.3)
+
+  pub issued_lost : (workers : ℕ) → length before ≡ workers → (left : List (Option (List Command × Reserver)))
+      → AreBrokenOff (λ n a one b. IsDealt Issues [] (SystemMayIssue may systems view) phase reservers n one)
+      (λ n a one b. IsDealt Issues [] (SystemMayIssue leave systems view) phase reservers n one) (length systems) before
+      left after
+      → HaveStopped may leave systems workers view phase.phase.start (blocks_of reservers)
+  issued_lost workers team left done =
+      let d = lost_all (AreDrawnBy phase.phase.start) after_commands blocks_after_queues refl (λ b bs l ls. refl)
+      phase.number reservers before after same _ ready.count _ _ _ _ (fits_queue may) (fits_queue leave) left done in
+      record {
+        ran = done.ran;
+        each_worker = done.each_worker ∙ team;
+        count = done.count;
+        within = done.within;
+        some = done.some;
+        once = done.once;
+        rising = done.rising;
+        queues = filled_of done.outputs;
+        each_queue = d.0;
+        each_system = d.1;
+        draws = d.2;
+        ended = d.3;
+        why = d.4;
+        busy = done.busy;
+      }

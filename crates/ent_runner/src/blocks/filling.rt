@@ -1,0 +1,108 @@
+ghost use Rattle.std.specs.Prelude.{◌≡◌, ◌≢◌, ◌<◌, ◌≤◌, ◌^◌, ◌↔◌, ◌⊎◌, [], length, All, IfOk, IfErr};
+ghost use Rattle.ent_blocks.specs.Blocks.{blocks_of};
+ghost use Rattle.ent_blocks.specs.Faults.{IsErrWith};
+ghost use Rattle.ent_runner.specs.Blocks.Queues.{HaveIssued, HaveStopped};
+ghost use Rattle.ent_runner.specs.declared.blocks.run_error.RunError.TheVariants as failed;
+
+use crate::BlockNumbering;
+use crate::blocks::room::{Room, WORKERS, check, prepare};
+use crate::blocks::run_error::RunError;
+use crate::blocks::splitting::split;
+use crate::frame::gate::NoGate;
+use crate::frame::system::System;
+use crate::stage::BlockStage;
+use crate::systems::Issuers;
+use ent_blocks::{BlockReserver, Blocks};
+use ent_handle::HandedBack;
+use ent_queue::CommandQueue;
+use ent_world::View;
+use std::alloc::Global;
+use std::thread::Threads;
+
+/// Runs each system once, on that many workers side by side, each with the reserver at its position
+/// and a queue of its own. The queues and the reservers are in the order of the systems.
+///
+/// The handles of a system's spawns are the next ones of its block, in the pool's order, whatever the
+/// others do, whichever worker runs it, and however many workers there are.
+///
+/// A worker takes the next system that nobody has taken yet, until none is left. If a thread can't be
+/// started, another one does its work. One worker starts no thread.
+///
+/// # Errors
+///
+/// [`HandedBack`] has the reservers that are handed back, and the first of these errors that holds.
+///
+/// - [`RunError::Workers`], [`RunError::Systems`], [`RunError::Reservers`], [`RunError::OtherPhase`],
+///   [`RunError::Memory`]: no system ran, and the reservers are handed back as they were. No systems
+///   take no memory.
+/// - [`RunError::Lost`]: a system returned an error, or systems are left and no worker has memory for
+///   another one. All queues and reservers are dropped: [`Blocks::close_lost`] ends the phase.
+pub fn fill_in_blocks<R, J: BlockNumbering + Send + Sync, S>(
+    rt: &R,
+    alloc: Global,
+    blocks: &Blocks<J>,
+    reservers: Vec<BlockReserver<J>>,
+    view: View<'_>,
+    systems: &[S],
+    workers: usize,
+) -> Result<(Vec<CommandQueue>, Vec<BlockReserver<J>>), HandedBack<Vec<BlockReserver<J>>, RunError>>
+where
+    R: Threads + Sync,
+    S: System<Blocks<J>> + Sync,
+    ensures ok { IfOk result (λ ran. HaveIssued S.may_issue systems.now view.entry blocks.now.phase.start
+        (blocks_of reservers.items) ran.0.items (blocks_of ran.1.items)) }
+    ensures of { IfOk result (λ ran. All (λ r. r.number ≡ blocks.now.number) ran.1.items) }
+    ensures workers { IsErrWith result (λ h. h.error ≡ failed.Workers)
+        ↔ ((workers ≡ 0) ⊎ (64 < workers)) }
+    ensures systems { IsErrWith result (λ h. h.error ≡ failed.Systems)
+        ↔ ((0 < workers) × (workers ≤ 64) × (2 ^ 16 < length systems.now)) }
+    ensures reservers { IsErrWith result (λ h. h.error ≡ failed.Reservers)
+        ↔ ((0 < workers) × (workers ≤ 64) × (length systems.now ≤ 2 ^ 16)
+        × (length reservers.items ≢ length systems.now)) }
+    ensures other_phase { IsErrWith result (λ h. h.error ≡ failed.OtherPhase)
+        ↔ ((0 < workers) × (workers ≤ 64) × (length systems.now ≤ 2 ^ 16)
+        × (length reservers.items ≡ length systems.now)
+        × ¬ (All (λ r. r.number ≡ blocks.now.number) reservers.items)) }
+    ensures memory_some { IsErrWith result (λ h. h.error ≡ failed.Memory)
+        → 0 < length systems.now }
+    ensures handed_back { IfErr result (λ h. h.error ≢ failed.Lost
+        → h.value.items ≡ reservers.items) }
+
+    // What is left if the systems were broken off.
+    ensures lost { IsErrWith result (λ h. h.error ≡ failed.Lost) → HaveStopped S.may_issue
+        S.may_leave systems.now workers view.entry blocks.now.phase.start (blocks_of reservers.items) }
+    ensures lost_some { IsErrWith result (λ h. h.error ≡ failed.Lost) → 0 < length systems.now }
+    ensures lost_reservers { IfErr result (λ h. h.error ≡ failed.Lost → h.value.items ≡ []) }
+{
+    if let Err(error) = check(blocks, &reservers, systems.len(), workers) {
+        return Err(HandedBack::new(reservers, error));
+    }
+    if systems.is_empty() {
+        return Ok((Vec::new(alloc), reservers));
+    }
+    let Ok(room) = prepare(alloc, systems.len(), workers) else {
+        return Err(HandedBack::new(reservers, RunError::Memory));
+    };
+    let Room {
+        crew,
+        outputs: mut queues,
+        reservers: mut returned,
+    } = room;
+    let issuers = Issuers {
+        view,
+        systems,
+        gate: &NoGate,
+    };
+    let stage = BlockStage {
+        alloc,
+        blocks,
+        reservers: &reservers,
+        systems: &issuers,
+    };
+    let mut nothing = [(); WORKERS];
+    let Ok(done) = crew.work(rt, &mut nothing[..workers], &stage) else {
+        return Err(HandedBack::new(returned, RunError::Lost));
+    };
+    split(done, &mut queues, &mut returned);
+    Ok((queues, returned))
+}

@@ -1,0 +1,107 @@
+//! What systems in blocks need before they run: a reserver each, a crew, and room for what they hand back.
+ghost use Rattle.std.specs.Prelude.{◌≡◌, ◌≢◌, ◌<◌, ◌≤◌, ◌^◌, ◌↔◌, ◌⊎◌, [], length, All, IfOk, OnOk, IsErrOf};
+ghost use Rattle.std.specs.Prelude.{IsTrue, vec_capacity};
+ghost use Rattle.ent_runner.specs.Stage.{AreReady};
+ghost use Rattle.ent_runner.specs.declared.blocks.run_error.RunError.TheVariants as failed;
+
+use crate::BlockNumbering;
+use crate::blocks::run_error::RunError;
+use crate::crew::Crew;
+use ent_blocks::{BlockReserver, Blocks};
+use ent_handle::Memory;
+use std::alloc::Global;
+
+/// How many workers there may be.
+pub(super) const WORKERS: usize = 64;
+
+/// How many systems there may be.
+const SYSTEMS: usize = 65_536;
+
+/// A crew whose jobs hand back an `O` each, and a reserver, and a list for all of either.
+#[derive(Drop)]
+pub(super) struct Room<J: BlockNumbering, O> {
+    pub(super) crew: Crew<(O, BlockReserver<J>)>,
+    pub(super) outputs: Vec<O>,
+    pub(super) reservers: Vec<BlockReserver<J>>,
+}
+
+/// Whether that many systems may run, each with a reserver of the phase.
+///
+/// # Errors
+///
+/// Any [`RunError`] but [`RunError::Memory`] and [`RunError::Lost`]. Of those, the first that holds.
+pub(super) fn check<J: BlockNumbering>(
+    blocks: &Blocks<J>,
+    reservers: &[BlockReserver<J>],
+    systems: usize,
+    workers: usize,
+) -> Result<(), RunError>
+    ensures some { OnOk result (0 < workers) }
+    ensures few { OnOk result (workers ≤ 64) }
+    ensures within { OnOk result (systems ≤ 2 ^ 16) }
+    ensures ready { OnOk result (AreReady blocks.now systems reservers.now) }
+    ensures of_workers { IsErrOf result failed.Workers ↔ ((workers ≡ 0) ⊎ (64 < workers)) }
+    ensures of_systems { IsErrOf result failed.Systems
+        ↔ ((0 < workers) × (workers ≤ 64) × (2 ^ 16 < systems)) }
+    ensures of_reservers { IsErrOf result failed.Reservers
+        ↔ ((0 < workers) × (workers ≤ 64) × (systems ≤ 2 ^ 16)
+        × (length reservers.now ≢ systems)) }
+    ensures other_phase { IsErrOf result failed.OtherPhase
+        ↔ ((0 < workers) × (workers ≤ 64) × (systems ≤ 2 ^ 16)
+        × (length reservers.now ≡ systems)
+        × ¬ (All (λ r. r.number ≡ blocks.now.number) reservers.now)) }
+    ensures not_memory { ¬ (IsErrOf result failed.Memory) }
+    ensures not_lost { ¬ (IsErrOf result failed.Lost) }
+{
+    if workers == 0 || workers > WORKERS {
+        return Err(RunError::Workers);
+    }
+    if systems > SYSTEMS {
+        return Err(RunError::Systems);
+    }
+    if reservers.len() != systems {
+        return Err(RunError::Reservers);
+    }
+    if !are_of(blocks, reservers) {
+        return Err(RunError::OtherPhase);
+    }
+    Ok(())
+}
+
+/// Room for that many systems.
+///
+/// # Errors
+///
+/// `Memory`, if there is no memory for it.
+pub(super) fn prepare<J: BlockNumbering, O: Drop>(
+    alloc: Global,
+    systems: usize,
+    workers: usize,
+) -> Result<Room<J, O>, Memory>
+    requires some { 0 < workers }
+    requires few { workers ≤ 64 }
+    requires within { systems ≤ 2 ^ 16 }
+    ensures crew { IfOk result (λ room. (room.crew.jobs ≡ systems) × (room.crew.workers ≡ workers)) }
+    ensures empty { IfOk result (λ room.
+        (room.outputs.items ≡ []) × (room.reservers.items ≡ [])) }
+    ensures outputs { IfOk result (λ room. systems ≤ vec_capacity room.outputs) }
+    ensures reservers { IfOk result (λ room. systems ≤ vec_capacity room.reservers) }
+{
+    Ok(Room {
+        crew: Crew::new(alloc, systems, workers)?,
+        outputs: Vec::with_capacity(alloc, systems)?,
+        reservers: Vec::with_capacity(alloc, systems)?,
+    })
+}
+
+/// Whether all reservers are of this phase.
+fn are_of<J: BlockNumbering>(blocks: &Blocks<J>, reservers: &[BlockReserver<J>]) -> bool
+    ensures { IsTrue result ↔ All (λ r. r.number ≡ blocks.now.number) reservers.now }
+{
+    for reserver in reservers {
+        if !reserver.is_of(blocks) {
+            return false;
+        }
+    }
+    true
+}

@@ -1,0 +1,126 @@
+ghost use Rattle.std.specs.Prelude.{◌≡◌, ◌≢◌, ◌<◌, ◌≤◌, ◌^◌, ◌↔◌, ◌⊎◌, [], length, All, IfOk, IfErr};
+ghost use Rattle.ent_blocks.specs.Blocks.{blocks_of};
+ghost use Rattle.ent_blocks.specs.Faults.{IsErrWith};
+ghost use Rattle.ent_runner.specs.Blocks.{HaveFilled, IsBrokenOff};
+ghost use Rattle.ent_runner.specs.declared.blocks.run_error.RunError.TheVariants as failed;
+
+use crate::BlockNumbering;
+use crate::blocks::room::{Room, WORKERS, check, prepare};
+use crate::blocks::run_error::RunError;
+use crate::blocks::splitting::split;
+use crate::logs::system::LogSystem;
+use crate::stage::BlockStage;
+use crate::systems::Loggers;
+use ent_blocks::{BlockReserver, Blocks};
+use ent_handle::HandedBack;
+use ent_log::Log;
+use std::alloc::Global;
+use std::thread::Threads;
+
+/// Runs each system once, on that many workers side by side, each with the reserver at its position
+/// and a log of its own. The logs and the reservers are in the order of the systems.
+///
+/// The handles of a system's spawns are the next ones of its block, in the pool's order, whatever the
+/// others do, whichever worker runs it, and however many workers there are. So if what a system does
+/// follows from what it sees, all logs are the same each time, handles included.
+///
+/// A worker takes the next system that nobody has taken yet, until none is left. If a thread can't be
+/// started, another one does its work. One worker starts no thread.
+///
+/// ```
+/// # #[cfg(feature = "std")] {
+/// use forgeni::{run_in_blocks, BlockCommands, Entities, StdThreads, SyncPoint};
+///
+/// let spawn = |commands: &mut BlockCommands<'_, String>| match commands.spawn() {
+///     Ok(one) => commands.push(format!("{one}")),
+///     Err(refused) => refused.or_memory(),
+/// };
+/// let (blocks, reservers) = Entities::new().open_in_blocks(&[64, 64])?;
+/// let (mut logs, reservers) = run_in_blocks(&StdThreads, &blocks, reservers, &[spawn; 2], 4)?;
+/// let mut entities = blocks.close(reservers)?;
+/// let mut born = Vec::new();
+/// let _sync = SyncPoint::begin(&mut entities, &mut logs, &mut born)?;
+/// born.sort_unstable();
+/// assert_eq!(born.iter().map(|one| one.index()).collect::<Vec<_>>(), [0, 64]);
+/// # }
+/// # Ok::<(), Box<dyn std::error::Error + Send + Sync>>(())
+/// ```
+///
+/// # Errors
+///
+/// [`HandedBack`] has the reservers that are handed back, and the first of these errors that holds.
+///
+/// - [`RunError::Workers`], [`RunError::Systems`], [`RunError::Reservers`], [`RunError::OtherPhase`],
+///   [`RunError::Memory`]: no system ran, and the reservers are handed back as they were. No systems
+///   take no memory.
+/// - [`RunError::Lost`]: a system returned an error, or systems are left and no worker has memory for
+///   another one. All logs and reservers are dropped: [`Blocks::close_lost`] ends the phase.
+///
+/// # Panics
+///
+/// A panic of a system is handed on when all workers have ended. Logs and reservers are dropped then too.
+pub fn run_in_blocks<R, J: BlockNumbering + Send + Sync, C, S>(
+    rt: &R,
+    alloc: Global,
+    blocks: &Blocks<J>,
+    reservers: Vec<BlockReserver<J>>,
+    systems: &[S],
+    workers: usize,
+) -> Result<(Vec<Log<C>>, Vec<BlockReserver<J>>), HandedBack<Vec<BlockReserver<J>>, RunError>>
+where
+    R: Threads + Sync,
+    C: Drop + Send,
+    S: LogSystem<C, Blocks<J>> + Sync,
+    ensures ok { IfOk result (λ ran. HaveFilled S.may_log systems.now blocks.now.phase.start.pool
+        (blocks_of reservers.items) ran.0.items (blocks_of ran.1.items)) }
+    ensures of { IfOk result (λ ran. All (λ r. r.number ≡ blocks.now.number) ran.1.items) }
+    ensures workers { IsErrWith result (λ h. h.error ≡ failed.Workers)
+        ↔ ((workers ≡ 0) ⊎ (64 < workers)) }
+    ensures systems { IsErrWith result (λ h. h.error ≡ failed.Systems)
+        ↔ ((0 < workers) × (workers ≤ 64) × (2 ^ 16 < length systems.now)) }
+    ensures reservers { IsErrWith result (λ h. h.error ≡ failed.Reservers)
+        ↔ ((0 < workers) × (workers ≤ 64) × (length systems.now ≤ 2 ^ 16)
+        × (length reservers.items ≢ length systems.now)) }
+    ensures other_phase { IsErrWith result (λ h. h.error ≡ failed.OtherPhase)
+        ↔ ((0 < workers) × (workers ≤ 64) × (length systems.now ≤ 2 ^ 16)
+        × (length reservers.items ≡ length systems.now)
+        × ¬ (All (λ r. r.number ≡ blocks.now.number) reservers.items)) }
+    ensures memory_some { IsErrWith result (λ h. h.error ≡ failed.Memory)
+        → 0 < length systems.now }
+    ensures handed_back { IfErr result (λ h. h.error ≢ failed.Lost
+        → h.value.items ≡ reservers.items) }
+
+    // What is left if the systems were broken off.
+    ensures lost { IsErrWith result (λ h. h.error ≡ failed.Lost) → IsBrokenOff S.may_log S.may_leave
+        systems.now workers blocks.now.phase.start.pool (blocks_of reservers.items) }
+    ensures lost_some { IsErrWith result (λ h. h.error ≡ failed.Lost) → 0 < length systems.now }
+    ensures lost_reservers { IfErr result (λ h. h.error ≡ failed.Lost → h.value.items ≡ []) }
+{
+    if let Err(error) = check(blocks, &reservers, systems.len(), workers) {
+        return Err(HandedBack::new(reservers, error));
+    }
+    if systems.is_empty() {
+        return Ok((Vec::new(alloc), reservers));
+    }
+    let Ok(room) = prepare(alloc, systems.len(), workers) else {
+        return Err(HandedBack::new(reservers, RunError::Memory));
+    };
+    let Room {
+        crew,
+        outputs: mut logs,
+        reservers: mut returned,
+    } = room;
+    let loggers = Loggers { systems };
+    let stage = BlockStage {
+        alloc,
+        blocks,
+        reservers: &reservers,
+        systems: &loggers,
+    };
+    let mut nothing = [(); WORKERS];
+    let Ok(done) = crew.work(rt, &mut nothing[..workers], &stage) else {
+        return Err(HandedBack::new(returned, RunError::Lost));
+    };
+    split(done, &mut logs, &mut returned);
+    Ok((logs, returned))
+}

@@ -1,0 +1,117 @@
+//! Logs that systems fill side by side, over an allocator of the caller's.
+ghost use Rattle.std.specs.Prelude.{◌≡◌, ◌≢◌, ◌<◌, ◌≤◌, ◌^◌, ◌↔◌, ◌⊎◌, length};
+ghost use Rattle.std.specs.Prelude.{IfOk, IfErr, IsErrOf, Err, None};
+ghost use Rattle.ent_log.specs.Logs.{entries_of, spawned_in, first_unreserved};
+ghost use Rattle.ent_runner.specs.Logs.{HaveLogged, IsBrokenOff};
+
+pub(super) mod beginning;
+pub(super) mod log_error;
+pub(super) mod system;
+
+use crate::crew::Crew;
+use crate::logs::log_error::LogError;
+use crate::logs::system::LogSystem;
+use crate::stage::SharedStage;
+use crate::systems::Loggers;
+use ent_alloc::{Entities, Limits};
+use ent_log::Log;
+use ent_shared::{Shared, share};
+use std::alloc::Global;
+use std::mem;
+use std::thread::Threads;
+
+/// How many workers may run systems.
+const WORKERS: usize = 64;
+
+/// How many systems run together.
+const SYSTEMS: usize = 65_536;
+
+/// Runs each system once, on that many workers side by side, each with a log of its own. The logs
+/// are in the order of the systems, whatever the order in which they ended, and
+/// [`SyncPoint::begin`](ent_log::SyncPoint::begin) takes them.
+///
+/// A worker takes the next system that nobody has taken yet, until none is left. If a thread can't
+/// be started, another one does its work. One worker starts no thread.
+///
+/// # Errors
+///
+/// It is the first of these that holds.
+///
+/// - [`LogError::NeedsFlush`], [`LogError::Workers`], [`LogError::Systems`], [`LogError::Memory`]:
+///   no system ran, and the allocator is as it was.
+/// - [`LogError::Lost`]: a system returned an error, or systems are left and no worker has memory
+///   for the log of another one. The logs are dropped. What the systems that ran had reserved stays
+///   reserved, and nothing else is: [`Entities::flush`] brings it to life.
+pub fn run_logs<R, C, S>(
+    rt: &R,
+    alloc: Global,
+    entities: &mut Entities,
+    systems: &[S],
+    workers: usize,
+) -> Result<Vec<Log<C>>, LogError>
+where
+    R: Threads + Sync,
+    C: Drop + Send,
+    S: LogSystem<C, Shared> + Sync,
+    ensures ok { IfOk result (λ logs. HaveLogged S.may_log systems.now workers
+        entities.old.allocator logs.items entities.new.allocator) }
+    ensures rows { entities.new.rows ≡ entities.old.rows }
+
+    // The handles of all spawns are reserved.
+    ensures reserved { IfOk result (λ logs. first_unreserved entities.new.allocator
+        (spawned_in (entries_of logs.items)) ≡ None) }
+
+    ensures needs_flush { IsErrOf result LogError.NeedsFlush
+        ↔ (0 < entities.old.allocator.asked) }
+    ensures no_crew { IsErrOf result LogError.Workers
+        ↔ ((entities.old.allocator.asked ≡ 0) × ((workers ≡ 0) ⊎ (64 < workers))) }
+    ensures too_many { IsErrOf result LogError.Systems
+        ↔ ((entities.old.allocator.asked ≡ 0) × (0 < workers) × (workers ≤ 64)
+        × (2 ^ 16 < length systems.now)) }
+    ensures memory_some { IsErrOf result LogError.Memory → 0 < length systems.now }
+    ensures nothing { IfErr result (λ error. error ≢ LogError.Lost
+        → entities.new ≡ entities.old) }
+
+    // What is left of a run that was broken off.
+    ensures lost { IsErrOf result LogError.Lost → IsBrokenOff S.may_log S.may_leave systems.now
+        workers entities.old.allocator entities.new.allocator }
+    ensures lost_some { IsErrOf result LogError.Lost → 0 < length systems.now }
+    ensures unborn { result ≢ Err LogError.Unborn }
+{
+    if entities.needs_flush() {
+        return Err(LogError::NeedsFlush);
+    }
+    if workers == 0 || workers > WORKERS {
+        return Err(LogError::Workers);
+    }
+    if systems.len() > SYSTEMS {
+        return Err(LogError::Systems);
+    }
+    if systems.is_empty() {
+        return Ok(Vec::new(alloc));
+    }
+    let Ok(crew) = Crew::new(alloc, systems.len(), workers) else {
+        return Err(LogError::Memory);
+    };
+    let flushed = mem::replace(entities, Entities::new(alloc, Limits::default_limits()));
+    let (shared, mut reservers) = match share(alloc, flushed, workers) {
+        Ok(made) => made,
+        Err((flushed, _)) => {
+            *entities = flushed;
+            return Err(LogError::Memory);
+        }
+    };
+    let loggers = Loggers { systems };
+    let stage = SharedStage {
+        alloc,
+        shared: &shared,
+        systems: &loggers,
+    };
+    // A command may panic when it is dropped. So no log is dropped before the allocator is in its place.
+    let logs = crew.work(rt, &mut reservers, &stage);
+    *entities = shared.close(reservers);
+    let Ok(logs) = logs else {
+        return Err(LogError::Lost);
+    };
+    Ok(logs)
+}

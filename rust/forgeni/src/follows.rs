@@ -1,0 +1,248 @@
+//! Maps that lose an entity's values when it goes. By hand: what a map loses is what its proved
+//! `remove` takes out.
+
+use crate::handle::Handle;
+use crate::{Entities, FreeError, Freed, HandleMap, SparseMap};
+
+/// What has something for each of some entities: a map of components, several of them, or a type of
+/// your own.
+///
+/// It is implemented for both kinds of maps, and for tuples, slices and arrays of what implements
+/// it. A struct of maps gets it by [`tables!`](crate::tables).
+///
+/// ```
+/// use forgeni::{Entities, Follows, HandleMap, SparseMap};
+///
+/// let (mut places, mut names) = (HandleMap::new(), SparseMap::new());
+/// let mut entities = Entities::new();
+/// let ship = entities.alloc()?;
+/// places.insert(ship, [0.0, 0.0])?;
+/// names.insert(ship, "Argo")?;
+/// (&mut places, &mut names).despawn(&mut entities, ship)?;
+/// assert!(entities.is_empty() && places.is_empty() && names.is_empty());
+/// # Ok::<(), Box<dyn std::error::Error + Send + Sync>>(())
+/// ```
+pub trait Follows {
+    /// Drops what it has for this handle.
+    ///
+    /// # Panics
+    ///
+    /// If a value panics when it is dropped, the other maps forget the handle all the same, and the
+    /// panic is handed on.
+    fn forget(&mut self, handle: Handle);
+
+    /// Frees an entity, and forgets its handle.
+    ///
+    /// # Errors
+    ///
+    /// Those of [`Entities::free`]. Nothing is forgotten then.
+    ///
+    /// # Panics
+    ///
+    /// As [`forget`](Self::forget). The entity is freed then.
+    fn despawn(&mut self, entities: &mut Entities, handle: Handle) -> Result<Freed, FreeError> {
+        let freed = entities.free(handle)?;
+        self.forget(handle);
+        Ok(freed)
+    }
+}
+
+impl<F: Follows + ?Sized> Follows for &mut F {
+    #[inline]
+    fn forget(&mut self, handle: Handle) {
+        (**self).forget(handle);
+    }
+}
+
+impl<T> Follows for HandleMap<T> {
+    #[inline]
+    fn forget(&mut self, handle: Handle) {
+        self.remove(handle);
+    }
+}
+
+impl<T> Follows for SparseMap<T> {
+    #[inline]
+    fn forget(&mut self, handle: Handle) {
+        self.remove(handle);
+    }
+}
+
+/// What is called when this is dropped, also by a panic.
+struct AtLast<F: FnMut()>(F);
+
+impl<F: FnMut()> Drop for AtLast<F> {
+    #[inline]
+    fn drop(&mut self) {
+        self.0();
+    }
+}
+
+impl<F: Follows> Follows for [F] {
+    fn forget(&mut self, handle: Handle) {
+        let mut maps = self.iter_mut();
+        // After a panic, those that are left forget the handle when this is dropped.
+        let mut rest = AtLast(|| maps.by_ref().for_each(|it| it.forget(handle)));
+        rest.0();
+    }
+}
+
+impl<F: Follows, const N: usize> Follows for [F; N] {
+    #[inline]
+    fn forget(&mut self, handle: Handle) {
+        self.as_mut_slice().forget(handle);
+    }
+}
+
+macro_rules! tuples_follow {
+    ($($Map:ident $map:ident)*) => {
+        impl<$($Map: Follows),*> Follows for ($($Map,)*) {
+            #[inline]
+            fn forget(&mut self, handle: Handle) {
+                let ($($map,)*) = self;
+                $(let _last = AtLast(|| $map.forget(handle));)*
+            }
+        }
+    };
+}
+
+tuples_follow!(A a B b);
+tuples_follow!(A a B b C c);
+tuples_follow!(A a B b C c D d);
+tuples_follow!(A a B b C c D d E e);
+tuples_follow!(A a B b C c D d E e F f);
+tuples_follow!(A a B b C c D d E e F f G g);
+tuples_follow!(A a B b C c D d E e F f G g H h);
+
+/// A struct of maps, one for each component, which [`Follows`] the entities.
+///
+/// Each field is a [`HandleMap`] or a [`SparseMap`], and has the attributes and the visibility that
+/// it is given. Beside what derives give, the struct has:
+/// - `forget(handle)` and `despawn(&mut entities, handle)`, those of [`Follows`];
+/// - `sweep(&entities)`, which drops the values of all handles that are neither alive nor reserved,
+///   for who freed elsewhere or has read a save: see [`AnyMap::sweep`](crate::AnyMap::sweep);
+/// - `clear()`, which drops all values, and `lens()`, which returns the name of each map and how
+///   many values it has;
+/// - `try_clone()` and `try_clone_from(&source)`, if the values are `Clone`: a snapshot, and the
+///   way back. If memory runs out, `try_clone_from` has changed nothing. If a clone panics, call it
+///   once more, with this source or another;
+/// - `Default`, and with the feature `serde` `Serialize` and `Deserialize`, with the names of the
+///   maps, if the values are. A map that is left out has no values. `DeserializeSeed` of `&mut
+///   Parts` reads in place of the values that there are, and keeps the limit of each map: use it
+///   for what may be forged.
+///
+/// ```
+/// use forgeni::{tables, Entities, Follows, HandleMap, SparseMap};
+///
+/// tables! {
+///     /// What the ships of a game have.
+///     #[derive(Debug, PartialEq)]
+///     pub struct Parts {
+///         pub place: HandleMap<[f32; 2]>,
+///         pub name: SparseMap<String>,
+///     }
+/// }
+///
+/// let (mut entities, mut parts) = (Entities::new(), Parts::default());
+/// let [ship, boat] = [entities.alloc()?, entities.alloc()?];
+/// for one in [ship, boat] {
+///     parts.place.insert(one, [0.0, 0.0])?;
+/// }
+/// parts.name.insert(ship, "Argo".to_string())?;
+/// let before = parts.try_clone()?;
+///
+/// parts.despawn(&mut entities, ship)?;
+/// assert_eq!(parts.lens(), [("place", 1), ("name", 0)]);
+/// assert!(parts.despawn(&mut entities, ship).is_err());
+///
+/// entities.free(boat)?;
+/// parts.sweep(&entities);
+/// assert_eq!(parts, Parts::default());
+///
+/// parts.try_clone_from(&before)?;
+/// assert_eq!(parts.name[ship], "Argo");
+/// # Ok::<(), Box<dyn std::error::Error + Send + Sync>>(())
+/// ```
+#[macro_export]
+macro_rules! tables {
+    ($(#[$about:meta])* $seen:vis struct $Name:ident {
+        $($(#[$of:meta])* $shown:vis $map:ident: $($Kind:ident)::+ <$Value:ty>),+ $(,)?
+    }) => {
+        $(#[$about])*
+        $seen struct $Name {
+            $($(#[$of])* $shown $map: $($Kind)::+ <$Value>,)+
+        }
+
+        impl ::core::default::Default for $Name {
+            fn default() -> Self {
+                Self { $($map: ::core::default::Default::default(),)+ }
+            }
+        }
+
+        impl $crate::Follows for $Name {
+            #[inline]
+            fn forget(&mut self, handle: $crate::Handle) {
+                // All are out of the maps before one is dropped.
+                let _gone = ($(self.$map.remove(handle),)+);
+            }
+        }
+
+        #[allow(dead_code)]
+        impl $Name {
+            /// Drops the values of all handles that are neither alive nor reserved.
+            $seen fn sweep(&mut self, entities: &$crate::Entities) {
+                $($crate::AnyMap::sweep(&mut self.$map, entities);)+
+            }
+
+            /// Drops all values. The room stays.
+            $seen fn clear(&mut self) {
+                $(self.$map.clear();)+
+            }
+
+            /// The name of each map, and how many values it has.
+            $seen fn lens(&self) -> [(&'static str, usize); [$(stringify!($map)),+].len()] {
+                [$((stringify!($map), self.$map.len())),+]
+            }
+
+            /// A clone of each map.
+            ///
+            /// # Errors
+            ///
+            /// Out of memory.
+            $seen fn try_clone(&self) -> ::core::result::Result<Self, $crate::OutOfMemory>
+            where
+                $(for<'any> $Value: ::core::clone::Clone,)+
+            {
+                Ok(Self { $($map: self.$map.try_clone()?,)+ })
+            }
+
+            /// Makes each map a clone of the source's. It takes memory only for room that a map
+            /// lacks.
+            ///
+            /// # Errors
+            ///
+            /// Out of memory. Nothing has changed then, but that maps may have more room.
+            $seen fn try_clone_from(
+                &mut self,
+                source: &Self,
+            ) -> ::core::result::Result<(), $crate::OutOfMemory>
+            where
+                $(for<'any> $Value: ::core::clone::Clone,)+
+            {
+                $(self.$map.reserve_for(&source.$map)?;)+
+                $(self.$map.try_clone_from(&source.$map)?;)+
+                Ok(())
+            }
+        }
+
+        $crate::tables_serde!($Name $($map $Value),+);
+    };
+}
+
+/// Without the feature `serde`, a struct of maps has none of its traits.
+#[cfg(not(feature = "serde"))]
+#[doc(hidden)]
+#[macro_export]
+macro_rules! tables_serde {
+    ($($any:tt)*) => {};
+}

@@ -1,0 +1,167 @@
+// Made of crates/ent_runner/src/blocks/frame.rt by rust/erase. It isn't edited by hand.
+
+use alloc::vec::Vec;
+use crate::proved::ent_runner::blocks::filling::fill_in_blocks;
+use crate::proved::ent_runner::blocks::run_error::RunError;
+use crate::proved::ent_runner::frame::report::FrameReport;
+use crate::proved::ent_runner::frame::system::System;
+use crate::proved::ent_blocks::{BlockReserver, Blocks, EndError};
+use crate::proved::ent_handle::HandedBack;
+use crate::proved::ent_queue::CommandQueue;
+use crate::proved::ent_world::{SyncFault, World, WorldInBlocks};
+use crate::kit::thread::Threads;
+
+/// A frame in blocks that didn't end.
+pub enum Unframed {
+    /// The systems filled no queues. The world is as it was opened, and no command was applied.
+    Unrun {
+        /// The world as it was opened.
+        world: WorldInBlocks,
+        /// The reservers that were handed in, as they were. None, if systems ran:
+        /// [`WorldInBlocks::close_lost`] ends the phase without them.
+        reservers: Vec<BlockReserver>,
+        /// Why there are no queues.
+        error: RunError,
+    },
+    /// All systems ran, and the world was not closed. [`WorldInBlocks::close`] closes it, and
+    /// [`World::apply`] does the sync point.
+    Unended {
+        /// The world as it was opened, the reservers, and why it wasn't closed.
+        unended: HandedBack<(WorldInBlocks, Vec<BlockReserver>), EndError>,
+        /// The queue of each system, in the order of the systems.
+        queues: Vec<CommandQueue>,
+    },
+    /// All systems ran, and the sync point stopped.
+    Sync {
+        /// The world as the stop has left it.
+        world: World,
+        /// What came of the sync point.
+        fault: SyncFault,
+        /// The queue of each system, in the order of the systems.
+        queues: Vec<CommandQueue>,
+    },
+}
+
+/// Runs each system once, on that many workers side by side, each with the reserver at its position, and
+/// then the sync point. The queues are applied in the order of the systems.
+///
+/// The handles of a system's spawns are the next ones of its block, in the pool's order, whatever the
+/// others do, whichever worker runs it, and however many workers there are. So if what a system does
+/// follows from what it sees, the world after the frame is the same each time, handles included.
+///
+/// # Errors
+///
+/// - [`Unframed::Unrun`] as of [`fill_in_blocks`]: no command was applied.
+/// - [`Unframed::Unended`] if all systems ran, and the world was not closed, as of
+///   [`WorldInBlocks::close`].
+/// - [`Unframed::Sync`] if all systems ran and memory ran out in the sync point. [`World::apply`] or
+///   [`World::apply_from`] goes on, as after a frame that isn't in blocks.
+///
+/// <details><summary>Contract</summary>
+///
+/// In the words of the folder `specs/` of crate `ent_runner`:
+///
+/// ```text
+/// ensures ok { IfOk result (λ ended. EndsInBlocks S.may_issue systems.now opened
+///     (blocks_of reservers.items) ended.1.queues.items ended.0 ended.1.sync.born.items
+///     ended.1.sync.faults.items) }
+/// ensures all { OnOk result (map unused (blocks_of reservers.items) ≡ opened.blocks.phase.blocks) }
+/// ensures world { IfOk result (λ ended. IsWorld ended.0) }
+/// ensures flushed { IfOk result (λ ended. ended.0.allocator.asked ≡ 0) }
+///
+/// // When the systems are refused, and what is left then.
+/// ensures workers { IsErrWith result (IsUnrun failed.Workers) ↔ ((workers ≡ 0) ⊎ (64 < workers)) }
+/// ensures systems { IsErrWith result (IsUnrun failed.Systems)
+///     ↔ ((0 < workers) × (workers ≤ 64) × (2 ^ 16 < length systems.now)) }
+/// ensures reservers { IsErrWith result (IsUnrun failed.Reservers)
+///     ↔ ((0 < workers) × (workers ≤ 64) × (length systems.now ≤ 2 ^ 16)
+///     × (length reservers.items ≢ length systems.now)) }
+/// ensures other_phase { IsErrWith result (IsUnrun failed.OtherPhase)
+///     ↔ ((0 < workers) × (workers ≤ 64) × (length systems.now ≤ 2 ^ 16)
+///     × (length reservers.items ≡ length systems.now)
+///     × ¬ (All (λ r. r.number ≡ opened.blocks.number) reservers.items)) }
+/// ensures memory_some { IsErrWith result (IsUnrun failed.Memory) → 0 < length systems.now }
+/// ensures unrun { IfErr result (IfUnrun (λ world _ _. world ≡ opened)) }
+/// ensures handed_back { IfErr result (IfUnrun (λ _ left error.
+///     error ≢ failed.Lost → left ≡ reservers.items)) }
+///
+/// // What is left if the systems were broken off.
+/// ensures lost { IfErr result (IfUnrun (λ _ _ error. error ≡ failed.Lost
+///     → HaveStopped S.may_issue S.may_leave systems.now workers (view_in_blocks opened)
+///     opened.blocks.phase.start (blocks_of reservers.items))) }
+/// ensures lost_some { IfErr result (IfUnrun (λ _ _ error. error ≡ failed.Lost
+///     → 0 < length systems.now)) }
+/// ensures lost_reservers { IfErr result (IfUnrun (λ _ left error. error ≡ failed.Lost
+///     → left ≡ [])) }
+///
+/// // All systems ran, and the world was not closed.
+/// ensures unended { IfErr result (IfUnended (λ world _ _ _. world ≡ opened)) }
+/// ensures unended_issued { IfErr result (IfUnended (λ _ left _ queues.
+///     HaveIssued S.may_issue systems.now (view_in_blocks opened) opened.blocks.phase.start
+///     (blocks_of reservers.items) queues (blocks_of left))) }
+/// ensures unended_of { IfErr result (IfUnended (λ _ left _ _.
+///     All (λ r. r.number ≡ opened.blocks.number) left)) }
+///
+/// // Why not. If the reservers are those of all blocks, in their order, it is because memory ran out.
+/// ensures unended_why { IfErr result (IfUnended (λ _ _ error _.
+///     IsWhyUnended opened.blocks.phase.blocks (blocks_of reservers.items) error)) }
+/// ensures whole { map unused (blocks_of reservers.items) ≡ opened.blocks.phase.blocks
+///     → IfErr result (IfUnended (λ _ _ error _. error ≡ unended.Memory)) }
+///
+/// // All systems ran, and the sync point stopped. The reservers were those of all blocks.
+/// ensures stopped_all { IfErr result (IfSyncStopped (λ _ _ _.
+///     map unused (blocks_of reservers.items) ≡ opened.blocks.phase.blocks)) }
+/// ensures stopped { IfErr result (IfSyncStopped (λ world fault queues.
+///     StopsInBlocks S.may_issue systems.now opened (blocks_of reservers.items) queues world fault)) }
+/// ensures stopped_flushed { IfErr result (IfStoppedAt (λ world _ _ _ _. world.allocator.asked ≡ 0)) }
+/// ensures stopped_memory { IfErr result (IfStoppedAt TakesMemoryAt) }
+/// ensures flush_reserved { IfErr result (IfSyncStopped (λ world fault _.
+///     fault ≡ stop.FlushMemory → 0 < length world.allocator.taken)) }
+/// ```
+///
+/// </details>
+#[inline]
+pub fn run_frame_in_blocks<R, S>(
+    rt: &R,
+    opened: WorldInBlocks,
+    reservers: Vec<BlockReserver>,
+    systems: &[S],
+    workers: usize,
+) -> Result<(World, FrameReport), Unframed>
+where
+    R: Threads + Sync,
+    S: System<Blocks> + Sync,
+{
+    let view = opened.view();
+    let filled = fill_in_blocks(
+        rt,
+        opened.blocks(),
+        reservers,
+        view,
+        systems,
+        workers,
+    );
+    let (queues, reservers) = match filled {
+        Ok(filled) => filled,
+        Err(unrun) => {
+            let (reservers, error) = unrun.into_parts();
+            return Err(Unframed::Unrun {
+                world: opened,
+                reservers,
+                error,
+            });
+        }
+    };
+    let mut world = match opened.close(reservers) {
+        Ok(world) => world,
+        Err(unended) => return Err(Unframed::Unended { unended, queues }),
+    };
+    match world.apply(&queues) {
+        Ok(sync) => Ok((world, FrameReport { queues, sync })),
+        Err(fault) => Err(Unframed::Sync {
+            world,
+            fault,
+            queues,
+        }),
+    }
+}

@@ -1,0 +1,105 @@
+// Made of crates/ent_runner/src/blocks/room.rt by rust/erase. It isn't edited by hand.
+
+//! What systems in blocks need before they run: a reserver each, a crew, and room for what they hand back.
+use alloc::vec::Vec;
+use crate::kit::vec::FallibleVec;
+use crate::proved::ent_runner::blocks::run_error::RunError;
+use crate::proved::ent_runner::crew::Crew;
+use crate::proved::ent_blocks::{BlockReserver, Blocks};
+use crate::proved::ent_handle::Memory;
+
+/// How many workers there may be.
+pub(super) const WORKERS: usize = 64;
+
+/// How many systems there may be.
+const SYSTEMS: usize = 65_536;
+
+/// A crew whose jobs hand back an `O` each, and a reserver, and a list for all of either.
+pub(super) struct Room<O> {
+    pub(super) crew: Crew<(O, BlockReserver)>,
+    pub(super) outputs: Vec<O>,
+    pub(super) reservers: Vec<BlockReserver>,
+}
+
+/// Whether that many systems may run, each with a reserver of the phase.
+///
+/// # Errors
+///
+/// Any [`RunError`] but [`RunError::Memory`] and [`RunError::Lost`]. Of those, the first that holds.
+#[inline]
+pub(super) fn check(
+    blocks: &Blocks,
+    reservers: &[BlockReserver],
+    systems: usize,
+    workers: usize,
+) -> Result<(), RunError>
+    // ensures some { OnOk result (0 < workers) }
+    // ensures few { OnOk result (workers ≤ 64) }
+    // ensures within { OnOk result (systems ≤ 2 ^ 16) }
+    // ensures ready { OnOk result (AreReady blocks.now systems reservers.now) }
+    // ensures of_workers { IsErrOf result failed.Workers ↔ ((workers ≡ 0) ⊎ (64 < workers)) }
+    // ensures of_systems { IsErrOf result failed.Systems
+    //     ↔ ((0 < workers) × (workers ≤ 64) × (2 ^ 16 < systems)) }
+    // ensures of_reservers { IsErrOf result failed.Reservers
+    //     ↔ ((0 < workers) × (workers ≤ 64) × (systems ≤ 2 ^ 16)
+    //     × (length reservers.now ≢ systems)) }
+    // ensures other_phase { IsErrOf result failed.OtherPhase
+    //     ↔ ((0 < workers) × (workers ≤ 64) × (systems ≤ 2 ^ 16)
+    //     × (length reservers.now ≡ systems)
+    //     × ¬ (All (λ r. r.number ≡ blocks.now.number) reservers.now)) }
+    // ensures not_memory { ¬ (IsErrOf result failed.Memory) }
+    // ensures not_lost { ¬ (IsErrOf result failed.Lost) }
+{
+    if workers == 0 || workers > WORKERS {
+        return Err(RunError::Workers);
+    }
+    if systems > SYSTEMS {
+        return Err(RunError::Systems);
+    }
+    if reservers.len() != systems {
+        return Err(RunError::Reservers);
+    }
+    if !are_of(blocks, reservers) {
+        return Err(RunError::OtherPhase);
+    }
+    Ok(())
+}
+
+/// Room for that many systems.
+///
+/// # Errors
+///
+/// `Memory`, if there is no memory for it.
+#[inline]
+pub(super) fn prepare<O>(
+    systems: usize,
+    workers: usize,
+) -> Result<Room<O>, Memory>
+    // requires some { 0 < workers }
+    // requires few { workers ≤ 64 }
+    // requires within { systems ≤ 2 ^ 16 }
+    // ensures crew { IfOk result (λ room. (room.crew.jobs ≡ systems) × (room.crew.workers ≡ workers)) }
+    // ensures empty { IfOk result (λ room.
+    //     (room.outputs.items ≡ []) × (room.reservers.items ≡ [])) }
+    // ensures outputs { IfOk result (λ room. systems ≤ vec_capacity room.outputs) }
+    // ensures reservers { IfOk result (λ room. systems ≤ vec_capacity room.reservers) }
+{
+    Ok(Room {
+        crew: Crew::new(systems, workers)?,
+        outputs: Vec::with_capacity_fallibly(systems)?,
+        reservers: Vec::with_capacity_fallibly(systems)?,
+    })
+}
+
+/// Whether all reservers are of this phase.
+#[inline]
+fn are_of(blocks: &Blocks, reservers: &[BlockReserver]) -> bool
+    // ensures { IsTrue result ↔ All (λ r. r.number ≡ blocks.now.number) reservers.now }
+{
+    for reserver in reservers {
+        if !reserver.is_of(blocks) {
+            return false;
+        }
+    }
+    true
+}

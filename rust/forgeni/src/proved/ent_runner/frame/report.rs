@@ -1,0 +1,44 @@
+// Made of crates/ent_runner/src/frame/report.rt by rust/erase. It isn't edited by hand.
+
+use alloc::vec::Vec;
+use crate::proved::ent_queue::CommandQueue;
+use crate::proved::ent_world::{SyncFault, SyncReport};
+
+/// What a frame has done.
+#[derive(Debug)]
+pub struct FrameReport {
+    /// The queue of each system, in the order of the systems.
+    pub queues: Vec<CommandQueue>,
+    /// What the sync point has done.
+    pub sync: SyncReport,
+}
+
+/// Why a frame stopped.
+#[derive(Debug)]
+pub enum FrameFault {
+    /// Memory ran out before any system ran. The world is as it was.
+    Memory,
+    /// A system returned `Memory`, or systems are left and no worker has memory for the queue of
+    /// another one. No command was applied. The handles that the systems reserved stay reserved, and
+    /// no others: the next flush brings them to life, without components.
+    Lost,
+    /// All systems ran, and the sync point stopped.
+    Sync {
+        /// What came of the sync point.
+        fault: SyncFault,
+        /// The queue of each system, in the order of the systems.
+        queues: Vec<CommandQueue>,
+    },
+}
+
+impl core::fmt::Display for FrameFault {
+    fn fmt(&self, f: &mut core::fmt::Formatter<'_>) -> core::fmt::Result {
+        match self {
+            FrameFault::Memory => write!(f, "out of memory before any system ran"),
+            FrameFault::Lost => write!(f, "out of memory while the systems ran"),
+            FrameFault::Sync { fault, .. } => write!(f, "the sync point stopped: {fault}"),
+        }
+    }
+}
+
+impl core::error::Error for FrameFault {}

@@ -1,0 +1,123 @@
+// Made of crates/ent_runner/src/logs.rt by rust/erase. It isn't edited by hand.
+
+//! Logs that systems fill side by side, over an allocator of the caller's.
+
+pub(super) mod beginning;
+pub(super) mod log_error;
+pub(super) mod system;
+
+use alloc::vec::Vec;
+use crate::proved::ent_runner::crew::Crew;
+use crate::proved::ent_runner::logs::log_error::LogError;
+use crate::proved::ent_runner::logs::system::LogSystem;
+use crate::proved::ent_runner::stage::SharedStage;
+use crate::proved::ent_runner::systems::Loggers;
+use crate::proved::ent_alloc::{Entities, Limits};
+use crate::proved::ent_log::Log;
+use crate::proved::ent_shared::{Shared, share};
+use core::mem;
+use crate::kit::thread::Threads;
+
+/// How many workers may run systems.
+const WORKERS: usize = 64;
+
+/// How many systems run together.
+const SYSTEMS: usize = 65_536;
+
+/// Runs each system once, on that many workers side by side, each with a log of its own. The logs
+/// are in the order of the systems, whatever the order in which they ended, and
+/// [`SyncPoint::begin`](crate::proved::ent_log::SyncPoint::begin) takes them.
+///
+/// A worker takes the next system that nobody has taken yet, until none is left. If a thread can't
+/// be started, another one does its work. One worker starts no thread.
+///
+/// # Errors
+///
+/// It is the first of these that holds.
+///
+/// - [`LogError::NeedsFlush`], [`LogError::Workers`], [`LogError::Systems`], [`LogError::Memory`]:
+///   no system ran, and the allocator is as it was.
+/// - [`LogError::Lost`]: a system returned an error, or systems are left and no worker has memory
+///   for the log of another one. The logs are dropped. What the systems that ran had reserved stays
+///   reserved, and nothing else is: [`Entities::flush`] brings it to life.
+///
+/// <details><summary>Contract</summary>
+///
+/// In the words of the folder `specs/` of crate `ent_runner`:
+///
+/// ```text
+/// ensures ok { IfOk result (λ logs. HaveLogged S.may_log systems.now workers
+///     entities.old.allocator logs.items entities.new.allocator) }
+/// ensures rows { entities.new.rows ≡ entities.old.rows }
+///
+/// // The handles of all spawns are reserved.
+/// ensures reserved { IfOk result (λ logs. first_unreserved entities.new.allocator
+///     (spawned_in (entries_of logs.items)) ≡ None) }
+///
+/// ensures needs_flush { IsErrOf result LogError.NeedsFlush
+///     ↔ (0 < entities.old.allocator.asked) }
+/// ensures no_crew { IsErrOf result LogError.Workers
+///     ↔ ((entities.old.allocator.asked ≡ 0) × ((workers ≡ 0) ⊎ (64 < workers))) }
+/// ensures too_many { IsErrOf result LogError.Systems
+///     ↔ ((entities.old.allocator.asked ≡ 0) × (0 < workers) × (workers ≤ 64)
+///     × (2 ^ 16 < length systems.now)) }
+/// ensures memory_some { IsErrOf result LogError.Memory → 0 < length systems.now }
+/// ensures nothing { IfErr result (λ error. error ≢ LogError.Lost
+///     → entities.new ≡ entities.old) }
+///
+/// // What is left of a run that was broken off.
+/// ensures lost { IsErrOf result LogError.Lost → IsBrokenOff S.may_log S.may_leave systems.now
+///     workers entities.old.allocator entities.new.allocator }
+/// ensures lost_some { IsErrOf result LogError.Lost → 0 < length systems.now }
+/// ensures unborn { result ≢ Err LogError.Unborn }
+/// ```
+///
+/// </details>
+#[inline]
+pub fn run_logs<R, C, S>(
+    rt: &R,
+    entities: &mut Entities,
+    systems: &[S],
+    workers: usize,
+) -> Result<Vec<Log<C>>, LogError>
+where
+    R: Threads + Sync,
+    C: Send,
+    S: LogSystem<C, Shared> + Sync,
+{
+    if entities.needs_flush() {
+        return Err(LogError::NeedsFlush);
+    }
+    if workers == 0 || workers > WORKERS {
+        return Err(LogError::Workers);
+    }
+    if systems.len() > SYSTEMS {
+        return Err(LogError::Systems);
+    }
+    if systems.is_empty() {
+        return Ok(Vec::new());
+    }
+    let Ok(crew) = Crew::new(systems.len(), workers) else {
+        return Err(LogError::Memory);
+    };
+    let flushed = mem::replace(entities, Entities::with_exact_limits(Limits::default_limits()));
+    let (shared, mut reservers) = match share(flushed, workers) {
+        Ok(made) => made,
+        Err((flushed, _)) => {
+            *entities = flushed;
+            return Err(LogError::Memory);
+        }
+    };
+    let loggers = Loggers { systems };
+    let stage = SharedStage {
+        shared: &shared,
+        systems: &loggers,
+    };
+    // A command may panic when it is dropped. So no log is dropped before the allocator is in its place.
+    let logs = crew.work(rt, &mut reservers, &stage);
+    *entities = shared.close(reservers);
+    let Ok(logs) = logs else {
+        return Err(LogError::Lost);
+    };
+    Ok(logs)
+}

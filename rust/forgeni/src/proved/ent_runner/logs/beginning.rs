@@ -1,0 +1,91 @@
+// Made of crates/ent_runner/src/logs/beginning.rt by rust/erase. It isn't edited by hand.
+
+//! Systems fill logs, and the sync point of these logs begins.
+
+use alloc::vec::Vec;
+use crate::proved::ent_runner::logs::log_error::LogError;
+use crate::proved::ent_runner::logs::run_logs;
+use crate::proved::ent_runner::logs::system::LogSystem;
+use crate::proved::ent_alloc::Entities;
+use crate::proved::ent_handle::{HandedBack, Handle, Memory};
+use crate::proved::ent_log::{Log, SyncPoint};
+use crate::proved::ent_shared::Shared;
+use crate::kit::thread::Threads;
+
+/// [`run_logs`], and then the beginning of the sync point of these logs. It brings to life what the
+/// systems reserved, and appends it to `out`, as [`Entities::flush`] does. The sync point has the
+/// entries of all logs, in the order of the systems.
+///
+/// All spawns of these logs are reserved. So it doesn't look at each of them, as
+/// [`SyncPoint::begin`] has to do with logs that may be of another phase.
+///
+/// # Errors
+///
+/// [`HandedBack`] has the logs that the sync point did not take, and the first of these errors that
+/// holds. The list is as it was.
+///
+/// - Those of [`run_logs`]. There are no logs.
+/// - [`LogError::Unborn`]: all systems ran, and there is no memory for what is born. The logs are
+///   those of all systems, for [`SyncPoint::begin`]. What the systems reserved stays reserved.
+///
+/// <details><summary>Contract</summary>
+///
+/// In the words of the folder `specs/` of crate `ent_runner`:
+///
+/// ```text
+/// ensures ok { IfOk result (λ point. HaveBegun S.may_log systems.now workers
+///     entities.old.allocator out.old.items point entities.new.allocator out.new.items) }
+/// ensures alive { IfOk result (λ point. All (IsLive entities.new.allocator) (spawned_in point)) }
+/// ensures rows { entities.new.rows ≡ entities.old.rows }
+/// ensures needs_flush { IsErrAnd result (λ h. h.error ≡ failed.NeedsFlush)
+///     ↔ (0 < entities.old.allocator.asked) }
+/// ensures no_crew { IsErrAnd result (λ h. h.error ≡ failed.Workers)
+///     ↔ ((entities.old.allocator.asked ≡ 0) × ((workers ≡ 0) ⊎ (64 < workers))) }
+/// ensures too_many { IsErrAnd result (λ h. h.error ≡ failed.Systems)
+///     ↔ ((entities.old.allocator.asked ≡ 0) × (0 < workers) × (workers ≤ 64)
+///     × (2 ^ 16 < length systems.now)) }
+/// ensures memory_some { IsErrAnd result (λ h. h.error ≡ failed.Memory)
+///     → 0 < length systems.now }
+/// ensures nothing { IfErr result (λ h. h.error ≢ failed.Lost → h.error ≢ failed.Unborn
+///     → entities.new ≡ entities.old) }
+/// ensures none { IfErr result (λ h. h.error ≢ failed.Unborn → h.value.items ≡ []) }
+/// ensures unlisted { OnErr result (out.new.items ≡ out.old.items) }
+///
+/// // What is left of a run that was broken off.
+/// ensures lost { IsErrAnd result (λ h. h.error ≡ failed.Lost) → IsBrokenOff S.may_log S.may_leave
+///     systems.now workers entities.old.allocator entities.new.allocator }
+/// ensures lost_some { IsErrAnd result (λ h. h.error ≡ failed.Lost) → 0 < length systems.now }
+///
+/// // What holds if only what was reserved isn't born.
+/// ensures unborn { IfErr result (λ h. h.error ≡ failed.Unborn → HaveLogged S.may_log systems.now
+///     workers entities.old.allocator h.value.items entities.new.allocator) }
+/// ensures unborn_reserved { IfErr result (λ h. h.error ≡ failed.Unborn → first_unreserved
+///     entities.new.allocator (spawned_in (entries_of h.value.items)) ≡ None) }
+/// ensures unborn_memory { IfErr result (λ h. h.error ≡ failed.Unborn
+///     → (0 < made_at_flush entities.new.allocator) ⊎ (vec_capacity out.old
+///     < vec_len out.old + length entities.new.allocator.taken)) }
+/// ```
+///
+/// </details>
+#[inline]
+pub fn run_to_sync_point<R, C, S>(
+    rt: &R,
+    entities: &mut Entities,
+    systems: &[S],
+    workers: usize,
+    out: &mut Vec<Handle>,
+) -> Result<SyncPoint<C>, HandedBack<Vec<Log<C>>, LogError>>
+where
+    R: Threads + Sync,
+    C: Send,
+    S: LogSystem<C, Shared> + Sync,
+{
+    let mut logs = match run_logs(rt, entities, systems, workers) {
+        Ok(logs) => logs,
+        Err(error) => return Err(HandedBack::new(Vec::new(), error)),
+    };
+    match SyncPoint::begin_reserved(entities, &mut logs, out) {
+        Ok(point) => Ok(point),
+        Err(Memory) => Err(HandedBack::new(logs, LogError::Unborn)),
+    }
+}

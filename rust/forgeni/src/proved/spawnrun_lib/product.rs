@@ -1,0 +1,26 @@
+// Made of crates/spawnrun_lib/src/product.rt by rust/erase. It isn't edited by hand.
+
+//! What is made of an input: an output, or a refusal. And how long an input may be.
+use alloc::vec::Vec;
+use crate::proved::spawnrun_lib::found::Found;
+
+/// The longest input that the program reads, in bytes.
+pub const INPUT_LIMIT: usize = 67_108_864;
+
+/// What is made of an input.
+pub(super) enum Product {
+    /// The input is accepted, and this is the output.
+    Output(Vec<u8>),
+    /// It is refused.
+    Refusal(Refusal),
+}
+
+/// What is said of an input that is refused.
+pub(super) struct Refusal {
+    /// The line of output.
+    pub line: Vec<u8>,
+    /// What the test wants that the input fails.
+    pub wants: &'static str,
+    /// What the test found.
+    pub found: Found,
+}
