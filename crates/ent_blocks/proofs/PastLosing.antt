@@ -1,7 +1,7 @@
 -- What the end of a phase says if callers may be lost: the front of what lies behind the blocks
 -- counts as given.
 use Rattle.ent_blocks.proofs.Common.{rules, ◌≡◌, ◌≢◌, sym, ap, subst, ◌∙◌, ℕ, zero, suc, ◌+◌, ◌-◌}
-use Rattle.ent_blocks.proofs.Common.{◌*◌, ◌<◌, ◌≤◌, ℤ, pos, ◌-ℤ◌, ◌≤ℤ◌, List, [], ◌∷◌, ◌++◌, length}
+use Rattle.ent_blocks.proofs.Common.{◌*◌, ◌≤◌, ℤ, pos, ◌-ℤ◌, ◌≤ℤ◌, List, [], ◌∷◌, ◌++◌, length}
 use Rattle.ent_blocks.proofs.Common.{take, drop, sum_by, nat_le, cond, true, false, Ok, Err, arith}
 use Rattle.ent_blocks.proofs.Common.{ints, common_steps, take-add, take_all, take-append-drop}
 use Rattle.ent_blocks.proofs.Common.{drop-drop, length-append, length-drop, length-map}
@@ -15,7 +15,7 @@ use Rattle.ent_blocks.proofs.Common.{asked_at-is, listed-IsPermutation, not_apar
 use Rattle.ent_blocks.proofs.Common.{dealt, lesser, Reservation, Record, own_reservations}
 use Rattle.ent_blocks.proofs.Common.{requested_by, handles_given, handles_of, own_of_all}
 use Rattle.ent_blocks.proofs.Common.{records_of, after_loss, HasItsReply, Shared, SharedReserver}
-use Rattle.ent_blocks.proofs.Common.{Overflow, Caller, IsBehind, IsCallerOf, IsDealer, IsPhase}
+use Rattle.ent_blocks.proofs.Common.{Overflow, Caller, IsCallerOf, IsDealer, IsPhase}
 use Rattle.ent_blocks.proofs.Common.{behind_blocks, past_of, past_records}
 use Rattle.ent_shared.proofs.Laws.{handles_of-append}
 use Rattle.ent_blocks.proofs.Dealing.{lesser_within}

@@ -1,4 +1,4 @@
-use Rattle.ent_blocks.proofs.Common.{rules, ◌≡◌, ◌∙◌, ◌-◌, ◌∷◌, ◌++◌, ap, arith, List, length, map}
+use Rattle.ent_blocks.proofs.Common.{rules, ◌≡◌, ◌∙◌, ◌-◌, ◌∷◌, ◌++◌, ap, arith, length, map}
 use Rattle.ent_blocks.proofs.Common.{All-cons, given_in, dealt, unused, records_of, IsPhase}
 use Rattle.ent_blocks.proofs.Common.{Overflow, own_blocks, past_of, past_history, past_block}
 use Rattle.ent_blocks.proofs.Accounts.{all_here}

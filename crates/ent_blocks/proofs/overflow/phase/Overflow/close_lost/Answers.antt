@@ -1,4 +1,4 @@
-use Rattle.ent_blocks.proofs.Common.{rules, ◌≡◌, ◌∙◌, ◌-◌, ◌∷◌, ◌++◌, ap, arith, List, length}
+use Rattle.ent_blocks.proofs.Common.{rules, ◌≡◌, ◌∙◌, ◌-◌, ◌∷◌, ◌++◌, ap, arith, length}
 use Rattle.ent_blocks.proofs.Common.{length-map, true, All-cons, accounted, are_among, dealt}
 use Rattle.ent_blocks.proofs.Common.{Caller, IsPhase, Overflow, own_blocks, past_of, past_block}
 use Rattle.ent_blocks.proofs.Accounts.{few_among, unused_accounted}
