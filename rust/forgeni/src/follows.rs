@@ -119,8 +119,8 @@ tuples_follow!(A a B b C c D d E e F f G g H h);
 /// Each field is a [`HandleMap`] or a [`SparseMap`], and has the attributes and the visibility that
 /// it is given. Beside what derives give, the struct has:
 /// - `forget(handle)` and `despawn(&mut entities, handle)`, those of [`Follows`];
-/// - `sweep(&entities)`, which drops the values of all handles that are neither alive nor reserved,
-///   for who freed elsewhere or has read a save: see [`AnyMap::sweep`](crate::AnyMap::sweep);
+/// - `sweep(&entities)`, which drops the values of all handles that are neither alive nor reserved. Call it
+///   after entities were freed elsewhere, or a save was read: see [`AnyMap::sweep`](crate::AnyMap::sweep);
 /// - `clear()`, which drops all values, and `lens()`, which returns the name of each map and how
 ///   many values it has;
 /// - `try_clone()` and `try_clone_from(&source)`, if the values are `Clone`: a snapshot, and the
