@@ -1,5 +1,9 @@
 -- Reservers of some blocks, in their order, and what was used of all.
-use Rattle.ent_blocks.proofs.Common.{rules, cases_Bool, ◌≡◌, refl, sym, ℕ, ◌+◌, ◌<◌, ◌≤◌, List, [], ◌∷◌, length, map, drop, get_or, arith, true, false, common_steps, drop_all, drop_more, get_or-map, length-map, Block, Reserver, unused, is_same, are_among, accounted, blocks_of, AreLaid, Caller, own_blocks, Allocator, AreDealt, dealt, ◌^◌}
+use Rattle.ent_blocks.proofs.Common.{rules, cases_Bool, ◌≡◌, refl, sym, ℕ, ◌+◌, ◌<◌, ◌≤◌, List, []}
+use Rattle.ent_blocks.proofs.Common.{◌∷◌, length, map, drop, get_or, arith, true, false}
+use Rattle.ent_blocks.proofs.Common.{common_steps, drop_all, drop_more, get_or-map, length-map}
+use Rattle.ent_blocks.proofs.Common.{Block, unused, is_same, are_among, accounted, AreLaid}
+use Rattle.ent_blocks.proofs.Common.{Allocator, AreDealt, dealt, ◌^◌}
 use Rattle.ent_blocks.proofs.Dealing.{dealt-unused}
 
 same_size : (b r : Block) → is_same b r ≡ true → b.size ≡ r.size
@@ -58,76 +62,32 @@ module _ {A : Type 0} (of : A → Block) (bs : List Block) (rs : List A) (i k : 
     next : drop k (map of rs) ≡ of r ∷ drop (k + 1) (map of rs)
     next = search (rules, drop_more, length-map, get_or-map of rs k r (of r) lt)
 
-    among_same_of : is_same b (of r) ≡ true → are_among (drop i bs) (drop k (map of rs))
+    pub among_same : is_same b (of r) ≡ true → are_among (drop i bs) (drop k (map of rs))
         ≡ are_among (drop (i + 1) bs) (drop (k + 1) (map of rs))
-    among_same_of same = search (rules, drop_more, next)
+    among_same same = search (rules, drop_more, next)
 
-    among_other_of : is_same b (of r) ≡ false → are_among (drop i bs) (drop k (map of rs))
+    pub among_other : is_same b (of r) ≡ false → are_among (drop i bs) (drop k (map of rs))
         ≡ are_among (drop (i + 1) bs) (drop k (map of rs))
-    among_other_of other = search (rules, drop_more, next)
+    among_other other = search (rules, drop_more, next)
 
-    accounted_same_of : is_same b (of r) ≡ true → accounted (drop i bs) (drop k (map of rs))
+    pub accounted_same : is_same b (of r) ≡ true → accounted (drop i bs) (drop k (map of rs))
         ≡ record b { used = (of r).used } ∷ accounted (drop (i + 1) bs) (drop (k + 1) (map of rs))
-    accounted_same_of same = search (rules, drop_more, next)
+    accounted_same same = search (rules, drop_more, next)
 
-    accounted_other_of : is_same b (of r) ≡ false → accounted (drop i bs) (drop k (map of rs))
+    pub accounted_other : is_same b (of r) ≡ false → accounted (drop i bs) (drop k (map of rs))
         ≡ record b { used = b.size } ∷ accounted (drop (i + 1) bs) (drop k (map of rs))
-    accounted_other_of other = search (rules, drop_more, next)
+    accounted_other other = search (rules, drop_more, next)
 
   module _ (past : length rs ≤ k) where
     none : drop k (map of rs) ≡ []
     none = search (rules, drop_all, length-map)
 
-    among_none_of : are_among (drop i bs) (drop k (map of rs)) ≡ are_among (drop (i + 1) bs) (drop k (map of rs))
-    among_none_of = search (rules, drop_more, none)
+    pub among_none : are_among (drop i bs) (drop k (map of rs)) ≡ are_among (drop (i + 1) bs) (drop k (map of rs))
+    among_none = search (rules, drop_more, none)
 
-    accounted_none_of : accounted (drop i bs) (drop k (map of rs)) ≡ record b { used = b.size }
+    pub accounted_none : accounted (drop i bs) (drop k (map of rs)) ≡ record b { used = b.size }
         ∷ accounted (drop (i + 1) bs) (drop k (map of rs))
-    accounted_none_of = search (rules, drop_more, none)
-
--- of reservers
-module _ (bs : List Block) (rs : List Reserver) (i k : ℕ) (b : Block) (here : i < length bs)
-    (b_is : b ≡ get_or bs i b) where
-  module _ (r : Reserver) (lt : k < length rs) (r_is : r ≡ get_or rs k r) where
-    pub among_same : is_same b r.block ≡ true → are_among (drop i bs) (drop k (blocks_of rs))
-        ≡ are_among (drop (i + 1) bs) (drop (k + 1) (blocks_of rs))
-    among_same = among_same_of (λ (r : Reserver). r.block) bs rs i k b here b_is r lt r_is
-
-    pub among_other : is_same b r.block ≡ false → are_among (drop i bs) (drop k (blocks_of rs))
-        ≡ are_among (drop (i + 1) bs) (drop k (blocks_of rs))
-    among_other = among_other_of (λ (r : Reserver). r.block) bs rs i k b here b_is r lt r_is
-
-    pub accounted_same : is_same b r.block ≡ true → accounted (drop i bs) (drop k (blocks_of rs))
-        ≡ record b { used = r.block.used } ∷ accounted (drop (i + 1) bs) (drop (k + 1) (blocks_of rs))
-    accounted_same = accounted_same_of (λ (r : Reserver). r.block) bs rs i k b here b_is r lt r_is
-
-    pub accounted_other : is_same b r.block ≡ false → accounted (drop i bs) (drop k (blocks_of rs))
-        ≡ record b { used = b.size } ∷ accounted (drop (i + 1) bs) (drop k (blocks_of rs))
-    accounted_other = accounted_other_of (λ (r : Reserver). r.block) bs rs i k b here b_is r lt r_is
-
-  module _ (past : length rs ≤ k) where
-    pub among_none : are_among (drop i bs) (drop k (blocks_of rs)) ≡ are_among (drop (i + 1) bs) (drop k (blocks_of rs))
-    among_none = among_none_of (λ (r : Reserver). r.block) bs rs i k b here b_is past
-
-    pub accounted_none : accounted (drop i bs) (drop k (blocks_of rs)) ≡ record b { used = b.size }
-        ∷ accounted (drop (i + 1) bs) (drop k (blocks_of rs))
-    accounted_none = accounted_none_of (λ (r : Reserver). r.block) bs rs i k b here b_is past
-
--- of callers that go on
-module _ (bs : List Block) (rs : List Caller) (i k : ℕ) (b : Block) (here : i < length bs)
-    (b_is : b ≡ get_or bs i b) where
-  module _ (r : Caller) (lt : k < length rs) (r_is : r ≡ get_or rs k r) where
-    pub caller_same : is_same b r.block ≡ true → accounted (drop i bs) (drop k (own_blocks rs))
-        ≡ record b { used = r.block.used } ∷ accounted (drop (i + 1) bs) (drop (k + 1) (own_blocks rs))
-    caller_same = accounted_same_of (λ (r : Caller). r.block) bs rs i k b here b_is r lt r_is
-
-    pub caller_other : is_same b r.block ≡ false → accounted (drop i bs) (drop k (own_blocks rs))
-        ≡ record b { used = b.size } ∷ accounted (drop (i + 1) bs) (drop k (own_blocks rs))
-    caller_other = accounted_other_of (λ (r : Caller). r.block) bs rs i k b here b_is r lt r_is
-
-  pub caller_none : length rs ≤ k → accounted (drop i bs) (drop k (own_blocks rs)) ≡ record b { used = b.size }
-      ∷ accounted (drop (i + 1) bs) (drop k (own_blocks rs))
-  caller_none past = accounted_none_of (λ (r : Caller). r.block) bs rs i k b here b_is past
+    accounted_none = search (rules, drop_more, none)
 
 -- all are here, in their order
 pub all_among : (rs : List Block) → are_among (map unused rs) rs ≡ true
@@ -138,9 +98,9 @@ pub all_here : (blocks rs : List Block) → map unused rs ≡ blocks → account
 all_here blocks rs all = rw (← all) (all_accounted (map unused rs) rs (all_among rs) (sym (length-map rs unused)))
 
 -- one is left when there is no more block
-pub one_left : (bs : List Block) (rs : List Reserver) (i k : ℕ) → length bs ≤ i → k < length rs
-    → are_among (drop i bs) (drop k (blocks_of rs)) ≡ false
-one_left bs rs i k past lt =
-    let some = drop_more (blocks_of rs) k (record { before = 0; size = 0; used = 0 })
-    (omega (arith, length-map rs (λ (r : Reserver). r.block))) in
+pub one_left : {A : Type 0} (of : A → Block) (bs : List Block) (rs : List A) (i k : ℕ) → length bs ≤ i → k < length rs
+    → are_among (drop i bs) (drop k (map of rs)) ≡ false
+one_left of bs rs i k past lt =
+    let some = drop_more (map of rs) k (record { before = 0; size = 0; used = 0 })
+    (omega (arith, length-map rs of)) in
     search (rules, drop_all, some)

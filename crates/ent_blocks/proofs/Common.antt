@@ -38,4 +38,4 @@ pub use Rattle.ent_shared.specs.declared.record.Record.{Record}
 pub use Rattle.ent_shared.specs.declared.record.Reservation.{Reservation}
 pub use Rattle.ent_blocks.specs.Blocks.{AreDealt, AreLaid, Block, Blocks, IsOf, Reserver, accounted, after_blocks, after_use, are_among, blocks_from, blocks_of, dealt, is_same, lesser, portions_of, rest_of, unused, used_of}
 pub use Rattle.ent_blocks.specs.Drawing.{left_of as left_of_block}
-pub use Rattle.ent_blocks.specs.Overflow.{Caller, HasDealt, IsBehind, IsCallerOf, IsDealer, IsFresh, IsInOrder, IsPhase, IsServed, Overflow, own_blocks, past_block, past_history, past_of, past_records}
+pub use Rattle.ent_blocks.specs.Overflow.{Caller, HasDealt, IsBehind, IsCallerOf, IsDealer, IsFresh, IsInOrder, IsPhase, IsServed, Overflow, behind_blocks, own_blocks, past_block, past_history, past_of, past_records}

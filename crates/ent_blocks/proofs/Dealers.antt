@@ -1,5 +1,15 @@
 -- The dealer's one reservation, and the reservers that come after it.
-use Rattle.ent_blocks.proofs.Common.{rules, ◌≡◌, refl, ap, ℕ, zero, suc, ◌+◌, ◌^◌, ◌<◌, ℤ, pos, ◌-ℤ◌, ◌≤ℤ◌, List, [], ◌∷◌, ◌++◌, length, take, get_or, arith, Contains, All, Result, get_or_default, map-append, take_more, All-cons, All-nil, All-head, All-tail, ints, Handle, quota, Allocator, cursor, IsSound, Refused, Block, dealt, unused, blocks_from, AreLaid, AreDealt, reservation_at, after_reservation, own_reservations, after_meeting, opened_record, opened_records, records_of, Record, Shared, SharedReserver, IsReserverOf, Reserves, own_of_all, All-left, All-right, Overflow, Caller, IsCallerOf, IsFresh, IsPhase, HasDealt, IsDealer, past_records, past_history, own_blocks}
+use Rattle.ent_blocks.proofs.Common.{rules, ◌≡◌, refl, ap, ℕ, zero, suc, ◌+◌, ◌^◌, ◌<◌, ℤ, pos}
+use Rattle.ent_blocks.proofs.Common.{◌-ℤ◌, ◌≤ℤ◌, List, [], ◌∷◌, ◌++◌, length, take, get_or, arith}
+use Rattle.ent_blocks.proofs.Common.{Contains, All, Result, get_or_default, map-append, take_more}
+use Rattle.ent_blocks.proofs.Common.{All-cons, All-nil, All-head, All-tail, ints, Handle, quota}
+use Rattle.ent_blocks.proofs.Common.{Allocator, cursor, IsSound, Refused, Block, dealt, unused}
+use Rattle.ent_blocks.proofs.Common.{blocks_from, AreLaid, AreDealt, reservation_at}
+use Rattle.ent_blocks.proofs.Common.{after_reservation, own_reservations, after_meeting}
+use Rattle.ent_blocks.proofs.Common.{opened_record, opened_records, records_of, Record, Shared}
+use Rattle.ent_blocks.proofs.Common.{SharedReserver, IsReserverOf, Reserves, own_of_all, All-left}
+use Rattle.ent_blocks.proofs.Common.{All-right, Overflow, Caller, IsCallerOf, IsFresh, IsPhase}
+use Rattle.ent_blocks.proofs.Common.{HasDealt, IsDealer, past_records, past_history, own_blocks}
 use Rattle.ent_blocks.proofs.Dealing.{none_used, are_dealt, length-from}
 
 -- a reserver that has done nothing has its whole quota

@@ -1,5 +1,13 @@
 -- What a reservation leaves of a caller: from its block, and past it.
-use Rattle.ent_blocks.proofs.Common.{rules, ◌≡◌, refl, sym, ap, ◌∙◌, inl, inr, ℕ, ◌+◌, ◌^◌, ◌<◌, ◌≤◌, pos, ◌-ℤ◌, ◌≤ℤ◌, List, [], ◌∷◌, ◌++◌, length, take, All, arith, ints, common_steps, Result, Ok, Err, cases_lt, All-push, Handle, Refused, Request, AreServed, SaysWanted, reply_from, listed, listed_alone, unused, after_use, rest_of, left_of_block, Record, Reservation, own_reservations, reservation_at, after_reservation, Shared, SharedReserver, IsReserverOf, Reserves, own-made, Overflow, Caller, IsBehind, IsCallerOf, IsPhase, IsServed}
+use Rattle.ent_blocks.proofs.Common.{rules, ◌≡◌, refl, sym, ap, ◌∙◌, inl, inr, ℕ, ◌+◌, ◌^◌, ◌<◌}
+use Rattle.ent_blocks.proofs.Common.{◌≤◌, pos, ◌-ℤ◌, ◌≤ℤ◌, List, [], ◌∷◌, ◌++◌, length, take, All}
+use Rattle.ent_blocks.proofs.Common.{arith, ints, common_steps, Result, Ok, Err, cases_lt, All-push}
+use Rattle.ent_blocks.proofs.Common.{Handle, Refused, Request, AreServed, SaysWanted, reply_from}
+use Rattle.ent_blocks.proofs.Common.{listed, listed_alone, unused, after_use, rest_of}
+use Rattle.ent_blocks.proofs.Common.{left_of_block, Record, Reservation, own_reservations}
+use Rattle.ent_blocks.proofs.Common.{reservation_at, after_reservation, Shared, SharedReserver}
+use Rattle.ent_blocks.proofs.Common.{IsReserverOf, Reserves, own-made, Overflow, Caller, IsBehind}
+use Rattle.ent_blocks.proofs.Common.{IsCallerOf, IsPhase, IsServed}
 use Rattle.ent_alloc.specs.declared.refused.Refused.TheVariants.{Quota, Space}
 use Rattle.ent_blocks.proofs.Dealing.{of_phase}
 

@@ -1,7 +1,7 @@
 -- Blocks whose callers may go past them: what is requested past a block comes from one cursor that
 -- all share, and that begins behind the last block.
 use Rattle.std.specs.Prelude.{◌≡◌, ℕ, zero, suc, ◌+◌, ◌<◌, ◌≤◌, pos, ◌-ℤ◌, ◌≤ℤ◌, ◌==◌}
-use Rattle.std.specs.Prelude.{if◌then◌else◌, List, [], ◌∷◌, length, map, take, refl}
+use Rattle.std.specs.Prelude.{if◌then◌else◌, List, [], ◌∷◌, length, map, take, drop, refl}
 use Rattle.std.specs.Prelude.{Result, Ok, Err}
 use Rattle.std.specs.List.{All, Contains}
 use Rattle.std.specs.Coded.{Coded, code_by, coded×, coded_ℕ, coded_list}
@@ -79,6 +79,10 @@ pub record IsServed (phase : Overflow) (before after : Caller) (n : ℕ)
       → (reply ≡ Err (Quota before.past.own.left)) × (after ≡ before)
   pub past : left_of before.block < n → n ≤ before.past.own.left
       → (after.block ≡ before.block) × Reserves phase.shared before.past after.past n reply
+
+-- what lies behind all blocks
+abbrev pub behind_blocks : Overflow → List Handle
+behind_blocks phase = drop (dealt phase.blocks) phase.shared.start.pool
 
 -- Closing: what came from the shared cursor, as one more block behind the others. It is used up.
 abbrev pub past_block : ℕ → ℕ → List Block

@@ -1,13 +1,13 @@
 //! What was used of all blocks, by the reservers that are here.
-ghost use Rattle.std.specs.Prelude.{◌≡◌, ◌+◌, ◌<◌, ◌↔◌, IfOk, OnErr, IfSome, IsSome, IsTrue};
-ghost use Rattle.std.specs.Prelude.{All, length};
-ghost use Rattle.ent_blocks.specs.Blocks.{are_among, accounted, blocks_of};
+ghost use Rattle.std.specs.Prelude.{◌≡◌, ◌+◌, ◌≤◌, ◌↔◌, [], IfSome, IsSome, IsTrue};
+ghost use Rattle.std.specs.Prelude.{All, length, map, vec_len};
+ghost use Rattle.std.specs.Vec.{vec_capacity};
+ghost use Rattle.ent_blocks.specs.Blocks.{are_among, accounted};
 
 use crate::block_reserver::BlockReserver;
+use crate::held::Held;
 use crate::numbering::BlockNumbering;
 use crate::part::Part;
-use ent_handle::Memory;
-use std::alloc::Global;
 
 /// Whether all reservers are of the phase of this number.
 pub(crate) fn are_of<J: BlockNumbering>(number: u64, reservers: &[BlockReserver<J>]) -> bool
@@ -21,53 +21,47 @@ pub(crate) fn are_of<J: BlockNumbering>(number: u64, reservers: &[BlockReserver<
     true
 }
 
-/// How many blocks have no reserver here. `None` if these aren't reservers of some of the blocks,
+/// How many blocks are held by nothing here. `None` if what is here doesn't hold some of the blocks,
 /// in their order.
-pub(crate) fn missing<J: BlockNumbering>(
-    parts: &[Part],
-    reservers: &[BlockReserver<J>],
-) -> Option<usize>
-    ensures among { IsSome result ↔ IsTrue (are_among parts.now (blocks_of reservers.now)) }
-    ensures count { IfSome result (λ n. length reservers.now + n ≡ length parts.now) }
+pub(crate) fn missing<H: Held>(parts: &[Part], held: &[H]) -> Option<usize>
+    ensures among { IsSome result ↔ IsTrue (are_among parts.now (map H.block held.now)) }
+    ensures count { IfSome result (λ n. length held.now + n ≡ length parts.now) }
 {
     let mut next = 0;
     for part in parts {
-        if next < reservers.len() {
-            let reserver = &reservers[next];
-            if part.is_same(&reserver.part) {
+        if next < held.len() {
+            let here = &held[next];
+            if part.is_same(here.part()) {
                 next += 1;
             }
         }
     }
-    if next < reservers.len() {
+    if next < held.len() {
         None
     } else {
         Some(parts.len() - next)
     }
 }
 
-/// All blocks with what was used of each: all of it, if the reserver isn't here.
-pub(crate) fn account<J: BlockNumbering>(
-    alloc: Global,
-    parts: &[Part],
-    reservers: &[BlockReserver<J>],
-) -> Result<Vec<Part>, Memory>
-    ensures ok { IfOk result (λ all.
-        all.items ≡ accounted parts.now (blocks_of reservers.now)) }
-    ensures memory { OnErr result (0 < length parts.now) }
+/// Appends all blocks with what was used of each: all of it, if nothing here holds it. There is room
+/// for them.
+pub(crate) fn account<H: Held>(parts: &[Part], held: &[H], all: &mut Vec<Part>)
+    requires none { all.old.items ≡ [] }
+    requires room { length parts.now ≤ vec_capacity all.old }
+    ensures all { all.new.items ≡ accounted parts.now (map H.block held.now) }
+    ensures count { vec_len all.new ≡ length parts.now }
+    ensures room { vec_capacity all.new ≡ vec_capacity all.old }
 {
-    let mut all = Vec::with_capacity(alloc, parts.len())?;
     let mut next = 0;
     for part in parts {
         let mut used = part.size();
-        if next < reservers.len() {
-            let reserver = &reservers[next];
-            if part.is_same(&reserver.part) {
-                used = reserver.part.used();
+        if next < held.len() {
+            let here = held[next].part();
+            if part.is_same(here) {
+                used = here.used();
                 next += 1;
             }
         }
         all.push_reserved(part.with_used(used));
     }
-    Ok(all)
 }

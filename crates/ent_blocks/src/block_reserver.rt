@@ -2,6 +2,7 @@ ghost use Rattle.std.specs.Prelude.{◌≡◌};
 
 use crate::block_error::BlockError;
 use crate::blocks::Blocks;
+use crate::held::Held;
 use crate::numbering::BlockNumbering;
 use crate::part::Part;
 use std::marker::{Model, PhantomData};
@@ -109,6 +110,14 @@ impl<J: BlockNumbering> BlockReserver<J> {
         ensures { IsTrue result ↔ (self.now.number ≡ blocks.now.number) }
     {
         self.number == blocks.number()
+    }
+}
+
+impl<J: BlockNumbering> Held for BlockReserver<J> {
+    ghost block = { λ r. r.block };
+
+    fn part(&self) -> &Part {
+        &self.part
     }
 }
 

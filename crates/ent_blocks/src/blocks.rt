@@ -455,10 +455,11 @@ impl<J: BlockNumbering> Blocks<J> {
             number,
             of: _,
         } = self;
-        let Ok(all) = account(alloc, &parts, &reservers) else {
+        let Ok(mut all) = Vec::with_capacity(alloc, parts.len()) else {
             let blocks = Blocks::new(alloc, entities, parts, number);
             return Err(HandedBack::new((blocks, reservers), EndError::Memory));
         };
+        account(&parts, &reservers, &mut all);
         let Ok(()) = take_used(alloc, &mut entities, &all) else {
             let blocks = Blocks::new(alloc, entities, parts, number);
             return Err(HandedBack::new((blocks, reservers), EndError::Memory));

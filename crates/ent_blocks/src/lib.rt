@@ -10,6 +10,7 @@ mod blocks;
 mod closing;
 mod deal_error;
 mod end_error;
+mod held;
 mod numbering;
 mod opening;
 mod overflow;

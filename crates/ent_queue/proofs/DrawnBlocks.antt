@@ -1,6 +1,5 @@
 -- What commands draw from a block, one by one and together.
-use Rattle.ent_queue.proofs.Common.{rules, ◌≡◌, refl, ℕ, ◌+◌, List, [], ◌∷◌, ◌++◌, take, arith, Ok, Err, common_steps, sum_by-append, sum_by-cons, Handle, Allocator, listed, Refusal, Space, Quota, Block, Phase, after_use, Command, Spawn, SpawnMany, IsDrawn, IsDrawnBy, AreDrawnBy, Draws, used_by, after_commands, Insert, Remove, Despawn, Refused, AreServed, requests_of, served_parts, one_served, flat_map, length, ◌∙◌, Commands, Extends, Issues, output_of, reserver_of, source_of}
-use Rattle.ent_blocks.specs.Drawing.{IsOfPhase}
+use Rattle.ent_queue.proofs.Common.{rules, ◌≡◌, refl, ℕ, ◌+◌, List, [], ◌∷◌, ◌++◌, take, arith, Ok, Err, common_steps, sum_by-append, sum_by-cons, Handle, Allocator, listed, Refusal, Space, Quota, Block, Phase, after_use, Command, Spawn, SpawnMany, IsDrawn, IsDrawnBy, AreDrawnBy, Draws, used_by, after_commands, Insert, Remove, Despawn, Refused, AreServed, requests_of, served_parts, one_served, flat_map, length, ◌∙◌}
 use Rattle.ent_blocks.specs.Blocks.{Reserver}
 
 pub first_listed : (made : ℕ) (rest : List Handle) (h : Handle) → h ∷ [] ≡ listed made (take 1 rest) → h ∷ [] ≡ take 1 rest
@@ -92,11 +91,3 @@ module _ (phase : Phase) where
       → AreServed (IsDrawn phase) before (flat_map requests_of commands) after
       → Draws phase.phase.start before.block commands after.block
   draws_of before after commands was = (drawn before after commands was).draws
-
--- So a system that began with an empty queue has drawn what it issued from the block.
-pub draws_extended : (a b : Commands (List Command) Phase Reserver) → output_of a ≡ []
-    → Extends Issues IsOfPhase IsDrawn a b
-    → Draws (source_of a).phase.start (reserver_of a).block (output_of b) (reserver_of b).block
-draws_extended a b empty e =
-    let is : output_of b ≡ e.adds.added = rw empty at e.adds.queue in
-    rw is (draws_of (source_of a) (reserver_of a) (reserver_of b) e.adds.added (rw e.adds.requests_are at e.served))

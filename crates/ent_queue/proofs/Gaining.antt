@@ -1,5 +1,5 @@
 -- How the record of a reserver of a shared allocator gains what commands have requested with it.
-use Rattle.ent_queue.proofs.Common.{rules, ◌≡◌, refl, ℕ, ◌-◌, ◌<◌, ◌≤◌, ℤ, List, [], ◌∷◌, ◌++◌, arith, ◌∙◌, subst, append_assoc, Ok, Err, inl, inr, common_steps, flat_map-append, sum_by, All-nil, All-cons, cases_lt, sum_by-append, Handle, Record, Refusal, Quota, Space, Shared, Reserver, after_reservation, reservation_at, Command, Refused, HasRange, SaysWanted, IsRefusal, stands_for, cost, FitsQuota, FitQuota, Gains, IsReturned, refused_by, as_reserve_error, map-append, length, Result, Spawn, SpawnMany, Insert, Remove, Despawn, queued, Bundle, AreServed, requests_of, served_parts, one_served, flat_map, Request, Commands, Extends, Issues, output_of, reserver_of, source_of}
+use Rattle.ent_queue.proofs.Common.{rules, ◌≡◌, refl, ℕ, ◌-◌, ◌<◌, ◌≤◌, ℤ, List, [], ◌∷◌, ◌++◌, arith, ◌∙◌, subst, append_assoc, Ok, Err, inl, inr, common_steps, flat_map-append, sum_by, All-nil, All-cons, cases_lt, sum_by-append, Handle, Record, Refusal, Quota, Space, Shared, Reserver, after_reservation, reservation_at, Command, Refused, HasRange, SaysWanted, IsRefusal, stands_for, cost, FitsQuota, FitQuota, Gains, IsReturned, refused_by, as_reserve_error, map-append, length, Result, Spawn, SpawnMany, Insert, Remove, Despawn, queued, Bundle, AreServed, requests_of, served_parts, one_served, flat_map, Commands, Extends, Issues, reserver_of, source_of}
 use Rattle.ent_shared.specs.Phase.{IsOf}
 
 pub gains_nothing : (r : Record) → Gains r [] r
@@ -105,7 +105,3 @@ pub gains_added : (a b : Commands (List Command) Shared Reserver) (e : Extends I
     → Gains (reserver_of a).own e.adds.added (reserver_of b).own
 gains_added a b e =
     gains_of (source_of a) (reserver_of a) (reserver_of b) e.adds.added (rw e.adds.requests_are at e.served)
-
-pub gains_extended : (a b : Commands (List Command) Shared Reserver) → output_of a ≡ []
-    → Extends Issues IsOf IsReturned a b → Gains (reserver_of a).own (output_of b) (reserver_of b).own
-gains_extended a b empty e = let is : output_of b ≡ e.adds.added = rw empty at e.adds.queue in rw is (gains_added a b e)

@@ -1,6 +1,6 @@
 -- A frame of one worker: its reservations stand in the order of the systems.
 use Rattle.ent_runner.proofs.Common.{rules, ◌≡◌, ℕ, suc, ◌+◌, ◌<◌, ◌≤◌, List, [], ◌∷◌, ◌++◌, length, map, get_or, refl, ap, arith, Some, eq-eqb, append-nil, append_assoc, slice_get, All, AllPairs, flat_map, range_with_len, IsPermutation, get_or-append_seam, length-append, length-range_with_len, All-permutation, IsPermutation-sym, length_permutation, Handle, Call, Command, World, View, Fault, IsFrame, Ends, EndsInOrder, commands_of, requests_by, first_call, calls_in_order}
-use Rattle.ent_runner.proofs.Lists.{at_within, all_below}
+use Rattle.ent_runner.proofs.Lists.{at_within, all_below, each_of_all}
 
 -- numbers that rise and fill a range are the range
 rising_from : (a : ℕ) (xs : List ℕ) → AllPairs (λ m n. m < n) xs → All (λ n. a ≤ n) xs → All (λ n. n < a + length xs) xs
@@ -42,15 +42,16 @@ module _ {S : Type 0} (may : S → View → List Command → Type 0) (systems : 
   in_order : (workers : ℕ) (history : List Call) → workers ≡ 1 → IsFrame may systems workers before queues history
       → history ≡ calls_in_order queues
   in_order workers history one frame =
-      let only = at_within frame.ran 0 (omega (arith, frame.each_worker)) in
+      let only = at_within frame.ran 0 (omega (arith, frame.run.each_worker)) in
       let mine : List ℕ = only.0 in
       let work = frame.work 0 mine only.1 in
       let same : IsPermutation mine (range_with_len 0 (length systems)) =
-      search (rules, alone frame.ran mine, only.1, frame.once, append-nil mine) in
+      search (rules, alone frame.ran mine, only.1, frame.run.once, append-nil mine) in
       let long = length_permutation mine (range_with_len 0 (length systems)) same in
       let count = length-range_with_len 0 (length systems) in
       let below = All-permutation (λ n. n < length systems) _ mine (IsPermutation-sym mine _ same) (all_below _) in
-      let whole = rising_from 0 mine work.rising (search rules) (search (rules, below, long, count)) in
+      let rises = each_of_all (AllPairs (λ m n. m < n)) frame.ran 0 mine frame.run.rising only.1 in
+      let whole = rising_from 0 mine rises (search rules) (search (rules, below, long, count)) in
       search (
         rules,
         calls_back history (rw one at frame.callers),

@@ -91,10 +91,9 @@ pub use Rattle.ent_runner.specs.Crew.Collecting.{outputs_put}
 pub use Rattle.ent_runner.specs.Crew.Record.{after_claim, claims_of, nothing_claimed}
 pub use Rattle.ent_runner.specs.Crew.Rule.{AfterClaim, AreClaimsClosed, AreClaimsRuled, ClaimTells, IsClaimKept, ended_in}
 pub use Rattle.ent_runner.specs.Crew.Worker.{HasClaimed, HasStoppedAt, HasWorked, HaveAllWorked, HaveDoneFirst, HaveEnded, IsLostFor, IsNewWorker, IsRoom, IsRoomForOne, IsUnused, all_done, numbers_of}
-pub use Rattle.ent_runner.specs.Frame.{Ends, EndsInOrder, IsBrokenOff, IsFrame, IsLost, IsWork, StopsAt, SystemMayHaveIssued, SystemMayIssue, calls_in_order, commands_of, first_call, queue_at, requests_by, reserved_by, view_of}
-pub use Rattle.ent_runner.specs.Logs.{HaveLogged, HaveRun, SystemMayHaveLogged, SystemMayLog, entries_by, given_to, log_at}
-pub use Rattle.ent_runner.specs.Logs.Calls.{FitQuota, FitsQuota, cost}
-pub use Rattle.ent_runner.specs.Logs.Logging.{HasGained, LogGains}
+pub use Rattle.ent_runner.specs.Frame.{Ends, EndsInOrder, IsBrokenOff, IsFrame, IsLost, IsWork, StopsAt, SystemMayIssue, calls_in_order, commands_of, first_call, queue_at, requests_by, reserved_by, view_of}
+pub use Rattle.ent_runner.specs.Logs.{HaveLogged, HaveRun, SystemMayLog, entries_by, given_to, log_at, requests_in}
+pub use Rattle.ent_runner.specs.Runs.{AreRun, StopShort}
 pub use Rattle.ent_runner.specs.Stage.{AreReady, IsDealt, IsFilled}
 pub use Rattle.ent_runner.specs.declared.crew.record.ClaimRecord.{ClaimRecord, ClaimRecord as Claimed}
 pub use Rattle.ent_runner.specs.declared.crew.worker.Done.{Done}

@@ -1,5 +1,5 @@
 -- What the workers of a crew have done together, once all of them are back.
-use Rattle.ent_runner.proofs.Common.{common_steps, rules, ◌≡◌, ℕ, ◌<◌, ◌≤◌, List, [], ◌∷◌, ◌++◌, length, map, get_or, refl, ap, sym, ◌∙◌, arith, Option, Some, None, false, Bool, take, drop, inl, inr, true, ◌⊎◌, Vec, Global, reverse, slice_get, replicate, IfErr, IsSome, OnErr, Ok, Err, Result, ◌-◌, Any, vec_capacity, All, AllPairs, flat_map, range_with_len, IsPermutation, cases_lt, slice_get_within, get_or_from_slice_get, slice_get-get_or, length-map, length-append, take-append-le, take_all, length-replicate, map-append, length-reverse, flat_map-map, All-permutation, IsPermutation-reverse, length_permutation, length-range_with_len, All-map, All-left, Claims, Claimer, AreFirst, IsClaimerOf, outputs_put, AreDone, AreBrokenOff, DidAll, DidUntil, Done, Worker, HasWorked, HaveAllWorked, HaveDoneFirst, HasClaimed, OfEach, IsUnused, IsRoomForOne, IsLostFor, numbers_of, all_done, IsRoom, All-right}
+use Rattle.ent_runner.proofs.Common.{common_steps, rules, ◌≡◌, ℕ, ◌<◌, ◌≤◌, List, [], ◌∷◌, ◌++◌, length, map, get_or, refl, ap, sym, ◌∙◌, arith, Option, Some, None, false, Bool, take, drop, inl, inr, true, ◌⊎◌, Vec, Global, reverse, slice_get, replicate, IfErr, IsSome, OnErr, Ok, Err, Result, ◌-◌, Any, vec_capacity, All, AllPairs, flat_map, range_with_len, IsPermutation, cases_lt, slice_get_within, get_or_from_slice_get, slice_get-get_or, length-map, length-append, take-append-le, take_all, length-replicate, map-append, length-reverse, flat_map-map, All-permutation, IsPermutation-reverse, length_permutation, length-range_with_len, All-map, All-left, Claims, Claimer, AreFirst, IsClaimerOf, outputs_put, AreDone, AreBrokenOff, AreRun, DidAll, DidUntil, Done, Worker, HasWorked, HaveAllWorked, HaveDoneFirst, HasClaimed, OfEach, IsUnused, IsRoomForOne, IsLostFor, numbers_of, all_done, IsRoom, All-right}
 use Rattle.ent_runner.proofs.Lists.{of_mapped, each_of_all, mapped_at, same_flat, get_mapped, map_flat, at_within, flat_all}
 use Rattle.ent_runner.proofs.Outputs.{length_put, put_first, full, left_out, long, outputs_at, unwrapped, kept_all}
 
@@ -161,6 +161,10 @@ module _ {O : Type 0} where
     long_ran : length ran ≡ length before
     long_ran = length-map team _ ∙ worked.count
 
+    runs : (count : ℕ) → IsPermutation (numbers_of (all_done team)) (range_with_len 0 count)
+        → AreRun (length before) count ran
+    runs count once = record { each_worker = long_ran; once = rw ran_flat once; rising = rising }
+
     module _ (outputs : List O) (at : All (λ (d : Done O). slice_get outputs d.number ≡ Some d.output) (all_done team))
         (k : ℕ) (w : Worker O) (a b : L) (at_w : slice_get team k ≡ Some w) (at_a : slice_get before k ≡ Some a)
         (at_b : slice_get after k ≡ Some b) where
@@ -206,7 +210,7 @@ module _ {O : Type 0} where
         let w = mapped_at _ team k mine is in
         rw (sym w.2) (ended k w.0 a b w.1 at_a at_b (search
         (rules, going, each_of_all (λ (w : Worker O). w.stopped ≡ false) team k w.0))) in
-        search (rules, long_ran, rising, ran_flat, once, long claims.numbers (all_done team) once outputs each, did)
+        search (rules, runs claims.numbers once, long claims.numbers (all_done team) once outputs each, did)
 
     pub are_broken_off : HaveDoneFirst claims.numbers team → IsLostFor claims.numbers team → (left : List (Option O))
         → left ≡ by_number claims.numbers team → AreBrokenOff may leave claims.numbers before left after
@@ -221,10 +225,8 @@ module _ {O : Type 0} where
         (λ (w : Worker O). numbers_of w.done.items) team (search (rules, first.busy, length-map)) in
         search (
           rules,
-          long_ran,
           first,
-          rising,
-          ran_flat,
+          runs first.count first.once,
           long first.count (all_done team) first.once there.0 there.1,
           left_is ∙ put_first first.count (all_done team) first.once claims.numbers first.within
               ∙ ap (λ them. them ++ replicate (claims.numbers - first.count) None) (sym there.1),

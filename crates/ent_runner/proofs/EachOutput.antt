@@ -1,7 +1,7 @@
 -- What a relation says of the output of a job alone holds of each output. What jobs did with what was lent to them,
 -- seen by one part of it.
-use Rattle.ent_runner.proofs.Common.{rules, All, get_or, slice_get, [], List, Some, inl, inr, length, ℕ, Option, ◌<◌, ◌∷◌, ◌≡◌, ◌⊎◌, FoldsTo-push, All-cons, All-nil, get_or-range_with_len, length-range_with_len, All-permutation, get_or_from_slice_get, slice_get_within, flat_map, range_with_len, IsPermutation, AreBrokenOff, AreDone, DidAll, DidUntil, DoesAt, OfEach, map, ap, sym, ◌∙◌, ⊎_elim, length-map}
-use Rattle.ent_runner.proofs.Lists.{at_within, all_flat, all_from_each, mapped_at, get_mapped}
+use Rattle.ent_runner.proofs.Common.{rules, arith, common_steps, all_pairs_push, All, AllPairs, StopShort, get_or, slice_get, [], List, Some, inl, inr, length, ℕ, Option, ◌<◌, ◌∷◌, ◌≡◌, ◌⊎◌, FoldsTo-push, All-cons, All-nil, get_or-range_with_len, length-range_with_len, All-permutation, get_or_from_slice_get, slice_get_within, flat_map, range_with_len, IsPermutation, AreBrokenOff, AreDone, DidAll, DidUntil, DoesAt, OfEach, map, ap, ◌∙◌, ⊎_elim, length-map}
+use Rattle.ent_runner.proofs.Lists.{at_within, all_flat, all_from_each, mapped_at, get_mapped, last_pushed}
 
 -- what holds of the jobs of each worker, holds of each job
 pub everywhere : (P : ℕ → Type 0) (total : ℕ) (ran : List (List ℕ))
@@ -40,23 +40,73 @@ module _ {O L : Type 0} where
       stopped did.last did.between,
     )
 
-  -- what a job ensures of its number and its output
-  module _ (may : ℕ → L → O → L → Type 0) (P : ℕ → O → Type 0) (holds : (n : ℕ) (a : L) (o : O) (b : L) → may n a o b
-      → P n o) (outputs : List O) (d : O) where
-    pub held : (a : L) (mine : List ℕ) (b : L) → DidAll may outputs a mine b → All (λ n. P n (get_or outputs n d)) mine
-    held a [] b did = All-nil (λ n. P n (get_or outputs n d))
-    held a (n ∷ mine) b (j, (o, at, does), rest) =
-        search (rules, All-cons, get_or_from_slice_get outputs n o d at, holds n a o j does, held j mine b rest)
+  -- what follows of the number of each job
+  module _ (may : ℕ → L → O → L → Type 0) (outputs : List O) (Q : ℕ → Type 0)
+      (holds : (n : ℕ) (a : L) (o : O) (b : L) → slice_get outputs n ≡ Some o → may n a o b → Q n) where
+    pub held : (a : L) (mine : List ℕ) (b : L) → DidAll may outputs a mine b → All Q mine
+    held a [] b did = All-nil Q
+    held a (n ∷ mine) b (j, (o, at, does), rest) = All-cons Q n mine (holds n a o j at does) (held j mine b rest)
 
     pub each_held : (jobs : ℕ) (before after : List L) (ran : List (List ℕ)) → length ran ≡ length before
         → length after ≡ length before → IsPermutation (flat_map (λ mine. mine) ran) (range_with_len 0 jobs)
-        → OfEach ran before after (λ mine a b. DidAll may outputs a mine b) → (n : ℕ) → n < jobs
-        → P n (get_or outputs n d)
-    each_held jobs before after ran teams same once did = everywhere (λ n. P n (get_or outputs n d)) jobs ran once
-        (λ k mine at.
+        → OfEach ran before after (λ mine a b. DidAll may outputs a mine b) → (n : ℕ) → n < jobs → Q n
+    each_held jobs before after ran teams same once did = everywhere Q jobs ran once (λ k mine at.
         let a = at_within before k (search (rules, slice_get_within ran k mine at)) in
         let b = at_within after k (search (rules, slice_get_within ran k mine at)) in
         held a.0 mine b.0 (did k mine a.0 b.0 at a.1 b.1))
+
+  -- Jobs that were broken off, seen as what each system filled: the systems stopped short.
+  module _ {K : Type 0} (may leave : ℕ → L → O → L → Type 0) (May Leave : ℕ → K → Type 0) (jobs : ℕ) (before : List L)
+      (left : List (Option O)) (after : List L) (same : length after ≡ length before)
+      (done : AreBrokenOff may leave jobs before left after) (seen : List K) (empty : K)
+      (many : length seen ≡ done.count)
+      (ends : (n : ℕ) (a : L) (o : O) (b : L) → slice_get done.outputs n ≡ Some o → may n a o b
+      → May n (get_or seen n empty)) (stops : (n : ℕ) (a : L) (o : O) (b : L) → slice_get done.outputs n ≡ Some o
+      → leave n a o b → Leave n (get_or seen n empty)) where
+    abbrev Either : ℕ → L → O → L → Type 0
+    Either n a o b = may n a o b ⊎ leave n a o b
+
+    -- A worker did a job after another one only if that one had ended.
+    in_turn : (a : L) (mine : List ℕ) (b : L)
+        → DidAll may done.outputs a mine b ⊎ DidUntil may leave done.outputs a mine b
+        → AllPairs (λ earlier later. May earlier (get_or seen earlier empty)) mine
+    in_turn a mine b (inl did) =
+        search (rules, held may done.outputs (λ n. May n (get_or seen n empty)) ends a mine b did)
+    in_turn a mine b (inr did) = grind (
+      arith,
+      common_steps,
+      all_pairs_push,
+      held may done.outputs (λ n. May n (get_or seen n empty)) ends a did.earlier did.between did.ended,
+    )
+
+    pub stop_short : StopShort May Leave seen empty jobs done.count done.ran
+    stop_short = record {
+      within = done.within;
+      some = done.some;
+      each_output = many;
+      each_system = each_held Either done.outputs
+          (λ n. May n (get_or seen n empty) ⊎ Leave n (get_or seen n empty))
+          (λ n a o b at. ⊎_elim (λ did. inl (ends n a o b at did)) (λ did. inr (stops n a o b at did))) done.count
+          before after done.ran done.run.each_worker same done.run.once (λ k mine a b x y z. did_either may leave Either
+          (λ n a o b it. inl it) (λ n a o b it. inr it) done.outputs a mine b (done.did k mine a b x y z));
+      ended = λ worker mine at.
+          let within = slice_get_within done.ran worker mine at in
+          let a = at_within before worker (omega (arith, within, done.run.each_worker)) in
+          let b = at_within after worker (omega (arith, within, done.run.each_worker, same)) in
+          in_turn a.0 mine b.0 (done.did worker mine a.0 b.0 at a.1 b.1);
+      why = ⊎_elim (λ s.
+          let d = s.7 in
+          let last = d.stopped in
+          inl (
+            s.0,
+            s.1,
+            d.last,
+            s.4,
+            rw d.numbers_are (last_pushed d.earlier d.last),
+            stops d.last d.between last.0 s.3 last.1 last.2,
+          )) inr done.why;
+      busy = done.busy;
+    }
 
   abbrev Alone : (ℕ → O → Type 0) → ℕ → L → O → L → Type 0
   Alone P number before output after = P number output
@@ -64,24 +114,21 @@ module _ {O L : Type 0} where
   pub each_done : (P : ℕ → O → Type 0) (jobs : ℕ) (before : List L) (outputs : List O) (after : List L)
       → length after ≡ length before → AreDone (Alone P) jobs before outputs after → (n : ℕ) → n < jobs
       → HoldsAt P outputs n
-  each_done P jobs before outputs after same done n less output at = search (
-    rules,
-    get_or_from_slice_get outputs n output output at,
-    each_held (Alone P) P (λ n a o b it. it) outputs output jobs before after done.ran done.each_worker same done.once
-        done.did n less,
-  )
+  each_done P jobs before outputs after same done n less output at = rw (get_or_from_slice_get outputs n output output at)
+      at (each_held (Alone P) outputs (λ m. P m (get_or outputs m output))
+      (λ m a o b there it. rw (get_or_from_slice_get outputs m o output there) it) jobs before after done.ran
+      done.run.each_worker same done.run.once done.did n less)
 
   pub each_either : (P Q : ℕ → O → Type 0) (jobs : ℕ) (before : List L) (left : List (Option O)) (after : List L)
       → length after ≡ length before → (done : AreBrokenOff (Alone P) (Alone Q) jobs before left after) → (n : ℕ)
       → n < done.count → HoldsAt (λ m output. P m output ⊎ Q m output) done.outputs n
-  each_either P Q jobs before left after same done n less output at = search (
-    rules,
-    get_or_from_slice_get done.outputs n output output at,
-    each_held (Alone (λ m o. P m o ⊎ Q m o)) (λ m o. P m o ⊎ Q m o) (λ n a o b it. it) done.outputs output done.count
-        before after done.ran done.each_worker same done.once
-        (λ k mine a b m x y. did_either (Alone P) (Alone Q) (Alone (λ m o. P m o ⊎ Q m o)) (λ n a o b it. inl it)
-        (λ n a o b it. inr it) done.outputs a mine b (done.did k mine a b m x y)) n less,
-  )
+  each_either P Q jobs before left after same done n less output at =
+      let outputs : List O = done.outputs in
+      let here : (m : ℕ) (o : O) → slice_get outputs m ≡ Some o → get_or outputs m output ≡ o =
+      λ m o there. get_or_from_slice_get outputs m o output there in
+      let short = stop_short (Alone P) (Alone Q) P Q jobs before left after same done outputs output done.each_output
+      (λ m a o b there it. rw (here m o there) it) (λ m a o b there it. rw (here m o there) it) in
+      rw (here n output at) at (short.each_system n less)
 
 -- What was done with what was lent says this of the part that is seen.
 module _ {O L K : Type 0} (f : L → K) (may leave : ℕ → K → O → K → Type 0) (done left : ℕ → L → O → L → Type 0)
@@ -106,19 +153,22 @@ module _ {O L K : Type 0} (f : L → K) (may leave : ℕ → K → O → K → T
 
   pub done_seen : (jobs : ℕ) (before : List L) (outputs : List O) (after : List L)
       → AreDone done jobs before outputs after → AreDone may jobs (map f before) outputs (map f after)
-  done_seen jobs before outputs after all = search (rules, length-map, mapped_at, did_seen)
+  done_seen jobs before outputs after all = record {
+    ran = all.ran;
+    run = rw (length-map before f) all.run;
+    count = all.count;
+    did = λ worker mine a b at at_a at_b. search (rules, all.did worker mine, mapped_at, did_seen outputs mine);
+  }
 
   pub broken_off_seen : (jobs : ℕ) (before : List L) (left_out : List (Option O)) (after : List L)
       → AreBrokenOff done left jobs before left_out after
       → AreBrokenOff may leave jobs (map f before) left_out (map f after)
   broken_off_seen jobs before left_out after all = record {
     ran = all.ran;
-    each_worker = all.each_worker ∙ sym (length-map before f);
     count = all.count;
+    run = rw (length-map before f) all.run;
     within = all.within;
     some = all.some;
-    once = all.once;
-    rising = all.rising;
     outputs = all.outputs;
     each_output = all.each_output;
     left_are = all.left_are;

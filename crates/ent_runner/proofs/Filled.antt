@@ -1,10 +1,9 @@
 -- Systems that filled lists as the jobs of a crew, each from its own block. The lists are logs or queues.
-use Rattle.ent_runner.proofs.Common.{AllPairs, All-nil, All-cons, all_pairs_push, common_steps, DidAll, DidUntil, ◌++◌, ◌-◌, get_or, slice_get, [], zero, suc, All, All-map, List, Option, Some, rules, arith, inl, inr, length, map, refl, sym, ℕ, ⊎_elim, ◌<◌, ◌∙◌, ◌∷◌, ◌≡◌, ◌⊎◌, length-map, get_or_from_slice_get, slice_get-get_or, slice_get_within, Block, Phase, after_use, blocks_of, spawned_in, Entry, Command, after_commands, AreBrokenOff, AreDone, Draws, AreReady, IsDealt, Logs, HaveFilled, blocks_after, SystemMayIssue, View, HaveIssued, HaveStopped, blocks_after_queues}
+use Rattle.ent_runner.proofs.Common.{StopShort, get_or, slice_get, [], zero, suc, All, All-map, List, Option, Some, rules, arith, inl, inr, length, map, refl, sym, ℕ, ⊎_elim, ◌<◌, ◌∙◌, ◌∷◌, ◌≡◌, ◌⊎◌, length-map, get_or_from_slice_get, slice_get-get_or, slice_get_within, Block, Phase, after_use, blocks_of, spawned_in, Entry, Command, after_commands, AreBrokenOff, AreDone, Draws, AreReady, IsDealt, Logs, HaveFilled, blocks_after, SystemMayIssue, View, HaveIssued, HaveStopped, blocks_after_queues}
 use Rattle.ent_runner.specs.Blocks.{IsBrokenOff}
 use Rattle.ent_runner.specs.Logs.{SystemMayLog}
 use Rattle.ent_blocks.specs.Blocks.{Reserver}
-use Rattle.ent_runner.proofs.Adding.{last_pushed}
-use Rattle.ent_runner.proofs.EachOutput.{HoldsAt, each_done, each_either}
+use Rattle.ent_runner.proofs.EachOutput.{HoldsAt, each_done, each_either, stop_short}
 use Rattle.ent_runner.proofs.Lists.{at_within, get_mapped, mapped_at}
 use Rattle.ent_runner.proofs.Drawn.{log_draws, queue_draws}
 use Rattle.ent_queue.specs.Drawing.{AreDrawnBy}
@@ -90,73 +89,23 @@ module _ {E : Type 0} where
               All-map (λ (r : Reserver). r.number ≡ number) (λ (one : List E × Reserver). one.1) all of_phase,
             )
 
-        -- what a worker's systems filled, each of which had ended
-        all_ended : (outputs : List (List E × Reserver)) (a : L) (mine : List ℕ) (b : L)
-            → DidAll (λ n a one b. Fits n one) outputs a mine b
-            → All (λ n. May n (get_or (filled_of outputs) n [])) mine
-        all_ended outputs a [] b same = All-nil (λ n. May n (get_or (filled_of outputs) n []))
-        all_ended outputs a (n ∷ mine) b (j, (one, at, does), rest) = search (
-          rules,
-          All-cons,
-          filled_is outputs n one at,
-          (fits n one does).0,
-          all_ended outputs j mine b rest,
-        )
-
-        -- A worker ran a system after another one only if that one had ended.
-        in_turn : (outputs : List (List E × Reserver)) (a : L) (mine : List ℕ) (b : L)
-            → DidAll (λ n a one b. Fits n one) outputs a mine b
-            ⊎ DidUntil (λ n a one b. Fits n one) (λ n a one b. Left n one) outputs a mine b
-            → AllPairs (λ earlier later. May earlier (get_or (filled_of outputs) earlier [])) mine
-        in_turn outputs a mine b (inl did) = search (rules, all_ended outputs a mine b did)
-        in_turn outputs a mine b (inr did) = grind (
-          arith,
-          common_steps,
-          all_pairs_push,
-          all_ended outputs a did.earlier did.between did.ended,
-        )
-
-        -- the last system of a worker stopped
-        abbrev LastLeft : List (List E) → List (List ℕ) → Type 0
-        LastLeft lists ran = (worker : ℕ) × (mine : List ℕ) × (last : ℕ)
-            × (slice_get ran worker ≡ Some mine) × (slice_get mine (length mine - 1) ≡ Some last)
-            × Leave last (get_or lists last [])
-
         lost_all : (left_out : List (Option (List E × Reserver)))
             → (done : AreBrokenOff (λ n a one b. Fits n one) (λ n a one b. Left n one) jobs before left_out after)
-            → (length (filled_of done.outputs) ≡ done.count)
-            × ((n : ℕ) → n < done.count → May n (get_or (filled_of done.outputs) n [])
-            ⊎ Leave n (get_or (filled_of done.outputs) n []))
+            → StopShort May Leave (filled_of done.outputs) [] jobs done.count done.ran
             × ((n : ℕ) (block : Block) → n < done.count → slice_get (blocks_of reservers) n ≡ Some block
             → Drawn block (get_or (filled_of done.outputs) n []))
-            × ((worker : ℕ) (mine : List ℕ) → slice_get done.ran worker ≡ Some mine
-            → AllPairs (λ earlier later. May earlier (get_or (filled_of done.outputs) earlier [])) mine)
-            × (LastLeft (filled_of done.outputs) done.ran ⊎ (done.count < jobs))
         lost_all left_out done =
             let Either : ℕ → List E → Type 0 = λ n l. May n l ⊎ Leave n l in
             let each : (n : ℕ) → n < done.count → HoldsAt (Fills Either) done.outputs n = λ n less one at. ⊎_elim
             (λ f. let g = fits n one f in (inl g.0, g.1, g.2)) (λ f. let g = left n one f in (inr g.0, g.1, g.2))
-            (each_either Fits Left jobs before left_out after same done n less one at) in (
-              length-map done.outputs (λ (one : List E × Reserver). one.0) ∙ done.each_output,
-              λ n less. may_at Either done.outputs n (omega (arith, less, done.each_output)) (each n less),
+            (each_either Fits Left jobs before left_out after same done n less one at) in
+            let here = filled_is done.outputs in (
+              stop_short _ _ May Leave jobs before left_out after same done (filled_of done.outputs) []
+                  (length-map done.outputs (λ (one : List E × Reserver). one.0) ∙ done.each_output)
+                  (λ n a one b at f. rw (here n one at) ((fits n one f).0))
+                  (λ n a one b at f. rw (here n one at) ((left n one f).0)),
               λ n block less. drawn_at Either done.outputs n (omega (arith, less, done.each_output)) (each n less)
                   block,
-              λ worker mine at.
-                  let within = slice_get_within done.ran worker mine at in
-                  let a = at_within before worker (omega (arith, within, done.each_worker)) in
-                  let b = at_within after worker (omega (arith, within, done.each_worker, same)) in
-                  in_turn done.outputs a.0 mine b.0 (done.did worker mine a.0 b.0 at a.1 b.1),
-              ⊎_elim (λ s.
-                  let d = s.7 in
-                  let last = d.stopped in
-                  inl (
-                    s.0,
-                    s.1,
-                    d.last,
-                    s.4,
-                    rw d.numbers_are (last_pushed d.earlier d.last),
-                    rw (filled_is done.outputs d.last last.0 last.1) ((left d.last last.0 last.2).0),
-                  )) inr done.why,
             )
 
 -- logs
@@ -194,19 +143,11 @@ module _ {C S L : Type 0} (may leave : S → List (Entry C) → Type 0) (systems
       ready.count _ _ _ _ (fits_log may) (fits_log leave) left done in
       record {
         ran = done.ran;
-        each_worker = done.each_worker ∙ team;
         count = done.count;
-        within = done.within;
-        some = done.some;
-        once = done.once;
-        rising = done.rising;
+        run = rw team at done.run;
         logs = filled_of done.outputs;
-        each_log = d.0;
-        each_system = d.1;
-        draws = d.2;
-        ended = d.3;
-        why = d.4;
-        busy = done.busy;
+        short = d.0;
+        draws = d.1;
       }
 
 -- queues
@@ -239,17 +180,9 @@ module _ {S L : Type 0} (may leave : S → View → List Command → Type 0) (sy
       phase.number reservers before after same _ ready.count _ _ _ _ (fits_queue may) (fits_queue leave) left done in
       record {
         ran = done.ran;
-        each_worker = done.each_worker ∙ team;
         count = done.count;
-        within = done.within;
-        some = done.some;
-        once = done.once;
-        rising = done.rising;
+        run = rw team at done.run;
         queues = filled_of done.outputs;
-        each_queue = d.0;
-        each_system = d.1;
-        draws = d.2;
-        ended = d.3;
-        why = d.4;
-        busy = done.busy;
+        short = d.0;
+        draws = d.1;
       }

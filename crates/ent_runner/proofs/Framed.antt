@@ -1,11 +1,11 @@
 -- What a crew did whose jobs are the systems of a frame, and the history of its reservers, are a frame.
 -- What a frame leaves if no queue was applied.
-use Rattle.ent_runner.proofs.Common.{rules, ◌≡◌, ℕ, List, [], OnErr, IsFilled, IsReturned, Shared, Reserver, records_of, gains_of, Record, Command, Gains, View, SystemMayIssue, Result, All, slice_get, Some, length, map, ◌<◌, ◌∙◌, slice_get_within, AllPairs, flat_map, range_with_len, IsPermutation, Call, IsLegal, gains_nothing, gains_then, Respects, history_of, reservations_by, reservations_of, opened_records, Reservation, World, some, AreBrokenOff, AreDone, DidAll, OfEach, IsBrokenOff, IsFrame, IsWork, SystemMayHaveIssued, queue_at, requests_by, view_of, sym, Option, Vec, Global, ap, IfOk, IfErr, IfOk-weaker, IsErr, drop_of_length-le, IsSound, after_history, after_takes-sound, available-after_takes, limits-after_takes, live-after_takes, made-after_takes, length-taken, after_history-takes, OpenWorld, world_at_start, IsLost, reserved_by}
+use Rattle.ent_runner.proofs.Common.{rules, ◌≡◌, ℕ, List, [], OnErr, IsFilled, IsReturned, Shared, Reserver, records_of, gains_of, Record, Command, Gains, View, SystemMayIssue, Result, All, slice_get, Some, length, map, ◌<◌, ◌∙◌, slice_get_within, flat_map, range_with_len, IsPermutation, Call, IsLegal, gains_nothing, gains_then, Respects, history_of, reservations_by, reservations_of, opened_records, Reservation, World, AreBrokenOff, AreDone, DidAll, OfEach, IsBrokenOff, IsFrame, IsWork, get_or_from_slice_get, ◌⊎◌, queue_at, requests_by, view_of, sym, Option, Vec, Global, ap, IfOk, IfErr, IfOk-weaker, IsErr, drop_of_length-le, IsSound, after_history, after_takes-sound, available-after_takes, limits-after_takes, live-after_takes, made-after_takes, length-taken, after_history-takes, OpenWorld, world_at_start, IsLost, reserved_by}
 use Rattle.ent_queue.specs.Issuing as issuing
 use Rattle.ent_runner.proofs.Lists.{each_of_all, filter_map_is, map_map_is}
-use Rattle.ent_runner.proofs.Adding.{own_mapped, all_either, ended_by, stopped_last, added_at, ours, each_may}
+use Rattle.ent_runner.proofs.Adding.{own_mapped, all_either, added_at, ours, each_may}
 use Rattle.ent_runner.proofs.Conducting.{err_follows}
-use Rattle.ent_runner.proofs.EachOutput.{done_seen, broken_off_seen}
+use Rattle.ent_runner.proofs.EachOutput.{done_seen, broken_off_seen, stop_short}
 
 -- the calls of one caller in the history
 by_caller : (k : ℕ) (records : List Record) → requests_by k (history_of records)
@@ -53,15 +53,14 @@ module _ (before : World) (workers : ℕ) (opens records : List Record)
   module _ (P : ℕ → List Command → Type 0) (queues : List (List Command)) (ran : List (List ℕ))
       (teams : length ran ≡ length opens) (did : OfEach ran opens records
       (λ mine a b. DidAll (λ n before queue after. Gains before queue after × P n queue) queues a mine b)) where
-    worked : All (AllPairs (λ m n. m < n)) ran → (k : ℕ) (mine : List ℕ) → slice_get ran k ≡ Some mine
+    worked : (k : ℕ) (mine : List ℕ) → slice_get ran k ≡ Some mine
         → IsWork queues (history_of records) k mine
-    worked rising k mine at =
+    worked k mine at =
         let r = added_at Gains gains_nothing gains_then P queues before.allocator workers opens records opened_are many
         long ran teams did k mine at in
         let own = each_of_all (Respects (reservations_of records)) records k r.0 respects r.1 in
         search (
           rules,
-          each_of_all (AllPairs (λ m n. m < n)) ran k mine rising at,
           by_caller k records,
           own.own,
           own_mapped r.2.reservations,
@@ -82,50 +81,39 @@ module _ (before : World) (workers : ℕ) (opens records : List Record)
 
     pub frame_is : (queues : List (List Command)) → AreDone (Issues may systems (view_of before)) (length systems) opens
         queues records → IsFrame may systems workers before queues (history_of records)
-    frame_is queues done = search (
-      rules,
-      legal,
-      callers May queues done.ran done.each_worker done.did,
-      done,
-      many,
-      worked May queues done.ran done.each_worker done.did done.rising,
-      each_issues May queues done.ran done.each_worker done.did (length systems) done.once,
-      slice_get_within,
-    )
+    frame_is queues done = record {
+      legal = legal;
+      callers = callers May queues done.ran done.run.each_worker done.did;
+      ran = done.ran;
+      run = rw many at done.run;
+      work = worked May queues done.ran done.run.each_worker done.did;
+      count = done.count;
+      each_system = λ n system at. each_issues May queues done.ran done.run.each_worker done.did (length systems)
+          done.run.once n (slice_get_within systems n system at) system at;
+    }
 
     pub broken_off : (leave : S → View → List Command → Type 0) (left : List (Option (List Command)))
         → AreBrokenOff (Issues may systems (view_of before)) (Issues leave systems (view_of before)) (length systems)
         opens left records → IsBrokenOff may leave systems workers before (history_of records)
     broken_off leave left done =
-        let Leave : ℕ → List Command → Type 0 = λ n queue. SystemMayIssue leave systems (view_of before) n queue in
-        let Left : ℕ → List Command → Type 0 = SystemMayHaveIssued may leave systems (view_of before) in
+        let Leave : ℕ → List Command → Type 0 = SystemMayIssue leave systems (view_of before) in
+        let Left : ℕ → List Command → Type 0 = λ n queue. May n queue ⊎ Leave n queue in
         let did : OfEach done.ran opens records (λ mine a b. DidAll (λ n before queue after. Gains before queue after
         × Left n queue) done.outputs a mine b) =
         λ k mine a b at at_a at_b. all_either Gains May Leave done.outputs a mine b
         (done.did k mine a b at at_a at_b) in
-        let own = callers Left done.outputs done.ran done.each_worker did in
-        let each = each_issues Left done.outputs done.ran done.each_worker did done.count done.once in
-        let work = worked Left done.outputs done.ran done.each_worker did done.rising in
-        let ended =
-        ended_by Gains May Leave done.outputs done.ran opens records (long ∙ sym many) done.each_worker done.did in
-        let why =
-        stopped_last Gains May Leave done.outputs done.ran opens records (done.count < length systems) done.why in
-        search (
-          rules,
-          legal,
-          many,
-          own,
-          each,
-          work,
-          ended,
-          why,
-          done.within,
-          done.some,
-          done.once,
-          done.each_output,
-          done.busy,
-          done.each_worker,
-        )
+        let here = λ (n : ℕ) (queue : List Command). get_or_from_slice_get done.outputs n queue [] in
+        record {
+          legal = legal;
+          callers = callers Left done.outputs done.ran done.run.each_worker did;
+          ran = done.ran;
+          count = done.count;
+          run = rw many at done.run;
+          queues = done.outputs;
+          short = stop_short _ _ May Leave _ opens left records (long ∙ sym many) done done.outputs [] done.each_output
+              (λ n a queue b at it. rw (here n queue at) it.1) (λ n a queue b at it. rw (here n queue at) it.1);
+          work = worked Left done.outputs done.ran done.run.each_worker did;
+        }
 
 pub is_lost : (before w : World) (history : List Call) → IsSound before.allocator → before.allocator.asked ≡ 0
     → w ≡ reserved_by history before → IsLost before w

@@ -164,8 +164,8 @@ module _ {S : Type 0} (may : S → View → List Command → Type 0) (systems : 
       let by_worker =
       flat_by_number (given_to history) (flat_map listed_at) 0 frame.ran (search (rules, given_listed)) in
       rw (sym by_system, frame.count) (IsPermutation-sym _ _ (IsPermutation-trans _ _ _
-      (rw (sym frame.each_worker, by_worker, sym (flat_flat listed_at (λ mine. mine) frame.ran)) at
-      (by_callers workers history frame.callers)) (flat_moved listed_at _ _ frame.once)))
+      (rw (sym frame.run.each_worker, by_worker, sym (flat_flat listed_at (λ mine. mine) frame.ran)) at
+      (by_callers workers history frame.callers)) (flat_moved listed_at _ _ frame.run.once)))
 
   module _ (sound : IsSound before.allocator) where
     -- No handle is listed twice, by one queue or by two.

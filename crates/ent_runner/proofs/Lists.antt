@@ -1,5 +1,5 @@
 -- Lists of lists, and the numbers of a range.
-use Rattle.ent_runner.proofs.Common.{rules, ◌≡◌, ℕ, zero, suc, ◌<◌, List, [], ◌∷◌, length, map, refl, ap, arith, Some, Bool, ◌∙◌, common_steps, filter, slice_get, All, sum_by, flat_map, range_with_len, All-nil, All-cons, All-head, All-tail, All-append, All-left, All-right, slice_get-get_or, get_or_from_slice_get, slice_get_within, slice_get-map, option_map, get_or-map, length-map, fold-map, get_or-range_with_len, length-range_with_len}
+use Rattle.ent_runner.proofs.Common.{rules, ◌≡◌, ℕ, zero, suc, ◌<◌, List, [], ◌∷◌, length, map, refl, ap, arith, ◌++◌, ◌-◌, length-append, get_or_push, Some, Bool, ◌∙◌, common_steps, filter, slice_get, All, sum_by, flat_map, range_with_len, All-nil, All-cons, All-head, All-tail, All-append, All-left, All-right, slice_get-get_or, get_or_from_slice_get, slice_get_within, slice_get-map, option_map, get_or-map, length-map, fold-map, get_or-range_with_len, length-range_with_len}
 
 -- what holds of each element at its index holds of all
 pub all_from_each : {X : Type 0} (P : X → Type 0) (xs : List X) → ((k : ℕ) (x : X) → slice_get xs k ≡ Some x → P x)
@@ -65,3 +65,7 @@ at_within (x ∷ xs) (suc k) within = at_within xs k (omega arith)
 
 pub all_below : (many : ℕ) → All (λ n. n < many) (range_with_len 0 many)
 all_below many k d within = search (rules, arith, get_or-range_with_len 0 many k d, length-range_with_len 0 many)
+
+pub last_pushed : {X : Type 0} (xs : List X) (y : X) → slice_get (xs ++ y ∷ []) (length (xs ++ y ∷ []) - 1) ≡ Some y
+last_pushed xs y =
+    search (rules, arith, length-append xs (y ∷ []), slice_get-get_or (xs ++ y ∷ []) (length xs) y, get_or_push xs y y)

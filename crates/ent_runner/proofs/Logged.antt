@@ -1,13 +1,13 @@
 -- What a crew did whose jobs are systems that fill logs, and the history of its reservers.
-use Rattle.ent_runner.proofs.Common.{rules, [], IsFilled, IsReturned, Shared, Reserver, records_of, All, slice_get, List, Some, Option, Vec, Global, Result, IfOk, IfErr, OnErr, IfOk-weaker, ap, length, sym, ℕ, ◌<◌, ◌∙◌, ◌≡◌, slice_get_within, AllPairs, flat_map, range_with_len, IsPermutation, ◌==◌, Call, IsLegal, after_history, given_in, Allocator, spawned_in, Entry, map, AreBrokenOff, AreDone, DidAll, OfEach, Respects, as_call, handles_of, history_of, reservations_by, reservations_of, opened, opened_records, Record, Reservation, requests_by, quota, FitQuota, LogGains, HaveLogged, HaveRun, SystemMayHaveLogged, SystemMayLog, entries_by, given_to, log_at}
+use Rattle.ent_runner.proofs.Common.{rules, [], IsFilled, IsReturned, Shared, Reserver, records_of, All, slice_get, List, Some, Option, Vec, Global, Result, IfOk, IfErr, OnErr, IfOk-weaker, ap, length, sym, ℕ, ◌<◌, ◌∙◌, ◌≡◌, slice_get_within, flat_map, ◌==◌, Call, IsLegal, after_history, given_in, Allocator, spawned_in, Entry, map, AreBrokenOff, AreDone, DidAll, OfEach, Respects, as_call, handles_of, history_of, reservations_by, reservations_of, opened, opened_records, Record, Reservation, requests_by, quota, HaveLogged, HaveRun, AreRun, get_or_from_slice_get, ◌⊎◌, SystemMayLog, entries_by, given_to, log_at, requests_in}
 use Rattle.ent_queue.specs.Logging as logging
-use Rattle.ent_runner.specs.Logs.Calls.{stands_for}
+use Rattle.ent_shared.specs.Requests.{stands_for, FitQuota}
 use Rattle.ent_runner.specs.Logs.{IsBrokenOff}
-use Rattle.ent_runner.proofs.Adding.{added_at, all_either, each_may, ended_by, of_each, ours, own_mapped, stopped_last}
+use Rattle.ent_runner.proofs.Adding.{added_at, all_either, each_may, of_each, ours, own_mapped}
 use Rattle.ent_runner.proofs.Conducting.{err_follows}
-use Rattle.ent_runner.proofs.EachOutput.{done_seen, broken_off_seen}
+use Rattle.ent_runner.proofs.EachOutput.{done_seen, broken_off_seen, stop_short}
 use Rattle.ent_runner.proofs.Lists.{each_of_all, filter_map_is, map_map_is}
-use Rattle.ent_runner.proofs.Gaining.{log_gains, log_gains_nothing, log_gains_then}
+use Rattle.ent_runner.proofs.Gaining.{LogGains, log_gains, log_gains_nothing, log_gains_then, one_each as each_one, spawned}
 
 -- the calls of one caller in the history
 by_caller : (k : ℕ) (records : List Record) → requests_by k (history_of records)
@@ -48,23 +48,23 @@ module _ {C : Type 0} (start after : Allocator) (workers : ℕ) (opens records :
     (respects : All (Respects (reservations_of records)) records)
     (after_is : after ≡ after_history start (history_of records)) where
   module _ (P : ℕ → List (Entry C) → Type 0) (count : ℕ) (logs : List (List (Entry C))) (ran : List (List ℕ))
-      (each : length ran ≡ length opens) (once : IsPermutation (flat_map (λ mine. mine) ran) (range_with_len 0 count))
-      (rising : All (AllPairs (λ m n. m < n)) ran) (each_log : length logs ≡ count)
+      (each : length ran ≡ length opens) (runs : AreRun workers count ran) (each_log : length logs ≡ count)
       (did : OfEach ran opens records (λ mine a b. DidAll (λ n before log after. LogGains before log after × P n log)
       logs a mine b)) where
     worked_at : (k : ℕ) (mine : List ℕ) → slice_get ran k ≡ Some mine → (r : Record) × (slice_get records k ≡ Some r)
         × LogGains (opened start k) (entries_by logs mine) r
-    worked_at = added_at LogGains log_gains_nothing log_gains_then P logs start workers opens records opened_are many
+    worked_at = added_at LogGains (log_gains_nothing C) log_gains_then P logs start workers opens records opened_are many
         long ran each did
 
     calls_at : (k : ℕ) (mine : List ℕ) → slice_get ran k ≡ Some mine → requests_by k (history_of records)
-        ≡ flat_map stands_for (entries_by logs mine)
+        ≡ flat_map stands_for (requests_in (entries_by logs mine))
     calls_at k mine at =
         let r = worked_at k mine at in
         let own = each_of_all (Respects (reservations_of records)) records k r.0 respects r.1 in
-        search (rules, by_caller k records, own.own, own_mapped r.2.gained.reservations, r.2)
+        search (rules, by_caller k records, own.own, own_mapped r.2.reservations, r.2)
 
-    within_at : (k : ℕ) (mine : List ℕ) → slice_get ran k ≡ Some mine → FitQuota quota (entries_by logs mine)
+    within_at : (k : ℕ) (mine : List ℕ) → slice_get ran k ≡ Some mine → FitQuota quota (requests_in
+        (entries_by logs mine))
     within_at k mine at = (worked_at k mine at).2.within
 
     given_at : (k : ℕ) (mine : List ℕ) → slice_get ran k ≡ Some mine → given_to k (history_of records) ≡ spawned_in
@@ -73,34 +73,31 @@ module _ {C : Type 0} (start after : Allocator) (workers : ℕ) (opens records :
         let r = worked_at k mine at in
         let own = each_of_all (Respects (reservations_of records)) records k r.0 respects r.1 in
         ap given_in (filter_map_is (λ (call : Call). call.caller == k) as_call (reservations_of records))
-        ∙ (ap handles_of (rw r.2.gained.number at own.own) ∙ r.2.given)
+        ∙ (ap handles_of (rw r.2.number at own.own) ∙ (r.2.given ∙ spawned (entries_by logs mine)))
 
     one_each : All (λ (call : Call). call.requested ≡ 1) (history_of records)
-    one_each = of_each LogGains log_gains_nothing log_gains_then P logs start workers opens records opened_are many
+    one_each = of_each LogGains (log_gains_nothing C) log_gains_then P logs start workers opens records opened_are many
         long ran each did (λ call. call.requested ≡ 1)
-        (λ k xs r less g. rw (g.gained.entries, own_mapped g.gained.reservations) g.gained.one_each)
+        (λ k xs r less g. rw (g.entries, own_mapped g.reservations) (each_one _ _ xs g))
 
     run_is : HaveRun workers count start logs after
     run_is = search (
       rules,
       legal,
       after_is,
-      many,
-      each,
-      once,
-      rising,
+      runs,
       calls_at,
       within_at,
       given_at,
       each_log,
-      ours LogGains log_gains_nothing log_gains_then P logs start workers opens records opened_are many long ran each
-          did (λ k xs r g. rw (g.gained.entries, own_mapped g.gained.reservations) g.callers),
+      ours LogGains (log_gains_nothing C) log_gains_then P logs start workers opens records opened_are many long ran each
+          did (λ k xs r g. rw (g.entries, own_mapped g.reservations) g.callers),
       one_each,
     )
 
     each_holds : (n : ℕ) → n < count → P n (log_at logs n)
-    each_holds = each_may LogGains log_gains_nothing log_gains_then P logs start workers opens records opened_are many
-        long ran each did count once
+    each_holds = each_may LogGains (log_gains_nothing C) log_gains_then P logs start workers opens records opened_are many
+        long ran each did count runs.once
 
   module _ {S : Type 0} (may leave : S → List (Entry C) → Type 0) (systems : List S) where
     abbrev May : ℕ → List (Entry C) → Type 0
@@ -113,8 +110,8 @@ module _ {C : Type 0} (start after : Allocator) (workers : ℕ) (opens records :
         → HaveLogged may systems workers start logs after
     logged logs done = search (
       rules,
-      run_is May (length systems) logs done.ran done.each_worker done.once done.rising done.count done.did,
-      each_holds May (length systems) logs done.ran done.each_worker done.once done.rising done.count done.did,
+      run_is May (length systems) logs done.ran done.run.each_worker (rw many at done.run) done.count done.did,
+      each_holds May (length systems) logs done.ran done.run.each_worker (rw many at done.run) done.count done.did,
       slice_get_within,
     )
 
@@ -124,21 +121,17 @@ module _ {C : Type 0} (start after : Allocator) (workers : ℕ) (opens records :
     unfolding run_is
     broken_off left done =
         let logs : List (List (Entry C)) = done.outputs in
-        let Left : ℕ → List (Entry C) → Type 0 = SystemMayHaveLogged may leave systems in
+        let Left : ℕ → List (Entry C) → Type 0 = λ n log. May n log ⊎ Leave n log in
         let did : OfEach done.ran opens records (λ mine a b. DidAll (λ n before log after. LogGains before log after
         × Left n log) logs a mine b) = λ k mine a b at at_a at_b. all_either LogGains May Leave logs a mine b
         (done.did k mine a b at at_a at_b) in
+        let here = λ (n : ℕ) (log : List (Entry C)). get_or_from_slice_get logs n log [] in
         record {
           count = done.count;
-          within = done.within;
-          some = done.some;
           logs = logs;
-          run = run_is Left done.count logs done.ran done.each_worker done.once done.rising done.each_output did;
-          each_system = each_holds Left done.count logs done.ran done.each_worker done.once done.rising done.each_output
-              did;
-          ended = ended_by LogGains May Leave logs done.ran opens records (long ∙ sym many) done.each_worker done.did;
-          why = stopped_last LogGains May Leave logs done.ran opens records (done.count < length systems) done.why;
-          busy = done.busy;
+          run = run_is Left done.count logs done.ran done.run.each_worker (rw many at done.run) done.each_output did;
+          short = stop_short _ _ May Leave _ opens left records (long ∙ sym many) done logs [] done.each_output
+              (λ n a log b at it. rw (here n log at) it.1) (λ n a log b at it. rw (here n log at) it.1);
         }
 
     -- the crew has worked, and the allocator was closed

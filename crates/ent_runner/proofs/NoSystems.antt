@@ -31,13 +31,19 @@ is_none workers worker mine at = search (
 no_frame : {S : Type 0} (may : S → View → List Command → Type 0) (workers : ℕ) (before : World)
     → IsFrame may [] workers before [] []
 no_frame may workers before =
-    search (rules, All-nil, length-replicate workers no_jobs, none_once workers, is_none, none_rise)
+    search (rules, All-nil, length-replicate workers no_jobs, none_once workers, is_none, all_rise workers)
 
 pub ends_none : {S : Type 0} (may : S → View → List Command → Type 0) (systems : List S) (workers : ℕ) (before : World)
     (queues : List (List Command)) (after : World) (births : List Handle) (faults : List Fault) → length systems ≡ 0
     → queues ≡ [] → after ≡ (sync [] before).world → births ≡ born before.allocator → faults ≡ (sync [] before).faults
     → Ends may systems workers before queues after births faults
-ends_none may [] workers before queues after births faults none no_queues world came fault = search (rules, no_frame)
+ends_none may [] workers before queues after births faults none no_queues world came fault = record {
+  history = [];
+  frame = rw no_queues (no_frame may workers before);
+  world = rw no_queues world;
+  born_are = came;
+  faults_are = rw no_queues fault;
+}
 ends_none may (_ ∷ _) workers before queues after births faults none no_queues world came fault = absurd (omega arith)
 
 -- a sync point of nothing asks for no memory

@@ -12,9 +12,11 @@ logged_none may workers s = record {
     callers = All-nil (λ (call : Call). call.caller < workers);
     one_each = All-nil (λ (call : Call). call.requested ≡ 1);
     ran = replicate workers no_jobs;
-    each_worker = length-replicate workers no_jobs;
-    once = none_once workers;
-    rising = all_rise workers;
+    run = record {
+      each_worker = length-replicate workers no_jobs;
+      once = none_once workers;
+      rising = all_rise workers;
+    };
     calls = λ worker mine at. rw (is_none workers worker mine at) refl;
     within = λ worker mine at. rw (is_none workers worker mine at) tt;
     given = λ worker mine at. rw (is_none workers worker mine at) refl;

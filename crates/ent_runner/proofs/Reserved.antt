@@ -20,7 +20,7 @@ module _ {C : Type 0} (start after : Allocator) (workers count : ℕ) (logs : Li
   In n = All Q (spawned_in (log_at logs n))
 
   in_log : (n : ℕ) → n < count → In n
-  in_log = everywhere In count run.ran run.once (λ k mine at. flat_all Q (λ n. spawned_in (log_at logs n)) mine
+  in_log = everywhere In count run.ran run.run.once (λ k mine at. flat_all Q (λ n. spawned_in (log_at logs n)) mine
       (rw (run.given k mine at, flat_flat spawned_by (log_at logs) mine) at (given_kept Q
       (λ (call : Call). call.caller == k) run.history all)))
 

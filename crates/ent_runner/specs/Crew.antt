@@ -6,8 +6,8 @@ pub mod Worker
 pub mod Collecting
 use Rattle.std.specs.Prelude.{◌≡◌, ℕ, ◌<◌, ◌≤◌, List, [], ◌∷◌, ◌++◌, length, slice_get, Some}
 use Rattle.std.specs.Prelude.{◌⊎◌, ◌-◌, Option, None, map, replicate}
-use Rattle.std.specs.List.{All, AllPairs, FoldsTo, flat_map, range_with_len}
-use Rattle.std.specs.List.Sorted.{IsPermutation}
+use Rattle.std.specs.List.{All, FoldsTo}
+use Rattle.ent_runner.specs.Runs.{AreRun}
 
 -- for how many jobs there is room, and how many workers do them
 pub record Crew : Type 0 where
@@ -47,24 +47,19 @@ module _ {O L : Type 0} where
       (outputs : List O) (after : List L) : Type 0 where
     -- for each worker the jobs that it did
     pub ran : List (List ℕ)
-    pub each_worker : length ran ≡ length before
-    pub once : IsPermutation (flat_map (λ mine. mine) ran) (range_with_len 0 jobs)
-    pub rising : All (AllPairs (λ m n. m < n)) ran
+    pub run : AreRun (length before) jobs ran
     pub count : length outputs ≡ jobs
     pub did : OfEach ran before after (λ mine a b. DidAll may outputs a mine b)
 
   -- The workers have done some of the jobs, and stopped. The outputs are left.
   pub record AreBrokenOff (may leave : ℕ → L → O → L → Type 0) (jobs : ℕ)
       (before : List L) (left : List (Option O)) (after : List L) : Type 0 where
-    -- for each worker the jobs that it did: together they are the first ones, each once, and at
-    -- least one if there are any
+    -- for each worker the jobs that it did, at least one if there are any
     pub ran : List (List ℕ)
-    pub each_worker : length ran ≡ length before
     pub count : ℕ
+    pub run : AreRun (length before) count ran
     pub within : count ≤ jobs
     pub some : 0 < jobs → 0 < count
-    pub once : IsPermutation (flat_map (λ mine. mine) ran) (range_with_len 0 count)
-    pub rising : All (AllPairs (λ m n. m < n)) ran
     -- what each of them had made when it ended or stopped
     pub outputs : List O
     pub each_output : length outputs ≡ count

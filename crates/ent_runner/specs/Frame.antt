@@ -2,9 +2,8 @@
 -- point applies the queues in the order of the systems.
 use Rattle.std.specs.Prelude.{◌≡◌, ℕ, ◌<◌, ◌≤◌, ◌==◌, List, [], length, map, filter}
 use Rattle.std.specs.Prelude.{Result, Ok, Err}
-use Rattle.std.specs.Prelude.{slice_get, slice_index_or, Some, ◌⊎◌, ◌-◌}
-use Rattle.std.specs.List.{All, AllPairs, flat_map, range_with_len}
-use Rattle.std.specs.List.Sorted.{IsPermutation}
+use Rattle.std.specs.Prelude.{slice_get, slice_index_or, Some}
+use Rattle.std.specs.List.{All, flat_map}
 use Rattle.ent_handle.specs.Handle.{Handle}
 use Rattle.ent_alloc.specs.declared.space.Space.{Space}
 use Rattle.ent_alloc.specs.Limits.{quota}
@@ -20,6 +19,7 @@ use Rattle.ent_world.specs.declared.fault.Fault.{Fault}
 use Rattle.ent_world.specs.declared.fault.SyncFault.{SyncFault}
 use Rattle.ent_world.specs.declared.fault.SyncFault.TheVariants as stop
 use Rattle.ent_world.specs.declared.fault.SyncReport.{SyncReport}
+use Rattle.ent_runner.specs.Runs.{AreRun, StopShort}
 use Rattle.ent_runner.specs.declared.frame.report.FrameFault.{FrameFault}
 use Rattle.ent_runner.specs.declared.frame.report.FrameFault.TheVariants as frame
 
@@ -49,7 +49,6 @@ requests_by caller history =
 -- reservations of their queues, and each fitted the quota that the worker had left.
 pub record IsWork (queues : List (List Command)) (history : List Call) (worker : ℕ)
     (systems : List ℕ) : Type 0 where
-  pub rising : AllPairs (λ m n. m < n) systems
   pub calls : requests_by worker history ≡ flat_map stands_for (commands_of queues systems)
   pub within : FitQuota quota (commands_of queues systems)
 
@@ -62,8 +61,7 @@ pub record IsFrame {S : Type 0} (may : S → View → List Command → Type 0) (
   pub callers : All (λ (call : Call). call.caller < workers) history
   -- for each worker the systems that it ran: each system is run once
   pub ran : List (List ℕ)
-  pub each_worker : length ran ≡ workers
-  pub once : IsPermutation (flat_map (λ mine. mine) ran) (range_with_len 0 (length systems))
+  pub run : AreRun workers (length systems) ran
   pub work : (worker : ℕ) (mine : List ℕ) → slice_get ran worker ≡ Some mine
       → IsWork queues history worker mine
   -- each system has a queue, which it may issue
@@ -77,49 +75,22 @@ abbrev pub SystemMayIssue : {S : Type 0} → (S → View → List Command → Ty
 SystemMayIssue {S} may systems view n queue =
     (system : S) → slice_get systems n ≡ Some system → may system view queue
 
--- or leave them in its queue, if it ran out of memory
-abbrev pub SystemMayHaveIssued : {S : Type 0} → (S → View → List Command → Type 0)
-    → (S → View → List Command → Type 0) → List S → View → ℕ → List Command → Type 0
-SystemMayHaveIssued may leave systems view n queue =
-    SystemMayIssue may systems view n queue ⊎ SystemMayIssue leave systems view n queue
-
--- The system that one of these workers ran last ran out of memory, and left its queue so.
-abbrev pub HasStopped : {S : Type 0} → (S → View → List Command → Type 0) → List S → View
-    → List (List Command) → List (List ℕ) → Type 0
-HasStopped leave systems view queues ran =
-    (worker : ℕ) × (mine : List ℕ) × (last : ℕ) × (slice_get ran worker ≡ Some mine)
-    × (slice_get mine (length mine - 1) ≡ Some last)
-    × SystemMayIssue leave systems view last (queue_at queues last)
-
 -- A frame that was broken off: that many workers ran some of the systems, and stopped. The history
 -- has what these systems asked for, and nothing else.
 pub record IsBrokenOff {S : Type 0} (may leave : S → View → List Command → Type 0)
     (systems : List S) (workers : ℕ) (before : World) (history : List Call) : Type 0 where
   pub legal : IsLegal before.allocator history
   pub callers : All (λ (call : Call). call.caller < workers) history
-  -- for each worker the systems that it ran: together they are the first ones, each once, and
-  -- at least one if there are any
+  -- for each worker the systems that it ran
   pub ran : List (List ℕ)
-  pub each_worker : length ran ≡ workers
   pub count : ℕ
-  pub within : count ≤ length systems
-  pub some : 0 < length systems → 0 < count
-  pub once : IsPermutation (flat_map (λ mine. mine) ran) (range_with_len 0 count)
+  pub run : AreRun workers count ran
   -- what each of them had issued when it ended or stopped
   pub queues : List (List Command)
-  pub each_queue : length queues ≡ count
-  pub each_system : (n : ℕ) → n < count
-      → SystemMayHaveIssued may leave systems (view_of before) n (queue_at queues n)
+  pub short : StopShort (SystemMayIssue may systems (view_of before))
+      (SystemMayIssue leave systems (view_of before)) queues [] (length systems) count ran
   pub work : (worker : ℕ) (mine : List ℕ) → slice_get ran worker ≡ Some mine
       → IsWork queues history worker mine
-  -- A worker ran a system after another one only if that one had ended.
-  pub ended : (worker : ℕ) (mine : List ℕ) → slice_get ran worker ≡ Some mine
-      → AllPairs (λ earlier later. SystemMayIssue may systems (view_of before) earlier
-      (queue_at queues earlier)) mine
-  -- Why it was broken off: a system stopped, or some are left that no worker has room for. If some are
-  -- left, each worker has run at least one, for whose queue it had room from the beginning.
-  pub why : HasStopped leave systems (view_of before) queues ran ⊎ (count < length systems)
-  pub busy : count < length systems → All (λ mine. 0 < length mine) ran
 
 -- The sync of the queues stands up to that handle of that command of that system, and no further.
 pub record IsHalf (queues : List (List Command)) (before : World) (system command done : ℕ)

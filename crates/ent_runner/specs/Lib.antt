@@ -1,4 +1,5 @@
 pub mod Crew
+pub mod Runs
 pub mod Frame
 pub mod Logs
 pub mod Blocks

@@ -13,4 +13,5 @@ pub mod Losing
 pub mod Holding
 pub mod Laws
 pub mod Returned
+pub mod Requested
 pub mod Common

@@ -5,4 +5,5 @@ pub mod Rule
 pub mod Phase
 pub mod Order
 pub mod Replies
+pub mod Requests
 pub mod Ending

@@ -64,7 +64,7 @@ pub use Rattle.ent_runner.proofs.Common.{All-left, All-right, AreGivenOnce, Ends
 pub use Rattle.ent_runner.proofs.Alone.{calls_back}
 pub use Rattle.ent_runner.proofs.ListedBirths.{listed-enters, listed-few, listed-new, unlisted-stays}
 pub use Rattle.ent_runner.proofs.ListedOnce.{Lists, listed-IsPermutation, listed-born}
-pub use Rattle.ent_runner.proofs.Lists.{all_below, all_flat, all_from_each, at_within, flat_all, map_map_is, sum_map}
+pub use Rattle.ent_runner.proofs.Lists.{all_below, all_flat, all_from_each, at_within, each_of_all, flat_all, map_map_is, sum_map}
 pub use Rattle.ent_script.proofs.Common.{AllFrom, Data, IsFrameOf, IsScript, Script, Value, as_name, as_str, bytes_eq-Decides, read, view, whole}
 pub use Rattle.ent_script.proofs.Texts.{json_none}
 pub use Rattle.ent_script.proofs.Values.{length_of_views, list_of-items_view, pair_view}

@@ -125,7 +125,7 @@ module _ {S : Type 0} (may : S → View → List Command → Type 0) (systems : 
     rules,
     arith,
     sum_by-flat_map (λ mine. mine) wanted_at frame.ran,
-    sum_by-IsPermutation wanted_at _ _ frame.once,
+    sum_by-IsPermutation wanted_at _ _ frame.run.once,
     sum_by_number wanted_at wanted_in 0 queues,
     get_or_from_slice_get,
     frame.count,
@@ -240,7 +240,7 @@ module _ (systems : List (List Operation)) (workers : ℕ) (w : World) (queues :
 
   frame-granted : AreGranted queues
   frame-granted =
-      let all = All-permutation IsGrantedAt _ _ frame.once (all_flat IsGrantedAt (λ mine. mine) frame.ran
+      let all = All-permutation IsGrantedAt _ _ frame.run.once (all_flat IsGrantedAt (λ mine. mine) frame.ran
       (all_from_each (λ mine. All IsGrantedAt mine) frame.ran worker-granted)) in
       all_from_each (All IsGranted) queues (λ k q at. search (
         rules,

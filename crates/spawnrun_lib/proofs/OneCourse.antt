@@ -1,6 +1,6 @@
 -- A frame of scripted systems on one worker has one course: its queues and its history follow from
 -- the systems and the world. And a world has one text.
-use Rattle.spawnrun_lib.proofs.Common.{rules, ◌≡◌, refl, sym, ◌∙◌, arith, append-nil, ℕ, ◌<◌, List, [], ◌∷◌, ◌++◌, length, Some, common_steps, slice_get, AllPairs, flat_map, range_with_len, IsPermutation, ext_get_or, All-nil, All-cons, All-head, All-tail, length-range_with_len, get_or-range_with_len, All-permutation, IsPermutation-sym, Birth, Handle, quota, Allocator, Call, one_list_with, Command, Spawn, SpawnMany, World, View, IsFrame, view_of, queue_at, commands_of, at_within, all_below, calls_back, Operation, Target, Bindings, unbound, names_after, IsTargeted, OnEach, Issues, IssuesAll, MayIssue, All, Contains-permutation, same_list, ◌-◌, map, flat_map-append, map-append, after_take, IsLegal, after_history, stands_for, cost, FitQuota, first_call, first_world, Script, Show, Execution, AreExecutions, synced, last_world, IsReport, EntityMap, one_list_of_all, IsWorldText}
+use Rattle.spawnrun_lib.proofs.Common.{rules, each_of_all, ◌≡◌, refl, sym, ◌∙◌, arith, append-nil, ℕ, ◌<◌, List, [], ◌∷◌, ◌++◌, length, Some, common_steps, slice_get, AllPairs, flat_map, range_with_len, IsPermutation, ext_get_or, All-nil, All-cons, All-head, All-tail, length-range_with_len, get_or-range_with_len, All-permutation, IsPermutation-sym, Birth, Handle, quota, Allocator, Call, one_list_with, Command, Spawn, SpawnMany, World, View, IsFrame, view_of, queue_at, commands_of, at_within, all_below, calls_back, Operation, Target, Bindings, unbound, names_after, IsTargeted, OnEach, Issues, IssuesAll, MayIssue, All, Contains-permutation, same_list, ◌-◌, map, flat_map-append, map-append, after_take, IsLegal, after_history, stands_for, cost, FitQuota, first_call, first_world, Script, Show, Execution, AreExecutions, synced, last_world, IsReport, EntityMap, one_list_of_all, IsWorldText}
 use Rattle.ent_script.specs.declared.operation.Operation.TheVariants as operation
 use Rattle.ent_script.specs.declared.target.Target.TheVariants as target
 
@@ -102,8 +102,9 @@ only_one _ one = absurd (omega arith)
 is_alone : (systems : List (List Operation)) (w : World) (queues : List (List Command)) (history : List Call)
     → IsFrame MayIssue systems 1 w queues history → IsAlone (length systems) w queues history
 is_alone systems w queues history frame =
-    let only = only_one frame.ran frame.each_worker in
-    search (rules, calls_of, calls_back, frame.work 0 only.0 only.1)
+    let only = only_one frame.ran frame.run.each_worker in
+    let rises = each_of_all (AllPairs (λ m n. m < n)) frame.ran 0 only.0 frame.run.rising only.1 in
+    search (rules, calls_of, calls_back, frame.work 0 only.0 only.1, frame.run, rises)
 
 -- each system has a queue that it may issue
 abbrev MayIssueEach : View → List (List Operation) → List (List Command) → Type 0

@@ -5,7 +5,6 @@ ghost use Rattle.ent_blocks.specs.Blocks.{dealt};
 ghost use Rattle.ent_shared.specs.Phase.{IsOf as IsReserverOf};
 ghost use Rattle.ent_blocks.specs.Overflow.{IsDealer, IsFresh};
 
-use crate::overflow::reserver::OverflowReserver;
 use crate::part::Part;
 use ent_shared::{Reserver, Shared};
 

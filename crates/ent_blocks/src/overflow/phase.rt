@@ -1,5 +1,5 @@
 ghost use Rattle.std.specs.Prelude.{◌≡◌, ◌≢◌, ◌+◌, ◌-◌, ◌*◌, ◌<◌, ◌≤◌, ◌<ℤ◌, ◌↔◌, ◌++◌, [], true};
-ghost use Rattle.std.specs.Prelude.{length, take, drop, map, sum, sum_by, All, AllPairs, Contains};
+ghost use Rattle.std.specs.Prelude.{length, take, map, sum, sum_by, All, AllPairs, Contains};
 ghost use Rattle.std.specs.Prelude.{IfOk, IsTrue, OnSome, vec_len};
 ghost use Rattle.std.specs.FinSet as set;
 ghost use Rattle.std.specs.FinMap as maps;
@@ -12,9 +12,10 @@ ghost use Rattle.ent_shared.specs.Order.{reservations_of, handles_given, handles
 ghost use Rattle.ent_shared.specs.Record.{requested_by};
 ghost use Rattle.ent_blocks.specs.Blocks.{unused, dealt, lesser, are_among, accounted};
 ghost use Rattle.ent_blocks.specs.Overflow.{IsCallerOf, IsPhase, IsServed, own_blocks, past_of};
-ghost use Rattle.ent_blocks.specs.Overflow.{past_records, past_history, past_block};
+ghost use Rattle.ent_blocks.specs.Overflow.{past_records, past_history, past_block, behind_blocks};
 ghost use Rattle.ent_blocks.specs.Overflow.{IsInOrder, AreUsedOf};
 
+use crate::accounting::account;
 use crate::overflow::dealing::dealt;
 use crate::overflow::ended::Ended;
 use crate::overflow::reserver::OverflowReserver;
@@ -170,8 +171,7 @@ impl Overflow {
         ensures blocks { result.phase.blocks ≡ own_blocks callers.items
             ++ past_block (dealt self.blocks) (length (given_in (past_history callers.items))) }
         ensures handles { let given = given_in (past_history callers.items) in (h : HandleValue) →
-            Contains given h
-            ↔ Contains (take (length given) (drop (dealt self.blocks) self.shared.start.pool)) h }
+            Contains given h ↔ Contains (take (length given) (behind_blocks self)) h }
 
         // What was requested past a block is as if it had been requested one after the other, when
         // all blocks were reserved.
@@ -194,7 +194,7 @@ impl Overflow {
             mut reservers,
         } = self;
         let before = dealt(&parts);
-        account_for(&parts, &callers, &mut ends);
+        account(&parts, &callers, &mut ends);
         reservers.push_reserved(dealer);
         take_past(callers, &mut reservers);
         let entities = shared.close(reservers);
@@ -215,9 +215,9 @@ impl Overflow {
         ensures rows { result.phase.rows ≡ self.shared.rows }
 
         // Behind the blocks comes what was requested, as far as the pool goes.
-        ensures blocks { let behind = drop (dealt self.blocks) self.shared.start.pool in
-            result.phase.blocks ≡ accounted self.blocks (own_blocks callers.items)
-            ++ past_block (dealt self.blocks) (lesser result.requested (length behind)) }
+        ensures blocks { result.phase.blocks ≡ accounted self.blocks (own_blocks callers.items)
+            ++ past_block (dealt self.blocks)
+            (lesser result.requested (length (behind_blocks self))) }
 
         // It counts what the callers that are here have requested, and of the others no more than
         // their quota.
@@ -232,7 +232,7 @@ impl Overflow {
 
         // What the callers that are here were given past their blocks is there. No handle was given
         // to two of them.
-        ensures given { let behind = drop (dealt self.blocks) self.shared.start.pool in
+        ensures given { let behind = behind_blocks self in
             All (λ r. All (Contains (take (lesser result.requested (length behind)) behind))
             (handles_given r.own)) (past_of callers.items) }
         ensures distinct { AllPairs (λ g h. g ≢ h)
@@ -246,35 +246,11 @@ impl Overflow {
             mut reservers,
         } = self;
         let before = dealt(&parts);
-        account_for(&parts, &callers, &mut ends);
+        account(&parts, &callers, &mut ends);
         reservers.push_reserved(dealer);
         take_past(callers, &mut reservers);
         let entities = shared.close_lost(reservers);
         finish(entities, before, ends)
-    }
-}
-
-/// Appends all blocks with what was used of each: all of it, if its caller isn't here. There is room
-/// for them.
-#[tactic(auto, using(crate::proofs::Laws::caller_laws))]
-fn account_for(parts: &[Part], callers: &[OverflowReserver], ends: &mut Vec<Part>)
-    requires none { ends.old.items ≡ [] }
-    requires room { length parts.now ≤ vec_capacity ends.old }
-    ensures all { ends.new.items ≡ accounted parts.now (own_blocks callers.now) }
-    ensures count { vec_len ends.new ≡ length parts.now }
-    ensures room { vec_capacity ends.new ≡ vec_capacity ends.old }
-{
-    let mut next = 0;
-    for part in parts {
-        let mut used = part.size();
-        if next < callers.len() {
-            let caller = &callers[next];
-            if part.is_same(&caller.part) {
-                used = caller.part.used();
-                next += 1;
-            }
-        }
-        ends.push_reserved(part.with_used(used));
     }
 }
 

@@ -1,3 +1,4 @@
+use crate::held::Held;
 use crate::part::Part;
 use ent_shared::Reserver;
 use std::marker::Model;
@@ -18,6 +19,14 @@ impl Model for OverflowReserver {
     ghost coded = { caller_code };
 
     ghost view = { λ r. record { block = r.part; past = r.past } };
+}
+
+impl Held for OverflowReserver {
+    ghost block = { λ r. r.block };
+
+    fn part(&self) -> &Part {
+        &self.part
+    }
 }
 
 impl OverflowReserver {

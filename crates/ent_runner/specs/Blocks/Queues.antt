@@ -1,14 +1,13 @@
 -- Systems of a frame that fill queues, each from a block of its own. What comes of it depends on the
 -- world, the blocks and the systems alone: there is no history. Workers appear only in how far the
 -- systems came if they were broken off.
-use Rattle.std.specs.Prelude.{◌≡◌, ℕ, ◌<◌, ◌≤◌, ◌⊎◌, List, [], ◌∷◌, length, slice_get, Some}
-use Rattle.std.specs.List.{All, AllPairs, flat_map, range_with_len}
-use Rattle.std.specs.List.Sorted.{IsPermutation}
+use Rattle.std.specs.Prelude.{◌≡◌, ℕ, ◌<◌, List, [], ◌∷◌, length, slice_get, Some}
 use Rattle.ent_alloc.specs.Sequential.{Allocator}
 use Rattle.ent_blocks.specs.Blocks.{Block}
 use Rattle.ent_queue.specs.Command.{Command}
 use Rattle.ent_queue.specs.Drawing.{AreDrawnBy, after_commands}
-use Rattle.ent_runner.specs.Frame.{HasStopped, queue_at, SystemMayIssue, SystemMayHaveIssued}
+use Rattle.ent_runner.specs.Frame.{queue_at, SystemMayIssue}
+use Rattle.ent_runner.specs.Runs.{AreRun, StopShort}
 use Rattle.ent_world.specs.OpenWorld.{View}
 
 -- the blocks after systems have filled these queues
@@ -34,27 +33,13 @@ pub record HaveIssued {S : Type 0} (may : S → View → List Command → Type 0
 pub record HaveStopped {S : Type 0} (may leave : S → View → List Command → Type 0)
     (systems : List S) (workers : ℕ) (view : View) (s : Allocator) (before : List Block)
     : Type 0 where
-  -- for each worker the systems that it ran: together they are the first ones, each once, and at
-  -- least one if there are any
+  -- for each worker the systems that it ran
   pub ran : List (List ℕ)
-  pub each_worker : length ran ≡ workers
   pub count : ℕ
-  pub within : count ≤ length systems
-  pub some : 0 < length systems → 0 < count
-  pub once : IsPermutation (flat_map (λ mine. mine) ran) (range_with_len 0 count)
-  pub rising : All (AllPairs (λ m n. m < n)) ran
+  pub run : AreRun workers count ran
   -- what each of them had issued when it ended or stopped
   pub queues : List (List Command)
-  pub each_queue : length queues ≡ count
-  pub each_system : (n : ℕ) → n < count
-      → SystemMayHaveIssued may leave systems view n (queue_at queues n)
+  pub short : StopShort (SystemMayIssue may systems view) (SystemMayIssue leave systems view) queues []
+      (length systems) count ran
   pub draws : (n : ℕ) (block : Block) → n < count → slice_get before n ≡ Some block
       → AreDrawnBy s block (queue_at queues n)
-  -- A worker ran a system after another one only if that one had ended.
-  pub ended : (worker : ℕ) (mine : List ℕ) → slice_get ran worker ≡ Some mine
-      → AllPairs (λ earlier later. SystemMayIssue may systems view earlier
-      (queue_at queues earlier)) mine
-  -- Why: a system ran out of memory, or some are left that no worker has room for. If some are
-  -- left, each worker has run at least one, for whose queue it had room from the beginning.
-  pub why : HasStopped leave systems view queues ran ⊎ (count < length systems)
-  pub busy : count < length systems → All (λ mine. 0 < length mine) ran

@@ -5,8 +5,8 @@
 use alloc::vec::Vec;
 use crate::kit::vec::FallibleVec;
 use crate::proved::ent_blocks::block_reserver::BlockReserver;
+use crate::proved::ent_blocks::held::Held;
 use crate::proved::ent_blocks::part::Part;
-use crate::proved::ent_handle::Memory;
 
 /// Whether all reservers are of the phase of this number.
 #[inline]
@@ -21,54 +21,49 @@ pub(super) fn are_of(number: u64, reservers: &[BlockReserver]) -> bool
     true
 }
 
-/// How many blocks have no reserver here. `None` if these aren't reservers of some of the blocks,
+/// How many blocks are held by nothing here. `None` if what is here doesn't hold some of the blocks,
 /// in their order.
 #[inline]
-pub(super) fn missing(
-    parts: &[Part],
-    reservers: &[BlockReserver],
-) -> Option<usize>
-    // ensures among { IsSome result ↔ IsTrue (are_among parts.now (blocks_of reservers.now)) }
-    // ensures count { IfSome result (λ n. length reservers.now + n ≡ length parts.now) }
+pub(super) fn missing<H: Held>(parts: &[Part], held: &[H]) -> Option<usize>
+    // ensures among { IsSome result ↔ IsTrue (are_among parts.now (map H.block held.now)) }
+    // ensures count { IfSome result (λ n. length held.now + n ≡ length parts.now) }
 {
     let mut next = 0;
     for part in parts {
-        if next < reservers.len() {
-            let reserver = &reservers[next];
-            if part.is_same(&reserver.part) {
+        if next < held.len() {
+            let here = &held[next];
+            if part.is_same(here.part()) {
                 next += 1;
             }
         }
     }
-    if next < reservers.len() {
+    if next < held.len() {
         None
     } else {
         Some(parts.len() - next)
     }
 }
 
-/// All blocks with what was used of each: all of it, if the reserver isn't here.
+/// Appends all blocks with what was used of each: all of it, if nothing here holds it. There is room
+/// for them.
 #[inline]
-pub(super) fn account(
-    parts: &[Part],
-    reservers: &[BlockReserver],
-) -> Result<Vec<Part>, Memory>
-    // ensures ok { IfOk result (λ all.
-    //     all.items ≡ accounted parts.now (blocks_of reservers.now)) }
-    // ensures memory { OnErr result (0 < length parts.now) }
+pub(super) fn account<H: Held>(parts: &[Part], held: &[H], all: &mut Vec<Part>)
+    // requires none { all.old.items ≡ [] }
+    // requires room { length parts.now ≤ vec_capacity all.old }
+    // ensures all { all.new.items ≡ accounted parts.now (map H.block held.now) }
+    // ensures count { vec_len all.new ≡ length parts.now }
+    // ensures room { vec_capacity all.new ≡ vec_capacity all.old }
 {
-    let mut all = Vec::with_capacity_fallibly(parts.len())?;
     let mut next = 0;
     for part in parts {
         let mut used = part.size();
-        if next < reservers.len() {
-            let reserver = &reservers[next];
-            if part.is_same(&reserver.part) {
-                used = reserver.part.used();
+        if next < held.len() {
+            let here = held[next].part();
+            if part.is_same(here) {
+                used = here.used();
                 next += 1;
             }
         }
         all.push_reserved(part.with_used(used));
     }
-    Ok(all)
 }

@@ -2,6 +2,7 @@
 
 use crate::proved::ent_blocks::block_error::BlockError;
 use crate::proved::ent_blocks::blocks::Blocks;
+use crate::proved::ent_blocks::held::Held;
 use crate::proved::ent_blocks::part::Part;
 
 /// The right of one caller to the handles of its block.
@@ -135,6 +136,13 @@ impl BlockReserver {
     #[inline]
     pub fn is_of(&self, blocks: &Blocks) -> bool {
         self.number == blocks.number()
+    }
+}
+
+impl Held for BlockReserver {
+    #[inline]
+    fn part(&self) -> &Part {
+        &self.part
     }
 }
 

@@ -479,10 +479,11 @@ impl Blocks {
             parts,
             number,
         } = self;
-        let Ok(all) = account(&parts, &reservers) else {
+        let Ok(mut all) = Vec::with_capacity_fallibly(parts.len()) else {
             let blocks = Blocks::new(entities, parts, number);
             return Err(HandedBack::new((blocks, reservers), EndError::Memory));
         };
+        account(&parts, &reservers, &mut all);
         let Ok(()) = take_used(&mut entities, &all) else {
             let blocks = Blocks::new(entities, parts, number);
             return Err(HandedBack::new((blocks, reservers), EndError::Memory));

@@ -11,6 +11,7 @@ mod blocks;
 mod closing;
 mod deal_error;
 mod end_error;
+mod held;
 mod opening;
 mod overflow;
 mod part;

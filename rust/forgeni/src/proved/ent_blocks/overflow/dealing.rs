@@ -2,7 +2,6 @@
 
 //! The dealer reserves all blocks, and every other reserver comes after it.
 
-use crate::proved::ent_blocks::overflow::reserver::OverflowReserver;
 use crate::proved::ent_blocks::part::Part;
 use crate::proved::ent_shared::{Reserver, Shared};
 

@@ -2,6 +2,7 @@
 
 use alloc::vec::Vec;
 use crate::kit::vec::FallibleVec;
+use crate::proved::ent_blocks::accounting::account;
 use crate::proved::ent_blocks::overflow::dealing::dealt;
 use crate::proved::ent_blocks::overflow::ended::Ended;
 use crate::proved::ent_blocks::overflow::reserver::OverflowReserver;
@@ -166,8 +167,7 @@ impl Overflow {
         // ensures blocks { result.phase.blocks ≡ own_blocks callers.items
         //     ++ past_block (dealt self.blocks) (length (given_in (past_history callers.items))) }
         // ensures handles { let given = given_in (past_history callers.items) in (h : HandleValue) →
-        //     Contains given h
-        //     ↔ Contains (take (length given) (drop (dealt self.blocks) self.shared.start.pool)) h }
+        //     Contains given h ↔ Contains (take (length given) (behind_blocks self)) h }
 
         // What was requested past a block is as if it had been requested one after the other, when
         // all blocks were reserved.
@@ -190,7 +190,7 @@ impl Overflow {
             mut reservers,
         } = self;
         let before = dealt(&parts);
-        account_for(&parts, &callers, &mut ends);
+        account(&parts, &callers, &mut ends);
         reservers.push_reserved(dealer);
         take_past(callers, &mut reservers);
         let entities = shared.close(reservers);
@@ -212,9 +212,9 @@ impl Overflow {
         // ensures rows { result.phase.rows ≡ self.shared.rows }
 
         // Behind the blocks comes what was requested, as far as the pool goes.
-        // ensures blocks { let behind = drop (dealt self.blocks) self.shared.start.pool in
-        //     result.phase.blocks ≡ accounted self.blocks (own_blocks callers.items)
-        //     ++ past_block (dealt self.blocks) (lesser result.requested (length behind)) }
+        // ensures blocks { result.phase.blocks ≡ accounted self.blocks (own_blocks callers.items)
+        //     ++ past_block (dealt self.blocks)
+        //     (lesser result.requested (length (behind_blocks self))) }
 
         // It counts what the callers that are here have requested, and of the others no more than
         // their quota.
@@ -229,7 +229,7 @@ impl Overflow {
 
         // What the callers that are here were given past their blocks is there. No handle was given
         // to two of them.
-        // ensures given { let behind = drop (dealt self.blocks) self.shared.start.pool in
+        // ensures given { let behind = behind_blocks self in
         //     All (λ r. All (Contains (take (lesser result.requested (length behind)) behind))
         //     (handles_given r.own)) (past_of callers.items) }
         // ensures distinct { AllPairs (λ g h. g ≢ h)
@@ -243,35 +243,11 @@ impl Overflow {
             mut reservers,
         } = self;
         let before = dealt(&parts);
-        account_for(&parts, &callers, &mut ends);
+        account(&parts, &callers, &mut ends);
         reservers.push_reserved(dealer);
         take_past(callers, &mut reservers);
         let entities = shared.close_lost(reservers);
         finish(entities, before, ends)
-    }
-}
-
-/// Appends all blocks with what was used of each: all of it, if its caller isn't here. There is room
-/// for them.
-#[inline]
-fn account_for(parts: &[Part], callers: &[OverflowReserver], ends: &mut Vec<Part>)
-    // requires none { ends.old.items ≡ [] }
-    // requires room { length parts.now ≤ vec_capacity ends.old }
-    // ensures all { ends.new.items ≡ accounted parts.now (own_blocks callers.now) }
-    // ensures count { vec_len ends.new ≡ length parts.now }
-    // ensures room { vec_capacity ends.new ≡ vec_capacity ends.old }
-{
-    let mut next = 0;
-    for part in parts {
-        let mut used = part.size();
-        if next < callers.len() {
-            let caller = &callers[next];
-            if part.is_same(&caller.part) {
-                used = caller.part.used();
-                next += 1;
-            }
-        }
-        ends.push_reserved(part.with_used(used));
     }
 }
 

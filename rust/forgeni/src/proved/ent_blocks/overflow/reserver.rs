@@ -1,5 +1,6 @@
 // Made of crates/ent_blocks/src/overflow/reserver.rt by rust/erase. It isn't edited by hand.
 
+use crate::proved::ent_blocks::held::Held;
 use crate::proved::ent_blocks::part::Part;
 use crate::proved::ent_shared::Reserver;
 
@@ -8,6 +9,13 @@ use crate::proved::ent_shared::Reserver;
 pub struct OverflowReserver {
     pub(super) part: Part,
     pub(super) past: Reserver,
+}
+
+impl Held for OverflowReserver {
+    #[inline]
+    fn part(&self) -> &Part {
+        &self.part
+    }
 }
 
 impl OverflowReserver {

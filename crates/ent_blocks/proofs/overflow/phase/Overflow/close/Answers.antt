@@ -1,4 +1,6 @@
-use Rattle.ent_blocks.proofs.Common.{rules, ◌≡◌, ◌∙◌, ◌-◌, ◌∷◌, ◌++◌, ap, arith, List, length, map, All-cons, given_in, dealt, unused, records_of, IsPhase, Overflow, own_blocks, past_of, past_history, past_block}
+use Rattle.ent_blocks.proofs.Common.{rules, ◌≡◌, ◌∙◌, ◌-◌, ◌∷◌, ◌++◌, ap, arith, length, map}
+use Rattle.ent_blocks.proofs.Common.{All-cons, given_in, dealt, unused, records_of, IsPhase}
+use Rattle.ent_blocks.proofs.Common.{Overflow, own_blocks, past_of, past_history, past_block}
 use Rattle.ent_blocks.proofs.Accounts.{all_here}
 use Rattle.ent_blocks.proofs.PastClosings.{Closed, Ending, own_past, ending}
 use Rattle.ent_blocks.proofs.PastEndings.{ends_laid, ends_dealt}
@@ -22,13 +24,13 @@ before_is c =
 all_are : (c : After-close-entities) → map unused (own_blocks c.args.callers.items) ≡ c.args.self.blocks
 all_are c = search rules
 
-ends_are : (c : After-close-entities) → c.account_for.new.ends.items ++ past_block c.dealt-before.result (length
+ends_are : (c : After-close-entities) → c.account.new.all.items ++ past_block c.dealt-before.result (length
     c.close-entities.result.allocator.taken - c.dealt-before.result) ≡ own_blocks c.args.callers.items ++ past_block
     (dealt c.args.self.blocks) (length (given_in (past_history c.args.callers.items)))
 ends_are c =
     let before = before_is c in
     let here = all_here c.args.self.blocks (own_blocks c.args.callers.items) (all_are c) in
-    let first : c.account_for.new.ends.items ≡ own_blocks c.args.callers.items = search (rules, here) in
+    let first : c.account.new.all.items ≡ own_blocks c.args.callers.items = search (rules, here) in
     let given : length c.close-entities.result.allocator.taken - c.dealt-before.result
     ≡ length (given_in (past_history c.args.callers.items)) = omega (arith, before, (known c).taken) in
     λ i. first i ++ past_block (before i) (given i)

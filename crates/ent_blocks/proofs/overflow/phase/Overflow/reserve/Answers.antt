@@ -1,5 +1,6 @@
 use Rattle.ent_blocks.proofs.Common.{refl, rules}
-use Rattle.ent_blocks.proofs.GoingPast.{here, used_on, gone_past, from_block, one_past, one_of_block}
+use Rattle.ent_blocks.proofs.GoingPast.{here, used_on, gone_past, from_block, one_past}
+use Rattle.ent_blocks.proofs.GoingPast.{one_of_block}
 use Rattle.ent_blocks.proofs.overflow.phase.Overflow.reserve.Goals as goal
 
 pub returns-then-left-eq0-clause-stays : goal.returns-then-left-eq0-clause-stays
