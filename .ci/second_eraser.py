@@ -30,7 +30,7 @@ def named(text):
 
 # The crates of the two programs, which aren't compared: they use twice as many forms and names of the kit as the others. What the first eraser
 # makes of them is run instead, beside the kit's build of the same sources (`.ci/programs.sh`). They are modules behind a feature.
-LEFT_OUT, FEATURE = {"cli", "devices", "ent_script", "spawnrun", "spawnrun_lib", "tracecheck"}, '#[cfg(feature = "programs")]'
+LEFT_OUT, FEATURE = {"cli", "ent_script", "spawnrun", "spawnrun_lib", "tracecheck"}, '#[cfg(feature = "programs")]'
 
 # The paths of the kit, and what stands for them.
 PATHS = {f"std::{it}": f"crate::kit::{it}" for it in "alloc collections sync thread".split()}

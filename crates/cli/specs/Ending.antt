@@ -2,8 +2,8 @@
 use Rattle.std.specs.Prelude.{ℕ, List, [], ◌==◌, if◌then◌else◌, codes}
 use Rattle.std.specs.declared.io.ErrorKind.{ErrorKind}
 use Rattle.std.specs.declared.io.ErrorKind.TheVariants.{InvalidData, OutOfMemory}
-use Rattle.devices.specs.declared.named.NameFault.{NameFault}
-use Rattle.devices.specs.declared.named.NameFault.TheVariants.{Memory}
+use Rattle.cli.specs.declared.devices.named.NameFault.{NameFault}
+use Rattle.cli.specs.declared.devices.named.NameFault.TheVariants.{Memory}
 
 -- what the error stream gets with a status
 abbrev pub said : ℕ → List ℕ

@@ -2,10 +2,10 @@
 ghost use Rattle.std.specs.Prelude.{◌≡◌, ◌≢◌, ◌≤◌, IfOk, OnErr, OnOk, codes, string_bytes};
 ghost use Rattle.std.specs.IoError.{error_kind};
 ghost use Rattle.std.specs.Io.KnownBytes.{Appends};
-ghost use Rattle.devices.specs.Named.{refusal};
+ghost use Rattle.cli.specs.Named.{refusal};
 ghost use Rattle.cli.specs.Ending.{name_status, said, words_status};
 
-use devices::{NameFault, Sink, put_refusal};
+use crate::devices::{NameFault, Sink, put_refusal};
 use std::alloc::AllocError;
 use std::io;
 use std::io::ErrorKind;

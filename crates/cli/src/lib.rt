@@ -1,7 +1,8 @@
-//! What the command lines of the programs have in common: their options for limits, the name of an
-//! input file, and how a run ends.
+//! What the programs have in common: their devices, their options for limits, the name of an input
+//! file, and how a run ends.
 #![tactic(auto)]
 
+mod devices;
 mod ending;
 mod input;
 mod limits;
@@ -9,6 +10,10 @@ mod line_fault;
 mod options;
 mod words;
 
+pub use devices::{
+    Counted, Failed, InputFault, Muted, NameFault, Noting, Sink, Source, open_named, put_refusal,
+    read_all,
+};
 pub use ending::{finish, refuse_file, refuse_line, refuse_words};
 pub use input::file_name;
 pub use limits::limits_of;

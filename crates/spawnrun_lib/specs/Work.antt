@@ -1,7 +1,7 @@
 -- The work on an input: when it is accepted or refused, and what is written.
 use Rattle.std.specs.Prelude.{◌≡◌, ℕ, ◌<◌, ◌≤◌, List, [], ◌++◌, length, codes, Option}
 use Rattle.std.specs.Fmt.InlineText.{inline_text}
-use Rattle.devices.specs.Device.{Writes}
+use Rattle.cli.specs.Device.{Writes}
 use Rattle.spawnrun_lib.specs.Wants.{size_wants}
 use Rattle.spawnrun_lib.specs.declared.product.Product.{Product}
 use Rattle.spawnrun_lib.specs.declared.product.Product.TheVariants as product

@@ -41,8 +41,7 @@ mod wants;
 mod work;
 mod world_text;
 
-pub use cli::{LineFault, refuse_words};
-pub use devices::{Counted, Failed, Sink, Source};
+pub use cli::{Counted, Failed, LineFault, Sink, Source, refuse_words};
 pub use ent_blocks::BlockNumbering;
 pub use frame_text::write_frame;
 pub use product::INPUT_LIMIT;

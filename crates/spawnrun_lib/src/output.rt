@@ -5,7 +5,7 @@ ghost use Rattle.std.specs.Io.KnownBytes.{Appends};
 
 use crate::product::Refusal;
 use crate::status::Status;
-use devices::{Failed, Sink};
+use cli::{Failed, Sink};
 
 /// Writes a text, and ends with the status.
 pub(crate) fn write<O: Sink>(output: &mut O, text: &[u8], status: Status) -> Status

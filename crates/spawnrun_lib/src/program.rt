@@ -5,7 +5,7 @@ ghost use Rattle.std.specs.Prelude.{IfSome};
 ghost use Rattle.std.specs.Io.KnownBytes.{Appends};
 ghost use Rattle.clap.specs.Words.{fault_of, takes};
 ghost use Rattle.spawnrun_lib.specs.CommandLine.{IsFaulty, program};
-ghost use Rattle.devices.specs.Device.{OneFails, Takes, TakesAtMost};
+ghost use Rattle.cli.specs.Device.{OneFails, Takes, TakesAtMost};
 ghost use Rattle.spawnrun_lib.specs.Program.{AsksTo, Fails, Gives};
 ghost use Rattle.spawnrun_lib.specs.Work.{HasAdvised, HasDone, HasRefused, input_limit};
 
@@ -13,8 +13,7 @@ use crate::progress::Progress;
 use crate::status::Status;
 use crate::task::command_line;
 use crate::work::do_task;
-use cli::{LineFault, finish, refuse_line};
-use devices::{Sink, Source};
+use cli::{LineFault, Sink, Source, finish, refuse_line};
 use std::alloc::Global;
 use std::convert::AsStr;
 use std::thread::Threads;

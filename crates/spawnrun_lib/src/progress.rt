@@ -3,7 +3,7 @@ ghost use Rattle.std.specs.Prelude.{◌≡◌, ◌+◌, ◌⊎◌, true, false, 
 ghost use Rattle.std.specs.Io.KnownBytes.{Appends};
 ghost use Rattle.spawnrun_lib.specs.Progress.{done_text, empty_text};
 
-use devices::{Failed, Sink};
+use cli::{Failed, Sink};
 use itoa::Buffer;
 use std::time::{Clock, Duration, Instant};
 

@@ -5,8 +5,10 @@ use crate::program::execute;
 use crate::progress::Teller;
 use crate::status::Status;
 use crate::task::is_task;
-use cli::{file_name, finish, refuse_file, refuse_words, words_after_name};
-use devices::{Counted, Muted, Noting, open_named};
+use cli::{
+    Counted, Muted, Noting, file_name, finish, open_named, refuse_file, refuse_words,
+    words_after_name,
+};
 use std::alloc::AllocError;
 use std::cell::Cell;
 use std::env;

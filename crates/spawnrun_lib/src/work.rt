@@ -1,7 +1,7 @@
 //! The work on an input: all of it is read, something is made of it, and that is written.
 ghost use Rattle.std.specs.Prelude.{◌≡◌, ◌≢◌, ◌+◌, ◌⊎◌, [], Err, IfOk, IfErr, IfSome};
 ghost use Rattle.std.specs.Prelude.{min, length};
-ghost use Rattle.devices.specs.Device.{OneFails, Takes, TakesAtMost};
+ghost use Rattle.cli.specs.Device.{OneFails, Takes, TakesAtMost};
 ghost use Rattle.spawnrun_lib.specs.Program.{CanDo, Fails, Gives};
 ghost use Rattle.spawnrun_lib.specs.Wants.{size_wants};
 ghost use Rattle.spawnrun_lib.specs.Work.{Accepts, HasAdvised, HasDone, HasRefused, IsProductOf};
@@ -16,7 +16,7 @@ use crate::running::{run, run_in_blocks};
 use crate::status::Status;
 use crate::task::Task;
 use crate::wants::size_wants;
-use devices::{InputFault, Sink, Source, read_all};
+use cli::{InputFault, Sink, Source, read_all};
 use ent_handle::Memory;
 use std::alloc::Global;
 use std::thread::Threads;

@@ -35,8 +35,8 @@ pub use Rattle.cli.specs.Fault.{IsFaultAmong, IsFaultOf}
 pub use Rattle.cli.specs.Options.{HasNumber, given, number_option}
 pub use Rattle.cli.specs.declared.line_fault.LineFault.{LineFault}
 pub use Rattle.cli.specs.declared.line_fault.LineFault.TheVariants.{Memory}
-pub use Rattle.devices.proofs.TakenInSteps.{Consumes-append}
-pub use Rattle.devices.specs.Device.{Writes}
+pub use Rattle.cli.proofs.TakenInSteps.{Consumes-append}
+pub use Rattle.cli.specs.Device.{Writes}
 pub use Rattle.ent_alloc.specs.Entities.{Entities}
 pub use Rattle.ent_alloc.specs.Limits.{Limits}
 pub use Rattle.ent_alloc.specs.Sequential.{Allocator, cursor, opening}

@@ -2,7 +2,7 @@
 use Rattle.std.specs.Prelude.{◌≡◌, ◌⊎◌, ℕ, List, Option, Some, IfSome}
 use Rattle.std.specs.Io.KnownBytes.{Appends}
 use Rattle.clap.specs.Words.{Text}
-use Rattle.devices.specs.Device.{Writes}
+use Rattle.cli.specs.Device.{Writes}
 use Rattle.ent_alloc.specs.Entities.{Entities}
 use Rattle.ent_alloc.specs.FirstFault.{first_fault}
 use Rattle.ent_alloc.specs.Sequential.{Allocator, opening}

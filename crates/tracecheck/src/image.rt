@@ -4,7 +4,7 @@ ghost use Rattle.tracecheck.specs.Beginning.{IsImageOf, MayBeUnread, fault_text,
 ghost use Rattle.tracecheck.specs.Beginning.{unread_by};
 ghost use Rattle.tracecheck.specs.declared.image.Unread.TheVariants.{Device};
 
-use devices::{InputFault, Source, read_all};
+use cli::{InputFault, Source, read_all};
 use ent_alloc::{Entities, ImageFault};
 use ent_handle::Memory;
 use std::alloc::{AllocError, Global};

@@ -2,15 +2,17 @@
 //! and to a terminal.
 ghost use Rattle.std.specs.Prelude.{◌≡◌, ◌≢◌, ◌≤◌, ◌+◌, ◌⊎◌, None, codes, map, true, false};
 ghost use Rattle.std.specs.Io.KnownBytes.{Appends};
-ghost use Rattle.devices.specs.Device.{OneFails};
+ghost use Rattle.cli.specs.Device.{OneFails};
 ghost use Rattle.tracecheck.specs.CommandLine.{IsFaulty, image_in, is_taken};
 ghost use Rattle.tracecheck.specs.Status.{HasSaid};
 
 use crate::command_line::{ask_for_a_check, command_line, image_name};
 use crate::running::check_as;
 use crate::status::Status;
-use cli::{LineFault, file_name, finish, refuse_file, refuse_line, refuse_words, words_after_name};
-use devices::{Counted, Muted, Noting, Sink, Source, open_named};
+use cli::{
+    Counted, LineFault, Muted, Noting, Sink, Source, file_name, finish, open_named, refuse_file,
+    refuse_line, refuse_words, words_after_name,
+};
 use std::alloc::{AllocError, Global};
 use std::cell::Cell;
 use std::convert::AsStr;

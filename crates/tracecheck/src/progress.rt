@@ -3,7 +3,7 @@ ghost use Rattle.std.specs.Prelude.{◌≡◌, ◌+◌, ◌/◌, ◌<◌, ◌≤
 ghost use Rattle.std.specs.Io.KnownBytes.{Appends};
 ghost use Rattle.tracecheck.specs.Progress.{millions_text};
 
-use devices::{Failed, Sink};
+use cli::{Failed, Sink};
 use itoa::Buffer;
 
 // The lines between two reports.

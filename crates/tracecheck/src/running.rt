@@ -1,7 +1,7 @@
 //! The check of a trace: bytes in, a verdict out.
 ghost use Rattle.std.specs.Prelude.{◌≡◌, ◌≢◌, ◌+◌, ◌⊎◌, false, IfOk, IfSome, OnOk, OnErr};
 ghost use Rattle.std.specs.Io.KnownBytes.{Appends};
-ghost use Rattle.devices.specs.Device.{OneFails, Writes};
+ghost use Rattle.cli.specs.Device.{OneFails, Writes};
 ghost use Rattle.ent_replay.specs.Text.{lines_of};
 ghost use Rattle.tracecheck.specs.Beginning.{refused_image_text};
 ghost use Rattle.tracecheck.specs.Status.{HasSaidFrom, HasSaidOf, IsSaidOf, status_of};
@@ -14,7 +14,7 @@ use crate::lines::{feed, finish};
 use crate::progress::tell;
 use crate::status::Status;
 use crate::verdict::Verdict;
-use devices::{Failed, Sink, Source};
+use cli::{Failed, Sink, Source};
 use ent_alloc::{Entities, ImageFault};
 use std::alloc::Global;
 

@@ -25,17 +25,25 @@ pub struct Crate {
 }
 
 impl Crate {
-    /// Leaves out a module of tests, with all that is below it.
+    /// Leaves out a module, with all that is below it and what the crate exports of it.
     pub fn leave_out(&mut self, module: &str) {
         let path = format!("crates/{}/src/{module}", self.name);
         self.files.retain(|file| {
             let rest = file.path.strip_prefix(&path);
             !rest.is_some_and(|rest| rest == ".rt" || rest.starts_with('/'))
         });
-        let line = format!("#[cfg(test)]\nmod {module};\n");
+        let declared = format!("mod {module};\n");
+        let exported = format!("pub use {module}::");
         for file in &mut self.files {
             if file.result == Path::new("mod.rs") {
-                file.text = file.text.replace(&line, "");
+                let text = file.text.replace(&format!("#[cfg(test)]\n{declared}"), "");
+                let lines = text.split_inclusive(";\n");
+                file.text = lines
+                    .filter(|item| {
+                        let item = item.trim_start();
+                        item != declared && !item.starts_with(&exported)
+                    })
+                    .collect();
             }
         }
     }

@@ -25,7 +25,6 @@ const TOPS: &[&str] = &[
 /// The programs, with their crates. The package has them behind its feature of this name.
 const PROGRAM_CRATES: &[&str] = &[
     "cli",
-    "devices",
     "ent_script",
     "spawnrun",
     "spawnrun_lib",
@@ -36,10 +35,16 @@ const PROGRAM_CRATES: &[&str] = &[
 const PROGRAM_FEATURE: &str = "programs";
 
 /// The tests of those crates, and what only the tests in plain Rust use.
-const TESTS: &[&str] = &["cases_and_examples", "devices", "ent_tests"];
+const TESTS: &[&str] = &["cases_and_examples", "cli", "ent_tests"];
 
-/// A module of the tests that isn't erased: the package has no scripts.
-const SCRIPTS: &str = "scripts";
+/// Their modules that aren't erased: the tests have no scripts, and no command lines.
+const LEFT_OUT: &[(&str, &[&str])] = &[
+    (
+        "cli",
+        &["ending", "input", "limits", "line_fault", "options", "words"],
+    ),
+    ("ent_tests", &["scripts"]),
+];
 
 /// A folder of results in the repository. Nothing else stands in it.
 pub struct Target {
@@ -125,8 +130,10 @@ pub fn package(repository: &Path) -> Result<Files, Box<dyn Error>> {
 pub fn tests(repository: &Path) -> Result<Files, Box<dyn Error>> {
     let crates = crates_below(repository, TOPS)?;
     let mut tests = read_all(repository, TESTS)?;
-    for krate in &mut tests {
-        krate.leave_out(SCRIPTS);
+    for (name, modules) in LEFT_OUT {
+        for krate in tests.iter_mut().filter(|krate| krate.name == *name) {
+            modules.iter().for_each(|module| krate.leave_out(module));
+        }
     }
     let mut names = Names::new(&[&PACKAGE, &HOST]);
     add_names(&mut names, &crates, PROVED.path)?;

@@ -4,7 +4,7 @@ use crate::kit::alloc::AllocError;
 use crate::kit::programs::clap::{numbers, Arg, ArgMatches, Command, Error};
 use crate::kit::programs::rt::HostRuntime;
 use crate::kit::programs::string::AsStr;
-use crate::proved::devices::{open_named, NameFault};
+use crate::proved::cli::{open_named, NameFault};
 use crate::proved::ent_alloc::Limits;
 use std::fs::File;
 

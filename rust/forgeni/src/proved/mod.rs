@@ -12,8 +12,6 @@
 
 #[cfg(feature = "programs")]
 pub mod cli;
-#[cfg(feature = "programs")]
-pub mod devices;
 pub mod ent_alloc;
 pub mod ent_blocks;
 pub mod ent_handle;

@@ -4,7 +4,7 @@
 
 use crate::proved::spawnrun_lib::product::Refusal;
 use crate::proved::spawnrun_lib::status::Status;
-use crate::proved::devices::{Failed, Sink};
+use crate::proved::cli::{Failed, Sink};
 
 /// Writes a text, and ends with the status.
 #[inline]

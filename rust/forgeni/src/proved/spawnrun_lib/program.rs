@@ -8,8 +8,7 @@ use crate::proved::spawnrun_lib::progress::Progress;
 use crate::proved::spawnrun_lib::status::Status;
 use crate::proved::spawnrun_lib::task::command_line;
 use crate::proved::spawnrun_lib::work::do_task;
-use crate::proved::cli::{LineFault, finish, refuse_line};
-use crate::proved::devices::{Sink, Source};
+use crate::proved::cli::{LineFault, Sink, Source, finish, refuse_line};
 use crate::kit::programs::string::AsStr;
 use crate::kit::thread::Threads;
 

@@ -7,8 +7,10 @@ use crate::proved::spawnrun_lib::program::execute;
 use crate::proved::spawnrun_lib::progress::Teller;
 use crate::proved::spawnrun_lib::status::Status;
 use crate::proved::spawnrun_lib::task::is_task;
-use crate::proved::cli::{file_name, finish, refuse_file, refuse_words, words_after_name};
-use crate::proved::devices::{Counted, Muted, Noting, open_named};
+use crate::proved::cli::{
+    Counted, Muted, Noting, file_name, finish, open_named, refuse_file, refuse_words,
+    words_after_name,
+};
 use crate::kit::alloc::AllocError;
 use core::cell::Cell;
 use crate::kit::programs::env;

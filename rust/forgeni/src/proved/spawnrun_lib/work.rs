@@ -13,7 +13,7 @@ use crate::proved::spawnrun_lib::running::{run, run_in_blocks};
 use crate::proved::spawnrun_lib::status::Status;
 use crate::proved::spawnrun_lib::task::Task;
 use crate::proved::spawnrun_lib::wants::size_wants;
-use crate::proved::devices::{InputFault, Sink, Source, read_all};
+use crate::proved::cli::{InputFault, Sink, Source, read_all};
 use crate::proved::ent_handle::Memory;
 use crate::kit::thread::Threads;
 

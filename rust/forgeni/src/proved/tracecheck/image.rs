@@ -5,7 +5,7 @@
 use alloc::vec::Vec;
 use crate::kit::programs::format;
 use crate::kit::programs::string::String;
-use crate::proved::devices::{InputFault, Source, read_all};
+use crate::proved::cli::{InputFault, Source, read_all};
 use crate::proved::ent_alloc::{Entities, ImageFault};
 use crate::proved::ent_handle::Memory;
 use crate::kit::alloc::AllocError;

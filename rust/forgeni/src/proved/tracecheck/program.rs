@@ -9,8 +9,10 @@ use crate::kit::programs::string::String;
 use crate::proved::tracecheck::command_line::{ask_for_a_check, command_line, image_name};
 use crate::proved::tracecheck::running::check_as;
 use crate::proved::tracecheck::status::Status;
-use crate::proved::cli::{LineFault, file_name, finish, refuse_file, refuse_line, refuse_words, words_after_name};
-use crate::proved::devices::{Counted, Muted, Noting, Sink, Source, open_named};
+use crate::proved::cli::{
+    Counted, LineFault, Muted, Noting, Sink, Source, file_name, finish, open_named, refuse_file,
+    refuse_line, refuse_words, words_after_name,
+};
 use crate::kit::alloc::AllocError;
 use core::cell::Cell;
 use crate::kit::programs::string::AsStr;

@@ -10,7 +10,7 @@ use crate::proved::tracecheck::lines::{feed, finish};
 use crate::proved::tracecheck::progress::tell;
 use crate::proved::tracecheck::status::Status;
 use crate::proved::tracecheck::verdict::Verdict;
-use crate::proved::devices::{Failed, Sink, Source};
+use crate::proved::cli::{Failed, Sink, Source};
 use crate::proved::ent_alloc::{Entities, ImageFault};
 
 // How many bytes one call of the source may bring.

@@ -1,0 +1,54 @@
+//! What a program reads from and writes to: a file, a terminal, or memory.
+ghost use Rattle.std.specs.Prelude.{◌≡◌, ℕ, ◌+◌, ◌<◌, ◌≤◌, List, length, take};
+ghost use Rattle.std.specs.Prelude.{Option, IfOk, OnOk, OnErr};
+ghost use Rattle.std.specs.Io.KnownBytes.{Appends, Consumes, IsAtEnd};
+ghost use Rattle.cli.specs.Device.{KeepsIfTold};
+
+/// A call of a device failed.
+#[derive(Clone, Copy, Debug, PartialEq, Eq)]
+pub struct Failed;
+
+/// A device that bytes come from.
+pub trait Source {
+    /// The bytes that later calls of `take` give, or `None` if the device doesn't tell.
+    ghost remaining: { Self → Option (List ℕ) };
+
+    /// How many calls of the device have failed.
+    ghost failures: { Self → ℕ };
+
+    /// Puts the next bytes at the start of the buffer, and returns how many. It returns 0 only at
+    /// the end of the input or for an empty buffer. As with `io::Read`, the rest of the buffer may
+    /// change too.
+    ///
+    /// # Errors
+    ///
+    /// `Failed` if the device failed. No byte is lost then.
+    fn take(&mut self, buffer: &mut [u8]) -> Result<usize, Failed>
+        ensures within { IfOk result (λ count. count ≤ length buffer.new) }
+        ensures bytes { IfOk result (λ count.
+            Consumes (remaining self.old) (remaining self.new) (take count buffer.new)) }
+        ensures end { IfOk result (λ count.
+            count ≡ 0 → 0 < length buffer.new → IsAtEnd (remaining self.new)) }
+        ensures taken { OnOk result (failures self.new ≡ failures self.old) }
+        ensures kept { OnErr result (KeepsIfTold (remaining self.old) (remaining self.new)) }
+        ensures failed { OnErr result (failures self.new ≡ failures self.old + 1) };
+}
+
+/// A device that bytes go to.
+pub trait Sink {
+    /// The bytes that went out so far, or `None` if the device doesn't tell.
+    ghost written: { Self → Option (List ℕ) };
+
+    /// How many calls of the device have failed.
+    ghost failures: { Self → ℕ };
+
+    /// Writes the whole piece.
+    ///
+    /// # Errors
+    ///
+    /// `Failed` if the device failed. How much of the piece went out isn't said.
+    fn put(&mut self, piece: &[u8]) -> Result<(), Failed>
+        ensures bytes { OnOk result (Appends (written self.old) (written self.new) piece.now) }
+        ensures put { OnOk result (failures self.new ≡ failures self.old) }
+        ensures failed { OnErr result (failures self.new ≡ failures self.old + 1) };
+}

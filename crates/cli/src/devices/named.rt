@@ -1,0 +1,93 @@
+//! A file that is read in place of standard input.
+ghost use Rattle.std.specs.Prelude.{◌≡◌, ◌+◌, codes, OnErr, OnOk};
+ghost use Rattle.std.specs.IoError.{error_kind};
+ghost use Rattle.std.specs.Io.KnownBytes.{Appends};
+ghost use Rattle.cli.specs.Named.{reason, refusal};
+
+use crate::devices::device::{Failed, Sink};
+use std::fs::File;
+use std::io::ErrorKind;
+use std::rt::Files;
+use std::{fs, io};
+
+/// Why a file isn't read that a word names.
+#[derive(Clone, Copy, Debug, PartialEq, Eq)]
+pub enum NameFault {
+    /// There is no file of this name.
+    Missing,
+    /// It is the name of a folder.
+    Folder,
+    /// The file can't be opened.
+    Closed,
+    /// Memory ran out.
+    Memory,
+}
+
+impl From<io::Error> for NameFault {
+    ghost use Rattle.cli.specs.Named.{fault_of};
+
+    ghost from_gives = { λ error fault. fault ≡ fault_of (error_kind error) };
+
+    fn from(error: io::Error) -> Self {
+        match error.kind() {
+            ErrorKind::NotFound | ErrorKind::NotADirectory => NameFault::Missing,
+            ErrorKind::IsADirectory => NameFault::Folder,
+            ErrorKind::OutOfMemory => NameFault::Memory,
+            _ => NameFault::Closed,
+        }
+    }
+}
+
+impl NameFault {
+    // What is wrong with the name.
+    fn reason(self) -> &'static str
+        ensures { result.now ≡ reason self }
+    {
+        match self {
+            NameFault::Missing => "no such file",
+            NameFault::Folder => "is a folder",
+            NameFault::Closed => "can't be opened",
+            NameFault::Memory => "out of memory",
+        }
+    }
+}
+
+/// Opens the file of this name for reading.
+///
+/// # Errors
+///
+/// - `Missing` if there is no such file.
+/// - `Folder` if it is the name of a folder.
+/// - `Memory` if memory ran out.
+/// - `Closed` if the system doesn't open it for another reason.
+pub fn open_named<R: Files>(rt: &R, name: &str) -> Result<R::File, NameFault> {
+    if fs::metadata(rt, name)?.is_dir() {
+        return Err(NameFault::Folder);
+    }
+    Ok(File::open(rt, name)?)
+}
+
+/// Says in one line that a program doesn't read the file of this name, and why: `PROGRAM: no such
+/// file: NAME`.
+///
+/// # Errors
+///
+/// `Failed` if the device failed. How much went out isn't said.
+pub fn put_refusal<E: Sink>(
+    errors: &mut E,
+    program: &str,
+    name: &str,
+    fault: NameFault,
+) -> Result<(), Failed>
+    ensures said { OnOk result (Appends (E.written errors.old) (E.written errors.new)
+        (refusal program.now name.now fault)) }
+    ensures unfailed { OnOk result (E.failures errors.new ≡ E.failures errors.old) }
+    ensures failed { OnErr result (E.failures errors.new ≡ E.failures errors.old + 1) }
+{
+    errors.put(program.as_bytes())?;
+    errors.put(b": ")?;
+    errors.put(fault.reason().as_bytes())?;
+    errors.put(b": ")?;
+    errors.put(name.as_bytes())?;
+    errors.put(b"\n")
+}

@@ -1,0 +1,69 @@
+// Made of crates/cli/src/devices/pipe.rt by rust/erase. It isn't edited by hand.
+
+//! An output whose reader may leave, as `head` does, and an error stream that says nothing of it.
+
+use core::cell::Cell;
+use std::io;
+use std::io::{ErrorKind, Write};
+
+/// A writer that notes it if a write fails because nobody reads any more.
+pub struct Noting<'a, W> {
+    writer: W,
+    has_left: &'a Cell<bool>,
+}
+
+impl<'a, W> Noting<'a, W> {
+    /// Makes one that sets `has_left`.
+    #[inline]
+    pub fn new(writer: W, has_left: &'a Cell<bool>) -> Self {
+        Noting { writer, has_left }
+    }
+}
+
+impl<W: Write> Write for Noting<'_, W> {
+    #[inline]
+    fn write(&mut self, piece: &[u8]) -> io::Result<usize> {
+        let result = self.writer.write(piece);
+        if let Err(error) = &result {
+            if error.kind() == ErrorKind::BrokenPipe {
+                self.has_left.set(true);
+            }
+        }
+        result
+    }
+
+    #[inline]
+    fn flush(&mut self) -> io::Result<()> {
+        self.writer.flush()
+    }
+}
+
+/// A writer that drops what it is given once the reader of another one has left.
+pub struct Muted<'a, W> {
+    writer: W,
+    has_left: &'a Cell<bool>,
+}
+
+impl<'a, W> Muted<'a, W> {
+    /// Makes one that looks at `has_left`, which a `Noting` sets.
+    #[inline]
+    pub fn new(writer: W, has_left: &'a Cell<bool>) -> Self {
+        Muted { writer, has_left }
+    }
+}
+
+impl<W: Write> Write for Muted<'_, W> {
+    #[inline]
+    fn write(&mut self, piece: &[u8]) -> io::Result<usize> {
+        if self.has_left.get() {
+            Ok(piece.len())
+        } else {
+            self.writer.write(piece)
+        }
+    }
+
+    #[inline]
+    fn flush(&mut self) -> io::Result<()> {
+        self.writer.flush()
+    }
+}
