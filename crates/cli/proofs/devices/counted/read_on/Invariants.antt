@@ -1,5 +1,5 @@
 use Rattle.std.specs.Io.KnownBytes.{Keeps}
-use Rattle.cli.proofs.counted.read_on.Given as goal
+use Rattle.cli.proofs.devices.counted.read_on.Given as goal
 
 -- the interrupted reads took nothing
 abbrev pub invariant-loop : goal.invariant-loop

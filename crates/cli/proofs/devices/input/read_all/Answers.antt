@@ -1,7 +1,7 @@
 use Rattle.std.proofs.Common.{◌++◌, take, refl, arith}
 use Rattle.std.proofs.lemmas.Grind.{common_steps}
 use Rattle.cli.proofs.TakenInSteps.{Consumes-append, TakesAtMost-Takes}
-use Rattle.cli.proofs.input.read_all.Goals as goal
+use Rattle.cli.proofs.devices.input.read_all.Goals as goal
 
 -- the piece that passes the limit brings one byte more than there was room for
 pub returns-then-count-room-clause-stops : goal.returns-then-count-room-clause-stops
