@@ -23,7 +23,9 @@ macro_rules! change {
         let (number, way) = ($numbers.below(40) as u32, $numbers.below(6));
         let stood = $model.get(&$one).copied();
         let panics = Panics {
-            drop: ($numbers.below(4) == 0).then(|| stood.map(|it| it.0)).flatten(),
+            drop: ($numbers.below(4) == 0)
+                .then(|| stood.map(|it| it.0))
+                .flatten(),
             clone: None,
         };
         let value = $made.value(number);
@@ -38,7 +40,11 @@ macro_rules! change {
                 let all = $made.with_panics(panics, || {
                     map.get_mut(one).map(|it| *it.get_mut(tick) = value)
                 });
-                assert!(all.is_none_or(|it| it.is_some() == stood.is_some()), "{}", $place);
+                assert!(
+                    all.is_none_or(|it| it.is_some() == stood.is_some()),
+                    "{}",
+                    $place
+                );
                 $model.get_mut(&one).map(|it| *it = (number, tick));
             }
             3 => {
@@ -60,7 +66,8 @@ macro_rules! change {
                 $model.get_mut(&one).map(|it| *it = (99, tick));
             }
             _ => {
-                map.get_mut(one).map(|it| it.get_mut_unseen().number = number);
+                map.get_mut(one)
+                    .map(|it| it.get_mut_unseen().number = number);
                 $model.get_mut(&one).map(|it| it.0 = number);
             }
         }

@@ -1,4 +1,4 @@
-use Rattle.ent_storage.proofs.Common.{rules, arith, common_steps, ap, ◌≡◌, ◌≤◌, length, fin_len, SparseMap}
+use Rattle.ent_storage.proofs.Common.{rules}
 use Rattle.ent_storage.proofs.Sparse.{some_slot, cloned_positioned, cloned, counted}
 use Rattle.ent_storage.proofs.sparse_map.SparseMap.try_clone_from.Goals.{then-capacity-values-via-then-capacity-values, then-capacity-values-via-else-capacity-values+then-capacity-slots}
 use Rattle.ent_storage.proofs.sparse_map.SparseMap.try_clone_from.Goals as goal
