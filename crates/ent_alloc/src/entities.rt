@@ -112,6 +112,14 @@ impl Entities {
         Entities::new(alloc, limits.keeping_placeholder())
     }
 
+    /// The limits within which it gives handles.
+    #[must_use]
+    pub fn limits(&self) -> Limits
+        ensures { result ≡ self.now.allocator.limits }
+    {
+        self.slots.limits()
+    }
+
     /// How many entities are alive.
     #[must_use]
     pub fn len(&self) -> u32

@@ -1,13 +1,12 @@
 //! Std's `Default` and `Clone` of what has proved calls `new` and `try_clone`, and `PartialEq` of
-//! what has an image. If memory runs out, a clone ends the process, as when a `Vec` is cloned, and
-//! so does a comparison.
+//! the allocator. If memory runs out, a clone ends the process, as when a `Vec` is cloned.
 
 use crate::entities::Entities;
 use crate::errors::OutOfMemory;
+use crate::handle::Handle;
 use crate::storage::Storage;
 use crate::world::World;
 use alloc::alloc::handle_alloc_error;
-use alloc::vec::Vec;
 use core::alloc::Layout;
 
 macro_rules! begins_and_clones {
@@ -38,7 +37,7 @@ begins_and_clones!(World);
 begins_and_clones!(Storage);
 
 /// Two allocators are equal if they are the same to every call, whatever came before: if they have
-/// one image. The comparison takes memory for the images. If memory runs out, the process ends.
+/// one image. The time is that of a look at each slot, and no memory is taken.
 ///
 /// ```
 /// use forgeni::Entities;
@@ -55,17 +54,24 @@ begins_and_clones!(Storage);
 /// ```
 impl PartialEq for Entities {
     fn eq(&self, other: &Self) -> bool {
-        self.total() == other.total() && image(self) == image(other)
+        let numbers = |it: &Self| (it.limits(), it.total(), it.asked(), it.reserved());
+        numbers(self) == numbers(other)
+            && living(self).eq(living(other))
+            && waiting(self).eq(waiting(other))
     }
 }
 
 impl Eq for Entities {}
 
-fn image(entities: &Entities) -> Vec<u8> {
-    let mut image = Vec::new();
-    let written = entities.write_image(&mut image);
-    written.unwrap_or_else(|refused| end(refused));
-    image
+/// The living and their rows, by rising slot.
+fn living(entities: &Entities) -> impl Iterator<Item = (Handle, Option<u32>)> {
+    entities.iter().map(|one| (one, entities.row(one)))
+}
+
+/// What each slot that waits gives next, in the order of the pending list.
+fn waiting(entities: &Entities) -> impl Iterator<Item = Option<Handle>> {
+    let positions = 1..=i64::from(entities.top());
+    positions.map(|cursor| entities.reply_one(cursor).ok())
 }
 
 /// Ends the process: the caller can't return an error.

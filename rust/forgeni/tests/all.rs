@@ -16,6 +16,7 @@ mod follows;
 mod frames;
 mod handle_map;
 mod handles;
+mod history;
 mod image;
 #[cfg(feature = "std")]
 mod in_place;
@@ -43,6 +44,7 @@ mod texts;
 mod threads;
 mod trace;
 mod trace_model;
+mod tracked;
 mod worked_calls;
 mod worked_traces;
 mod worked_worlds;

@@ -69,6 +69,30 @@ fn random_calls_to_clones() {
     seeds(200, |seed| run(seed, 1_000));
 }
 
+/// Allocators with rows are equal if they have one image.
+#[test]
+fn equal_allocators() {
+    seeds(3_000, |seed| {
+        let mut numbers = Numbers::of(seed);
+        let mut both = [(); 2].map(|()| small(3, 1 + numbers.below(2) as u32));
+        for step in 0..40 {
+            let at = numbers.below(2) as usize;
+            let one = both[at].iter().last().unwrap_or(handle(0, 1));
+            let entities = &mut both[at];
+            match numbers.below(7) {
+                0 => both[1 - at] = entities.clone(),
+                1 => drop(entities.alloc()),
+                2 => drop(entities.free(one)),
+                3 => drop(entities.request_many(1 + numbers.below(4) as u32)),
+                4 => drop(flushed(entities)),
+                _ => drop(entities.try_set_row(one, numbers.below(2) as u32)),
+            }
+            let alike = image(&both[0]) == image(&both[1]);
+            assert_eq!(both[0] == both[1], alike, "seed {seed}, step {step}");
+        }
+    });
+}
+
 fn image(entities: &Entities) -> Vec<u8> {
     let mut image = vec![];
     entities.write_image(&mut image).expect("memory");

@@ -13,10 +13,11 @@ use forgeni::trace::{Call, CheckError, Checker, FreeReply, Log, Reservation};
 #[cfg(feature = "std")]
 use forgeni::{run_to_sync_point, LogCommands, LogError, StdThreads};
 use forgeni::{
-    tables, AllocError, BeginError, Birth, CommandQueue, Commands, ComponentId, Entities, Entry,
-    Fault, Follows, FreeError, GoOnError, Handle, HandleMap, ImageFault, InsertError, JoinMaps,
-    Limits, OpenWorld, OutOfMemory, Queues, Report, ReserveError, ShareError, SparseMap, State,
-    Stop, Storage, StorageError, SyncError, SyncPoint, World, WorldImageFault,
+    tables, AllocError, BeginError, Birth, Change, CommandQueue, Commands, ComponentId, Entities,
+    Entry, Fault, Follows, FreeError, GoOnError, Handle, HandleMap, History, ImageFault,
+    InsertError, JoinMaps, Limits, OpenWorld, OutOfMemory, Queues, Report, ReserveError,
+    ShareError, SparseMap, State, Stop, Storage, StorageError, SyncError, SyncPoint, World,
+    WorldImageFault,
 };
 use refusing::{asked, held, most_held, refusing, Refusal};
 use std::rc::Rc;
@@ -993,6 +994,40 @@ fn walks_over_maps() {
         assert_eq!(refusing(none, few), (([50, 200], 200), 0));
         refused
     });
+}
+
+/// A list of births without memory loses the first ones, and says so.
+#[test]
+fn a_list_of_births() {
+    each_in_turn(|refusal| {
+        let one = |tick: u64| handle(tick as u32, 1);
+        let mut history = History::new();
+        let ((), refused) = refusing(refusal, || {
+            for tick in 0..40 {
+                history.begin(tick);
+                history.born(&[one(tick)]);
+            }
+        });
+        for since in 0..41 {
+            if let Some(told) = history.since(since) {
+                assert!(told.eq((since..40).map(|tick| Change::Born(one(tick)))));
+            }
+        }
+        assert_eq!(history.since(0).is_none(), refused > 0);
+        assert!(history.since(40).is_some());
+        refused
+    });
+}
+
+/// A comparison of allocators takes no memory.
+#[test]
+fn allocators_that_are_compared() {
+    let (one, mut other) = (requested(50), requested(50));
+    let equal = || one == other;
+    assert_eq!(refusing(Refusal::All { after: 0 }, equal), (true, 0));
+    other.flush(&mut vec![]).expect("memory");
+    let equal = || one == other;
+    assert_eq!(refusing(Refusal::All { after: 0 }, equal), (false, 0));
 }
 
 /// Room for a sparse map, or for all that another one has.

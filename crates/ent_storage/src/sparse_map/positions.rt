@@ -1,5 +1,5 @@
-ghost use Rattle.std.specs.Prelude.{◌≡◌, ◌^◌, ◌-◌, ◌<◌, ◌≤◌, ℕ, None, Some, OnOk, OnErr, IfSome};
-ghost use Rattle.std.specs.Prelude.{slice_get, length};
+ghost use Rattle.std.specs.Prelude.{◌≡◌, ◌^◌, ◌+◌, ◌-◌, ◌/◌, ◌<◌, ◌≤◌, ℕ, None, Some, OnOk, OnErr};
+ghost use Rattle.std.specs.Prelude.{IfSome, slice_get, length, max};
 ghost use Rattle.std.specs.List.{HoldsAt};
 ghost use Rattle.ent_storage.specs.SparseMap.{IsPositioned, IsFree};
 
@@ -36,6 +36,8 @@ pub(super) fn make_position(positions: &mut Vec<u32>, index: usize) -> Result<()
     ensures kept { (k p : ℕ) → slice_get positions.old.items k ≡ Some p
         → slice_get positions.new.items k ≡ Some p }
     ensures grows { length positions.old.items ≤ length positions.new.items }
+    ensures within { length positions.new.items
+        ≤ max (length positions.old.items) (index + 1 + index / 8) }
     ensures err { OnErr result (positions.new.items ≡ positions.old.items) }
     ensures memory { OnErr result (length positions.old.items ≤ index) }
 {
@@ -55,6 +57,7 @@ fn add_positions(positions: &mut Vec<u32>, index: usize) -> Result<(), AllocErro
     ensures kept { (k p : ℕ) → slice_get positions.old.items k ≡ Some p
         → slice_get positions.new.items k ≡ Some p }
     ensures grows { length positions.old.items ≤ length positions.new.items }
+    ensures within { length positions.new.items ≤ index + 1 + index / 8 }
     ensures err { OnErr result (positions.new.items ≡ positions.old.items) }
 {
     let count = (index + 1).saturating_add(index / 8).min(u32::MAX as usize);

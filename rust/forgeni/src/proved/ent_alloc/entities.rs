@@ -99,6 +99,23 @@ impl Entities {
         Entities::with_exact_limits(limits.keeping_placeholder())
     }
 
+    /// The limits within which it gives handles.
+    ///
+    /// <details><summary>Contract</summary>
+    ///
+    /// In the words of the folder `specs/` of crate `ent_alloc`:
+    ///
+    /// ```text
+    /// ensures { result ≡ self.now.allocator.limits }
+    /// ```
+    ///
+    /// </details>
+    #[must_use]
+    #[inline]
+    pub fn limits(&self) -> Limits {
+        self.slots.limits()
+    }
+
     /// How many entities are alive.
     ///
     /// <details><summary>Contract</summary>

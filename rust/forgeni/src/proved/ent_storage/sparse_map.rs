@@ -417,6 +417,8 @@ impl<T> SparseMap<T> {
     ///     ≡ map.insert (without_slot self.old.values handle.index) handle value) }
     /// ensures before { IfOk result (λ before. before ≡ map.get self.old.values handle) }
     /// ensures slots { self.old.slots ≤ self.new.slots }
+    /// ensures slots_within { self.new.slots
+    ///     ≤ max self.old.slots (handle.index + 1 + handle.index / 8) }
     /// ensures room { self.old.room ≤ self.new.room }
     /// ensures kept { self.new.limit ≡ self.old.limit }
     ///
@@ -430,6 +432,8 @@ impl<T> SparseMap<T> {
     ///     → HasNone self.old.values handle.index }
     /// ensures back { IfErr result (λ refused. refused.value ≡ value) }
     /// ensures err { OnErr result (self.new.values ≡ self.old.values) }
+    /// ensures unchanged { OnErr result (error_of result ≢ Some InsertError.Memory
+    ///     → self.new ≡ self.old) }
     /// ```
     ///
     /// </details>
@@ -555,6 +559,7 @@ impl<T: Clone> SparseMap<T> {
     /// ```text
     /// ensures clones { IfOk result (λ m. AreCloned T.is_clone self.now.values m.values) }
     /// ensures slots { IfOk result (λ m. m.slots ≡ self.now.slots) }
+    /// ensures room { IfOk result (λ m. map.len self.now.values ≤ m.room) }
     /// ensures limit { IfOk result (λ m. m.limit ≡ self.now.limit) }
     /// ensures memory { OnErr result (0 < self.now.slots) }
     /// ```
@@ -598,6 +603,8 @@ impl<T: Clone> SparseMap<T> {
     /// ensures slots { OnOk result (self.new.slots ≡ source.now.slots) }
     /// ensures limit { OnOk result (self.new.limit ≡ source.now.limit) }
     /// ensures memory { OnErr result (0 < source.now.slots) }
+    /// ensures memory_in_place { OnErr result (source.now.slots ≤ self.old.slots
+    ///     → 0 < map.len source.now.values) }
     /// ensures refused { OnErr result (self.old.room < map.len source.now.values
     ///     → self.new ≡ self.old) }
     /// ensures left { OnErr result ((self.new ≡ self.old)
@@ -606,7 +613,14 @@ impl<T: Clone> SparseMap<T> {
     ///       slots = source.now.slots;
     ///       room = self.new.room;
     ///     })) }
+    /// ensures emptied { OnErr result (source.now.slots ≤ self.old.slots
+    ///     → map.len source.now.values ≤ self.old.room → self.new ≡ record self.old {
+    ///       values = map.empty;
+    ///       slots = source.now.slots;
+    ///       room = self.new.room;
+    ///     }) }
     /// ensures room { OnErr result (self.old.room ≤ self.new.room) }
+    /// ensures room_in_place { source.now.slots ≤ self.old.slots → self.old.room ≤ self.new.room }
     /// ```
     ///
     /// </details>
@@ -661,6 +675,8 @@ fn put<T>(
     // ensures before { IfOk result (λ before. before
     //     ≡ map.get (values_of entries.old.items) handle) }
     // ensures slots { length positions.old.items ≤ length positions.new.items }
+    // ensures slots_within { length positions.new.items
+    //     ≤ max (length positions.old.items) (handle.index + 1 + handle.index / 8) }
     // ensures room { vec_capacity entries.old ≤ vec_capacity entries.new }
     // ensures limit { error_of result ≢ Some InsertError.Limit }
     // ensures later { (error_of result ≡ Some InsertError.Later)
@@ -672,6 +688,8 @@ fn put<T>(
     //     → IsFree entries.old.items handle.index }
     // ensures back { IfErr result (λ refused. refused.value ≡ value) }
     // ensures err { OnErr result (entries.new.items ≡ entries.old.items) }
+    // ensures unchanged { OnErr result (error_of result ≢ Some InsertError.Memory
+    //     → (entries.new ≡ entries.old) × (positions.new.items ≡ positions.old.items)) }
 {
     let index = index_of(handle);
     let Some(position) = position_of(entries, positions, index) else {
@@ -704,6 +722,8 @@ fn add<T>(
     //     ≡ map.insert (without_slot (values_of entries.old.items) handle.index) handle value) }
     // ensures before { IfOk result (λ before. before ≡ None) }
     // ensures slots { length positions.old.items ≤ length positions.new.items }
+    // ensures slots_within { length positions.new.items
+    //     ≤ max (length positions.old.items) (handle.index + 1 + handle.index / 8) }
     // ensures room { vec_capacity entries.old ≤ vec_capacity entries.new }
     // ensures memory { IfErr result (λ refused. refused.error ≡ InsertError.Memory) }
     // ensures full { OnErr result ((length positions.old.items ≤ handle.index)

@@ -37,6 +37,8 @@ pub(super) fn make_position(positions: &mut Vec<u32>, index: usize) -> Result<()
     // ensures kept { (k p : ℕ) → slice_get positions.old.items k ≡ Some p
     //     → slice_get positions.new.items k ≡ Some p }
     // ensures grows { length positions.old.items ≤ length positions.new.items }
+    // ensures within { length positions.new.items
+    //     ≤ max (length positions.old.items) (index + 1 + index / 8) }
     // ensures err { OnErr result (positions.new.items ≡ positions.old.items) }
     // ensures memory { OnErr result (length positions.old.items ≤ index) }
 {
@@ -56,6 +58,7 @@ fn add_positions(positions: &mut Vec<u32>, index: usize) -> Result<(), AllocErro
     // ensures kept { (k p : ℕ) → slice_get positions.old.items k ≡ Some p
     //     → slice_get positions.new.items k ≡ Some p }
     // ensures grows { length positions.old.items ≤ length positions.new.items }
+    // ensures within { length positions.new.items ≤ index + 1 + index / 8 }
     // ensures err { OnErr result (positions.new.items ≡ positions.old.items) }
 {
     let count = (index + 1).saturating_add(index / 8).min(u32::MAX as usize);

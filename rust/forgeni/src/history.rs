@@ -1,0 +1,168 @@
+//! Births and deaths in order. By hand: it lists what the program says, and decides nothing.
+
+use crate::follows::Follows;
+use crate::handle::Handle;
+use alloc::collections::VecDeque;
+
+/// That an entity was born, or died.
+#[derive(Clone, Copy, Debug, PartialEq, Eq, Hash)]
+pub enum Change {
+    /// The handle is alive from here on.
+    Born(Handle),
+    /// The handle isn't alive any more.
+    Died(Handle),
+}
+
+/// Births and deaths in their order, each with its tick, for what mirrors the living: a renderer, or
+/// a physics engine.
+///
+/// The program says what is born, as the list that a flush filled. Who dies it is told as a map is
+/// told to forget: a `History` [`Follows`] the entities. Ticks are the program's own, as those of
+/// [`Tracked`](crate::Tracked).
+///
+/// ```
+/// use forgeni::{Change, Entities, Follows, HandleMap, History};
+///
+/// let (mut entities, mut history) = (Entities::new(), History::new());
+/// let mut places = HandleMap::new();
+/// let (mut mirror, mut unseen) = (Vec::new(), 0);
+/// for tick in 0..3 {
+///     history.begin(tick);
+///     let ship = entities.alloc()?;
+///     history.born(&[ship]);
+///     places.insert(ship, [0.0, 0.0])?;
+///     if tick == 1 {
+///         (&mut places, &mut history).despawn(&mut entities, ship)?;
+///     }
+///     match history.since(unseen) {
+///         Some(changes) => changes.for_each(|change| match change {
+///             Change::Born(one) => mirror.push(one),
+///             Change::Died(one) => mirror.retain(|it| *it != one),
+///         }),
+///         None => mirror = entities.iter().collect(),
+///     }
+///     unseen = tick + 1;
+///     history.forget_before(unseen);
+/// }
+/// assert!(mirror.iter().eq(&[places.keys().next().unwrap(), places.keys().last().unwrap()]));
+/// # Ok::<(), Box<dyn std::error::Error + Send + Sync>>(())
+/// ```
+///
+/// No call fails: if memory runs out, or there is more than the limit, the list loses its first
+/// changes, and [`since`](Self::since) says so.
+#[derive(Clone, Debug)]
+pub struct History {
+    changes: VecDeque<(u64, Change)>,
+    limit: usize,
+    tick: u64,
+    /// The last tick of which a change may be missing.
+    lost: Option<u64>,
+}
+
+impl History {
+    /// A list without changes and without a limit, at tick 0. It takes no memory.
+    #[must_use]
+    pub const fn new() -> Self {
+        Self::with_limit(usize::MAX)
+    }
+
+    /// A list that keeps at most that many changes, the last ones. It takes no memory.
+    #[must_use]
+    pub const fn with_limit(limit: usize) -> Self {
+        Self {
+            changes: VecDeque::new(),
+            limit,
+            tick: 0,
+            lost: None,
+        }
+    }
+
+    /// Says at which tick the changes are that come now. Ticks don't go back: one that is less than
+    /// the present one changes nothing.
+    pub fn begin(&mut self, tick: u64) {
+        self.tick = self.tick.max(tick);
+    }
+
+    /// The tick of what comes now.
+    #[must_use]
+    pub fn tick(&self) -> u64 {
+        self.tick
+    }
+
+    /// Lists births: what [`Entities::flush`](crate::Entities::flush) or
+    /// [`alloc_many`](crate::Entities::alloc_many) brought to life.
+    pub fn born(&mut self, handles: &[Handle]) {
+        handles.iter().for_each(|one| self.push(Change::Born(*one)));
+    }
+
+    /// Lists a death.
+    pub fn died(&mut self, handle: Handle) {
+        self.push(Change::Died(handle));
+    }
+
+    fn push(&mut self, change: Change) {
+        while self.changes.len() >= self.limit || self.changes.try_reserve(1).is_err() {
+            let Some((tick, _)) = self.changes.pop_front() else {
+                self.lost = Some(self.tick);
+                return;
+            };
+            self.lost = self.lost.max(Some(tick));
+        }
+        self.changes.push_back((self.tick, change));
+    }
+
+    /// The changes of this tick and later ones, in their order.
+    ///
+    /// `None` if the list may lack some of them. Then mirror all that is
+    /// [alive](crate::Entities::iter) anew.
+    #[must_use]
+    pub fn since(
+        &self,
+        tick: u64,
+    ) -> Option<impl DoubleEndedIterator<Item = Change> + ExactSizeIterator + Clone> {
+        let first = self.changes.partition_point(|(at, _)| *at < tick);
+        let changes = self.changes.range(first..).map(|(_, change)| *change);
+        (Some(tick) > self.lost).then_some(changes)
+    }
+
+    /// Drops the changes before this tick, which nobody needs any more. The room stays.
+    pub fn forget_before(&mut self, tick: u64) {
+        let end = self.changes.partition_point(|(at, _)| *at < tick);
+        self.changes.drain(..end);
+        self.lost = self.lost.max(tick.checked_sub(1));
+    }
+
+    /// Begins anew at this tick, after the living became others in a way that nobody listed: the
+    /// program went back to a snapshot, or loaded a save. Let its ticks go on in spite of that: who
+    /// asks for the changes since this tick or one before gets `None`.
+    pub fn restart(&mut self, tick: u64) {
+        self.begin(tick);
+        self.changes.clear();
+        self.lost = Some(self.tick);
+    }
+
+    /// How many changes it has.
+    #[must_use]
+    pub fn len(&self) -> usize {
+        self.changes.len()
+    }
+
+    /// Whether it has none.
+    #[must_use]
+    pub fn is_empty(&self) -> bool {
+        self.changes.is_empty()
+    }
+}
+
+impl Default for History {
+    fn default() -> Self {
+        Self::new()
+    }
+}
+
+/// It lists the death of what it forgets.
+impl Follows for History {
+    fn forget(&mut self, handle: Handle) {
+        self.died(handle);
+    }
+}

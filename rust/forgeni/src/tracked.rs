@@ -1,0 +1,123 @@
+//! Values that know when they were last changed. By hand: a value and a number.
+
+use crate::handle::Handle;
+use crate::{HandleMap, SparseMap};
+use core::ops::Deref;
+
+/// A value, and the tick at which it was last lent to be changed.
+///
+/// A *tick* is a number of the program's own, as that of its frame, and goes up. A system that
+/// keeps the first tick that it hasn't seen walks over what changed since: Bevy's `Changed`. A map
+/// of other values pays nothing for it, and a `Tracked` is read as its value.
+///
+/// ```
+/// use forgeni::{Handle, HandleMap, Tracked};
+///
+/// let [ball, cart] = [Handle::new(0, 1).unwrap(), Handle::new(7, 1).unwrap()];
+/// let mut places = HandleMap::from([(ball, Tracked::new(1, 0)), (cart, Tracked::new(2, 0))]);
+/// assert_eq!(places.changed_since(0).count(), 2);
+///
+/// *places[cart].get_mut(1) += 5;
+/// assert!(places.changed_since(1).eq([(cart, &7)]));
+/// assert_eq!(*places[ball] + *places[cart], 8);
+/// ```
+///
+/// A tick has 64 bits and doesn't wrap around: one each nanosecond is enough for 584 years. If the
+/// program goes back to a snapshot, the values have the ticks of then. Its ticks go on, and who
+/// keeps something by `changed_since` takes all values once: see
+/// [`History::restart`](crate::History::restart).
+#[derive(Clone, Copy, Debug, Default, PartialEq, Eq, Hash)]
+pub struct Tracked<T> {
+    value: T,
+    tick: u64,
+}
+
+impl<T> Tracked<T> {
+    /// A value that is new at this tick.
+    #[inline]
+    pub const fn new(value: T, tick: u64) -> Self {
+        Self { value, tick }
+    }
+
+    /// Lends the value to be changed, at this tick. It counts as changed even if nothing is
+    /// written.
+    #[inline]
+    pub fn get_mut(&mut self, tick: u64) -> &mut T {
+        self.tick = tick;
+        &mut self.value
+    }
+
+    /// Writes a value at this tick if it differs from the present one, and returns whether it did:
+    /// Bevy's `set_if_neq`.
+    ///
+    /// # Panics
+    ///
+    /// A panic of the comparison is handed on, and nothing has changed.
+    #[inline]
+    pub fn set_if_neq(&mut self, value: T, tick: u64) -> bool
+    where
+        T: PartialEq,
+    {
+        let differs = self.value != value;
+        if differs {
+            *self.get_mut(tick) = value;
+        }
+        differs
+    }
+
+    /// Lends the value to be changed, and keeps the tick: Bevy's `bypass_change_detection`.
+    #[inline]
+    pub fn get_mut_unseen(&mut self) -> &mut T {
+        &mut self.value
+    }
+
+    /// The tick at which the value was made, or last lent to be changed.
+    #[inline]
+    #[must_use]
+    pub fn tick(&self) -> u64 {
+        self.tick
+    }
+
+    /// Whether that was at this tick or later.
+    #[inline]
+    #[must_use]
+    pub fn is_changed_since(&self, tick: u64) -> bool {
+        self.tick >= tick
+    }
+
+    /// The value.
+    #[inline]
+    pub fn into_inner(self) -> T {
+        self.value
+    }
+}
+
+impl<T> Deref for Tracked<T> {
+    type Target = T;
+
+    #[inline]
+    fn deref(&self) -> &T {
+        &self.value
+    }
+}
+
+macro_rules! lists_changes {
+    ($Map:ident) => {
+        impl<T> $Map<Tracked<T>> {
+            /// The handles and their values, in the order of [`iter`](Self::iter), of which the
+            /// value is new or was lent to be changed at this tick or later. The time is that of a
+            /// look at all values.
+            #[inline]
+            pub fn changed_since(
+                &self,
+                tick: u64,
+            ) -> impl DoubleEndedIterator<Item = (Handle, &T)> + Clone {
+                let changed = self.iter().filter(move |(_, it)| it.is_changed_since(tick));
+                changed.map(|(one, it)| (one, &it.value))
+            }
+        }
+    };
+}
+
+lists_changes!(HandleMap);
+lists_changes!(SparseMap);
