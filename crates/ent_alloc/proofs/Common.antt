@@ -19,12 +19,11 @@ pub use Rattle.std.proofs.lemmas.List.Quantifiers.{all_pairs_push}
 pub use Rattle.std.proofs.lemmas.List.Sorted.{All-permutation, Contains-permutation, IsPermutation-append, IsPermutation-append_comm, IsPermutation-append_left, IsPermutation-append_right, IsPermutation-filter_both, IsPermutation-keeps, IsPermutation-refl, IsPermutation-reverse, IsPermutation-sym, IsPermutation-trans, length_permutation, list_any-IsPermutation}
 pub use Rattle.std.proofs.lemmas.List.Sums.{sum_by-cons}
 pub use Rattle.std.proofs.lemmas.Map.Views.{Contains-from_any, tells_apart}
-pub use Rattle.std.proofs.lemmas.Nat.{div-mul-add, from_le_bytes-to_le_bytes_4, from_le_bytes-to_le_bytes_8, le_bytes_4, le_bytes_8}
+pub use Rattle.std.proofs.lemmas.Nat.{div-mul-add}
 pub use Rattle.std.proofs.lemmas.Option.{get_or_from_slice_get, slice_get-get_or, slice_get_read, slice_get_within}
 pub use Rattle.std.proofs.lemmas.Simd.{map-map}
 pub use Rattle.std.proofs.lemmas.Slice.Eq.{starts_is}
 pub use Rattle.std.specs.FinMap.{find}
-pub use Rattle.std.specs.Int.{from_le_bytes, w32}
 pub use Rattle.std.specs.List.{count_by, flat_map, list_any, range_with_len, starts_with}
 pub use Rattle.std.specs.Ordering.{eq_by_cmp}
 pub use Rattle.std.specs.Prelude.{if◌then◌else◌, min, nat_eq, vec_capacity}
@@ -37,7 +36,8 @@ unfoldable pub use Rattle.ent_alloc.specs.FirstFault.{long_at, word_at}
 pub use Rattle.ent_alloc.specs.Front.{AreSlotsOf, moved, new_waiting, placed, slots_of, waiting_at, with_front}
 pub use Rattle.ent_alloc.specs.History.{Call, IsLegal, after_history, given_in, handles_in, requests_of}
 pub use Rattle.ent_alloc.specs.Image.{AreSlots, HasImage, header, image, kept_bytes, kind_of, living_slot, magic, number_of, occupied, retired_slot, roster, version, waiting_slot}
-unfoldable pub use Rattle.ent_alloc.specs.Image.{header_bytes, long, numbers_bytes, slot, slot_bytes, slots_bytes, word}
+unfoldable pub use Rattle.ent_handle.specs.Bytes.{long, word}
+unfoldable pub use Rattle.ent_alloc.specs.Image.{header_bytes, numbers_bytes, slot, slot_bytes, slots_bytes}
 pub use Rattle.ent_alloc.specs.ImageRecords.{AreNumbers, AreRead, AreServed, CanWait, IsGeneration, IsWritten, kept, kept_generation, record_bytes, rowless_bytes, vacant, with_waiting, without_row, without_row_of}
 pub use Rattle.ent_alloc.specs.Limits.{AreLimits, Limits}
 pub use Rattle.ent_alloc.specs.Portions.{AreUsed, after_portions, arranged, count_of, front_of, left_of, reach_of, size_of, used_of}

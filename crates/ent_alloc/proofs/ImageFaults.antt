@@ -1,7 +1,8 @@
 -- Where a slot of an image is refused, no slots of an allocator have the bytes for their image, and
 -- what the tests of slots answer of bytes of which some have been read.
 use Rattle.ent_alloc.proofs.Common.{◌≡◌, ◌≢◌, refl, ◌∙◌, ℕ, zero, suc, ◌+◌, ◌-◌, ◌^◌, ◌<◌, rules, ◌≤◌, List, [], ◌∷◌, ◌++◌, length, get_or, arith, flat_map, range_with_len, cases_eq, append_assoc, Limits, AreLimits, Roster, record_at, word, slot, slot_bytes, slots_bytes, AreSlots, number_of, kind_of, kept, record_bytes, IsGeneration, IsWritten, vacant, CanWait, AreRead, SlotRecord, Occupancy, Pending, Retired, sym, false, Option, None, Some, IfSome, IfNone, long, is_slot, word_at, Alive, append-nil, ap, ◌*◌, true, ◌&&◌, and-false, eqb, map, common_steps, length-append, kept_generation, generation_of, kind_in, number_in, waits_at, is_taken, has_place, slot_test, position_test, slots_tests, first_failing, Test, Slot, Position}
-use Rattle.ent_alloc.proofs.ImageWords.{IsSmall, same_slot, same_parts, same_words, length-slot_bytes, kind_below, first_word, second_word, third_word, word_past, word_before}
+use Rattle.ent_handle.proofs.Spelled.{same_parts, same_words}
+use Rattle.ent_alloc.proofs.ImageWords.{IsSmall, same_slot, length-slot_bytes, kind_below, first_word, second_word, third_word, word_past, word_before}
 use Rattle.ent_alloc.proofs.ImageSlots.{waiter, small, slot_waits, waits_from, written}
 use Rattle.ent_alloc.proofs.ImageFront.{each_passes, fails_at, failed_before, passed_before, one_is, none_is}
 

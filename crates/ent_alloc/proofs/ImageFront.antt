@@ -1,8 +1,8 @@
 -- The first of tests that fails, and what the tests of the first forty bytes answer.
 use Rattle.ent_alloc.proofs.Common.{◌≡◌, refl, ℕ, zero, suc, ◌+◌, ◌<◌, ◌≤◌, Bool, true, false, List, [], ◌∷◌, ◌++◌, map, None, Some, arith, rules, cases_eq, common_steps, list_any, range_with_len, Test, first_failing, ImageFault, ◌≢◌, sym, ap, ◌∙◌, ◌-◌, ◌*◌, ◌^◌, ◌⊎◌, length, drop, nat_eq, starts_with, eq-eqb, le-leb, lt-leb, Decides-eqb, starts_is, length-append, drop_at, AreLimits, word, long, magic, version, header_bytes, numbers_bytes, AreNumbers, AreServed, first_fault, word_at, long_at, front_tests, header_in, header_tests, slots_tests, header_fault, Header, Magic, Version, Length, BadLimits, Counts, nat_tests, false_from_ne_true}
 use Rattle.ent_alloc.specs.declared.image_fault.ImageFault.TheVariants.{Requests}
-use Rattle.ent_alloc.proofs.ImageHeader.{letters, letters_are, same_longs, from_long, length-header_bytes}
-use Rattle.ent_alloc.proofs.ImageWords.{from_word}
+use Rattle.ent_alloc.proofs.ImageHeader.{letters, letters_are, length-header_bytes}
+use Rattle.ent_handle.proofs.Spelled.{from_long, from_word, same_longs}
 
 -- one that passes, and one that fails
 pub passed : (test : Test) (tests : List Test) → test.0 ≡ true → first_failing (test ∷ tests) ≡ first_failing tests

@@ -1,21 +1,6 @@
 -- What stands before the slots of an image, byte by byte.
-use Rattle.ent_alloc.proofs.Common.{rules, ◌≡◌, ◌≢◌, refl, ℕ, ◌^◌, ◌<◌, List, ◌++◌, length, from_le_bytes, from_le_bytes-to_le_bytes_8, length-append, append_assoc, word, long, magic, version, numbers_bytes, header_bytes, AreNumbers, Header}
-use Rattle.std.specs.Int.{w64}
-use Rattle.ent_alloc.proofs.ImageWords.{same_words, same_parts}
-
-pub length-long : (n : ℕ) → length (long n) ≡ 8
-unfolding long
-length-long n = refl
-
-pub from_long : (n : ℕ) → n < 2 ^ 64 → from_le_bytes w64 (long n) ≡ n
-unfolding long
-from_long n h = from_le_bytes-to_le_bytes_8 n h
-
-pub same_longs : (m n : ℕ) (xs ys : List ℕ) → m < 2 ^ 64 → n < 2 ^ 64 → long m ++ xs ≡ long n ++ ys
-    → (m ≡ n) × (xs ≡ ys)
-same_longs m n xs ys hm hn same =
-    let parts = same_parts 8 (long m) xs (long n) ys (length-long m) (length-long n) same in
-    (rw (← from_long m hm, parts.0) (from_long n hn), parts.1)
+use Rattle.ent_alloc.proofs.Common.{rules, ◌≡◌, ◌≢◌, refl, ℕ, ◌^◌, ◌<◌, List, ◌++◌, length, length-append, append_assoc, word, long, magic, version, numbers_bytes, header_bytes, AreNumbers, Header}
+use Rattle.ent_handle.proofs.Spelled.{same_longs, same_parts, same_words}
 
 -- the letters as a number
 abbrev pub letters : ℕ

@@ -1,29 +1,10 @@
 -- The words of an image, and its slots, byte by byte.
-use Rattle.ent_alloc.proofs.Common.{rules, ◌≡◌, refl, ap, ℕ, zero, suc, ◌+◌, ◌*◌, ◌^◌, ◌<◌, List, ◌++◌, length, take, drop, arith, w32, from_le_bytes, flat_map, range_with_len, from_le_bytes-to_le_bytes_4, length-append, take_at, drop_at, drop-drop, word, slot_bytes, kind_of, number_of, SlotRecord, Occupancy, Alive, AliveWithRow, Pending, Retired, ◌≤◌, common_steps, drop-append-le, take-append-le, length-drop, word_at, ◌≢◌, sym, ◌∙◌, ◌/◌, get_or, first_chunks, take-append-drop, length-take-le, div-mul-add, Limits, IsWritten}
-
-pub length-word : (n : ℕ) → length (word n) ≡ 4
-unfolding word
-length-word n = refl
-
-pub from_word : (n : ℕ) → n < 2 ^ 32 → from_le_bytes w32 (word n) ≡ n
-unfolding word
-from_word n h = from_le_bytes-to_le_bytes_4 n h
+use Rattle.ent_alloc.proofs.Common.{rules, ◌≡◌, refl, ap, ℕ, zero, suc, ◌+◌, ◌*◌, ◌^◌, ◌<◌, List, ◌++◌, length, take, drop, arith, flat_map, range_with_len, length-append, take_at, drop_at, drop-drop, word, slot_bytes, kind_of, number_of, SlotRecord, Occupancy, Alive, AliveWithRow, Pending, Retired, ◌≤◌, common_steps, drop-append-le, take-append-le, length-drop, word_at, ◌≢◌, sym, ◌∙◌, ◌/◌, get_or, first_chunks, take-append-drop, length-take-le, div-mul-add, Limits, IsWritten}
+use Rattle.ent_handle.proofs.Spelled.{from_word, same_parts, same_words}
 
 -- numbers that are spelled alike are one
-pub same_word : (m n : ℕ) → m < 2 ^ 32 → n < 2 ^ 32 → word m ≡ word n → m ≡ n
+same_word : (m n : ℕ) → m < 2 ^ 32 → n < 2 ^ 32 → word m ≡ word n → m ≡ n
 same_word m n hm hn same = rw (← from_word m hm, same) (from_word n hn)
-
--- parts of as many bytes
-pub same_parts : (n : ℕ) (xs ys us vs : List ℕ) → length xs ≡ n → length us ≡ n → xs ++ ys ≡ us ++ vs
-    → (xs ≡ us) × (ys ≡ vs)
-same_parts n xs ys us vs long_x long_u same = search
-    (rules, take_at xs ys n, take_at us vs n, drop_at xs ys n, drop_at us vs n)
-
--- so a word and what follows it
-pub same_words : (m n : ℕ) (xs ys : List ℕ) → m < 2 ^ 32 → n < 2 ^ 32 → word m ++ xs ≡ word n ++ ys
-    → (m ≡ n) × (xs ≡ ys)
-same_words m n xs ys hm hn same =
-    let parts = same_parts 4 (word m) xs (word n) ys (length-word m) (length-word n) same in search (rules, same_word)
 
 pub length-slot_bytes : (s : SlotRecord) → length (slot_bytes s) ≡ 12
 unfolding slot_bytes word

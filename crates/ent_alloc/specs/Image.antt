@@ -3,9 +3,9 @@
 use Rattle.std.specs.Prelude.{◌≡◌, ℕ, ◌+◌, ◌*◌, ◌^◌, ◌<◌, ◌≤◌, ◌==◌, if◌then◌else◌, Option}
 use Rattle.std.specs.Prelude.{None, Some, List, [], ◌∷◌, ◌++◌, length, reverse, filter, IsTrue}
 use Rattle.std.specs.List.{All, AllPairs, flat_map, range_with_len}
-use Rattle.std.specs.Int.{w32, w64, to_le_bytes}
 use Rattle.std.specs.FinSet as set
 use Rattle.std.specs.FinMap as map
+use Rattle.ent_handle.specs.Bytes.{word, long}
 use Rattle.ent_handle.specs.Handle.{Handle}
 use Rattle.ent_alloc.specs.Limits.{AreLimits}
 use Rattle.ent_alloc.specs.Roster.{Roster}
@@ -17,16 +17,6 @@ use Rattle.ent_alloc.specs.declared.slot_record.SlotRecord.{SlotRecord}
 use Rattle.ent_alloc.specs.declared.slot_record.Occupancy.{Occupancy}
 use Rattle.ent_alloc.specs.declared.slot_record.Occupancy.TheVariants.{Alive, AliveWithRow, Pending}
 use Rattle.ent_alloc.specs.declared.slot_record.Occupancy.TheVariants.{Retired}
-
--- ---- words
-
--- a number below 2^32 in four bytes, the lowest first
-unfoldable pub word : ℕ → List ℕ
-word n = to_le_bytes w32 n
-
--- a number below 2^64 in eight
-unfoldable pub long : ℕ → List ℕ
-long n = to_le_bytes w64 n
 
 -- ---- slots
 

@@ -7,7 +7,7 @@ ghost use Rattle.ent_alloc.specs.Entities.{Entities, without_rows};
 ghost use Rattle.ent_alloc.specs.Runs.{Step, IsRun, after_run, given_in_run};
 ghost use Rattle.ent_alloc.specs.Spent.{AreSpent};
 ghost use Rattle.ent_alloc.specs.Within.{slots_after_flush, within, allowed, IsBeyond};
-ghost use Rattle.ent_alloc.specs.Image.{long, header, numbers_bytes, header_bytes, image, HasImage};
+ghost use Rattle.ent_alloc.specs.Image.{header, numbers_bytes, header_bytes, image, HasImage};
 ghost use Rattle.ent_alloc.specs.Image.{kept_bytes};
 ghost use Rattle.ent_alloc.specs.ImageRecords.{AreNumbers, AreServed};
 ghost use Rattle.ent_alloc.specs.FirstFault.{first_failing, front_tests, first_fault, header_fault};
@@ -16,11 +16,11 @@ ghost use Rattle.ent_alloc.specs.declared.image.Header.{Header};
 use crate::asking::MOST;
 use crate::entities::Entities;
 use crate::image_fault::ImageFault;
-use crate::image_slots::{SLOT, read_long, read_word, write_word};
+use crate::image_slots::SLOT;
 use crate::limits::Limits;
 use crate::requests::Requests;
 use crate::slots::Slots;
-use ent_handle::Memory;
+use ent_handle::{Memory, read_long, read_word, write_long, write_word};
 use std::alloc::Global;
 
 /// The letters `FORGENI` and a zero, the first one lowest.
@@ -41,17 +41,6 @@ pub(crate) struct Header {
     waiting: u32,
     reserved: u32,
     asked: u64,
-}
-
-/// Appends a number in eight bytes. There is room for them.
-#[tactic(auto, unfolding(crate::specs::Image::long))]
-fn write_long(out: &mut Vec<u8>, number: u64)
-    requires { vec_len out.old + 8 ≤ vec_capacity out.old }
-    ensures items { out.new.items ≡ out.old.items ++ long number }
-    ensures len { vec_len out.new ≡ vec_len out.old + 8 }
-    ensures capacity { vec_capacity out.old ≤ vec_capacity out.new }
-{
-    let _ = out.extend_from_slice(&number.to_le_bytes());
 }
 
 /// Appends what stands before the slots. There is room for it.

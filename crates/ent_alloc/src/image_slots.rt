@@ -6,7 +6,7 @@ ghost use Rattle.ent_alloc.specs.Slots.{is_alive, record_at};
 ghost use Rattle.ent_alloc.specs.Limits.{AreLimits};
 ghost use Rattle.ent_alloc.specs.Roster.{Roster};
 ghost use Rattle.std.specs.List.{flat_map};
-ghost use Rattle.ent_alloc.specs.Image.{word, long, kind_of, number_of, slot_bytes, slots_bytes, AreSlots};
+ghost use Rattle.ent_alloc.specs.Image.{kind_of, number_of, slot_bytes, slots_bytes, AreSlots};
 ghost use Rattle.ent_alloc.specs.ImageRecords.{kept, record_bytes, IsGeneration, IsWritten, CanWait};
 ghost use Rattle.ent_alloc.specs.ImageRecords.{with_waiting, vacant, AreRead};
 ghost use Rattle.ent_alloc.specs.ImageRecords.{without_row, rowless_bytes};
@@ -17,6 +17,7 @@ use crate::image_fault::ImageFault;
 use crate::limits::Limits;
 use crate::packed_slot::PackedSlot;
 use crate::slot_record::{Occupancy, SlotRecord};
+use ent_handle::{read_long, read_word, write_word};
 use std::alloc::{AllocError, Global};
 
 /// How many bytes a slot has.
@@ -27,51 +28,6 @@ pub(crate) const VACANT: u32 = u32::MAX;
 
 /// The kind and the number of a living occupant without a row: 1 and 0, in eight bytes.
 const LIVING: u64 = 1;
-
-/// Appends a number in four bytes. There is room for them.
-#[tactic(auto, unfolding(crate::specs::Image::word))]
-pub(crate) fn write_word(out: &mut Vec<u8>, number: u32)
-    requires { vec_len out.old + 4 ≤ vec_capacity out.old }
-    ensures items { out.new.items ≡ out.old.items ++ word number }
-    ensures len { vec_len out.new ≡ vec_len out.old + 4 }
-    ensures capacity { vec_capacity out.old ≤ vec_capacity out.new }
-{
-    let _ = out.extend_from_slice(&number.to_le_bytes());
-}
-
-/// The number in four bytes.
-fn number_in(bytes: [u8; 4]) -> u32
-    ensures { bytes ≡ word result }
-{
-    u32::from_le_bytes(bytes)
-}
-
-/// The number in the first four bytes, and the bytes after them.
-pub(crate) fn read_word(bytes: &[u8]) -> (u32, &[u8])
-    requires { 4 ≤ length bytes.now }
-    ensures bytes { bytes.now ≡ word result.0 ++ result.1.now }
-    ensures len { length bytes.now ≡ 4 + length result.1.now }
-{
-    let (first, rest) = bytes.split_first_chunk().unwrap();
-    (number_in(*first), rest)
-}
-
-/// The number in eight bytes.
-fn long_in(bytes: [u8; 8]) -> u64
-    ensures { bytes ≡ long result }
-{
-    u64::from_le_bytes(bytes)
-}
-
-/// The number in the first eight bytes, and the bytes after them.
-pub(crate) fn read_long(bytes: &[u8]) -> (u64, &[u8])
-    requires { 8 ≤ length bytes.now }
-    ensures bytes { bytes.now ≡ long result.0 ++ result.1.now }
-    ensures len { length bytes.now ≡ 8 + length result.1.now }
-{
-    let (first, rest) = bytes.split_first_chunk().unwrap();
-    (long_in(*first), rest)
-}
 
 /// The three words of a slot.
 fn words_of(slot: SlotRecord) -> (u32, u32, u32)

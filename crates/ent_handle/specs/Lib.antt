@@ -1,6 +1,7 @@
 pub mod Ties
 pub mod Handle
 pub mod Birth
+pub mod Bytes
 pub mod Component
 pub mod Text
 pub mod NonZero

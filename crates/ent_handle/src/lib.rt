@@ -1,7 +1,9 @@
-//! Handles of entities and their text, and the small types that all crates above share.
+//! Handles of entities and their text, numbers as bytes, and the small types that all crates above
+//! share.
 #![tactic(auto)]
 
 mod birth;
+mod bytes;
 mod component;
 mod decimal;
 mod handed_back;
@@ -10,6 +12,7 @@ mod memory;
 mod text;
 
 pub use birth::Birth;
+pub use bytes::{read_long, read_word, write_long, write_word};
 pub use component::ComponentId;
 pub use decimal::read_decimal;
 pub use handed_back::HandedBack;

@@ -7,7 +7,7 @@ pub use Rattle.std.proofs.lemmas.Bool.Decides.{nat_tests}
 pub use Rattle.std.proofs.lemmas.Fn.{filter_same}
 pub use Rattle.std.proofs.lemmas.Grind.{common_steps}
 pub use Rattle.std.proofs.lemmas.Int.{to_z-of_z}
-pub use Rattle.std.proofs.lemmas.List.{append-nil, append_assoc, at_drop_more, drop-set-lt, drop_all, drop_at, drop_more, flat_map_more, get_or-map, get_or-set_other, get_or-set_same, get_or-take, get_or_append_left, get_or_default, get_or_past, get_or_push, length-append, length-map, length-replicate, length-set, length-take, length-take-le, length_push, map-set, map_more, map_push, nil_from_length, same_lists, take-append-drop, take_all, take_at, take_more, take_more_set}
+pub use Rattle.std.proofs.lemmas.List.{append-nil, append_assoc, at_drop_more, drop-set-lt, drop_all, drop_more, flat_map_more, get_or-map, get_or-set_other, get_or-set_same, get_or-take, get_or_append_left, get_or_default, get_or_past, get_or_push, length-append, length-map, length-replicate, length-set, length-take, length-take-le, length_push, map-set, map_more, map_push, nil_from_length, same_lists, take-append-drop, take_all, take_more, take_more_set}
 pub use Rattle.std.proofs.lemmas.List.Concat.{flat_map-append}
 pub use Rattle.std.proofs.lemmas.List.Edits.{get_or-insert_above, get_or-insert_at, get_or-insert_below, insert_end, length-insert}
 pub use Rattle.std.proofs.lemmas.List.Elements.{All-cons, All-contains, All-filter, All-head, All-map, All-nil, All-tail, Contains-append_left, Contains-append_right, Contains-push, Contains-push_cases, all_zip_more, filter_passes, length_all_zip}
@@ -18,14 +18,13 @@ pub use Rattle.std.proofs.lemmas.Map.Keys.{IsDistinct-IsPermutation, IsDistinct-
 pub use Rattle.std.proofs.lemmas.Map.Made.{Contains-tail}
 pub use Rattle.std.proofs.lemmas.Map.Steps.{length-le_from_distinct_below}
 pub use Rattle.std.proofs.lemmas.Map.Views.{Contains-from_any}
-pub use Rattle.std.proofs.lemmas.Nat.{from_le_bytes-to_le_bytes_4, from_le_bytes-to_le_bytes_8, le_bytes_4, le_bytes_8}
 pub use Rattle.std.proofs.lemmas.Option.{IfSome_then, get_or_from_slice_get, none-some, option_and_then_some, same_Some, slice_get-get_or, slice_get-map, slice_get_cases, slice_get_past, slice_get_read, slice_get_within, some_pair_parts}
 pub use Rattle.std.proofs.lemmas.Result.{IfOk-weaker, on_err_weaker, on_ok_weaker}
 pub use Rattle.std.specs.Cmp.{IsTotalOrder, eq_by_cmp_equiv, nat_cmp_total, on_total, then_total, tied_itself}
 pub use Rattle.std.specs.Cmp.Lexicographic.{options_total}
 pub use Rattle.std.specs.FinMap.{FinMap, IsAntisymmetric, contains_key as fin_contains_key, empty as fin_empty, empty_of_len as fin_empty_of_len, entries as fin_entries, entries-from_sorted as fin_entries-from_sorted, entries-insert as fin_entries-insert, find, from_entries as fin_from_entries, from_entries_push as fin_from_entries_push, from_sorted as fin_from_sorted, get as fin_get, get-empty as fin_get-empty, get-from_entries as fin_get-from_entries, get-from_sorted as fin_get-from_sorted, get-insert as fin_get-insert, get-remove as fin_get-remove, get-retain_keys as fin_get-retain_keys, insert as fin_insert, is_sorted, keys as fin_keys, len as fin_len, len-empty as fin_len-empty, len-entries as fin_len-entries, len-insert as fin_len-insert, nat_cmp-IsAntisymmetric, put, remove as fin_remove, same_entries_map as fin_same_entries_map, same_map as fin_same_map, values as fin_values}
 pub use Rattle.std.specs.FinMap.Entries.{below_all, by_order, find-put, is_sorted-put, length-put, same_entries as fin_same_entries}
-pub use Rattle.std.specs.Int.{cast_signed, cast_unsigned, from_le_bytes, w32, w64}
+pub use Rattle.std.specs.Int.{cast_signed, cast_unsigned, w64}
 pub use Rattle.std.specs.Int.RustNames.{FitsSigned}
 pub use Rattle.std.specs.List.{All, AllPairs, AllWithin, AllZip, HoldsAt, IsDistinct, count_by, flat_map, insert, list_any, range_with_len, refill}
 pub use Rattle.std.specs.List.Sorted.{IsBinarySearchResult, IsSearchInRange}
@@ -53,7 +52,8 @@ pub use Rattle.ent_storage.specs.Entry.{IsFilled, entry_value, with_value as wit
 pub use Rattle.ent_storage.specs.FirstFault.{AreFirst, HasFault, IsNoEntity}
 pub use Rattle.ent_storage.specs.HandleMap.{HandleMap, HandleValues, HasLater, error_of, same_handle, some_written, with_written, without_slot}
 pub use Rattle.ent_storage.specs.Image.{AreStored, IsBirth, IsStored, birth_bytes, component, entities_bytes, is_held, value_bytes, values_bytes, width_below}
-unfoldable pub use Rattle.ent_storage.specs.Image.{entity_bytes, long, width, word}
+unfoldable pub use Rattle.ent_handle.specs.Bytes.{long, word}
+unfoldable pub use Rattle.ent_storage.specs.Image.{entity_bytes, width}
 pub use Rattle.ent_storage.specs.Indexed.{HasAll, IsFree, IsIndexed, IsKeptIndex, Keeps, counted, entity_of, handles_by_place, has_handle_at, map_of}
 pub use Rattle.ent_storage.specs.Living.{AreColumnsOf, AreInUse, IsMovedInto, IsValueAt, Living, LivingEntity, born_at, change_at, column_at, components_at, entities_from, items_from, items_of, value_at, with_birth_at, with_value}
 pub use Rattle.ent_storage.specs.Places.{AreWithout, Places}

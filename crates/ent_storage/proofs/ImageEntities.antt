@@ -1,7 +1,7 @@
 -- Entities, one by one: what is written of them tells them.
 use Rattle.ent_storage.proofs.Common.{same_Some, Contains-append_right, common_steps, rules, ◌≡◌, ◌≢◌, refl, sym, ap, ◌∙◌, ℕ, zero, suc, ℤ, ◌+◌, ◌*◌, ◌<◌, ◌≤◌, Bool, false, List, [], ◌∷◌, ◌++◌, length, arith, Option, None, Some, is_some, Contains, ◌⊎◌, flat_map, list_any, cases_eq, cases_lt, false≢true, append_assoc, length-append, Birth, ComponentId, component_cmp_total, component_cmp-IsAntisymmetric, Handle, handle_cmp_total, handle_cmp-IsAntisymmetric, Entity, EntityMap, birth_of, value_of, birth_bytes, values_bytes, component, entity_bytes, entities_bytes, is_held, width_below, width, IsBirth, IsStored, AreStored, fin_get, fin_same_map}
 use Rattle.ent_storage.proofs.Keys.{none_from}
-use Rattle.ent_storage.proofs.ImageBytes.{length-word, length-long, same_words, same_longs}
+use Rattle.ent_handle.proofs.Spelled.{length-word, length-long, same_words, same_longs}
 use Rattle.ent_storage.proofs.ImageValues.{AllFit, same_values}
 
 -- ---- births

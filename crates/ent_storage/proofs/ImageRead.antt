@@ -1,7 +1,7 @@
 -- Entities that are read one by one, and where bytes are those of no entities.
 use Rattle.ent_storage.proofs.Common.{rules, ◌≡◌, ◌≢◌, sym, ap, ◌∙◌, subst, ℕ, ◌+◌, ◌^◌, ◌<◌, ◌≤◌, List, [], ◌∷◌, ◌++◌, length, take, drop, get_or, Contains, IsTrue, None, arith, inl, inr, is_some, common_steps, flat_map, append_assoc, append-nil, length-append, flat_map_more, take_all, take-append-drop, drop_more, take_more, length-take, get_or-take, flat_map-append, Contains-append_left, Contains-push, Contains-push_cases, ComponentId, Handle, handle_cmp_total, handle_cmp-IsAntisymmetric, EntityMap, value_of, word, entity_bytes, entities_bytes, width, IsStored, AreStored, AreFirst, fin_contains_key, fin_get, AllPairs}
 use Rattle.ent_storage.proofs.Keys.{none_from, same_or_apart}
-use Rattle.ent_storage.proofs.ImageBytes.{length-word, same_words}
+use Rattle.ent_handle.proofs.Spelled.{length-word, same_words}
 use Rattle.ent_storage.proofs.ImageEntities.{IsAlike, all_alike, same_listed, same_all, never_stored, value_beyond, width_few, stored_alike}
 
 -- ---- what the bytes begin with

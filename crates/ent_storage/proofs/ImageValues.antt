@@ -1,6 +1,6 @@
 -- The values of an entity, one by one: what is written tells them.
 use Rattle.ent_storage.proofs.Common.{rules, ◌≡◌, ◌≢◌, refl, sym, ap, ◌∙◌, ℕ, zero, suc, ℤ, ◌+◌, ◌<◌, ◌≤◌, List, ◌++◌, Option, None, Some, add-one, arith, w64, FitsSigned, flat_map, range_with_len, Fits-lt-pow, Fits-of_z, cases_eq, append_assoc, append-nil, ComponentId, value_bytes, values_bytes, component, to_z-of_z}
-use Rattle.ent_storage.proofs.ImageBytes.{same_longs}
+use Rattle.ent_handle.proofs.Spelled.{same_longs}
 
 -- ---- pieces, one for each number
 

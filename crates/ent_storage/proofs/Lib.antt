@@ -24,7 +24,6 @@ pub mod Clones
 pub mod Copied
 pub mod Found
 pub mod Kept
-pub mod ImageBytes
 pub mod ImageEntities
 pub mod ImageGiven
 pub mod ImageWidth

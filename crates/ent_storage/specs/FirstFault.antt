@@ -5,7 +5,8 @@ use Rattle.std.specs.List.{flat_map, HoldsAt}
 use Rattle.ent_handle.specs.declared.component.ComponentId.{ComponentId}
 use Rattle.ent_handle.specs.Handle.{Handle}
 use Rattle.ent_storage.specs.EntityMap.{EntityMap, value_of}
-use Rattle.ent_storage.specs.Image.{word, entity_bytes, width, IsStored}
+use Rattle.ent_handle.specs.Bytes.{word}
+use Rattle.ent_storage.specs.Image.{entity_bytes, width, IsStored}
 use Rattle.ent_storage.specs.declared.image_fault.StorageImageFault.{StorageImageFault}
 use Rattle.ent_storage.specs.declared.image_fault.StorageImageFault.TheVariants.{Length, Width, Entity}
 use Rattle.ent_storage.specs.declared.image_fault.StorageImageFault.TheVariants.{Memory}

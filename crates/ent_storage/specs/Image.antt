@@ -3,24 +3,15 @@ use Rattle.std.specs.Prelude.{◌≡◌, ℕ, zero, suc, ℤ, ◌^◌, ◌<◌, 
 use Rattle.std.specs.Prelude.{if◌then◌else◌, Option, None, Some, IsSomeAnd, is_some, Contains, ◌↔◌}
 use Rattle.std.specs.Prelude.{IsTrue}
 use Rattle.std.specs.List.{flat_map, range_with_len, list_any}
-use Rattle.std.specs.Int.{w32, w64, to_le_bytes, cast_unsigned}
+use Rattle.std.specs.Int.{w64, cast_unsigned}
 use Rattle.std.specs.Int.RustNames.{FitsSigned}
 use Rattle.std.specs.Option.{option_map_or}
 use Rattle.std.specs.FinMap as map
 use Rattle.ent_handle.specs.declared.birth.Birth.{Birth}
 use Rattle.ent_handle.specs.declared.component.ComponentId.{ComponentId}
+use Rattle.ent_handle.specs.Bytes.{word, long}
 use Rattle.ent_handle.specs.Handle.{Handle}
 use Rattle.ent_storage.specs.EntityMap.{EntityMap, birth_of, value_of}
-
--- ---- numbers
-
--- a number below 2^32 in four bytes, the lowest first
-unfoldable pub word : ℕ → List ℕ
-word n = to_le_bytes w32 n
-
--- a number below 2^64 in eight
-unfoldable pub long : ℕ → List ℕ
-long n = to_le_bytes w64 n
 
 -- ---- an entity
 

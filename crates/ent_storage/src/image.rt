@@ -10,71 +10,17 @@ ghost use Rattle.ent_handle.specs.declared.component.ComponentId.{ComponentId as
 ghost use Rattle.ent_handle.specs.Handle.{Handle as HandleValue};
 ghost use Rattle.ent_storage.specs.EntityMap.{EntityMap, birth_of, value_of, with_components};
 ghost use Rattle.ent_storage.specs.Components.{with_items};
-ghost use Rattle.ent_storage.specs.Image.{word, long, birth_bytes, value_bytes, values_bytes};
+ghost use Rattle.ent_storage.specs.Image.{birth_bytes, value_bytes, values_bytes};
 ghost use Rattle.ent_storage.specs.Image.{entity_bytes, entities_bytes, is_held, width, IsBirth};
 ghost use Rattle.ent_storage.specs.Image.{IsStored, AreStored};
 ghost use Rattle.ent_storage.specs.FirstFault.{HasWidth, HasFault};
 
 use crate::image_fault::StorageImageFault;
 use crate::storage::Storage;
-use ent_handle::{Birth, ComponentId, Handle, Memory};
+use ent_handle::{
+    Birth, ComponentId, Handle, Memory, read_long, read_word, write_long, write_word,
+};
 use std::alloc::Global;
-
-/// Appends a number in four bytes. There is room for them.
-#[tactic(auto, unfolding(crate::specs::Image::word))]
-pub fn write_word(out: &mut Vec<u8>, number: u32)
-    requires { vec_len out.old + 4 ≤ vec_capacity out.old }
-    ensures items { out.new.items ≡ out.old.items ++ word number }
-    ensures len { vec_len out.new ≡ vec_len out.old + 4 }
-    ensures capacity { vec_capacity out.old ≤ vec_capacity out.new }
-{
-    let _ = out.extend_from_slice(&number.to_le_bytes());
-}
-
-/// Appends a number in eight bytes. There is room for them.
-#[tactic(auto, unfolding(crate::specs::Image::long))]
-pub fn write_long(out: &mut Vec<u8>, number: u64)
-    requires { vec_len out.old + 8 ≤ vec_capacity out.old }
-    ensures items { out.new.items ≡ out.old.items ++ long number }
-    ensures len { vec_len out.new ≡ vec_len out.old + 8 }
-    ensures capacity { vec_capacity out.old ≤ vec_capacity out.new }
-{
-    let _ = out.extend_from_slice(&number.to_le_bytes());
-}
-
-/// The number in four bytes.
-fn word_in(bytes: [u8; 4]) -> u32
-    ensures { bytes ≡ word result }
-{
-    u32::from_le_bytes(bytes)
-}
-
-/// The number in eight bytes.
-fn long_in(bytes: [u8; 8]) -> u64
-    ensures { bytes ≡ long result }
-{
-    u64::from_le_bytes(bytes)
-}
-
-/// The number in the first four bytes, and the bytes after them.
-pub fn read_word(bytes: &[u8]) -> (u32, &[u8])
-    requires { 4 ≤ length bytes.now }
-    ensures bytes { bytes.now ≡ word result.0 ++ result.1.now }
-    ensures len { length bytes.now ≡ 4 + length result.1.now }
-{
-    let (first, rest) = bytes.split_first_chunk().unwrap();
-    (word_in(*first), rest)
-}
-
-/// The number in the first eight bytes, and the bytes after them.
-pub fn read_long(bytes: &[u8]) -> (u64, &[u8])
-    requires { 8 ≤ length bytes.now }
-    ensures bytes { bytes.now ≡ long result.0 ++ result.1.now }
-    ensures len { length bytes.now ≡ 8 + length result.1.now }
-{
-    let (first, rest) = bytes.split_first_chunk().unwrap();
-    (long_in(*first), rest)
-}
 
 /// Appends a birth. There is room for its 16 bytes.
 fn write_birth(out: &mut Vec<u8>, birth: Birth)

@@ -34,7 +34,6 @@ mod storage;
 
 pub use bundle::Bundle;
 pub use fault::StorageFault;
-pub use image::{read_long, read_word, write_long, write_word};
 pub use image_fault::StorageImageFault;
 pub use items::Items;
 pub use pairs::search;

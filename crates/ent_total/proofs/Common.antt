@@ -16,8 +16,8 @@ pub use Rattle.ent_shared.proofs.Returned.{given_more, given_no_more}
 pub use Rattle.ent_shared.specs.Order.{handles_given, history_of, own_of_all}
 pub use Rattle.ent_shared.specs.Phase.{IsOf, Reserver, Shared, records_of}
 pub use Rattle.ent_shared.specs.Replies.{IsReturned}
-pub use Rattle.ent_storage.proofs.ImageBytes.{length-word, same_parts, same_words}
-pub use Rattle.ent_storage.specs.Image.{word}
+pub use Rattle.ent_handle.proofs.Spelled.{length-word, same_parts, same_words}
+pub use Rattle.ent_handle.specs.Bytes.{word}
 pub use Rattle.ent_world.proofs.ImageRead.{bounded as world_bounded, read_is, refused_is}
 pub use Rattle.ent_world.specs.FirstFault.{HasFault, MayTakeMemory}
 pub use Rattle.ent_world.specs.Image.{HasImage, image as world_image, least, magic}

@@ -2,7 +2,7 @@
 -- the last flush.
 use Rattle.std.specs.Prelude.{◌≡◌, ℕ, ◌-◌, ◌<◌, List, ◌++◌, length, take}
 use Rattle.ent_alloc.specs.Within.{slots_after_flush}
-use Rattle.ent_storage.specs.Image.{word}
+use Rattle.ent_handle.specs.Bytes.{word}
 use Rattle.ent_world.specs.World.{World}
 use Rattle.ent_world.specs.Image.{image as world_image, HasImage}
 use Rattle.ent_world.specs.declared.image_fault.WorldImageFault.{WorldImageFault}

@@ -1,7 +1,7 @@
 //! Worlds as bytes, and back.
 ghost use Rattle.std.specs.Prelude.{◌≡◌, ◌≢◌, ◌+◌, ◌^◌, ◌<◌, ◌≤◌, ◌++◌, ◌⊎◌, ℕ, length, Ok, Err};
 ghost use Rattle.std.specs.Prelude.{List, IfOk, IfErr, OnOk, OnErr, vec_len, vec_capacity};
-ghost use Rattle.ent_storage.specs.Image.{word};
+ghost use Rattle.ent_handle.specs.Bytes.{word};
 ghost use Rattle.ent_world.specs.World.{World as WorldValue};
 ghost use Rattle.ent_handle.specs.Handle.{Handle};
 ghost use Rattle.ent_alloc.specs.Runs.{Step, IsRun, after_run, given_in_run};
@@ -13,8 +13,7 @@ ghost use Rattle.ent_world.specs.Within.{within, allowed};
 ghost use Rattle.ent_total.specs.Image.{image, before_count, IsBeyond};
 
 use crate::world::World;
-use ent_handle::Memory;
-use ent_storage::{read_word, write_word};
+use ent_handle::{Memory, read_word, write_word};
 use ent_world::WorldImageFault;
 use std::alloc::Global;
 

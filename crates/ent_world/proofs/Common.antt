@@ -52,7 +52,7 @@ pub use Rattle.ent_queue.specs.Command.{Command, Despawn, Insert, Refused, Remov
 pub use Rattle.ent_shared.specs.Order.{history_of}
 pub use Rattle.ent_shared.specs.Phase.{records_of}
 pub use Rattle.ent_storage.proofs.ElementsAt.{at_push_before, at_push_end, at_pushed}
-pub use Rattle.ent_storage.proofs.ImageBytes.{length-long, length-word, same_longs, same_parts, same_words}
+pub use Rattle.ent_handle.proofs.Spelled.{length-long, length-word, same_longs, same_parts, same_words}
 pub use Rattle.ent_storage.proofs.ImageEntities.{entities_least, never_stored}
 pub use Rattle.ent_storage.proofs.Indexed.{same_number}
 pub use Rattle.ent_storage.proofs.Keys.{get-insert_other, get-insert_same, get-remove_other, get-remove_same, same_or_apart}
@@ -61,8 +61,10 @@ pub use Rattle.ent_storage.specs.BirthOrder.{ListsByBirth, birth_order}
 pub use Rattle.ent_storage.specs.Bundle.{Bundle, with_put}
 pub use Rattle.ent_storage.specs.Components.{Components, missing, with_items}
 pub use Rattle.ent_storage.specs.EntityMap.{AreBare, Entity, EntityMap, birth_of, components_of, newborn, value_of, with_birth, with_components}
-pub use Rattle.ent_storage.specs.Image.{AreStored, IsBirth, component, entities_bytes, entity_bytes, width_below, word}
-unfoldable pub use Rattle.ent_storage.specs.Image.{long, width}
+pub use Rattle.ent_storage.specs.Image.{AreStored, IsBirth, component, entities_bytes, entity_bytes, width_below}
+pub use Rattle.ent_handle.specs.Bytes.{word}
+unfoldable pub use Rattle.ent_handle.specs.Bytes.{long}
+unfoldable pub use Rattle.ent_storage.specs.Image.{width}
 pub use Rattle.ent_storage.specs.Places.{AreWithout}
 pub use Rattle.ent_world.specs.BirthsAlone.{AppliedAlone, BirthCommand, BirthMap, after_birth_command, after_birth_commands, after_birth_queues, births_in, births_of, despawned, entered_alone, frame_alone, held_by, inserted, on_birth, on_each_birth, removed}
 pub use Rattle.ent_world.specs.Effects.{Applied, after_command, after_commands, after_despawn, after_insert, after_queues, after_remove, after_spawn, applied, on_each, on_entity, spawned, with_fault}

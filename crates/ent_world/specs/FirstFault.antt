@@ -9,7 +9,7 @@ use Rattle.ent_alloc.specs.Entities.{Entities as Allocator}
 use Rattle.ent_alloc.specs.Image.{image as allocator_image, HasImage as HasAllocatorImage}
 use Rattle.ent_alloc.specs.FirstFault.{first_fault, header_fault}
 use Rattle.ent_alloc.specs.declared.image_fault.ImageFault.{ImageFault}
-use Rattle.ent_storage.specs.Image.{word}
+use Rattle.ent_handle.specs.Bytes.{word}
 use Rattle.ent_storage.specs.FirstFault.{HasFault as HasStorageFault}
 use Rattle.ent_storage.specs.declared.image_fault.StorageImageFault.{StorageImageFault}
 use Rattle.ent_world.specs.Rows.{Rows}

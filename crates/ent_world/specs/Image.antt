@@ -6,7 +6,8 @@ use Rattle.std.specs.FinSet as set
 use Rattle.ent_handle.specs.Handle.{Handle}
 use Rattle.ent_alloc.specs.Entities.{Entities}
 use Rattle.ent_alloc.specs.Image.{image as allocator_image}
-use Rattle.ent_storage.specs.Image.{word, long, entities_bytes, AreStored}
+use Rattle.ent_handle.specs.Bytes.{word, long}
+use Rattle.ent_storage.specs.Image.{entities_bytes, AreStored}
 use Rattle.ent_world.specs.World.{World, IsWorld}
 
 -- its allocator, without rows

@@ -27,8 +27,8 @@ use crate::image_fault::WorldImageFault;
 use crate::rows::{place_of, set_rows};
 use crate::world::World;
 use ent_alloc::{Entities, ImageFault, Living};
-use ent_handle::{Handle, Memory};
-use ent_storage::{Storage, StorageImageFault, read_long, read_word, write_long, write_word};
+use ent_handle::{Handle, Memory, read_long, read_word, write_long, write_word};
+use ent_storage::{Storage, StorageImageFault};
 use std::alloc::Global;
 
 /// The letters `FORGENW` and a zero, the first one lowest.

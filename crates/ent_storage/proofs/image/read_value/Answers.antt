@@ -1,5 +1,5 @@
 use Rattle.ent_storage.proofs.Common.{rules, ◌≡◌, ◌≢◌, ◌<◌, ◌++◌, ℕ, ℤ, List, Option, None, Some, ◌∷◌, length, ap, ◌∙◌, arith, get_or, w64, cast_unsigned, length-append, value_bytes}
-use Rattle.ent_storage.proofs.ImageBytes.{length-long}
+use Rattle.ent_handle.proofs.Spelled.{length-long}
 use Rattle.ent_storage.proofs.image.read_value.Goals as goal
 
 -- a value begins with a 0 or a 1, and nine bytes have one

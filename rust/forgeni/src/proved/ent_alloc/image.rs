@@ -7,11 +7,11 @@ use crate::kit::vec::FallibleVec;
 use crate::proved::ent_alloc::asking::MOST;
 use crate::proved::ent_alloc::entities::Entities;
 use crate::proved::ent_alloc::image_fault::ImageFault;
-use crate::proved::ent_alloc::image_slots::{SLOT, read_long, read_word, write_word};
+use crate::proved::ent_alloc::image_slots::SLOT;
 use crate::proved::ent_alloc::limits::Limits;
 use crate::proved::ent_alloc::requests::Requests;
 use crate::proved::ent_alloc::slots::Slots;
-use crate::proved::ent_handle::Memory;
+use crate::proved::ent_handle::{Memory, read_long, read_word, write_long, write_word};
 
 /// The letters `FORGENI` and a zero, the first one lowest.
 const MAGIC: u64 = 0x0049_4e45_4752_4f46;
@@ -31,17 +31,6 @@ pub(super) struct Header {
     waiting: u32,
     reserved: u32,
     asked: u64,
-}
-
-/// Appends a number in eight bytes. There is room for them.
-#[inline]
-fn write_long(out: &mut Vec<u8>, number: u64)
-    // requires { vec_len out.old + 8 ≤ vec_capacity out.old }
-    // ensures items { out.new.items ≡ out.old.items ++ long number }
-    // ensures len { vec_len out.new ≡ vec_len out.old + 8 }
-    // ensures capacity { vec_capacity out.old ≤ vec_capacity out.new }
-{
-    let _ = out.extend_from_slice_fallibly(&number.to_le_bytes());
 }
 
 /// Appends what stands before the slots. There is room for it.

@@ -3,6 +3,7 @@
 //! Handles of entities and their text, and the small types that all crates above share.
 
 mod birth;
+mod bytes;
 mod component;
 mod decimal;
 mod handed_back;
@@ -11,6 +12,7 @@ mod memory;
 mod text;
 
 pub use birth::Birth;
+pub(crate) use bytes::{read_long, read_word, write_long, write_word};
 pub use component::ComponentId;
 pub use decimal::read_decimal;
 pub use handed_back::HandedBack;

@@ -8,66 +8,7 @@ use crate::kit::vec::FallibleVec;
 use crate::proved::ent_storage::image_fault::StorageImageFault;
 use crate::proved::ent_storage::storage::Storage;
 use crate::proved::ent_handle::{Birth, ComponentId, Handle, Memory};
-
-/// Appends a number in four bytes. There is room for them.
-#[inline]
-pub(crate) fn write_word(out: &mut Vec<u8>, number: u32)
-    // requires { vec_len out.old + 4 ≤ vec_capacity out.old }
-    // ensures items { out.new.items ≡ out.old.items ++ word number }
-    // ensures len { vec_len out.new ≡ vec_len out.old + 4 }
-    // ensures capacity { vec_capacity out.old ≤ vec_capacity out.new }
-{
-    let _ = out.extend_from_slice_fallibly(&number.to_le_bytes());
-}
-
-/// Appends a number in eight bytes. There is room for them.
-#[inline]
-pub(crate) fn write_long(out: &mut Vec<u8>, number: u64)
-    // requires { vec_len out.old + 8 ≤ vec_capacity out.old }
-    // ensures items { out.new.items ≡ out.old.items ++ long number }
-    // ensures len { vec_len out.new ≡ vec_len out.old + 8 }
-    // ensures capacity { vec_capacity out.old ≤ vec_capacity out.new }
-{
-    let _ = out.extend_from_slice_fallibly(&number.to_le_bytes());
-}
-
-/// The number in four bytes.
-#[inline]
-fn word_in(bytes: [u8; 4]) -> u32
-    // ensures { bytes ≡ word result }
-{
-    u32::from_le_bytes(bytes)
-}
-
-/// The number in eight bytes.
-#[inline]
-fn long_in(bytes: [u8; 8]) -> u64
-    // ensures { bytes ≡ long result }
-{
-    u64::from_le_bytes(bytes)
-}
-
-/// The number in the first four bytes, and the bytes after them.
-#[inline]
-pub(crate) fn read_word(bytes: &[u8]) -> (u32, &[u8])
-    // requires { 4 ≤ length bytes.now }
-    // ensures bytes { bytes.now ≡ word result.0 ++ result.1.now }
-    // ensures len { length bytes.now ≡ 4 + length result.1.now }
-{
-    let (first, rest) = bytes.split_first_chunk().unwrap();
-    (word_in(*first), rest)
-}
-
-/// The number in the first eight bytes, and the bytes after them.
-#[inline]
-pub(crate) fn read_long(bytes: &[u8]) -> (u64, &[u8])
-    // requires { 8 ≤ length bytes.now }
-    // ensures bytes { bytes.now ≡ long result.0 ++ result.1.now }
-    // ensures len { length bytes.now ≡ 8 + length result.1.now }
-{
-    let (first, rest) = bytes.split_first_chunk().unwrap();
-    (long_in(*first), rest)
-}
+use crate::proved::ent_handle::{read_long, read_word, write_long, write_word};
 
 /// Appends a birth. There is room for its 16 bytes.
 #[inline]

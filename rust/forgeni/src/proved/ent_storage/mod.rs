@@ -35,7 +35,6 @@ mod storage;
 
 pub use bundle::Bundle;
 pub use fault::StorageFault;
-pub(crate) use image::{read_long, read_word, write_long, write_word};
 pub use image_fault::StorageImageFault;
 pub use items::Items;
 pub(crate) use pairs::search;

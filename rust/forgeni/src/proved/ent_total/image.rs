@@ -4,8 +4,7 @@
 
 use alloc::vec::Vec;
 use crate::proved::ent_total::world::World;
-use crate::proved::ent_handle::Memory;
-use crate::proved::ent_storage::{read_word, write_word};
+use crate::proved::ent_handle::{Memory, read_word, write_word};
 use crate::proved::ent_world::WorldImageFault;
 
 /// How many bytes the count of spawned entities has. They are the last ones.

@@ -8,8 +8,8 @@ use crate::proved::ent_world::image_fault::WorldImageFault;
 use crate::proved::ent_world::rows::{place_of, set_rows};
 use crate::proved::ent_world::world::World;
 use crate::proved::ent_alloc::{Entities, ImageFault, Living};
-use crate::proved::ent_handle::{Handle, Memory};
-use crate::proved::ent_storage::{Storage, StorageImageFault, read_long, read_word, write_long, write_word};
+use crate::proved::ent_handle::{Handle, Memory, read_long, read_word, write_long, write_word};
+use crate::proved::ent_storage::{Storage, StorageImageFault};
 
 /// The letters `FORGENW` and a zero, the first one lowest.
 const MAGIC: u64 = 0x0057_4e45_4752_4f46;

@@ -1,5 +1,9 @@
--- The numbers of an image, byte by byte.
-use Rattle.ent_storage.proofs.Common.{◌≡◌, refl, sym, ap, ◌∙◌, ℕ, ◌^◌, ◌<◌, List, ◌++◌, length, take, drop, w32, w64, from_le_bytes, from_le_bytes-to_le_bytes_4, from_le_bytes-to_le_bytes_8, take_at, drop_at, word, long}
+-- Numbers in bytes, and what follows them.
+use Rattle.std.proofs.Common.{◌≡◌, refl, sym, ap, ◌∙◌, ℕ, ◌^◌, ◌<◌, List, ◌++◌, length, take, drop}
+use Rattle.std.proofs.lemmas.List.{take_at, drop_at}
+use Rattle.std.proofs.lemmas.Nat.{from_le_bytes-to_le_bytes_4, from_le_bytes-to_le_bytes_8}
+use Rattle.std.specs.Int.{w32, w64, from_le_bytes}
+unfoldable use Rattle.ent_handle.specs.Bytes.{word, long}
 
 pub length-word : (n : ℕ) → length (word n) ≡ 4
 unfolding word
@@ -9,11 +13,11 @@ pub length-long : (n : ℕ) → length (long n) ≡ 8
 unfolding long
 length-long n = refl
 
-from_word : (n : ℕ) → n < 2 ^ 32 → from_le_bytes w32 (word n) ≡ n
+pub from_word : (n : ℕ) → n < 2 ^ 32 → from_le_bytes w32 (word n) ≡ n
 unfolding word
 from_word n h = from_le_bytes-to_le_bytes_4 n h
 
-from_long : (n : ℕ) → n < 2 ^ 64 → from_le_bytes w64 (long n) ≡ n
+pub from_long : (n : ℕ) → n < 2 ^ 64 → from_le_bytes w64 (long n) ≡ n
 unfolding long
 from_long n h = from_le_bytes-to_le_bytes_8 n h
 

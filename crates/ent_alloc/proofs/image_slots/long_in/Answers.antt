@@ -1,6 +1,0 @@
-use Rattle.ent_alloc.proofs.Common.{rules, sym, le_bytes_8, long}
-use Rattle.ent_alloc.proofs.image_slots.long_in.Goals as goal
-
-pub returns : goal.returns
-unfolding long
-returns c = sym (le_bytes_8 c.args.bytes _ (search rules) (search rules) c.from_le_bytes.ensures)
