@@ -166,7 +166,7 @@ def listed():
 def main(archive=None):
     test_planted()
     folder = pathlib.Path(archive) if archive else TOP / "rust/offline"
-    cargo = ["cargo", "rustc", "--offline", "--quiet", "--lib", "--profile=check", "--target-dir=target/usize"]
+    cargo = ["cargo", "rustc", "--package=forgeni", "--offline", "--quiet", "--lib", "--profile=check", "--target-dir=target/usize"]
     cargo += ["--config", str(TOP / ".ci/debian.toml")] if archive else []
     features = "programs,serde,rayon" if archive else "programs"
     builds = [["--features", features], ["--no-default-features"]]

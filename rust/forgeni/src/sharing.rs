@@ -2,6 +2,7 @@
 
 use crate::numbers::next_number;
 use crate::phase::closed;
+use crate::proved::ent_shared::Shared as SharedSource;
 use crate::proved::ent_total::share;
 use crate::shown::shows;
 use crate::{Entities, HandedBack};
@@ -59,5 +60,6 @@ impl Entities {
 
 shows! {
     Shared: count returned;
+    SharedSource: count len;
     Reserver: number quota_left;
 }
