@@ -19,7 +19,7 @@ macro_rules! begins_and_clones {
         }
 
         /// By [`try_clone`](Self::try_clone) and [`try_clone_from`](Self::try_clone_from). If
-        /// memory runs out, the process ends, as when a `Vec` is cloned.
+        /// memory runs out, the process ends, as for a `Vec`.
         impl Clone for $name {
             fn clone(&self) -> Self {
                 self.try_clone().unwrap_or_else(|refused| end(refused))
@@ -37,8 +37,9 @@ begins_and_clones!(Entities);
 begins_and_clones!(World);
 begins_and_clones!(Storage);
 
-/// Two allocators are equal if they are the same to every call, whatever came before: if they have
-/// one image. The comparison takes memory for the images. If memory runs out, the process ends.
+/// Two allocators are equal if they are the same to every call, whatever happened to them before:
+/// if they have the same image. The comparison takes memory for the images. If memory runs out, the
+/// process ends.
 ///
 /// ```
 /// use forgeni::Entities;
