@@ -1,5 +1,5 @@
-//! What the command lines of the programs have in common: their options for limits, the name of an
-//! input file, and how a run ends.
+//! What the command lines of the programs share: their options for limits, the name of an input
+//! file, and how a run ends.
 #![tactic(auto)]
 
 mod ending;

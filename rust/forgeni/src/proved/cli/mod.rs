@@ -1,7 +1,7 @@
 // Made of crates/cli/src/lib.rt by rust/erase. It isn't edited by hand.
 
-//! What the command lines of the programs have in common: their options for limits, the name of an
-//! input file, and how a run ends.
+//! What the command lines of the programs share: their options for limits, the name of an input
+//! file, and how a run ends.
 
 mod ending;
 mod input;
