@@ -11,8 +11,8 @@
 #
 # The same commit gives the same bytes. It refuses a folder that has files, a tree with changes that are not committed, a version that
 # CHANGELOG.md has no section of, or that isn't that of the package and of both programs, changes that are still listed as unreleased, and
-# erased sources that are not those of crates/, and what `.ci/targets.sh all` hasn't passed with. It needs `git`, `cargo`, `gzip` and `sha256sum`, and no network: `cargo package` looks serde
-# up in Debian's source packages, which `.ci/debian.sh` installs if they are missing. It doesn't run the gate.
+# erased sources that are not those of crates/, and what `.ci/targets.sh all` hasn't passed with. It needs `git`, `cargo`, `gzip`, `python3` and `sha256sum`, and no
+# network. It doesn't run the gate.
 set -eu
 refuse() {
     echo "release: $*" >&2
@@ -49,8 +49,9 @@ folder=$(cd "$folder" && pwd)
 packed=$(mktemp -d)
 trap 'rm -rf "$packed"' EXIT
 git -C "$top" archive --format=tar --prefix="$name/" HEAD | gzip -9n >"$folder/$name.tar.gz"
-"$top/.ci/debian.sh"
-cargo package --config "$top/.ci/debian.toml" --offline --quiet --no-verify --manifest-path "$top/rust/forgeni/Cargo.toml" --target-dir "$packed"
+python3 "$top/.ci/empty_crates.py" "$top/rust/forgeni" "$packed/empty"
+cargo package --config "$packed/empty/config.toml" --offline --locked --quiet --no-verify --manifest-path "$top/rust/forgeni/Cargo.toml" \
+    --target-dir "$packed"
 cp "$packed/package/$name.crate" "$folder"
 section "$version" >"$folder/$name-changes.md"
 cd "$folder"

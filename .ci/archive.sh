@@ -1,8 +1,9 @@
 #!/usr/bin/env bash
 # The archives of the package and of the eraser, as crates.io would have them, in an empty folder: they build by themselves, and their tests
-# pass, the package's with its programs. Then its features `serde` and `rayon`, which have stand-ins in the repository: their operations on
-# `usize`, their docs and their lints, a build without the standard library, and the tests of rust/serde_tests and rust/rayon_tests, which
-# depend on the archive. The crates of others are Debian's.
+# pass, the package's with its programs. Then its features `serde` and `rayon`: a check of all features in a
+# workspace of others, their operations on `usize`, their docs and their lints, a build without the standard library, and the tests of
+# rust/serde_tests and rust/rayon_tests, which depend on the archive. The crates of others are Debian's, of other versions than those of the
+# lock file, so each build is without it.
 set -eu
 cd "$(dirname "$0")/.."
 top=$PWD
@@ -22,10 +23,19 @@ tar -xzf "$empty"/packed/package/erase-*.crate -C "$empty"
 (cd "$empty"/erase-* && cargo test --offline --quiet)
 echo "rust/erase: its archive builds by itself, and its tests pass"
 
-(cd rust/forgeni && debian package --no-verify --allow-dirty --target-dir "$empty/packed")
+mkdir "$empty/others"
+tar -cf - --exclude=forgeni/target --exclude=forgeni/Cargo.lock -C rust forgeni | tar -xf - -C "$empty/others"
+printf '[workspace]\nmembers = ["forgeni"]\nresolver = "3"\n' >"$empty/others/Cargo.toml"
+(cd "$empty/others/forgeni" && debian check --all-features --all-targets)
+echo "rust/forgeni: all features are checked in a workspace"
+
+python3 .ci/empty_crates.py rust/forgeni "$empty/crates"
+cargo package --config "$empty/crates/config.toml" --offline --locked --quiet --no-verify --allow-dirty \
+    --manifest-path rust/forgeni/Cargo.toml --target-dir "$empty/packed"
 tar -xzf "$empty"/packed/package/forgeni-*.crate -C "$empty"
 mv "$empty"/forgeni-* "$empty/forgeni"
 cd "$empty/forgeni"
+rm Cargo.lock
 debian test --features programs
 echo alloc | debian run --features programs --bin spawnrun -- replay | grep -qx 0v1
 echo "rust/forgeni: its archive builds by itself, and its tests pass"

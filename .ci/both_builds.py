@@ -22,7 +22,7 @@ sys.path.insert(0, str(pathlib.Path(__file__).parent))
 from changed_answers import case as changed_trace
 from changed_answers import trace
 
-CARGO = pathlib.Path("rust/forgeni/target/programs")
+CARGO = pathlib.Path("rust/offline/target/programs")
 SPOILERS = b'"\\{}[]:,0123456789-+.eEtrufalsnv \n\r\tx\x01\xc3\xa9\xff=>'
 WHOLE = [0, 1, -1, 7, 20, 2**31, 2**63 - 1, -(2**63), 2**63, 1.0, -0.0, 1e30, 1.5, 0.00001, 1e-7, 123456789.25]
 NOT_WHOLE = [*WHOLE, None, True, "", "7", "é€😀\u0001\"\\", [], [1, "x"], {}, {"b": 1, "a": [2]}]

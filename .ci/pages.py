@@ -12,7 +12,8 @@ Above each fenced block stands a line that says what the block is:
 A block without such a line is refused, so nothing that a page quotes goes uncompared. The Rust in the package's README is the front page of its
 docs, and `cargo test` runs it. Two tables of docs/FORMATS.md are compared too: the steps of its first schedule with what the program prints, and
 the refusals of scripts, script by script. Links and paths lead to what is there, and so do the files that CONTRIBUTING lists for a change. The forms
-that were replaced are those of .ci/replaced.txt. Words that only the sources use occur in code alone.
+that were replaced are those of .ci/replaced.txt. Words that only the sources use occur in code alone. No cell of a table is longer than a
+reader takes in at once.
 """
 
 import pathlib
@@ -26,6 +27,8 @@ FORMATS = pathlib.Path("docs/FORMATS.md")
 DECISIONS = pathlib.Path("docs/DECISIONS.md")
 REPLACED = pathlib.Path(".ci/replaced.txt")
 MARK = re.compile(r"<!-- (from|prints|ran by the gate|picture)(?: (.*))? -->$")
+
+MOST_OF_CELL = 300
 
 # Words of the sources for which the pages have one that readers know.
 INTERNAL = re.compile(r"\b(seats?|badges?|aside|settled?|at home|ungone|credits?|kit)\b", re.IGNORECASE)
@@ -143,6 +146,16 @@ def faults_of_replaced():
     yield from (f"{REPLACED}: {file} doesn't have {it}" for _, file, it in listed if it not in pathlib.Path(file).read_text())
 
 
+def faults_of_tables(page):
+    """No cell of a table has more than MOST_OF_CELL characters."""
+    fenced = False
+    for number, line in enumerate(page.read_text().splitlines(), 1):
+        fenced ^= line.lstrip().startswith("```")
+        for cell in line.split("|") if line.startswith("|") and not fenced else ():
+            if len(cell.strip()) > MOST_OF_CELL:
+                yield f"{page}:{number}: a cell of {len(cell.strip())} characters, more than {MOST_OF_CELL}: {cell.strip()[:60]} .."
+
+
 def faults_of_text(page):
     """Each link of a page leads to a file, and so does each path of a folder that is at the top or beside the page. No word is internal."""
     text = re.sub(r"```.*?```|<!--.*?-->", "", page.read_text(), flags=re.S)
@@ -160,7 +173,7 @@ def main():
     pages += sorted(pathlib.Path("crates").glob("*/README.md"))
     pages += sorted(pathlib.Path("rust").glob("*/README.md"))
     for page in pages:
-        faults += faults_of_text(page)
+        faults += [*faults_of_text(page), *faults_of_tables(page)]
         for at, mark, block in blocks_of(page):
             count += 1
             fault = fault_of(mark, block, built)

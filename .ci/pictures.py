@@ -24,7 +24,7 @@ sys.path.insert(0, str(pathlib.Path(__file__).parent))
 from both_builds import Cases
 from changed_answers import case as changed_trace
 
-PROGRAMS = pathlib.Path(os.environ.get("PROGRAMS", "rust/forgeni/target/programs"))
+PROGRAMS = pathlib.Path(os.environ.get("PROGRAMS", "rust/offline/target/programs"))
 FOLDER = pathlib.Path("docs/pictures")
 # Each picture, with the words that draw it and their input. A trace's picture goes to the file that `--draw` names.
 PICTURES = {

@@ -7,10 +7,10 @@
 set -eu
 cd "$(dirname "$0")/.."
 cases=${1:-600}
-cargo build --offline --quiet --profile programs --features programs --manifest-path rust/forgeni/Cargo.toml
+cargo build --offline --quiet --profile programs --features programs --manifest-path rust/offline/Cargo.toml
 # README's first commands.
 (
-    cd rust/forgeni
+    cd rust/offline
     cargo run --offline --quiet --release --features programs --bin spawnrun -- replay < ../../examples/one_caller.txt |
         tail -n 1 | grep -qx 'born 2v1 0v2'
     cargo run --offline --quiet --release --features programs --bin spawnrun -- run --show handles < ../../examples/data/reuse.json |
@@ -19,12 +19,12 @@ cargo build --offline --quiet --profile programs --features programs --manifest-
     cargo run --offline --quiet --release --features programs --bin spawnrun -- draw < ../../examples/two_callers.txt |
         cmp - ../../docs/pictures/two_callers.svg
 )
-(cd rust/forgeni && ../../.ci/tested.sh .ci/programs.sh --features programs --lib -- drawing:: kit::)
+(cd rust/offline && ../../.ci/tested.sh .ci/programs.sh --features programs --lib -- drawing:: kit::)
 if cargo clippy --version >/dev/null 2>&1; then
-    (cd rust/forgeni && cargo clippy --offline --quiet --all-targets --features programs -- -D warnings)
+    (cd rust/offline && cargo clippy --offline --quiet --all-targets --features programs -- -D warnings)
 fi
 python3 .ci/tokens.py --texts $((cases < 5000 ? 5000 : cases))
-export PROGRAMS=$PWD/rust/forgeni/target/programs
+export PROGRAMS=$PWD/rust/offline/target/programs
 python3 .ci/cases.py --program "$PROGRAMS/spawnrun"
 python3 .ci/scripts_in_blocks.py --program "$PROGRAMS/spawnrun"
 python3 .ci/cases.py --crate tracecheck --program "$PROGRAMS/tracecheck"

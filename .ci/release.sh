@@ -50,7 +50,7 @@ diff -r "$room/one" "$room/other"
 [ "$(ls "$room/one" | wc -l)" = 4 ]
 gzip -dc "$room/one/$name.tar.gz" | tar -xf - -C "$room"
 git ls-files >"$room/listed"
-(cd "$room/$name" && find . -type f | sed 's,^\./,,' | LC_ALL=C sort) | diff - "$room/listed"
+(cd "$room/$name" && find . ! -type d | sed 's,^\./,,' | LC_ALL=C sort) | diff - "$room/listed"
 awk '/^## /{ n++; next } n == 1' CHANGELOG.md | sed '/./,$!d' | diff - "$room/one/$name-changes.md"
 [ -s "$room/one/$name-changes.md" ]
 

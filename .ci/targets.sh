@@ -110,7 +110,7 @@ tested() {
     [ -z "$emulator" ] || skip=$skipped
     [ "$1" != armv7 ] || skip="$skip $limited"
     # shellcheck disable=SC2086
-    (cd rust/forgeni && cargo test --lib --tests --no-fail-fast -Zbuild-std=std,panic_unwind,test --target "$triple" -- \
+    (cd rust/offline && cargo test --lib --tests --no-fail-fast -Zbuild-std=std,panic_unwind,test --target "$triple" -- \
         --include-ignored --exact ${skip:+--skip ${skip// / --skip }}) >"$out/printed" 2>&1 || status=$?
     [ "$status" = 0 ] || { cat "$out/printed"; exit 1; }
     passed=$(awk '/^test result: ok/ { passed += $4 } END { print passed + 0 }' "$out/printed")

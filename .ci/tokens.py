@@ -20,7 +20,7 @@ import subprocess
 import sys
 import tempfile
 
-PACKAGE = pathlib.Path("rust/forgeni")
+PACKAGE = pathlib.Path("rust/offline")
 TESTS = "kit::programs::%s"
 DEPTH = 127
 BLANKS = " \t\n\r"

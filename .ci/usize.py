@@ -91,7 +91,7 @@ class Operation(collections.namedtuple("Operation", "file place function")):
         lines[-1] = lines[-1][: to - 1]
         lines[0] = lines[0][from_ - 1 :]
         text = " ".join(" ".join(lines).split()).replace(": ", ":")
-        return f"{self.file.removeprefix('src/')} {self.function}: {text if len(text) <= 70 else text[:60] + ' ..'}"
+        return f"{self.file.removeprefix('forgeni/').removeprefix('src/')} {self.function}: {text if len(text) <= 70 else text[:60] + ' ..'}"
 
 
 @functools.cache
@@ -165,8 +165,8 @@ def listed():
 
 def main(archive=None):
     test_planted()
-    folder = pathlib.Path(archive) if archive else TOP / "rust/forgeni"
-    cargo = ["cargo", "rustc", "--offline", "--quiet", "--lib", "--profile=check", "--target-dir=target/usize"]
+    folder = pathlib.Path(archive) if archive else TOP / "rust/offline"
+    cargo = ["cargo", "rustc", "--package=forgeni", "--offline", "--quiet", "--lib", "--profile=check", "--target-dir=target/usize"]
     cargo += ["--config", str(TOP / ".ci/debian.toml")] if archive else []
     features = "programs,serde,rayon" if archive else "programs"
     builds = [["--features", features], ["--no-default-features"]]

@@ -83,7 +83,7 @@ def numbers_of(cell):
 # What the chart shows: groups of rows. A row has a label, a ratio of times beside each peer where there is one, and the least and the
 # greatest ratio of one place.
 
-PEERS = ["plain Rust", "slotmap", "sharded-slab"]
+PEERS = ["plain Rust", "slotmap", "sharded-slab", "the shared cursor"]
 PARTS = {
     "`alloc`": "Handles of one caller",
     "`Reserver::": "Reservations",
@@ -118,6 +118,9 @@ def groups_of(lines):
             if any(ratios):
                 part = "A phase of threads, and its flush"
                 groups.setdefault(part, []).append((f"{how}, threads: {row[0]}", ratios, [], row[column + 3]))
+    for threads, ours, _, counter, ratio in rows_with(lines, "Threads", "`Blocks::reserve`"):
+        ratios = [float(ours) / float(counter), None, None, float(ratio)]
+        groups.setdefault("A reservation from a block", []).append((f"from a block, threads: {threads}", ratios, [], ours))
     return groups
 
 
@@ -129,6 +132,7 @@ FEW = {
     "Reserver::reserve_into, 64 at once": "reserve 64 at once, one thread",
     "singly, threads: 4": "reserve on 4 threads, then a flush",
     "64 at once, threads: 4": "reserve 64 at once on 4 threads",
+    "from a block, threads: 4": "reserve from a block on 4 threads",
     "apply, a command, scattered": "apply a command at a sync point",
     "Spawn, 4 times get, despawn, rising: 100,000": "spawn, read 4 times, despawn",
 }
@@ -145,9 +149,14 @@ def few_of(groups):
 
 TITLE = "Time of each call, ours divided by a peer's"
 # The plot has this width; to its left are the labels, whose letters have at most this one, and to its right the figures.
-PLOT, LETTER, FIGURES, ROW, HEAD = 470, 6.5, 180, 19, 30
-LEAST, MOST = -4, 2
-MARKS = {"plain": "M-4 0A4 4 0 1 1 4 0A4 4 0 1 1 -4 0Z", "slots": "M-4 -4H4V4H-4Z", "slab": "M-5 4L0 -5L5 4Z"}
+PLOT, LETTER, FIGURES, ROW, HEAD = 470, 6.5, 228, 19, 30
+MOST = 2
+MARKS = {
+    "plain": "M-4 0A4 4 0 1 1 4 0A4 4 0 1 1 -4 0Z",
+    "slots": "M-4 -4H4V4H-4Z",
+    "slab": "M-5 4L0 -5L5 4Z",
+    "cursor": "M-6 0L0 -6L6 0L0 6Z",
+}
 
 STYLE = """
     .paper { fill: #ffffff } .faster { fill: #eef6f0 } .slower { fill: #f7f3ee }
@@ -156,17 +165,18 @@ STYLE = """
     .figure { text-anchor: end; font-variant-numeric: tabular-nums } .middle { text-anchor: middle }
     .grid { stroke: #d1d9e0 } .even { stroke: #59636e; stroke-width: 1.5 } .span { stroke: #818b98; stroke-width: 1.5 }
     path { stroke: #ffffff; stroke-width: 1 } .plain { fill: #0072b2 } .slots { fill: #d55e00 } .slab { fill: #24292f }
+    .cursor { fill: #009e73 }
     @media (prefers-color-scheme: dark) {
         .paper { fill: #0d1117 } .faster { fill: #0f1a13 } .slower { fill: #1c1711 } text { fill: #e6edf3 } .quiet { fill: #9198a1 }
         .grid { stroke: #30363d } .even { stroke: #9198a1 } .span { stroke: #6e7681 }
         path { stroke: #0d1117 } .plain { fill: #56b4e9 } .slots { fill: #e69f00 } .slab { fill: #f0f3f6 }
+        .cursor { fill: #2fc894 }
     }"""
 
 
-def place_of(ratio, left):
-    """Where a ratio is in the plot that begins there."""
-    part = (min(max(math.log2(ratio), LEAST), MOST) - LEAST) / (MOST - LEAST)
-    return round(left + part * PLOT, 1)
+def plot(least, left):
+    """Where a ratio is in the plot that begins there, with that power of two."""
+    return lambda ratio: round(left + (min(math.log2(ratio), MOST) - least) / (MOST - least) * PLOT, 1)
 
 
 def text(x, y, words, kind):
@@ -181,23 +191,25 @@ def mark(kind, x, y):
     return f'<path class="{kind}" transform="translate({x} {y})" d="{MARKS[kind]}"/>'
 
 
-def row_of(label, ratios, span, left, y):
+def row_of(label, ratios, span, place_of, left, y):
     yield text(16, y + 4, label, "")
     if len(span) == 2:
-        yield line("span", place_of(span[0], left), y, place_of(span[1], left), y)
+        yield line("span", place_of(span[0]), y, place_of(span[1]), y)
     for kind, ratio in reversed([*zip(MARKS, ratios)]):
         if ratio:
-            yield mark(kind, place_of(ratio, left), y)
+            yield mark(kind, place_of(ratio), y)
     for column, ratio in enumerate(ratios):
         if ratio:
-            yield text(left + PLOT + 70 + 48 * column, y + 4, f"{ratio:.2f}", "figure")
+            yield text(left + PLOT + 70 + 48 * column, y + 4, f"{ratio:.2f}" if ratio >= 0.095 else f"{ratio:.2g}", "figure")
 
 
 def drawn(groups):
     """The chart of these groups of rows."""
     left = 30 + round(LETTER * max(len(label) for rows in groups.values() for label, *_ in rows))
     right, width = left + PLOT, left + PLOT + FIGURES
-    even = place_of(1, left)
+    least = min(math.floor(math.log2(it)) for rows in groups.values() for _, ratios, *_ in rows for it in ratios if it)
+    place_of = plot(least, left)
+    even = place_of(1)
     top, heads = 96, HEAD if len(groups) > 1 else 10
     height = top + sum(heads + ROW * len(rows) for rows in groups.values()) + 34
     bottom = height - 26
@@ -208,8 +220,8 @@ def drawn(groups):
         f'<rect class="slower" x="{even}" y="{top}" width="{right - even}" height="{bottom - top}"/>',
         text(16, 28, TITLE, "title"),
     ]
-    for power in range(LEAST, MOST + 1):
-        x = place_of(2.0**power, left)
+    for power in range(least, MOST + 1):
+        x = place_of(2.0**power)
         marks.append(line("even" if power == 0 else "grid", x, top, x, bottom))
         name = "the same" if power == 0 else f"{2**power}×" if power > 0 else f"1/{2**-power}"
         marks += [text(x, top - 8, name, "quiet middle"), text(x, bottom + 16, name, "quiet middle")]
@@ -218,10 +230,10 @@ def drawn(groups):
         marks += [mark(kind, x + 6, 48), text(x + 18, 52, f"beside {words}", "quiet")]
         x += 84 + 6.2 * len(words)
     marks += [
-        text(place_of(2.0**-2, left), top - 26, "◂ Forgeni is faster", "quiet middle"),
-        text(place_of(2.0**1, left), top - 26, "Forgeni is slower ▸", "quiet middle"),
+        text(place_of(2.0**-2), top - 26, "◂ Forgeni is faster", "quiet middle"),
+        text(place_of(2.0**1), top - 26, "Forgeni is slower ▸", "quiet middle"),
     ]
-    marks.append(text(right + 106, top - 26, "our time ÷ the peer's", "quiet middle"))
+    marks.append(text(right + 130, top - 26, "our time ÷ the peer's", "quiet middle"))
     marks += [mark(kind, right + 58 + 48 * column, top - 12) for column, kind in enumerate(MARKS)]
     y = top
     for name, rows in groups.items():
@@ -229,7 +241,7 @@ def drawn(groups):
             marks += [f'<rect class="paper" x="{left}" y="{y}" width="{PLOT}" height="{HEAD - 8}"/>', text(16, y + 18, name, "group")]
         y += heads
         for label, ratios, span, _ in rows:
-            marks += row_of(label, ratios, span, left, y + 3)
+            marks += row_of(label, ratios, span, place_of, left, y + 3)
             y += ROW
     body = "\n".join(marks)
     size = f'width="{width}" height="{height}" viewBox="0 0 {width} {height}"'

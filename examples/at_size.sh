@@ -18,9 +18,9 @@ done
 tested() {
     module=$1
     shift
-    (cd "$here/../rust/forgeni" && cargo test --offline "$@" -- --list) >"$out/printed" 2>"$out/said" || { cat "$out/said"; exit 1; }
+    (cd "$here/../rust/offline" && cargo test --offline "$@" -- --list) >"$out/printed" 2>"$out/said" || { cat "$out/said"; exit 1; }
     sed -n 's/: test$//p' "$out/printed" | sort >"$out/listed"
-    (cd "$here/../rust/forgeni" && cargo test --offline "$@") >"$out/printed" 2>&1 || { cat "$out/printed"; exit 1; }
+    (cd "$here/../rust/offline" && cargo test --offline "$@") >"$out/printed" 2>&1 || { cat "$out/printed"; exit 1; }
     sed -n 's/^test \(.*\) \.\.\. ok$/\1/p' "$out/printed" | sort >"$out/passed"
     [ -s "$out/passed" ] && cmp "$out/listed" "$out/passed" || { echo "cargo test $*: no test ran, or not all"; exit 1; }
     sed 's/.*/forgeni, &: passed/' "$out/passed"

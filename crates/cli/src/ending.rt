@@ -20,7 +20,7 @@ const MEMORY: u8 = 3;
 const DEVICE: u8 = 4;
 
 /// Ends a run with an exit status, which it returns: 3 if memory ran out, 4 if a device failed. For
-/// these two the error stream gets a word, and for all others nothing.
+/// these two the error stream gets a word, and for all others it gets nothing.
 pub fn finish<E: Sink>(errors: &mut E, status: u8) -> u8
     ensures status { result ≡ status }
     ensures quiet { result ≤ 2 → errors.new ≡ errors.old }
@@ -36,8 +36,8 @@ pub fn finish<E: Sink>(errors: &mut E, status: u8) -> u8
     status
 }
 
-/// Ends a run whose words are no command line: the error stream gets clap's text, if there was memory
-/// for it. The exit status is 2, or 3 if there wasn't.
+/// Ends a run whose arguments are no command line. The error stream gets clap's text, if there is
+/// memory for it. The exit status is 2, or 3 if there is none.
 pub fn refuse_line<E: Sink>(text: Result<String, AllocError>, errors: &mut E) -> u8
     ensures status { OnOk text (result ≡ 2) }
     ensures text_said { IfOk text (λ text. E.failures errors.new ≡ E.failures errors.old
@@ -55,8 +55,9 @@ pub fn refuse_line<E: Sink>(text: Result<String, AllocError>, errors: &mut E) ->
     }
 }
 
-/// Ends a run whose words can't be read, and returns the exit status: 3 if memory ran out, 2 if a
-/// word is no UTF-8, else 4. The error stream gets what it gets for such a status elsewhere.
+/// Ends a run whose arguments can't be read, and returns the exit status: 3 if memory ran out, 2 if
+/// an argument isn't UTF-8, otherwise 4. The error stream gets what it gets for that status
+/// elsewhere.
 pub fn refuse_words<E: Sink>(error: &io::Error, errors: &mut E) -> u8
     ensures status { result ≡ words_status (error_kind error.now) }
     ensures memory_said { result ≡ 3 → E.failures errors.new ≡ E.failures errors.old
@@ -77,8 +78,8 @@ pub fn refuse_words<E: Sink>(error: &io::Error, errors: &mut E) -> u8
     }
 }
 
-/// Ends a run that a file is named for which isn't read, and returns the exit status: 3 if memory ran
-/// out, else 4. The error stream gets a line that names the program, what is wrong, and the file.
+/// Ends a run whose input file can't be read, and returns the exit status: 3 if memory ran out,
+/// otherwise 4. The error stream gets a line that names the program, what is wrong, and the file.
 pub fn refuse_file<E: Sink>(program: &str, name: &str, fault: NameFault, errors: &mut E) -> u8
     ensures status { result ≡ name_status fault }
     ensures memory_said { result ≡ 3 → E.failures errors.new ≡ E.failures errors.old

@@ -1,10 +1,10 @@
-//! Why words ask for nothing.
+//! Why arguments ask for nothing.
 ghost use Rattle.std.specs.Prelude.{◌≡◌};
 
 use clap::error::ErrorKind;
 use std::alloc::AllocError;
 
-/// Why words ask a program for nothing.
+/// Why arguments ask a program for nothing.
 #[derive(Debug, Drop)]
 pub enum LineFault {
     /// They are no command line of the program, or they ask for help. The error's `Display` is the

@@ -1,4 +1,4 @@
-//! The words that a program was started with.
+//! The arguments of a program.
 ghost use Rattle.std.specs.Prelude.{◌≡◌, IfOk};
 ghost use Rattle.std.specs.Vec.Iter.{into_iter_items};
 ghost use Rattle.cli.specs.Words.{after_name};
@@ -6,7 +6,7 @@ ghost use Rattle.cli.specs.Words.{after_name};
 use std::alloc::{AllocError, Global};
 use std::env::Args;
 
-/// The words after the program's name, of all that the program was started with.
+/// The program's arguments, without its name.
 ///
 /// # Errors
 ///

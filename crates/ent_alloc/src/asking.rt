@@ -1,4 +1,5 @@
-//! Requests in one call each: it tests what the request needs, and lists what the request is given.
+//! Requests that are one call each: the call tests what the request needs, and lists what the
+//! request is given.
 ghost use Rattle.std.specs.Prelude.{◌≡◌, ◌+◌, ◌-◌, ◌^◌, ◌<◌, ◌≤◌, ◌↔◌, ◌⊎◌, [], ◌∷◌, ◌++◌};
 ghost use Rattle.std.specs.Prelude.{IfOk, IfErr, OnOk, OnErr, IsErrOf, IfSome, OnSome, IfNone, Ok};
 ghost use Rattle.std.specs.Prelude.{Some, All};

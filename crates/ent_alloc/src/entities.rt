@@ -29,8 +29,8 @@ use std::marker::Model;
 
 /// Gives out the handles of entities and knows which are alive, as Bevy's `Entities` does.
 ///
-/// It is `Send` and `Sync`: it may go to another thread, and many threads may read it at once. While
-/// it is shared, many threads reserve handles from it.
+/// It is `Send` and `Sync`: it can go to another thread, and many threads can read it at once.
+/// While it is shared, many threads reserve handles from it.
 ///
 /// ```
 /// use forgeni::Entities;
@@ -67,9 +67,9 @@ impl Model for Entities {
 }
 
 impl Entities {
-    /// An allocator with no entities, which gives all handles within its limits, also the greatest
-    /// one, which [`with_limits`](Self::with_limits) keeps back. It takes no memory, whatever the
-    /// limits are.
+    /// An allocator with no entities, which gives all handles within its limits, including the
+    /// greatest one, which [`with_limits`](Self::with_limits) never gives. It takes no memory,
+    /// whatever the limits are.
     #[must_use]
     pub fn new(alloc: Global, limits: Limits) -> Self
         ensures allocator { result.allocator ≡ opening limits }
@@ -136,7 +136,7 @@ impl Entities {
         self.len() == 0
     }
 
-    /// How many slots were made: each has or had an entity. A retired slot counts for good.
+    /// How many slots were made: each has or had an entity. A retired slot still counts.
     #[must_use]
     pub fn total(&self) -> u32
         ensures { result ≡ self.now.allocator.made }
@@ -180,7 +180,7 @@ impl Entities {
     }
 
     /// How many slots are retired: the entity of their last generation was freed, and they give no
-    /// handle any more. It takes constant time.
+    /// more handles. It takes constant time.
     #[must_use]
     pub fn retired(&self) -> u32
         ensures value { result ≡ retired self.now.allocator }
@@ -279,11 +279,12 @@ impl Entities {
         }
     }
 
-    /// Takes a living entity out. Its slot is the first to be given again, with the next
-    /// generation. It takes constant time.
+    /// Frees a living entity. Its slot is the next one to be given again, in its next generation.
+    /// It takes constant time.
     ///
     /// After the last generation the slot is retired: it is never given again, and [`Freed::next`]
-    /// is `None`. So no handle is ever given twice. Bevy begins anew there and warns of it.
+    /// is `None`. So no handle is ever given twice. Bevy starts again with the first generation
+    /// there, and warns of it.
     ///
     /// ```
     /// use forgeni::Entities;
@@ -339,7 +340,7 @@ impl Entities {
     /// list is.
     ///
     /// If the list has room for the handles and no slot is new, the call takes no memory. So a list
-    /// that is cleared and used again takes none in the end.
+    /// that is cleared and used again takes none eventually.
     ///
     /// ```
     /// use forgeni::Entities;
@@ -441,7 +442,7 @@ impl Entities {
         self.slots.is_alive(handle)
     }
 
-    /// Whether the entity is alive or reserved, as Bevy's and hecs' `contains` tell. It takes
+    /// Whether the entity is alive or reserved, as `contains` of Bevy and hecs tells. It takes
     /// constant time.
     ///
     /// ```
@@ -465,8 +466,8 @@ impl Entities {
         }
     }
 
-    /// The handles of the living entities, by rising slot. It takes no memory. The time is that of a
-    /// look at each slot.
+    /// The handles of the living entities, by rising slot. It takes no memory, and time for each
+    /// slot.
     ///
     /// ```
     /// use forgeni::Entities;
@@ -508,9 +509,9 @@ impl Entities {
         }
     }
 
-    /// The row of a living entity: a number that a program keeps with it, as where its components
-    /// are. `None` if the handle isn't alive, or if no row was set since it came to life. It takes
-    /// constant time.
+    /// The row of a living entity: a number that a program keeps with it, such as the place of its
+    /// components. `None` if the handle isn't alive, or if no row was set since it came to life. It
+    /// takes constant time.
     #[must_use]
     pub fn row(&self, handle: Handle) -> Option<u32>
         ensures value { result ≡ map.get self.now.rows handle }

@@ -47,7 +47,7 @@ impl Limits {
     };
 
     /// The limits of these numbers: slots from 1 to 4,294,967,295, generations from 1 to
-    /// 2,147,483,647. `None` if one of them is out of its range.
+    /// 2,147,483,647. `None` if one of them is out of range.
     #[must_use]
     pub fn new(slots: u32, generations: u32) -> Option<Self>
         ensures in_range { IsSome result
@@ -71,7 +71,7 @@ impl Limits {
     }
 
     /// The limits of an allocator that never gives the greatest handle, 4294967294v2147483647: one
-    /// generation less if both limits are the greatest, and else the same ones.
+    /// generation less if both limits are the greatest, and otherwise the same limits.
     ///
     /// The greatest handle is the last one of the last slot that can be.
     #[must_use]

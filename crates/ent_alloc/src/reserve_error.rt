@@ -8,7 +8,7 @@ use ent_handle::Memory;
 use std::alloc::AllocError;
 use thiserror::Error;
 
-/// Why a call gave no handle that reserves handles and keeps them in a list or a queue.
+/// Why a call that reserves handles, and keeps them in a list or a queue, gave none.
 #[derive(Clone, Copy, Debug, PartialEq, Eq, Hash, Error)]
 pub enum ReserveError {
     /// Fewer handles were left than were requested. The request counts all the same, and no handle

@@ -9,7 +9,7 @@ use std::cmp::Ordering;
 /// The number of a component: a kind of data that an entity may have. What it means is up to its
 /// user.
 ///
-/// The order is by number.
+/// Components are ordered by number.
 #[derive(Clone, Copy, Debug, Default, PartialEq, Eq, Hash)]
 pub struct ComponentId(pub u8);
 

@@ -17,11 +17,11 @@ use std::num::NonZeroU64;
 /// The name of an entity: the index of a slot, and a generation that tells the slot's entities
 /// apart. It is ordered by index and then by generation.
 ///
-/// It takes 8 bytes, and so does an `Option<Handle>`. It is written `0v1`, by `Display` and by
-/// `Debug`, and parsed from that text.
+/// A handle takes 8 bytes, and so does an `Option<Handle>`. `Display` and `Debug` write it as
+/// `0v1`, and it is parsed from that text.
 ///
-/// A handle is only a name. One that was made by hand, or by another allocator, is the name of an
-/// entity here if one of that index and generation lives.
+/// A handle is only a name. A handle that was made by hand, or by another allocator, names an
+/// entity here if one with that index and generation is alive.
 ///
 /// ```
 /// use forgeni::Handle;
@@ -39,9 +39,9 @@ use std::num::NonZeroU64;
 ///
 /// An index is 0 to 4,294,967,294, and a generation 1 to 2,147,483,647: Bevy's ranges without the
 /// index that its placeholder has. As in Bevy, each entity of a slot has the generation after that
-/// of the one before it, so that an earlier handle does not name a later entity. After the last
-/// generation a slot has no more entities, where in Bevy the first one comes again. The order is
-/// this project's own: that of Bevy and hecs is [`by_bits`](Self::by_bits).
+/// of the entity before it, so an earlier handle doesn't name a later entity. After the last
+/// generation a slot has no more entities, whereas Bevy starts again with the first one. The order
+/// is this project's own: that of Bevy and hecs is [`by_bits`](Self::by_bits).
 #[derive(Clone, Copy)]
 pub struct Handle {
     bits: NonZeroU64,
@@ -75,7 +75,7 @@ impl Model for Handle {
 
 impl Handle {
     /// The handle of these numbers: an index below 4,294,967,295, a generation from 1 to
-    /// 2,147,483,647. `None` if one of them is out of its range.
+    /// 2,147,483,647. `None` if one of them is out of range.
     ///
     /// ```
     /// use forgeni::Handle;

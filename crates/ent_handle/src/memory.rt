@@ -1,8 +1,8 @@
 use std::alloc::{AllocError, AllocFailed};
 use thiserror::Error;
 
-/// Out of memory: an allocation really failed, or a call says what else counts as such. It is the
-/// only error of a call that has no other.
+/// Out of memory: an allocation failed, or something else happened that the call says counts as
+/// that. A call without any other error returns this one.
 #[derive(Clone, Copy, Debug, PartialEq, Eq, Hash, Error)]
 #[error("out of memory")]
 pub struct Memory;

@@ -36,7 +36,7 @@ impl Handle {
     /// The handle of this text: the index in decimal, the letter `v`, the generation in decimal. A
     /// decimal has no sign and no leading zero.
     ///
-    /// It takes time linear in the length of the text, which may be any, and no memory.
+    /// It takes time linear in the length of the text, however long that is, and no memory.
     ///
     /// # Errors
     ///

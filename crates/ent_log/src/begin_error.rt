@@ -1,7 +1,7 @@
 use ent_handle::Handle;
 use thiserror::Error;
 
-/// Why a sync point of logs did not begin. Nothing has changed.
+/// Why a sync point of logs didn't begin. Nothing has changed.
 #[derive(Clone, Copy, Debug, PartialEq, Eq, Hash, Error)]
 #[non_exhaustive]
 pub enum BeginError {

@@ -17,10 +17,11 @@ use std::fmt;
 use std::marker::Model;
 use std::vec::IntoIter;
 
-/// What one system spawns and commands, in the order of issue. `C` is the caller's type of commands.
+/// The spawns and commands of one system, in the order of issue. `C` is the caller's type of
+/// commands.
 ///
-/// A [`SyncPoint`](crate::SyncPoint) brings to life what was spawned, and hands on the entries. A log
-/// may go to another thread, and several systems of one worker have a log each.
+/// A [`SyncPoint`](crate::SyncPoint) brings to life what was spawned, and hands on the entries. A
+/// log can go to another thread. If a worker runs several systems, each has a log.
 #[must_use]
 #[derive(Drop)]
 pub struct Log<C> {
@@ -208,7 +209,7 @@ impl<C: Drop> Log<C> {
         Ok(())
     }
 
-    /// Drops all entries, and keeps their room. So as many as it had before take no memory.
+    /// Drops all entries, and keeps their room. So adding as many entries again takes no memory.
     pub fn clear(&mut self)
         ensures { self.new ≡ [] }
     {

@@ -5,7 +5,7 @@ ghost use Rattle.ent_alloc.specs.declared.refused.Refused.{Refused as Refusal};
 use ent_alloc::{Entities, Refused};
 use ent_handle::Handle;
 
-/// Who reserves handles for a [`Log`](crate::Log), one at a time.
+/// Reserves handles for a [`Log`](crate::Log), one at a time.
 pub trait Reserves {
     /// What a reservation may return, and what it leaves.
     ghost may_reserve: { Self → Result HandleValue Refusal → Self → Type 0 };
@@ -19,7 +19,7 @@ pub trait Reserves {
         ensures { may_reserve self.old result self.new };
 }
 
-/// It [requests](Entities::request) the handle, so that one caller alone can fill a log too.
+/// It [requests](Entities::request) the handle, so a single caller can fill a log too.
 impl Reserves for Entities {
     ghost use Rattle.ent_log.specs.Spawning.{Requests};
 

@@ -9,11 +9,11 @@ use ent_handle::Handle;
 use ent_shared::Shared;
 use std::alloc::Global;
 
-/// Fills what one system fills, with a reserver that is lent to it: the commands of a world, which take
-/// effect when their queue is applied, in a frame at its sync point; or the entries of a log.
+/// What one system fills, with a reserver that is lent to it: the commands of a world, which take
+/// effect when their queue is applied (in a frame, at its sync point), or the entries of a log.
 ///
-/// A spawn reserves its handle at once, so a system knows what it will have spawned. `O` is what is
-/// filled, and `S` the source of the handles.
+/// A spawn reserves its handle at once, so a system knows the handles of what it spawns. `O` is
+/// what is filled, and `S` the source of the handles.
 #[derive(Drop)]
 pub struct Commands<'a, O = CommandQueue, S: Source = Shared> {
     pub(crate) reserver: &'a mut S::Reserver,
@@ -40,8 +40,8 @@ impl<'a, O: Output, S: Source> Commands<'a, O, S> {
 impl<'a, O, S: Source> Commands<'a, O, S> {
     ghost use Rattle.ent_queue.specs.Commands.{output_of, reserver_of, source_of};
 
-    /// Goes on with what was begun before: what it has stays in front. The reserver may be another one
-    /// than before, of those of the source.
+    /// Goes on with what was begun before, whose entries stay in front. The reserver may be another
+    /// one of the source than before.
     pub fn resume(alloc: Global, source: &'a S, reserver: &'a mut S::Reserver, output: O) -> Self
         requires { S.serves source.now reserver.old }
         ensures same { result.reserver.ghost_name ≡ reserver.entry.ghost_name }
@@ -78,7 +78,7 @@ impl<'a, O, S: Source> Commands<'a, O, S> {
 }
 
 impl<O, S: Source> Commands<'_, O, S> {
-    /// Gives back what was filled, and the reserver to its owner.
+    /// Returns what was filled, and gives the reserver back to its owner.
     pub fn finish(self) -> O
         ensures reserver { self.exit.0.now ≡ self.entry.reserver.now }
         ensures output { result ≡ self.entry.output }

@@ -10,13 +10,13 @@ pub enum Entry<'a> {
     Spawn(Handle, BundleRef<'a>),
     /// These handles were reserved, and each is to have these components.
     SpawnMany(HandlesRef<'a>, BundleRef<'a>),
-    /// The entity gets these components, instead of those that it has under the same numbers.
+    /// The entity gets these components, in place of those that it has under the same numbers.
     Insert(Handle, BundleRef<'a>),
     /// The entity loses the component, if it has it.
     Remove(Handle, ComponentId),
-    /// The entity goes.
+    /// The entity is despawned.
     Despawn(Handle),
-    /// A spawn that was given no handle.
+    /// A spawn that got no handle.
     Refused {
         /// How many handles were requested.
         wanted: u32,

@@ -1,4 +1,4 @@
-//! What a system may ask whose handles are of a block.
+//! What a system whose handles come from a block may ask.
 ghost use Rattle.std.specs.Prelude.{◌≡◌};
 ghost use Rattle.ent_blocks.specs.Drawing.{left_of};
 ghost use Rattle.ent_queue.specs.Commands.{reserver_of};

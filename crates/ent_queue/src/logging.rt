@@ -1,4 +1,4 @@
-//! What a system does that fills a log.
+//! The calls of a system that fills a log.
 ghost use Rattle.std.specs.Prelude.{◌≡◌, ◌++◌, ◌∷◌, [], Result, IfOk, IfErr, IsErrOf};
 ghost use Rattle.std.specs.Prelude.{OnOk, OnErr};
 ghost use Rattle.ent_handle.specs.Handle.{Handle as HandleValue};

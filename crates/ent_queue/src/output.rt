@@ -5,7 +5,7 @@ use crate::queue::CommandQueue;
 use ent_log::Log;
 use std::alloc::Global;
 
-/// What a system fills: a [`CommandQueue`] of a world, or a [`Log`] of a caller's own commands.
+/// What a system fills: a [`CommandQueue`] of a world, or a [`Log`] of the caller's own commands.
 pub trait Output: Drop {
     /// The one without entries.
     ghost empty: { Self };

@@ -23,7 +23,7 @@ const REFUSAL: usize = 14;
 
 /// Commands in the order of issue, packed as bytes.
 ///
-/// [`Commands`](crate::Commands) makes it, and nothing else does.
+/// Only [`Commands`](crate::Commands) makes one.
 #[derive(Drop, Debug)]
 pub struct CommandQueue {
     bytes: Vec<u8>,

@@ -66,7 +66,7 @@ impl HandleList {
         Ok(HandleList { handles })
     }
 
-    /// Gives the handles back, with their memory.
+    /// Returns the handles, with their memory.
     #[must_use]
     pub fn into_vec(self) -> Vec<Handle>
         ensures { result.items ≡ self }

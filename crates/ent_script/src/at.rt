@@ -1,4 +1,4 @@
-/// Where an operation stands in a script. All three are numbered from 0.
+/// The place of an operation in a script. All three are numbered from 0.
 #[derive(Clone, Copy)]
 pub(crate) struct At {
     pub(crate) frame: usize,

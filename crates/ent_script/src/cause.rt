@@ -1,22 +1,22 @@
 ghost use Rattle.std.specs.Prelude.{◌≡◌};
 ghost use Rattle.ent_script.specs.Refusal.{operation_cause_text, script_cause_text};
 
-/// What is wrong with a script outside its frames: the first of these that is.
+/// What is wrong with a script outside its frames: the first of these that applies.
 #[derive(Clone, Copy, Debug, PartialEq, Eq, Hash)]
 pub enum ScriptCause {
-    /// It is no object.
+    /// It isn't an object.
     Top,
-    /// A key is none of the five.
+    /// A key is not one of the five.
     Key,
-    /// `format` is there and is neither 1 nor 2.
+    /// `format` is present and is neither 1 nor 2.
     Format,
-    /// `slots` is there and is no whole number from 1 to 4,294,967,295.
+    /// `slots` is present and isn't a whole number from 1 to 4,294,967,295.
     Slots,
-    /// `generations` is there and is no whole number from 1 to 2,147,483,647.
+    /// `generations` is present and isn't a whole number from 1 to 2,147,483,647.
     Generations,
-    /// `components` is no list of at most 256 different names.
+    /// `components` isn't a list of at most 256 different names.
     Components,
-    /// `frames` is no list of at most 1,000 elements.
+    /// `frames` isn't a list of at most 1,000 elements.
     Frames,
 }
 
@@ -38,23 +38,23 @@ impl ScriptCause {
 }
 
 /// What is wrong with an operation: the first test that it fails. The tests are made in the order
-/// of `specs/Reading`: its form, then what stands under its own key, then under the others.
+/// of `specs/Reading`: its form, then the value of its own key, then the others'.
 #[derive(Clone, Copy, Debug, PartialEq, Eq, Hash)]
 pub enum Cause {
-    /// It is no object, or its keys are those of no operation.
+    /// It isn't an object, or its keys are those of no operation.
     Shape,
-    /// A bundle is no object.
+    /// A bundle isn't an object.
     Bundle,
-    /// A component is none of the script's.
+    /// A component isn't one of the script's.
     Component,
-    /// The value of a component is no whole number.
+    /// The value of a component isn't a whole number.
     Value,
-    /// A count is no whole number from 0 to 65,536.
+    /// A count isn't a whole number from 0 to 65,536.
     Count,
-    /// An `as` is no name, or no earlier operation of the system has the `as` of a target.
+    /// An `as` isn't a name, or no earlier operation of the system has the `as` of a target.
     Name,
-    /// A target is no object of one key and a string, or the key is none of those that the format
-    /// has: three, and `birth` in format 2.
+    /// A target isn't an object of one key and a string, or the key isn't one of the format's:
+    /// three, and `birth` in format 2.
     Target,
     /// The handle of a target is not the text of one.
     Handle,

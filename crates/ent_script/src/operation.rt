@@ -4,13 +4,13 @@ use ent_handle::ComponentId;
 
 /// One thing that a system does.
 ///
-/// A spawn may bind a name to what it got. The names of a system are numbered from 0, in the order
-/// of their first `as`.
+/// A spawn may bind a name to the handles that it got. The names of a system are numbered from 0,
+/// in the order of their first `as`.
 #[derive(Drop)]
 pub enum Operation {
     /// Spawns an entity.
     Spawn {
-        /// What it is made of.
+        /// Its components.
         bundle: Bundle,
         /// The number of the name that is bound to it.
         binds: Option<usize>,
@@ -19,7 +19,7 @@ pub enum Operation {
     SpawnMany {
         /// How many: at most 65,536.
         count: u32,
-        /// What each is made of.
+        /// The components of each.
         bundle: Bundle,
         /// The number of the name that is bound to them.
         binds: Option<usize>,
@@ -28,19 +28,19 @@ pub enum Operation {
     Insert {
         /// The components, and their values.
         bundle: Bundle,
-        /// Whose.
+        /// The entities that get them.
         target: Target,
     },
-    /// Takes a component away.
+    /// Removes a component.
     Remove {
         /// The component.
         component: ComponentId,
-        /// Whose.
+        /// The entities that lose it.
         target: Target,
     },
-    /// Takes entities out.
+    /// Despawns entities.
     Despawn {
-        /// Which.
+        /// The entities.
         target: Target,
     },
 }

@@ -7,23 +7,23 @@ use json::Invalid;
 use std::alloc::{AllocError, AllocFailed};
 use thiserror::Error;
 
-/// Why a text is no script, or could not be read. Frames, systems and operations are numbered
+/// Why a text isn't a script, or could not be read. Frames, systems and operations are numbered
 /// from 0.
 #[derive(Clone, Copy, Debug, PartialEq, Eq, Hash, Error)]
 pub enum ReadFault {
-    /// The bytes are no JSON text.
+    /// The bytes aren't a JSON text.
     #[error("no JSON text")]
     Json,
     /// A test of the script outside its frames fails.
     #[error("no script")]
     Script(ScriptCause),
-    /// A frame is no list of at most 256 systems.
+    /// A frame isn't a list of at most 256 systems.
     #[error("no frame at {frame}")]
     Frame {
         /// Its number.
         frame: usize,
     },
-    /// A system is no list of at most 10,000 operations.
+    /// A system isn't a list of at most 10,000 operations.
     #[error("no system at {frame} {system}")]
     System {
         /// The number of its frame.
@@ -31,7 +31,7 @@ pub enum ReadFault {
         /// Its number in the frame.
         system: usize,
     },
-    /// An element of a system is no operation.
+    /// An element of a system isn't an operation.
     #[error("no operation at {frame} {system} {operation}")]
     Operation {
         /// The number of its frame.

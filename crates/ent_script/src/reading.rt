@@ -224,7 +224,7 @@ fn script_in(
 
 /// The script that a JSON text means.
 ///
-/// It takes time linear in the text, but for look-ups of names in logarithmic time. The text is
+/// It takes time linear in the text, and logarithmic time for each look-up of a name. The text is
 /// read twice, and no more than one operation is kept at a time as a value.
 ///
 /// # Errors

@@ -65,7 +65,7 @@ impl Script {
 
     /// The limits, the names of the components, and the frames. It takes no memory.
     ///
-    /// The frames are most of a long script. Whoever owns them can free each one after its run.
+    /// The frames are most of a long script. Their owner can free each one after its run.
     pub fn into_parts(self) -> (Limits, Vec<String>, Vec<Frame>)
         ensures limits { result.0 ≡ self.limits }
         ensures components { map string_bytes result.1.items ≡ self.components }

@@ -8,7 +8,7 @@ use std::marker::Model;
 /// The right of one caller to reserve from a shared allocator, and what is left of its quota.
 ///
 /// [`share`](crate::share) makes them, and [`Shared::close`](crate::Shared::close) takes them back.
-/// A caller that reserves in a thread of its own takes one along.
+/// A caller that reserves in a thread of its own takes one with it.
 #[derive(Drop)]
 pub struct Reserver {
     pub(crate) token: RecordsToken<Record>,

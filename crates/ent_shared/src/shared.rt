@@ -80,7 +80,7 @@ impl Shared {
         self.count
     }
 
-    /// The allocator as it was when the phase was opened. It stays so until the close.
+    /// The allocator as it was when the phase was opened. It doesn't change until the close.
     pub fn opened(&self) -> &Entities
         ensures start { result.now.allocator ≡ self.now.start }
         ensures rows { result.now.rows ≡ self.now.rows }
@@ -135,7 +135,7 @@ impl Shared {
         self.entities.row(handle)
     }
 
-    /// Reserves one handle, by one atomic step. It takes no memory and waits for nobody.
+    /// Reserves one handle, by one atomic step. It takes no memory, and never waits.
     ///
     /// The handle is what the allocator would have given to one caller at that moment.
     ///
@@ -170,8 +170,8 @@ impl Shared {
         Ok(handle)
     }
 
-    /// Reserves `n` handles at once, by one atomic step. It takes no memory and waits for nobody. A
-    /// request of 0 makes no step and is always served.
+    /// Reserves `n` handles at once, by one atomic step. It takes no memory, and never waits. A
+    /// request for 0 makes no step and is always served.
     ///
     /// The handles are what the allocator would have given to one caller at that moment, in the
     /// order of [`Entities::reply`]. They borrow from the allocator.
@@ -218,8 +218,7 @@ impl Shared {
     }
 
     /// Orders two reservers: every later reservation by `a` comes after everything that `b` has
-    /// reserved or learned of so far. It makes two atomic steps, takes no memory and waits for
-    /// nobody.
+    /// reserved or learned of so far. It makes two atomic steps, takes no memory, and never waits.
     pub fn meet(&self, a: &mut Reserver, b: &mut Reserver)
         requires first { IsOf self.now a.old }
         requires second { IsOf self.now b.old }
@@ -278,7 +277,7 @@ impl Shared {
 
     /// Ends the phase although some reservers may be lost. The cursor tells how many handles were
     /// requested in all, but not which of the lost reservers' requests were refused. So the front
-    /// of the pool counts as reserved, as far as it goes, also those handles that nobody got. It
+    /// of the pool counts as reserved, as far as it goes, including handles that no caller got. It
     /// takes no memory.
     pub fn close_lost(self, reservers: Vec<Reserver>) -> Entities
         requires own { All (IsOf self) reservers.items }

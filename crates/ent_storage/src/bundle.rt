@@ -59,7 +59,7 @@ impl<const INLINE: usize> Bundle<INLINE> {
     ///
     /// # Errors
     ///
-    /// Out of memory, which needs a count of more than `INLINE`.
+    /// Out of memory, only for a count of more than `INLINE`.
     pub fn with_capacity(alloc: Global, count: usize) -> Result<Self, Memory>
         ensures ok { IfOk result (λ bundle. bundle ≡ []) }
         ensures memory { OnErr result (INLINE < count) }
@@ -74,7 +74,7 @@ impl<const INLINE: usize> Bundle<INLINE> {
     ///
     /// # Errors
     ///
-    /// Out of memory, which needs more than `INLINE` different components.
+    /// Out of memory, only for more than `INLINE` different components.
     #[inline(always)]
     pub fn of(alloc: Global, items: &[(ComponentId, i64)]) -> Result<Self, Memory>
         ensures ok { IfOk result (λ bundle. bundle ≡ bundle_of items.now) }
@@ -93,8 +93,8 @@ impl<const INLINE: usize> Bundle<INLINE> {
     ///
     /// # Errors
     ///
-    /// Out of memory, which needs a component that is not there and at least `INLINE` that are.
-    /// Nothing has changed.
+    /// Out of memory, only if the component isn't there and at least `INLINE` others are. Nothing
+    /// has changed.
     #[inline(always)]
     pub fn put(&mut self, id: ComponentId, value: i64) -> Result<(), Memory>
         ensures ok { OnOk result (self.new ≡ put component_cmp id value self.old) }

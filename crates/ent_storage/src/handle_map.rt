@@ -38,12 +38,12 @@ use std::mem;
 /// value.
 ///
 /// It is what this package recommends for components: one map for each type, beside an
-/// [`Entities`](forgeni::Entities) or in what a program calls its world. A look-up is one access to a
-/// vector by the handle's index, and a comparison of the generation. So a map has room for as many
-/// slots as the greatest index of its handles tells, and nothing moves when a value goes.
+/// [`Entities`](forgeni::Entities) or in what a program calls its world. A look-up is one access to
+/// a vector by the handle's index, and a comparison of the generation. So a map has room for all
+/// slots up to the greatest index of its handles, and nothing moves when a value goes.
 ///
-/// It does not know which handles an allocator has given or freed. A value that nobody removes stays
-/// until a later occupant of its slot gets one, and can't be found by that one's handle.
+/// It does not know which handles an allocator has given or freed. A value that isn't removed stays
+/// until a later occupant of its slot gets one, and that occupant's handle doesn't find it.
 /// [`Follows::despawn`](forgeni::Follows::despawn) frees an entity and removes its value.
 ///
 /// ```
@@ -73,10 +73,10 @@ use std::mem;
 /// # Ok::<(), Box<dyn std::error::Error + Send + Sync>>(())
 /// ```
 ///
-/// **A handle from a save or a network may make the map take much memory.** The handle's index says
-/// for how many slots the map takes room, and `200000000v1` is a well-formed handle. So give a map
-/// for such handles a [limit](Self::with_limit). It refuses each handle whose slot is at or above
-/// it:
+/// **A handle from a save or a network can make the map take much memory.** The map takes room for
+/// all slots up to the handle's index, and `200000000v1` is a well-formed handle. So give a map for
+/// such handles a [limit](Self::with_limit). The map refuses each handle whose slot is at or above
+/// the limit:
 ///
 /// ```
 /// use forgeni::{Entities, Handle, HandleMap, InsertError};
@@ -91,8 +91,8 @@ use std::mem;
 /// # Ok::<(), Box<dyn std::error::Error + Send + Sync>>(())
 /// ```
 ///
-/// A value takes 4 bytes more than its own, for its generation, and what alignment adds. A slot of
-/// values of up to 4 bytes has 8 bytes, and one of values of 8 bytes has 16.
+/// A value takes 4 bytes more than its size, for its generation, and what alignment adds. A slot
+/// has 8 bytes for values of up to 4 bytes, and 16 bytes for values of 8.
 ///
 /// Contracts see a finite map from handles to values (`values`), how many slots there are (`slots`),
 /// for how many slots there is room (`room`), and for how many slots there may be values (`limit`).
@@ -150,8 +150,8 @@ impl<T> HandleMap<T> {
         }
     }
 
-    /// A map without values and without a limit, with room for just that many slots. It takes no
-    /// memory for none.
+    /// A map without values and without a limit, with room for exactly that many slots. For 0 slots
+    /// it takes no memory.
     ///
     /// # Errors
     ///
@@ -215,7 +215,7 @@ impl<T> HandleMap<T> {
         self.len() == 0
     }
 
-    /// How many slots there is room for. A handle whose index is below it is inserted without
+    /// How many slots there is room for. Inserting a handle whose index is below it takes no
     /// memory.
     #[must_use]
     pub fn capacity(&self) -> usize
@@ -318,7 +318,7 @@ impl<T> HandleMap<T> {
         Ok(())
     }
 
-    /// Gives back the room that no slot needs, as `Vec::shrink_to_fit` does. If there is no memory to
+    /// Frees the room that no slot needs, as `Vec::shrink_to_fit` does. If there is no memory to
     /// move the slots to, the room stays.
     ///
     /// ```
@@ -339,7 +339,7 @@ impl<T> HandleMap<T> {
         self.slots.shrink_to_fit();
     }
 
-    /// The handles and their values, by rising slot. The time is that of a look at each slot.
+    /// The handles and their values, by rising slot. It takes time for each slot.
     ///
     /// ```
     /// use forgeni::{Entities, HandleMap};
@@ -401,7 +401,8 @@ impl<T: Drop> HandleMap<T> {
     ///
     /// # Errors
     ///
-    /// [`HandedBack`] has the value, and nothing has changed. The first that holds is the reason:
+    /// [`HandedBack`] has the value, and nothing has changed. The reason is the first of these that
+    /// applies:
     ///
     /// - `Limit`: the handle's slot is at or above the [`limit`](Self::limit), or the handle is
     ///   [`Handle::PLACEHOLDER`], which no map takes.
@@ -443,7 +444,7 @@ impl<T: Drop> HandleMap<T> {
         Ok(before.into_value(handle.generation()))
     }
 
-    /// What the map has for the handle: a value, or none. What is done with the entry looks for the
+    /// What the map has for the handle: a value, or none. Each call of the entry looks for the
     /// handle once more.
     ///
     /// ```
@@ -505,7 +506,7 @@ impl<T: Drop> HandleMap<T> {
         slot.into_value(handle.generation())
     }
 
-    /// Calls `keep` on each value once, by rising slot, and drops the values of which it returns
+    /// Calls `keep` on each value once, by rising slot, and drops the values for which it returns
     /// `false`. It may change those that stay. The room stays.
     ///
     /// ```
@@ -609,9 +610,9 @@ impl<T: Clone> HandleMap<T> {
     /// Drops all values, and gives this map a clone of each value of the source, and the slots and the
     /// limit of the source.
     ///
-    /// If there is room for the slots of the source ([`capacity`](Self::capacity)), it takes no memory
-    /// but for the clones. So a map into which another one is cloned again and again takes memory only
-    /// as that one grows.
+    /// If there is room for the slots of the source ([`capacity`](Self::capacity)), it takes memory
+    /// only for the clones. So a map into which another one is cloned again and again takes memory
+    /// only as that one grows.
     ///
     /// ```
     /// use forgeni::{Handle, HandleMap};
@@ -629,9 +630,9 @@ impl<T: Clone> HandleMap<T> {
     ///
     /// # Errors
     ///
-    /// Out of memory for the slots of the source. Nothing has changed. Or, where a clone may return an
-    /// error, which Rust's may not: out of memory for a clone, with room for the slots. No values are
-    /// left.
+    /// Out of memory for the slots of the source: nothing has changed. Where a clone may return an
+    /// error, as Rust's may not, also out of memory for a clone, with room for the slots: no values
+    /// are left.
     ///
     /// # Panics
     ///

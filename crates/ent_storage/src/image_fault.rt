@@ -10,7 +10,8 @@ pub enum StorageImageFault {
     /// There are fewer bytes than the entities have, or more.
     #[error("bytes are missing or left over")]
     Length,
-    /// No entity has the last of so many components, or there are no components of such numbers.
+    /// No entity has the last of that many components, or there are no components with such
+    /// numbers.
     #[error("{width} components can't be right")]
     Width {
         /// How many components the image has.
@@ -19,7 +20,7 @@ pub enum StorageImageFault {
     /// The bytes of the entity at this place are those of no entity.
     #[error("entity {place} is damaged")]
     Entity {
-        /// How many entities stand before it.
+        /// How many entities come before it.
         place: usize,
     },
     /// Out of memory.

@@ -26,7 +26,7 @@ impl Storage {
         self.place(handle).is_some()
     }
 
-    /// When and by whom the entity was brought to life, if it is there.
+    /// The birth of the entity, if it is there.
     #[must_use]
     pub fn birth(&self, handle: Handle) -> Option<Birth>
         ensures { result ≡ birth_of self.now.entities handle }
@@ -92,11 +92,11 @@ impl Storage {
         self.living.birth(place)
     }
 
-    /// The handles of all entities, by birth and then by handle. The time is that of a sort.
+    /// The handles of all entities, by birth and then by handle. It takes the time of a sort.
     ///
     /// # Errors
     ///
-    /// Out of memory for the list. It never comes if there are no entities.
+    /// Out of memory for the list. It is never returned if there are no entities.
     pub fn by_birth(&self) -> Result<Vec<Handle>, Memory>
         ensures ok { IfOk result (λ handles. ListsAll self.now.entities handles.items) }
         ensures memory { OnErr result (self.now.entities ≢ map.empty) }
@@ -105,10 +105,10 @@ impl Storage {
         Ok(handles_in_order(self.alloc, births)?)
     }
 
-    /// The handle of the entity that was brought to life there and then, if there is one. If
-    /// several entities have the birth, it is the least of their handles.
+    /// The handle of the entity with that birth, if there is one. If several entities have the
+    /// birth, it is the least of their handles.
     ///
-    /// It takes no memory. The time is that of a look at each entity.
+    /// It takes no memory, and time for each entity.
     #[must_use]
     pub fn of_birth(&self, birth: Birth) -> Option<Handle>
         ensures found { IfSome result (λ handle.
@@ -123,7 +123,7 @@ impl Storage {
     }
 
     /// The place and the value of each entity that has the component, in no stated order. It takes
-    /// no memory, and a walk over it is a walk over one slice.
+    /// no memory, and is one slice.
     #[must_use]
     pub fn dense(&self, id: ComponentId) -> &[(usize, i64)]
         ensures has { (place : ℕ) (value : ℤ) → Contains result.now (place, value)
@@ -133,12 +133,12 @@ impl Storage {
         self.living.pairs(id)
     }
 
-    /// The handles of the entities that have the component, by birth and then by handle. The time
-    /// is that of a sort of those that are listed.
+    /// The handles of the entities that have the component, by birth and then by handle. It takes
+    /// the time of a sort of those that are listed.
     ///
     /// # Errors
     ///
-    /// Out of memory for the list. It never comes if no entity has the component.
+    /// Out of memory for the list. It is never returned if no entity has the component.
     pub fn with(&self, id: ComponentId) -> Result<Vec<Handle>, Memory>
         ensures ok { IfOk result (λ handles. ListsWith id self.now.entities handles.items) }
         ensures memory { OnErr result

@@ -15,8 +15,8 @@ use ent_handle::{Birth, ComponentId, Handle, Memory};
 use std::alloc::Global;
 use std::marker::Model;
 
-/// What living entities are made of: for each handle its birth, and a value for each component that
-/// the entity has.
+/// The births and components of living entities: for each handle its birth, and a value for each
+/// component that the entity has.
 ///
 /// It does not know which handles an allocator has given: keep it beside an
 /// [`Entities`](forgeni::Entities). A [`World`](forgeni::World) has both.
@@ -35,11 +35,11 @@ use std::marker::Model;
 /// # Ok::<(), Box<dyn std::error::Error>>(())
 /// ```
 ///
-/// It may go to another thread, and many threads may read it at once: it is `Send` and `Sync`.
+/// It is `Send` and `Sync`: it can go to another thread, and many threads can read it at once.
 ///
-/// To look an entity up by its handle takes constant time if the handles are those of an allocator
-/// that has retired few slots, and else logarithmic time. The values of each component lie in a
-/// vector of their own.
+/// Looking up an entity by its handle takes constant time if the handles are those of an allocator
+/// that has retired few slots, and otherwise logarithmic time. The values of each component lie in
+/// a vector of their own.
 ///
 /// Contracts see a finite map from handles to births and components (`entities`), the handle at each
 /// place of the vector of entities (`places`), and for how many more entities there is room
@@ -149,7 +149,7 @@ impl Storage {
     /// # Errors
     ///
     /// Out of memory for the room that the source has beyond that of this storage, or for values of
-    /// components. All memory is asked for before anything changes, so the entities are as before.
+    /// components. All memory is allocated before anything changes, so the entities are as before.
     /// `spare` may have grown.
     pub fn try_clone_from(&mut self, source: &Storage) -> Result<(), Memory>
         ensures entities { OnOk result (self.new.entities ≡ source.now.entities) }
@@ -298,12 +298,12 @@ impl Storage {
     /// Adds an entity without components. With `spare` above 0 it takes no memory, and `spare` is
     /// then less by 1.
     ///
-    /// The time is that of one look-up, if the handle comes after all others, or if the index has a
+    /// It takes the time of one look-up if the handle comes after all others, or if the index has a
     /// pair that doesn't count where the new pair goes, or beside it. With an allocator's handles
     /// that is the pair of the slot's last occupant, or of a slot that was passed over: the index
-    /// makes those as far as it has room ([`reserve_slots`](Self::reserve_slots)). Else the later
-    /// pairs of the index move up by one. If the index is full, the pairs of all that are gone are
-    /// dropped first, in one pass.
+    /// makes those as far as it has room ([`reserve_slots`](Self::reserve_slots)). Otherwise the
+    /// later pairs of the index move up by one. If the index is full, the pairs of all entities
+    /// that are gone are dropped first, in one pass.
     ///
     /// # Errors
     ///
@@ -360,11 +360,11 @@ impl Storage {
         }
     }
 
-    /// Takes the entity out, with all its components. It takes no memory, and `spare` is then greater
+    /// Removes the entity, with all its components. It takes no memory, and `spare` is then greater
     /// by 1.
     ///
-    /// The time is that of two look-ups, and of a look at each component that any entity has ever
-    /// had. The index stays as it is, but for the entity that moves.
+    /// It takes the time of two look-ups, and time for each component that any entity has ever had.
+    /// The index stays as it is, except for the entity that moves.
     ///
     /// # Errors
     ///
@@ -505,8 +505,8 @@ impl Storage {
         Ok(())
     }
 
-    /// Takes the component out of the entity, and returns the value that it had, or `None` if the
-    /// entity does not have it. It takes no memory.
+    /// Removes the component from the entity, and returns its value, or `None` if the entity
+    /// doesn't have it. It takes no memory.
     ///
     /// # Errors
     ///

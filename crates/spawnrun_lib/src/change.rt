@@ -19,9 +19,9 @@ use ent_world::View;
 pub(crate) enum Change<'a> {
     /// Sets these components.
     Insert(&'a Bundle),
-    /// Takes this component away.
+    /// Removes this component.
     Remove(ComponentId),
-    /// Takes the entity out.
+    /// Despawns the entity.
     Despawn,
 }
 

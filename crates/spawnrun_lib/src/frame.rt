@@ -13,7 +13,7 @@ use ent_world::{SyncReport, World};
 use std::alloc::Global;
 use std::thread::Threads;
 
-/// Runs a frame of these systems on that many workers, with its sync point.
+/// Runs a frame of these systems on that many workers, and its sync point.
 pub(crate) fn run<R>(
     rt: &R,
     alloc: Global,

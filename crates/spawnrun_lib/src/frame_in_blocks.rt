@@ -16,7 +16,7 @@ use std::alloc::Global;
 use std::marker::Brand;
 use std::thread::Threads;
 
-/// Why a frame in blocks didn't end. Each time memory ran out.
+/// When memory ran out in a frame in blocks, so that it didn't end.
 #[derive(Clone, Copy, PartialEq, Eq)]
 pub(crate) enum Undone {
     /// Before any system ran, or after all had run.
@@ -76,12 +76,12 @@ where
     }
 }
 
-/// Runs a frame of these systems on that many workers, each with a block of so many handles, with its
-/// sync point.
+/// Runs a frame of these systems on that many workers, each system with a block of that many
+/// handles, and its sync point.
 ///
 /// # Errors
 ///
-/// [`Undone`] if memory ran out, and then the world is dropped.
+/// [`Undone`] if memory ran out. The world is dropped then.
 pub(crate) fn run<R>(
     rt: &R,
     alloc: Global,

@@ -13,10 +13,10 @@ use serde_json::Value;
 use std::alloc::Global;
 use std::fmt::InlineText;
 
-/// What stands where a test failed.
+/// What is in the place where a test failed.
 #[derive(Clone, Copy)]
 pub(crate) enum Part<'a> {
-    /// Nothing does.
+    /// Nothing is there.
     Absent,
     /// A value that is refused.
     Refused(&'a Value),
@@ -41,7 +41,7 @@ impl<'a> Part<'a> {
         }
     }
 
-    /// A list that is too long, or what stands there instead of a list.
+    /// A list that is too long, or what is there instead of a list.
     pub(crate) fn instead_of_list(value: Option<&'a Value>) -> Part<'a>
         ensures { place_of result ≡ list_place (option_map (λ v. view v.now) value.entry) }
     {

@@ -13,12 +13,12 @@ pub(crate) enum Product {
     Refusal(Refusal),
 }
 
-/// What is said of an input that is refused.
+/// The message on a refused input.
 #[derive(Drop)]
 pub(crate) struct Refusal {
     /// The line of output.
     pub line: Vec<u8>,
-    /// What the test wants that the input fails.
+    /// What the test that the input fails expects.
     pub wants: &'static str,
     /// What the test found.
     pub found: Found,

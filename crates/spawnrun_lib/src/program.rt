@@ -1,4 +1,4 @@
-//! The program: what its words ask for, done between two devices, and what it says on the error
+//! The program: it does what its arguments ask for between two devices, and writes to the error
 //! stream.
 ghost use Rattle.std.specs.Prelude.{◌≡◌, ◌≢◌, ◌≤◌, ◌+◌, ◌⊎◌, [], min, map, length, codes, true};
 ghost use Rattle.std.specs.Prelude.{IfSome};
@@ -18,7 +18,7 @@ use std::alloc::Global;
 use std::convert::AsStr;
 use std::thread::Threads;
 
-/// Does what the words after the program's name ask for, and returns the exit status.
+/// Does what the program's arguments ask for, and returns the exit status.
 ///
 /// | Status | Meaning | On the error stream |
 /// |---|---|---|

@@ -1,4 +1,4 @@
-//! How far a run is, and who tells it on a terminal.
+//! How far a run is, and its line on a terminal.
 ghost use Rattle.std.specs.Prelude.{◌≡◌, ◌+◌, ◌⊎◌, true, false, None, OnErr, OnOk};
 ghost use Rattle.std.specs.Io.KnownBytes.{Appends};
 ghost use Rattle.spawnrun_lib.specs.Progress.{done_text, empty_text};
@@ -7,7 +7,7 @@ use cli::{Failed, Sink};
 use itoa::Buffer;
 use std::time::{Clock, Duration, Instant};
 
-/// Is told how far a run is.
+/// Gets the progress of a run.
 pub trait Progress {
     /// So many of all are done, and the next one begins.
     fn tell(&mut self, done: usize, of: usize);
@@ -16,7 +16,7 @@ pub trait Progress {
     fn end(&mut self);
 }
 
-/// Doesn't want to know.
+/// Ignores it.
 impl Progress for () {
     fn tell(&mut self, _done: usize, _of: usize) {}
 
@@ -26,7 +26,7 @@ impl Progress for () {
 // The time between two reports, in seconds.
 const STEP: u64 = 1;
 
-/// Tells a terminal once a second how far a run is. Each line stands over the one before, and the
+/// Writes to a terminal once a second how far a run is. Each line replaces the one before, and the
 /// last is removed. A failure of the terminal changes nothing.
 #[derive(Drop)]
 pub(crate) struct Teller<'a, R, T> {
@@ -38,8 +38,8 @@ pub(crate) struct Teller<'a, R, T> {
 }
 
 impl<'a, R: Clock, T: Sink> Teller<'a, R, T> {
-    /// One that has told nothing. It never tells anything if that isn't wanted, or if the clock
-    /// can't be read.
+    /// One that has written nothing. It never writes anything if that isn't asked for, or if the
+    /// clock can't be read.
     pub fn new(clock: &'a R, terminal: T, is_wanted: bool) -> Self
         ensures terminal { result.terminal ≡ terminal }
         ensures unwanted { is_wanted ≡ false → result.last ≡ None }

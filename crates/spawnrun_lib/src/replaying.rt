@@ -18,8 +18,8 @@ use std::alloc::Global;
 // The events between two reports of how far a run is.
 const STEP: usize = 65_536;
 
-/// Runs the schedule that the input spells over an empty allocator of these limits, and gives a line
-/// for each event, or says why the input spells no schedule.
+/// Runs the schedule that the input spells over an empty allocator of these limits, and returns a
+/// line for each event, or says why the input spells no schedule.
 ///
 /// # Errors
 ///

@@ -30,7 +30,7 @@ impl Model for Roll {
 }
 
 impl Roll {
-    /// Nobody is listed. It takes no memory.
+    /// No entity is listed. It takes no memory.
     pub(crate) fn new(alloc: Global) -> Self
         ensures { result ≡ [] }
     {

@@ -1,4 +1,4 @@
-//! The program on the words that it was started with.
+//! The program, run on its arguments.
 ghost use Rattle.std.specs.Prelude.{◌≤◌};
 
 use crate::program::execute;
@@ -18,13 +18,12 @@ use std::rt::Files;
 use std::thread::Threads;
 use std::time::Clock;
 
-/// Runs the program on the words that it was started with, and returns its exit status: that of
-/// `execute`, or of `refuse_words` if the words can't be read. If `tells`, the terminal shows how
-/// far a task is.
+/// Runs the program on its arguments, and returns its exit status: that of `execute`, or of
+/// `refuse_words` if the arguments can't be read. If `tells`, the terminal shows how far a task is.
 ///
-/// If the last word is one too many and no option, it names a file: the program runs on the words
-/// before it, with the file for its input. The status is 4 if there is no such file, if it is a
-/// folder, or if it can't be opened, and a line on the error stream says so.
+/// A surplus last argument that is no option is the input file: the program runs on the arguments
+/// before it, with the file as its input. If there is no such file, if it is a folder, or if it
+/// can't be opened, the status is 4, and a line on the error stream says so.
 ///
 /// If the output is a pipe whose reader has left, the status is 4, and nothing is written to the error
 /// stream.

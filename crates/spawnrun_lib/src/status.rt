@@ -6,7 +6,7 @@ use ent_handle::Memory;
 
 /// How a run of the program ended.
 ///
-/// Its number is the program's exit status. The number 2 stands for words that are no command line.
+/// Its number is the program's exit status. The number 2 is for arguments that are no command line.
 #[derive(Clone, Copy, Debug, PartialEq, Eq)]
 pub enum Status {
     /// The input was accepted, and all of the output was written.
@@ -15,7 +15,7 @@ pub enum Status {
     Refused,
     /// Memory ran out. Nothing was written.
     Memory,
-    /// A call of a device failed. How much went out isn't said.
+    /// A call of a device failed. Any part of the output may have gone out.
     Device,
 }
 

@@ -1,4 +1,4 @@
-//! What the words after the program's name ask for.
+//! What the program's arguments ask for.
 ghost use Rattle.std.specs.Prelude.{◌≡◌, ◌≢◌, [], IfOk, IfErr, OnOk, map, Ok, Some, true, false};
 ghost use Rattle.std.specs.Prelude.{codes, ◌<◌, IfSome};
 ghost use Rattle.clap.specs.Words.{app_of, fault_of, first_of, rule_of, takes};
@@ -203,12 +203,12 @@ fn run_of(options: &ArgMatches<'_>) -> Task
     }
 }
 
-/// Reads the task from the words after the program's name.
+/// Reads the task from the program's arguments.
 ///
 /// # Errors
 ///
-/// - `Line` if clap finds a fault in the words, or if they ask for help.
-/// - `Memory` if memory ran out. Words that clap takes are refused for this alone.
+/// - `Line` if clap finds a fault in the arguments, or if they ask for help.
+/// - `Memory` if memory ran out. Arguments that clap takes are refused for this alone.
 pub fn command_line<S: AsStr>(alloc: Global, words: &[S]) -> Result<Task, LineFault>
     ensures asked { IfOk result (AsksFor (map S.text words.now)) }
     ensures taken { OnOk result (fault_of program (map S.text words.now) ≡ []) }
@@ -225,7 +225,7 @@ pub fn command_line<S: AsStr>(alloc: Global, words: &[S]) -> Result<Task, LineFa
     }
 }
 
-/// Whether the words ask for a task.
+/// Whether the arguments ask for a task.
 ///
 /// # Errors
 ///

@@ -186,7 +186,8 @@ fn append_world(
 /// # Errors
 ///
 /// `Memory` if there is no memory for the list of the entities, or no room for all of the text.
-/// `out` keeps its items then. It never comes if nobody lives and `out` has room for the text.
+/// `out` keeps its items then. It is never returned if no entity lives and `out` has room for the
+/// text.
 pub fn write_world(
     world: &World,
     names: &[String],

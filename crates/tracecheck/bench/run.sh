@@ -6,7 +6,7 @@
 set -eu
 here=$(cd "$(dirname "$0")" && pwd)
 crate=$here/..
-rust=$here/../../../rust/forgeni
+rust=$here/../../../rust/offline
 [ -x "$crate/out/tracecheck" ] || (cd "$crate" && rt run </dev/null) >/dev/null 2>&1
 cargo build --offline --quiet --profile programs --features programs --manifest-path "$rust/Cargo.toml"
 echo "| Trace | Lines | Bytes | s | ns a line | Peak MiB | s by cargo | Ratio | Peak MiB by cargo |"

@@ -19,7 +19,7 @@ use std::alloc::{AllocError, Global};
 /// Why the lines of a trace are not taken any further.
 #[derive(Drop)]
 pub enum End {
-    /// What is to be said of the trace.
+    /// The verdict on the trace.
     Verdict(Verdict),
     /// Memory ran out, or no number was left for a line or for the handles given.
     Memory,
@@ -33,8 +33,8 @@ impl From<AllocError> for End {
     }
 }
 
-/// Takes the lines of a trace as texts, one after the other. It holds what compares them, and nothing
-/// of the lines.
+/// Takes the lines of a trace as texts, one after the other. It keeps the comparer, and nothing of
+/// the lines.
 #[derive(Drop)]
 pub struct Checking {
     alloc: Global,
@@ -140,7 +140,7 @@ impl Checking {
         }
     }
 
-    /// Says what is to be said of a trace that ends here.
+    /// The verdict on a trace that ends here.
     pub fn finish(self) -> End
         ensures { (begin : Allocator) (texts : List (List ℕ)) → HasTaken begin texts self
             → MayEnd begin texts result }

@@ -1,4 +1,4 @@
-//! Where a trace begins, by the words after the program's name.
+//! Where a trace begins, by the program's arguments.
 ghost use Rattle.std.specs.Prelude.{◌≡◌, ◌≢◌, ◌⊎◌, ◌∷◌, [], IfOk, IfErr, IfSome, OnOk, OnErr, Ok, Some};
 ghost use Rattle.std.specs.Prelude.{None, codes, map, option_map, true, false};
 ghost use Rattle.clap.specs.Words.{app_of, kind_of, rule_of};
@@ -136,13 +136,13 @@ fn beginning_of(alloc: Global, options: &ArgMatches<'_>) -> Result<Beginning, Li
     }
 }
 
-/// Reads from the words after the program's name where the trace begins.
+/// Reads from the program's arguments where the trace begins.
 ///
 /// # Errors
 ///
-/// - `Line` if clap finds a fault in the words, if they ask for help, or if they give limits beside an
-///   image.
-/// - `Memory` if memory ran out. Words that are a command line are refused for this alone.
+/// - `Line` if clap finds a fault in the arguments, if they ask for help, or if they give limits
+///   beside an image.
+/// - `Memory` if memory ran out. Arguments that are a command line are refused for this alone.
 pub fn command_line<S: AsStr>(alloc: Global, words: &[S]) -> Result<Beginning, LineFault>
     ensures asked { IfOk result (AsksFor (map S.text words.now)) }
     ensures taken { OnOk result (fault_in (map S.text words.now) ≡ []) }
@@ -154,7 +154,7 @@ pub fn command_line<S: AsStr>(alloc: Global, words: &[S]) -> Result<Beginning, L
     beginning_of(alloc, &matches)
 }
 
-/// Whether the words ask for a check.
+/// Whether the arguments ask for a check.
 ///
 /// # Errors
 ///
@@ -171,8 +171,8 @@ pub fn ask_for_a_check<S: AsStr>(alloc: Global, words: &[S]) -> Result<bool, All
     }
 }
 
-/// The file of the image that the words ask to begin with, if they do. Words that are no command line
-/// ask for none.
+/// The file of the image that the arguments ask to begin with, if they do. Arguments that are no
+/// command line ask for none.
 ///
 /// # Errors
 ///

@@ -12,7 +12,7 @@ use std::alloc::{AllocError, Global};
 /// Why there is no allocator to begin with.
 #[derive(Clone, Copy)]
 pub enum Unread {
-    /// The bytes are the image of none.
+    /// The bytes are the image of no allocator.
     Fault(ImageFault),
     /// Memory ran out.
     Memory,

@@ -1,5 +1,5 @@
-//! The program: what its words ask for, done between two devices, and what it writes to the error stream
-//! and to a terminal.
+//! The program: it does what its arguments ask for between two devices, and writes to the error
+//! stream and to a terminal.
 ghost use Rattle.std.specs.Prelude.{◌≡◌, ◌≢◌, ◌≤◌, ◌+◌, ◌⊎◌, None, codes, map, true, false};
 ghost use Rattle.std.specs.Io.KnownBytes.{Appends};
 ghost use Rattle.cli.specs.Device.{OneFails};
@@ -21,9 +21,10 @@ use std::io::{Read, Write};
 use std::rt::Files;
 use std::{env, io};
 
-/// Checks the trace that the input gives, and returns the exit status. By the words after the program's
-/// name it begins with an allocator of these limits that has given nothing, or with the one whose image
-/// is in the file that they name. Then `image` gives the bytes of this file, and else it isn't used.
+/// Checks the trace that the input gives, and returns the exit status. As the arguments say, the
+/// trace begins with an allocator of these limits that has given nothing, or with the one whose
+/// image is in the file that they name. In that case `image` gives the bytes of this file;
+/// otherwise it isn't used.
 ///
 /// | Status | Meaning | On the error stream |
 /// |---|---|---|
@@ -154,11 +155,11 @@ fn execute_on<R: Files + AllocGlobal, I: Source, O: Sink, E: Sink, T: Sink>(
     }
 }
 
-/// Runs the program on the words that it was started with, and returns its exit status.
+/// Runs the program on its arguments, and returns its exit status.
 ///
-/// If the last word is one too many and no option, it names a file: the program runs on the words
-/// before it, with the file for its input. The status is 4 if there is no such file, if it is a
-/// folder, or if it can't be opened, and a line on the error stream says so. The same holds for the
+/// A surplus last argument that is no option is the input file: the program runs on the arguments
+/// before it, with the file as its input. If there is no such file, if it is a folder, or if it
+/// can't be opened, the status is 4, and a line on the error stream says so. The same holds for the
 /// file of an image.
 ///
 /// If the output is a pipe whose reader has left, the status is 4, and nothing is written to the error

@@ -54,11 +54,11 @@ fn check<I: Source, T: Sink>(
     Ok(End::Memory)
 }
 
-/// Checks the trace that the input gives, which begins in the state of this allocator, and writes what
-/// was found: one line, or two for a difference.
+/// Checks the trace that the input gives, which begins in the state of this allocator, and writes
+/// the verdict: one line, or two for a difference.
 ///
-/// It holds the checker, the line that has no end yet, and one piece of the input. So an input may
-/// have any length. It stops at the first line that is none or differs.
+/// It keeps the checker, the line that has no end yet, and one piece of the input. So an input may
+/// have any length. It stops at the first line that isn't one of a trace, or that differs.
 ///
 /// After `Memory`, or a failure of the input, the output is as it was. `Device` is one failed call
 /// of one of the two devices. If `tells`, it writes to the terminal after each million lines how many

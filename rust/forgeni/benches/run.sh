@@ -35,5 +35,5 @@ if [ -n "$slab" ]; then
 else
     echo "run.sh: the sharded slab is left out; apt-get install librust-sharded-slab-dev brings it" >&2
 fi
-cd "$package"
+cd "$package/../offline"
 RUSTFLAGS="$flags" CARGO_TARGET_DIR="$out/target" cargo bench --offline --quiet -- "$@"

@@ -18,7 +18,7 @@ macro_rules! begins_and_clones {
         }
 
         /// By [`try_clone`](Self::try_clone) and [`try_clone_from`](Self::try_clone_from). If
-        /// memory runs out, the process ends, as when a `Vec` is cloned.
+        /// memory runs out, the process ends, as for a `Vec`.
         impl Clone for $name {
             fn clone(&self) -> Self {
                 self.try_clone().unwrap_or_else(|refused| end(refused))
@@ -36,8 +36,8 @@ begins_and_clones!(Entities);
 begins_and_clones!(World);
 begins_and_clones!(Storage);
 
-/// Two allocators are equal if they are the same to every call, whatever came before: if they have
-/// one image. The time is that of a look at each slot, and no memory is taken.
+/// Two allocators are equal if they are the same to every call, whatever happened to them before:
+/// if they have the same image. The comparison looks at each slot, and takes no memory.
 ///
 /// ```
 /// use forgeni::Entities;

@@ -1,4 +1,4 @@
-//! What entities are made of, and when they were born.
+//! The numbers of components, and births.
 
 use core::fmt;
 
@@ -9,7 +9,7 @@ impl Birth {
     pub const NO_SYSTEM: u32 = u32::MAX;
 }
 
-/// It is written `2.0.1`: frame, system and ordinal.
+/// A birth is written `2.0.1`: frame, system and ordinal.
 impl fmt::Display for Birth {
     fn fmt(&self, out: &mut fmt::Formatter<'_>) -> fmt::Result {
         write!(out, "{}.{}.{}", self.frame, self.system, self.ordinal)

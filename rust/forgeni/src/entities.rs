@@ -1,4 +1,5 @@
-//! What the proved allocator can't have in its source: impls of Rust's traits, closures, and `new` without parameters.
+//! What the source of the proved allocator can't have: impls of Rust's traits, closures, and `new`
+//! without parameters.
 
 use crate::errors::OutOfMemory;
 use crate::handle::Handle;

@@ -1,14 +1,14 @@
-//! Maps that lose an entity's values when it goes. By hand: what a map loses is what its proved
-//! `remove` takes out.
+//! Maps that lose an entity's values when it is despawned. By hand: a map loses what its proved
+//! `remove` removes.
 
 use crate::handle::Handle;
 use crate::{Entities, FreeError, Freed, HandleMap, SparseMap};
 
-/// What has something for each of some entities: a map of components, several of them, or a type of
-/// your own.
+/// Something that keeps values for entities: a map of components, several maps, or a type of your
+/// own.
 ///
-/// It is implemented for both kinds of maps, and for tuples, slices and arrays of what implements
-/// it. A struct of maps gets it by [`tables!`](crate::tables).
+/// Both kinds of maps implement it, and so do tuples, slices and arrays of what implements it.
+/// [`tables!`](crate::tables) implements it for a struct of maps.
 ///
 /// ```
 /// use forgeni::{Entities, Follows, HandleMap, SparseMap};
@@ -68,7 +68,7 @@ impl<T> Follows for SparseMap<T> {
     }
 }
 
-/// What is called when this is dropped, also by a panic.
+/// What is called when this is dropped, even by a panic.
 struct AtLast<F: FnMut()>(F);
 
 impl<F: FnMut()> Drop for AtLast<F> {
@@ -117,15 +117,15 @@ tuples_follow!(A a B b C c D d E e F f G g H h);
 /// A struct of maps, one for each component, which [`Follows`] the entities.
 ///
 /// Each field is a [`HandleMap`] or a [`SparseMap`], and has the attributes and the visibility that
-/// it is given. Beside what derives give, the struct has:
+/// it is given. Beside what it derives, the struct has:
 /// - `forget(handle)` and `despawn(&mut entities, handle)`, those of [`Follows`];
 /// - `sweep(&entities)`, which drops the values of all handles that are neither alive nor reserved. Call it
 ///   after entities were freed elsewhere, or a save was read: see [`AnyMap::sweep`](crate::AnyMap::sweep);
 /// - `clear()`, which drops all values, and `lens()`, which returns the name of each map and how
 ///   many values it has;
 /// - `try_clone()` and `try_clone_from(&source)`, if the values are `Clone`: a snapshot, and the
-///   way back. If memory runs out, `try_clone_from` has changed nothing. If a clone panics, call it
-///   once more, with this source or another;
+///   way back to it. If memory runs out, `try_clone_from` has changed nothing. If a clone panics,
+///   call it again, with this source or another;
 /// - `Default`, and with the feature `serde` `Serialize` and `Deserialize`, with the names of the
 ///   maps, if the values are. A map that is left out has no values. `DeserializeSeed` of `&mut
 ///   Parts` reads in place of the values that there are, and keeps the limit of each map: use it
@@ -221,7 +221,7 @@ macro_rules! tables {
             ///
             /// # Errors
             ///
-            /// Out of memory. Nothing has changed then, but that maps may have more room.
+            /// Out of memory. Nothing has changed then, except that maps may have more room.
             $seen fn try_clone_from(
                 &mut self,
                 source: &Self,

@@ -1,4 +1,4 @@
-//! What the proved handle can't have in its source: a constant, and parsing by Rust's trait.
+//! What the source of the proved handle can't have: a constant, and parsing by Rust's trait.
 
 use core::num::NonZeroU64;
 use core::str::FromStr;
@@ -6,10 +6,10 @@ use core::str::FromStr;
 pub use crate::proved::ent_handle::{Handle, TextFault as ParseHandleError};
 
 impl Handle {
-    /// A handle that is never alive, to initialise a field before there is an entity. No allocator and
-    /// no world gives it, except an allocator of
-    /// [`with_exact_limits`](crate::Entities::with_exact_limits). It is `4294967294v2147483647`, the
-    /// greatest handle of both orders.
+    /// A handle that is never alive, for a field that is initialised before there is an entity. No
+    /// world gives it, and no allocator, except one made by
+    /// [`with_exact_limits`](crate::Entities::with_exact_limits). It is `4294967294v2147483647`,
+    /// the greatest handle of both orders.
     ///
     /// An `Option<Handle>` is as large, and often clearer.
     ///
@@ -88,7 +88,7 @@ impl TryFrom<u64> for Handle {
     }
 }
 
-/// The handle of these bits, as of a `u64`.
+/// The handle of these bits, as from a `u64`.
 impl TryFrom<NonZeroU64> for Handle {
     type Error = ParseHandleError;
 

@@ -20,8 +20,8 @@ pub use crate::proved::ent_storage::handle_map::{Entry, HandleMap, InsertError, 
 pub use crate::proved::ent_storage::handle_map::{OccupiedEntry, VacantEntry, Values};
 pub use crate::several::{IterMut, SlotsMut};
 
-/// Ends the process as `Vec` does: there is no memory for a value, and the caller can't return an
-/// error.
+/// Ends the process, as `Vec` does, when there is no memory for a value and the caller can't return
+/// an error.
 #[cold]
 fn out_of_memory<T>() -> ! {
     handle_alloc_error(Layout::new::<(u32, T)>())
@@ -97,7 +97,7 @@ pub trait AnyMap:
     /// The handles and their values in the same order, to be changed.
     fn iter_mut(&mut self) -> impl DoubleEndedIterator<Item = (Handle, &mut Self::Value)>;
 
-    /// Drops the values of which `keep` returns `false`.
+    /// Drops the values for which `keep` returns `false`.
     fn retain(&mut self, keep: impl FnMut(Handle, &mut Self::Value) -> bool);
 
     /// Drops all values. The room stays.
@@ -105,8 +105,8 @@ pub trait AnyMap:
 
     /// Drops the values of all handles that are neither alive nor reserved.
     ///
-    /// It is for who freed entities elsewhere, or has read a map from a save: what names a dead
-    /// handle or one of another allocator goes. The time is that of a look at each value.
+    /// Call it after entities were freed elsewhere, or after a map was read from a save: it drops
+    /// what a dead handle names, or a handle of another allocator. It takes time for each value.
     fn sweep(&mut self, entities: &Entities) {
         self.retain(|one, _| entities.contains(one));
     }
@@ -172,7 +172,7 @@ macro_rules! traits_of_a_map {
         }
 
         impl<T> $Map<T> {
-            /// As [`reserve`](Self::reserve), by the name that std has for a call that returns an
+            /// The same as [`reserve`](Self::reserve), under std's name for a call that returns an
             /// error.
             ///
             /// # Errors
@@ -248,8 +248,8 @@ macro_rules! traits_of_a_map {
             }
         }
 
-        /// The clone has the same limit. If memory runs out, the process ends, as when a `Vec` is
-        /// cloned. [`try_clone`](Self::try_clone) returns an error instead.
+        /// The clone has the same limit. If memory runs out, the process ends, as for a `Vec`.
+        /// [`try_clone`](Self::try_clone) returns an error instead.
         impl<T: Clone> Clone for $Map<T> {
             fn clone(&self) -> Self {
                 self.try_clone().unwrap_or_else(|_| out_of_memory::<T>())
@@ -309,8 +309,7 @@ macro_rules! traits_of_a_map {
 
         /// Inserts each value, in their order, as `insert` does. A value is dropped if it is
         /// refused: if a later occupant of its slot has a value, the slot is at or above the limit,
-        /// or the handle is the placeholder. If memory runs out, the process ends, as when a `Vec`
-        /// is extended.
+        /// or the handle is the placeholder. If memory runs out, the process ends, as for a `Vec`.
         impl<T> Extend<(Handle, T)> for $Map<T> {
             fn extend<I: IntoIterator<Item = (Handle, T)>>(&mut self, values: I) {
                 for (handle, value) in values {
@@ -367,8 +366,8 @@ fn no_value(handle: Handle) -> ! {
     panic!("{handle} has no value")
 }
 
-/// The values are moved into a list first. If memory runs out for it, the process ends, as when a
-/// `Vec` is filled. [`into_entries`](HandleMap::into_entries) returns an error instead.
+/// The values are moved into a list first. If there is no memory for it, the process ends, as for a
+/// `Vec`. [`into_entries`](HandleMap::into_entries) returns an error instead.
 impl<T> IntoIterator for HandleMap<T> {
     type Item = (Handle, T);
     type IntoIter = vec::IntoIter<(Handle, T)>;

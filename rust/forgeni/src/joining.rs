@@ -1,10 +1,9 @@
-//! Walks over several maps at once. By hand: it calls what each map has, and changes none.
+//! Walks over several maps at once. By hand: it uses the calls of each map, and changes none.
 
 use crate::handle::Handle;
 use crate::{AnyMap, HandleMap, SparseMap};
 
-/// Two to six maps in a tuple, which are walked at once: over the handles that have a value in each
-/// of them.
+/// Two to six maps in a tuple, for a walk over the handles that have a value in each of them.
 ///
 /// ```
 /// use forgeni::{Handle, HandleMap, JoinMaps, SparseMap};
@@ -26,11 +25,11 @@ pub trait JoinMaps {
     /// The handles that have a value in each of the maps, with their values. The first map may be
     /// borrowed mutably: its values may be changed.
     ///
-    /// The walk goes over the first map, in its order, and looks each handle up in the others. But
-    /// if another map has less than half as many values, it goes by that map's handles, by rising
-    /// slot. It takes no memory, unless that map is a `SparseMap`, whose handles it lists. If there
-    /// is no memory for the list, or if the first map is a mutable `SparseMap`, the walk goes over
-    /// the first map all the same.
+    /// The walk goes over the first map, in its order, and looks each handle up in the others. If
+    /// another map has less than half as many values, the walk goes by that map's handles instead,
+    /// by rising slot. It takes no memory, unless that map is a `SparseMap`, whose handles it
+    /// lists. If there is no memory for the list, or if the first map is a mutable `SparseMap`, the
+    /// walk goes over the first map anyway.
     fn join(self) -> impl Iterator<Item = Self::Item>;
 }
 
@@ -38,8 +37,8 @@ pub trait JoinMaps {
 pub trait First {
     type Lent;
 
-    /// How many values a walk over this map comes to. A walk goes over another map only if that has
-    /// less than half as many.
+    /// How many values a walk over this map has. A walk goes over another map only if that has less
+    /// than half as many.
     fn count(&self) -> usize;
 
     /// The values of these handles, which come by rising slot. If there are none, all values.

@@ -1,9 +1,9 @@
-//! What is away for a while.
+//! A value that is taken apart for a while.
 
 use core::mem;
 
-/// A value that is away, in parts. It is put together again and back when this is dropped, whatever
-/// for.
+/// A value that is taken apart. When this is dropped, for whatever reason, the value is put
+/// together again, in its place.
 pub(crate) struct Lending<'a, T, P> {
     home: &'a mut T,
     parts: Option<P>,
@@ -11,7 +11,7 @@ pub(crate) struct Lending<'a, T, P> {
 }
 
 impl<'a, T: Default, P> Lending<'a, T, P> {
-    /// Takes the value apart. If that is refused, it is back at once.
+    /// Takes the value apart. If that is refused, the value is back at once.
     pub(crate) fn begin<E>(
         home: &'a mut T,
         apart: impl FnOnce(T) -> Result<P, (T, E)>,

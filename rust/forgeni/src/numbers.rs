@@ -1,10 +1,10 @@
 //! The numbers that distinguish phases and worlds.
 //!
-//! Trusted is that no number is given twice. Everything that the numbers are for is proved.
+//! That no number is given twice is trusted. All that follows from it is proved.
 
 use core::sync::atomic::{AtomicU64, Ordering};
 
-/// The number that is given next. It would take centuries to come round.
+/// The number that is given next. It would take centuries to wrap.
 static NEXT: AtomicU64 = AtomicU64::new(0);
 
 /// A number that is given only once.

@@ -12,7 +12,7 @@ use core::ops::Range;
 use rayon::iter::plumbing::{bridge_unindexed, Folder, UnindexedConsumer, UnindexedProducer};
 use rayon::iter::{IntoParallelIterator, ParallelIterator};
 
-/// Rayon's own choice of threads: the pool that runs the caller, or else the global one. A
+/// Rayon's own choice of threads: the pool that runs the caller, or otherwise the global one. A
 /// `rayon::ThreadPool` is a [`Join`] too.
 #[derive(Clone, Copy, Debug, Default)]
 pub struct Rayon;
@@ -101,7 +101,7 @@ goes_to_threads!(
     |it| it
 );
 
-/// A `HandleMap` and one to five other maps in a tuple, which are walked at once on several
+/// A `HandleMap` and one to five other maps in a tuple, for a walk over all of them on several
 /// threads.
 ///
 /// ```

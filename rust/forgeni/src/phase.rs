@@ -7,9 +7,9 @@ use crate::{Entities, HandedBack};
 use alloc::vec::Vec;
 
 impl Entities {
-    /// Shares the allocator among `callers` reservers, 1 to 1,024, for as long as `run` takes. Then
-    /// the allocator is back, as after [`Shared::close`]: `run` can't lose a reserver, since each is
-    /// only [`Lent`] to it.
+    /// Shares the allocator among `callers` reservers, 1 to 1,024, for as long as `run` runs. The
+    /// allocator is back when it returns, as after [`Shared::close`]: `run` can't lose a reserver,
+    /// since each is only [`Lent`] to it.
     ///
     /// ```
     /// use forgeni::Entities;
@@ -33,7 +33,7 @@ impl Entities {
     /// # Ok::<(), Box<dyn std::error::Error + Send + Sync>>(())
     /// ```
     ///
-    /// What `run` returns is handed on, so it may end early by `?`:
+    /// What `run` returns is handed on, so it can end early by `?`:
     ///
     /// ```
     /// use forgeni::{Entities, ReserveError};

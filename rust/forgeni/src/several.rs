@@ -1,6 +1,6 @@
-//! Several values of a map lent at once, or all moved out. No contract can say what a map is while
-//! they are, so this is by hand, in safe Rust. It changes no slot's generation, and leaves the
-//! count right.
+//! Several values of a map lent at once, or all moved out. No contract can say what a map is in the
+//! meantime, so this is by hand, in safe Rust. It changes no slot's generation, and keeps the count
+//! right.
 
 use crate::errors::OutOfMemory;
 use crate::handle::Handle;
@@ -10,11 +10,10 @@ use core::iter::{Enumerate, FusedIterator, Map};
 use core::ops::Range;
 use core::slice;
 
-/// Slots of a [`HandleMap`], side by side, of which the values may be changed. None is added or
-/// removed.
+/// Slots of a [`HandleMap`], side by side, whose values may be changed. None is added or removed.
 ///
-/// [`HandleMap::split_at_mut`] makes two, so that two threads write to one map. It has the index of
-/// the first.
+/// [`HandleMap::split_at_mut`] makes two, so that two threads can write to one map. It has the
+/// index of the first.
 pub struct SlotsMut<'a, T>(&'a mut [Slot<T>], u32);
 
 impl<'a, T> SlotsMut<'a, T> {
@@ -24,7 +23,7 @@ impl<'a, T> SlotsMut<'a, T> {
         self.1..self.1 + self.0.len() as u32
     }
 
-    /// Those below this slot of the map, and the others. So a part is split again, for more
+    /// The slots below this one of the map, and the others. So a part can be split again, for more
     /// threads.
     pub fn split_at_mut(self, slot: u32) -> (Self, Self) {
         let Self(slots, first) = self;
@@ -34,7 +33,7 @@ impl<'a, T> SlotsMut<'a, T> {
         (Self(below, first), Self(above, middle))
     }
 
-    /// The value of the handle, if it has one and its slot is here, to be changed.
+    /// A mutable reference to the handle's value, if it has one and its slot is here.
     pub fn get_mut(&mut self, handle: Handle) -> Option<&mut T> {
         let at = handle.index().checked_sub(self.1)?;
         let slot = self.0.get_mut(at as usize)?;
@@ -130,8 +129,7 @@ fn within(slots: Range<u32>, count: usize) -> Range<usize> {
 }
 
 impl<T> HandleMap<T> {
-    /// The handles and their values, by rising slot, to be changed. The time is that of a look at
-    /// each slot.
+    /// The handles and their values, by rising slot, to be changed. It takes time for each slot.
     ///
     /// ```
     /// use forgeni::{Handle, HandleMap};
@@ -153,8 +151,8 @@ impl<T> HandleMap<T> {
         SlotsMut(&mut self.slots, 0)
     }
 
-    /// The handles of some slots and their values, by rising slot. The time is that of a look at
-    /// each of these slots.
+    /// The handles of some slots and their values, by rising slot. It takes time for each of these
+    /// slots.
     ///
     /// ```
     /// use forgeni::{Handle, HandleMap};
@@ -191,8 +189,8 @@ impl<T> HandleMap<T> {
         self.reserve(source.slots.len().saturating_sub(self.slots.len()))
     }
 
-    /// The slots below this one, and the others, so that two threads write to one map. A part gives
-    /// its values by [`get_mut`](SlotsMut::get_mut) and [`iter_mut`](SlotsMut::iter_mut).
+    /// The slots below this one, and the others, so that two threads can write to one map. A part
+    /// gives its values by [`get_mut`](SlotsMut::get_mut) and [`iter_mut`](SlotsMut::iter_mut).
     ///
     /// ```
     /// use forgeni::{Handle, HandleMap};
@@ -211,8 +209,8 @@ impl<T> HandleMap<T> {
         self.all_slots().split_at_mut(slot)
     }
 
-    /// Moves all values out, by rising slot. Those that the iterator doesn't come to are dropped
-    /// with it. The map has no values, and its room stays.
+    /// Moves all values out, by rising slot. Those that the iterator doesn't reach are dropped with
+    /// it. The map is empty afterwards, and keeps its room.
     ///
     /// ```
     /// use forgeni::{Handle, HandleMap};
@@ -264,8 +262,8 @@ impl<'a, T> IntoIterator for &'a mut HandleMap<T> {
 }
 
 impl<T> SparseMap<T> {
-    /// A map without values and without a limit, with room for that many values. It takes no memory
-    /// for none.
+    /// A map without values and without a limit, with room for that many values. For 0 values it
+    /// takes no memory.
     ///
     /// # Errors
     ///
@@ -276,7 +274,7 @@ impl<T> SparseMap<T> {
         Ok(map)
     }
 
-    /// Makes room for that many more values. A value of a slot that has none yet also takes four
+    /// Makes room for that many more values. A value in a slot that has none yet also takes four
     /// bytes for each slot up to its own.
     ///
     /// # Errors
@@ -298,7 +296,7 @@ impl<T> SparseMap<T> {
         Ok(self.positions.try_reserve(slots)?)
     }
 
-    /// The handles and their values, by rising slot. The time is that of a look at each slot.
+    /// The handles and their values, by rising slot. It takes time for each slot.
     pub(crate) fn by_slot(&self) -> impl Iterator<Item = (Handle, &T)> {
         let slots = self.positions.iter().zip(0..);
         slots.filter_map(|(at, slot)| {
@@ -313,7 +311,7 @@ impl<T> SparseMap<T> {
     }
 
     /// Moves all values out, in the order of [`entries`](Self::entries). Those that the iterator
-    /// doesn't come to are dropped with it. The map has no values, and its room stays.
+    /// doesn't reach are dropped with it. The map is empty afterwards, and keeps its room.
     pub fn drain(&mut self) -> impl DoubleEndedIterator<Item = (Handle, T)> {
         self.entries.drain(..)
     }

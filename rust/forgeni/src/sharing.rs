@@ -2,6 +2,7 @@
 
 use crate::numbers::next_number;
 use crate::phase::closed;
+use crate::proved::ent_shared::Shared as SharedSource;
 use crate::proved::ent_total::share;
 use crate::shown::shows;
 use crate::{Entities, HandedBack};
@@ -10,7 +11,7 @@ use alloc::vec::Vec;
 pub use crate::proved::ent_total::{CloseError, OtherPhase, Reserver, ShareError, Shared};
 
 impl Entities {
-    /// Shares the allocator among `callers` reservers, 1 to 1,024, each of which may go to a thread
+    /// Shares the allocator among `callers` reservers, 1 to 1,024, each of which can go to a thread
     /// of its own. [`Shared::close`] gives the allocator back, with all that they reserved.
     ///
     /// While it is shared, the allocator is inside the [`Shared`], and nothing else can use it.
@@ -39,13 +40,13 @@ impl Entities {
     ///
     /// # Errors
     ///
-    /// [`HandedBack`] has the allocator as it was, and the first of these errors that holds:
+    /// [`HandedBack`] has the allocator as it was, and the first of these errors that applies:
     /// [`ShareError::NeedsFlush`], [`ShareError::Count`], [`ShareError::Memory`].
     ///
     /// # Aborts
     ///
-    /// Rust's `Arc` ends the process if memory runs out. So as much memory is asked for before, and the
-    /// process ends only if another thread takes it in between.
+    /// Rust's `Arc` ends the process if memory runs out. So the call first allocates as much
+    /// memory, and the process ends only if another thread takes it in between.
     pub fn share(
         self,
         callers: usize,
@@ -59,5 +60,6 @@ impl Entities {
 
 shows! {
     Shared: count returned;
+    SharedSource: count len;
     Reserver: number quota_left;
 }

@@ -30,7 +30,7 @@ impl<T> SparseMap<T> {
         Some(handles.into_iter())
     }
 
-    /// Calls `keep` on each value once, from the last entry to the first, and drops the values of
+    /// Calls `keep` on each value once, from the last entry to the first, and drops the values for
     /// which it returns `false`. It may change those that stay. The room stays.
     ///
     /// ```

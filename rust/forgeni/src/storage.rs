@@ -28,7 +28,7 @@ impl fmt::Debug for Bundle {
     }
 }
 
-/// If memory runs out, the process ends, as when a `Vec` is cloned.
+/// If memory runs out, the process ends, as for a `Vec`.
 impl Clone for Bundle {
     fn clone(&self) -> Self {
         let items = self.items();

@@ -13,7 +13,7 @@ use std::io::{ErrorKind, Read, Write};
 ///
 /// A call that a signal interrupts is made again, and is no failure. The count is exact, so a
 /// device that has failed 2^64 - 1 times is no longer called: the source is at its end, the sink
-/// drops what it is given, and neither tells its bytes. No program runs long enough to see this.
+/// drops what it gets, and neither reports its bytes. No program runs long enough to see this.
 #[derive(Drop)]
 pub struct Counted<T> {
     device: T,

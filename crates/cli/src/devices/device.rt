@@ -10,7 +10,7 @@ pub struct Failed;
 
 /// A device that bytes come from.
 pub trait Source {
-    /// The bytes that later calls of `take` give, or `None` if the device doesn't tell.
+    /// The bytes that later calls of `take` give, or `None` if the device doesn't report them.
     ghost remaining: { Self → Option (List ℕ) };
 
     /// How many calls of the device have failed.
@@ -36,7 +36,7 @@ pub trait Source {
 
 /// A device that bytes go to.
 pub trait Sink {
-    /// The bytes that went out so far, or `None` if the device doesn't tell.
+    /// The bytes that have gone out so far, or `None` if the device doesn't report them.
     ghost written: { Self → Option (List ℕ) };
 
     /// How many calls of the device have failed.
@@ -46,7 +46,7 @@ pub trait Sink {
     ///
     /// # Errors
     ///
-    /// `Failed` if the device failed. How much of the piece went out isn't said.
+    /// `Failed` if the device failed. Any part of the piece may have gone out.
     fn put(&mut self, piece: &[u8]) -> Result<(), Failed>
         ensures bytes { OnOk result (Appends (written self.old) (written self.new) piece.now) }
         ensures put { OnOk result (failures self.new ≡ failures self.old) }

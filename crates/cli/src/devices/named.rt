@@ -10,7 +10,7 @@ use std::io::ErrorKind;
 use std::rt::Files;
 use std::{fs, io};
 
-/// Why a file isn't read that a word names.
+/// Why a named file isn't read.
 #[derive(Clone, Copy, Debug, PartialEq, Eq)]
 pub enum NameFault {
     /// There is no file of this name.
@@ -67,12 +67,12 @@ pub fn open_named<R: Files>(rt: &R, name: &str) -> Result<R::File, NameFault> {
     Ok(File::open(rt, name)?)
 }
 
-/// Says in one line that a program doesn't read the file of this name, and why: `PROGRAM: no such
+/// Writes one line that says why a program doesn't read the file of this name: `PROGRAM: no such
 /// file: NAME`.
 ///
 /// # Errors
 ///
-/// `Failed` if the device failed. How much went out isn't said.
+/// `Failed` if the device failed. Any part of the line may have gone out.
 pub fn put_refusal<E: Sink>(
     errors: &mut E,
     program: &str,

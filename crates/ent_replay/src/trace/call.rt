@@ -8,8 +8,8 @@ use ent_alloc::State;
 use ent_handle::{Handle, Memory};
 use std::alloc::Global;
 
-/// A call of an allocator, and what was answered. `None` is for an answer that isn't known: the call
-/// is made, and nothing is compared.
+/// A call of an allocator, and its answer. An answer that isn't known is `None`: the call is made,
+/// and nothing is compared.
 ///
 /// `Display` writes it as a line of a trace, without the end of the line:
 ///
@@ -22,15 +22,16 @@ use std::alloc::Global;
 /// ```
 #[derive(Debug, Drop)]
 pub enum Call {
-    /// A handle that is alive at once.
+    /// A call for a handle that is alive at once.
     Alloc(Option<AllocReply>),
-    /// The end of a living handle.
+    /// A living handle is freed.
     Free(Handle, Option<FreeReply>),
-    /// What is reserved comes to life.
+    /// A flush brings to life what is reserved.
     Flush(Option<FlushReply>),
-    /// Handles that the next flush brings to life. It is the only call that others may overlap.
+    /// Handles are reserved, for the next flush to bring to life. It is the only call that others
+    /// may overlap.
     Reserve(Reservation),
-    /// What became of a handle.
+    /// The state of a handle.
     State(Handle, Option<State>),
     /// How many handles are alive.
     Len(Option<u32>),

@@ -13,7 +13,8 @@ use std::alloc::{AllocError, AllocFailed, Global};
 pub enum CheckError {
     /// An answer isn't the allocator's.
     Differs(Difference),
-    /// More than 2^50 handles were requested since the last flush, which no allocator here counts.
+    /// More than 2^50 handles were requested since the last flush, which is more than an allocator
+    /// here can count.
     TooMany,
     /// Out of memory.
     Memory,

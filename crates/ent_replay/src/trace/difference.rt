@@ -6,17 +6,17 @@ use crate::trace::call::Call;
 use ent_handle::Memory;
 use std::alloc::Global;
 
-/// The first call whose answer isn't the allocator's. No trace that begins so agrees.
+/// The first call whose answer isn't the allocator's. No trace that begins like this agrees.
 ///
-/// Of reservations of threads it is the first one in the order in which the checker put them: in that
-/// order those before it agree.
+/// Among reservations of threads it is the first one in the order into which the checker put them.
+/// In that order the earlier ones agree.
 ///
 /// `Display` writes it in one line, as `differs line 5: len => 3, expected 2`.
 #[derive(Debug, Drop)]
 pub struct Difference {
     /// The number of the call, from 1. In a trace with one call on each line it is the line.
     pub number: u64,
-    /// The call, with what was answered.
+    /// The call, with its answer.
     pub told: Call,
     /// The same call with what the allocator answers there.
     pub expected: Call,

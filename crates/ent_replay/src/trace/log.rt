@@ -12,10 +12,10 @@ use ent_handle::Memory;
 use std::alloc::Global;
 use std::marker::Model;
 
-/// What one caller reserved, in its order.
+/// The reservations of one caller, in its order.
 ///
-/// Each thread has one of its own, and appends to it without a lock. It keeps no time: the checker
-/// needs none.
+/// Each thread has a log of its own, and appends to it without a lock. A log has no times: the
+/// checker needs none.
 #[derive(Debug, Drop)]
 pub struct Log {
     caller: u32,
@@ -44,7 +44,7 @@ impl Log {
         }
     }
 
-    /// Whose log it is.
+    /// The caller whose log it is.
     #[must_use]
     pub fn caller(&self) -> u32
         ensures { result ≡ self.now.caller }
@@ -52,7 +52,7 @@ impl Log {
         self.caller
     }
 
-    /// What was reserved and is not joined yet.
+    /// The reservations that aren't joined yet.
     #[must_use]
     pub fn reservations(&self) -> &[Reservation]
         ensures { result.now ≡ self.now.reservations }
@@ -60,7 +60,7 @@ impl Log {
         &self.reservations
     }
 
-    /// Appends a reservation of so many handles, with its answer.
+    /// Appends a reservation of that many handles, with its answer.
     ///
     /// # Errors
     ///

@@ -8,7 +8,7 @@ use crate::handle_list::HandleList;
 use ent_handle::{Handle, Memory};
 use std::alloc::Global;
 
-/// What was answered to a call for a handle that is alive at once.
+/// The answer to a call for a handle that is alive at once.
 #[derive(Clone, Copy, Debug, PartialEq, Eq, Hash)]
 pub enum AllocReply {
     /// The handle that came to life.
@@ -27,7 +27,7 @@ impl From<Handle> for AllocReply {
     }
 }
 
-/// What was answered to a call that frees a handle.
+/// The answer to a call that frees a handle.
 #[derive(Clone, Copy, Debug, PartialEq, Eq, Hash)]
 pub enum FreeReply {
     /// The handle was freed. What its slot gives next isn't compared.
@@ -42,7 +42,7 @@ pub enum FreeReply {
     NeedsFlush,
 }
 
-/// What was answered to a flush.
+/// The answer to a flush.
 #[derive(Debug, Drop)]
 pub enum FlushReply {
     /// The handles that came to life, in their order.
@@ -71,7 +71,7 @@ impl From<Vec<Handle>> for FlushReply {
     }
 }
 
-/// What was answered to a reservation.
+/// The answer to a reservation.
 #[derive(Debug, Drop)]
 pub enum ReserveReply {
     /// The handles, in their order.

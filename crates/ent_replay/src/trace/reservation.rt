@@ -13,15 +13,15 @@ pub struct Reservation {
     pub number: u64,
     /// The caller. Reservations of one caller are in its order.
     pub caller: u32,
-    /// For how many handles.
+    /// How many handles were requested.
     pub requested: u32,
-    /// What was answered.
+    /// The answer.
     pub reply: ReserveReply,
 }
 
 impl Reservation {
-    /// The reservation of so many handles by this caller, with its answer. It has no number yet, so
-    /// its number is 0.
+    /// The reservation of that many handles by this caller, with its answer. It has no number yet,
+    /// so its number is 0.
     #[must_use]
     pub fn new<R: Into<ReserveReply>>(caller: u32, requested: u32, reply: R) -> Self
         ensures is { result ≡ reservation_of caller requested result.reply }

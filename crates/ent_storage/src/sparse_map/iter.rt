@@ -5,7 +5,7 @@ ghost use Rattle.std.specs.Iterator.SizeHint.{IsWithinCount};
 use ent_handle::Handle;
 use std::marker::Model;
 
-/// The handles and values of a sparse map, in no order.
+/// The handles and values of a sparse map, in no particular order.
 ///
 /// [`SparseMap::iter`](super::SparseMap::iter) makes it. It borrows the map and copies nothing.
 #[derive(Drop)]

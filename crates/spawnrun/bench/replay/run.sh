@@ -6,7 +6,7 @@
 set -eu
 here=$(cd "$(dirname "$0")" && pwd)
 crate=$here/../..
-rust=$here/../../../../rust/forgeni
+rust=$here/../../../../rust/offline
 out=$(mktemp -d)
 trap 'rm -rf "$out"' EXIT
 

@@ -7,7 +7,7 @@
 set -eu
 here=$(cd "$(dirname "$0")" && pwd)
 crate=$here/../..
-rust=$here/../../../../rust/forgeni
+rust=$here/../../../../rust/offline
 by_cargo=$rust/target/programs/spawnrun
 out=$(mktemp -d)
 trap 'rm -rf "$out"' EXIT

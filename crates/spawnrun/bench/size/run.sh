@@ -13,11 +13,11 @@ bytes() {
     echo "$(wc -c <"$1") | $(wc -c <"$out/stripped")"
 }
 
-cargo build --offline --quiet --profile programs --features programs --manifest-path "$top/rust/forgeni/Cargo.toml"
+cargo build --offline --quiet --profile programs --features programs --manifest-path "$top/rust/offline/Cargo.toml"
 echo "| Program | Bytes | Without symbols | By cargo | Without symbols |"
 echo "|---|---|---|---|---|"
 for name in spawnrun tracecheck; do
     program=$top/crates/$name/out/$name
     [ -x "$program" ] || (cd "$top/crates/$name" && rt run </dev/null >"$out/log" 2>&1) || { tail -5 "$out/log"; exit 1; }
-    echo "| \`$name\` | $(bytes "$program") | $(bytes "$top/rust/forgeni/target/programs/$name") |"
+    echo "| \`$name\` | $(bytes "$program") | $(bytes "$top/rust/offline/target/programs/$name") |"
 done

@@ -5,8 +5,8 @@ use core::fmt;
 use serde::de::{Deserialize, Deserializer, Error, Unexpected, Visitor};
 use serde::ser::{Serialize, Serializer};
 
-/// In a format that people read, as JSON, a handle is its text, such as `"12v3"`. In any other it is
-/// the `u64` of [`to_bits`](Handle::to_bits).
+/// In a format that people read, such as JSON, a handle is its text, `"12v3"`. In any other format
+/// it is the `u64` of [`to_bits`](Handle::to_bits).
 impl Serialize for Handle {
     fn serialize<S: Serializer>(&self, serializer: S) -> Result<S::Ok, S::Error> {
         if serializer.is_human_readable() {
@@ -17,8 +17,8 @@ impl Serialize for Handle {
     }
 }
 
-/// Reads the text or the bits, whichever a format that people read has. What isn't the text or the
-/// bits of a handle is an error.
+/// Reads the text or the bits: a format that people read may have either. What isn't the text or
+/// the bits of a handle is an error.
 impl<'de> Deserialize<'de> for Handle {
     fn deserialize<D: Deserializer<'de>>(deserializer: D) -> Result<Self, D::Error> {
         if deserializer.is_human_readable() {

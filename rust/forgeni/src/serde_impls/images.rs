@@ -18,9 +18,9 @@ macro_rules! is_its_image {
             }
         }
 
-        /// Reads the bytes, or a list of them, as [`read_image`](Self::read_image) does. What it refuses is
-        /// an error. A forged image can make the next flush take all memory: read bytes from a stranger by
-        /// [`read_image_within`](Self::read_image_within).
+        /// Reads the bytes, or a list of them, as [`read_image`](Self::read_image) does. What that
+        /// refuses is an error. A forged image can make the next flush take all memory, so read
+        /// bytes from a stranger by [`read_image_within`](Self::read_image_within).
         impl<'de> Deserialize<'de> for $name {
             fn deserialize<D: Deserializer<'de>>(deserializer: D) -> Result<Self, D::Error> {
                 let (expected, read) = ($expected, Self::read_image);

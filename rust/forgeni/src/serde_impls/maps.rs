@@ -18,8 +18,8 @@ macro_rules! is_a_map {
         /// Reads a map without a limit. Its handles may come in any order, at most one for each
         /// slot: a second one is an error, and so are the placeholder and a lack of memory.
         ///
-        /// A greatest index of `n` takes room for `n` + 1 slots, whatever else was read. So if what
-        /// is read may be forged, make a map with a limit, and have it read: see the impl of
+        /// A handle with the index `n` makes the map take room for `n` + 1 slots. So if what is
+        /// read may be forged, make a map with a limit and read into it: see the impl of
         /// `DeserializeSeed`.
         impl<'de, T: Deserialize<'de>> Deserialize<'de> for $Map<T> {
             fn deserialize<D: Deserializer<'de>>(deserializer: D) -> Result<Self, D::Error> {
@@ -31,7 +31,7 @@ macro_rules! is_a_map {
 
         /// Reads values in place of those that the map has: `map.deserialize(deserializer)`. The
         /// map keeps its limit. It is an error if the map refuses a handle, or if two handles have
-        /// one slot, and then the map is as it was.
+        /// the same slot. The map is as it was then.
         impl<'de, T: Deserialize<'de>> DeserializeSeed<'de> for &mut $Map<T> {
             type Value = ();
 
@@ -80,7 +80,7 @@ fn insert_new<M: AnyMap, E: Error>(map: &mut M, handle: Handle, value: M::Value)
     Ok(())
 }
 
-/// What a struct of maps has of serde.
+/// The impls of serde's traits for a struct of maps.
 #[doc(hidden)]
 #[macro_export]
 macro_rules! tables_serde {

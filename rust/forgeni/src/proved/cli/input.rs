@@ -1,12 +1,13 @@
 // Made of crates/cli/src/input.rt by rust/erase. It isn't edited by hand.
 
-//! The input file that words name.
+//! The input file that the arguments name.
 
 use crate::kit::programs::string::String;
 use crate::kit::alloc::AllocError;
 
-/// The name of an input file, if the last word is one: it is no option, and one too many. `is_line`
-/// tells whether words are a command line. Those before the last one are, and all of them aren't.
+/// The name of an input file, if the last argument is one: a surplus argument that is no option.
+/// `is_line` tells whether arguments are a command line. Those before the last one are, and all of
+/// them aren't.
 ///
 /// # Errors
 ///

@@ -1,11 +1,11 @@
 // Made of crates/cli/src/line_fault.rt by rust/erase. It isn't edited by hand.
 
-//! Why words ask for nothing.
+//! Why arguments ask for nothing.
 
 use crate::kit::programs::clap::error::ErrorKind;
 use crate::kit::alloc::AllocError;
 
-/// Why words ask a program for nothing.
+/// Why arguments ask a program for nothing.
 #[derive(Debug)]
 pub enum LineFault {
     /// They are no command line of the program, or they ask for help. The error's `Display` is the

@@ -1,6 +1,6 @@
 // Made of crates/cli/src/words.rt by rust/erase. It isn't edited by hand.
 
-//! The words that a program was started with.
+//! The arguments of a program.
 
 use alloc::vec::Vec;
 use crate::kit::programs::string::String;
@@ -8,7 +8,7 @@ use crate::kit::vec::CollectIn;
 use crate::kit::alloc::AllocError;
 use crate::kit::programs::env::Args;
 
-/// The words after the program's name, of all that the program was started with.
+/// The program's arguments, without its name.
 ///
 /// # Errors
 ///

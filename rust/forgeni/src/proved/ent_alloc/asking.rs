@@ -1,6 +1,7 @@
 // Made of crates/ent_alloc/src/asking.rt by rust/erase. It isn't edited by hand.
 
-//! Requests in one call each: it tests what the request needs, and lists what the request is given.
+//! Requests that are one call each: the call tests what the request needs, and lists what the
+//! request is given.
 
 use alloc::vec::Vec;
 use crate::kit::vec::FallibleVec;

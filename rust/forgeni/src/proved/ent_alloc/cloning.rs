@@ -8,9 +8,9 @@ use crate::proved::ent_alloc::entities::Entities;
 use crate::proved::ent_handle::Memory;
 
 impl Entities {
-    /// Another allocator in the same state: the same entities are alive, with the same rows, the same
-    /// handles are reserved, and the limits are the same. So to the same calls both return the same.
-    /// From then on each goes its own way.
+    /// Another allocator in the same state: the same entities are alive, with the same rows, the
+    /// same handles are reserved, and the limits are the same. So both return the same for the same
+    /// calls. From then on they are independent.
     ///
     /// It copies the slots as bytes: 8 for each slot that was made, and 4 for each that waits. It
     /// takes no memory if no slot was made.
@@ -68,8 +68,7 @@ impl Entities {
     /// # Ok::<(), Box<dyn std::error::Error>>(())
     /// ```
     ///
-    /// Handles that were given since the clone was made are given anew afterwards. Keep none of
-    /// them.
+    /// Handles that were given since the clone was made will be given again. Keep none of them.
     ///
     /// # Errors
     ///

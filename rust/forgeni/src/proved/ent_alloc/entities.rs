@@ -13,8 +13,8 @@ use crate::proved::ent_handle::{Handle, Memory};
 
 /// Gives out the handles of entities and knows which are alive, as Bevy's `Entities` does.
 ///
-/// It is `Send` and `Sync`: it may go to another thread, and many threads may read it at once. While
-/// it is shared, many threads reserve handles from it.
+/// It is `Send` and `Sync`: it can go to another thread, and many threads can read it at once.
+/// While it is shared, many threads reserve handles from it.
 ///
 /// ```
 /// use forgeni::Entities;
@@ -36,9 +36,9 @@ pub struct Entities {
 }
 
 impl Entities {
-    /// An allocator with no entities, which gives all handles within its limits, also the greatest
-    /// one, which [`with_limits`](Self::with_limits) keeps back. It takes no memory, whatever the
-    /// limits are.
+    /// An allocator with no entities, which gives all handles within its limits, including the
+    /// greatest one, which [`with_limits`](Self::with_limits) never gives. It takes no memory,
+    /// whatever the limits are.
     ///
     /// <details><summary>Contract</summary>
     ///
@@ -150,7 +150,7 @@ impl Entities {
         self.len() == 0
     }
 
-    /// How many slots were made: each has or had an entity. A retired slot counts for good.
+    /// How many slots were made: each has or had an entity. A retired slot still counts.
     ///
     /// <details><summary>Contract</summary>
     ///
@@ -230,7 +230,7 @@ impl Entities {
     }
 
     /// How many slots are retired: the entity of their last generation was freed, and they give no
-    /// handle any more. It takes constant time.
+    /// more handles. It takes constant time.
     ///
     /// <details><summary>Contract</summary>
     ///
@@ -374,11 +374,12 @@ impl Entities {
         }
     }
 
-    /// Takes a living entity out. Its slot is the first to be given again, with the next
-    /// generation. It takes constant time.
+    /// Frees a living entity. Its slot is the next one to be given again, in its next generation.
+    /// It takes constant time.
     ///
     /// After the last generation the slot is retired: it is never given again, and [`Freed::next`]
-    /// is `None`. So no handle is ever given twice. Bevy begins anew there and warns of it.
+    /// is `None`. So no handle is ever given twice. Bevy starts again with the first generation
+    /// there, and warns of it.
     ///
     /// ```
     /// use forgeni::Entities;
@@ -434,7 +435,7 @@ impl Entities {
     /// list is.
     ///
     /// If the list has room for the handles and no slot is new, the call takes no memory. So a list
-    /// that is cleared and used again takes none in the end.
+    /// that is cleared and used again takes none eventually.
     ///
     /// ```
     /// use forgeni::Entities;
@@ -563,7 +564,7 @@ impl Entities {
         self.slots.is_alive(handle)
     }
 
-    /// Whether the entity is alive or reserved, as Bevy's and hecs' `contains` tell. It takes
+    /// Whether the entity is alive or reserved, as `contains` of Bevy and hecs tells. It takes
     /// constant time.
     ///
     /// ```
@@ -596,8 +597,8 @@ impl Entities {
         }
     }
 
-    /// The handles of the living entities, by rising slot. It takes no memory. The time is that of a
-    /// look at each slot.
+    /// The handles of the living entities, by rising slot. It takes no memory, and time for each
+    /// slot.
     ///
     /// ```
     /// use forgeni::Entities;
@@ -657,9 +658,9 @@ impl Entities {
         }
     }
 
-    /// The row of a living entity: a number that a program keeps with it, as where its components
-    /// are. `None` if the handle isn't alive, or if no row was set since it came to life. It takes
-    /// constant time.
+    /// The row of a living entity: a number that a program keeps with it, such as the place of its
+    /// components. `None` if the handle isn't alive, or if no row was set since it came to life. It
+    /// takes constant time.
     ///
     /// <details><summary>Contract</summary>
     ///

@@ -66,6 +66,6 @@ impl From<Memory> for FreeFault {
 #[derive(Clone, Copy, Debug, PartialEq, Eq, Hash)]
 pub struct Freed {
     /// The handle that the slot gives next. `None` if the freed one was of the last generation: the
-    /// slot is retired then, and gives no handle any more.
+    /// slot is retired then, and gives no more handles.
     pub next: Option<Handle>,
 }

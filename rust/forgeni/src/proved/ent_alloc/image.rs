@@ -144,10 +144,12 @@ fn allowed(read: Result<Entities, ImageFault>, most: u32) -> Result<Entities, Im
 
 impl Entities {
     /// Appends the image of the allocator: bytes from which [`read_image`](Self::read_image) makes
-    /// the same allocator anew, with its limits, living entities, rows, waiting slots and requests.
+    /// the same allocator again, with its limits, living entities, rows, waiting slots and
+    /// requests.
     ///
-    /// The image tells no more than that. Two allocators that are the same to every call have the same
-    /// image, whatever came before. It has 40 bytes and 12 more for each slot that was made.
+    /// The image has nothing else. Two allocators that are the same to every call have the same
+    /// image, whatever happened to them before. It has 40 bytes, and 12 more for each slot that was
+    /// made.
     ///
     /// ```
     /// use forgeni::Entities;
@@ -216,8 +218,8 @@ impl Entities {
     /// that waits, which is no more than the slots have in the image. It takes none before it has
     /// compared the number of slots with the length.
     ///
-    /// A forged image can make the next [`flush`](Self::flush) take up to 68 GB, since it may say that
-    /// each of 2^32 - 1 slots is reserved. For bytes from a stranger there is
+    /// A forged image can make the next [`flush`](Self::flush) take up to 68 GB, since it may say
+    /// that each of 2^32 - 1 slots is reserved. For bytes from a stranger, use
     /// [`read_image_within`](Self::read_image_within).
     ///
     /// # Errors
@@ -228,15 +230,15 @@ impl Entities {
     /// - [`ImageFault::Magic`] if the bytes don't begin as an image does.
     /// - [`ImageFault::Length`] if there are fewer than 40 bytes.
     /// - [`ImageFault::Version`] if the image is of another version of the format.
-    /// - [`ImageFault::Limits`] if no allocator may have such limits.
+    /// - [`ImageFault::Limits`] if no allocator can have these limits.
     /// - [`ImageFault::Counts`] if more slots were made than the limits allow, or more wait than were
     ///   made.
-    /// - [`ImageFault::Requests`] if no requests reserve so many handles.
+    /// - [`ImageFault::Requests`] if no requests reserve that many handles.
     /// - [`ImageFault::Length`] if there are fewer or more bytes than an image of so many slots has.
-    /// - [`ImageFault::Slot`] with the first slot that can't be so.
+    /// - [`ImageFault::Slot`] with the first slot that is invalid.
     /// - [`ImageFault::Position`] with the first position that no slot waits at.
     ///
-    /// [`ImageFault::Memory`] comes if there is no memory for the slots, whatever they are.
+    /// [`ImageFault::Memory`] is returned if there is no memory for the slots, whatever they are.
     ///
     /// <details><summary>Contract</summary>
     ///
@@ -284,10 +286,10 @@ impl Entities {
     /// The allocator whose image these bytes are, if it has at most `most` slots after its next
     /// [`flush`](Self::flush).
     ///
-    /// An image of 40 bytes may say that 4,294,967,295 handles are reserved. `read_image` reads it, and
-    /// the next `flush` takes 8 bytes for each of them, and 8 more in its list. So this is the call for
-    /// bytes from a stranger: it takes no more memory than `read_image`, and the next `flush` no more
-    /// than `most` slots and `most` handles do.
+    /// An image of 40 bytes may say that 4,294,967,295 handles are reserved. `read_image` reads it,
+    /// and the next `flush` takes 8 bytes for each of them, and 8 more in its list. So this is the
+    /// call for bytes from a stranger: it takes no more memory than `read_image`, and the next
+    /// `flush` takes no more than `most` slots and `most` handles do.
     ///
     /// ```
     /// use forgeni::{Entities, ImageFault};
@@ -303,8 +305,8 @@ impl Entities {
     ///
     /// # Errors
     ///
-    /// Those of [`read_image`](Self::read_image), and then [`ImageFault::Bound`] if there would be more
-    /// slots.
+    /// Those of [`read_image`](Self::read_image), followed by [`ImageFault::Bound`] if there would
+    /// be more slots.
     ///
     /// <details><summary>Contract</summary>
     ///

@@ -15,7 +15,7 @@ pub enum ImageFault {
         /// The version that the image names.
         version: u32,
     },
-    /// The limits are none that an allocator may have.
+    /// No allocator can have these limits.
     Limits,
     /// More slots were made than the limits allow, or more wait than were made.
     Counts,
@@ -24,10 +24,10 @@ pub enum ImageFault {
         /// How many bytes the image has to have.
         expected: u64,
     },
-    /// So many handles can't be reserved where so many were asked for.
+    /// The number of reserved handles doesn't fit the number of requested ones.
     Requests,
-    /// The slot is none that an allocator may have: a generation out of range, a word that names no
-    /// kind of slot, or a position that is past the last one or that a slot before it waits at.
+    /// No allocator can have this slot: it has a generation out of range, a word that names no kind
+    /// of slot, or a position that is past the last one or that a slot before it waits at.
     Slot {
         /// The index of the slot.
         index: u32,

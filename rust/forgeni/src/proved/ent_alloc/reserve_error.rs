@@ -5,7 +5,7 @@ use crate::proved::ent_alloc::space::Space;
 use crate::proved::ent_handle::Memory;
 use crate::kit::alloc::AllocError;
 
-/// Why a call gave no handle that reserves handles and keeps them in a list or a queue.
+/// Why a call that reserves handles, and keeps them in a list or a queue, gave none.
 #[derive(Clone, Copy, Debug, PartialEq, Eq, Hash)]
 pub enum ReserveError {
     /// Fewer handles were left than were requested. The request counts all the same, and no handle

@@ -13,8 +13,8 @@ use core::mem;
 /// A sync point of logs: the entries that are still to be handed on.
 ///
 /// [`begin`](Self::begin) brings to life what is reserved, and [`apply`](Self::apply) hands on the
-/// entries. It doesn't own the allocator, so none is lost if a caller returns early. Then the entries
-/// that are left are dropped.
+/// entries. It doesn't own the allocator, so the allocator isn't lost if a caller returns early.
+/// The entries that are left are dropped then.
 ///
 /// ```
 /// use forgeni::{Entities, Entry, FreeError, Handle, HandleMap, Log, SyncPoint};
@@ -77,7 +77,7 @@ impl<C> SyncPoint<C> {
     /// the other, and the list of logs is empty then. What a log reserved that isn't among them comes
     /// to life too.
     ///
-    /// It looks at each spawn of the logs: its handle has to be reserved in this allocator. So when
+    /// It tests each spawn of the logs: its handle has to be reserved in this allocator. So when
     /// the first entry is handed on, each of these handles is alive.
     ///
     /// # Errors
@@ -131,8 +131,8 @@ impl<C> SyncPoint<C> {
         }
     }
 
-    /// [`begin`](Self::begin) of logs all of whose spawns are reserved in the allocator, so it looks
-    /// at none of them.
+    /// As [`begin`](Self::begin), for logs all of whose spawns are reserved in the allocator. It
+    /// tests none of them.
     ///
     /// # Errors
     ///
@@ -167,14 +167,16 @@ impl<C> SyncPoint<C> {
         })
     }
 
-    /// Calls `run` at each entry in turn, with the allocator, so that a command may free entities.
+    /// Calls `run` with each entry in turn, and with the allocator, so that a command can free
+    /// entities.
     ///
-    /// `run` hands an entry back with its error. Then that entry is the first one that is left, and a
-    /// later call goes on with it. [`take_next`](Self::take_next) takes it out instead.
+    /// `run` hands an entry back with its error. That entry is then the first one that is left, and
+    /// a later call goes on with it. [`take_next`](Self::take_next) removes it instead.
     ///
     /// # Errors
     ///
-    /// That of `run`. It was called at the entries before, and not at those behind, which are left.
+    /// That of `run`. It was called with the entries before that one, and not with those behind it,
+    /// which are left.
     ///
     /// # Panics
     ///
@@ -204,8 +206,8 @@ impl<C> SyncPoint<C> {
         hand_on(&mut self.front, &mut self.rest, entities, run)
     }
 
-    /// Takes the next entry out: the one that a closure handed back, or the first that it wasn't
-    /// called at. `None` if none is left.
+    /// Removes the next entry, and returns it: the one that a closure handed back, or the first
+    /// that it wasn't called with. `None` if none is left.
     ///
     /// <details><summary>Contract</summary>
     ///

@@ -1,6 +1,6 @@
 // Made of crates/ent_queue/src/issuing.rt by rust/erase. It isn't edited by hand.
 
-//! What a system does that fills a queue.
+//! The calls of a system that fills a queue.
 
 use alloc::vec::Vec;
 use crate::proved::ent_queue::bundle::Bundle as OwnBundle;
@@ -11,13 +11,13 @@ use crate::proved::ent_handle::{ComponentId, Handle, Memory};
 use crate::proved::ent_storage::Bundle;
 
 impl<S: Source> Commands<'_, CommandQueue, S> {
-    /// Reserves a handle, which is to have the components.
+    /// Reserves a handle. Its entity gets the components when the queue is applied.
     ///
     /// # Errors
     ///
-    /// [`QueueFault::Memory`], and then nothing has changed. With [`QueueFault::Space`] and
-    /// [`QueueFault::Quota`] the queue keeps the refusal, which is a fault of the sync point's report,
-    /// and [`QueueFault::or_memory`] lets the system go on.
+    /// [`QueueFault::Memory`]: nothing has changed. With [`QueueFault::Space`] and
+    /// [`QueueFault::Quota`] the queue keeps the refusal, which is a fault of the sync point's
+    /// report, and [`QueueFault::or_memory`] lets the system go on.
     ///
     /// <details><summary>Contract</summary>
     ///
@@ -49,8 +49,8 @@ impl<S: Source> Commands<'_, CommandQueue, S> {
             .spawn(self.source, self.reserver, bundle.items())
     }
 
-    /// Reserves a handle, which is to have these components, in any order. If a component is listed
-    /// twice, its last value counts.
+    /// Reserves a handle. Its entity gets these components when the queue is applied. They may be
+    /// in any order; if a component is listed twice, its last value counts.
     ///
     /// # Errors
     ///
@@ -85,8 +85,8 @@ impl<S: Source> Commands<'_, CommandQueue, S> {
         self.spawn(&bundle)
     }
 
-    /// Reserves `n` handles at once, each of which is to have the components. It takes time for each
-    /// handle of the list, and of the queue, which has them too.
+    /// Reserves `n` handles at once. Each of their entities gets the components when the queue is
+    /// applied. It takes time for each handle, which goes into the list and into the queue.
     ///
     /// # Errors
     ///
@@ -125,8 +125,8 @@ impl<S: Source> Commands<'_, CommandQueue, S> {
             .spawn_many(self.source, self.reserver, n, bundle.items())
     }
 
-    /// Reserves `n` handles at once, each of which is to have these components, in any order. If a
-    /// component is listed twice, its last value counts.
+    /// Reserves `n` handles at once. Each of their entities gets these components when the queue is
+    /// applied. They may be in any order; if a component is listed twice, its last value counts.
     ///
     /// # Errors
     ///
@@ -167,7 +167,7 @@ impl<S: Source> Commands<'_, CommandQueue, S> {
         self.spawn_many(n, &bundle)
     }
 
-    /// Gives the entity the components, instead of those that it has under the same numbers.
+    /// Gives the entity the components, in place of those that it has under the same numbers.
     ///
     /// # Errors
     ///
@@ -196,8 +196,8 @@ impl<S: Source> Commands<'_, CommandQueue, S> {
         CommandQueue::insert(&mut self.output, handle, bundle.items())
     }
 
-    /// Gives the entity these components, in any order, instead of those that it has under the same
-    /// numbers. If a component is listed twice, its last value counts.
+    /// Gives the entity these components, in place of those that it has under the same numbers.
+    /// They may be in any order; if a component is listed twice, its last value counts.
     ///
     /// # Errors
     ///
@@ -227,7 +227,7 @@ impl<S: Source> Commands<'_, CommandQueue, S> {
         self.insert(handle, &bundle)
     }
 
-    /// Takes the component out of the entity, if it has it.
+    /// Removes the component from the entity, if it has it.
     ///
     /// # Errors
     ///
@@ -251,7 +251,7 @@ impl<S: Source> Commands<'_, CommandQueue, S> {
         self.output.remove(handle, id)
     }
 
-    /// Takes the entity out of the world.
+    /// Despawns the entity.
     ///
     /// # Errors
     ///

@@ -1,6 +1,6 @@
 // Made of crates/ent_queue/src/leaving.rt by rust/erase. It isn't edited by hand.
 
-//! What a system may ask whose handles are of a block.
+//! What a system whose handles come from a block may ask.
 use crate::proved::ent_queue::commands::Commands;
 use crate::proved::ent_blocks::Blocks;
 

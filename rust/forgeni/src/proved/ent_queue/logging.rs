@@ -1,6 +1,6 @@
 // Made of crates/ent_queue/src/logging.rt by rust/erase. It isn't edited by hand.
 
-//! What a system does that fills a log.
+//! The calls of a system that fills a log.
 
 use crate::proved::ent_queue::commands::Commands;
 use crate::proved::ent_alloc::{ReserveError, Source};

@@ -3,7 +3,7 @@
 use crate::proved::ent_queue::queue::CommandQueue;
 use crate::proved::ent_log::Log;
 
-/// What a system fills: a [`CommandQueue`] of a world, or a [`Log`] of a caller's own commands.
+/// What a system fills: a [`CommandQueue`] of a world, or a [`Log`] of the caller's own commands.
 pub trait Output {
     /// One without entries. It takes no memory.
     ///

@@ -15,7 +15,7 @@ const REFUSAL: usize = 14;
 
 /// Commands in the order of issue, packed as bytes.
 ///
-/// [`Commands`](crate::proved::ent_queue::Commands) makes it, and nothing else does.
+/// Only [`Commands`](crate::proved::ent_queue::Commands) makes one.
 #[derive(Debug)]
 pub struct CommandQueue {
     bytes: Vec<u8>,

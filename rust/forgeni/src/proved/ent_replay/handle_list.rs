@@ -89,7 +89,7 @@ impl HandleList {
         Ok(HandleList { handles })
     }
 
-    /// Gives the handles back, with their memory.
+    /// Returns the handles, with their memory.
     ///
     /// <details><summary>Contract</summary>
     ///

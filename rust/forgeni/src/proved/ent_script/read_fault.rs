@@ -5,27 +5,27 @@ use crate::proved::ent_handle::Memory;
 use crate::kit::programs::json::Invalid;
 use crate::kit::alloc::{AllocError, AllocFailed};
 
-/// Why a text is no script, or could not be read. Frames, systems and operations are numbered
+/// Why a text isn't a script, or could not be read. Frames, systems and operations are numbered
 /// from 0.
 #[derive(Clone, Copy, Debug, PartialEq, Eq, Hash)]
 pub enum ReadFault {
-    /// The bytes are no JSON text.
+    /// The bytes aren't a JSON text.
     Json,
     /// A test of the script outside its frames fails.
     Script(ScriptCause),
-    /// A frame is no list of at most 256 systems.
+    /// A frame isn't a list of at most 256 systems.
     Frame {
         /// Its number.
         frame: usize,
     },
-    /// A system is no list of at most 10,000 operations.
+    /// A system isn't a list of at most 10,000 operations.
     System {
         /// The number of its frame.
         frame: usize,
         /// Its number in the frame.
         system: usize,
     },
-    /// An element of a system is no operation.
+    /// An element of a system isn't an operation.
     Operation {
         /// The number of its frame.
         frame: usize,

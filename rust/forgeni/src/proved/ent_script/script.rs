@@ -80,7 +80,7 @@ impl Script {
 
     /// The limits, the names of the components, and the frames. It takes no memory.
     ///
-    /// The frames are most of a long script. Whoever owns them can free each one after its run.
+    /// The frames are most of a long script. Their owner can free each one after its run.
     ///
     /// <details><summary>Contract</summary>
     ///

@@ -7,7 +7,7 @@ use crate::proved::ent_alloc::QUOTA;
 /// The right of one caller to reserve from a shared allocator, and what is left of its quota.
 ///
 /// [`share`](crate::proved::ent_shared::share) makes them, and [`Shared::close`](crate::proved::ent_shared::Shared::close) takes them back.
-/// A caller that reserves in a thread of its own takes one along.
+/// A caller that reserves in a thread of its own takes one with it.
 pub struct Reserver {
     pub(super) token: RecordsToken<Record>,
     pub(super) number: usize,

@@ -51,7 +51,7 @@ impl Shared {
         self.count
     }
 
-    /// The allocator as it was when the phase was opened. It stays so until the close.
+    /// The allocator as it was when the phase was opened. It doesn't change until the close.
     ///
     /// <details><summary>Contract</summary>
     ///
@@ -169,7 +169,7 @@ impl Shared {
         self.entities.row(handle)
     }
 
-    /// Reserves one handle, by one atomic step. It takes no memory and waits for nobody.
+    /// Reserves one handle, by one atomic step. It takes no memory, and never waits.
     ///
     /// The handle is what the allocator would have given to one caller at that moment.
     ///
@@ -205,8 +205,8 @@ impl Shared {
         Ok(handle)
     }
 
-    /// Reserves `n` handles at once, by one atomic step. It takes no memory and waits for nobody. A
-    /// request of 0 makes no step and is always served.
+    /// Reserves `n` handles at once, by one atomic step. It takes no memory, and never waits. A
+    /// request for 0 makes no step and is always served.
     ///
     /// The handles are what the allocator would have given to one caller at that moment, in the
     /// order of [`Entities::reply`]. They borrow from the allocator.
@@ -254,8 +254,7 @@ impl Shared {
     }
 
     /// Orders two reservers: every later reservation by `a` comes after everything that `b` has
-    /// reserved or learned of so far. It makes two atomic steps, takes no memory and waits for
-    /// nobody.
+    /// reserved or learned of so far. It makes two atomic steps, takes no memory, and never waits.
     #[inline]
     pub(crate) fn meet(&self, a: &mut Reserver, b: &mut Reserver)
         // requires first { IsOf self.now a.old }
@@ -316,7 +315,7 @@ impl Shared {
 
     /// Ends the phase although some reservers may be lost. The cursor tells how many handles were
     /// requested in all, but not which of the lost reservers' requests were refused. So the front
-    /// of the pool counts as reserved, as far as it goes, also those handles that nobody got. It
+    /// of the pool counts as reserved, as far as it goes, including handles that no caller got. It
     /// takes no memory.
     #[inline]
     pub(crate) fn close_lost(self, reservers: Vec<Reserver>) -> Entities

@@ -46,7 +46,7 @@ impl<const INLINE: usize> Bundle<INLINE> {
     ///
     /// # Errors
     ///
-    /// Out of memory, which needs a count of more than `INLINE`.
+    /// Out of memory, only for a count of more than `INLINE`.
     ///
     /// <details><summary>Contract</summary>
     ///
@@ -70,7 +70,7 @@ impl<const INLINE: usize> Bundle<INLINE> {
     ///
     /// # Errors
     ///
-    /// Out of memory, which needs more than `INLINE` different components.
+    /// Out of memory, only for more than `INLINE` different components.
     ///
     /// <details><summary>Contract</summary>
     ///
@@ -97,8 +97,8 @@ impl<const INLINE: usize> Bundle<INLINE> {
     ///
     /// # Errors
     ///
-    /// Out of memory, which needs a component that is not there and at least `INLINE` that are.
-    /// Nothing has changed.
+    /// Out of memory, only if the component isn't there and at least `INLINE` others are. Nothing
+    /// has changed.
     ///
     /// <details><summary>Contract</summary>
     ///

@@ -7,14 +7,15 @@ use crate::proved::ent_handle::Memory;
 pub enum StorageImageFault {
     /// There are fewer bytes than the entities have, or more.
     Length,
-    /// No entity has the last of so many components, or there are no components of such numbers.
+    /// No entity has the last of that many components, or there are no components with such
+    /// numbers.
     Width {
         /// How many components the image has.
         width: u32,
     },
     /// The bytes of the entity at this place are those of no entity.
     Entity {
-        /// How many entities stand before it.
+        /// How many entities come before it.
         place: usize,
     },
     /// Out of memory.

@@ -26,7 +26,7 @@ impl Storage {
         self.place(handle).is_some()
     }
 
-    /// When and by whom the entity was brought to life, if it is there.
+    /// The birth of the entity, if it is there.
     ///
     /// <details><summary>Contract</summary>
     ///
@@ -129,11 +129,11 @@ impl Storage {
         self.living.birth(place)
     }
 
-    /// The handles of all entities, by birth and then by handle. The time is that of a sort.
+    /// The handles of all entities, by birth and then by handle. It takes the time of a sort.
     ///
     /// # Errors
     ///
-    /// Out of memory for the list. It never comes if there are no entities.
+    /// Out of memory for the list. It is never returned if there are no entities.
     ///
     /// <details><summary>Contract</summary>
     ///
@@ -151,10 +151,10 @@ impl Storage {
         Ok(handles_in_order(births)?)
     }
 
-    /// The handle of the entity that was brought to life there and then, if there is one. If
-    /// several entities have the birth, it is the least of their handles.
+    /// The handle of the entity with that birth, if there is one. If several entities have the
+    /// birth, it is the least of their handles.
     ///
-    /// It takes no memory. The time is that of a look at each entity.
+    /// It takes no memory, and time for each entity.
     ///
     /// <details><summary>Contract</summary>
     ///
@@ -178,7 +178,7 @@ impl Storage {
     }
 
     /// The place and the value of each entity that has the component, in no stated order. It takes
-    /// no memory, and a walk over it is a walk over one slice.
+    /// no memory, and is one slice.
     ///
     /// <details><summary>Contract</summary>
     ///
@@ -197,12 +197,12 @@ impl Storage {
         self.living.pairs(id)
     }
 
-    /// The handles of the entities that have the component, by birth and then by handle. The time
-    /// is that of a sort of those that are listed.
+    /// The handles of the entities that have the component, by birth and then by handle. It takes
+    /// the time of a sort of those that are listed.
     ///
     /// # Errors
     ///
-    /// Out of memory for the list. It never comes if no entity has the component.
+    /// Out of memory for the list. It is never returned if no entity has the component.
     ///
     /// <details><summary>Contract</summary>
     ///

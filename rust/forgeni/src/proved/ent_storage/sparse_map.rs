@@ -23,11 +23,11 @@ use core::mem;
 ///
 /// It takes and refuses what a [`HandleMap`](crate::proved::ent_storage::handle_map::HandleMap) does. The values lie
 /// side by side, and each slot takes only four bytes, for the position of its value. So ten values
-/// among a million slots take 4.5 MB with values of any size, and are walked in the time of the
-/// ten. A look-up is two accesses to vectors, where a `HandleMap` makes one.
+/// among a million slots take 4.5 MB with values of any size, and a walk over them takes the time
+/// of the ten. A look-up is two accesses to vectors, where a `HandleMap` makes one.
 ///
-/// It does not know which handles an allocator has given or freed. A value that nobody removes
-/// stays until a later occupant of its slot gets one, and can't be found by that one's handle.
+/// It does not know which handles an allocator has given or freed. A value that isn't removed stays
+/// until a later occupant of its slot gets one, and that occupant's handle doesn't find it.
 /// [`Follows::despawn`](crate::Follows::despawn) frees an entity and removes its value.
 ///
 /// ```
@@ -47,7 +47,7 @@ use core::mem;
 /// # Ok::<(), Box<dyn std::error::Error + Send + Sync>>(())
 /// ```
 ///
-/// **A handle from a save or a network may make the map take much memory**, four bytes for each
+/// **A handle from a save or a network can make the map take much memory**, four bytes for each
 /// slot up to its own. So give a map for such handles a [limit](Self::with_limit).
 ///
 /// Contracts see a finite map from handles to values (`values`), for how many values there is room
@@ -289,8 +289,8 @@ impl<T> SparseMap<T> {
         &mut self.entries[position].1
     }
 
-    /// Gives back the room that no value needs, as `Vec::shrink_to_fit` does. If there is no memory to
-    /// move the values to, the room stays. That for slots stays too.
+    /// Frees the room that no value needs, as `Vec::shrink_to_fit` does. If there is no memory to
+    /// move the values to, the room stays. The room for slots always stays.
     ///
     /// <details><summary>Contract</summary>
     ///
@@ -309,7 +309,8 @@ impl<T> SparseMap<T> {
         self.entries.shrink_to_fit_fallibly();
     }
 
-    /// The handles and their values, in no order. The same calls leave them in the same order.
+    /// The handles and their values, in no particular order. The same calls leave them in the same
+    /// order.
     ///
     /// ```
     /// use forgeni::{Entities, SparseMap};
@@ -399,8 +400,8 @@ impl<T> SparseMap<T> {
     ///
     /// # Errors
     ///
-    /// [`HandedBack`] has the value, and no value of the map has changed. The first that holds is
-    /// the reason:
+    /// [`HandedBack`] has the value, and no value of the map has changed. The reason is the first
+    /// of these that applies:
     ///
     /// - `Limit`: the handle's slot is at or above the [`limit`](Self::limit), or the handle is
     ///   [`Handle::PLACEHOLDER`], which no map takes.
@@ -449,7 +450,7 @@ impl<T> SparseMap<T> {
         put(&mut self.entries, &mut self.positions, handle, value)
     }
 
-    /// What the map has for the handle: a value, or none. What is done with the entry looks for the
+    /// What the map has for the handle: a value, or none. Each call of the entry looks for the
     /// handle once more.
     ///
     /// ```
@@ -581,7 +582,7 @@ impl<T: Clone> SparseMap<T> {
     /// Drops all values, and gives this map a clone of each value of the source, room for the slots
     /// of the source, and its limit.
     ///
-    /// If there is room for as many slots and values as the source has, it takes no memory but for
+    /// If there is room for as many slots and values as the source has, it takes memory only for
     /// the clones.
     ///
     /// # Errors

@@ -13,9 +13,9 @@ use crate::proved::ent_world::View;
 pub(super) enum Change<'a> {
     /// Sets these components.
     Insert(&'a Bundle),
-    /// Takes this component away.
+    /// Removes this component.
     Remove(ComponentId),
-    /// Takes the entity out.
+    /// Despawns the entity.
     Despawn,
 }
 

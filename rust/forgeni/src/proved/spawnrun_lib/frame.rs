@@ -9,7 +9,7 @@ use crate::proved::ent_script::System;
 use crate::proved::ent_world::{SyncReport, World};
 use crate::kit::thread::Threads;
 
-/// Runs a frame of these systems on that many workers, with its sync point.
+/// Runs a frame of these systems on that many workers, and its sync point.
 #[inline]
 pub(super) fn run<R>(
     rt: &R,

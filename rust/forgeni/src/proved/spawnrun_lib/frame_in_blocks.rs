@@ -11,7 +11,7 @@ use crate::proved::ent_script::System;
 use crate::proved::ent_world::{PlacedWorld, SyncReport, World, WorldDeal};
 use crate::kit::thread::Threads;
 
-/// Why a frame in blocks didn't end. Each time memory ran out.
+/// When memory ran out in a frame in blocks, so that it didn't end.
 #[derive(Clone, Copy, PartialEq, Eq)]
 pub(super) enum Undone {
     /// Before any system ran, or after all had run.
@@ -72,12 +72,12 @@ where
     }
 }
 
-/// Runs a frame of these systems on that many workers, each with a block of so many handles, with its
-/// sync point.
+/// Runs a frame of these systems on that many workers, each system with a block of that many
+/// handles, and its sync point.
 ///
 /// # Errors
 ///
-/// [`Undone`] if memory ran out, and then the world is dropped.
+/// [`Undone`] if memory ran out. The world is dropped then.
 #[inline]
 pub(super) fn run<R>(
     rt: &R,

@@ -1,10 +1,10 @@
 // Made of crates/spawnrun_lib/src/lib.rt by rust/erase. It isn't edited by hand.
 
-//! The program `spawnrun` but for its `main`: devices, the whole input, the command line, the runs
-//! of schedules and of scripts, and what is said of an input that is refused.
+//! The program `spawnrun` without its `main`: devices, the whole input, the command line, the runs
+//! of schedules and of scripts, and the message on a refused input.
 //!
-//! A run of a script does what its systems do, frame after frame over one world, and returns the
-//! text of it.
+//! A run of a script does what its systems do, frame after frame over one world, and returns its
+//! report.
 //!
 //! `main` is one call of `start`, which hands the arguments and the standard streams to `execute`.
 //! All that happens from then on has a contract, over any devices, so that tests can use devices in

@@ -6,10 +6,10 @@ use crate::kit::itoa::Buffer;
 use crate::kit::programs::serde_json::Value;
 use crate::kit::programs::inline_text::InlineText;
 
-/// What stands where a test failed.
+/// What is in the place where a test failed.
 #[derive(Clone, Copy)]
 pub(super) enum Part<'a> {
-    /// Nothing does.
+    /// Nothing is there.
     Absent,
     /// A value that is refused.
     Refused(&'a Value),
@@ -35,7 +35,7 @@ impl<'a> Part<'a> {
         }
     }
 
-    /// A list that is too long, or what stands there instead of a list.
+    /// A list that is too long, or what is there instead of a list.
     #[inline]
     pub(super) fn instead_of_list(value: Option<&'a Value>) -> Part<'a>
         // ensures { place_of result ≡ list_place (option_map (λ v. view v.now) value.entry) }

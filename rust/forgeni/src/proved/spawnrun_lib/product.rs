@@ -15,11 +15,11 @@ pub(super) enum Product {
     Refusal(Refusal),
 }
 
-/// What is said of an input that is refused.
+/// The message on a refused input.
 pub(super) struct Refusal {
     /// The line of output.
     pub line: Vec<u8>,
-    /// What the test wants that the input fails.
+    /// What the test that the input fails expects.
     pub wants: &'static str,
     /// What the test found.
     pub found: Found,

@@ -1,6 +1,6 @@
 // Made of crates/spawnrun_lib/src/program.rt by rust/erase. It isn't edited by hand.
 
-//! The program: what its words ask for, done between two devices, and what it says on the error
+//! The program: it does what its arguments ask for between two devices, and writes to the error
 //! stream.
 
 use crate::kit::programs::format;
@@ -12,7 +12,7 @@ use crate::proved::cli::{LineFault, Sink, Source, finish, refuse_line};
 use crate::kit::programs::string::AsStr;
 use crate::kit::thread::Threads;
 
-/// Does what the words after the program's name ask for, and returns the exit status.
+/// Does what the program's arguments ask for, and returns the exit status.
 ///
 /// | Status | Meaning | On the error stream |
 /// |---|---|---|

@@ -1,12 +1,12 @@
 // Made of crates/spawnrun_lib/src/progress.rt by rust/erase. It isn't edited by hand.
 
-//! How far a run is, and who tells it on a terminal.
+//! How far a run is, and its line on a terminal.
 
 use crate::proved::cli::{Failed, Sink};
 use crate::kit::itoa::Buffer;
 use crate::kit::programs::time::{Clock, Duration, Instant};
 
-/// Is told how far a run is.
+/// Gets the progress of a run.
 pub trait Progress {
     /// So many of all are done, and the next one begins.
     fn tell(&mut self, done: usize, of: usize);
@@ -15,7 +15,7 @@ pub trait Progress {
     fn end(&mut self);
 }
 
-/// Doesn't want to know.
+/// Ignores it.
 impl Progress for () {
     #[inline]
     fn tell(&mut self, _done: usize, _of: usize) {}
@@ -27,7 +27,7 @@ impl Progress for () {
 // The time between two reports, in seconds.
 const STEP: u64 = 1;
 
-/// Tells a terminal once a second how far a run is. Each line stands over the one before, and the
+/// Writes to a terminal once a second how far a run is. Each line replaces the one before, and the
 /// last is removed. A failure of the terminal changes nothing.
 pub(super) struct Teller<'a, R, T> {
     clock: &'a R,
@@ -38,8 +38,8 @@ pub(super) struct Teller<'a, R, T> {
 }
 
 impl<'a, R: Clock, T: Sink> Teller<'a, R, T> {
-    /// One that has told nothing. It never tells anything if that isn't wanted, or if the clock
-    /// can't be read.
+    /// One that has written nothing. It never writes anything if that isn't asked for, or if the
+    /// clock can't be read.
     ///
     /// <details><summary>Contract</summary>
     ///

@@ -15,7 +15,7 @@ pub(super) struct Roll {
 }
 
 impl Roll {
-    /// Nobody is listed. It takes no memory.
+    /// No entity is listed. It takes no memory.
     #[inline]
     pub(super) fn new() -> Self
         // ensures { result ≡ [] }

@@ -11,7 +11,7 @@ use crate::kit::programs::inline_text::InlineText;
 // The longest text that is read once more, in bytes. A value takes up to 173 times its text.
 const LONGEST: usize = 65_536;
 
-/// What a text has instead of what a test of scripts wants, and where.
+/// What a text has in place of what a test of scripts expects, and where.
 ///
 /// It is printable ASCII, whatever the text has. A value of more than 60 characters is cut, and ends
 /// in three dots.

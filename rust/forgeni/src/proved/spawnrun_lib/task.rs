@@ -1,6 +1,6 @@
 // Made of crates/spawnrun_lib/src/task.rt by rust/erase. It isn't edited by hand.
 
-//! What the words after the program's name ask for.
+//! What the program's arguments ask for.
 
 use crate::proved::spawnrun_lib::show::Show;
 use crate::kit::programs::clap::{Arg, ArgAction, ArgMatches, Command};
@@ -203,12 +203,12 @@ fn run_of(options: &ArgMatches<'_>) -> Task
     }
 }
 
-/// Reads the task from the words after the program's name.
+/// Reads the task from the program's arguments.
 ///
 /// # Errors
 ///
-/// - `Line` if clap finds a fault in the words, or if they ask for help.
-/// - `Memory` if memory ran out. Words that clap takes are refused for this alone.
+/// - `Line` if clap finds a fault in the arguments, or if they ask for help.
+/// - `Memory` if memory ran out. Arguments that clap takes are refused for this alone.
 ///
 /// <details><summary>Contract</summary>
 ///
@@ -234,7 +234,7 @@ pub fn command_line<S: AsStr>(words: &[S]) -> Result<Task, LineFault> {
     }
 }
 
-/// Whether the words ask for a task.
+/// Whether the arguments ask for a task.
 ///
 /// # Errors
 ///

@@ -3,7 +3,7 @@
 use crate::proved::ent_replay::Cause as LineCause;
 use crate::proved::ent_script::{Cause, ReadFault, ScriptCause};
 
-/// What is wanted of the size of an input.
+/// What the size of an input has to be.
 #[inline]
 pub(super) fn size_wants() -> &'static str
     // ensures { result.now ≡ size_wants }
@@ -35,8 +35,8 @@ pub(super) fn line_wants(cause: LineCause) -> &'static str
     }
 }
 
-/// What a script has to be: the demand that a script refused for this fault fails. Want of memory
-/// refuses no script, so its text is empty.
+/// What a script has to be: the demand that a script refused for this fault fails. No script is
+/// refused for a lack of memory, so that text is empty.
 #[inline]
 pub(super) fn script_wants(fault: ReadFault) -> &'static str
     // ensures { result.now ≡ script_wants fault }

@@ -17,12 +17,12 @@ use crate::proved::cli::{InputFault, Sink, Source, read_all};
 use crate::proved::ent_handle::Memory;
 use crate::kit::thread::Threads;
 
-/// Reads all of the input, does the task with it, and writes what that gave. A task has 1 to 64
+/// Reads all of the input, does the task with it, and writes the result. A task has 1 to 64
 /// workers.
 ///
 /// Nothing is made before the whole input is read, and nothing is written before all of the output
 /// is made. An input of more than 67,108,864 bytes is refused by one line, and so is one that is no
-/// schedule or no script. Of a longer input just one byte more than the limit is taken.
+/// schedule or no script. Of a longer input it takes just one byte more than the limit.
 ///
 /// After `Memory`, or a failure of the input, the output is as it was. `Device` is one failed call
 /// of one of the two devices.

@@ -11,7 +11,7 @@ use crate::kit::alloc::AllocError;
 
 /// Why the lines of a trace are not taken any further.
 pub enum End {
-    /// What is to be said of the trace.
+    /// The verdict on the trace.
     Verdict(Verdict),
     /// Memory ran out, or no number was left for a line or for the handles given.
     Memory,
@@ -24,8 +24,8 @@ impl From<AllocError> for End {
     }
 }
 
-/// Takes the lines of a trace as texts, one after the other. It holds what compares them, and nothing
-/// of the lines.
+/// Takes the lines of a trace as texts, one after the other. It keeps the comparer, and nothing of
+/// the lines.
 pub struct Checking {
     comparer: Comparer,
     lines: u64,
@@ -153,7 +153,7 @@ impl Checking {
         }
     }
 
-    /// Says what is to be said of a trace that ends here.
+    /// The verdict on a trace that ends here.
     ///
     /// <details><summary>Contract</summary>
     ///

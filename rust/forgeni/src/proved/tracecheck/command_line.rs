@@ -1,6 +1,6 @@
 // Made of crates/tracecheck/src/command_line.rt by rust/erase. It isn't edited by hand.
 
-//! Where a trace begins, by the words after the program's name.
+//! Where a trace begins, by the program's arguments.
 
 use crate::kit::programs::clap::error::ErrorKind;
 use crate::kit::programs::clap::parser::ValueSource;
@@ -138,13 +138,13 @@ fn beginning_of(options: &ArgMatches<'_>) -> Result<Beginning, LineFault>
     }
 }
 
-/// Reads from the words after the program's name where the trace begins.
+/// Reads from the program's arguments where the trace begins.
 ///
 /// # Errors
 ///
-/// - `Line` if clap finds a fault in the words, if they ask for help, or if they give limits beside an
-///   image.
-/// - `Memory` if memory ran out. Words that are a command line are refused for this alone.
+/// - `Line` if clap finds a fault in the arguments, if they ask for help, or if they give limits
+///   beside an image.
+/// - `Memory` if memory ran out. Arguments that are a command line are refused for this alone.
 ///
 /// <details><summary>Contract</summary>
 ///
@@ -165,7 +165,7 @@ pub fn command_line<S: AsStr>(words: &[S]) -> Result<Beginning, LineFault> {
     beginning_of(&matches)
 }
 
-/// Whether the words ask for a check.
+/// Whether the arguments ask for a check.
 ///
 /// # Errors
 ///
@@ -191,8 +191,8 @@ pub fn ask_for_a_check<S: AsStr>(words: &[S]) -> Result<bool, AllocError> {
     }
 }
 
-/// The file of the image that the words ask to begin with, if they do. Words that are no command line
-/// ask for none.
+/// The file of the image that the arguments ask to begin with, if they do. Arguments that are no
+/// command line ask for none.
 ///
 /// # Errors
 ///

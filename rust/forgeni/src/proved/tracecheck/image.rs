@@ -13,7 +13,7 @@ use crate::kit::alloc::AllocError;
 /// Why there is no allocator to begin with.
 #[derive(Clone, Copy)]
 pub enum Unread {
-    /// The bytes are the image of none.
+    /// The bytes are the image of no allocator.
     Fault(ImageFault),
     /// Memory ran out.
     Memory,

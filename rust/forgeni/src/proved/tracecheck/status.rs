@@ -14,7 +14,7 @@ pub enum Status {
     Refused,
     /// Memory ran out. Nothing was written.
     Memory,
-    /// A call of a device failed. How much went out isn't said.
+    /// A call of a device failed. Any part of the output may have gone out.
     Device,
 }
 

@@ -41,7 +41,7 @@ pub trait Sink {
     ///
     /// # Errors
     ///
-    /// `Failed` if the device failed. How much of the piece went out isn't said.
+    /// `Failed` if the device failed. Any part of the piece may have gone out.
     ///
     /// <details><summary>Contract</summary>
     ///

@@ -41,8 +41,8 @@ impl From<AllocError> for InputFault {
 ///
 /// What was read before the error is dropped.
 ///
-/// - `TooLong` as soon as more than `limit` bytes have come. Just one byte more than the limit is
-///   taken, so this returns for a source without end too.
+/// - `TooLong` as soon as more than `limit` bytes have come. It takes just one byte more than the
+///   limit, so it also returns for a source without end.
 /// - `Memory` if there was no memory for the bytes.
 /// - `Device` if the source failed.
 ///

@@ -9,7 +9,7 @@ use crate::kit::programs::rt::Files;
 use crate::kit::programs::fs;
 use std::io;
 
-/// Why a file isn't read that a word names.
+/// Why a named file isn't read.
 #[derive(Clone, Copy, Debug, PartialEq, Eq)]
 pub enum NameFault {
     /// There is no file of this name.
@@ -65,12 +65,12 @@ pub fn open_named<R: Files>(rt: &R, name: &str) -> Result<R::File, NameFault> {
     Ok(File::open(rt, name)?)
 }
 
-/// Says in one line that a program doesn't read the file of this name, and why: `PROGRAM: no such
+/// Writes one line that says why a program doesn't read the file of this name: `PROGRAM: no such
 /// file: NAME`.
 ///
 /// # Errors
 ///
-/// `Failed` if the device failed. How much went out isn't said.
+/// `Failed` if the device failed. Any part of the line may have gone out.
 ///
 /// <details><summary>Contract</summary>
 ///

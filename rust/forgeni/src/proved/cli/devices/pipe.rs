@@ -1,12 +1,12 @@
 // Made of crates/cli/src/devices/pipe.rt by rust/erase. It isn't edited by hand.
 
-//! An output whose reader may leave, as `head` does, and an error stream that says nothing of it.
+//! An output whose reader may leave, as `head` does, and an error stream that stays silent then.
 
 use core::cell::Cell;
 use std::io;
 use std::io::{ErrorKind, Write};
 
-/// A writer that notes it if a write fails because nobody reads any more.
+/// A writer that takes note if a write fails because the reader has left.
 pub struct Noting<'a, W> {
     writer: W,
     has_left: &'a Cell<bool>,
@@ -38,7 +38,7 @@ impl<W: Write> Write for Noting<'_, W> {
     }
 }
 
-/// A writer that drops what it is given once the reader of another one has left.
+/// A writer that drops what it gets once the reader of another one has left.
 pub struct Muted<'a, W> {
     writer: W,
     has_left: &'a Cell<bool>,

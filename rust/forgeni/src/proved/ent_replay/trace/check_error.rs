@@ -12,7 +12,8 @@ use crate::kit::alloc::{AllocError, AllocFailed};
 pub enum CheckError {
     /// An answer isn't the allocator's.
     Differs(Difference),
-    /// More than 2^50 handles were requested since the last flush, which no allocator here counts.
+    /// More than 2^50 handles were requested since the last flush, which is more than an allocator
+    /// here can count.
     TooMany,
     /// Out of memory.
     Memory,

@@ -13,8 +13,8 @@ use crate::proved::ent_alloc::{Entities, Limits, State};
 use crate::proved::ent_handle::Handle;
 use core::mem;
 
-/// Takes the calls of an allocator one after the other, and compares each answer with that of the
-/// proved one.
+/// Takes the calls of an allocator one after the other, and compares each answer with the proved
+/// allocator's.
 ///
 /// It holds the allocator and the reservations since the last other call, and nothing else. A call
 /// that fails is the last one: each later call returns the same error. So the first difference stays,
@@ -46,8 +46,8 @@ impl Checker {
     /// A checker of an allocator that has given nothing. It takes no memory.
     ///
     /// The limits are those of the allocator that is checked: how many slots it may make, and after
-    /// which generation it gives a slot no more. The greatest ones go as far as handles do, and
-    /// include [`Handle::PLACEHOLDER`](crate::Handle::PLACEHOLDER).
+    /// which generation it retires a slot. The greatest limits allow every handle, including
+    /// [`Handle::PLACEHOLDER`](crate::Handle::PLACEHOLDER).
     ///
     /// ```
     /// use forgeni::trace::Checker;
@@ -198,7 +198,7 @@ impl Checker {
         self.answer()
     }
 
-    /// A handle was asked for, to be alive at once.
+    /// Takes a call for a handle that is alive at once.
     ///
     /// ```
     /// use forgeni::trace::{AllocReply, Checker};
@@ -230,7 +230,7 @@ impl Checker {
         self.call(Call::Alloc(Some(reply.into())))
     }
 
-    /// A handle was freed.
+    /// Takes a call that freed a handle.
     ///
     /// ```
     /// use forgeni::trace::{Checker, FreeReply};
@@ -263,7 +263,7 @@ impl Checker {
         self.call(Call::Free(handle, Some(reply)))
     }
 
-    /// What is reserved was brought to life. The answer is the handles, or how many they were.
+    /// Takes a flush. The answer is the handles that came to life, or how many they were.
     ///
     /// ```
     /// use forgeni::trace::{Checker, FlushReply};
@@ -297,7 +297,7 @@ impl Checker {
         self.call(Call::Flush(Some(reply.into())))
     }
 
-    /// The state of a handle was read.
+    /// Takes a call for the state of a handle.
     ///
     /// ```
     /// use forgeni::trace::Checker;
@@ -329,7 +329,7 @@ impl Checker {
         self.call(Call::State(handle, Some(reply)))
     }
 
-    /// The living were counted.
+    /// Takes a call for the number of living handles.
     ///
     /// ```
     /// use forgeni::trace::Checker;
@@ -361,8 +361,8 @@ impl Checker {
         self.call(Call::Len(Some(reply)))
     }
 
-    /// Handles were reserved, for the next flush to bring to life. Other reservations may overlap
-    /// this one: it may come before or after those of other callers.
+    /// Takes a reservation of handles, which the next flush brings to life. Other reservations may
+    /// overlap this one: it may come before or after those of other callers.
     ///
     /// ```
     /// use forgeni::trace::{Checker, ReserveReply};
@@ -402,8 +402,8 @@ impl Checker {
         self.call(Call::Reserve(Reservation::new(caller, requested, reply)))
     }
 
-    /// Takes all that a log has, in its order. The log is empty then. It overlapped what was reserved
-    /// since the last other call.
+    /// Takes all reservations of a log, in its order, and leaves the log empty. They may overlap
+    /// all that was reserved since the last other call.
     ///
     /// ```
     /// use forgeni::trace::{Checker, Log};
@@ -439,10 +439,10 @@ impl Checker {
         self.answer()
     }
 
-    /// These reservations overlapped, with those that were taken since the last other call. They are
-    /// compared now, and what is reserved later came later.
+    /// Takes reservations that overlapped, with one another and with those that were taken since
+    /// the last other call. They are compared now: what is reserved later came later.
     ///
-    /// Those of one caller come in its order. Those of different callers come in no order.
+    /// Those of one caller are in its order. Those of different callers have no order.
     ///
     /// ```
     /// use forgeni::trace::{Checker, Reservation};
@@ -479,7 +479,7 @@ impl Checker {
         self.answer()
     }
 
-    /// There are no more calls. The last reservations are compared.
+    /// Ends the trace, and compares the last reservations.
     ///
     /// ```
     /// use forgeni::trace::Checker;

@@ -12,11 +12,11 @@ use crate::proved::ent_replay::trace::reply::{AllocReply, FlushReply, FreeReply}
 use crate::proved::ent_alloc::{Limits, State};
 use crate::proved::ent_handle::{Handle, Memory};
 
-/// Records an allocator that threads share, and checks it as it goes.
+/// Records the calls of an allocator that threads share, and checks them as they come.
 ///
-/// While threads reserve, each has one of the [`logs`](Self::logs). At the next other call the logs
-/// are joined, in the order of the callers. Then they are empty again. The borrow of the logs has
-/// ended then, so no thread still appends.
+/// While threads reserve, each has one of the [`logs`](Self::logs). The next other call joins the
+/// logs, in the order of the callers, and leaves them empty. The borrow of the logs has ended by
+/// then, so no thread still appends.
 ///
 /// ```
 /// use forgeni::trace::Recorder;
@@ -44,7 +44,7 @@ use crate::proved::ent_handle::{Handle, Memory};
 /// # Ok::<(), Box<dyn std::error::Error>>(())
 /// ```
 ///
-/// Where threads keep their logs, [`Checker::join`] takes each of them as the phase ends.
+/// If threads keep their logs, [`Checker::join`] takes each of them as the phase ends.
 pub struct Recorder {
     checker: Checker,
     logs: Vec<Log>,
@@ -140,7 +140,7 @@ impl Recorder {
         self.checker.call(call)
     }
 
-    /// A handle was asked for, to be alive at once.
+    /// Takes a call for a handle that is alive at once.
     ///
     /// # Errors
     ///
@@ -163,7 +163,7 @@ impl Recorder {
         self.call(Call::Alloc(Some(reply.into())))
     }
 
-    /// A handle was freed.
+    /// Takes a call that freed a handle.
     ///
     /// # Errors
     ///
@@ -187,7 +187,7 @@ impl Recorder {
         self.call(Call::Free(handle, Some(reply)))
     }
 
-    /// What is reserved was brought to life.
+    /// Takes a flush. The answer is the handles that came to life, or how many they were.
     ///
     /// # Errors
     ///
@@ -210,7 +210,7 @@ impl Recorder {
         self.call(Call::Flush(Some(reply.into())))
     }
 
-    /// The state of a handle was read.
+    /// Takes a call for the state of a handle.
     ///
     /// # Errors
     ///
@@ -234,7 +234,7 @@ impl Recorder {
         self.call(Call::State(handle, Some(reply)))
     }
 
-    /// The living were counted.
+    /// Takes a call for the number of living handles.
     ///
     /// # Errors
     ///
@@ -257,7 +257,7 @@ impl Recorder {
         self.call(Call::Len(Some(reply)))
     }
 
-    /// There are no more calls. The logs are joined, and the last reservations are compared.
+    /// Joins the logs, ends the trace, and compares the last reservations.
     ///
     /// # Errors
     ///

@@ -6,7 +6,7 @@ use alloc::vec::Vec;
 use crate::proved::ent_replay::handle_list::HandleList;
 use crate::proved::ent_handle::{Handle, Memory};
 
-/// What was answered to a call for a handle that is alive at once.
+/// The answer to a call for a handle that is alive at once.
 #[derive(Clone, Copy, Debug, PartialEq, Eq, Hash)]
 pub enum AllocReply {
     /// The handle that came to life.
@@ -24,7 +24,7 @@ impl From<Handle> for AllocReply {
     }
 }
 
-/// What was answered to a call that frees a handle.
+/// The answer to a call that frees a handle.
 #[derive(Clone, Copy, Debug, PartialEq, Eq, Hash)]
 pub enum FreeReply {
     /// The handle was freed. What its slot gives next isn't compared.
@@ -39,7 +39,7 @@ pub enum FreeReply {
     NeedsFlush,
 }
 
-/// What was answered to a flush.
+/// The answer to a flush.
 #[derive(Debug, Clone, PartialEq, Eq, Hash)]
 pub enum FlushReply {
     /// The handles that came to life, in their order.
@@ -68,7 +68,7 @@ impl From<Vec<Handle>> for FlushReply {
     }
 }
 
-/// What was answered to a reservation.
+/// The answer to a reservation.
 #[derive(Debug, Clone, PartialEq, Eq, Hash)]
 pub enum ReserveReply {
     /// The handles, in their order.

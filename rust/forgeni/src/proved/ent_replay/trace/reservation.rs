@@ -12,15 +12,15 @@ pub struct Reservation {
     pub number: u64,
     /// The caller. Reservations of one caller are in its order.
     pub caller: u32,
-    /// For how many handles.
+    /// How many handles were requested.
     pub requested: u32,
-    /// What was answered.
+    /// The answer.
     pub reply: ReserveReply,
 }
 
 impl Reservation {
-    /// The reservation of so many handles by this caller, with its answer. It has no number yet, so
-    /// its number is 0.
+    /// The reservation of that many handles by this caller, with its answer. It has no number yet,
+    /// so its number is 0.
     ///
     /// <details><summary>Contract</summary>
     ///

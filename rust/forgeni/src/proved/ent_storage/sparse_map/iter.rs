@@ -2,7 +2,7 @@
 
 use crate::proved::ent_handle::Handle;
 
-/// The handles and values of a sparse map, in no order.
+/// The handles and values of a sparse map, in no particular order.
 ///
 /// [`SparseMap::iter`](super::SparseMap::iter) makes it. It borrows the map and copies nothing.
 #[must_use]
