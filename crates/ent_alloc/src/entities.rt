@@ -70,6 +70,18 @@ impl Entities {
     /// An allocator with no entities, which gives all handles within its limits, including the
     /// greatest one, which [`with_limits`](Self::with_limits) never gives. It takes no memory,
     /// whatever the limits are.
+    ///
+    /// ```
+    /// use forgeni::{Entities, Limits};
+    ///
+    /// // As Bevy's allocator, it gives each handle that there is.
+    /// const ALL: Entities = Entities::with_exact_limits(Limits::GREATEST);
+    ///
+    /// let mut one = Entities::with_exact_limits(Limits::new(1, 1).unwrap());
+    /// assert_eq!(ALL.left(), u32::MAX);
+    /// assert_eq!((one.alloc()?.to_string(), one.left()), ("0v1".to_owned(), 0));
+    /// # Ok::<(), Box<dyn std::error::Error>>(())
+    /// ```
     #[must_use]
     pub fn new(alloc: Global, limits: Limits) -> Self
         ensures allocator { result.allocator ≡ opening limits }
@@ -121,6 +133,19 @@ impl Entities {
     }
 
     /// How many entities are alive.
+    ///
+    /// ```
+    /// use forgeni::Entities;
+    ///
+    /// let mut entities = Entities::new();
+    /// let cart = entities.alloc()?;
+    /// entities.alloc()?;
+    /// entities.free(cart)?;
+    /// entities.request()?;
+    /// // What is reserved isn't alive yet.
+    /// assert_eq!(entities.len(), 1);
+    /// # Ok::<(), Box<dyn std::error::Error>>(())
+    /// ```
     #[must_use]
     pub fn len(&self) -> u32
         ensures { result ≡ set.len self.now.allocator.live }
@@ -129,6 +154,18 @@ impl Entities {
     }
 
     /// Whether no entity is alive.
+    ///
+    /// ```
+    /// use forgeni::Entities;
+    ///
+    /// let mut entities = Entities::new();
+    /// let enemies = entities.alloc_many(3)?;
+    /// for enemy in enemies {
+    ///     entities.free(enemy)?;
+    /// }
+    /// assert!(entities.is_empty());
+    /// # Ok::<(), Box<dyn std::error::Error>>(())
+    /// ```
     #[must_use]
     pub fn is_empty(&self) -> bool
         ensures { IsTrue result ↔ (set.len self.now.allocator.live ≡ 0) }
@@ -137,6 +174,18 @@ impl Entities {
     }
 
     /// How many slots were made: each has or had an entity. A retired slot still counts.
+    ///
+    /// ```
+    /// use forgeni::Entities;
+    ///
+    /// let mut entities = Entities::new();
+    /// let cart = entities.alloc()?;
+    /// entities.free(cart)?;
+    /// entities.alloc()?;
+    /// // A vector by slot needs no more than this.
+    /// assert_eq!(entities.total(), 1);
+    /// # Ok::<(), Box<dyn std::error::Error>>(())
+    /// ```
     #[must_use]
     pub fn total(&self) -> u32
         ensures { result ≡ self.now.allocator.made }
@@ -163,6 +212,15 @@ impl Entities {
     }
 
     /// How many slots can still be made.
+    ///
+    /// ```
+    /// use forgeni::{Entities, Limits};
+    ///
+    /// let mut entities = Entities::with_limits(Limits::new(100, 1).unwrap());
+    /// entities.alloc_many(40)?;
+    /// assert_eq!(entities.room(), 60);
+    /// # Ok::<(), Box<dyn std::error::Error>>(())
+    /// ```
     #[must_use]
     pub fn room(&self) -> u32
         ensures { result ≡ self.now.allocator.limits.slots - self.now.allocator.made }
@@ -172,6 +230,17 @@ impl Entities {
 
     /// How many old slots waited for their next entity at the last `flush`, `alloc` or `free`.
     /// Requests don't change it.
+    ///
+    /// ```
+    /// use forgeni::Entities;
+    ///
+    /// let mut entities = Entities::new();
+    /// let all = entities.alloc_many(10)?;
+    /// entities.free(all[3])?;
+    /// entities.free(all[7])?;
+    /// assert_eq!(entities.top(), 2);
+    /// # Ok::<(), Box<dyn std::error::Error>>(())
+    /// ```
     #[must_use]
     pub fn top(&self) -> u32
         ensures { result ≡ top self.now.allocator }
@@ -181,6 +250,17 @@ impl Entities {
 
     /// How many slots are retired: the entity of their last generation was freed, and they give no
     /// more handles. It takes constant time.
+    ///
+    /// ```
+    /// use forgeni::{Entities, Limits};
+    ///
+    /// let mut entities = Entities::with_limits(Limits::new(100, 1).unwrap());
+    /// let once = entities.alloc()?;
+    /// // A slot has just one generation here.
+    /// assert_eq!(entities.free(once)?.next, None);
+    /// assert_eq!((entities.retired(), entities.left()), (1, 99));
+    /// # Ok::<(), Box<dyn std::error::Error>>(())
+    /// ```
     #[must_use]
     pub fn retired(&self) -> u32
         ensures value { result ≡ retired self.now.allocator }
@@ -194,6 +274,19 @@ impl Entities {
 
     /// The number that each request lowers by its count. It is `top` if nothing was requested since
     /// the last flush; below 0 it counts fresh slots.
+    ///
+    /// ```
+    /// use forgeni::Entities;
+    ///
+    /// let mut entities = Entities::new();
+    /// let old = entities.alloc()?;
+    /// entities.free(old)?;
+    /// assert_eq!(entities.cursor(), 1);
+    /// // One old slot, and two new ones.
+    /// entities.request_many(3)?;
+    /// assert_eq!(entities.cursor(), -2);
+    /// # Ok::<(), Box<dyn std::error::Error>>(())
+    /// ```
     #[must_use]
     pub fn cursor(&self) -> i64
         ensures value { result ≡ cursor self.now.allocator }
@@ -207,6 +300,16 @@ impl Entities {
     }
 
     /// How many handles were requested since the last flush, served or refused. It is at most 2^50.
+    ///
+    /// ```
+    /// use forgeni::{Entities, Limits};
+    ///
+    /// let mut entities = Entities::with_limits(Limits::new(5, 1).unwrap());
+    /// entities.request_many(4)?;
+    /// assert!(entities.request_many(4).is_err());
+    /// assert_eq!((entities.asked(), entities.reserved()), (8, 4));
+    /// # Ok::<(), Box<dyn std::error::Error>>(())
+    /// ```
     #[must_use]
     pub fn asked(&self) -> u64
         ensures value { result ≡ self.now.allocator.asked }
@@ -216,6 +319,18 @@ impl Entities {
     }
 
     /// Whether any handle was requested since the last flush.
+    ///
+    /// ```
+    /// use forgeni::Entities;
+    ///
+    /// let mut entities = Entities::new();
+    /// entities.request()?;
+    /// if entities.needs_flush() {
+    ///     entities.flush(&mut Vec::new())?;
+    /// }
+    /// assert_eq!(entities.alloc()?.index(), 1);
+    /// # Ok::<(), Box<dyn std::error::Error>>(())
+    /// ```
     #[must_use]
     pub fn needs_flush(&self) -> bool
         ensures { IsTrue result ↔ (0 < self.now.allocator.asked) }
@@ -224,6 +339,18 @@ impl Entities {
     }
 
     /// How many handles the next flush brings to life.
+    ///
+    /// ```
+    /// use forgeni::Entities;
+    ///
+    /// let mut entities = Entities::new();
+    /// entities.request_many(40)?;
+    /// // So the flush takes no memory for its list.
+    /// let mut born = Vec::with_capacity(entities.reserved() as usize);
+    /// entities.flush(&mut born)?;
+    /// assert_eq!((born.len(), entities.reserved()), (40, 0));
+    /// # Ok::<(), Box<dyn std::error::Error>>(())
+    /// ```
     #[must_use]
     pub fn reserved(&self) -> u32
         ensures { result ≡ length self.now.allocator.taken }
@@ -489,6 +616,18 @@ impl Entities {
     /// The place of a handle among those that there were to give at the last flush, counted from 0
     /// in the order in which they are given. Requests don't change it. `None` if it isn't among
     /// them. It takes constant time.
+    ///
+    /// ```
+    /// use forgeni::Entities;
+    ///
+    /// let mut entities = Entities::new();
+    /// let old = entities.alloc_many(2)?;
+    /// let first = entities.free(old[0])?.next.ok_or("it is retired")?;
+    /// let second = entities.free(old[1])?.next.ok_or("it is retired")?;
+    /// // The slot that was freed last is given first.
+    /// assert_eq!((entities.place(second), entities.place(first)), (Some(0), Some(1)));
+    /// # Ok::<(), Box<dyn std::error::Error>>(())
+    /// ```
     #[must_use]
     pub fn place(&self, handle: Handle) -> Option<u32>
         ensures found { IfSome result (λ place.
@@ -512,6 +651,20 @@ impl Entities {
     /// The row of a living entity: a number that a program keeps with it, such as the place of its
     /// components. `None` if the handle isn't alive, or if no row was set since it came to life. It
     /// takes constant time.
+    ///
+    /// ```
+    /// use forgeni::Entities;
+    ///
+    /// let mut entities = Entities::new();
+    /// let (cart, horse) = (entities.alloc()?, entities.alloc()?);
+    /// let mut wheels = vec![];
+    /// entities.try_set_row(cart, wheels.len() as u32)?;
+    /// wheels.push(4);
+    /// // An engine's own table, by the row that it keeps with the entity.
+    /// assert_eq!(entities.row(cart).map(|row| wheels[row as usize]), Some(4));
+    /// assert_eq!(entities.row(horse), None);
+    /// # Ok::<(), Box<dyn std::error::Error>>(())
+    /// ```
     #[must_use]
     pub fn row(&self, handle: Handle) -> Option<u32>
         ensures value { result ≡ map.get self.now.rows handle }

@@ -217,6 +217,22 @@ impl Entities {
     /// that each of 2^32 - 1 slots is reserved. For bytes from a stranger, use
     /// [`read_image_within`](Self::read_image_within).
     ///
+    /// ```
+    /// use forgeni::Entities;
+    ///
+    /// let mut entities = Entities::new();
+    /// let old = entities.alloc()?;
+    /// entities.free(old)?;
+    /// let mut image = Vec::new();
+    /// entities.write_image(&mut image)?;
+    ///
+    /// let mut loaded = Entities::read_image(&image)?;
+    /// // After the load no handle is given twice either.
+    /// assert_eq!(loaded.alloc()?, entities.alloc()?);
+    /// assert!(!loaded.is_alive(old));
+    /// # Ok::<(), Box<dyn std::error::Error>>(())
+    /// ```
+    ///
     /// # Errors
     ///
     /// Each but [`Memory`](ImageFault::Memory) says that no allocator has this image. The first fault

@@ -7,6 +7,18 @@ use thiserror::Error;
 
 /// Why bytes were not read as the image of an allocator: the first fault that they have, in the
 /// order that [`Entities::read_image`](crate::Entities::read_image) lists.
+///
+/// ```
+/// use forgeni::{Entities, ImageFault};
+///
+/// let mut image = Vec::new();
+/// Entities::new().write_image(&mut image)?;
+/// image.push(0);
+/// // A save that has one byte too many isn't read as if it hadn't.
+/// assert_eq!(Entities::read_image(&image).err(), Some(ImageFault::Length { expected: 40 }));
+/// assert_eq!(Entities::read_image(b"save").err(), Some(ImageFault::Magic));
+/// # Ok::<(), Box<dyn std::error::Error>>(())
+/// ```
 #[derive(Clone, Copy, Debug, PartialEq, Eq, Hash, Error)]
 #[non_exhaustive]
 pub enum ImageFault {

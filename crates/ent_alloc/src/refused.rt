@@ -5,6 +5,18 @@ use crate::space::Space;
 use thiserror::Error;
 
 /// Why a request or a reservation gave no handle.
+///
+/// ```
+/// use forgeni::{Entities, Limits, Refused};
+///
+/// let entities = Entities::with_limits(Limits::new(1, 1).unwrap());
+/// let (shared, mut reservers) = entities.share(1)?;
+/// reservers[0].reserve()?;
+/// // The pool is empty until the next flush.
+/// assert_eq!(reservers[0].reserve(), Err(Refused::Space { wanted: 1, left: 0 }));
+/// assert_eq!(shared.close(reservers)?.reserved(), 1);
+/// # Ok::<(), Box<dyn std::error::Error>>(())
+/// ```
 #[derive(Clone, Copy, Debug, PartialEq, Eq, Hash, Error)]
 pub enum Refused {
     /// Fewer handles were left than were requested. The request counts all the same, and no handle

@@ -9,6 +9,22 @@ use std::alloc::AllocError;
 use thiserror::Error;
 
 /// Why a call that reserves handles, and keeps them in a list or a queue, gave none.
+///
+/// ```
+/// use forgeni::{Entities, Limits, ReserveError};
+///
+/// let mut entities = Entities::with_limits(Limits::new(100, 1).unwrap());
+/// let sparks = match entities.request_many(150) {
+///     // A smaller burst, after the flush.
+///     Err(ReserveError::Space { left, .. }) => {
+///         entities.flush(&mut Vec::new())?;
+///         entities.request_many(left)?
+///     }
+///     other => other?,
+/// };
+/// assert_eq!(sparks.len(), 100);
+/// # Ok::<(), Box<dyn std::error::Error>>(())
+/// ```
 #[derive(Clone, Copy, Debug, PartialEq, Eq, Hash, Error)]
 pub enum ReserveError {
     /// Fewer handles were left than were requested. The request counts all the same, and no handle

@@ -14,6 +14,20 @@ use ent_handle::Handle;
 ///
 /// What a system fills from it, and what runs the system, depend only on this trait. So one type of
 /// system works with every source.
+///
+/// ```
+/// use forgeni::{run_frame, OutOfMemory, Source, View, World, WorldCommands};
+///
+/// /// A system of any frame: of shared handles, or in blocks.
+/// fn rain<S: Source>(_: &View<'_>, out: &mut WorldCommands<'_, S>) -> Result<(), OutOfMemory> {
+///     out.spawn_many_with(100, &[]).map_or_else(|refused| refused.or_memory(), |_| Ok(()))
+/// }
+///
+/// let mut world = World::new();
+/// run_frame(&mut world, &[rain], 1)?;
+/// assert_eq!(world.len(), 100);
+/// # Ok::<(), Box<dyn std::error::Error>>(())
+/// ```
 pub trait Source {
     /// What a caller reserves with.
     type Reserver;

@@ -1,4 +1,18 @@
 /// What became of a handle.
+///
+/// ```
+/// use forgeni::{Entities, State};
+///
+/// let mut entities = Entities::new();
+/// let soon = entities.request()?;
+/// let says = match entities.state(soon) {
+///     State::Alive => "here",
+///     State::Reserved => "about to come",
+///     State::Gone => "gone",
+/// };
+/// assert_eq!(says, "about to come");
+/// # Ok::<(), Box<dyn std::error::Error>>(())
+/// ```
 #[derive(Clone, Copy, Debug, PartialEq, Eq, Hash)]
 pub enum State {
     /// It is alive.

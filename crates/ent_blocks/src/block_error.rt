@@ -8,6 +8,19 @@ use thiserror::Error;
 
 /// Why no handle of a block was reserved. Nothing has changed then, but that the reserver
 /// [remembers](crate::BlockReserver::wanted) a request for more than is left.
+///
+/// ```
+/// use forgeni::{BlockError, Entities};
+///
+/// let (blocks, mut reservers) = Entities::new().open_in_blocks(&[2])?;
+/// let mine = &mut reservers[0];
+/// blocks.reserve_many(mine, 2)?;
+/// // The block is used up. The caller goes on without, and its next block is larger.
+/// if let Err(BlockError::Space { wanted, left }) = blocks.reserve(mine) {
+///     assert_eq!((wanted, left, mine.wanted()), (1, 0, 3));
+/// }
+/// # Ok::<(), Box<dyn std::error::Error>>(())
+/// ```
 #[derive(Clone, Copy, Debug, PartialEq, Eq, Hash, Error)]
 #[non_exhaustive]
 pub enum BlockError {

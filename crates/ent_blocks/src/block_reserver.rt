@@ -49,6 +49,16 @@ impl<J: BlockNumbering> BlockReserver<J> {
     ghost use Rattle.ent_blocks.specs.declared.block_error.BlockError.TheVariants as why;
 
     /// How many handles the block has. It is less than what was wanted if the pool ended.
+    ///
+    /// ```
+    /// use forgeni::{Entities, Limits};
+    ///
+    /// let entities = Entities::with_limits(Limits::new(100, 1).unwrap());
+    /// let (_blocks, reservers) = entities.open_in_blocks(&[64, 64])?;
+    /// // The pool ends within the second block.
+    /// assert_eq!((reservers[0].size(), reservers[1].size()), (64, 36));
+    /// # Ok::<(), Box<dyn std::error::Error>>(())
+    /// ```
     #[must_use]
     pub fn size(&self) -> u32
         ensures { result ≡ self.now.block.size }
@@ -57,6 +67,19 @@ impl<J: BlockNumbering> BlockReserver<J> {
     }
 
     /// How many of them are used.
+    ///
+    /// ```
+    /// use forgeni::Entities;
+    ///
+    /// let (blocks, mut reservers) = Entities::new().open_in_blocks(&[10, 10])?;
+    /// blocks.reserve_many(&mut reservers[0], 2)?;
+    /// blocks.reserve_many(&mut reservers[1], 3)?;
+    /// let used: u32 = reservers.iter().map(|one| one.used()).sum();
+    /// let mut entities = blocks.close(reservers)?;
+    /// entities.flush(&mut Vec::new())?;
+    /// assert_eq!((used, entities.len()), (5, 5));
+    /// # Ok::<(), Box<dyn std::error::Error>>(())
+    /// ```
     #[must_use]
     pub fn used(&self) -> u32
         ensures value { result ≡ self.now.block.used }
@@ -66,6 +89,18 @@ impl<J: BlockNumbering> BlockReserver<J> {
     }
 
     /// How many handles of the block are left.
+    ///
+    /// ```
+    /// use forgeni::Entities;
+    ///
+    /// let (blocks, mut reservers) = Entities::new().open_in_blocks(&[10])?;
+    /// let mine = &mut reservers[0];
+    /// blocks.reserve_many(mine, 7)?;
+    /// // As many sparks as the block still has, at most 50.
+    /// let sparks = blocks.reserve_many(mine, mine.left().min(50))?;
+    /// assert_eq!((sparks.len(), mine.left()), (3, 0));
+    /// # Ok::<(), Box<dyn std::error::Error>>(())
+    /// ```
     #[must_use]
     pub fn left(&self) -> u32
         ensures value { result ≡ self.now.block.size - self.now.block.used }
@@ -105,6 +140,16 @@ impl<J: BlockNumbering> BlockReserver<J> {
     }
 
     /// Whether it is of this phase.
+    ///
+    /// ```
+    /// use forgeni::{BlockError, Entities};
+    ///
+    /// let (blocks, mut reservers) = Entities::new().open_in_blocks(&[10])?;
+    /// let (others, _) = Entities::new().open_in_blocks(&[10])?;
+    /// assert!(reservers[0].is_of(&blocks) && !reservers[0].is_of(&others));
+    /// assert_eq!(others.reserve(&mut reservers[0]), Err(BlockError::OtherPhase));
+    /// # Ok::<(), Box<dyn std::error::Error>>(())
+    /// ```
     #[must_use]
     pub fn is_of(&self, blocks: &Blocks<J>) -> bool
         ensures { IsTrue result ↔ (self.now.number ≡ blocks.now.number) }

@@ -28,6 +28,14 @@ pub struct BlockSize {
 
 impl BlockSize {
     /// The size before the first phase: 64, or the limit if that is less.
+    ///
+    /// ```
+    /// use forgeni::BlockSize;
+    ///
+    /// let small = BlockSize::new(10);
+    /// let large = BlockSize::new(1_000);
+    /// assert_eq!((small.size(), large.size()), (10, 64));
+    /// ```
     #[must_use]
     pub fn new(limit: u32) -> Self
         ensures { result ≡ record { size = min 64 limit; limit = limit } }
@@ -40,6 +48,16 @@ impl BlockSize {
 
     /// One of this size, or of the limit if that is less: for a first phase in which more is wanted
     /// than 64 handles, or as it was saved.
+    ///
+    /// ```
+    /// use forgeni::BlockSize;
+    ///
+    /// // The first frame loads a level, and needs far more handles than later ones.
+    /// let mut size = BlockSize::with_size(5_000, 10_000);
+    /// assert_eq!(size.size(), 5_000);
+    /// size.adapt(100);
+    /// assert_eq!(size.size(), 200);
+    /// ```
     #[must_use]
     pub fn with_size(size: u32, limit: u32) -> Self
         ensures { result ≡ record { size = min size limit; limit = limit } }
@@ -51,6 +69,16 @@ impl BlockSize {
     }
 
     /// How many handles the block has in the next phase.
+    ///
+    /// ```
+    /// use forgeni::{BlockSize, Entities};
+    ///
+    /// let mut sizes = [BlockSize::new(1_000); 3];
+    /// sizes[2].adapt(400);
+    /// let (_blocks, reservers) = Entities::new().open_in_blocks(&sizes.map(|it| it.size()))?;
+    /// assert_eq!(reservers.iter().map(|one| one.size()).collect::<Vec<_>>(), [64, 64, 800]);
+    /// # Ok::<(), Box<dyn std::error::Error>>(())
+    /// ```
     #[must_use]
     pub fn size(&self) -> u32
         ensures { result ≡ self.now.size }
@@ -59,6 +87,15 @@ impl BlockSize {
     }
 
     /// The greatest size.
+    ///
+    /// ```
+    /// use forgeni::BlockSize;
+    ///
+    /// // A save needs both numbers.
+    /// let size = BlockSize::with_size(300, 1_000);
+    /// let saved = (size.size(), size.limit());
+    /// assert_eq!(BlockSize::with_size(saved.0, saved.1), size);
+    /// ```
     #[must_use]
     pub fn limit(&self) -> u32
         ensures { result ≡ self.now.limit }
@@ -68,6 +105,19 @@ impl BlockSize {
 
     /// Sets the size to the one that follows from how many handles were
     /// [wanted](crate::BlockReserver::wanted) in this phase.
+    ///
+    /// ```
+    /// use forgeni::BlockSize;
+    ///
+    /// let mut size = BlockSize::new(1_000);
+    /// let mut sizes = Vec::new();
+    /// for wanted in [100, 10, 900] {
+    ///     size.adapt(wanted);
+    ///     sizes.push(size.size());
+    /// }
+    /// // Twice as many, but at least 64, and at most the limit.
+    /// assert_eq!(sizes, [200, 64, 1_000]);
+    /// ```
     pub fn adapt(&mut self, wanted: u32)
         ensures next { self.new
             ≡ record self.old { size = min (max 64 (2 * wanted)) self.old.limit } }

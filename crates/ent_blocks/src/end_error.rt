@@ -1,6 +1,19 @@
 use thiserror::Error;
 
 /// Why a phase in blocks was not closed.
+///
+/// ```
+/// use forgeni::{EndError, Entities};
+///
+/// let (blocks, mut reservers) = Entities::new().open_in_blocks(&[10, 10])?;
+/// reservers.reverse();
+/// let refused = blocks.close(reservers).err().ok_or("it was closed")?;
+/// let ((blocks, mut reservers), error) = refused.into_parts();
+/// assert_eq!(error, EndError::Order);
+/// reservers.reverse();
+/// let _entities = blocks.close(reservers)?;
+/// # Ok::<(), Box<dyn std::error::Error>>(())
+/// ```
 #[derive(Clone, Copy, Debug, PartialEq, Eq, Hash, Error)]
 #[non_exhaustive]
 pub enum EndError {

@@ -12,6 +12,19 @@ use std::cmp::Ordering;
 /// Births are ordered by frame, then by system, then by ordinal. Births and their order are this
 /// project's own. The fields say what a sync point gives; a caller that spawns without one chooses
 /// them.
+///
+/// ```
+/// use forgeni::{Birth, World};
+///
+/// let mut world = World::new();
+/// let (oak, queues) = world.phase(2, |_open, systems| systems[1].spawn(&[]))?;
+/// world.apply(queues)?;
+/// // On each machine the first one that system 1 spawned in frame 0 is the oak.
+/// let birth = Birth { frame: 0, system: 1, ordinal: 0 };
+/// assert_eq!(world.birth(oak?), Some(birth));
+/// assert!(birth < Birth { frame: 1, system: 0, ordinal: 0 });
+/// # Ok::<(), Box<dyn std::error::Error>>(())
+/// ```
 #[derive(Clone, Copy, Debug, PartialEq, Eq, Hash)]
 pub struct Birth {
     /// The number of the phase that brought it to life.

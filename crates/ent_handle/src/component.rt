@@ -10,6 +10,19 @@ use std::cmp::Ordering;
 /// user.
 ///
 /// Components are ordered by number.
+///
+/// ```
+/// use forgeni::{ComponentId, World};
+///
+/// /// What the numbers mean is said in one place.
+/// const MASS: ComponentId = ComponentId(0);
+/// const SPEED: ComponentId = ComponentId(1);
+///
+/// let mut world = World::new();
+/// let cart = world.spawn(&[(SPEED, 40), (MASS, 900)])?;
+/// assert_eq!(world.get(cart, MASS), Some(900));
+/// # Ok::<(), Box<dyn std::error::Error>>(())
+/// ```
 #[derive(Clone, Copy, Debug, Default, PartialEq, Eq, Hash)]
 pub struct ComponentId(pub u8);
 

@@ -42,6 +42,22 @@ impl<T, E> Model for HandedBack<T, E> {
 
 impl<T, E> HandedBack<T, E> {
     /// A value that is handed back, and why it wasn't taken.
+    ///
+    /// ```
+    /// use forgeni::HandedBack;
+    ///
+    /// /// A call of your own that hands back what it refuses.
+    /// fn seat(name: String, left: &mut u32) -> Result<(), HandedBack<String, &'static str>> {
+    ///     if *left == 0 {
+    ///         return Err(HandedBack::new(name, "all seats are taken"));
+    ///     }
+    ///     *left -= 1;
+    ///     Ok(())
+    /// }
+    ///
+    /// let refused = seat("Ada".into(), &mut 0);
+    /// assert_eq!(refused.err().map(|it| it.to_string()), Some("all seats are taken".into()));
+    /// ```
     #[must_use]
     pub fn new(value: T, error: E) -> Self
         ensures { result ≡ record { value = value; error = error } }
@@ -50,6 +66,17 @@ impl<T, E> HandedBack<T, E> {
     }
 
     /// What was handed in, and why it wasn't taken.
+    ///
+    /// ```
+    /// use forgeni::{Entities, ShareError};
+    ///
+    /// let refused = Entities::new().share(0).err().ok_or("it was shared")?;
+    /// let (mut entities, error) = refused.into_parts();
+    /// assert_eq!(error, ShareError::Count);
+    /// // The allocator isn't lost.
+    /// entities.alloc()?;
+    /// # Ok::<(), Box<dyn std::error::Error>>(())
+    /// ```
     #[must_use]
     pub fn into_parts(self) -> (T, E)
         ensures value { result.0 ≡ self.value }
@@ -59,6 +86,15 @@ impl<T, E> HandedBack<T, E> {
     }
 
     /// What was handed in.
+    ///
+    /// ```
+    /// use forgeni::HandleMap;
+    ///
+    /// let mut names = HandleMap::with_limit(1);
+    /// let refused = names.insert("5v1".parse()?, "Ada").err().ok_or("it was inserted")?;
+    /// assert_eq!(refused.value(), &"Ada");
+    /// # Ok::<(), Box<dyn std::error::Error>>(())
+    /// ```
     #[must_use]
     pub fn value(&self) -> &T
         ensures { result.now ≡ self.now.value }
@@ -67,6 +103,18 @@ impl<T, E> HandedBack<T, E> {
     }
 
     /// Why it wasn't taken.
+    ///
+    /// ```
+    /// use forgeni::{HandleMap, InsertError};
+    ///
+    /// let mut names = HandleMap::with_limit(1);
+    /// match names.insert("5v1".parse()?, "Ada") {
+    ///     Err(refused) if *refused.error() == InsertError::Limit => names.set_limit(6),
+    ///     other => drop(other?),
+    /// }
+    /// assert_eq!(names.limit(), 6);
+    /// # Ok::<(), Box<dyn std::error::Error>>(())
+    /// ```
     #[must_use]
     pub fn error(&self) -> &E
         ensures { result.now ≡ self.now.error }

@@ -22,6 +22,26 @@ use std::vec::IntoIter;
 ///
 /// A [`SyncPoint`](crate::SyncPoint) brings to life what was spawned, and hands on the entries. A
 /// log can go to another thread. If a worker runs several systems, each has a log.
+///
+/// ```
+/// use forgeni::{Entities, Log};
+///
+/// let mut entities = Entities::new();
+/// let mut logs = vec![Log::new(), Log::new()];
+/// entities.phase(2, |_, reservers| {
+///     std::thread::scope(|scope| {
+///         for (log, reserver) in logs.iter_mut().zip(reservers) {
+///             scope.spawn(|| {
+///                 let cart = log.spawn(reserver)?;
+///                 log.push((cart, "cart"))?;
+///                 Ok::<(), forgeni::ReserveError>(())
+///             });
+///         }
+///     });
+/// })?;
+/// assert!(logs.iter().all(|log| log.len() == 2 && log.refused() == 0));
+/// # Ok::<(), Box<dyn std::error::Error>>(())
+/// ```
 #[must_use]
 #[derive(Drop)]
 pub struct Log<C> {
@@ -39,6 +59,16 @@ impl<C> Model for Log<C> {
 
 impl<C> Log<C> {
     /// A log without entries. It takes no memory.
+    ///
+    /// ```
+    /// use forgeni::Log;
+    ///
+    /// // One for each system.
+    /// let mut logs: Vec<Log<String>> = (0..8).map(|_| Log::new()).collect();
+    /// logs[3].push("despawn".into())?;
+    /// assert_eq!(logs.iter().map(|log| log.len()).sum::<usize>(), 1);
+    /// # Ok::<(), Box<dyn std::error::Error>>(())
+    /// ```
     #[must_use]
     pub fn new(alloc: Global) -> Self
         ensures { result ≡ [] }
@@ -49,6 +79,20 @@ impl<C> Log<C> {
     }
 
     /// The entries, in the order of issue.
+    ///
+    /// ```
+    /// use forgeni::{Entry, Log};
+    ///
+    /// let mut log = Log::new();
+    /// log.push("aim")?;
+    /// log.push("fire")?;
+    /// let said = log.entries().iter().filter_map(|it| match it {
+    ///     Entry::Command(word) => Some(*word),
+    ///     _ => None,
+    /// });
+    /// assert_eq!(said.collect::<Vec<_>>(), ["aim", "fire"]);
+    /// # Ok::<(), Box<dyn std::error::Error>>(())
+    /// ```
     #[must_use]
     pub fn entries(&self) -> &[Entry<C>]
         ensures { result.now ≡ self.now }
@@ -57,6 +101,16 @@ impl<C> Log<C> {
     }
 
     /// How many entries there are.
+    ///
+    /// ```
+    /// use forgeni::Log;
+    ///
+    /// let mut log = Log::new();
+    /// log.push('a')?;
+    /// log.push('b')?;
+    /// assert_eq!(log.len(), 2);
+    /// # Ok::<(), Box<dyn std::error::Error>>(())
+    /// ```
     #[must_use]
     pub fn len(&self) -> usize
         ensures { result ≡ length self.now }
@@ -65,6 +119,14 @@ impl<C> Log<C> {
     }
 
     /// Whether there is none.
+    ///
+    /// ```
+    /// use forgeni::Log;
+    ///
+    /// // A frame in which nothing happened needs no sync point.
+    /// let logs = [Log::<String>::new(), Log::new()];
+    /// assert!(logs.iter().all(|log| log.is_empty()));
+    /// ```
     #[must_use]
     pub fn is_empty(&self) -> bool
         ensures { IsTrue result ↔ (self.now ≡ []) }
@@ -73,6 +135,19 @@ impl<C> Log<C> {
     }
 
     /// How many of its spawns were refused.
+    ///
+    /// ```
+    /// use forgeni::{Entities, Limits, Log};
+    ///
+    /// let entities = Entities::with_limits(Limits::new(2, 1).unwrap());
+    /// let (_shared, mut reservers) = entities.share(1)?;
+    /// let mut log: Log<()> = Log::new();
+    /// for _ in 0..5 {
+    ///     let _handle = log.spawn(&mut reservers[0]);
+    /// }
+    /// assert_eq!((log.len(), log.refused()), (5, 3));
+    /// # Ok::<(), Box<dyn std::error::Error>>(())
+    /// ```
     #[must_use]
     pub fn refused(&self) -> usize
         ensures { result ≡ length (refused_in self.now) }
@@ -196,6 +271,22 @@ impl<C> Log<C> {
 impl<C: Drop> Log<C> {
     /// Adds a command, which the sync point hands on in its turn.
     ///
+    /// ```
+    /// use forgeni::{Handle, Log};
+    ///
+    /// enum Command {
+    ///     Heal(Handle, u32),
+    ///     Despawn(Handle),
+    /// }
+    ///
+    /// let oak = "0v1".parse()?;
+    /// let mut log = Log::new();
+    /// log.push(Command::Heal(oak, 20))?;
+    /// log.push(Command::Despawn(oak))?;
+    /// assert_eq!(log.len(), 2);
+    /// # Ok::<(), Box<dyn std::error::Error>>(())
+    /// ```
+    ///
     /// # Errors
     ///
     /// [`OutOfMemory`](Memory) if there is no room for it. The log is as it was, and the command is
@@ -210,6 +301,19 @@ impl<C: Drop> Log<C> {
     }
 
     /// Drops all entries, and keeps their room. So adding as many entries again takes no memory.
+    ///
+    /// ```
+    /// use forgeni::Log;
+    ///
+    /// let mut log = Log::new();
+    /// for frame in 0..3 {
+    ///     // From the second frame on it takes no memory.
+    ///     log.clear();
+    ///     log.push(frame)?;
+    /// }
+    /// assert_eq!(log.len(), 1);
+    /// # Ok::<(), Box<dyn std::error::Error>>(())
+    /// ```
     pub fn clear(&mut self)
         ensures { self.new ≡ [] }
     {

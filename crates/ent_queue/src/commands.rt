@@ -14,6 +14,25 @@ use std::alloc::Global;
 ///
 /// A spawn reserves its handle at once, so a system knows the handles of what it spawns. `O` is
 /// what is filled, and `S` the source of the handles.
+///
+/// ```
+/// use forgeni::{run_frame, ComponentId, OutOfMemory, SystemCommands, View, World};
+///
+/// const HEAT: ComponentId = ComponentId(0);
+///
+/// fn sparks(_: &View<'_>, commands: &mut SystemCommands<'_>) -> Result<(), OutOfMemory> {
+///     match commands.spawn_with(&[(HEAT, 900)]) {
+///         // It has a handle at once, and lives from the sync point on.
+///         Ok(spark) => commands.insert_with(spark, &[(HEAT, 899)]),
+///         Err(refused) => refused.or_memory(),
+///     }
+/// }
+///
+/// let mut world = World::new();
+/// let report = run_frame(&mut world, &[sparks; 2], 2)?;
+/// assert!(report.born.iter().all(|one| world.get(*one, HEAT) == Some(899)));
+/// # Ok::<(), Box<dyn std::error::Error>>(())
+/// ```
 #[derive(Drop)]
 pub struct Commands<'a, O = CommandQueue, S: Source = Shared> {
     pub(crate) reserver: &'a mut S::Reserver,
@@ -58,6 +77,18 @@ impl<'a, O, S: Source> Commands<'a, O, S> {
     }
 
     /// Whether the entity was alive when the phase was opened. It takes constant time.
+    ///
+    /// ```
+    /// use forgeni::{run_logs, Entities, Handle, LogCommands};
+    ///
+    /// let mut entities = Entities::new();
+    /// let target = entities.alloc()?;
+    /// let aim = |commands: &mut LogCommands<'_, (&str, Handle)>| {
+    ///     if commands.is_alive(target) { commands.push(("aim", target)) } else { Ok(()) }
+    /// };
+    /// assert_eq!(run_logs(&mut entities, &[aim], 1)?[0].len(), 1);
+    /// # Ok::<(), Box<dyn std::error::Error>>(())
+    /// ```
     #[must_use]
     pub fn is_alive(&self, handle: Handle) -> bool
         ensures { result ≡ set.contains (S.start (source_of self.now)).live handle }
@@ -67,6 +98,21 @@ impl<'a, O, S: Source> Commands<'a, O, S> {
 
     /// The row that was kept with the entity when the phase was opened. `None` if the entity was not
     /// alive then, or had no row. It takes constant time.
+    ///
+    /// ```
+    /// use forgeni::{run_logs, Entities, Entry, LogCommands};
+    ///
+    /// let mut entities = Entities::new();
+    /// let cart = entities.alloc()?;
+    /// entities.try_set_row(cart, 7)?;
+    /// let look = |commands: &mut LogCommands<'_, u32>| match commands.row(cart) {
+    ///     Some(row) => commands.push(row),
+    ///     None => Ok(()),
+    /// };
+    /// let logs = run_logs(&mut entities, &[look], 1)?;
+    /// assert_eq!(logs[0].entries(), [Entry::Command(7)]);
+    /// # Ok::<(), Box<dyn std::error::Error>>(())
+    /// ```
     #[must_use]
     pub fn row(&self, handle: Handle) -> Option<u32>
         ensures value { result ≡ map.get (S.rows (source_of self.now)) handle }

@@ -20,6 +20,22 @@ use ent_storage::Bundle;
 impl<S: Source> Commands<'_, CommandQueue, S> {
     /// Reserves a handle. Its entity gets the components when the queue is applied.
     ///
+    /// ```
+    /// use forgeni::{run_frame, system, Bundle, ComponentId, World};
+    ///
+    /// const HEAT: ComponentId = ComponentId(0);
+    ///
+    /// let spark = Bundle::of(&[(HEAT, 900)])?;
+    /// let burn = system(|_, commands| match commands.spawn(&spark) {
+    ///     Ok(_) => Ok(()),
+    ///     Err(refused) => refused.or_memory(),
+    /// });
+    /// let mut world = World::new();
+    /// let report = run_frame(&mut world, &[burn], 1)?;
+    /// assert_eq!(world.get(report.born[0], HEAT), Some(900));
+    /// # Ok::<(), Box<dyn std::error::Error>>(())
+    /// ```
+    ///
     /// # Errors
     ///
     /// [`QueueFault::Memory`]: nothing has changed. With [`QueueFault::Space`] and
@@ -50,6 +66,21 @@ impl<S: Source> Commands<'_, CommandQueue, S> {
     /// Reserves a handle. Its entity gets these components when the queue is applied. They may be
     /// in any order; if a component is listed twice, its last value counts.
     ///
+    /// ```
+    /// use forgeni::{run_frame, system, ComponentId, World};
+    ///
+    /// const HEAT: ComponentId = ComponentId(0);
+    ///
+    /// let burn = system(|_, commands| match commands.spawn_with(&[(HEAT, 900)]) {
+    ///     Ok(_) => Ok(()),
+    ///     Err(refused) => refused.or_memory(),
+    /// });
+    /// let mut world = World::new();
+    /// let report = run_frame(&mut world, &[burn], 1)?;
+    /// assert_eq!(world.get(report.born[0], HEAT), Some(900));
+    /// # Ok::<(), Box<dyn std::error::Error>>(())
+    /// ```
+    ///
     /// # Errors
     ///
     /// As of [`Commands::spawn`].
@@ -77,6 +108,21 @@ impl<S: Source> Commands<'_, CommandQueue, S> {
 
     /// Reserves `n` handles at once. Each of their entities gets the components when the queue is
     /// applied. It takes time for each handle, which goes into the list and into the queue.
+    ///
+    /// ```
+    /// use forgeni::{run_frame, system, Bundle, ComponentId, World};
+    ///
+    /// const HEAT: ComponentId = ComponentId(0);
+    ///
+    /// let spark = Bundle::of(&[(HEAT, 900)])?;
+    /// let burst = system(|_, commands| match commands.spawn_many(50, &spark) {
+    ///     Ok(_) => Ok(()),
+    ///     Err(refused) => refused.or_memory(),
+    /// });
+    /// let mut world = World::new();
+    /// assert_eq!(run_frame(&mut world, &[burst], 1)?.born.len(), 50);
+    /// # Ok::<(), Box<dyn std::error::Error>>(())
+    /// ```
     ///
     /// # Errors
     ///
@@ -108,6 +154,20 @@ impl<S: Source> Commands<'_, CommandQueue, S> {
 
     /// Reserves `n` handles at once. Each of their entities gets these components when the queue is
     /// applied. They may be in any order; if a component is listed twice, its last value counts.
+    ///
+    /// ```
+    /// use forgeni::{run_frame, system, Limits, World};
+    ///
+    /// let burst = system(|_, commands| match commands.spawn_many_with(50, &[]) {
+    ///     Ok(_) => Ok(()),
+    ///     // The report has it as a fault, and the other systems go on.
+    ///     Err(refused) => refused.or_memory(),
+    /// });
+    /// let mut world = World::with_limits(Limits::new(10, 1).unwrap());
+    /// let report = run_frame(&mut world, &[burst], 1)?;
+    /// assert_eq!((report.born.len(), report.faults.len()), (0, 1));
+    /// # Ok::<(), Box<dyn std::error::Error>>(())
+    /// ```
     ///
     /// # Errors
     ///
@@ -142,6 +202,19 @@ impl<S: Source> Commands<'_, CommandQueue, S> {
 
     /// Gives the entity the components, in place of those that it has under the same numbers.
     ///
+    /// ```
+    /// use forgeni::{run_frame, system, Bundle, ComponentId, World};
+    ///
+    /// const SPEED: ComponentId = ComponentId(0);
+    ///
+    /// let mut world = World::new();
+    /// let cart = world.spawn(&[])?;
+    /// let fast = Bundle::of(&[(SPEED, 40)])?;
+    /// run_frame(&mut world, &[system(|_, commands| commands.insert(cart, &fast))], 1)?;
+    /// assert_eq!(world.get(cart, SPEED), Some(40));
+    /// # Ok::<(), Box<dyn std::error::Error>>(())
+    /// ```
+    ///
     /// # Errors
     ///
     /// `Memory`, and then nothing has changed.
@@ -162,6 +235,23 @@ impl<S: Source> Commands<'_, CommandQueue, S> {
 
     /// Gives the entity these components, in place of those that it has under the same numbers.
     /// They may be in any order; if a component is listed twice, its last value counts.
+    ///
+    /// ```
+    /// use forgeni::{run_frame, ComponentId, OutOfMemory, SystemCommands, View, World};
+    ///
+    /// const SPEED: ComponentId = ComponentId(0);
+    ///
+    /// fn brake(view: &View<'_>, commands: &mut SystemCommands<'_>) -> Result<(), OutOfMemory> {
+    ///     let all = view.with(SPEED)?;
+    ///     all.into_iter().try_for_each(|one| commands.insert_with(one, &[(SPEED, 0)]))
+    /// }
+    ///
+    /// let mut world = World::new();
+    /// let cart = world.spawn(&[(SPEED, 40)])?;
+    /// run_frame(&mut world, &[brake], 1)?;
+    /// assert_eq!(world.get(cart, SPEED), Some(0));
+    /// # Ok::<(), Box<dyn std::error::Error>>(())
+    /// ```
     ///
     /// # Errors
     ///
@@ -185,6 +275,18 @@ impl<S: Source> Commands<'_, CommandQueue, S> {
 
     /// Removes the component from the entity, if it has it.
     ///
+    /// ```
+    /// use forgeni::{run_frame, system, ComponentId, World};
+    ///
+    /// const LIT: ComponentId = ComponentId(0);
+    ///
+    /// let mut world = World::new();
+    /// let lamp = world.spawn(&[(LIT, 1)])?;
+    /// run_frame(&mut world, &[system(|_, commands| commands.remove(lamp, LIT))], 1)?;
+    /// assert!(world.contains(lamp) && world.get(lamp, LIT).is_none());
+    /// # Ok::<(), Box<dyn std::error::Error>>(())
+    /// ```
+    ///
     /// # Errors
     ///
     /// `Memory`, and then nothing has changed.
@@ -199,6 +301,24 @@ impl<S: Source> Commands<'_, CommandQueue, S> {
     }
 
     /// Despawns the entity.
+    ///
+    /// ```
+    /// use forgeni::{run_frame, ComponentId, OutOfMemory, SystemCommands, View, World};
+    ///
+    /// const AGE: ComponentId = ComponentId(0);
+    ///
+    /// fn wither(view: &View<'_>, commands: &mut SystemCommands<'_>) -> Result<(), OutOfMemory> {
+    ///     let old = view.with(AGE)?.into_iter().filter(|one| view.get(*one, AGE) > Some(100));
+    ///     old.map(|one| commands.despawn(one)).collect()
+    /// }
+    ///
+    /// let mut world = World::new();
+    /// world.spawn(&[(AGE, 80)])?;
+    /// world.spawn(&[(AGE, 300)])?;
+    /// run_frame(&mut world, &[wither], 1)?;
+    /// assert_eq!(world.len(), 1);
+    /// # Ok::<(), Box<dyn std::error::Error>>(())
+    /// ```
     ///
     /// # Errors
     ///

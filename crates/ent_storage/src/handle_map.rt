@@ -127,6 +127,18 @@ impl<T> HandleMap<T> {
     ghost use Rattle.ent_storage.specs.Lends.{lends_get, lends_value};
 
     /// A map without values, and without a limit. It takes no memory.
+    ///
+    /// ```
+    /// use forgeni::HandleMap;
+    ///
+    /// static NAMES: std::sync::Mutex<HandleMap<String>> = std::sync::Mutex::new(HandleMap::new());
+    ///
+    /// let cart = "0v1".parse()?;
+    /// let mut names = NAMES.lock()?;
+    /// names.insert(cart, "cart".into())?;
+    /// assert_eq!(names[cart], "cart");
+    /// # Ok::<(), Box<dyn std::error::Error>>(())
+    /// ```
     #[must_use]
     pub fn new(alloc: Global) -> Self
         ensures { result ≡ record { values = map.empty; slots = 0; room = 0; limit = no_limit } }
@@ -139,6 +151,16 @@ impl<T> HandleMap<T> {
     ///
     /// [`Entities::total`](forgeni::Entities::total) is a limit that fits an allocator as long as it
     /// makes no new slots. [`set_limit`](Self::set_limit) changes the limit.
+    ///
+    /// ```
+    /// use forgeni::{HandleMap, InsertError};
+    ///
+    /// // A forged handle of a save can't make the map take gigabytes.
+    /// let mut names = HandleMap::with_limit(1_000);
+    /// let refused = names.insert("4000000000v1".parse()?, "Eve").err().ok_or("it was inserted")?;
+    /// assert_eq!((refused.error(), names.capacity()), (&InsertError::Limit, 0));
+    /// # Ok::<(), Box<dyn std::error::Error>>(())
+    /// ```
     #[must_use]
     pub fn with_limit(alloc: Global, limit: u32) -> Self
         ensures { result ≡ record { values = map.empty; slots = 0; room = 0; limit = limit } }
@@ -152,6 +174,20 @@ impl<T> HandleMap<T> {
 
     /// A map without values and without a limit, with room for exactly that many slots. For 0 slots
     /// it takes no memory.
+    ///
+    /// ```
+    /// use forgeni::{Entities, HandleMap};
+    ///
+    /// let mut entities = Entities::new();
+    /// let all = entities.alloc_many(1_000)?;
+    /// let mut healths = HandleMap::with_capacity(entities.total() as usize)?;
+    /// for one in all {
+    ///     // There is room, so this takes no memory.
+    ///     healths.insert(one, 100)?;
+    /// }
+    /// assert_eq!(healths.capacity(), 1_000);
+    /// # Ok::<(), Box<dyn std::error::Error>>(())
+    /// ```
     ///
     /// # Errors
     ///
@@ -172,6 +208,14 @@ impl<T> HandleMap<T> {
 
     /// For how many slots the map may have values, from slot 0 on: 4,294,967,295, which is no limit,
     /// or the limit that was set.
+    ///
+    /// ```
+    /// use forgeni::HandleMap;
+    ///
+    /// let names: HandleMap<&str> = HandleMap::new();
+    /// assert_eq!(names.limit(), u32::MAX);
+    /// assert_eq!(HandleMap::<&str>::with_limit(1_000).limit(), 1_000);
+    /// ```
     #[must_use]
     pub fn limit(&self) -> u32
         ensures { result ≡ self.now.limit }
@@ -200,6 +244,17 @@ impl<T> HandleMap<T> {
     }
 
     /// How many values there are. It takes constant time.
+    ///
+    /// ```
+    /// use forgeni::HandleMap;
+    ///
+    /// let mut names = HandleMap::new();
+    /// names.insert("7v1".parse()?, "Ada")?;
+    /// names.insert("7v2".parse()?, "Bob")?;
+    /// // A slot has one value.
+    /// assert_eq!((names.len(), names.slots()), (1, 8));
+    /// # Ok::<(), Box<dyn std::error::Error>>(())
+    /// ```
     #[must_use]
     pub fn len(&self) -> usize
         ensures { result ≡ map.len self.now.values }
@@ -208,6 +263,17 @@ impl<T> HandleMap<T> {
     }
 
     /// Whether there is no value.
+    ///
+    /// ```
+    /// use forgeni::HandleMap;
+    ///
+    /// let mut burning = HandleMap::new();
+    /// let cart = "0v1".parse()?;
+    /// burning.insert(cart, 3)?;
+    /// burning.remove(cart);
+    /// assert!(burning.is_empty());
+    /// # Ok::<(), Box<dyn std::error::Error>>(())
+    /// ```
     #[must_use]
     pub fn is_empty(&self) -> bool
         ensures { IsTrue result ↔ (map.len self.now.values ≡ 0) }
@@ -217,6 +283,17 @@ impl<T> HandleMap<T> {
 
     /// How many slots there is room for. Inserting a handle whose index is below it takes no
     /// memory.
+    ///
+    /// ```
+    /// use forgeni::{Handle, HandleMap};
+    ///
+    /// let mut names = HandleMap::with_capacity(100)?;
+    /// let last = Handle::new(99, 1).ok_or("out of range")?;
+    /// assert!(names.capacity() > last.index() as usize);
+    /// names.insert(last, "Ada")?;
+    /// assert_eq!(names.capacity(), 100);
+    /// # Ok::<(), Box<dyn std::error::Error>>(())
+    /// ```
     #[must_use]
     pub fn capacity(&self) -> usize
         ensures { result ≡ self.now.room }
@@ -226,6 +303,18 @@ impl<T> HandleMap<T> {
 
     /// How many slots there are. They reach up to the slot with the greatest index of those that
     /// were given a value since the map was made or cleared.
+    ///
+    /// ```
+    /// use forgeni::HandleMap;
+    ///
+    /// let mut names = HandleMap::new();
+    /// let ada = "99v1".parse()?;
+    /// names.insert(ada, "Ada")?;
+    /// names.remove(ada);
+    /// // A walk looks at each of them.
+    /// assert_eq!((names.len(), names.slots()), (0, 100));
+    /// # Ok::<(), Box<dyn std::error::Error>>(())
+    /// ```
     #[must_use]
     pub fn slots(&self) -> usize
         ensures value { result ≡ self.now.slots }
@@ -237,6 +326,16 @@ impl<T> HandleMap<T> {
     }
 
     /// Whether the handle has a value. It takes constant time.
+    ///
+    /// ```
+    /// use forgeni::HandleMap;
+    ///
+    /// let mut burning = HandleMap::new();
+    /// let (old, new) = ("7v1".parse()?, "7v2".parse()?);
+    /// burning.insert(old, 3)?;
+    /// assert!(burning.contains(old) && !burning.contains(new));
+    /// # Ok::<(), Box<dyn std::error::Error>>(())
+    /// ```
     #[must_use]
     pub fn contains(&self, handle: Handle) -> bool
         ensures { result ≡ map.contains_key self.now.values handle }
@@ -267,6 +366,22 @@ impl<T> HandleMap<T> {
     }
 
     /// The value of the handle, if it has one, to be changed. It takes constant time.
+    ///
+    /// ```
+    /// use forgeni::HandleMap;
+    ///
+    /// let mut healths = HandleMap::new();
+    /// let (cart, horse) = ("0v1".parse()?, "1v1".parse()?);
+    /// healths.insert(cart, 100)?;
+    /// for one in [cart, horse] {
+    ///     // Whatever is hit and has a health loses some.
+    ///     if let Some(health) = healths.get_mut(one) {
+    ///         *health -= 30;
+    ///     }
+    /// }
+    /// assert_eq!(healths[cart], 70);
+    /// # Ok::<(), Box<dyn std::error::Error>>(())
+    /// ```
     #[must_use]
     pub fn get_mut(&mut self, handle: Handle) -> Option<&mut T>
         ensures* writes_back { sem 𝓛 (lends_get T.row self.entry handle result) }
@@ -361,6 +476,18 @@ impl<T> HandleMap<T> {
     }
 
     /// The handles that have a value, by rising slot.
+    ///
+    /// ```
+    /// use forgeni::{Entities, HandleMap};
+    ///
+    /// let mut entities = Entities::new();
+    /// let mut burning = HandleMap::new();
+    /// let all = entities.alloc_many(3)?;
+    /// burning.insert(all[2], ())?;
+    /// burning.insert(all[0], ())?;
+    /// assert!(burning.keys().eq([all[0], all[2]]));
+    /// # Ok::<(), Box<dyn std::error::Error>>(())
+    /// ```
     pub fn keys(&self) -> Keys<'_, T>
         ensures { result ≡ map.keys self.now.values }
     {
@@ -368,6 +495,16 @@ impl<T> HandleMap<T> {
     }
 
     /// The values, by rising slot.
+    ///
+    /// ```
+    /// use forgeni::HandleMap;
+    ///
+    /// let mut masses = HandleMap::new();
+    /// masses.insert("0v1".parse()?, 900)?;
+    /// masses.insert("7v2".parse()?, 80)?;
+    /// assert_eq!(masses.values().sum::<u32>(), 980);
+    /// # Ok::<(), Box<dyn std::error::Error>>(())
+    /// ```
     pub fn values(&self) -> Values<'_, T>
         ensures { result ≡ map.values self.now.values }
     {
@@ -563,6 +700,19 @@ impl<T: Drop> HandleMap<T> {
     }
 
     /// Drops all values. The room stays.
+    ///
+    /// ```
+    /// use forgeni::HandleMap;
+    ///
+    /// let mut hits = HandleMap::new();
+    /// for frame in 0..3 {
+    ///     // From the second frame on it takes no memory.
+    ///     hits.clear();
+    ///     hits.insert("99v1".parse()?, frame)?;
+    /// }
+    /// assert_eq!((hits.len(), hits.capacity() >= 100), (1, true));
+    /// # Ok::<(), Box<dyn std::error::Error>>(())
+    /// ```
     pub fn clear(&mut self)
         ensures { self.new ≡ record self.old { values = map.empty; slots = 0 } }
     {

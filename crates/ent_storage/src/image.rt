@@ -161,6 +161,18 @@ impl Storage {
     }
 
     /// How many components there are up to the last one that any entity has.
+    ///
+    /// ```
+    /// use forgeni::{Birth, ComponentId, Storage};
+    ///
+    /// let mut storage = Storage::new();
+    /// let cart = "0v1".parse()?;
+    /// storage.born(cart, Birth { frame: 0, system: 0, ordinal: 0 })?;
+    /// storage.insert(cart, &[(ComponentId(9), 1)])?;
+    /// // Components 0 to 9.
+    /// assert_eq!(storage.width(), 10);
+    /// # Ok::<(), Box<dyn std::error::Error>>(())
+    /// ```
     pub fn width(&self) -> u32
         ensures value { result ≡ width self.now.entities self.now.places }
         ensures most { result ≤ 256 }

@@ -5,6 +5,18 @@ use ent_handle::Memory;
 use thiserror::Error;
 
 /// Why bytes were not read as the entities of a storage.
+///
+/// ```
+/// use forgeni::{StorageImageFault, World, WorldImageFault};
+///
+/// let mut image = Vec::new();
+/// World::new().write_image(&mut image)?;
+/// image.push(0);
+/// // An image of a world has the entities at its end.
+/// let read = World::read_image(&image);
+/// assert_eq!(read.err(), Some(WorldImageFault::Storage(StorageImageFault::Length)));
+/// # Ok::<(), Box<dyn std::error::Error>>(())
+/// ```
 #[derive(Clone, Copy, Debug, PartialEq, Eq, Hash, Error)]
 pub enum StorageImageFault {
     /// There are fewer bytes than the entities have, or more.

@@ -19,6 +19,16 @@ use ent_handle::{Birth, ComponentId, Handle, Memory};
 
 impl Storage {
     /// Whether the entity is there.
+    ///
+    /// ```
+    /// use forgeni::{Birth, Storage};
+    ///
+    /// let mut storage = Storage::new();
+    /// let (cart, horse) = ("0v1".parse()?, "1v1".parse()?);
+    /// storage.born(cart, Birth { frame: 0, system: 0, ordinal: 0 })?;
+    /// assert!(storage.contains(cart) && !storage.contains(horse));
+    /// # Ok::<(), Box<dyn std::error::Error>>(())
+    /// ```
     #[must_use]
     pub fn contains(&self, handle: Handle) -> bool
         ensures { result ≡ map.contains_key self.now.entities handle }
@@ -27,6 +37,17 @@ impl Storage {
     }
 
     /// The birth of the entity, if it is there.
+    ///
+    /// ```
+    /// use forgeni::{Birth, Storage};
+    ///
+    /// let mut storage = Storage::new();
+    /// let cart = "0v1".parse()?;
+    /// storage.born(cart, Birth { frame: 7, system: 0, ordinal: 0 })?;
+    /// let age = |now: u64| storage.birth(cart).map(|it| now - it.frame);
+    /// assert_eq!(age(10), Some(3));
+    /// # Ok::<(), Box<dyn std::error::Error>>(())
+    /// ```
     #[must_use]
     pub fn birth(&self, handle: Handle) -> Option<Birth>
         ensures { result ≡ birth_of self.now.entities handle }
@@ -36,6 +57,20 @@ impl Storage {
     }
 
     /// The value of the entity's component, if the entity is there and has it.
+    ///
+    /// ```
+    /// use forgeni::{Birth, ComponentId, Storage};
+    ///
+    /// const SPEED: ComponentId = ComponentId(0);
+    ///
+    /// let mut storage = Storage::new();
+    /// let cart = "0v1".parse()?;
+    /// storage.born(cart, Birth { frame: 0, system: 0, ordinal: 0 })?;
+    /// assert_eq!(storage.get(cart, SPEED), None);
+    /// storage.insert(cart, &[(SPEED, 40)])?;
+    /// assert_eq!(storage.get(cart, SPEED), Some(40));
+    /// # Ok::<(), Box<dyn std::error::Error>>(())
+    /// ```
     #[must_use]
     pub fn get(&self, handle: Handle, id: ComponentId) -> Option<i64>
         ensures { result ≡ value_of self.now.entities handle id }
@@ -45,6 +80,18 @@ impl Storage {
     }
 
     /// The entity's components and their values, by rising number, if the entity is there.
+    ///
+    /// ```
+    /// use forgeni::{Birth, ComponentId, Storage};
+    ///
+    /// let mut storage = Storage::new();
+    /// let cart = "0v1".parse()?;
+    /// storage.born(cart, Birth { frame: 0, system: 0, ordinal: 0 })?;
+    /// storage.insert(cart, &[(ComponentId(7), 2), (ComponentId(3), 1)])?;
+    /// let items = storage.items(cart).ok_or("it isn't there")?;
+    /// assert!(items.eq([(ComponentId(3), 1), (ComponentId(7), 2)]));
+    /// # Ok::<(), Box<dyn std::error::Error>>(())
+    /// ```
     #[must_use]
     pub fn items(&self, handle: Handle) -> Option<Items<'_>>
         ensures { result ≡ option_map map.entries (components_of self.now.entities handle) }
@@ -55,6 +102,20 @@ impl Storage {
 
     /// The place of the entity in the vector of entities, if it is there. It stays the same until an
     /// entity is taken out.
+    ///
+    /// ```
+    /// use forgeni::{Birth, Storage};
+    ///
+    /// let mut storage = Storage::new();
+    /// let (cart, horse) = ("0v1".parse()?, "1v1".parse()?);
+    /// for (ordinal, one) in (0..).zip([cart, horse]) {
+    ///     storage.born(one, Birth { frame: 0, system: 0, ordinal })?;
+    /// }
+    /// storage.despawn(cart)?;
+    /// // The last one has moved into the gap.
+    /// assert_eq!(storage.place(horse), Some(0));
+    /// # Ok::<(), Box<dyn std::error::Error>>(())
+    /// ```
     #[must_use]
     #[inline(always)]
     pub fn place(&self, handle: Handle) -> Option<usize>
@@ -94,6 +155,17 @@ impl Storage {
 
     /// The handles of all entities, by birth and then by handle. It takes the time of a sort.
     ///
+    /// ```
+    /// use forgeni::{Birth, Storage};
+    ///
+    /// let mut storage = Storage::new();
+    /// let (cart, horse) = ("0v2".parse()?, "1v1".parse()?);
+    /// storage.born(cart, Birth { frame: 5, system: 0, ordinal: 0 })?;
+    /// storage.born(horse, Birth { frame: 3, system: 0, ordinal: 0 })?;
+    /// assert_eq!(storage.by_birth()?, [horse, cart]);
+    /// # Ok::<(), Box<dyn std::error::Error>>(())
+    /// ```
+    ///
     /// # Errors
     ///
     /// Out of memory for the list. It is never returned if there are no entities.
@@ -109,6 +181,18 @@ impl Storage {
     /// birth, it is the least of their handles.
     ///
     /// It takes no memory, and time for each entity.
+    ///
+    /// ```
+    /// use forgeni::{Birth, Storage};
+    ///
+    /// let birth = Birth { frame: 5, system: 1, ordinal: 0 };
+    /// let mut storage = Storage::new();
+    /// let cart = "0v2".parse()?;
+    /// storage.born(cart, birth)?;
+    /// // A message of another machine, where the handle is another one.
+    /// assert_eq!(storage.of_birth(birth), Some(cart));
+    /// # Ok::<(), Box<dyn std::error::Error>>(())
+    /// ```
     #[must_use]
     pub fn of_birth(&self, birth: Birth) -> Option<Handle>
         ensures found { IfSome result (λ handle.
@@ -124,6 +208,21 @@ impl Storage {
 
     /// The place and the value of each entity that has the component, in no stated order. It takes
     /// no memory, and is one slice.
+    ///
+    /// ```
+    /// use forgeni::{Birth, ComponentId, Handle, Storage};
+    ///
+    /// const MASS: ComponentId = ComponentId(0);
+    ///
+    /// let mut storage = Storage::new();
+    /// for (ordinal, mass) in [(0, 900), (1, 80)] {
+    ///     let one = Handle::new(ordinal, 1).ok_or("out of range")?;
+    ///     storage.born(one, Birth { frame: 0, system: 0, ordinal })?;
+    ///     storage.insert(one, &[(MASS, mass)])?;
+    /// }
+    /// assert_eq!(storage.dense(MASS).iter().map(|(_, mass)| mass).sum::<i64>(), 980);
+    /// # Ok::<(), Box<dyn std::error::Error>>(())
+    /// ```
     #[must_use]
     pub fn dense(&self, id: ComponentId) -> &[(usize, i64)]
         ensures has { (place : ℕ) (value : ℤ) → Contains result.now (place, value)
@@ -135,6 +234,21 @@ impl Storage {
 
     /// The handles of the entities that have the component, by birth and then by handle. It takes
     /// the time of a sort of those that are listed.
+    ///
+    /// ```
+    /// use forgeni::{Birth, ComponentId, Storage};
+    ///
+    /// const BURNING: ComponentId = ComponentId(0);
+    ///
+    /// let mut storage = Storage::new();
+    /// let (cart, horse) = ("0v1".parse()?, "1v1".parse()?);
+    /// for (ordinal, one) in (0..).zip([cart, horse]) {
+    ///     storage.born(one, Birth { frame: 0, system: 0, ordinal })?;
+    /// }
+    /// storage.insert(horse, &[(BURNING, 1)])?;
+    /// assert_eq!(storage.with(BURNING)?, [horse]);
+    /// # Ok::<(), Box<dyn std::error::Error>>(())
+    /// ```
     ///
     /// # Errors
     ///

@@ -93,6 +93,16 @@ impl<T> SparseMap<T> {
     ghost use Rattle.ent_storage.specs.SparseLends.{lends_get, lends_value};
 
     /// A map without values, and without a limit. It takes no memory.
+    ///
+    /// ```
+    /// use forgeni::{Handle, SparseMap};
+    ///
+    /// let mut names = SparseMap::new();
+    /// // The place of one name in a million slots: 4 MB, not 24.
+    /// names.insert(Handle::new(999_999, 1).ok_or("out of range")?, String::from("Ada"))?;
+    /// assert_eq!((names.len(), names.slots() >= 1_000_000), (1, true));
+    /// # Ok::<(), Box<dyn std::error::Error>>(())
+    /// ```
     #[must_use]
     pub fn new(alloc: Global) -> Self
         ensures { result ≡ record { values = map.empty; room = 0; slots = 0; limit = no_limit } }
@@ -105,6 +115,16 @@ impl<T> SparseMap<T> {
     ///
     /// [`Entities::total`](forgeni::Entities::total) is a limit that fits an allocator as long as
     /// it makes no new slots. [`set_limit`](Self::set_limit) changes the limit.
+    ///
+    /// ```
+    /// use forgeni::{InsertError, SparseMap};
+    ///
+    /// // A forged handle of a save can't make the map take gigabytes.
+    /// let mut names = SparseMap::with_limit(1_000);
+    /// let refused = names.insert("4000000000v1".parse()?, "Eve").err().ok_or("it was inserted")?;
+    /// assert_eq!((refused.error(), names.slots()), (&InsertError::Limit, 0));
+    /// # Ok::<(), Box<dyn std::error::Error>>(())
+    /// ```
     #[must_use]
     pub fn with_limit(alloc: Global, limit: u32) -> Self
         ensures { result ≡ record { values = map.empty; room = 0; slots = 0; limit = limit } }
@@ -118,6 +138,13 @@ impl<T> SparseMap<T> {
 
     /// For how many slots the map may have values, from slot 0 on: 4,294,967,295, which is no
     /// limit, or the limit that was set.
+    ///
+    /// ```
+    /// use forgeni::SparseMap;
+    ///
+    /// let names: SparseMap<&str> = SparseMap::with_limit(1_000);
+    /// assert_eq!((names.limit(), SparseMap::<&str>::new().limit()), (1_000, u32::MAX));
+    /// ```
     #[must_use]
     pub fn limit(&self) -> u32
         ensures { result ≡ self.now.limit }
@@ -127,6 +154,17 @@ impl<T> SparseMap<T> {
 
     /// Sets the limit. The map keeps the values that it has, even those of slots at or above the
     /// limit.
+    ///
+    /// ```
+    /// use forgeni::SparseMap;
+    ///
+    /// let mut names = SparseMap::new();
+    /// let (last, next) = ("999v1".parse()?, "1000v1".parse()?);
+    /// names.set_limit(1_000);
+    /// names.insert(last, "Ada")?;
+    /// assert!(names.insert(next, "Bob").is_err());
+    /// # Ok::<(), Box<dyn std::error::Error>>(())
+    /// ```
     pub fn set_limit(&mut self, limit: u32)
         ensures { self.new ≡ record self.old { limit = limit } }
     {
@@ -134,6 +172,17 @@ impl<T> SparseMap<T> {
     }
 
     /// How many values there are. It takes constant time.
+    ///
+    /// ```
+    /// use forgeni::SparseMap;
+    ///
+    /// let mut names = SparseMap::new();
+    /// names.insert("7v1".parse()?, "Ada")?;
+    /// names.insert("7v2".parse()?, "Bob")?;
+    /// // A slot has one value.
+    /// assert_eq!(names.len(), 1);
+    /// # Ok::<(), Box<dyn std::error::Error>>(())
+    /// ```
     #[must_use]
     pub fn len(&self) -> usize
         ensures { result ≡ map.len self.now.values }
@@ -142,6 +191,17 @@ impl<T> SparseMap<T> {
     }
 
     /// Whether there is no value.
+    ///
+    /// ```
+    /// use forgeni::SparseMap;
+    ///
+    /// let mut bosses = SparseMap::new();
+    /// let dragon = "99v1".parse()?;
+    /// bosses.insert(dragon, "dragon")?;
+    /// bosses.remove(dragon);
+    /// assert!(bosses.is_empty());
+    /// # Ok::<(), Box<dyn std::error::Error>>(())
+    /// ```
     #[must_use]
     pub fn is_empty(&self) -> bool
         ensures { IsTrue result ↔ (map.len self.now.values ≡ 0) }
@@ -150,6 +210,17 @@ impl<T> SparseMap<T> {
     }
 
     /// How many values there is room for.
+    ///
+    /// ```
+    /// use forgeni::{Handle, SparseMap};
+    ///
+    /// let mut names = SparseMap::with_capacity(10)?;
+    /// for index in 0..10 {
+    ///     names.insert(Handle::new(index, 1).ok_or("out of range")?, index)?;
+    /// }
+    /// assert_eq!(names.capacity(), 10);
+    /// # Ok::<(), Box<dyn std::error::Error>>(())
+    /// ```
     #[must_use]
     pub fn capacity(&self) -> usize
         ensures { result ≡ self.now.room }
@@ -158,6 +229,16 @@ impl<T> SparseMap<T> {
     }
 
     /// How many slots there is room for, from slot 0 on. Each takes four bytes.
+    ///
+    /// ```
+    /// use forgeni::SparseMap;
+    ///
+    /// let mut names = SparseMap::new();
+    /// names.insert("999v1".parse()?, "Ada")?;
+    /// // From here on, no name of these slots takes memory for its slot.
+    /// assert!(names.slots() >= 1_000);
+    /// # Ok::<(), Box<dyn std::error::Error>>(())
+    /// ```
     #[must_use]
     pub fn slots(&self) -> usize
         ensures value { result ≡ self.now.slots }
@@ -168,6 +249,16 @@ impl<T> SparseMap<T> {
     }
 
     /// Whether the handle has a value. It takes constant time.
+    ///
+    /// ```
+    /// use forgeni::SparseMap;
+    ///
+    /// let mut bosses = SparseMap::new();
+    /// let (old, new) = ("7v1".parse()?, "7v2".parse()?);
+    /// bosses.insert(old, "dragon")?;
+    /// assert!(bosses.contains(old) && !bosses.contains(new));
+    /// # Ok::<(), Box<dyn std::error::Error>>(())
+    /// ```
     #[must_use]
     pub fn contains(&self, handle: Handle) -> bool
         ensures { result ≡ map.contains_key self.now.values handle }
@@ -198,6 +289,22 @@ impl<T> SparseMap<T> {
     }
 
     /// The value of the handle, if it has one, to be changed. It takes constant time.
+    ///
+    /// ```
+    /// use forgeni::SparseMap;
+    ///
+    /// let mut shields = SparseMap::new();
+    /// let (knight, horse) = ("0v1".parse()?, "1v1".parse()?);
+    /// shields.insert(knight, 50)?;
+    /// for one in [knight, horse] {
+    ///     // Few have a shield, and it takes the blow.
+    ///     if let Some(shield) = shields.get_mut(one) {
+    ///         *shield -= 20;
+    ///     }
+    /// }
+    /// assert_eq!(shields[knight], 30);
+    /// # Ok::<(), Box<dyn std::error::Error>>(())
+    /// ```
     #[must_use]
     pub fn get_mut(&mut self, handle: Handle) -> Option<&mut T>
         ensures* writes_back { sem 𝓛 (lends_get T.row self.entry handle result) }
@@ -222,6 +329,16 @@ impl<T> SparseMap<T> {
 
     /// Frees the room that no value needs, as `Vec::shrink_to_fit` does. If there is no memory to
     /// move the values to, the room stays. The room for slots always stays.
+    ///
+    /// ```
+    /// use forgeni::SparseMap;
+    ///
+    /// let mut names = SparseMap::with_capacity(1_000)?;
+    /// names.insert("0v1".parse()?, "Ada")?;
+    /// names.shrink_to_fit();
+    /// assert_eq!(names.capacity(), 1);
+    /// # Ok::<(), Box<dyn std::error::Error>>(())
+    /// ```
     pub fn shrink_to_fit(&mut self)
         ensures kept { self.new ≡ record self.old { room = self.new.room } }
         ensures shrinks { self.new.room ≤ self.old.room }
@@ -254,6 +371,17 @@ impl<T> SparseMap<T> {
     }
 
     /// The handles and their values, in the order of [`entries`](Self::entries).
+    ///
+    /// ```
+    /// use forgeni::SparseMap;
+    ///
+    /// let mut shields = SparseMap::new();
+    /// shields.insert("900v1".parse()?, 50)?;
+    /// shields.insert("7v1".parse()?, 30)?;
+    /// // Two entries, however many slots there are.
+    /// assert_eq!(shields.iter().map(|(_, shield)| shield).sum::<u32>(), 80);
+    /// # Ok::<(), Box<dyn std::error::Error>>(())
+    /// ```
     pub fn iter(&self) -> Iter<'_, T>
         ensures { AreEntries self.now.values result }
     {
@@ -262,6 +390,16 @@ impl<T> SparseMap<T> {
 
     /// The handles and their values, in the order of [`entries`](Self::entries). It takes no
     /// memory.
+    ///
+    /// ```
+    /// use forgeni::SparseMap;
+    ///
+    /// let mut names = SparseMap::new();
+    /// let ada = "7v1".parse()?;
+    /// names.insert(ada, String::from("Ada"))?;
+    /// assert_eq!(names.into_entries(), [(ada, String::from("Ada"))]);
+    /// # Ok::<(), Box<dyn std::error::Error>>(())
+    /// ```
     #[must_use]
     pub fn into_entries(self) -> Vec<(Handle, T)>
         ensures { AreEntries self.values result.items }
@@ -400,6 +538,19 @@ impl<T: Drop> SparseMap<T> {
     }
 
     /// Drops all values. The room stays.
+    ///
+    /// ```
+    /// use forgeni::SparseMap;
+    ///
+    /// let mut marks = SparseMap::new();
+    /// for frame in 0..3 {
+    ///     // From the second frame on it takes no memory.
+    ///     marks.clear();
+    ///     marks.insert("99v1".parse()?, frame)?;
+    /// }
+    /// assert_eq!(marks.len(), 1);
+    /// # Ok::<(), Box<dyn std::error::Error>>(())
+    /// ```
     pub fn clear(&mut self)
         ensures { self.new ≡ record self.old { values = map.empty } }
     {
@@ -410,6 +561,18 @@ impl<T: Drop> SparseMap<T> {
 impl<T: Clone> SparseMap<T> {
     /// A map with a clone of each value, with room for the same slots, and with the same limit.
     /// Without room for slots it takes no memory.
+    ///
+    /// ```
+    /// use forgeni::SparseMap;
+    ///
+    /// let mut now = SparseMap::new();
+    /// let cart = "7v1".parse()?;
+    /// now.insert(cart, 3)?;
+    /// let before = now.try_clone()?;
+    /// now[cart] += 1;
+    /// assert_eq!((now[cart], before[cart]), (4, 3));
+    /// # Ok::<(), Box<dyn std::error::Error>>(())
+    /// ```
     ///
     /// # Errors
     ///
@@ -437,6 +600,20 @@ impl<T: Clone> SparseMap<T> {
     ///
     /// If there is room for as many slots and values as the source has, it takes memory only for
     /// the clones.
+    ///
+    /// ```
+    /// use forgeni::SparseMap;
+    ///
+    /// let (mut now, mut before) = (SparseMap::new(), SparseMap::new());
+    /// let cart = "7v1".parse()?;
+    /// for frame in 0..3 {
+    ///     // A snapshot a frame, in the room of the last one.
+    ///     before.try_clone_from(&now)?;
+    ///     now.insert(cart, frame)?;
+    /// }
+    /// assert_eq!((now[cart], before[cart]), (2, 1));
+    /// # Ok::<(), Box<dyn std::error::Error>>(())
+    /// ```
     ///
     /// # Errors
     ///

@@ -2,6 +2,19 @@ use thiserror::Error;
 
 /// Why a phase of an allocator or of a world was not closed. A caller of a phase has a reserver or a
 /// queue of its own.
+///
+/// ```
+/// use forgeni::{CloseError, Entities};
+///
+/// let (shared, mut reservers) = Entities::new().share(2)?;
+/// let late = reservers.pop();
+/// let refused = shared.close(reservers).err().ok_or("it was closed")?;
+/// let ((shared, mut reservers), error) = refused.into_parts();
+/// assert_eq!(error, CloseError::Missing { count: 1 });
+/// reservers.extend(late);
+/// let _entities = shared.close(reservers)?;
+/// # Ok::<(), Box<dyn std::error::Error>>(())
+/// ```
 #[derive(Clone, Copy, Debug, PartialEq, Eq, Hash, Error)]
 #[non_exhaustive]
 pub enum CloseError {

@@ -7,6 +7,21 @@ use std::marker::Model;
 
 /// The commands of one system, in the order of issue. [`OpenWorld::close`] and
 /// [`OpenWorld::close_lost`] take it.
+///
+/// ```
+/// use forgeni::World;
+///
+/// let (open, mut systems) = World::new().open(1)?;
+/// let mut commands = systems.remove(0);
+/// let queue = std::thread::spawn(move || {
+///     let _refused = commands.spawn_many(10, &[]);
+///     commands.finish()
+/// });
+/// let queue = queue.join().expect("the thread");
+/// let (mut world, queues) = open.close(vec![queue])?;
+/// assert_eq!(world.apply(queues)?.born.len(), 10);
+/// # Ok::<(), Box<dyn std::error::Error>>(())
+/// ```
 #[must_use]
 #[derive(Drop)]
 pub struct CommandQueue<J: Numbering> {
@@ -33,6 +48,18 @@ impl<J: Numbering> CommandQueue<J> {
     /// The number of its [`Commands`]. Queues that came in any order are put back in order by it:
     /// `queues.sort_by_key(|one| one.number())`. A queue that a refused close kept stays where it
     /// is.
+    ///
+    /// ```
+    /// use forgeni::World;
+    ///
+    /// let (open, systems) = World::new().open(3)?;
+    /// // Threads have ended in some order.
+    /// let mut queues: Vec<_> = systems.into_iter().rev().map(|one| one.finish()).collect();
+    /// queues.sort_by_key(|one| one.number());
+    /// assert_eq!(queues.iter().map(|one| one.number()).collect::<Vec<_>>(), [0, 1, 2]);
+    /// let _closed = open.close(queues)?;
+    /// # Ok::<(), Box<dyn std::error::Error>>(())
+    /// ```
     #[must_use]
     pub fn number(&self) -> usize
         ensures { result ≡ self.now.reserver.own.number }
@@ -41,6 +68,16 @@ impl<J: Numbering> CommandQueue<J> {
     }
 
     /// Whether it is of this phase.
+    ///
+    /// ```
+    /// use forgeni::World;
+    ///
+    /// let (open, mut systems) = World::new().open(1)?;
+    /// let (other, _) = World::new().open(1)?;
+    /// let queue = systems.remove(0).finish();
+    /// assert!(queue.is_of(&open) && !queue.is_of(&other));
+    /// # Ok::<(), Box<dyn std::error::Error>>(())
+    /// ```
     #[must_use]
     pub fn is_of(&self, phase: &OpenWorld<J>) -> bool
         ensures number { IsTrue result ↔ (self.now.number ≡ phase.now.number) }

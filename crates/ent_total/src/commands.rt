@@ -28,6 +28,26 @@ use std::sync::Arc;
 ///
 /// A spawn reserves its handle at once, so a system knows what it will have spawned. The world can
 /// be read, as it was when it was opened.
+///
+/// ```
+/// use forgeni::{ComponentId, World};
+///
+/// const AGE: ComponentId = ComponentId(0);
+///
+/// let (open, mut systems) = World::new().open(2)?;
+/// std::thread::scope(|scope| {
+///     for commands in &mut systems {
+///         scope.spawn(move || {
+///             let oak = commands.spawn(&[])?;
+///             commands.insert(oak, &[(AGE, 80)])?;
+///             Ok::<(), forgeni::ReserveError>(())
+///         });
+///     }
+/// });
+/// let (mut world, queues) = open.close(systems.into_iter().map(|one| one.finish()).collect())?;
+/// assert_eq!(world.apply(queues)?.born.len(), 2);
+/// # Ok::<(), Box<dyn std::error::Error>>(())
+/// ```
 #[must_use]
 #[derive(Drop)]
 pub struct Commands<J: Numbering> {
@@ -138,6 +158,20 @@ impl<J: Numbering> Commands<J> {
     /// Reserves `n` handles at once, by one atomic step. Each is to have these components. It takes
     /// time for each handle of the list, and of the queue, which has them too.
     ///
+    /// ```
+    /// use forgeni::{ComponentId, World};
+    ///
+    /// const HEAT: ComponentId = ComponentId(0);
+    ///
+    /// let mut world = World::new();
+    /// let (sparks, queues) = world.phase(1, |_open, systems| {
+    ///     systems[0].spawn_many(100, &[(HEAT, 900)])
+    /// })?;
+    /// world.apply(queues)?;
+    /// assert!(sparks?.into_iter().all(|one| world.get(one, HEAT) == Some(900)));
+    /// # Ok::<(), Box<dyn std::error::Error>>(())
+    /// ```
+    ///
     /// # Errors
     ///
     /// As of [`spawn`](Commands::spawn).
@@ -220,6 +254,20 @@ impl<J: Numbering> Commands<J> {
 
     /// Takes the component out of the entity, if it has it.
     ///
+    /// ```
+    /// use forgeni::{ComponentId, World};
+    ///
+    /// const LIT: ComponentId = ComponentId(0);
+    ///
+    /// let mut world = World::new();
+    /// let lamp = world.spawn(&[(LIT, 1)])?;
+    /// let (done, queues) = world.phase(1, |_open, systems| systems[0].remove(lamp, LIT))?;
+    /// done?;
+    /// world.apply(queues)?;
+    /// assert!(world.contains(lamp) && world.get(lamp, LIT).is_none());
+    /// # Ok::<(), Box<dyn std::error::Error>>(())
+    /// ```
+    ///
     /// # Errors
     ///
     /// `OutOfMemory`, and then nothing has changed.
@@ -285,6 +333,21 @@ impl<J: Numbering> Commands<J> {
     }
 
     /// The value of the entity's component, if the entity is alive and has it.
+    ///
+    /// ```
+    /// use forgeni::{ComponentId, World};
+    ///
+    /// const AGE: ComponentId = ComponentId(0);
+    ///
+    /// let mut world = World::new();
+    /// let oak = world.spawn(&[(AGE, 80)])?;
+    /// let (_open, mut systems) = world.open(1)?;
+    /// // A year passes for what is there.
+    /// if let Some(age) = systems[0].get(oak, AGE) {
+    ///     systems[0].insert(oak, &[(AGE, age + 1)])?;
+    /// }
+    /// # Ok::<(), Box<dyn std::error::Error>>(())
+    /// ```
     #[must_use]
     pub fn get(&self, handle: Handle, id: ComponentId) -> Option<i64>
         ensures { result ≡ value_of self.now.world.entities handle id }
@@ -293,6 +356,19 @@ impl<J: Numbering> Commands<J> {
     }
 
     /// When and by whom the entity was brought to life, if it is alive.
+    ///
+    /// ```
+    /// use forgeni::World;
+    ///
+    /// let mut world = World::new();
+    /// let oak = world.spawn(&[])?;
+    /// world.flush()?;
+    /// let (_open, mut systems) = world.open(1)?;
+    /// let new = systems[0].spawn(&[])?;
+    /// assert_eq!(systems[0].birth(oak).map(|it| it.frame), Some(0));
+    /// assert_eq!(systems[0].birth(new), None);
+    /// # Ok::<(), Box<dyn std::error::Error>>(())
+    /// ```
     #[must_use]
     pub fn birth(&self, handle: Handle) -> Option<Birth>
         ensures { result ≡ birth_of self.now.world.entities handle }
@@ -301,6 +377,18 @@ impl<J: Numbering> Commands<J> {
     }
 
     /// Whether the entity is alive. What the systems of the phase spawn isn't yet.
+    ///
+    /// ```
+    /// use forgeni::World;
+    ///
+    /// let mut world = World::new();
+    /// let oak = world.spawn(&[])?;
+    /// let (_open, mut systems) = world.open(2)?;
+    /// systems[0].despawn(oak)?;
+    /// // Until the sync point every system sees the same world.
+    /// assert!(systems[1].contains(oak));
+    /// # Ok::<(), Box<dyn std::error::Error>>(())
+    /// ```
     #[must_use]
     pub fn contains(&self, handle: Handle) -> bool
         ensures { result ≡ map.contains_key self.now.world.entities handle }
@@ -309,6 +397,19 @@ impl<J: Numbering> Commands<J> {
     }
 
     /// The handles of all entities, by birth and then by handle. The time is that of a sort.
+    ///
+    /// ```
+    /// use forgeni::World;
+    ///
+    /// let mut world = World::new();
+    /// world.spawn(&[])?;
+    /// world.spawn(&[])?;
+    /// let (_open, mut systems) = world.open(1)?;
+    /// for one in systems[0].by_birth()? {
+    ///     systems[0].despawn(one)?;
+    /// }
+    /// # Ok::<(), Box<dyn std::error::Error>>(())
+    /// ```
     ///
     /// # Errors
     ///
@@ -321,6 +422,20 @@ impl<J: Numbering> Commands<J> {
     }
 
     /// All that can be read of the world, as a system of a frame reads it.
+    ///
+    /// ```
+    /// use forgeni::{Handle, View, World};
+    ///
+    /// fn oldest(view: &View<'_>) -> Option<Handle> {
+    ///     view.by_birth().ok()?.first().copied()
+    /// }
+    ///
+    /// let mut world = World::new();
+    /// let oak = world.spawn(&[])?;
+    /// let (_open, systems) = world.open(1)?;
+    /// assert_eq!(oldest(&systems[0].view()), Some(oak));
+    /// # Ok::<(), Box<dyn std::error::Error>>(())
+    /// ```
     #[must_use]
     pub fn view(&self) -> View<'_>
         ensures phase { result.phase ≡ self.now.world.phase }
@@ -330,6 +445,15 @@ impl<J: Numbering> Commands<J> {
     }
 
     /// Whether it is of this phase.
+    ///
+    /// ```
+    /// use forgeni::World;
+    ///
+    /// let (one, systems) = World::new().open(1)?;
+    /// let (other, _) = World::new().open(1)?;
+    /// assert!(systems[0].is_of(&one) && !systems[0].is_of(&other));
+    /// # Ok::<(), Box<dyn std::error::Error>>(())
+    /// ```
     #[must_use]
     pub fn is_of(&self, phase: &OpenWorld<J>) -> bool
         ensures number { IsTrue result ↔ (self.now.number ≡ phase.now.number) }
@@ -340,6 +464,18 @@ impl<J: Numbering> Commands<J> {
 
     /// Which of the systems it is: its position in the list that the phase began with, from 0.
     /// Births and faults count systems by the order of their queues at the close instead.
+    ///
+    /// ```
+    /// use forgeni::World;
+    ///
+    /// // The systems run in any order, and each has a name by its number.
+    /// const NAMES: [&str; 2] = ["move", "burn"];
+    ///
+    /// let (_open, systems) = World::new().open(2)?;
+    /// let names = systems.iter().rev().map(|one| NAMES[one.number()]);
+    /// assert_eq!(names.collect::<Vec<_>>(), ["burn", "move"]);
+    /// # Ok::<(), Box<dyn std::error::Error>>(())
+    /// ```
     #[must_use]
     pub fn number(&self) -> usize
         ensures { result ≡ self.now.reserver.own.number }

@@ -98,6 +98,19 @@ impl<J: Numbering> OpenWorld<J> {
     /// as far as requests went, and the next sync point or flush also brings to life those handles
     /// that nobody got, and those of the lost system, all without components.
     ///
+    /// ```
+    /// use forgeni::World;
+    ///
+    /// let (open, mut systems) = World::new().open(2)?;
+    /// systems[0].spawn(&[])?;
+    /// // The thread of the other system has panicked.
+    /// drop(systems.pop());
+    /// let queues = systems.into_iter().map(|one| one.finish()).collect();
+    /// let (mut world, queues) = open.close_lost(queues)?;
+    /// assert_eq!(world.apply(queues)?.born.len(), 1);
+    /// # Ok::<(), Box<dyn std::error::Error>>(())
+    /// ```
+    ///
     /// # Errors
     ///
     /// As of [`close`](OpenWorld::close), without `Missing`. With [`CloseError::InUse`] the

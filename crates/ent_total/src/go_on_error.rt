@@ -6,6 +6,18 @@ use std::error::Error;
 use std::fmt;
 
 /// Why a sync point that went on wasn't completed.
+///
+/// ```
+/// use forgeni::{GoOnError, Report, Stopped, World};
+///
+/// fn go_on(stopped: Stopped, world: &mut World) -> Result<Report, GoOnError> {
+///     match stopped.go_on(world) {
+///         // Something was spawned meanwhile, which has to come to life first.
+///         Err(GoOnError::NeedsFlush(stopped)) if world.flush().is_ok() => stopped.go_on(world),
+///         other => other,
+///     }
+/// }
+/// ```
 #[non_exhaustive]
 #[derive(Drop, Debug)]
 pub enum GoOnError {
@@ -20,6 +32,15 @@ pub enum GoOnError {
 
 impl GoOnError {
     /// The sync point, to go on from where it stopped.
+    ///
+    /// ```
+    /// use forgeni::{Report, Stopped, World};
+    ///
+    /// /// Goes on, and returns the rest for a later attempt if there is still no memory.
+    /// fn again(stopped: Stopped, world: &mut World) -> Result<Report, Stopped> {
+    ///     stopped.go_on(world).map_err(|error| error.into_stopped())
+    /// }
+    /// ```
     pub fn into_stopped(self) -> Stopped
         ensures { result ≡ stopped_in self }
     {

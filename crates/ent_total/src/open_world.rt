@@ -23,6 +23,25 @@ use std::sync::Arc;
 /// [`close`](OpenWorld::close).
 ///
 /// It may go to another thread, and so may the [`Commands`](crate::Commands) of its systems.
+///
+/// ```
+/// use forgeni::World;
+///
+/// let mut world = World::new();
+/// let oak = world.spawn(&[])?;
+/// let (open, systems) = world.open(2)?;
+/// let queues = std::thread::scope(|scope| {
+///     let run = |mut commands: forgeni::Commands| {
+///         let _out_of_memory = if open.contains(oak) { commands.despawn(oak) } else { Ok(()) };
+///         commands.finish()
+///     };
+///     let threads: Vec<_> = systems.into_iter().map(|it| scope.spawn(move || run(it))).collect();
+///     threads.into_iter().map(|it| it.join().expect("no panic")).collect()
+/// });
+/// let (mut world, queues) = open.close(queues)?;
+/// assert_eq!((world.apply(queues)?.faults.len(), world.len()), (1, 0));
+/// # Ok::<(), Box<dyn std::error::Error>>(())
+/// ```
 #[must_use]
 #[derive(Drop)]
 pub struct OpenWorld<J: Numbering> {
@@ -117,6 +136,20 @@ impl<J: Numbering> OpenWorld<J> {
     }
 
     /// The value of the entity's component, if the entity is alive and has it.
+    ///
+    /// ```
+    /// use forgeni::{ComponentId, World};
+    ///
+    /// const AGE: ComponentId = ComponentId(0);
+    ///
+    /// let mut world = World::new();
+    /// let oak = world.spawn(&[(AGE, 80)])?;
+    /// let (open, mut systems) = world.open(1)?;
+    /// systems[0].insert(oak, &[(AGE, 81)])?;
+    /// // It is 81 after the sync point.
+    /// assert_eq!(open.get(oak, AGE), Some(80));
+    /// # Ok::<(), Box<dyn std::error::Error>>(())
+    /// ```
     #[must_use]
     pub fn get(&self, handle: Handle, id: ComponentId) -> Option<i64>
         ensures { result ≡ value_of self.now.world.entities handle id }
@@ -125,6 +158,16 @@ impl<J: Numbering> OpenWorld<J> {
     }
 
     /// When and by whom the entity was brought to life, if it is alive.
+    ///
+    /// ```
+    /// use forgeni::World;
+    ///
+    /// let mut world = World::new();
+    /// let (oak, lime) = (world.spawn(&[])?, world.spawn(&[])?);
+    /// let (open, _systems) = world.open(1)?;
+    /// assert!(open.birth(oak) < open.birth(lime));
+    /// # Ok::<(), Box<dyn std::error::Error>>(())
+    /// ```
     #[must_use]
     pub fn birth(&self, handle: Handle) -> Option<Birth>
         ensures { result ≡ birth_of self.now.world.entities handle }
@@ -133,6 +176,17 @@ impl<J: Numbering> OpenWorld<J> {
     }
 
     /// Whether the entity is alive. What the systems spawn isn't yet.
+    ///
+    /// ```
+    /// use forgeni::World;
+    ///
+    /// let mut world = World::new();
+    /// let oak = world.spawn(&[])?;
+    /// let (open, mut systems) = world.open(1)?;
+    /// let new = systems[0].spawn(&[])?;
+    /// assert!(open.contains(oak) && !open.contains(new));
+    /// # Ok::<(), Box<dyn std::error::Error>>(())
+    /// ```
     #[must_use]
     pub fn contains(&self, handle: Handle) -> bool
         ensures { result ≡ map.contains_key self.now.world.entities handle }
@@ -141,6 +195,18 @@ impl<J: Numbering> OpenWorld<J> {
     }
 
     /// The handles of all entities, by birth and then by handle. The time is that of a sort.
+    ///
+    /// ```
+    /// use forgeni::World;
+    ///
+    /// let mut world = World::new();
+    /// let (oak, lime) = (world.spawn(&[])?, world.spawn(&[])?);
+    /// let (open, _systems) = world.open(4)?;
+    /// // Any thread may draw the world while systems run.
+    /// let drawn = std::thread::scope(|scope| scope.spawn(|| open.by_birth()).join());
+    /// assert_eq!(drawn.expect("no panic")?, [oak, lime]);
+    /// # Ok::<(), Box<dyn std::error::Error>>(())
+    /// ```
     ///
     /// # Errors
     ///
@@ -153,6 +219,19 @@ impl<J: Numbering> OpenWorld<J> {
     }
 
     /// All that can be read of the world, as a system of a frame reads it.
+    ///
+    /// ```
+    /// use forgeni::{ComponentId, World};
+    ///
+    /// const AGE: ComponentId = ComponentId(0);
+    ///
+    /// let mut world = World::new();
+    /// world.spawn(&[])?;
+    /// let oak = world.spawn(&[(AGE, 80)])?;
+    /// let (open, _systems) = world.open(1)?;
+    /// assert_eq!(open.view().with(AGE)?, [oak]);
+    /// # Ok::<(), Box<dyn std::error::Error>>(())
+    /// ```
     #[must_use]
     pub fn view(&self) -> View<'_>
         ensures phase { result.phase ≡ self.now.world.phase }
@@ -162,6 +241,14 @@ impl<J: Numbering> OpenWorld<J> {
     }
 
     /// How many systems the phase has.
+    ///
+    /// ```
+    /// use forgeni::World;
+    ///
+    /// let (open, systems) = World::new().open(4)?;
+    /// assert_eq!((open.count(), systems.len()), (4, 4));
+    /// # Ok::<(), Box<dyn std::error::Error>>(())
+    /// ```
     #[must_use]
     pub fn count(&self) -> usize
         ensures { result ≡ self.now.world.shared.count }
@@ -170,6 +257,20 @@ impl<J: Numbering> OpenWorld<J> {
     }
 
     /// How many systems have come back: a close that was refused kept their queues.
+    ///
+    /// ```
+    /// use forgeni::World;
+    ///
+    /// let (open, mut systems) = World::new().open(2)?;
+    /// let late = systems.pop();
+    /// let queues = systems.into_iter().map(|one| one.finish()).collect();
+    /// // A system is still at work. The phase keeps the queue of the other.
+    /// let refused = open.close_lost(queues).err().ok_or("it was closed")?;
+    /// let ((open, _), _) = refused.into_parts();
+    /// assert_eq!(open.returned(), 1);
+    /// drop(late);
+    /// # Ok::<(), Box<dyn std::error::Error>>(())
+    /// ```
     #[must_use]
     pub fn returned(&self) -> usize
         ensures { result ≡ length self.now.returned }

@@ -1,6 +1,16 @@
 use thiserror::Error;
 
 /// The two are of two phases. Nothing has changed.
+///
+/// ```
+/// use forgeni::{Entities, OtherPhase};
+///
+/// let (_one, mut reservers) = Entities::new().share(1)?;
+/// let (_two, mut others) = Entities::new().share(1)?;
+/// // Both allocators give the handle 0v1, so a mixture of them would be a mistake.
+/// assert_eq!(reservers[0].meet(&mut others[0]), Err(OtherPhase));
+/// # Ok::<(), Box<dyn std::error::Error>>(())
+/// ```
 #[derive(Clone, Copy, Debug, PartialEq, Eq, Hash, Error)]
 #[error("the reserver is of another phase")]
 pub struct OtherPhase;

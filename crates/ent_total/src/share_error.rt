@@ -1,6 +1,17 @@
 use thiserror::Error;
 
 /// Why an allocator or a world was not shared.
+///
+/// ```
+/// use forgeni::{Entities, ShareError};
+///
+/// let refused = Entities::new().share(5_000).err().ok_or("it was shared")?;
+/// let (entities, error) = refused.into_parts();
+/// assert_eq!(error, ShareError::Count);
+/// let (_shared, reservers) = entities.share(1_000)?;
+/// assert_eq!(reservers.len(), 1_000);
+/// # Ok::<(), Box<dyn std::error::Error>>(())
+/// ```
 #[derive(Clone, Copy, Debug, PartialEq, Eq, Hash, Error)]
 #[non_exhaustive]
 pub enum ShareError {

@@ -24,6 +24,23 @@ use std::sync::Arc;
 /// it back. If the `Shared` is dropped, the allocator goes with the last of the reservers.
 ///
 /// It is `Send` and `Sync`: any thread may read it.
+///
+/// ```
+/// use forgeni::Entities;
+///
+/// let mut entities = Entities::new();
+/// let old = entities.alloc()?;
+/// let (shared, mut reservers) = entities.share(4)?;
+/// std::thread::scope(|scope| {
+///     for reserver in &mut reservers {
+///         scope.spawn(|| shared.is_alive(old) && reserver.reserve().is_ok());
+///     }
+/// });
+/// let mut entities = shared.close(reservers)?;
+/// entities.flush(&mut Vec::new())?;
+/// assert_eq!(entities.len(), 5);
+/// # Ok::<(), Box<dyn std::error::Error>>(())
+/// ```
 #[must_use]
 #[derive(Drop)]
 pub struct Shared<J: Numbering> {
@@ -81,6 +98,16 @@ impl<J: Numbering> Shared<J> {
     }
 
     /// How many reservers it has, whether they exist, are returned or were lost.
+    ///
+    /// ```
+    /// use forgeni::Entities;
+    ///
+    /// let (shared, mut reservers) = Entities::new().share(4)?;
+    /// drop(reservers.pop());
+    /// // A lost one counts too.
+    /// assert_eq!((shared.count(), reservers.len()), (4, 3));
+    /// # Ok::<(), Box<dyn std::error::Error>>(())
+    /// ```
     #[must_use]
     pub fn count(&self) -> usize
         ensures { result ≡ self.now.shared.count }
@@ -89,6 +116,18 @@ impl<J: Numbering> Shared<J> {
     }
 
     /// How many reservers are returned: a close that was refused took them.
+    ///
+    /// ```
+    /// use forgeni::{CloseError, Entities};
+    ///
+    /// let (shared, mut reservers) = Entities::new().share(2)?;
+    /// let late = reservers.pop();
+    /// let refused = shared.close_lost(reservers).err().ok_or("it was closed")?;
+    /// let ((shared, _), error) = refused.into_parts();
+    /// assert_eq!((error, shared.returned()), (CloseError::InUse, 1));
+    /// drop(late);
+    /// # Ok::<(), Box<dyn std::error::Error>>(())
+    /// ```
     #[must_use]
     pub fn returned(&self) -> usize
         ensures { result ≡ length self.now.returned }
@@ -123,6 +162,17 @@ impl<J: Numbering> Shared<J> {
     /// The row that was set with the entity ([`try_set_row`](forgeni::Entities::try_set_row)), when the
     /// phase was opened. `None` if the entity was not alive then, or had no row. Any thread may ask,
     /// and it takes constant time.
+    ///
+    /// ```
+    /// use forgeni::Entities;
+    ///
+    /// let mut entities = Entities::new();
+    /// let (cart, horse) = (entities.alloc()?, entities.alloc()?);
+    /// entities.try_set_row(cart, 7)?;
+    /// let (shared, _reservers) = entities.share(1)?;
+    /// assert_eq!((shared.row(cart), shared.row(horse)), (Some(7), None));
+    /// # Ok::<(), Box<dyn std::error::Error>>(())
+    /// ```
     #[must_use]
     pub fn row(&self, handle: Handle) -> Option<u32>
         ensures value { result ≡ map.get self.now.shared.rows handle }
@@ -132,6 +182,17 @@ impl<J: Numbering> Shared<J> {
     }
 
     /// How many entities were alive when the phase was opened.
+    ///
+    /// ```
+    /// use forgeni::Entities;
+    ///
+    /// let mut entities = Entities::new();
+    /// entities.alloc()?;
+    /// let (shared, mut reservers) = entities.share(1)?;
+    /// reservers[0].reserve_many(10)?;
+    /// assert_eq!(shared.len(), 1);
+    /// # Ok::<(), Box<dyn std::error::Error>>(())
+    /// ```
     #[must_use]
     pub fn len(&self) -> u32
         ensures { result ≡ set.len self.now.shared.start.live }
@@ -140,6 +201,16 @@ impl<J: Numbering> Shared<J> {
     }
 
     /// Whether no entity was alive when the phase was opened.
+    ///
+    /// ```
+    /// use forgeni::Entities;
+    ///
+    /// let (shared, mut reservers) = Entities::new().share(1)?;
+    /// let first = reservers[0].reserve()?;
+    /// // It is reserved, but not alive yet.
+    /// assert!(shared.is_empty() && !shared.is_alive(first));
+    /// # Ok::<(), Box<dyn std::error::Error>>(())
+    /// ```
     #[must_use]
     pub fn is_empty(&self) -> bool
         ensures { IsTrue result ↔ (set.len self.now.shared.start.live ≡ 0) }
@@ -176,6 +247,21 @@ impl<J: Numbering> Shared<J> {
     }
 
     /// The last of the reservers that are returned, or `None` if none is. It takes no memory.
+    ///
+    /// ```
+    /// use forgeni::Entities;
+    ///
+    /// let (shared, mut reservers) = Entities::new().share(2)?;
+    /// let late = reservers.pop();
+    /// let refused = shared.close_lost(reservers).err().ok_or("it was closed")?;
+    /// let ((mut shared, _), _) = refused.into_parts();
+    /// // The phase goes on, so the reserver that it keeps may reserve again.
+    /// let mut again = shared.reserver()?.ok_or("it keeps one")?;
+    /// again.reserve()?;
+    /// drop(late);
+    /// let _entities = shared.close_lost(vec![again])?;
+    /// # Ok::<(), Box<dyn std::error::Error>>(())
+    /// ```
     ///
     /// # Errors
     ///

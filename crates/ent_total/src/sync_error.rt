@@ -7,6 +7,17 @@ use std::error::Error;
 use std::fmt;
 
 /// Why a sync point wasn't completed.
+///
+/// ```
+/// use forgeni::{SyncError, World};
+///
+/// let mut world = World::new();
+/// let ((), queues) = world.phase(1, |_open, _systems| ())?;
+/// let mut save = world.try_clone()?;
+/// // The queues of a phase are for the world that had it.
+/// assert!(matches!(save.apply(queues), Err(SyncError::OtherWorld(_))));
+/// # Ok::<(), Box<dyn std::error::Error>>(())
+/// ```
 #[non_exhaustive]
 #[derive(Drop, Debug)]
 pub enum SyncError {
@@ -20,6 +31,22 @@ pub enum SyncError {
 
 impl SyncError {
     /// What it hands back: the queues if nothing was done, and else where it stopped.
+    ///
+    /// ```
+    /// use forgeni::{Queues, Report, World};
+    ///
+    /// fn apply(world: &mut World, queues: Queues) -> Option<Report> {
+    ///     let error = match world.apply(queues) {
+    ///         Ok(report) => return Some(report),
+    ///         Err(error) => error,
+    ///     };
+    ///     match error.into_parts() {
+    ///         Ok(queues) => world.apply(queues).ok(),
+    ///         Err(stopped) => stopped.go_on(world).ok(),
+    ///     }
+    /// }
+    /// # assert!(apply(&mut World::new(), World::new().phase(1, |_, _| ()).unwrap().1).is_none());
+    /// ```
     pub fn into_parts(self) -> Result<Queues, Stopped>
         ensures { result ≡ parts_of self }
     {

@@ -10,6 +10,26 @@ use std::error::Error;
 use std::fmt;
 
 /// A frame in blocks that didn't end. It hands everything back.
+///
+/// ```
+/// # #[cfg(feature = "std")] {
+/// use forgeni::{run_frame_in_blocks, CommandsInBlocks, OutOfMemory, RunError, StdThreads};
+/// use forgeni::{Unframed, View, World};
+///
+/// fn idle(_: &View<'_>, _: &mut CommandsInBlocks<'_>) -> Result<(), OutOfMemory> {
+///     Ok(())
+/// }
+///
+/// let (open, reservers) = World::new().open_in_blocks(&[10])?;
+/// match run_frame_in_blocks(&StdThreads, open, reservers, &[idle; 2], 1) {
+///     Err(Unframed::Unrun { world, reservers, error: RunError::Reservers }) => {
+///         let _world = world.close(reservers)?;
+///     }
+///     other => panic!("{:?}", other.err()),
+/// }
+/// # }
+/// # Ok::<(), Box<dyn std::error::Error>>(())
+/// ```
 #[derive(Drop)]
 pub enum Unframed<J: BlockNumbering> {
     /// The systems filled no queues. The world is as it was opened, and no command was applied.

@@ -137,6 +137,19 @@ impl World {
 
     /// As [`spawn`](World::spawn), with this birth. It may be any, even that of another entity.
     ///
+    /// ```
+    /// use forgeni::{Birth, ComponentId, World};
+    ///
+    /// const AGE: ComponentId = ComponentId(0);
+    ///
+    /// // An entity of an old save comes back, under the name that it had.
+    /// let birth = Birth { frame: 17, system: 2, ordinal: 0 };
+    /// let mut world = World::new();
+    /// let oak = world.spawn_with_birth(birth, &[(AGE, 80)])?;
+    /// assert_eq!(world.birth(oak), Some(birth));
+    /// # Ok::<(), Box<dyn std::error::Error>>(())
+    /// ```
+    ///
     /// # Errors
     ///
     /// As of `spawn`.
@@ -240,6 +253,17 @@ impl World {
     }
 
     /// When and by whom the entity was brought to life, if it is alive.
+    ///
+    /// ```
+    /// use forgeni::World;
+    ///
+    /// let mut world = World::new();
+    /// let (spawned, queues) = world.phase(3, |_open, systems| systems[2].spawn(&[]))?;
+    /// world.apply(queues)?;
+    /// // Frame 0, system 2, its first spawn.
+    /// assert_eq!(world.birth(spawned?).map(|it| it.to_string()), Some("0.2.0".into()));
+    /// # Ok::<(), Box<dyn std::error::Error>>(())
+    /// ```
     #[must_use]
     pub fn birth(&self, handle: Handle) -> Option<Birth>
         ensures { result ≡ birth_of self.now.world.entities handle }
@@ -248,6 +272,18 @@ impl World {
     }
 
     /// Whether the entity is alive. It takes constant time.
+    ///
+    /// ```
+    /// use forgeni::World;
+    ///
+    /// let mut world = World::new();
+    /// let oak = world.spawn(&[])?;
+    /// world.despawn(oak)?;
+    /// let lime = world.spawn(&[])?;
+    /// // The lime has the slot of the oak, but another handle.
+    /// assert!(world.contains(lime) && !world.contains(oak));
+    /// # Ok::<(), Box<dyn std::error::Error>>(())
+    /// ```
     #[must_use]
     pub fn contains(&self, handle: Handle) -> bool
         ensures { result ≡ lives_in self.now.world handle }
@@ -295,6 +331,17 @@ impl World {
     }
 
     /// How many entities are alive.
+    ///
+    /// ```
+    /// use forgeni::World;
+    ///
+    /// let mut world = World::new();
+    /// let (spawned, queues) = world.phase(1, |_open, systems| systems[0].spawn_many(10, &[]))?;
+    /// assert_eq!((spawned?.len(), world.len()), (10, 0));
+    /// world.apply(queues)?;
+    /// assert_eq!(world.len(), 10);
+    /// # Ok::<(), Box<dyn std::error::Error>>(())
+    /// ```
     #[must_use]
     pub fn len(&self) -> usize
         ensures { result ≡ map.len self.now.world.entities }
@@ -303,6 +350,16 @@ impl World {
     }
 
     /// Whether no entity is alive.
+    ///
+    /// ```
+    /// use forgeni::World;
+    ///
+    /// let mut world = World::new();
+    /// let oak = world.spawn(&[])?;
+    /// world.despawn(oak)?;
+    /// assert!(world.is_empty());
+    /// # Ok::<(), Box<dyn std::error::Error>>(())
+    /// ```
     #[must_use]
     pub fn is_empty(&self) -> bool
         ensures { IsTrue result ↔ (self.now.world.entities ≡ map.empty) }
@@ -312,6 +369,18 @@ impl World {
 
     /// How often the world was flushed, which is the `frame` in the births of what comes to life
     /// next. It stays at 2^64 - 1.
+    ///
+    /// ```
+    /// use forgeni::World;
+    ///
+    /// let mut world = World::new();
+    /// for _ in 0..3 {
+    ///     let ((), queues) = world.phase(1, |_open, _systems| ())?;
+    ///     world.apply(queues)?;
+    /// }
+    /// assert_eq!(world.frame(), 3);
+    /// # Ok::<(), Box<dyn std::error::Error>>(())
+    /// ```
     #[must_use]
     pub fn frame(&self) -> u64
         ensures { result ≡ self.now.world.phase }
@@ -320,6 +389,19 @@ impl World {
     }
 
     /// How many slots are retired: they give no handle any more. It takes constant time.
+    ///
+    /// ```
+    /// use forgeni::{Limits, World};
+    ///
+    /// let mut world = World::with_limits(Limits::new(100, 2).unwrap());
+    /// for _ in 0..2 {
+    ///     let oak = world.spawn(&[])?;
+    ///     world.despawn(oak)?;
+    /// }
+    /// // Both generations of slot 0 are used up.
+    /// assert_eq!(world.retired(), 1);
+    /// # Ok::<(), Box<dyn std::error::Error>>(())
+    /// ```
     #[must_use]
     pub fn retired(&self) -> u32
         ensures { result ≡ retired self.now.world.allocator }
@@ -330,6 +412,17 @@ impl World {
     /// Whether any handle was requested since the last flush. It is so between
     /// [`OpenWorld::close`](crate::OpenWorld::close) and [`apply`](World::apply), if a system has
     /// spawned.
+    ///
+    /// ```
+    /// use forgeni::World;
+    ///
+    /// let mut world = World::new();
+    /// let (spawned, queues) = world.phase(1, |_open, systems| systems[0].spawn(&[]))?;
+    /// assert!(spawned.is_ok() && world.needs_flush());
+    /// world.apply(queues)?;
+    /// assert!(!world.needs_flush());
+    /// # Ok::<(), Box<dyn std::error::Error>>(())
+    /// ```
     #[must_use]
     pub fn needs_flush(&self) -> bool
         ensures { IsTrue result ↔ (0 < self.now.world.allocator.asked) }
@@ -343,6 +436,18 @@ impl World {
     /// The birth of each entity names the phase that ends, no system, and the entity's number among
     /// those that are born. So an entity that [`spawn`](World::spawn) made in that phase may have
     /// the same birth.
+    ///
+    /// ```
+    /// use forgeni::World;
+    ///
+    /// let mut world = World::new();
+    /// let (spawned, queues) = world.phase(1, |_open, systems| systems[0].spawn(&[]))?;
+    /// // The commands are dropped, but the handle was given.
+    /// drop(queues);
+    /// world.flush()?;
+    /// assert!(world.contains(spawned?));
+    /// # Ok::<(), Box<dyn std::error::Error>>(())
+    /// ```
     ///
     /// # Errors
     ///

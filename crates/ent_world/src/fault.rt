@@ -2,6 +2,18 @@ use ent_handle::Handle;
 use thiserror::Error;
 
 /// Why a command had no effect.
+///
+/// ```
+/// use forgeni::{FaultKind, Limits, World};
+///
+/// let mut world = World::with_limits(Limits::new(2, 1).unwrap());
+/// let ((), queues) = world.phase(1, |_open, systems| {
+///     let _refused = systems[0].spawn_many(3, &[]);
+/// })?;
+/// let report = world.apply(queues)?;
+/// assert_eq!(report.faults[0].kind, FaultKind::Space { wanted: 3, left: 2 });
+/// # Ok::<(), Box<dyn std::error::Error>>(())
+/// ```
 #[derive(Clone, Copy, Debug, PartialEq, Eq, Hash)]
 pub enum FaultKind {
     /// The entity was not alive when the command's turn came.
@@ -21,6 +33,22 @@ pub enum FaultKind {
 }
 
 /// A command that had no effect, or one handle of it.
+///
+/// ```
+/// use forgeni::{Fault, FaultKind, World};
+///
+/// let mut world = World::new();
+/// let cart = world.spawn(&[])?;
+/// let ((), queues) = world.phase(2, |_open, systems| {
+///     for commands in systems {
+///         let _issued = commands.despawn(cart);
+///     }
+/// })?;
+/// let report = world.apply(queues)?;
+/// let twice = Fault { system: 1, command: 0, kind: FaultKind::NotAlive(cart) };
+/// assert_eq!(report.faults, [twice]);
+/// # Ok::<(), Box<dyn std::error::Error>>(())
+/// ```
 #[derive(Clone, Copy, Debug, PartialEq, Eq, Hash)]
 pub struct Fault {
     /// The number of the system's queue among those that were applied, from 0.
@@ -32,6 +60,17 @@ pub struct Fault {
 }
 
 /// What a sync point has done.
+///
+/// ```
+/// use forgeni::World;
+///
+/// let mut world = World::new();
+/// let (spawned, queues) = world.phase(1, |_open, systems| systems[0].spawn_many(2, &[]))?;
+/// let report = world.apply(queues)?;
+/// assert_eq!(report.born, spawned?);
+/// assert!(report.faults.is_empty());
+/// # Ok::<(), Box<dyn std::error::Error>>(())
+/// ```
 #[derive(Drop, Debug)]
 pub struct SyncReport {
     /// The handles that came to life, in the order of the flush.

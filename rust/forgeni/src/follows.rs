@@ -25,6 +25,26 @@ use crate::{Entities, FreeError, Freed, HandleMap, SparseMap};
 pub trait Follows {
     /// Drops what it has for this handle.
     ///
+    /// ```
+    /// use forgeni::{Entities, Follows, Handle};
+    ///
+    /// /// A type of your own, which keeps a list of who is selected.
+    /// struct Selected(Vec<Handle>);
+    ///
+    /// impl Follows for Selected {
+    ///     fn forget(&mut self, handle: Handle) {
+    ///         self.0.retain(|one| *one != handle);
+    ///     }
+    /// }
+    ///
+    /// let mut entities = Entities::new();
+    /// let mut selected = Selected(entities.alloc_many(3)?);
+    /// let first = selected.0[0];
+    /// selected.despawn(&mut entities, first)?;
+    /// assert_eq!((selected.0.len(), entities.len()), (2, 2));
+    /// # Ok::<(), Box<dyn std::error::Error>>(())
+    /// ```
+    ///
     /// # Panics
     ///
     /// If a value panics when it is dropped, the other maps forget the handle all the same, and the
@@ -32,6 +52,17 @@ pub trait Follows {
     fn forget(&mut self, handle: Handle);
 
     /// Frees an entity, and forgets its handle.
+    ///
+    /// ```
+    /// use forgeni::{Entities, Follows, HandleMap};
+    ///
+    /// let (mut entities, mut names) = (Entities::new(), HandleMap::new());
+    /// let cart = entities.alloc()?;
+    /// names.insert(cart, "cart")?;
+    /// names.despawn(&mut entities, cart)?;
+    /// assert!(!entities.is_alive(cart) && names.is_empty());
+    /// # Ok::<(), Box<dyn std::error::Error>>(())
+    /// ```
     ///
     /// # Errors
     ///

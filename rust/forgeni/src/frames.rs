@@ -217,6 +217,25 @@ pub fn run_logs<C: Send, S: LogSystem<C> + Sync>(
 
 /// [`run_logs`] on the threads of a [`Join`], as [`run_frame_on`].
 ///
+/// ```
+/// use forgeni::{run_logs_on, Entities, Join, LogCommands};
+///
+/// /// A task pool without threads.
+/// struct OneAfterTheOther;
+///
+/// impl Join for OneAfterTheOther {
+///     fn join(&self, first: &mut (dyn FnMut() + Send), second: &mut (dyn FnMut() + Send)) {
+///         first();
+///         second();
+///     }
+/// }
+///
+/// let say = |commands: &mut LogCommands<'_, &str>| commands.push("halt");
+/// let logs = run_logs_on(&OneAfterTheOther, &mut Entities::new(), &[say; 3], 2)?;
+/// assert_eq!(logs.len(), 3);
+/// # Ok::<(), Box<dyn std::error::Error>>(())
+/// ```
+///
 /// # Errors
 ///
 /// The same as [`run_logs`].

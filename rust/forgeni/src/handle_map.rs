@@ -66,6 +66,25 @@ pub trait AnyMap:
 
     /// Gives the handle a value, and returns the one that it had.
     ///
+    /// ```
+    /// use forgeni::{AnyMap, Entities, Handle, HandleMap, SparseMap};
+    ///
+    /// /// Marks them, in a map of either kind.
+    /// fn mark(map: &mut impl AnyMap<Value = u32>, all: &[Handle]) {
+    ///     for one in all {
+    ///         // Who can't be marked, isn't.
+    ///         let _refused = map.insert(*one, 1);
+    ///     }
+    /// }
+    ///
+    /// let (mut few, mut many) = (SparseMap::new(), HandleMap::new());
+    /// let all = Entities::new().alloc_many(3)?;
+    /// mark(&mut few, &all[..1]);
+    /// mark(&mut many, &all);
+    /// assert_eq!((few.len(), many.len()), (1, 3));
+    /// # Ok::<(), Box<dyn std::error::Error>>(())
+    /// ```
+    ///
     /// # Errors
     ///
     /// Those of [`HandleMap::insert`].
@@ -95,6 +114,19 @@ pub trait AnyMap:
     fn keys_by_slot(&self) -> Option<impl Iterator<Item = Handle>>;
 
     /// The handles and their values in the same order, to be changed.
+    ///
+    /// ```
+    /// use forgeni::{AnyMap, SparseMap};
+    ///
+    /// fn burn(map: &mut impl AnyMap<Value = u32>) {
+    ///     map.iter_mut().for_each(|(_, heat)| *heat += 10);
+    /// }
+    ///
+    /// let mut heats = SparseMap::from([("0v1".parse()?, 20)]);
+    /// burn(&mut heats);
+    /// assert_eq!(heats.entries()[0].1, 30);
+    /// # Ok::<(), forgeni::ParseHandleError>(())
+    /// ```
     fn iter_mut(&mut self) -> impl DoubleEndedIterator<Item = (Handle, &mut Self::Value)>;
 
     /// Drops the values for which `keep` returns `false`.
@@ -107,6 +139,20 @@ pub trait AnyMap:
     ///
     /// Call it after entities were freed elsewhere, or after a map was read from a save: it drops
     /// what a dead handle names, or a handle of another allocator. It takes time for each value.
+    ///
+    /// ```
+    /// use forgeni::{AnyMap, Entities, HandleMap};
+    ///
+    /// let (mut entities, mut names) = (Entities::new(), HandleMap::new());
+    /// let (cart, horse) = (entities.alloc()?, entities.alloc()?);
+    /// names.insert(cart, "cart")?;
+    /// names.insert(horse, "horse")?;
+    /// // Somebody freed it, and knew nothing of names.
+    /// entities.free(cart)?;
+    /// names.sweep(&entities);
+    /// assert!(names.keys().eq([horse]));
+    /// # Ok::<(), Box<dyn std::error::Error>>(())
+    /// ```
     fn sweep(&mut self, entities: &Entities) {
         self.retain(|one, _| entities.contains(one));
     }

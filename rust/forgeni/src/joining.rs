@@ -30,6 +30,23 @@ pub trait JoinMaps {
     /// by rising slot. It takes no memory, unless that map is a `SparseMap`, whose handles it
     /// lists. If there is no memory for the list, or if the first map is a mutable `SparseMap`, the
     /// walk goes over the first map anyway.
+    ///
+    /// ```
+    /// use forgeni::{HandleMap, JoinMaps};
+    ///
+    /// let (cart, horse) = ("0v1".parse()?, "1v1".parse()?);
+    /// let mut places = HandleMap::new();
+    /// places.insert(cart, 10)?;
+    /// places.insert(horse, 20)?;
+    /// let mut speeds = HandleMap::new();
+    /// speeds.insert(horse, 3)?;
+    /// // Who has a place, but no speed, stays where it is.
+    /// for (_, place, speed) in (&mut places, &speeds).join() {
+    ///     *place += speed;
+    /// }
+    /// assert_eq!((places[cart], places[horse]), (10, 23));
+    /// # Ok::<(), Box<dyn std::error::Error>>(())
+    /// ```
     fn join(self) -> impl Iterator<Item = Self::Item>;
 }
 

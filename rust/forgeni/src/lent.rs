@@ -9,6 +9,25 @@ use alloc::vec::Vec;
 ///
 /// The borrower can neither keep the reserver nor replace it. So the phase has all of them at its
 /// end, even if a `Lent` is dropped or forgotten.
+///
+/// ```
+/// use forgeni::{Entities, Handle, Lent, ReserveError};
+///
+/// fn wave(reserver: &mut Lent<'_>) -> Result<Vec<Handle>, ReserveError> {
+///     reserver.reserve_many(10)
+/// }
+///
+/// let mut entities = Entities::new();
+/// entities.phase(4, |_shared, reservers| {
+///     std::thread::scope(|scope| {
+///         for reserver in reservers {
+///             scope.spawn(|| wave(reserver));
+///         }
+///     });
+/// })?;
+/// assert_eq!(entities.reserved(), 40);
+/// # Ok::<(), Box<dyn std::error::Error>>(())
+/// ```
 pub struct Lent<'a> {
     reserver: &'a mut Reserver,
 }
@@ -69,6 +88,21 @@ impl Lent<'_> {
     }
 
     /// As [`Reserver::meet`].
+    ///
+    /// ```
+    /// use forgeni::{Entities, Refused};
+    ///
+    /// let mut entities = Entities::new();
+    /// entities.phase(2, |_shared, reservers| {
+    ///     let [one, other] = reservers else { return Ok(None) };
+    ///     let first = other.reserve()?;
+    ///     // From here on `one` reserves after that.
+    ///     let _same_phase = one.meet(other);
+    ///     Ok::<_, Refused>(Some((first, one.reserve()?)))
+    /// })??;
+    /// assert_eq!(entities.reserved(), 2);
+    /// # Ok::<(), Box<dyn std::error::Error>>(())
+    /// ```
     ///
     /// # Errors
     ///

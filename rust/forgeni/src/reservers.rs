@@ -77,6 +77,20 @@ struct Place<R>(Mutex<R>);
 /// What a [`Reservers`] may have: a [`Reserver`], a [`Lent`], or a `&mut` to one of them.
 ///
 /// No other type can have it.
+///
+/// ```
+/// use forgeni::{Entities, Lends, Reservers};
+///
+/// /// Any pool will do: of reservers, or of those that a phase lends.
+/// fn wave<R: Lends>(pool: &Reservers<R>) -> usize {
+///     pool.with(|reserver| reserver.reserve_many(10)).map_or(0, |all| all.len())
+/// }
+///
+/// let mut entities = Entities::new();
+/// let reserved = entities.phase(2, |_, all| Reservers::new(all).map_or(0, |pool| wave(&pool)))?;
+/// assert_eq!((reserved, entities.reserved()), (10, 10));
+/// # Ok::<(), Box<dyn std::error::Error>>(())
+/// ```
 pub trait Lends: sealed::Lends {}
 
 impl<R: sealed::Lends> Lends for R {}
@@ -113,6 +127,17 @@ mod sealed {
 impl<R: Lends> Reservers<R> {
     /// A pool of these reservers, which may be of several phases. There has to be one at least.
     ///
+    /// ```
+    /// use forgeni::{Entities, Reservers};
+    ///
+    /// let (shared, reservers) = Entities::new().share(2)?;
+    /// let (other, more) = Entities::new().share(2)?;
+    /// // Each of several phases may have a pool.
+    /// let pools = [Reservers::new(reservers)?, Reservers::new(more)?];
+    /// assert_eq!(pools.map(|pool| pool.count()), [2, 2]);
+    /// # Ok::<(), Box<dyn std::error::Error>>(())
+    /// ```
+    ///
     /// # Errors
     ///
     /// [`HandedBack`] has all of them, if there is no memory for the list of them.
@@ -137,6 +162,21 @@ impl<R: Lends> Reservers<R> {
     /// A `with` within a `with` takes another reserver. If threads have all reservers and each waits for
     /// another one, they wait for good. So use [`try_with`](Self::try_with) within a `with`.
     ///
+    /// ```
+    /// use forgeni::{Entities, Reservers};
+    ///
+    /// let (_shared, reservers) = Entities::new().share(2)?;
+    /// let pool = Reservers::new(reservers)?;
+    /// std::thread::scope(|scope| {
+    ///     for _ in 0..50 {
+    ///         // More threads than reservers: some wait.
+    ///         scope.spawn(|| pool.with(|reserver| reserver.reserve()));
+    ///     }
+    /// });
+    /// assert_eq!(pool.with(|reserver| reserver.reserve())?.index(), 50);
+    /// # Ok::<(), Box<dyn std::error::Error>>(())
+    /// ```
+    ///
     /// # Panics
     ///
     /// If the pool has no reservers. A panic of `run` is handed on, and the reserver is as good as
@@ -148,6 +188,19 @@ impl<R: Lends> Reservers<R> {
 
     /// Lends a reserver to `run`, and returns what `run` returns, or `None` at once if none was free, or if the
     /// next one is for a thread that waits.
+    ///
+    /// ```
+    /// use forgeni::{Entities, Reservers};
+    ///
+    /// let (_shared, reservers) = Entities::new().share(1)?;
+    /// let pool = Reservers::new(reservers)?;
+    /// pool.with(|_only| {
+    ///     // Nobody waits for what is lent already.
+    ///     assert!(pool.try_with(|reserver| reserver.reserve()).is_none());
+    /// });
+    /// assert!(pool.try_with(|reserver| reserver.reserve()).is_some());
+    /// # Ok::<(), Box<dyn std::error::Error>>(())
+    /// ```
     ///
     /// # Panics
     ///
@@ -198,6 +251,16 @@ impl Drop for Wakes<'_> {
 
 impl<R> Reservers<R> {
     /// How many reservers it has.
+    ///
+    /// ```
+    /// use forgeni::{Entities, Reservers};
+    ///
+    /// let (_shared, reservers) = Entities::new().share(8)?;
+    /// let pool = Reservers::new(reservers)?;
+    /// // As many tasks at once need not wait.
+    /// assert_eq!(pool.count(), 8);
+    /// # Ok::<(), Box<dyn std::error::Error>>(())
+    /// ```
     #[must_use]
     pub fn count(&self) -> usize {
         self.places.len()
@@ -206,6 +269,17 @@ impl<R> Reservers<R> {
     /// The reservers, in the order in which they were handed in. Each is moved once.
     ///
     /// If memory runs out for the list, the process ends, as with `Vec`.
+    ///
+    /// ```
+    /// use forgeni::{Entities, Reservers};
+    ///
+    /// let (shared, reservers) = Entities::new().share(4)?;
+    /// let pool = Reservers::new(reservers)?;
+    /// pool.with(|reserver| reserver.reserve())?;
+    /// let entities = shared.close(pool.into_inner())?;
+    /// assert_eq!(entities.reserved(), 1);
+    /// # Ok::<(), Box<dyn std::error::Error>>(())
+    /// ```
     #[must_use]
     pub fn into_inner(self) -> Vec<R> {
         let places = self.places.into_iter();

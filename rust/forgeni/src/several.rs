@@ -14,10 +14,38 @@ use core::slice;
 ///
 /// [`HandleMap::split_at_mut`] makes two, so that two threads can write to one map. It has the
 /// index of the first.
+///
+/// ```
+/// use forgeni::{handle_map, Entities, HandleMap};
+///
+/// fn heat(mut part: handle_map::SlotsMut<'_, u32>) {
+///     part.iter_mut().for_each(|(_, heat)| *heat += 10);
+/// }
+///
+/// let all = Entities::new().alloc_many(100)?;
+/// let mut heats: HandleMap<u32> = all.into_iter().map(|one| (one, 0)).collect();
+/// let (low, high) = heats.split_at_mut(50);
+/// std::thread::scope(|scope| {
+///     scope.spawn(|| heat(low));
+///     scope.spawn(|| heat(high));
+/// });
+/// assert!(heats.values().all(|it| *it == 10));
+/// # Ok::<(), Box<dyn std::error::Error>>(())
+/// ```
 pub struct SlotsMut<'a, T>(&'a mut [Slot<T>], u32);
 
 impl<'a, T> SlotsMut<'a, T> {
     /// Which slots of the map these are.
+    ///
+    /// ```
+    /// use forgeni::{Entities, HandleMap};
+    ///
+    /// let all = Entities::new().alloc_many(100)?;
+    /// let mut heats: HandleMap<u32> = all.into_iter().map(|one| (one, 0)).collect();
+    /// let (low, high) = heats.split_at_mut(30);
+    /// assert_eq!((low.slots(), high.slots()), (0..30, 30..100));
+    /// # Ok::<(), Box<dyn std::error::Error>>(())
+    /// ```
     #[must_use]
     pub fn slots(&self) -> Range<u32> {
         self.1..self.1 + self.0.len() as u32
@@ -25,6 +53,21 @@ impl<'a, T> SlotsMut<'a, T> {
 
     /// The slots below this one of the map, and the others. So a part can be split again, for more
     /// threads.
+    ///
+    /// ```
+    /// use forgeni::{Entities, HandleMap};
+    ///
+    /// let all = Entities::new().alloc_many(100)?;
+    /// let mut heats: HandleMap<u32> = all.into_iter().map(|one| (one, 0)).collect();
+    /// let (mut parts, mut rest) = (Vec::new(), heats.split_at_mut(0).1);
+    /// for end in [25, 50, 75] {
+    ///     let (part, others) = rest.split_at_mut(end);
+    ///     parts.push(part);
+    ///     rest = others;
+    /// }
+    /// assert!(parts.iter().all(|part| part.slots().len() == 25));
+    /// # Ok::<(), Box<dyn std::error::Error>>(())
+    /// ```
     pub fn split_at_mut(self, slot: u32) -> (Self, Self) {
         let Self(slots, first) = self;
         let count = slot.saturating_sub(first) as usize;
@@ -34,6 +77,20 @@ impl<'a, T> SlotsMut<'a, T> {
     }
 
     /// A mutable reference to the handle's value, if it has one and its slot is here.
+    ///
+    /// ```
+    /// use forgeni::HandleMap;
+    ///
+    /// let mut heats: HandleMap<u32> = HandleMap::new();
+    /// let (cart, horse) = ("3v1".parse()?, "7v1".parse()?);
+    /// heats.insert(cart, 20)?;
+    /// heats.insert(horse, 20)?;
+    /// let (mut low, _high) = heats.split_at_mut(5);
+    /// // The horse is in the other part.
+    /// assert_eq!(low.get_mut(horse), None);
+    /// assert_eq!(low.get_mut(cart), Some(&mut 20));
+    /// # Ok::<(), Box<dyn std::error::Error>>(())
+    /// ```
     pub fn get_mut(&mut self, handle: Handle) -> Option<&mut T> {
         let at = handle.index().checked_sub(self.1)?;
         let slot = self.0.get_mut(at as usize)?;
@@ -41,6 +98,17 @@ impl<'a, T> SlotsMut<'a, T> {
     }
 
     /// The handles and their values, by rising slot, to be changed.
+    ///
+    /// ```
+    /// use forgeni::{Entities, HandleMap};
+    ///
+    /// let all = Entities::new().alloc_many(10)?;
+    /// let mut heats: HandleMap<u32> = all.into_iter().map(|one| (one, 0)).collect();
+    /// let (_low, mut high) = heats.split_at_mut(7);
+    /// high.iter_mut().for_each(|(_, heat)| *heat += 10);
+    /// assert_eq!(heats.values().filter(|it| **it == 10).count(), 3);
+    /// # Ok::<(), Box<dyn std::error::Error>>(())
+    /// ```
     pub fn iter_mut(&mut self) -> IterMut<'_, T> {
         SlotsMut(self.0, self.1).into_iter()
     }
@@ -72,6 +140,20 @@ impl<'a, T> IntoIterator for SlotsMut<'a, T> {
 /// changed.
 ///
 /// [`HandleMap::iter_mut`] makes it.
+///
+/// ```
+/// use forgeni::{Entities, HandleMap};
+///
+/// let all = Entities::new().alloc_many(10)?;
+/// let mut heats: HandleMap<u32> = all.into_iter().map(|one| (one, 20)).collect();
+/// // The first and the last one burn.
+/// let mut ends = heats.iter_mut();
+/// for (_, heat) in [ends.next(), ends.next_back()].into_iter().flatten() {
+///     *heat = 900;
+/// }
+/// assert_eq!(heats.values().sum::<u32>(), 2 * 900 + 8 * 20);
+/// # Ok::<(), Box<dyn std::error::Error>>(())
+/// ```
 #[must_use]
 pub struct IterMut<'a, T>(Enumerate<slice::IterMut<'a, Slot<T>>>, u32);
 
@@ -173,6 +255,19 @@ impl<T> HandleMap<T> {
     }
 
     /// The handles of some slots and their values, by rising slot, to be changed.
+    ///
+    /// ```
+    /// use forgeni::{Entities, HandleMap};
+    ///
+    /// let all = Entities::new().alloc_many(10)?;
+    /// let mut heats: HandleMap<u32> = all.into_iter().map(|one| (one, 0)).collect();
+    /// // A tenth of the slots a frame.
+    /// for frame in 0..5 {
+    ///     heats.iter_range_mut(frame..frame + 1).for_each(|(_, heat)| *heat += 10);
+    /// }
+    /// assert_eq!(heats.values().sum::<u32>(), 50);
+    /// # Ok::<(), Box<dyn std::error::Error>>(())
+    /// ```
     pub fn iter_range_mut(&mut self, slots: Range<u32>) -> IterMut<'_, T> {
         let slots = within(slots, self.slots.len());
         let first = slots.start as u32;
@@ -181,6 +276,18 @@ impl<T> HandleMap<T> {
 
     /// Makes room for all slots of another map, so that [`try_clone_from`](Self::try_clone_from)
     /// takes no memory for them.
+    ///
+    /// ```
+    /// use forgeni::HandleMap;
+    ///
+    /// let now: HandleMap<u32> = [("99v1".parse()?, 5)].into_iter().collect();
+    /// let mut snapshot = HandleMap::new();
+    /// // Before the match. In a frame a snapshot takes no memory then.
+    /// snapshot.reserve_for(&now)?;
+    /// snapshot.try_clone_from(&now)?;
+    /// assert_eq!(snapshot.len(), 1);
+    /// # Ok::<(), Box<dyn std::error::Error>>(())
+    /// ```
     ///
     /// # Errors
     ///
@@ -265,6 +372,15 @@ impl<T> SparseMap<T> {
     /// A map without values and without a limit, with room for that many values. For 0 values it
     /// takes no memory.
     ///
+    /// ```
+    /// use forgeni::SparseMap;
+    ///
+    /// let mut bosses = SparseMap::with_capacity(3)?;
+    /// bosses.insert("7v1".parse()?, "dragon")?;
+    /// assert_eq!((bosses.len(), bosses.capacity()), (1, 3));
+    /// # Ok::<(), Box<dyn std::error::Error>>(())
+    /// ```
+    ///
     /// # Errors
     ///
     /// Out of memory.
@@ -277,6 +393,15 @@ impl<T> SparseMap<T> {
     /// Makes room for that many more values. A value in a slot that has none yet also takes four
     /// bytes for each slot up to its own.
     ///
+    /// ```
+    /// use forgeni::SparseMap;
+    ///
+    /// let mut bosses = SparseMap::from([("7v1".parse()?, "dragon")]);
+    /// bosses.reserve(10)?;
+    /// assert!(bosses.capacity() >= 11);
+    /// # Ok::<(), Box<dyn std::error::Error>>(())
+    /// ```
+    ///
     /// # Errors
     ///
     /// Out of memory.
@@ -286,6 +411,18 @@ impl<T> SparseMap<T> {
 
     /// Makes room for all that another map has, so that [`try_clone_from`](Self::try_clone_from)
     /// takes no memory for it.
+    ///
+    /// ```
+    /// use forgeni::SparseMap;
+    ///
+    /// let now = SparseMap::from([("99v1".parse()?, 5)]);
+    /// let mut snapshot = SparseMap::new();
+    /// // Before the match. In a frame a snapshot takes no memory then.
+    /// snapshot.reserve_for(&now)?;
+    /// snapshot.try_clone_from(&now)?;
+    /// assert!(snapshot.slots() >= 100);
+    /// # Ok::<(), Box<dyn std::error::Error>>(())
+    /// ```
     ///
     /// # Errors
     ///
@@ -306,18 +443,55 @@ impl<T> SparseMap<T> {
     }
 
     /// The handles and their values, in the order of [`entries`](Self::entries), to be changed.
+    ///
+    /// ```
+    /// use forgeni::{Handle, SparseMap};
+    ///
+    /// let mut shields = SparseMap::from([("7v1".parse::<Handle>()?, 30), ("900v1".parse()?, 50)]);
+    /// shields.iter_mut().for_each(|(_, shield)| *shield += 1);
+    /// assert!(shields.values().eq(&[31, 51]));
+    /// # Ok::<(), Box<dyn std::error::Error>>(())
+    /// ```
     pub fn iter_mut(&mut self) -> impl DoubleEndedIterator<Item = (Handle, &mut T)> {
         self.entries.iter_mut().map(|(one, it)| (*one, it))
     }
 
     /// Moves all values out, in the order of [`entries`](Self::entries). Those that the iterator
     /// doesn't reach are dropped with it. The map is empty afterwards, and keeps its room.
+    ///
+    /// ```
+    /// use forgeni::{Entities, SparseMap};
+    ///
+    /// let mut doomed = SparseMap::new();
+    /// let mut entities = Entities::new();
+    /// for one in entities.alloc_many(3)? {
+    ///     doomed.insert(one, "burnt")?;
+    /// }
+    /// for (one, _why) in doomed.drain() {
+    ///     entities.free(one)?;
+    /// }
+    /// assert!(doomed.is_empty() && entities.is_empty());
+    /// # Ok::<(), Box<dyn std::error::Error>>(())
+    /// ```
     pub fn drain(&mut self) -> impl DoubleEndedIterator<Item = (Handle, T)> {
         self.entries.drain(..)
     }
 
     /// The values of several handles, to be changed. `None` if one of them has none, or stands here
     /// twice.
+    ///
+    /// ```
+    /// use forgeni::{Handle, SparseMap};
+    ///
+    /// let (knight, dragon): (Handle, Handle) = ("0v1".parse()?, "7v1".parse()?);
+    /// let mut shields = SparseMap::from([(knight, 50), (dragon, 900)]);
+    /// // Both lose something by the blow.
+    /// if let Some([one, other]) = shields.get_disjoint_mut([knight, dragon]) {
+    ///     (*one, *other) = (*one - 10, *other - 5);
+    /// }
+    /// assert_eq!((shields[knight], shields[dragon]), (40, 895));
+    /// # Ok::<(), Box<dyn std::error::Error>>(())
+    /// ```
     pub fn get_disjoint_mut<const N: usize>(&mut self, all: [Handle; N]) -> Option<[&mut T; N]> {
         let known = all.iter().all(|one| self.contains(*one));
         let slots = known.then_some(all)?.map(|one| one.index() as usize);

@@ -10,12 +10,28 @@ pub use crate::proved::ent_storage::sparse_map::{Iter, SparseMap};
 
 impl<T> SparseMap<T> {
     /// The handles that have a value, in the order of [`entries`](Self::entries).
+    ///
+    /// ```
+    /// use forgeni::{Handle, SparseMap};
+    ///
+    /// let bosses = SparseMap::from([("900v1".parse::<Handle>()?, "elf"), ("7v1".parse()?, "orc")]);
+    /// assert_eq!(bosses.keys().map(|one| one.index()).max(), Some(900));
+    /// # Ok::<(), Box<dyn std::error::Error>>(())
+    /// ```
     #[inline]
     pub fn keys(&self) -> impl DoubleEndedIterator<Item = Handle> + ExactSizeIterator + Clone {
         self.entries().iter().map(|(one, _)| *one)
     }
 
     /// The values, in the order of [`entries`](Self::entries).
+    ///
+    /// ```
+    /// use forgeni::{Handle, SparseMap};
+    ///
+    /// let shields = SparseMap::from([("900v1".parse::<Handle>()?, 50), ("7v1".parse()?, 30)]);
+    /// assert_eq!(shields.values().sum::<u32>(), 80);
+    /// # Ok::<(), Box<dyn std::error::Error>>(())
+    /// ```
     #[inline]
     pub fn values(&self) -> impl DoubleEndedIterator<Item = &T> + ExactSizeIterator + Clone {
         self.entries().iter().map(|(_, it)| it)

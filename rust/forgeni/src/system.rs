@@ -18,6 +18,20 @@ pub use crate::proved::ent_runner::{LogSystem, System};
 pub use crate::proved::ent_shared::Shared as SharedSource;
 
 /// Issues the commands of one system of a world, with handles from the source `S`.
+///
+/// ```
+/// use forgeni::{run_frame, OutOfMemory, Source, View, World, WorldCommands};
+///
+/// /// A system of any frame: of shared handles, or in blocks.
+/// fn rain<S: Source>(_: &View<'_>, out: &mut WorldCommands<'_, S>) -> Result<(), OutOfMemory> {
+///     out.spawn_many_with(100, &[]).map_or_else(|refused| refused.or_memory(), |_| Ok(()))
+/// }
+///
+/// let mut world = World::new();
+/// run_frame(&mut world, &[rain; 2], 2)?;
+/// assert_eq!(world.len(), 200);
+/// # Ok::<(), Box<dyn std::error::Error>>(())
+/// ```
 pub type WorldCommands<'a, S = SharedSource> = SystemCommands<'a, CommandQueue, S>;
 
 /// Fills the log of one system, with handles from the source `S`. `C` is the caller's type of commands.
@@ -51,9 +65,43 @@ pub type WorldCommands<'a, S = SharedSource> = SystemCommands<'a, CommandQueue, 
 pub type LogCommands<'a, C, S = SharedSource> = SystemCommands<'a, Log<C>, S>;
 
 /// Fills the log of one system, with handles from a block of its own.
+///
+/// ```
+/// # #[cfg(feature = "std")] {
+/// use forgeni::{run_in_blocks, BlockCommands, Entities, OutOfMemory, StdThreads};
+///
+/// fn launch(commands: &mut BlockCommands<'_, u32>) -> Result<(), OutOfMemory> {
+///     match commands.spawn() {
+///         Ok(drone) => commands.push(drone.index()),
+///         Err(refused) => refused.or_memory(),
+///     }
+/// }
+///
+/// let (blocks, reservers) = Entities::new().open_in_blocks(&[10; 3])?;
+/// let (logs, _) = run_in_blocks(&StdThreads, &blocks, reservers, &[launch; 3], 2)?;
+/// // The third system has the third block, whichever worker ran it.
+/// assert_eq!(logs[2].entries()[1], forgeni::Entry::Command(20));
+/// # }
+/// # Ok::<(), Box<dyn std::error::Error>>(())
+/// ```
 pub type BlockCommands<'a, C> = LogCommands<'a, C, Blocks>;
 
 /// Issues the commands of one system of a world, with handles from a block of its own.
+///
+/// ```
+/// # #[cfg(feature = "std")] {
+/// use forgeni::{run_frame_in_blocks, CommandsInBlocks, OutOfMemory, StdThreads, View, World};
+///
+/// fn launch(_: &View<'_>, commands: &mut CommandsInBlocks<'_>) -> Result<(), OutOfMemory> {
+///     commands.spawn_with(&[]).map_or_else(|refused| refused.or_memory(), |_| Ok(()))
+/// }
+///
+/// let (open, reservers) = World::new().open_in_blocks(&[10; 3])?;
+/// let (_, frame) = run_frame_in_blocks(&StdThreads, open, reservers, &[launch; 3], 2)?;
+/// assert!(frame.sync.born.iter().any(|one| one.index() == 20));
+/// # }
+/// # Ok::<(), Box<dyn std::error::Error>>(())
+/// ```
 pub type CommandsInBlocks<'a> = WorldCommands<'a, Blocks>;
 
 /// What a system returns.

@@ -28,6 +28,16 @@ impl World {
     }
 
     /// A world without entities, with these limits. It takes no memory.
+    ///
+    /// ```
+    /// use forgeni::{AllocError, Limits, World};
+    ///
+    /// let mut world = World::with_limits(Limits::new(2, 10).unwrap());
+    /// world.spawn(&[])?;
+    /// world.spawn(&[])?;
+    /// assert_eq!(world.spawn(&[]), Err(AllocError::Space));
+    /// # Ok::<(), Box<dyn std::error::Error>>(())
+    /// ```
     #[must_use]
     pub fn with_limits(limits: Limits) -> Self {
         new_world(limits, next_number())

@@ -73,6 +73,20 @@ pub(crate) fn closed((open, systems): (OpenWorld, Vec<Commands>)) -> (World, Que
 ///
 /// The borrower can neither keep nor replace them. So the phase has all of them at its end, even if
 /// they are dropped or forgotten.
+///
+/// ```
+/// use forgeni::{ComponentId, Handle, LentCommands, ReserveError, World};
+///
+/// fn launch(commands: &mut LentCommands<'_>) -> Result<Handle, ReserveError> {
+///     commands.spawn(&[(ComponentId(0), 100)])
+/// }
+///
+/// let mut world = World::new();
+/// let (drone, queues) = world.phase(1, |_open, systems| launch(&mut systems[0]))?;
+/// world.apply(queues)?;
+/// assert!(world.contains(drone?));
+/// # Ok::<(), Box<dyn std::error::Error>>(())
+/// ```
 pub struct LentCommands<'a> {
     commands: &'a mut Commands,
 }

@@ -8,6 +8,19 @@ use ent_handle::Memory;
 use std::alloc::{AllocError, AllocFailed, Global};
 
 /// Why a [`Checker`](crate::trace::Checker) takes no more calls.
+///
+/// ```
+/// use forgeni::trace::{CheckError, Checker};
+/// use forgeni::{Handle, Limits};
+///
+/// let mut checker = Checker::new(Limits::GREATEST);
+/// // The first handle of all is 0v1.
+/// match checker.alloc("1v1".parse::<Handle>()?) {
+///     Err(CheckError::Differs(it)) => assert_eq!(it.expected.to_string(), "alloc => 0v1"),
+///     other => other?,
+/// }
+/// # Ok::<(), Box<dyn std::error::Error>>(())
+/// ```
 #[non_exhaustive]
 #[derive(Debug, Drop)]
 pub enum CheckError {
@@ -22,6 +35,16 @@ pub enum CheckError {
 
 impl CheckError {
     /// The difference, if it is one.
+    ///
+    /// ```
+    /// use forgeni::{trace, Limits};
+    ///
+    /// let mut checker = trace::Checker::new(Limits::GREATEST);
+    /// let wrong = checker.len(3).err().ok_or("it agrees")?;
+    /// let difference = wrong.difference().ok_or("out of memory")?;
+    /// assert_eq!((difference.number, difference.cursor), (1, 0));
+    /// # Ok::<(), Box<dyn std::error::Error>>(())
+    /// ```
     #[must_use]
     pub fn difference(&self) -> Option<&Difference>
         ensures { option_copied result ≡ difference_of self.now }

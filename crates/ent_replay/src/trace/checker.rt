@@ -111,6 +111,17 @@ impl Checker {
     /// How many calls it has taken, up to the first that failed. It is the number of the last one.
     ///
     /// It counts to 2^64 − 1, and stays there.
+    ///
+    /// ```
+    /// use forgeni::{trace, Limits};
+    ///
+    /// let mut checker = trace::Checker::new(Limits::GREATEST);
+    /// for _ in 0..10 {
+    ///     checker.len(0)?;
+    /// }
+    /// assert_eq!(checker.calls(), 10);
+    /// # Ok::<(), Box<dyn std::error::Error>>(())
+    /// ```
     #[must_use]
     pub fn calls(&self) -> u64
         ensures { result ≡ self.now.calls }
@@ -119,6 +130,16 @@ impl Checker {
     }
 
     /// Why it has stopped, if it has.
+    ///
+    /// ```
+    /// use forgeni::{trace, Limits};
+    ///
+    /// let mut checker = trace::Checker::new(Limits::GREATEST);
+    /// // A game may go on, and look once a frame.
+    /// let _first = checker.len(1);
+    /// let _later = checker.len(0);
+    /// assert!(checker.error().is_some_and(|it| it.to_string().starts_with("differs line 1")));
+    /// ```
     #[must_use]
     pub fn error(&self) -> Option<&CheckError>
         ensures { option_copied result ≡ error_in self.now.comparer }

@@ -12,6 +12,17 @@ use std::alloc::Global;
 /// In that order the earlier ones agree.
 ///
 /// `Display` writes it in one line, as `differs line 5: len => 3, expected 2`.
+///
+/// ```
+/// use forgeni::{trace, Handle, Limits};
+///
+/// let mut checker = trace::Checker::new(Limits::GREATEST);
+/// checker.len(0)?;
+/// let wrong = checker.alloc("7v1".parse::<Handle>()?).err().ok_or("it agrees")?;
+/// let it = wrong.difference().ok_or("out of memory")?;
+/// assert_eq!(it.to_string(), "differs line 2: alloc => 7v1, expected 0v1");
+/// # Ok::<(), Box<dyn std::error::Error>>(())
+/// ```
 #[derive(Debug, Drop)]
 pub struct Difference {
     /// The number of the call, from 1. In a trace with one call on each line it is the line.

@@ -16,6 +16,24 @@ use std::marker::Model;
 ///
 /// Each thread has a log of its own, and appends to it without a lock. A log has no times: the
 /// checker needs none.
+///
+/// ```
+/// use forgeni::trace::{Checker, Log};
+/// use forgeni::{Entities, Limits};
+///
+/// let (shared, mut reservers) = Entities::new().share(2)?;
+/// let mut logs = [Log::new(0), Log::new(1)];
+/// std::thread::scope(|scope| {
+///     for (log, reserver) in logs.iter_mut().zip(&mut reservers) {
+///         scope.spawn(|| log.push(1, reserver.reserve().expect("a handle")));
+///     }
+/// });
+/// let mut checker = Checker::new(Limits::GREATEST.keeping_placeholder());
+/// logs.iter_mut().try_for_each(|log| checker.join(log))?;
+/// checker.finish()?;
+/// let _entities = shared.close(reservers)?;
+/// # Ok::<(), Box<dyn std::error::Error>>(())
+/// ```
 #[derive(Debug, Drop)]
 pub struct Log {
     caller: u32,
@@ -34,6 +52,14 @@ impl Model for Log {
 
 impl Log {
     /// The empty log of this caller. It takes no memory.
+    ///
+    /// ```
+    /// use forgeni::trace;
+    ///
+    /// // One for each thread, in a vector by its number.
+    /// let logs: Vec<_> = (0..8).map(trace::Log::new).collect();
+    /// assert_eq!(logs[3].caller(), 3);
+    /// ```
     #[must_use]
     pub fn new(alloc: Global, caller: u32) -> Self
         ensures { result ≡ record { caller = caller; reservations = [] } }
@@ -53,6 +79,16 @@ impl Log {
     }
 
     /// The reservations that aren't joined yet.
+    ///
+    /// ```
+    /// use forgeni::{trace, Handle};
+    ///
+    /// let mut log = trace::Log::new(0);
+    /// log.push(1, "0v1".parse::<Handle>()?)?;
+    /// log.push(2, trace::ReserveReply::Space)?;
+    /// assert_eq!(log.reservations().iter().map(|it| it.requested).sum::<u32>(), 3);
+    /// # Ok::<(), Box<dyn std::error::Error>>(())
+    /// ```
     #[must_use]
     pub fn reservations(&self) -> &[Reservation]
         ensures { result.now ≡ self.now.reservations }
@@ -61,6 +97,17 @@ impl Log {
     }
 
     /// Appends a reservation of that many handles, with its answer.
+    ///
+    /// ```
+    /// use forgeni::{trace, Entities};
+    ///
+    /// let (shared, mut reservers) = Entities::new().share(1)?;
+    /// let mut log = trace::Log::new(0);
+    /// log.push(10, reservers[0].reserve_many(10)?)?;
+    /// assert_eq!(log.reservations()[0].requested, 10);
+    /// let _entities = shared.close(reservers)?;
+    /// # Ok::<(), Box<dyn std::error::Error>>(())
+    /// ```
     ///
     /// # Errors
     ///

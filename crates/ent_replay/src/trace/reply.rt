@@ -9,6 +9,25 @@ use ent_handle::{Handle, Memory};
 use std::alloc::Global;
 
 /// The answer to a call for a handle that is alive at once.
+///
+/// ```
+/// use forgeni::trace::{AllocReply, Checker};
+/// use forgeni::{AllocError, Handle, Limits};
+///
+/// fn reply(of: Result<Handle, AllocError>) -> Option<AllocReply> {
+///     match of {
+///         Ok(one) => Some(AllocReply::Handle(one)),
+///         Err(AllocError::NeedsFlush) => Some(AllocReply::NeedsFlush),
+///         Err(AllocError::Space) => Some(AllocReply::Space),
+///         Err(_) => None,
+///     }
+/// }
+///
+/// let mut checker = Checker::new(Limits::new(1, 1).unwrap());
+/// checker.alloc("0v1".parse::<Handle>()?)?;
+/// checker.alloc(reply(Err(AllocError::Space)).ok_or("out of memory")?)?;
+/// # Ok::<(), Box<dyn std::error::Error>>(())
+/// ```
 #[derive(Clone, Copy, Debug, PartialEq, Eq, Hash)]
 pub enum AllocReply {
     /// The handle that came to life.
@@ -28,6 +47,17 @@ impl From<Handle> for AllocReply {
 }
 
 /// The answer to a call that frees a handle.
+///
+/// ```
+/// use forgeni::{trace, Handle, Limits};
+///
+/// let mut checker = trace::Checker::new(Limits::new(1, 1).unwrap());
+/// let once: Handle = "0v1".parse()?;
+/// checker.alloc(once)?;
+/// checker.free(once, trace::FreeReply::Retired)?;
+/// checker.free(once, trace::FreeReply::NotAlive)?;
+/// # Ok::<(), Box<dyn std::error::Error>>(())
+/// ```
 #[derive(Clone, Copy, Debug, PartialEq, Eq, Hash)]
 pub enum FreeReply {
     /// The handle was freed. What its slot gives next isn't compared.
@@ -43,6 +73,17 @@ pub enum FreeReply {
 }
 
 /// The answer to a flush.
+///
+/// ```
+/// use forgeni::{trace, Handle, Limits};
+///
+/// let mut checker = trace::Checker::new(Limits::GREATEST);
+/// let both: [Handle; 2] = ["0v1".parse()?, "1v1".parse()?];
+/// checker.reserve(0, 2, both)?;
+/// // An allocator that only counts what came to life.
+/// checker.flush(trace::FlushReply::Count(2))?;
+/// # Ok::<(), Box<dyn std::error::Error>>(())
+/// ```
 #[derive(Debug, Drop)]
 pub enum FlushReply {
     /// The handles that came to life, in their order.
@@ -72,6 +113,16 @@ impl From<Vec<Handle>> for FlushReply {
 }
 
 /// The answer to a reservation.
+///
+/// ```
+/// use forgeni::{trace, Handle, Limits};
+///
+/// let mut checker = trace::Checker::new(Limits::new(3, 1).unwrap());
+/// checker.reserve(0, 1, "0v1".parse::<Handle>()?)?;
+/// checker.reserve(0, 5, trace::ReserveReply::SpaceLeft(2))?;
+/// checker.finish()?;
+/// # Ok::<(), Box<dyn std::error::Error>>(())
+/// ```
 #[derive(Debug, Drop)]
 pub enum ReserveReply {
     /// The handles, in their order.

@@ -1,6 +1,22 @@
 use thiserror::Error;
 
 /// Why systems filled no logs.
+///
+/// ```
+/// # #[cfg(feature = "std")] {
+/// use forgeni::{run_in_blocks, BlockCommands, Entities, OutOfMemory, RunError, StdThreads};
+///
+/// fn idle(_: &mut BlockCommands<'_, ()>) -> Result<(), OutOfMemory> {
+///     Ok(())
+/// }
+///
+/// let (blocks, reservers) = Entities::new().open_in_blocks(&[10])?;
+/// let refused = run_in_blocks(&StdThreads, &blocks, reservers, &[idle; 2], 4);
+/// let (reservers, error) = refused.err().ok_or("they ran")?.into_parts();
+/// assert_eq!((reservers.len(), error), (1, RunError::Reservers));
+/// # }
+/// # Ok::<(), Box<dyn std::error::Error>>(())
+/// ```
 #[derive(Clone, Copy, Debug, PartialEq, Eq, Hash, Error)]
 #[non_exhaustive]
 pub enum RunError {

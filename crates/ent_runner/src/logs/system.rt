@@ -13,6 +13,22 @@ use std::alloc::Global;
 /// shared allocator, or blocks.
 ///
 /// One value of it may run on any worker.
+///
+/// ```
+/// use forgeni::{run_logs, Entities, Entry, LogCommands, LogSystem, OutOfMemory};
+///
+/// struct Says(&'static str);
+///
+/// impl LogSystem<&'static str> for Says {
+///     fn run(&self, commands: &mut LogCommands<'_, &'static str>) -> Result<(), OutOfMemory> {
+///         commands.push(self.0)
+///     }
+/// }
+///
+/// let logs = run_logs(&mut Entities::new(), &[Says("one"), Says("two")], 2)?;
+/// assert_eq!(logs[1].entries(), [Entry::Command("two")]);
+/// # Ok::<(), Box<dyn std::error::Error>>(())
+/// ```
 pub trait LogSystem<C, S: Source> {
     /// What it may enter in its log. A run without a fault, from an empty log on, leaves a log of
     /// this kind.
@@ -22,6 +38,21 @@ pub trait LogSystem<C, S: Source> {
     ghost may_leave: { Self → List (LogEntry C) → Type 0 } = { λ _ _. Unit {0} };
 
     /// Runs it once.
+    ///
+    /// ```
+    /// use forgeni::{run_logs, Entities, Handle, LogCommands, OutOfMemory};
+    ///
+    /// fn launch(commands: &mut LogCommands<'_, (Handle, String)>) -> Result<(), OutOfMemory> {
+    ///     match commands.spawn() {
+    ///         Ok(drone) => commands.push((drone, String::from("drone"))),
+    ///         Err(refused) => refused.or_memory(),
+    ///     }
+    /// }
+    ///
+    /// let logs = run_logs(&mut Entities::new(), &[launch; 3], 2)?;
+    /// assert!(logs.iter().all(|log| log.len() == 2));
+    /// # Ok::<(), Box<dyn std::error::Error>>(())
+    /// ```
     ///
     /// # Errors
     ///

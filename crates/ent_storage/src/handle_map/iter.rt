@@ -10,6 +10,18 @@ use std::slice;
 /// The handles and values of a map, by rising slot.
 ///
 /// [`HandleMap::iter`](super::HandleMap::iter) makes it. It borrows the map and copies nothing.
+///
+/// ```
+/// use forgeni::HandleMap;
+///
+/// let mut masses = HandleMap::new();
+/// masses.insert("0v1".parse()?, 900)?;
+/// masses.insert("7v2".parse()?, 80)?;
+/// let lightest = masses.iter().min_by_key(|(_, mass)| **mass);
+/// assert_eq!(lightest.map(|(one, _)| one.index()), Some(7));
+/// assert_eq!(masses.iter().next_back(), lightest);
+/// # Ok::<(), Box<dyn std::error::Error>>(())
+/// ```
 #[derive(Drop)]
 #[must_use]
 pub struct Iter<'a, T> {

@@ -9,6 +9,19 @@ use std::marker::Model;
 /// The handles of a map that have a value, by rising slot.
 ///
 /// [`HandleMap::keys`](super::HandleMap::keys) makes it. It borrows the map and copies nothing.
+///
+/// ```
+/// use forgeni::{Entities, HandleMap};
+///
+/// let mut entities = Entities::new();
+/// let mut burning = HandleMap::new();
+/// for one in entities.alloc_many(4)? {
+///     burning.insert(one, 3)?;
+/// }
+/// let mut keys = burning.keys();
+/// assert_eq!((keys.next(), keys.next_back()), (entities.iter().next(), entities.iter().last()));
+/// # Ok::<(), Box<dyn std::error::Error>>(())
+/// ```
 #[derive(Drop)]
 #[must_use]
 pub struct Keys<'a, T> {

@@ -8,6 +8,16 @@ use std::marker::Model;
 /// The values of a map, by rising slot.
 ///
 /// [`HandleMap::values`](super::HandleMap::values) makes it. It borrows the map and copies nothing.
+///
+/// ```
+/// use forgeni::HandleMap;
+///
+/// let mut healths = HandleMap::new();
+/// healths.insert("0v1".parse()?, 100)?;
+/// healths.insert("7v2".parse()?, 30)?;
+/// assert_eq!(healths.values().rev().copied().collect::<Vec<_>>(), [30, 100]);
+/// # Ok::<(), Box<dyn std::error::Error>>(())
+/// ```
 #[derive(Drop)]
 #[must_use]
 pub struct Values<'a, T> {

@@ -13,6 +13,18 @@ use std::mem;
 /// What a sparse map has for one handle: a value, or none.
 ///
 /// [`SparseMap::entry`](super::SparseMap::entry) makes it.
+///
+/// ```
+/// use forgeni::sparse_map::{Entry, SparseMap};
+///
+/// let mut names = SparseMap::new();
+/// let said = match names.entry("0v1".parse()?) {
+///     Entry::Occupied(entry) => format!("{} again", entry.get()),
+///     Entry::Vacant(entry) => format!("{} is new", entry.insert("Ada")?),
+/// };
+/// assert_eq!(said, "Ada is new");
+/// # Ok::<(), Box<dyn std::error::Error>>(())
+/// ```
 #[derive(Drop)]
 pub enum Entry<'a, T> {
     /// The handle has a value.
@@ -22,6 +34,22 @@ pub enum Entry<'a, T> {
 }
 
 /// A handle that has a value, with its map.
+///
+/// ```
+/// use forgeni::sparse_map::{Entry, SparseMap};
+///
+/// let mut left = SparseMap::new();
+/// let fuse = "0v1".parse()?;
+/// left.insert(fuse, 1)?;
+/// if let Entry::Occupied(mut entry) = left.entry(fuse) {
+///     *entry.get_mut() -= 1;
+///     if *entry.get() == 0 {
+///         entry.remove();
+///     }
+/// }
+/// assert!(left.is_empty());
+/// # Ok::<(), Box<dyn std::error::Error>>(())
+/// ```
 #[derive(Drop)]
 pub struct OccupiedEntry<'a, T> {
     pub(super) map: &'a mut SparseMap<T>,
@@ -30,6 +58,18 @@ pub struct OccupiedEntry<'a, T> {
 }
 
 /// A handle that has no value, with its map.
+///
+/// ```
+/// use forgeni::sparse_map::{Entry, SparseMap};
+///
+/// let mut names = SparseMap::new();
+/// if let Entry::Vacant(entry) = names.entry("3v2".parse()?) {
+///     let name = format!("entity {}", entry.handle());
+///     entry.insert(name)?;
+/// }
+/// assert!(names.values().eq(["entity 3v2"]));
+/// # Ok::<(), Box<dyn std::error::Error>>(())
+/// ```
 #[derive(Drop)]
 pub struct VacantEntry<'a, T> {
     pub(super) map: &'a mut SparseMap<T>,
@@ -41,6 +81,17 @@ impl<'a, T: Drop> Entry<'a, T> {
     ghost use Rattle.ent_storage.specs.SparseEntry.{entry_lends, Gives, IsRefusal};
 
     /// The handle.
+    ///
+    /// ```
+    /// use forgeni::SparseMap;
+    ///
+    /// let mut names: SparseMap<String> = SparseMap::new();
+    /// let entry = names.entry("3v2".parse()?);
+    /// // A name for whoever has none.
+    /// let name = format!("entity {}", entry.handle());
+    /// assert_eq!(entry.or_insert(name)?, "entity 3v2");
+    /// # Ok::<(), Box<dyn std::error::Error>>(())
+    /// ```
     #[must_use]
     pub fn handle(&self) -> Handle
         ensures { result ≡ entry_handle self.now }
@@ -52,6 +103,18 @@ impl<'a, T: Drop> Entry<'a, T> {
     }
 
     /// The value of the handle. If it has none, it is given this one.
+    ///
+    /// ```
+    /// use forgeni::SparseMap;
+    ///
+    /// let mut hits = SparseMap::new();
+    /// let cart = "0v1".parse()?;
+    /// for damage in [3, 4] {
+    ///     *hits.entry(cart).or_insert(0)? += damage;
+    /// }
+    /// assert_eq!(hits[cart], 7);
+    /// # Ok::<(), Box<dyn std::error::Error>>(())
+    /// ```
     ///
     /// # Errors
     ///
@@ -71,6 +134,18 @@ impl<'a, T: Drop> Entry<'a, T> {
     }
 
     /// The value of the handle. If it has none, it is given the one that `make` returns.
+    ///
+    /// ```
+    /// use forgeni::SparseMap;
+    ///
+    /// let mut paths: SparseMap<Vec<u32>> = SparseMap::new();
+    /// let cart = "0v1".parse()?;
+    /// for step in [5, 6] {
+    ///     paths.entry(cart).or_insert_with(Vec::new)?.push(step);
+    /// }
+    /// assert_eq!(paths[cart], [5, 6]);
+    /// # Ok::<(), Box<dyn std::error::Error>>(())
+    /// ```
     ///
     /// # Errors
     ///
@@ -99,6 +174,19 @@ impl<'a, T: Drop> Entry<'a, T> {
     }
 
     /// Calls `change` on the value, if the handle has one.
+    ///
+    /// ```
+    /// use forgeni::SparseMap;
+    ///
+    /// let mut heats = SparseMap::new();
+    /// let cart = "0v1".parse()?;
+    /// for _ in 0..3 {
+    ///     // It begins at 20, and doubles.
+    ///     heats.entry(cart).and_modify(|heat| *heat *= 2).or_insert(20)?;
+    /// }
+    /// assert_eq!(heats[cart], 80);
+    /// # Ok::<(), Box<dyn std::error::Error>>(())
+    /// ```
     ///
     /// # Panics
     ///
@@ -157,6 +245,24 @@ impl<'a, T: Drop> OccupiedEntry<'a, T> {
     }
 
     /// The value, to be changed for as long as the map is lent.
+    ///
+    /// ```
+    /// use forgeni::sparse_map::{Entry, SparseMap};
+    /// use forgeni::Handle;
+    ///
+    /// /// The shield of an entity, if it isn't 0.
+    /// fn whole(shields: &mut SparseMap<u32>, of: Handle) -> Option<&mut u32> {
+    ///     match shields.entry(of) {
+    ///         Entry::Occupied(entry) if *entry.get() > 0 => Some(entry.into_mut()),
+    ///         _ => None,
+    ///     }
+    /// }
+    ///
+    /// let knight = "0v1".parse()?;
+    /// let mut shields = SparseMap::from([(knight, 100)]);
+    /// assert_eq!(whole(&mut shields, knight), Some(&mut 100));
+    /// # Ok::<(), Box<dyn std::error::Error>>(())
+    /// ```
     #[must_use]
     pub fn into_mut(self) -> &'a mut T
         ensures* writes_back { sem 𝓛 (occupied_lends T.row self.entry result) }
@@ -167,6 +273,18 @@ impl<'a, T: Drop> OccupiedEntry<'a, T> {
     }
 
     /// Gives the handle another value, and returns the one that it had.
+    ///
+    /// ```
+    /// use forgeni::sparse_map::{Entry, SparseMap};
+    ///
+    /// let cart = "0v1".parse()?;
+    /// let mut names = SparseMap::from([(cart, "cart")]);
+    /// if let Entry::Occupied(mut entry) = names.entry(cart) {
+    ///     assert_eq!(entry.insert("wreck"), "cart");
+    /// }
+    /// assert_eq!(names[cart], "wreck");
+    /// # Ok::<(), Box<dyn std::error::Error>>(())
+    /// ```
     pub fn insert(&mut self, value: T) -> T
         ensures before { entry_value (Occupied self.old) ≡ Some result }
         ensures written { IsWritten self.old value self.new }
@@ -175,6 +293,19 @@ impl<'a, T: Drop> OccupiedEntry<'a, T> {
     }
 
     /// Removes the value, and returns it.
+    ///
+    /// ```
+    /// use forgeni::sparse_map::{Entry, SparseMap};
+    ///
+    /// let cart = "0v1".parse()?;
+    /// let mut names = SparseMap::from([(cart, String::from("cart"))]);
+    /// if let Entry::Occupied(entry) = names.entry(cart) {
+    ///     // The value itself, without a clone.
+    ///     let name: String = entry.remove();
+    ///     assert_eq!(name, "cart");
+    /// }
+    /// # Ok::<(), Box<dyn std::error::Error>>(())
+    /// ```
     pub fn remove(self) -> T
         ensures value { entry_value (Occupied self.entry) ≡ Some result }
         ensures map { self.exit.0.now ≡ record (entry_map (Occupied self.entry)) {
@@ -203,6 +334,19 @@ impl<'a, T: Drop> VacantEntry<'a, T> {
     }
 
     /// Gives the handle its value. If an earlier occupant of the slot has one, that is dropped.
+    ///
+    /// ```
+    /// use forgeni::sparse_map::{Entry, SparseMap};
+    ///
+    /// let mut shields = SparseMap::new();
+    /// let knight = "0v1".parse()?;
+    /// if let Entry::Vacant(entry) = shields.entry(knight) {
+    ///     let shield = entry.insert(100)?;
+    ///     *shield -= 30;
+    /// }
+    /// assert_eq!(shields[knight], 70);
+    /// # Ok::<(), Box<dyn std::error::Error>>(())
+    /// ```
     ///
     /// # Errors
     ///

@@ -8,6 +8,15 @@ use std::marker::Model;
 /// The handles and values of a sparse map, in no particular order.
 ///
 /// [`SparseMap::iter`](super::SparseMap::iter) makes it. It borrows the map and copies nothing.
+///
+/// ```
+/// use forgeni::{Handle, SparseMap};
+///
+/// let shields = SparseMap::from([("900v1".parse::<Handle>()?, 50), ("7v1".parse()?, 30)]);
+/// let weakest = shields.iter().min_by_key(|(_, shield)| **shield);
+/// assert_eq!(weakest.map(|(one, _)| one.index()), Some(7));
+/// # Ok::<(), Box<dyn std::error::Error>>(())
+/// ```
 #[derive(Drop)]
 #[must_use]
 pub struct Iter<'a, T> {

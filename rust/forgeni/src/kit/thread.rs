@@ -7,6 +7,28 @@
 ///
 /// Of the two nothing is trusted but that they may be called from another thread: a part that `join`
 /// doesn't call is called after it, and a part that it calls again does nothing then.
+///
+/// ```
+/// use forgeni::{run_logs_on, Entities, Join, LogCommands};
+///
+/// /// Threads of std, with a name.
+/// struct Named;
+///
+/// impl Join for Named {
+///     fn join(&self, first: &mut (dyn FnMut() + Send), second: &mut (dyn FnMut() + Send)) {
+///         std::thread::scope(|scope| {
+///             let thread = std::thread::Builder::new().name("systems".into());
+///             // A part that isn't called here is called afterwards.
+///             let _refused = thread.spawn_scoped(scope, first);
+///             second();
+///         });
+///     }
+/// }
+///
+/// let halt = |commands: &mut LogCommands<'_, &str>| commands.push("halt");
+/// assert_eq!(run_logs_on(&Named, &mut Entities::new(), &[halt; 8], 2)?.len(), 8);
+/// # Ok::<(), Box<dyn std::error::Error>>(())
+/// ```
 pub trait Threads {
     /// Calls both, side by side if it can, and returns when both have returned. It is best to call the second
     /// one in this thread at once: if there are more than two workers, that one calls `join` again.
@@ -21,6 +43,16 @@ impl<J: Threads + ?Sized> Threads for &J {
 
 /// A new thread of std for one of two parts, which ends with the frame. Without the feature `std` one
 /// part runs after the other.
+///
+/// ```
+/// use forgeni::{run_logs_on, Entities, LogCommands, StdThreads};
+///
+/// let halt = |commands: &mut LogCommands<'_, &str>| commands.push("halt");
+/// // What `run_logs` does: at most three threads are started for four workers.
+/// let logs = run_logs_on(&StdThreads, &mut Entities::new(), &[halt; 100], 4)?;
+/// assert_eq!(logs.len(), 100);
+/// # Ok::<(), Box<dyn std::error::Error>>(())
+/// ```
 #[derive(Clone, Copy, Debug, Default)]
 pub struct StdThreads;
 

@@ -106,6 +106,19 @@ impl Entities {
     /// slots first, the one that waits longest before the others, then those of new slots. The next
     /// [`flush`](Self::flush) brings them to life.
     ///
+    /// ```
+    /// use forgeni::Entities;
+    ///
+    /// let mut entities = Entities::new();
+    /// let mut bullets = Vec::with_capacity(100);
+    /// for _ in 0..10 {
+    ///     // There is room in the list, so this takes no memory.
+    ///     entities.request_into(&mut bullets, 10)?;
+    /// }
+    /// assert_eq!((bullets.len(), entities.reserved()), (100, 100));
+    /// # Ok::<(), Box<dyn std::error::Error>>(())
+    /// ```
+    ///
     /// # Errors
     ///
     /// In each case the list has the same handles as before.

@@ -3,6 +3,22 @@
 use crate::proved::ent_handle::{Handle, Memory};
 
 /// Why [`Entities::alloc`](crate::proved::ent_alloc::Entities::alloc) gave no handle. Nothing has changed.
+///
+/// ```
+/// use forgeni::{AllocError, Entities};
+///
+/// let mut entities = Entities::new();
+/// entities.request()?;
+/// let spawned = match entities.alloc() {
+///     Err(AllocError::NeedsFlush) => {
+///         entities.flush(&mut Vec::new())?;
+///         entities.alloc()?
+///     }
+///     other => other?,
+/// };
+/// assert!(entities.is_alive(spawned));
+/// # Ok::<(), Box<dyn std::error::Error>>(())
+/// ```
 #[derive(Clone, Copy, Debug, PartialEq, Eq, Hash)]
 pub enum AllocFault {
     /// Handles were requested since the last flush, even if the request was refused.
@@ -33,6 +49,20 @@ impl From<Memory> for AllocFault {
 }
 
 /// Why [`Entities::free`](crate::proved::ent_alloc::Entities::free) freed nothing. Nothing has changed.
+///
+/// ```
+/// use forgeni::{Entities, FreeError};
+///
+/// let mut entities = Entities::new();
+/// let cart = entities.alloc()?;
+/// entities.free(cart)?;
+/// // A second system despawns it too. That is no reason to end the game.
+/// match entities.free(cart) {
+///     Ok(_) | Err(FreeError::NotAlive) => {}
+///     Err(other) => return Err(other.into()),
+/// }
+/// # Ok::<(), Box<dyn std::error::Error>>(())
+/// ```
 #[derive(Clone, Copy, Debug, PartialEq, Eq, Hash)]
 pub enum FreeFault {
     /// Handles were requested since the last flush, even if the request was refused.
@@ -63,6 +93,17 @@ impl From<Memory> for FreeFault {
 }
 
 /// What [`Entities::free`](crate::proved::ent_alloc::Entities::free) returns.
+///
+/// ```
+/// use forgeni::{Entities, Freed};
+///
+/// let mut entities = Entities::new();
+/// let old = entities.alloc()?;
+/// // Whoever frees knows which handle the slot has next, before it is given.
+/// let Freed { next } = entities.free(old)?;
+/// assert_eq!(next, Some(entities.alloc()?));
+/// # Ok::<(), Box<dyn std::error::Error>>(())
+/// ```
 #[derive(Clone, Copy, Debug, PartialEq, Eq, Hash)]
 pub struct Freed {
     /// The handle that the slot gives next. `None` if the freed one was of the last generation: the

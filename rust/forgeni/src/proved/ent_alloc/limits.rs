@@ -32,6 +32,16 @@ impl Limits {
     /// The limits of these numbers: slots from 1 to 4,294,967,295, generations from 1 to
     /// 2,147,483,647. `None` if one of them is out of range.
     ///
+    /// ```
+    /// use forgeni::{Entities, Limits};
+    ///
+    /// // At most 65,536 slots, so that an index fits into two bytes.
+    /// const SMALL: Limits = Limits::new(1 << 16, 1_000).unwrap();
+    ///
+    /// assert_eq!(Entities::with_limits(SMALL).left(), 65_536);
+    /// assert_eq!(Limits::new(10, 0), None);
+    /// ```
+    ///
     /// <details><summary>Contract</summary>
     ///
     /// In the words of the folder `specs/` of crate `ent_alloc`:
@@ -56,6 +66,14 @@ impl Limits {
 
     /// The greatest limits, which are Bevy's.
     ///
+    /// ```
+    /// use forgeni::Limits;
+    ///
+    /// const LIMITS: Limits = Limits::default_limits();
+    ///
+    /// assert_eq!((LIMITS, LIMITS.slots()), (Limits::GREATEST, u32::MAX));
+    /// ```
+    ///
     /// <details><summary>Contract</summary>
     ///
     /// In the words of the folder `specs/` of crate `ent_alloc`:
@@ -75,6 +93,17 @@ impl Limits {
     /// generation less if both limits are the greatest, and otherwise the same limits.
     ///
     /// The greatest handle is the last one of the last slot that can be.
+    ///
+    /// ```
+    /// use forgeni::{trace, Entities, Limits};
+    ///
+    /// let limits = Limits::GREATEST.keeping_placeholder();
+    /// assert_eq!(limits.generations(), Limits::GREATEST.generations() - 1);
+    /// // Those of `Entities::new`, so a checker of one has them too.
+    /// let mut checker = trace::Checker::new(limits);
+    /// checker.alloc(Entities::new().alloc()?)?;
+    /// # Ok::<(), Box<dyn std::error::Error>>(())
+    /// ```
     ///
     /// <details><summary>Contract</summary>
     ///
@@ -107,6 +136,16 @@ impl Limits {
 
     /// How many slots may be made. Every index is below it.
     ///
+    /// ```
+    /// use forgeni::{Entities, Limits};
+    ///
+    /// let limits = Limits::new(1_000, 4).unwrap();
+    /// // A vector by slot that never grows.
+    /// let mut healths = vec![0; limits.slots() as usize];
+    /// healths[Entities::with_limits(limits).alloc()?.index() as usize] = 100;
+    /// # Ok::<(), Box<dyn std::error::Error>>(())
+    /// ```
+    ///
     /// <details><summary>Contract</summary>
     ///
     /// In the words of the folder `specs/` of crate `ent_alloc`:
@@ -123,6 +162,20 @@ impl Limits {
     }
 
     /// The last generation of a slot.
+    ///
+    /// ```
+    /// use forgeni::{Entities, Limits};
+    ///
+    /// let limits = Limits::new(1, 2).unwrap();
+    /// let mut entities = Entities::with_limits(limits);
+    /// let mut last = entities.alloc()?;
+    /// while let Some(next) = entities.free(last)?.next {
+    ///     last = entities.alloc()?;
+    ///     assert_eq!(last, next);
+    /// }
+    /// assert_eq!(last.generation(), limits.generations());
+    /// # Ok::<(), Box<dyn std::error::Error>>(())
+    /// ```
     ///
     /// <details><summary>Contract</summary>
     ///

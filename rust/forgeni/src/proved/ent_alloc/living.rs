@@ -7,6 +7,20 @@ use crate::proved::ent_handle::Handle;
 ///
 /// [`Entities::iter`](crate::proved::ent_alloc::Entities::iter) makes it. It borrows the allocator and copies nothing.
 /// Between two handles it looks at each slot once. After the last handle it looks at none.
+///
+/// ```
+/// use forgeni::{Entities, Handle, Living};
+///
+/// fn nearest(mut living: Living<'_>, to: u32) -> Option<Handle> {
+///     living.min_by_key(|one| one.index().abs_diff(to))
+/// }
+///
+/// let mut entities = Entities::new();
+/// let all = entities.alloc_many(10)?;
+/// entities.free(all[4])?;
+/// assert_eq!(nearest(entities.iter(), 4), Some(all[3]));
+/// # Ok::<(), Box<dyn std::error::Error>>(())
+/// ```
 #[derive(Clone)]
 pub struct Living<'a> {
     records: &'a [PackedSlot],

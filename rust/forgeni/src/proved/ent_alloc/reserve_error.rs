@@ -5,7 +5,23 @@ use crate::proved::ent_alloc::space::Space;
 use crate::proved::ent_handle::Memory;
 use crate::kit::alloc::AllocError;
 
-/// Why a call that reserves handles, and keeps them in a list or a queue, gave none.
+/// Why a call gave no handle that reserves handles and keeps them in a list or a queue.
+///
+/// ```
+/// use forgeni::{Entities, Limits, ReserveError};
+///
+/// let mut entities = Entities::with_limits(Limits::new(100, 1).unwrap());
+/// let sparks = match entities.request_many(150) {
+///     // A smaller burst, after the flush.
+///     Err(ReserveError::Space { left, .. }) => {
+///         entities.flush(&mut Vec::new())?;
+///         entities.request_many(left)?
+///     }
+///     other => other?,
+/// };
+/// assert_eq!(sparks.len(), 100);
+/// # Ok::<(), Box<dyn std::error::Error>>(())
+/// ```
 #[derive(Clone, Copy, Debug, PartialEq, Eq, Hash)]
 pub enum ReserveError {
     /// Fewer handles were left than were requested. The request counts all the same, and no handle

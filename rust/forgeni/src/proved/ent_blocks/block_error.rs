@@ -6,6 +6,19 @@ use crate::kit::alloc::AllocError;
 
 /// Why no handle of a block was reserved. Nothing has changed then, but that the reserver
 /// [remembers](crate::proved::ent_blocks::BlockReserver::wanted) a request for more than is left.
+///
+/// ```
+/// use forgeni::{BlockError, Entities};
+///
+/// let (blocks, mut reservers) = Entities::new().open_in_blocks(&[2])?;
+/// let mine = &mut reservers[0];
+/// blocks.reserve_many(mine, 2)?;
+/// // The block is used up. The caller goes on without, and its next block is larger.
+/// if let Err(BlockError::Space { wanted, left }) = blocks.reserve(mine) {
+///     assert_eq!((wanted, left, mine.wanted()), (1, 0, 3));
+/// }
+/// # Ok::<(), Box<dyn std::error::Error>>(())
+/// ```
 #[derive(Clone, Copy, Debug, PartialEq, Eq, Hash)]
 #[non_exhaustive]
 pub enum BlockError {

@@ -29,6 +29,14 @@ pub struct BlockSize {
 impl BlockSize {
     /// The size before the first phase: 64, or the limit if that is less.
     ///
+    /// ```
+    /// use forgeni::BlockSize;
+    ///
+    /// let small = BlockSize::new(10);
+    /// let large = BlockSize::new(1_000);
+    /// assert_eq!((small.size(), large.size()), (10, 64));
+    /// ```
+    ///
     /// <details><summary>Contract</summary>
     ///
     /// In the words of the folder `specs/` of crate `ent_blocks`:
@@ -50,6 +58,16 @@ impl BlockSize {
     /// One of this size, or of the limit if that is less: for a first phase in which more is wanted
     /// than 64 handles, or as it was saved.
     ///
+    /// ```
+    /// use forgeni::BlockSize;
+    ///
+    /// // The first frame loads a level, and needs far more handles than later ones.
+    /// let mut size = BlockSize::with_size(5_000, 10_000);
+    /// assert_eq!(size.size(), 5_000);
+    /// size.adapt(100);
+    /// assert_eq!(size.size(), 200);
+    /// ```
+    ///
     /// <details><summary>Contract</summary>
     ///
     /// In the words of the folder `specs/` of crate `ent_blocks`:
@@ -70,6 +88,16 @@ impl BlockSize {
 
     /// How many handles the block has in the next phase.
     ///
+    /// ```
+    /// use forgeni::{BlockSize, Entities};
+    ///
+    /// let mut sizes = [BlockSize::new(1_000); 3];
+    /// sizes[2].adapt(400);
+    /// let (_blocks, reservers) = Entities::new().open_in_blocks(&sizes.map(|it| it.size()))?;
+    /// assert_eq!(reservers.iter().map(|one| one.size()).collect::<Vec<_>>(), [64, 64, 800]);
+    /// # Ok::<(), Box<dyn std::error::Error>>(())
+    /// ```
+    ///
     /// <details><summary>Contract</summary>
     ///
     /// In the words of the folder `specs/` of crate `ent_blocks`:
@@ -86,6 +114,15 @@ impl BlockSize {
     }
 
     /// The greatest size.
+    ///
+    /// ```
+    /// use forgeni::BlockSize;
+    ///
+    /// // A save needs both numbers.
+    /// let size = BlockSize::with_size(300, 1_000);
+    /// let saved = (size.size(), size.limit());
+    /// assert_eq!(BlockSize::with_size(saved.0, saved.1), size);
+    /// ```
     ///
     /// <details><summary>Contract</summary>
     ///
@@ -104,6 +141,19 @@ impl BlockSize {
 
     /// Sets the size to the one that follows from how many handles were
     /// [wanted](crate::proved::ent_blocks::BlockReserver::wanted) in this phase.
+    ///
+    /// ```
+    /// use forgeni::BlockSize;
+    ///
+    /// let mut size = BlockSize::new(1_000);
+    /// let mut sizes = Vec::new();
+    /// for wanted in [100, 10, 900] {
+    ///     size.adapt(wanted);
+    ///     sizes.push(size.size());
+    /// }
+    /// // Twice as many, but at least 64, and at most the limit.
+    /// assert_eq!(sizes, [200, 64, 1_000]);
+    /// ```
     ///
     /// <details><summary>Contract</summary>
     ///

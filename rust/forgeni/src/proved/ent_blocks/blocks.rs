@@ -18,6 +18,23 @@ use crate::proved::ent_handle::{HandedBack, Handle};
 /// Which handles a reserver gets depends on the allocator, on the sizes, and on what it has
 /// reserved before: on no other reserver, and on no thread. Many threads may reserve at once: no
 /// reservation writes to what they share.
+///
+/// ```
+/// use forgeni::Entities;
+///
+/// let (blocks, mut reservers) = Entities::new().open_in_blocks(&[3; 2])?;
+/// std::thread::scope(|scope| {
+///     for mine in &mut reservers {
+///         scope.spawn(|| blocks.reserve_many(mine, 3));
+///     }
+/// });
+/// let mut entities = blocks.close(reservers)?;
+/// let mut born = Vec::new();
+/// entities.flush(&mut born)?;
+/// // On every machine, whichever thread came first.
+/// assert_eq!(born.len(), 6);
+/// # Ok::<(), Box<dyn std::error::Error>>(())
+/// ```
 #[must_use]
 pub struct Blocks {
     entities: Entities,
@@ -59,6 +76,14 @@ impl Blocks {
 
     /// How many blocks it has.
     ///
+    /// ```
+    /// use forgeni::Entities;
+    ///
+    /// let (blocks, reservers) = Entities::new().open_in_blocks(&[100; 8])?;
+    /// assert_eq!((blocks.count(), reservers.len()), (8, 8));
+    /// # Ok::<(), Box<dyn std::error::Error>>(())
+    /// ```
+    ///
     /// <details><summary>Contract</summary>
     ///
     /// In the words of the folder `specs/` of crate `ent_blocks`:
@@ -77,6 +102,17 @@ impl Blocks {
     /// Whether the entity was alive when the phase was opened. It stays so until the close. Any
     /// thread may ask, and it takes constant time.
     ///
+    /// ```
+    /// use forgeni::Entities;
+    ///
+    /// let mut entities = Entities::new();
+    /// let old = entities.alloc()?;
+    /// let (blocks, mut reservers) = entities.open_in_blocks(&[10])?;
+    /// let new = blocks.reserve(&mut reservers[0])?;
+    /// assert!(blocks.is_alive(old) && !blocks.is_alive(new));
+    /// # Ok::<(), Box<dyn std::error::Error>>(())
+    /// ```
+    ///
     /// <details><summary>Contract</summary>
     ///
     /// In the words of the folder `specs/` of crate `ent_blocks`:
@@ -94,6 +130,17 @@ impl Blocks {
 
     /// The row that was set with the entity when the phase was opened. `None` if the entity was not
     /// alive then, or had no row. It takes constant time.
+    ///
+    /// ```
+    /// use forgeni::Entities;
+    ///
+    /// let mut entities = Entities::new();
+    /// let (seen, plain) = (entities.alloc()?, entities.alloc()?);
+    /// entities.try_set_row(seen, 7)?;
+    /// let (blocks, _reservers) = entities.open_in_blocks(&[10])?;
+    /// assert_eq!((blocks.row(seen), blocks.row(plain)), (Some(7), None));
+    /// # Ok::<(), Box<dyn std::error::Error>>(())
+    /// ```
     ///
     /// <details><summary>Contract</summary>
     ///

@@ -2,21 +2,33 @@
 
 use core::cmp::Ordering;
 
-/// When an entity was brought to life, and by which system. A birth names what the systems of a
-/// world spawn, without a handle.
+/// When and by whom an entity was brought to life. Of what the systems of a world spawn it is a
+/// name of the entity that needs no handle.
 ///
-/// Births are ordered by frame, then by system, then by ordinal. Births and their order are this
-/// project's own. The fields say what a sync point gives; a caller that spawns without one chooses
-/// them.
+/// The order is by frame, then by system, then by ordinal. Births and their order are this
+/// project's own. The fields say what a sync point gives; who spawns without one chooses them.
+///
+/// ```
+/// use forgeni::{Birth, World};
+///
+/// let mut world = World::new();
+/// let (oak, queues) = world.phase(2, |_open, systems| systems[1].spawn(&[]))?;
+/// world.apply(queues)?;
+/// // On each machine the first one that system 1 spawned in frame 0 is the oak.
+/// let birth = Birth { frame: 0, system: 1, ordinal: 0 };
+/// assert_eq!(world.birth(oak?), Some(birth));
+/// assert!(birth < Birth { frame: 1, system: 0, ordinal: 0 });
+/// # Ok::<(), Box<dyn std::error::Error>>(())
+/// ```
 #[derive(Clone, Copy, Debug, PartialEq, Eq, Hash)]
 pub struct Birth {
     /// The number of the phase that brought it to life.
     pub frame: u64,
     /// The first system whose queue lists the entity, counted from 0; 4,294,967,295 if none does.
     pub system: u32,
-    /// How many handles that queue lists before it. If no queue lists the entity, how many such
-    /// entities come before it in the order of the flush. The greatest ordinal is 4,294,967,295,
-    /// which all later ones have too.
+    /// How many handles that queue lists before it. If no queue lists the entity: how many that no
+    /// queue lists stand before it in the order of the flush. The greatest is 4,294,967,295, which
+    /// all later ones have too.
     pub ordinal: u32,
 }
 

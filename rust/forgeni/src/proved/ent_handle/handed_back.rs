@@ -32,6 +32,22 @@ pub struct HandedBack<T, E> {
 impl<T, E> HandedBack<T, E> {
     /// A value that is handed back, and why it wasn't taken.
     ///
+    /// ```
+    /// use forgeni::HandedBack;
+    ///
+    /// /// A call of your own that hands back what it refuses.
+    /// fn seat(name: String, left: &mut u32) -> Result<(), HandedBack<String, &'static str>> {
+    ///     if *left == 0 {
+    ///         return Err(HandedBack::new(name, "all seats are taken"));
+    ///     }
+    ///     *left -= 1;
+    ///     Ok(())
+    /// }
+    ///
+    /// let refused = seat("Ada".into(), &mut 0);
+    /// assert_eq!(refused.err().map(|it| it.to_string()), Some("all seats are taken".into()));
+    /// ```
+    ///
     /// <details><summary>Contract</summary>
     ///
     /// In the words of the folder `specs/` of crate `ent_handle`:
@@ -48,6 +64,17 @@ impl<T, E> HandedBack<T, E> {
     }
 
     /// What was handed in, and why it wasn't taken.
+    ///
+    /// ```
+    /// use forgeni::{Entities, ShareError};
+    ///
+    /// let refused = Entities::new().share(0).err().ok_or("it was shared")?;
+    /// let (mut entities, error) = refused.into_parts();
+    /// assert_eq!(error, ShareError::Count);
+    /// // The allocator isn't lost.
+    /// entities.alloc()?;
+    /// # Ok::<(), Box<dyn std::error::Error>>(())
+    /// ```
     ///
     /// <details><summary>Contract</summary>
     ///
@@ -67,6 +94,15 @@ impl<T, E> HandedBack<T, E> {
 
     /// What was handed in.
     ///
+    /// ```
+    /// use forgeni::HandleMap;
+    ///
+    /// let mut names = HandleMap::with_limit(1);
+    /// let refused = names.insert("5v1".parse()?, "Ada").err().ok_or("it was inserted")?;
+    /// assert_eq!(refused.value(), &"Ada");
+    /// # Ok::<(), Box<dyn std::error::Error>>(())
+    /// ```
+    ///
     /// <details><summary>Contract</summary>
     ///
     /// In the words of the folder `specs/` of crate `ent_handle`:
@@ -83,6 +119,18 @@ impl<T, E> HandedBack<T, E> {
     }
 
     /// Why it wasn't taken.
+    ///
+    /// ```
+    /// use forgeni::{HandleMap, InsertError};
+    ///
+    /// let mut names = HandleMap::with_limit(1);
+    /// match names.insert("5v1".parse()?, "Ada") {
+    ///     Err(refused) if *refused.error() == InsertError::Limit => names.set_limit(6),
+    ///     other => drop(other?),
+    /// }
+    /// assert_eq!(names.limit(), 6);
+    /// # Ok::<(), Box<dyn std::error::Error>>(())
+    /// ```
     ///
     /// <details><summary>Contract</summary>
     ///

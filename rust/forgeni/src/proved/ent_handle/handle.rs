@@ -90,6 +90,18 @@ impl Handle {
 
     /// The index of its slot: 0 to 4,294,967,294.
     ///
+    /// ```
+    /// use forgeni::Entities;
+    ///
+    /// let mut entities = Entities::new();
+    /// let mut healths = vec![0; 10];
+    /// let cart = entities.alloc()?;
+    /// // A table by slot, as engines have it.
+    /// healths[cart.index() as usize] = 100;
+    /// assert_eq!(healths[0], 100);
+    /// # Ok::<(), Box<dyn std::error::Error>>(())
+    /// ```
+    ///
     /// <details><summary>Contract</summary>
     ///
     /// In the words of the folder `specs/` of crate `ent_handle`:
@@ -106,6 +118,20 @@ impl Handle {
     }
 
     /// Its generation: 1 for the first entity of a slot, and at most 2,147,483,647.
+    ///
+    /// ```
+    /// use forgeni::Entities;
+    ///
+    /// let mut entities = Entities::new();
+    /// for _ in 0..3 {
+    ///     let shot = entities.alloc()?;
+    ///     entities.free(shot)?;
+    /// }
+    /// // The fourth entity of slot 0.
+    /// let shot = entities.alloc()?;
+    /// assert_eq!((shot.index(), shot.generation()), (0, 4));
+    /// # Ok::<(), Box<dyn std::error::Error>>(())
+    /// ```
     ///
     /// <details><summary>Contract</summary>
     ///
@@ -199,6 +225,15 @@ impl Handle {
 
     /// The handle that [`to_bits`](Self::to_bits) packed into these bits. `None` if they are the
     /// bits of no handle.
+    ///
+    /// ```
+    /// use forgeni::Handle;
+    ///
+    /// // A packet of another machine, which may have anything in it.
+    /// let packet = [3_u64 << 32 | 12, 12];
+    /// let handles = packet.map(|bits| Handle::from_bits(bits).map(|it| it.to_string()));
+    /// assert_eq!(handles, [Some("12v3".to_owned()), None]);
+    /// ```
     ///
     /// <details><summary>Contract</summary>
     ///

@@ -2,8 +2,22 @@
 
 use crate::kit::alloc::{AllocError, AllocFailed};
 
-/// Out of memory: an allocation failed, or something else happened that the call says counts as
-/// that. A call without any other error returns this one.
+/// Out of memory: an allocation really failed, or a call says what else counts as such. It is the
+/// only error of a call that has no other.
+///
+/// ```
+/// use forgeni::{Entities, OutOfMemory};
+///
+/// fn save(entities: &Entities) -> Result<Vec<u8>, OutOfMemory> {
+///     let mut image = Vec::new();
+///     image.try_reserve(1_000).map_err(|_| OutOfMemory)?;
+///     entities.write_image(&mut image)?;
+///     Ok(image)
+/// }
+///
+/// assert_eq!(save(&Entities::new())?.len(), 40);
+/// # Ok::<(), Box<dyn std::error::Error>>(())
+/// ```
 #[derive(Clone, Copy, PartialEq, Eq, Hash)]
 pub struct Memory;
 

@@ -10,6 +10,14 @@ use crate::kit::itoa::Buffer;
 use core::fmt;
 
 /// Why a text is not a number, or not a handle.
+///
+/// ```
+/// use forgeni::{Handle, ParseHandleError};
+///
+/// assert_eq!("12-3".parse::<Handle>(), Err(ParseHandleError::Shape));
+/// // No slot has a generation 0.
+/// assert_eq!("12v0".parse::<Handle>(), Err(ParseHandleError::Range));
+/// ```
 #[derive(Clone, Copy, Debug, PartialEq, Eq, Hash)]
 pub enum TextFault {
     /// It doesn't have the form, which is that of `0v1` for a handle.
@@ -53,6 +61,17 @@ impl Handle {
     /// decimal has no sign and no leading zero.
     ///
     /// It takes time linear in the length of the text, however long that is, and no memory.
+    ///
+    /// ```
+    /// use forgeni::{Handle, ParseHandleError};
+    ///
+    /// // A text that came as bytes, without a copy.
+    /// let line = b"follow 12v3";
+    /// let target = Handle::read_text(&line[7..])?;
+    /// assert_eq!(Some(target), Handle::new(12, 3));
+    /// assert_eq!(Handle::read_text(b"012v3"), Err(ParseHandleError::Shape));
+    /// # Ok::<(), Box<dyn std::error::Error>>(())
+    /// ```
     ///
     /// # Errors
     ///
@@ -100,6 +119,15 @@ impl Handle {
     }
 
     /// Appends the handle's text. It succeeds if `out` has room for the whole text.
+    ///
+    /// ```
+    /// use forgeni::Handle;
+    ///
+    /// let mut line = b"follow ".to_vec();
+    /// "12v3".parse::<Handle>()?.write_text(&mut line)?;
+    /// assert_eq!(line, b"follow 12v3");
+    /// # Ok::<(), Box<dyn std::error::Error>>(())
+    /// ```
     ///
     /// # Errors
     ///

@@ -2,7 +2,19 @@
 
 use crate::proved::ent_handle::Handle;
 
-/// Why a sync point of logs didn't begin. Nothing has changed.
+/// Why a sync point of logs did not begin. Nothing has changed.
+///
+/// ```
+/// use forgeni::{BeginError, Entities, Log, SyncPoint};
+///
+/// let (mut entities, mut others) = (Entities::new(), Entities::new());
+/// let mut log: Log<()> = Log::new();
+/// let one = others.phase(1, |_, reservers| log.spawn(&mut reservers[0]))??;
+/// // The log is of another allocator, which would give the same handle again.
+/// let begun = SyncPoint::begin(&mut entities, &mut vec![log], &mut Vec::new());
+/// assert_eq!(begun.err(), Some(BeginError::NotReserved { handle: one }));
+/// # Ok::<(), Box<dyn std::error::Error>>(())
+/// ```
 #[derive(Clone, Copy, Debug, PartialEq, Eq, Hash)]
 #[non_exhaustive]
 pub enum BeginError {

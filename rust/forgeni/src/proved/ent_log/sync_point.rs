@@ -80,6 +80,19 @@ impl<C> SyncPoint<C> {
     /// It tests each spawn of the logs: its handle has to be reserved in this allocator. So when
     /// the first entry is handed on, each of these handles is alive.
     ///
+    /// ```
+    /// use forgeni::{Entities, Log, SyncPoint};
+    ///
+    /// let mut entities = Entities::new();
+    /// let mut logs: Vec<Log<()>> = vec![Log::new(), Log::new()];
+    /// let cart = entities.phase(2, |_, reservers| logs[1].spawn(&mut reservers[1]))??;
+    /// let mut born = Vec::new();
+    /// let _sync = SyncPoint::begin(&mut entities, &mut logs, &mut born)?;
+    /// assert_eq!((born, logs.len()), (vec![cart], 0));
+    /// assert!(entities.is_alive(cart));
+    /// # Ok::<(), Box<dyn std::error::Error>>(())
+    /// ```
+    ///
     /// # Errors
     ///
     /// The list has its logs, and nothing has changed.
@@ -173,6 +186,29 @@ impl<C> SyncPoint<C> {
     /// `run` hands an entry back with its error. That entry is then the first one that is left, and
     /// a later call goes on with it. [`take_next`](Self::take_next) removes it instead.
     ///
+    /// ```
+    /// use forgeni::{Entities, Entry, HandleMap, Log, SyncPoint};
+    ///
+    /// let (mut entities, mut names) = (Entities::new(), HandleMap::new());
+    /// let cart = entities.alloc()?;
+    /// let mut log = Log::new();
+    /// log.push((cart, String::from("cart")))?;
+    /// let mut sync = SyncPoint::begin(&mut entities, &mut vec![log], &mut Vec::new())?;
+    /// sync.apply(&mut entities, |_entities, entry| match entry {
+    ///     Entry::Command((one, name)) => match names.insert(one, name) {
+    ///         Ok(_) => Ok(()),
+    ///         // The name is back, and the entry is whole again.
+    ///         Err(refused) => {
+    ///             let (name, error) = refused.into_parts();
+    ///             Err((Entry::Command((one, name)), error))
+    ///         }
+    ///     },
+    ///     _spawned_or_refused => Ok(()),
+    /// })?;
+    /// assert_eq!(names[cart], "cart");
+    /// # Ok::<(), Box<dyn std::error::Error>>(())
+    /// ```
+    ///
     /// # Errors
     ///
     /// That of `run`. It was called with the entries before that one, and not with those behind it,
@@ -208,6 +244,27 @@ impl<C> SyncPoint<C> {
 
     /// Removes the next entry, and returns it: the one that a closure handed back, or the first
     /// that it wasn't called with. `None` if none is left.
+    ///
+    /// ```
+    /// use forgeni::{Entities, Entry, Log, SyncPoint};
+    ///
+    /// let mut entities = Entities::new();
+    /// let mut log = Log::new();
+    /// for command in ["walk", "fly", "swim"] {
+    ///     log.push(command)?;
+    /// }
+    /// let mut sync = SyncPoint::begin(&mut entities, &mut vec![log], &mut Vec::new())?;
+    /// let mut done = Vec::new();
+    /// let mut run = |_: &mut Entities, entry| match entry {
+    ///     Entry::Command("fly") => Err((entry, "nobody can fly")),
+    ///     entry => Ok(done.push(entry)),
+    /// };
+    /// while sync.apply(&mut entities, &mut run).is_err() {
+    ///     assert_eq!(sync.take_next(), Some(Entry::Command("fly")));
+    /// }
+    /// assert_eq!(done.len(), 2);
+    /// # Ok::<(), Box<dyn std::error::Error>>(())
+    /// ```
     ///
     /// <details><summary>Contract</summary>
     ///

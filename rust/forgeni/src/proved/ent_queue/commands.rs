@@ -6,11 +6,30 @@ use crate::proved::ent_alloc::Source;
 use crate::proved::ent_handle::Handle;
 use crate::proved::ent_shared::Shared;
 
-/// What one system fills, with a reserver that is lent to it: the commands of a world, which take
-/// effect when their queue is applied (in a frame, at its sync point), or the entries of a log.
+/// Fills what one system fills, with a reserver that is lent to it: the commands of a world, which take
+/// effect when their queue is applied, in a frame at its sync point; or the entries of a log.
 ///
-/// A spawn reserves its handle at once, so a system knows the handles of what it spawns. `O` is
-/// what is filled, and `S` the source of the handles.
+/// A spawn reserves its handle at once, so a system knows what it will have spawned. `O` is what is
+/// filled, and `S` the source of the handles.
+///
+/// ```
+/// use forgeni::{run_frame, ComponentId, OutOfMemory, SystemCommands, View, World};
+///
+/// const HEAT: ComponentId = ComponentId(0);
+///
+/// fn sparks(_: &View<'_>, commands: &mut SystemCommands<'_>) -> Result<(), OutOfMemory> {
+///     match commands.spawn_with(&[(HEAT, 900)]) {
+///         // It has a handle at once, and lives from the sync point on.
+///         Ok(spark) => commands.insert_with(spark, &[(HEAT, 899)]),
+///         Err(refused) => refused.or_memory(),
+///     }
+/// }
+///
+/// let mut world = World::new();
+/// let report = run_frame(&mut world, &[sparks; 2], 2)?;
+/// assert!(report.born.iter().all(|one| world.get(*one, HEAT) == Some(899)));
+/// # Ok::<(), Box<dyn std::error::Error>>(())
+/// ```
 pub struct Commands<'a, O = CommandQueue, S: Source = Shared> {
     pub(super) reserver: &'a mut S::Reserver,
     pub(super) source: &'a S,
@@ -32,8 +51,8 @@ impl<'a, O: Output, S: Source> Commands<'a, O, S> {
 }
 
 impl<'a, O, S: Source> Commands<'a, O, S> {
-    /// Goes on with what was begun before, whose entries stay in front. The reserver may be another
-    /// one of the source than before.
+    /// Goes on with what was begun before: what it has stays in front. The reserver may be another one
+    /// than before, of those of the source.
     #[inline]
     pub(crate) fn resume(source: &'a S, reserver: &'a mut S::Reserver, output: O) -> Self
         // requires { S.serves source.now reserver.old }
@@ -50,6 +69,18 @@ impl<'a, O, S: Source> Commands<'a, O, S> {
     }
 
     /// Whether the entity was alive when the phase was opened. It takes constant time.
+    ///
+    /// ```
+    /// use forgeni::{run_logs, Entities, Handle, LogCommands};
+    ///
+    /// let mut entities = Entities::new();
+    /// let target = entities.alloc()?;
+    /// let aim = |commands: &mut LogCommands<'_, (&str, Handle)>| {
+    ///     if commands.is_alive(target) { commands.push(("aim", target)) } else { Ok(()) }
+    /// };
+    /// assert_eq!(run_logs(&mut entities, &[aim], 1)?[0].len(), 1);
+    /// # Ok::<(), Box<dyn std::error::Error>>(())
+    /// ```
     ///
     /// <details><summary>Contract</summary>
     ///
@@ -68,6 +99,21 @@ impl<'a, O, S: Source> Commands<'a, O, S> {
 
     /// The row that was kept with the entity when the phase was opened. `None` if the entity was not
     /// alive then, or had no row. It takes constant time.
+    ///
+    /// ```
+    /// use forgeni::{run_logs, Entities, Entry, LogCommands};
+    ///
+    /// let mut entities = Entities::new();
+    /// let cart = entities.alloc()?;
+    /// entities.try_set_row(cart, 7)?;
+    /// let look = |commands: &mut LogCommands<'_, u32>| match commands.row(cart) {
+    ///     Some(row) => commands.push(row),
+    ///     None => Ok(()),
+    /// };
+    /// let logs = run_logs(&mut entities, &[look], 1)?;
+    /// assert_eq!(logs[0].entries(), [Entry::Command(7)]);
+    /// # Ok::<(), Box<dyn std::error::Error>>(())
+    /// ```
     ///
     /// <details><summary>Contract</summary>
     ///
@@ -88,7 +134,7 @@ impl<'a, O, S: Source> Commands<'a, O, S> {
 }
 
 impl<O, S: Source> Commands<'_, O, S> {
-    /// Returns what was filled, and gives the reserver back to its owner.
+    /// Gives back what was filled, and the reserver to its owner.
     ///
     /// <details><summary>Contract</summary>
     ///

@@ -7,6 +7,23 @@ use crate::proved::ent_blocks::Blocks;
 impl<O> Commands<'_, O, Blocks> {
     /// How many handles of the block are left.
     ///
+    /// ```
+    /// # #[cfg(feature = "std")] {
+    /// use forgeni::{run_frame_in_blocks, CommandsInBlocks, OutOfMemory, StdThreads, View, World};
+    ///
+    /// /// A burst of what the block still has.
+    /// fn burst(_: &View<'_>, commands: &mut CommandsInBlocks<'_>) -> Result<(), OutOfMemory> {
+    ///     let n = commands.left();
+    ///     commands.spawn_many_with(n, &[]).map_or_else(|refused| refused.or_memory(), |_| Ok(()))
+    /// }
+    ///
+    /// let (open, reservers) = World::new().open_in_blocks(&[10, 30])?;
+    /// let (world, _report) = run_frame_in_blocks(&StdThreads, open, reservers, &[burst; 2], 2)?;
+    /// assert_eq!(world.len(), 40);
+    /// # }
+    /// # Ok::<(), Box<dyn std::error::Error>>(())
+    /// ```
+    ///
     /// <details><summary>Contract</summary>
     ///
     /// In the words of the folder `specs/` of crate `ent_queue`:

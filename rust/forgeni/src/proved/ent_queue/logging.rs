@@ -11,6 +11,23 @@ use core::fmt;
 impl<C, S: Source> Commands<'_, Log<C>, S> {
     /// The entries so far, in the order of issue.
     ///
+    /// ```
+    /// use forgeni::{run_logs, Entities, Entry, LogCommands, OutOfMemory};
+    ///
+    /// /// Two enemies are seen, but the guard shouts once.
+    /// fn guard(commands: &mut LogCommands<'_, &'static str>) -> Result<(), OutOfMemory> {
+    ///     for _enemy in 0..2 {
+    ///         if !commands.entries().contains(&Entry::Command("halt")) {
+    ///             commands.push("halt")?;
+    ///         }
+    ///     }
+    ///     Ok(())
+    /// }
+    ///
+    /// assert_eq!(run_logs(&mut Entities::new(), &[guard], 1)?[0].len(), 1);
+    /// # Ok::<(), Box<dyn std::error::Error>>(())
+    /// ```
+    ///
     /// <details><summary>Contract</summary>
     ///
     /// In the words of the folder `specs/` of crate `ent_queue`:
@@ -28,6 +45,22 @@ impl<C, S: Source> Commands<'_, Log<C>, S> {
 
     /// Reserves a handle at once, and adds its entry, or that of the refusal. Room for the entry is
     /// allocated first, so each reservation has one.
+    ///
+    /// ```
+    /// use forgeni::{run_logs, Entities, Handle, LogCommands, OutOfMemory};
+    ///
+    /// fn launch(commands: &mut LogCommands<'_, (Handle, u32)>) -> Result<(), OutOfMemory> {
+    ///     match commands.spawn() {
+    ///         Ok(drone) => commands.push((drone, 100)),
+    ///         // The log has it, and the sync point hands it on.
+    ///         Err(refused) => refused.or_memory(),
+    ///     }
+    /// }
+    ///
+    /// let logs = run_logs(&mut Entities::new(), &[launch; 2], 2)?;
+    /// assert!(logs.iter().all(|log| log.len() == 2 && log.refused() == 0));
+    /// # Ok::<(), Box<dyn std::error::Error>>(())
+    /// ```
     ///
     /// # Errors
     ///
@@ -66,6 +99,17 @@ impl<C, S: Source> Commands<'_, Log<C>, S> {
 
 impl<C, S: Source> Commands<'_, Log<C>, S> {
     /// Adds a command, which the sync point hands on in its turn.
+    ///
+    /// ```
+    /// use forgeni::{run_logs, Entities, Entry, LogCommands, SyncPoint};
+    ///
+    /// let mut entities = Entities::new();
+    /// let say = |commands: &mut LogCommands<'_, String>| commands.push("halt".into());
+    /// let mut logs = run_logs(&mut entities, &[say; 2], 2)?;
+    /// let mut sync = SyncPoint::begin(&mut entities, &mut logs, &mut Vec::new())?;
+    /// assert_eq!(sync.take_next(), Some(Entry::Command("halt".into())));
+    /// # Ok::<(), Box<dyn std::error::Error>>(())
+    /// ```
     ///
     /// # Errors
     ///

@@ -6,12 +6,30 @@ use crate::proved::ent_handle::{Handle, Memory};
 use core::fmt;
 
 /// The handles of an answer, in their order.
+///
+/// ```
+/// use forgeni::{trace, Handle};
+///
+/// let born: Vec<Handle> = vec!["0v1".parse()?, "1v1".parse()?];
+/// // It is printed as a line of a trace has it.
+/// let reply = trace::FlushReply::from(born);
+/// assert_eq!(trace::Call::Flush(Some(reply)).to_string(), "flush => born 0v1 1v1");
+/// # Ok::<(), Box<dyn std::error::Error>>(())
+/// ```
 pub struct HandleList {
     handles: Vec<Handle>,
 }
 
 impl HandleList {
     /// The list of these handles. It takes no memory.
+    ///
+    /// ```
+    /// use forgeni::trace;
+    ///
+    /// let list = trace::HandleList::new(vec!["0v1".parse()?, "1v1".parse()?]);
+    /// assert_eq!(list.iter().map(|one| one.index()).collect::<Vec<_>>(), [0, 1]);
+    /// # Ok::<(), Box<dyn std::error::Error>>(())
+    /// ```
     ///
     /// <details><summary>Contract</summary>
     ///
@@ -29,6 +47,15 @@ impl HandleList {
     }
 
     /// The handles.
+    ///
+    /// ```
+    /// use forgeni::{trace, Handle};
+    ///
+    /// let handles: Vec<Handle> = vec!["0v1".parse()?, "1v1".parse()?];
+    /// let list = trace::HandleList::from(handles.clone());
+    /// assert_eq!(list.as_slice(), handles);
+    /// # Ok::<(), Box<dyn std::error::Error>>(())
+    /// ```
     ///
     /// <details><summary>Contract</summary>
     ///
@@ -90,6 +117,16 @@ impl HandleList {
     }
 
     /// Returns the handles, with their memory.
+    ///
+    /// ```
+    /// use forgeni::{trace, Entities};
+    ///
+    /// let reply = trace::ReserveReply::from(Entities::new().request_many(3)?);
+    /// if let trace::ReserveReply::Handles(list) = reply {
+    ///     assert_eq!(list.into_vec().len(), 3);
+    /// }
+    /// # Ok::<(), Box<dyn std::error::Error>>(())
+    /// ```
     ///
     /// <details><summary>Contract</summary>
     ///

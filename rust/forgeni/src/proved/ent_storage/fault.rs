@@ -4,6 +4,19 @@ use core::error::Error;
 use core::fmt;
 
 /// Why a [`Storage`](super::Storage) refused a call. Nothing has changed.
+///
+/// ```
+/// use forgeni::{Birth, Entities, Storage, StorageError};
+///
+/// const FIRST: Birth = Birth { frame: 0, system: 0, ordinal: 0 };
+///
+/// let cart = Entities::new().alloc()?;
+/// let mut storage = Storage::new();
+/// assert_eq!(storage.insert(cart, &[]), Err(StorageError::Absent));
+/// storage.born(cart, FIRST)?;
+/// assert_eq!(storage.born(cart, FIRST), Err(StorageError::Present));
+/// # Ok::<(), Box<dyn std::error::Error>>(())
+/// ```
 #[derive(Clone, Copy, Debug, PartialEq, Eq, Hash)]
 pub enum StorageFault {
     /// No entity has that handle.

@@ -97,6 +97,18 @@ pub struct HandleMap<T> {
 impl<T> HandleMap<T> {
     /// A map without values, and without a limit. It takes no memory.
     ///
+    /// ```
+    /// use forgeni::HandleMap;
+    ///
+    /// static NAMES: std::sync::Mutex<HandleMap<String>> = std::sync::Mutex::new(HandleMap::new());
+    ///
+    /// let cart = "0v1".parse()?;
+    /// let mut names = NAMES.lock()?;
+    /// names.insert(cart, "cart".into())?;
+    /// assert_eq!(names[cart], "cart");
+    /// # Ok::<(), Box<dyn std::error::Error>>(())
+    /// ```
+    ///
     /// <details><summary>Contract</summary>
     ///
     /// In the words of the folder `specs/` of crate `ent_storage`:
@@ -117,6 +129,16 @@ impl<T> HandleMap<T> {
     ///
     /// [`Entities::total`](crate::Entities::total) is a limit that fits an allocator as long as it
     /// makes no new slots. [`set_limit`](Self::set_limit) changes the limit.
+    ///
+    /// ```
+    /// use forgeni::{HandleMap, InsertError};
+    ///
+    /// // A forged handle of a save can't make the map take gigabytes.
+    /// let mut names = HandleMap::with_limit(1_000);
+    /// let refused = names.insert("4000000000v1".parse()?, "Eve").err().ok_or("it was inserted")?;
+    /// assert_eq!((refused.error(), names.capacity()), (&InsertError::Limit, 0));
+    /// # Ok::<(), Box<dyn std::error::Error>>(())
+    /// ```
     ///
     /// <details><summary>Contract</summary>
     ///
@@ -139,6 +161,20 @@ impl<T> HandleMap<T> {
 
     /// A map without values and without a limit, with room for exactly that many slots. For 0 slots
     /// it takes no memory.
+    ///
+    /// ```
+    /// use forgeni::{Entities, HandleMap};
+    ///
+    /// let mut entities = Entities::new();
+    /// let all = entities.alloc_many(1_000)?;
+    /// let mut healths = HandleMap::with_capacity(entities.total() as usize)?;
+    /// for one in all {
+    ///     // There is room, so this takes no memory.
+    ///     healths.insert(one, 100)?;
+    /// }
+    /// assert_eq!(healths.capacity(), 1_000);
+    /// # Ok::<(), Box<dyn std::error::Error>>(())
+    /// ```
     ///
     /// # Errors
     ///
@@ -168,6 +204,14 @@ impl<T> HandleMap<T> {
 
     /// For how many slots the map may have values, from slot 0 on: 4,294,967,295, which is no limit,
     /// or the limit that was set.
+    ///
+    /// ```
+    /// use forgeni::HandleMap;
+    ///
+    /// let names: HandleMap<&str> = HandleMap::new();
+    /// assert_eq!(names.limit(), u32::MAX);
+    /// assert_eq!(HandleMap::<&str>::with_limit(1_000).limit(), 1_000);
+    /// ```
     ///
     /// <details><summary>Contract</summary>
     ///
@@ -215,6 +259,17 @@ impl<T> HandleMap<T> {
 
     /// How many values there are. It takes constant time.
     ///
+    /// ```
+    /// use forgeni::HandleMap;
+    ///
+    /// let mut names = HandleMap::new();
+    /// names.insert("7v1".parse()?, "Ada")?;
+    /// names.insert("7v2".parse()?, "Bob")?;
+    /// // A slot has one value.
+    /// assert_eq!((names.len(), names.slots()), (1, 8));
+    /// # Ok::<(), Box<dyn std::error::Error>>(())
+    /// ```
+    ///
     /// <details><summary>Contract</summary>
     ///
     /// In the words of the folder `specs/` of crate `ent_storage`:
@@ -231,6 +286,17 @@ impl<T> HandleMap<T> {
     }
 
     /// Whether there is no value.
+    ///
+    /// ```
+    /// use forgeni::HandleMap;
+    ///
+    /// let mut burning = HandleMap::new();
+    /// let cart = "0v1".parse()?;
+    /// burning.insert(cart, 3)?;
+    /// burning.remove(cart);
+    /// assert!(burning.is_empty());
+    /// # Ok::<(), Box<dyn std::error::Error>>(())
+    /// ```
     ///
     /// <details><summary>Contract</summary>
     ///
@@ -250,6 +316,17 @@ impl<T> HandleMap<T> {
     /// How many slots there is room for. Inserting a handle whose index is below it takes no
     /// memory.
     ///
+    /// ```
+    /// use forgeni::{Handle, HandleMap};
+    ///
+    /// let mut names = HandleMap::with_capacity(100)?;
+    /// let last = Handle::new(99, 1).ok_or("out of range")?;
+    /// assert!(names.capacity() > last.index() as usize);
+    /// names.insert(last, "Ada")?;
+    /// assert_eq!(names.capacity(), 100);
+    /// # Ok::<(), Box<dyn std::error::Error>>(())
+    /// ```
+    ///
     /// <details><summary>Contract</summary>
     ///
     /// In the words of the folder `specs/` of crate `ent_storage`:
@@ -267,6 +344,18 @@ impl<T> HandleMap<T> {
 
     /// How many slots there are. They reach up to the slot with the greatest index of those that
     /// were given a value since the map was made or cleared.
+    ///
+    /// ```
+    /// use forgeni::HandleMap;
+    ///
+    /// let mut names = HandleMap::new();
+    /// let ada = "99v1".parse()?;
+    /// names.insert(ada, "Ada")?;
+    /// names.remove(ada);
+    /// // A walk looks at each of them.
+    /// assert_eq!((names.len(), names.slots()), (0, 100));
+    /// # Ok::<(), Box<dyn std::error::Error>>(())
+    /// ```
     ///
     /// <details><summary>Contract</summary>
     ///
@@ -287,6 +376,16 @@ impl<T> HandleMap<T> {
     }
 
     /// Whether the handle has a value. It takes constant time.
+    ///
+    /// ```
+    /// use forgeni::HandleMap;
+    ///
+    /// let mut burning = HandleMap::new();
+    /// let (old, new) = ("7v1".parse()?, "7v2".parse()?);
+    /// burning.insert(old, 3)?;
+    /// assert!(burning.contains(old) && !burning.contains(new));
+    /// # Ok::<(), Box<dyn std::error::Error>>(())
+    /// ```
     ///
     /// <details><summary>Contract</summary>
     ///
@@ -335,6 +434,22 @@ impl<T> HandleMap<T> {
     }
 
     /// The value of the handle, if it has one, to be changed. It takes constant time.
+    ///
+    /// ```
+    /// use forgeni::HandleMap;
+    ///
+    /// let mut healths = HandleMap::new();
+    /// let (cart, horse) = ("0v1".parse()?, "1v1".parse()?);
+    /// healths.insert(cart, 100)?;
+    /// for one in [cart, horse] {
+    ///     // Whatever is hit and has a health loses some.
+    ///     if let Some(health) = healths.get_mut(one) {
+    ///         *health -= 30;
+    ///     }
+    /// }
+    /// assert_eq!(healths[cart], 70);
+    /// # Ok::<(), Box<dyn std::error::Error>>(())
+    /// ```
     ///
     /// <details><summary>Contract</summary>
     ///
@@ -467,6 +582,18 @@ impl<T> HandleMap<T> {
 
     /// The handles that have a value, by rising slot.
     ///
+    /// ```
+    /// use forgeni::{Entities, HandleMap};
+    ///
+    /// let mut entities = Entities::new();
+    /// let mut burning = HandleMap::new();
+    /// let all = entities.alloc_many(3)?;
+    /// burning.insert(all[2], ())?;
+    /// burning.insert(all[0], ())?;
+    /// assert!(burning.keys().eq([all[0], all[2]]));
+    /// # Ok::<(), Box<dyn std::error::Error>>(())
+    /// ```
+    ///
     /// <details><summary>Contract</summary>
     ///
     /// In the words of the folder `specs/` of crate `ent_storage`:
@@ -482,6 +609,16 @@ impl<T> HandleMap<T> {
     }
 
     /// The values, by rising slot.
+    ///
+    /// ```
+    /// use forgeni::HandleMap;
+    ///
+    /// let mut masses = HandleMap::new();
+    /// masses.insert("0v1".parse()?, 900)?;
+    /// masses.insert("7v2".parse()?, 80)?;
+    /// assert_eq!(masses.values().sum::<u32>(), 980);
+    /// # Ok::<(), Box<dyn std::error::Error>>(())
+    /// ```
     ///
     /// <details><summary>Contract</summary>
     ///
@@ -729,6 +866,19 @@ impl<T> HandleMap<T> {
     }
 
     /// Drops all values. The room stays.
+    ///
+    /// ```
+    /// use forgeni::HandleMap;
+    ///
+    /// let mut hits = HandleMap::new();
+    /// for frame in 0..3 {
+    ///     // From the second frame on it takes no memory.
+    ///     hits.clear();
+    ///     hits.insert("99v1".parse()?, frame)?;
+    /// }
+    /// assert_eq!((hits.len(), hits.capacity() >= 100), (1, true));
+    /// # Ok::<(), Box<dyn std::error::Error>>(())
+    /// ```
     ///
     /// <details><summary>Contract</summary>
     ///

@@ -3,6 +3,18 @@
 use crate::proved::ent_handle::Memory;
 
 /// Why bytes were not read as the entities of a storage.
+///
+/// ```
+/// use forgeni::{StorageImageFault, World, WorldImageFault};
+///
+/// let mut image = Vec::new();
+/// World::new().write_image(&mut image)?;
+/// image.push(0);
+/// // An image of a world has the entities at its end.
+/// let read = World::read_image(&image);
+/// assert_eq!(read.err(), Some(WorldImageFault::Storage(StorageImageFault::Length)));
+/// # Ok::<(), Box<dyn std::error::Error>>(())
+/// ```
 #[derive(Clone, Copy, Debug, PartialEq, Eq, Hash)]
 pub enum StorageImageFault {
     /// There are fewer bytes than the entities have, or more.

@@ -8,6 +8,19 @@ use crate::proved::ent_handle::ComponentId;
 ///
 /// [`Storage::items`](super::Storage::items) makes it. It borrows the storage and copies nothing. It
 /// looks at the components that any entity has ever had, at most 256 of them.
+///
+/// ```
+/// use forgeni::{ComponentId, Items, World};
+///
+/// fn print(items: Items<'_>) -> String {
+///     items.map(|(id, value)| format!("{}={value} ", id.0)).collect()
+/// }
+///
+/// let mut world = World::new();
+/// let cart = world.spawn(&[(ComponentId(7), 2), (ComponentId(3), 1)])?;
+/// assert_eq!(world.items(cart).map(print), Some("3=1 7=2 ".into()));
+/// # Ok::<(), Box<dyn std::error::Error>>(())
+/// ```
 #[must_use]
 pub struct Items<'a> {
     columns: &'a [SparseSet],

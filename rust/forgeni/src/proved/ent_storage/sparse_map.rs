@@ -63,6 +63,16 @@ pub struct SparseMap<T> {
 impl<T> SparseMap<T> {
     /// A map without values, and without a limit. It takes no memory.
     ///
+    /// ```
+    /// use forgeni::{Handle, SparseMap};
+    ///
+    /// let mut names = SparseMap::new();
+    /// // The place of one name in a million slots: 4 MB, not 24.
+    /// names.insert(Handle::new(999_999, 1).ok_or("out of range")?, String::from("Ada"))?;
+    /// assert_eq!((names.len(), names.slots() >= 1_000_000), (1, true));
+    /// # Ok::<(), Box<dyn std::error::Error>>(())
+    /// ```
+    ///
     /// <details><summary>Contract</summary>
     ///
     /// In the words of the folder `specs/` of crate `ent_storage`:
@@ -83,6 +93,16 @@ impl<T> SparseMap<T> {
     ///
     /// [`Entities::total`](crate::Entities::total) is a limit that fits an allocator as long as
     /// it makes no new slots. [`set_limit`](Self::set_limit) changes the limit.
+    ///
+    /// ```
+    /// use forgeni::{InsertError, SparseMap};
+    ///
+    /// // A forged handle of a save can't make the map take gigabytes.
+    /// let mut names = SparseMap::with_limit(1_000);
+    /// let refused = names.insert("4000000000v1".parse()?, "Eve").err().ok_or("it was inserted")?;
+    /// assert_eq!((refused.error(), names.slots()), (&InsertError::Limit, 0));
+    /// # Ok::<(), Box<dyn std::error::Error>>(())
+    /// ```
     ///
     /// <details><summary>Contract</summary>
     ///
@@ -106,6 +126,13 @@ impl<T> SparseMap<T> {
     /// For how many slots the map may have values, from slot 0 on: 4,294,967,295, which is no
     /// limit, or the limit that was set.
     ///
+    /// ```
+    /// use forgeni::SparseMap;
+    ///
+    /// let names: SparseMap<&str> = SparseMap::with_limit(1_000);
+    /// assert_eq!((names.limit(), SparseMap::<&str>::new().limit()), (1_000, u32::MAX));
+    /// ```
+    ///
     /// <details><summary>Contract</summary>
     ///
     /// In the words of the folder `specs/` of crate `ent_storage`:
@@ -124,6 +151,17 @@ impl<T> SparseMap<T> {
     /// Sets the limit. The map keeps the values that it has, even those of slots at or above the
     /// limit.
     ///
+    /// ```
+    /// use forgeni::SparseMap;
+    ///
+    /// let mut names = SparseMap::new();
+    /// let (last, next) = ("999v1".parse()?, "1000v1".parse()?);
+    /// names.set_limit(1_000);
+    /// names.insert(last, "Ada")?;
+    /// assert!(names.insert(next, "Bob").is_err());
+    /// # Ok::<(), Box<dyn std::error::Error>>(())
+    /// ```
+    ///
     /// <details><summary>Contract</summary>
     ///
     /// In the words of the folder `specs/` of crate `ent_storage`:
@@ -139,6 +177,17 @@ impl<T> SparseMap<T> {
     }
 
     /// How many values there are. It takes constant time.
+    ///
+    /// ```
+    /// use forgeni::SparseMap;
+    ///
+    /// let mut names = SparseMap::new();
+    /// names.insert("7v1".parse()?, "Ada")?;
+    /// names.insert("7v2".parse()?, "Bob")?;
+    /// // A slot has one value.
+    /// assert_eq!(names.len(), 1);
+    /// # Ok::<(), Box<dyn std::error::Error>>(())
+    /// ```
     ///
     /// <details><summary>Contract</summary>
     ///
@@ -157,6 +206,17 @@ impl<T> SparseMap<T> {
 
     /// Whether there is no value.
     ///
+    /// ```
+    /// use forgeni::SparseMap;
+    ///
+    /// let mut bosses = SparseMap::new();
+    /// let dragon = "99v1".parse()?;
+    /// bosses.insert(dragon, "dragon")?;
+    /// bosses.remove(dragon);
+    /// assert!(bosses.is_empty());
+    /// # Ok::<(), Box<dyn std::error::Error>>(())
+    /// ```
+    ///
     /// <details><summary>Contract</summary>
     ///
     /// In the words of the folder `specs/` of crate `ent_storage`:
@@ -174,6 +234,17 @@ impl<T> SparseMap<T> {
 
     /// How many values there is room for.
     ///
+    /// ```
+    /// use forgeni::{Handle, SparseMap};
+    ///
+    /// let mut names = SparseMap::with_capacity(10)?;
+    /// for index in 0..10 {
+    ///     names.insert(Handle::new(index, 1).ok_or("out of range")?, index)?;
+    /// }
+    /// assert_eq!(names.capacity(), 10);
+    /// # Ok::<(), Box<dyn std::error::Error>>(())
+    /// ```
+    ///
     /// <details><summary>Contract</summary>
     ///
     /// In the words of the folder `specs/` of crate `ent_storage`:
@@ -190,6 +261,16 @@ impl<T> SparseMap<T> {
     }
 
     /// How many slots there is room for, from slot 0 on. Each takes four bytes.
+    ///
+    /// ```
+    /// use forgeni::SparseMap;
+    ///
+    /// let mut names = SparseMap::new();
+    /// names.insert("999v1".parse()?, "Ada")?;
+    /// // From here on, no name of these slots takes memory for its slot.
+    /// assert!(names.slots() >= 1_000);
+    /// # Ok::<(), Box<dyn std::error::Error>>(())
+    /// ```
     ///
     /// <details><summary>Contract</summary>
     ///
@@ -209,6 +290,16 @@ impl<T> SparseMap<T> {
     }
 
     /// Whether the handle has a value. It takes constant time.
+    ///
+    /// ```
+    /// use forgeni::SparseMap;
+    ///
+    /// let mut bosses = SparseMap::new();
+    /// let (old, new) = ("7v1".parse()?, "7v2".parse()?);
+    /// bosses.insert(old, "dragon")?;
+    /// assert!(bosses.contains(old) && !bosses.contains(new));
+    /// # Ok::<(), Box<dyn std::error::Error>>(())
+    /// ```
     ///
     /// <details><summary>Contract</summary>
     ///
@@ -258,6 +349,22 @@ impl<T> SparseMap<T> {
 
     /// The value of the handle, if it has one, to be changed. It takes constant time.
     ///
+    /// ```
+    /// use forgeni::SparseMap;
+    ///
+    /// let mut shields = SparseMap::new();
+    /// let (knight, horse) = ("0v1".parse()?, "1v1".parse()?);
+    /// shields.insert(knight, 50)?;
+    /// for one in [knight, horse] {
+    ///     // Few have a shield, and it takes the blow.
+    ///     if let Some(shield) = shields.get_mut(one) {
+    ///         *shield -= 20;
+    ///     }
+    /// }
+    /// assert_eq!(shields[knight], 30);
+    /// # Ok::<(), Box<dyn std::error::Error>>(())
+    /// ```
+    ///
     /// <details><summary>Contract</summary>
     ///
     /// In the words of the folder `specs/` of crate `ent_storage`:
@@ -291,6 +398,16 @@ impl<T> SparseMap<T> {
 
     /// Frees the room that no value needs, as `Vec::shrink_to_fit` does. If there is no memory to
     /// move the values to, the room stays. The room for slots always stays.
+    ///
+    /// ```
+    /// use forgeni::SparseMap;
+    ///
+    /// let mut names = SparseMap::with_capacity(1_000)?;
+    /// names.insert("0v1".parse()?, "Ada")?;
+    /// names.shrink_to_fit();
+    /// assert_eq!(names.capacity(), 1);
+    /// # Ok::<(), Box<dyn std::error::Error>>(())
+    /// ```
     ///
     /// <details><summary>Contract</summary>
     ///
@@ -342,6 +459,17 @@ impl<T> SparseMap<T> {
 
     /// The handles and their values, in the order of [`entries`](Self::entries).
     ///
+    /// ```
+    /// use forgeni::SparseMap;
+    ///
+    /// let mut shields = SparseMap::new();
+    /// shields.insert("900v1".parse()?, 50)?;
+    /// shields.insert("7v1".parse()?, 30)?;
+    /// // Two entries, however many slots there are.
+    /// assert_eq!(shields.iter().map(|(_, shield)| shield).sum::<u32>(), 80);
+    /// # Ok::<(), Box<dyn std::error::Error>>(())
+    /// ```
+    ///
     /// <details><summary>Contract</summary>
     ///
     /// In the words of the folder `specs/` of crate `ent_storage`:
@@ -358,6 +486,16 @@ impl<T> SparseMap<T> {
 
     /// The handles and their values, in the order of [`entries`](Self::entries). It takes no
     /// memory.
+    ///
+    /// ```
+    /// use forgeni::SparseMap;
+    ///
+    /// let mut names = SparseMap::new();
+    /// let ada = "7v1".parse()?;
+    /// names.insert(ada, String::from("Ada"))?;
+    /// assert_eq!(names.into_entries(), [(ada, String::from("Ada"))]);
+    /// # Ok::<(), Box<dyn std::error::Error>>(())
+    /// ```
     ///
     /// <details><summary>Contract</summary>
     ///
@@ -530,6 +668,19 @@ impl<T> SparseMap<T> {
 
     /// Drops all values. The room stays.
     ///
+    /// ```
+    /// use forgeni::SparseMap;
+    ///
+    /// let mut marks = SparseMap::new();
+    /// for frame in 0..3 {
+    ///     // From the second frame on it takes no memory.
+    ///     marks.clear();
+    ///     marks.insert("99v1".parse()?, frame)?;
+    /// }
+    /// assert_eq!(marks.len(), 1);
+    /// # Ok::<(), Box<dyn std::error::Error>>(())
+    /// ```
+    ///
     /// <details><summary>Contract</summary>
     ///
     /// In the words of the folder `specs/` of crate `ent_storage`:
@@ -548,6 +699,18 @@ impl<T> SparseMap<T> {
 impl<T: Clone> SparseMap<T> {
     /// A map with a clone of each value, with room for the same slots, and with the same limit.
     /// Without room for slots it takes no memory.
+    ///
+    /// ```
+    /// use forgeni::SparseMap;
+    ///
+    /// let mut now = SparseMap::new();
+    /// let cart = "7v1".parse()?;
+    /// now.insert(cart, 3)?;
+    /// let before = now.try_clone()?;
+    /// now[cart] += 1;
+    /// assert_eq!((now[cart], before[cart]), (4, 3));
+    /// # Ok::<(), Box<dyn std::error::Error>>(())
+    /// ```
     ///
     /// # Errors
     ///
@@ -584,6 +747,20 @@ impl<T: Clone> SparseMap<T> {
     ///
     /// If there is room for as many slots and values as the source has, it takes memory only for
     /// the clones.
+    ///
+    /// ```
+    /// use forgeni::SparseMap;
+    ///
+    /// let (mut now, mut before) = (SparseMap::new(), SparseMap::new());
+    /// let cart = "7v1".parse()?;
+    /// for frame in 0..3 {
+    ///     // A snapshot a frame, in the room of the last one.
+    ///     before.try_clone_from(&now)?;
+    ///     now.insert(cart, frame)?;
+    /// }
+    /// assert_eq!((now[cart], before[cart]), (2, 1));
+    /// # Ok::<(), Box<dyn std::error::Error>>(())
+    /// ```
     ///
     /// # Errors
     ///

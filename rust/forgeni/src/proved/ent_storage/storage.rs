@@ -42,6 +42,16 @@ pub struct Storage {
 impl Storage {
     /// A storage without entities. It takes no memory.
     ///
+    /// ```
+    /// use forgeni::{Birth, Entities, Storage};
+    ///
+    /// // For components beside an allocator of your own.
+    /// let (mut entities, mut storage) = (Entities::new(), Storage::new());
+    /// storage.born(entities.alloc()?, Birth { frame: 0, system: 0, ordinal: 0 })?;
+    /// assert_eq!(storage.len(), entities.iter().count());
+    /// # Ok::<(), Box<dyn std::error::Error>>(())
+    /// ```
+    ///
     /// <details><summary>Contract</summary>
     ///
     /// In the words of the folder `specs/` of crate `ent_storage`:
@@ -167,6 +177,18 @@ impl Storage {
 
     /// How many entities there are. That is also the place of the next one that is born.
     ///
+    /// ```
+    /// use forgeni::{Birth, Storage};
+    ///
+    /// let mut storage = Storage::new();
+    /// let cart = "0v1".parse()?;
+    /// storage.born(cart, Birth { frame: 0, system: 0, ordinal: 0 })?;
+    /// assert_eq!(storage.len(), 1);
+    /// storage.despawn(cart)?;
+    /// assert_eq!(storage.len(), 0);
+    /// # Ok::<(), Box<dyn std::error::Error>>(())
+    /// ```
+    ///
     /// <details><summary>Contract</summary>
     ///
     /// In the words of the folder `specs/` of crate `ent_storage`:
@@ -184,6 +206,16 @@ impl Storage {
     }
 
     /// Whether there are no entities.
+    ///
+    /// ```
+    /// use forgeni::{Birth, Storage};
+    ///
+    /// let mut storage = Storage::new();
+    /// assert!(storage.is_empty());
+    /// storage.born("0v1".parse()?, Birth { frame: 0, system: 0, ordinal: 0 })?;
+    /// assert!(!storage.is_empty());
+    /// # Ok::<(), Box<dyn std::error::Error>>(())
+    /// ```
     ///
     /// <details><summary>Contract</summary>
     ///
@@ -216,6 +248,20 @@ impl Storage {
     ///
     /// `born` lowers it by 1, or makes more room if it is 0. `reserve` and `despawn` raise it.
     /// Nothing else changes it.
+    ///
+    /// ```
+    /// use forgeni::{Birth, Storage};
+    ///
+    /// let mut storage = Storage::new();
+    /// let cart = "0v1".parse()?;
+    /// storage.reserve(1)?;
+    /// let before = storage.spare();
+    /// storage.born(cart, Birth { frame: 0, system: 0, ordinal: 0 })?;
+    /// assert_eq!(storage.spare(), before - 1);
+    /// storage.despawn(cart)?;
+    /// assert_eq!(storage.spare(), before);
+    /// # Ok::<(), Box<dyn std::error::Error>>(())
+    /// ```
     ///
     /// <details><summary>Contract</summary>
     ///
@@ -344,6 +390,20 @@ impl Storage {
     /// later pairs of the index move up by one. If the index is full, the pairs of all entities
     /// that are gone are dropped first, in one pass.
     ///
+    /// ```
+    /// use forgeni::{Birth, Entities, Storage};
+    ///
+    /// let (mut entities, mut storage) = (Entities::new(), Storage::new());
+    /// let mut born = Vec::new();
+    /// entities.request_many(3)?;
+    /// entities.flush(&mut born)?;
+    /// for (ordinal, one) in (0..).zip(born) {
+    ///     storage.born(one, Birth { frame: 0, system: 0, ordinal })?;
+    /// }
+    /// assert_eq!(storage.len(), 3);
+    /// # Ok::<(), Box<dyn std::error::Error>>(())
+    /// ```
+    ///
     /// # Errors
     ///
     /// Nothing has changed.
@@ -412,6 +472,19 @@ impl Storage {
     ///
     /// It takes the time of two look-ups, and time for each component that any entity has ever had.
     /// The index stays as it is, except for the entity that moves.
+    ///
+    /// ```
+    /// use forgeni::{Birth, Entities, Storage};
+    ///
+    /// let (mut entities, mut storage) = (Entities::new(), Storage::new());
+    /// let cart = entities.alloc()?;
+    /// storage.born(cart, Birth { frame: 0, system: 0, ordinal: 0 })?;
+    /// // The one doesn't know of the other: both have to be called.
+    /// storage.despawn(cart)?;
+    /// entities.free(cart)?;
+    /// assert!(storage.is_empty() && entities.is_empty());
+    /// # Ok::<(), Box<dyn std::error::Error>>(())
+    /// ```
     ///
     /// # Errors
     ///
@@ -570,6 +643,20 @@ impl Storage {
 
     /// Removes the component from the entity, and returns its value, or `None` if the entity
     /// doesn't have it. It takes no memory.
+    ///
+    /// ```
+    /// use forgeni::{Birth, ComponentId, Storage};
+    ///
+    /// const BURNING: ComponentId = ComponentId(0);
+    ///
+    /// let mut storage = Storage::new();
+    /// let cart = "0v1".parse()?;
+    /// storage.born(cart, Birth { frame: 0, system: 0, ordinal: 0 })?;
+    /// storage.insert(cart, &[(BURNING, 3)])?;
+    /// assert_eq!(storage.remove(cart, BURNING)?, Some(3));
+    /// assert_eq!(storage.remove(cart, BURNING)?, None);
+    /// # Ok::<(), Box<dyn std::error::Error>>(())
+    /// ```
     ///
     /// # Errors
     ///

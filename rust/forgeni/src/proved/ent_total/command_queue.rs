@@ -5,6 +5,21 @@ use crate::proved::ent_total::open_world::OpenWorld;
 
 /// The commands of one system, in the order of issue. [`OpenWorld::close`] and
 /// [`OpenWorld::close_lost`] take it.
+///
+/// ```
+/// use forgeni::World;
+///
+/// let (open, mut systems) = World::new().open(1)?;
+/// let mut commands = systems.remove(0);
+/// let queue = std::thread::spawn(move || {
+///     let _refused = commands.spawn_many(10, &[]);
+///     commands.finish()
+/// });
+/// let queue = queue.join().expect("the thread");
+/// let (mut world, queues) = open.close(vec![queue])?;
+/// assert_eq!(world.apply(queues)?.born.len(), 10);
+/// # Ok::<(), Box<dyn std::error::Error>>(())
+/// ```
 #[must_use]
 pub struct CommandQueue {
     pub(super) commands: Commands,
@@ -22,6 +37,18 @@ impl CommandQueue {
     /// `queues.sort_by_key(|one| one.number())`. A queue that a refused close kept stays where it
     /// is.
     ///
+    /// ```
+    /// use forgeni::World;
+    ///
+    /// let (open, systems) = World::new().open(3)?;
+    /// // Threads have ended in some order.
+    /// let mut queues: Vec<_> = systems.into_iter().rev().map(|one| one.finish()).collect();
+    /// queues.sort_by_key(|one| one.number());
+    /// assert_eq!(queues.iter().map(|one| one.number()).collect::<Vec<_>>(), [0, 1, 2]);
+    /// let _closed = open.close(queues)?;
+    /// # Ok::<(), Box<dyn std::error::Error>>(())
+    /// ```
+    ///
     /// <details><summary>Contract</summary>
     ///
     /// In the words of the folder `specs/` of crate `ent_total`:
@@ -38,6 +65,16 @@ impl CommandQueue {
     }
 
     /// Whether it is of this phase.
+    ///
+    /// ```
+    /// use forgeni::World;
+    ///
+    /// let (open, mut systems) = World::new().open(1)?;
+    /// let (other, _) = World::new().open(1)?;
+    /// let queue = systems.remove(0).finish();
+    /// assert!(queue.is_of(&open) && !queue.is_of(&other));
+    /// # Ok::<(), Box<dyn std::error::Error>>(())
+    /// ```
     ///
     /// <details><summary>Contract</summary>
     ///

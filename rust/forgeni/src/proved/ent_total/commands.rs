@@ -15,6 +15,26 @@ use crate::kit::sync::Arc;
 ///
 /// A spawn reserves its handle at once, so a system knows what it will have spawned. The world can
 /// be read, as it was when it was opened.
+///
+/// ```
+/// use forgeni::{ComponentId, World};
+///
+/// const AGE: ComponentId = ComponentId(0);
+///
+/// let (open, mut systems) = World::new().open(2)?;
+/// std::thread::scope(|scope| {
+///     for commands in &mut systems {
+///         scope.spawn(move || {
+///             let oak = commands.spawn(&[])?;
+///             commands.insert(oak, &[(AGE, 80)])?;
+///             Ok::<(), forgeni::ReserveError>(())
+///         });
+///     }
+/// });
+/// let (mut world, queues) = open.close(systems.into_iter().map(|one| one.finish()).collect())?;
+/// assert_eq!(world.apply(queues)?.born.len(), 2);
+/// # Ok::<(), Box<dyn std::error::Error>>(())
+/// ```
 #[must_use]
 #[repr(align(128))]
 pub struct Commands {
@@ -106,6 +126,20 @@ impl Commands {
 
     /// Reserves `n` handles at once, by one atomic step. Each is to have these components. It takes
     /// time for each handle of the list, and of the queue, which has them too.
+    ///
+    /// ```
+    /// use forgeni::{ComponentId, World};
+    ///
+    /// const HEAT: ComponentId = ComponentId(0);
+    ///
+    /// let mut world = World::new();
+    /// let (sparks, queues) = world.phase(1, |_open, systems| {
+    ///     systems[0].spawn_many(100, &[(HEAT, 900)])
+    /// })?;
+    /// world.apply(queues)?;
+    /// assert!(sparks?.into_iter().all(|one| world.get(one, HEAT) == Some(900)));
+    /// # Ok::<(), Box<dyn std::error::Error>>(())
+    /// ```
     ///
     /// # Errors
     ///
@@ -205,6 +239,20 @@ impl Commands {
 
     /// Takes the component out of the entity, if it has it.
     ///
+    /// ```
+    /// use forgeni::{ComponentId, World};
+    ///
+    /// const LIT: ComponentId = ComponentId(0);
+    ///
+    /// let mut world = World::new();
+    /// let lamp = world.spawn(&[(LIT, 1)])?;
+    /// let (done, queues) = world.phase(1, |_open, systems| systems[0].remove(lamp, LIT))?;
+    /// done?;
+    /// world.apply(queues)?;
+    /// assert!(world.contains(lamp) && world.get(lamp, LIT).is_none());
+    /// # Ok::<(), Box<dyn std::error::Error>>(())
+    /// ```
+    ///
     /// # Errors
     ///
     /// `OutOfMemory`, and then nothing has changed.
@@ -290,6 +338,21 @@ impl Commands {
 
     /// The value of the entity's component, if the entity is alive and has it.
     ///
+    /// ```
+    /// use forgeni::{ComponentId, World};
+    ///
+    /// const AGE: ComponentId = ComponentId(0);
+    ///
+    /// let mut world = World::new();
+    /// let oak = world.spawn(&[(AGE, 80)])?;
+    /// let (_open, mut systems) = world.open(1)?;
+    /// // A year passes for what is there.
+    /// if let Some(age) = systems[0].get(oak, AGE) {
+    ///     systems[0].insert(oak, &[(AGE, age + 1)])?;
+    /// }
+    /// # Ok::<(), Box<dyn std::error::Error>>(())
+    /// ```
+    ///
     /// <details><summary>Contract</summary>
     ///
     /// In the words of the folder `specs/` of crate `ent_total`:
@@ -306,6 +369,19 @@ impl Commands {
     }
 
     /// When and by whom the entity was brought to life, if it is alive.
+    ///
+    /// ```
+    /// use forgeni::World;
+    ///
+    /// let mut world = World::new();
+    /// let oak = world.spawn(&[])?;
+    /// world.flush()?;
+    /// let (_open, mut systems) = world.open(1)?;
+    /// let new = systems[0].spawn(&[])?;
+    /// assert_eq!(systems[0].birth(oak).map(|it| it.frame), Some(0));
+    /// assert_eq!(systems[0].birth(new), None);
+    /// # Ok::<(), Box<dyn std::error::Error>>(())
+    /// ```
     ///
     /// <details><summary>Contract</summary>
     ///
@@ -324,6 +400,18 @@ impl Commands {
 
     /// Whether the entity is alive. What the systems of the phase spawn isn't yet.
     ///
+    /// ```
+    /// use forgeni::World;
+    ///
+    /// let mut world = World::new();
+    /// let oak = world.spawn(&[])?;
+    /// let (_open, mut systems) = world.open(2)?;
+    /// systems[0].despawn(oak)?;
+    /// // Until the sync point every system sees the same world.
+    /// assert!(systems[1].contains(oak));
+    /// # Ok::<(), Box<dyn std::error::Error>>(())
+    /// ```
+    ///
     /// <details><summary>Contract</summary>
     ///
     /// In the words of the folder `specs/` of crate `ent_total`:
@@ -340,6 +428,19 @@ impl Commands {
     }
 
     /// The handles of all entities, by birth and then by handle. The time is that of a sort.
+    ///
+    /// ```
+    /// use forgeni::World;
+    ///
+    /// let mut world = World::new();
+    /// world.spawn(&[])?;
+    /// world.spawn(&[])?;
+    /// let (_open, mut systems) = world.open(1)?;
+    /// for one in systems[0].by_birth()? {
+    ///     systems[0].despawn(one)?;
+    /// }
+    /// # Ok::<(), Box<dyn std::error::Error>>(())
+    /// ```
     ///
     /// # Errors
     ///
@@ -362,6 +463,20 @@ impl Commands {
 
     /// All that can be read of the world, as a system of a frame reads it.
     ///
+    /// ```
+    /// use forgeni::{Handle, View, World};
+    ///
+    /// fn oldest(view: &View<'_>) -> Option<Handle> {
+    ///     view.by_birth().ok()?.first().copied()
+    /// }
+    ///
+    /// let mut world = World::new();
+    /// let oak = world.spawn(&[])?;
+    /// let (_open, systems) = world.open(1)?;
+    /// assert_eq!(oldest(&systems[0].view()), Some(oak));
+    /// # Ok::<(), Box<dyn std::error::Error>>(())
+    /// ```
+    ///
     /// <details><summary>Contract</summary>
     ///
     /// In the words of the folder `specs/` of crate `ent_total`:
@@ -379,6 +494,15 @@ impl Commands {
     }
 
     /// Whether it is of this phase.
+    ///
+    /// ```
+    /// use forgeni::World;
+    ///
+    /// let (one, systems) = World::new().open(1)?;
+    /// let (other, _) = World::new().open(1)?;
+    /// assert!(systems[0].is_of(&one) && !systems[0].is_of(&other));
+    /// # Ok::<(), Box<dyn std::error::Error>>(())
+    /// ```
     ///
     /// <details><summary>Contract</summary>
     ///
@@ -398,6 +522,18 @@ impl Commands {
 
     /// Which of the systems it is: its position in the list that the phase began with, from 0.
     /// Births and faults count systems by the order of their queues at the close instead.
+    ///
+    /// ```
+    /// use forgeni::World;
+    ///
+    /// // The systems run in any order, and each has a name by its number.
+    /// const NAMES: [&str; 2] = ["move", "burn"];
+    ///
+    /// let (_open, systems) = World::new().open(2)?;
+    /// let names = systems.iter().rev().map(|one| NAMES[one.number()]);
+    /// assert_eq!(names.collect::<Vec<_>>(), ["burn", "move"]);
+    /// # Ok::<(), Box<dyn std::error::Error>>(())
+    /// ```
     ///
     /// <details><summary>Contract</summary>
     ///

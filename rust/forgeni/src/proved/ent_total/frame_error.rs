@@ -6,6 +6,23 @@ use core::error::Error;
 use core::fmt;
 
 /// Why a frame wasn't completed.
+///
+/// ```
+/// use forgeni::{run_frame, FrameError, OutOfMemory, SystemCommands, View, World};
+///
+/// fn breaks(_: &View<'_>, commands: &mut SystemCommands<'_>) -> Result<(), OutOfMemory> {
+///     let _reserved = commands.spawn_with(&[]);
+///     Err(OutOfMemory)
+/// }
+///
+/// let mut world = World::new();
+/// assert!(matches!(run_frame(&mut world, &[breaks], 1), Err(FrameError::Lost)));
+/// // What it reserved has to be born before the next frame.
+/// assert!(matches!(run_frame(&mut world, &[breaks], 1), Err(FrameError::NeedsFlush)));
+/// world.flush()?;
+/// assert_eq!(world.len(), 1);
+/// # Ok::<(), Box<dyn std::error::Error>>(())
+/// ```
 #[non_exhaustive]
 #[derive(Debug)]
 pub enum FrameError {

@@ -14,6 +14,25 @@ use crate::kit::sync::Arc;
 /// [`close`](OpenWorld::close).
 ///
 /// It may go to another thread, and so may the [`Commands`](crate::proved::ent_total::Commands) of its systems.
+///
+/// ```
+/// use forgeni::World;
+///
+/// let mut world = World::new();
+/// let oak = world.spawn(&[])?;
+/// let (open, systems) = world.open(2)?;
+/// let queues = std::thread::scope(|scope| {
+///     let run = |mut commands: forgeni::Commands| {
+///         let _out_of_memory = if open.contains(oak) { commands.despawn(oak) } else { Ok(()) };
+///         commands.finish()
+///     };
+///     let threads: Vec<_> = systems.into_iter().map(|it| scope.spawn(move || run(it))).collect();
+///     threads.into_iter().map(|it| it.join().expect("no panic")).collect()
+/// });
+/// let (mut world, queues) = open.close(queues)?;
+/// assert_eq!((world.apply(queues)?.faults.len(), world.len()), (1, 0));
+/// # Ok::<(), Box<dyn std::error::Error>>(())
+/// ```
 #[must_use]
 pub struct OpenWorld {
     of_world: u64,
@@ -70,6 +89,20 @@ impl OpenWorld {
 
     /// The value of the entity's component, if the entity is alive and has it.
     ///
+    /// ```
+    /// use forgeni::{ComponentId, World};
+    ///
+    /// const AGE: ComponentId = ComponentId(0);
+    ///
+    /// let mut world = World::new();
+    /// let oak = world.spawn(&[(AGE, 80)])?;
+    /// let (open, mut systems) = world.open(1)?;
+    /// systems[0].insert(oak, &[(AGE, 81)])?;
+    /// // It is 81 after the sync point.
+    /// assert_eq!(open.get(oak, AGE), Some(80));
+    /// # Ok::<(), Box<dyn std::error::Error>>(())
+    /// ```
+    ///
     /// <details><summary>Contract</summary>
     ///
     /// In the words of the folder `specs/` of crate `ent_total`:
@@ -86,6 +119,16 @@ impl OpenWorld {
     }
 
     /// When and by whom the entity was brought to life, if it is alive.
+    ///
+    /// ```
+    /// use forgeni::World;
+    ///
+    /// let mut world = World::new();
+    /// let (oak, lime) = (world.spawn(&[])?, world.spawn(&[])?);
+    /// let (open, _systems) = world.open(1)?;
+    /// assert!(open.birth(oak) < open.birth(lime));
+    /// # Ok::<(), Box<dyn std::error::Error>>(())
+    /// ```
     ///
     /// <details><summary>Contract</summary>
     ///
@@ -104,6 +147,17 @@ impl OpenWorld {
 
     /// Whether the entity is alive. What the systems spawn isn't yet.
     ///
+    /// ```
+    /// use forgeni::World;
+    ///
+    /// let mut world = World::new();
+    /// let oak = world.spawn(&[])?;
+    /// let (open, mut systems) = world.open(1)?;
+    /// let new = systems[0].spawn(&[])?;
+    /// assert!(open.contains(oak) && !open.contains(new));
+    /// # Ok::<(), Box<dyn std::error::Error>>(())
+    /// ```
+    ///
     /// <details><summary>Contract</summary>
     ///
     /// In the words of the folder `specs/` of crate `ent_total`:
@@ -120,6 +174,18 @@ impl OpenWorld {
     }
 
     /// The handles of all entities, by birth and then by handle. The time is that of a sort.
+    ///
+    /// ```
+    /// use forgeni::World;
+    ///
+    /// let mut world = World::new();
+    /// let (oak, lime) = (world.spawn(&[])?, world.spawn(&[])?);
+    /// let (open, _systems) = world.open(4)?;
+    /// // Any thread may draw the world while systems run.
+    /// let drawn = std::thread::scope(|scope| scope.spawn(|| open.by_birth()).join());
+    /// assert_eq!(drawn.expect("no panic")?, [oak, lime]);
+    /// # Ok::<(), Box<dyn std::error::Error>>(())
+    /// ```
     ///
     /// # Errors
     ///
@@ -142,6 +208,19 @@ impl OpenWorld {
 
     /// All that can be read of the world, as a system of a frame reads it.
     ///
+    /// ```
+    /// use forgeni::{ComponentId, World};
+    ///
+    /// const AGE: ComponentId = ComponentId(0);
+    ///
+    /// let mut world = World::new();
+    /// world.spawn(&[])?;
+    /// let oak = world.spawn(&[(AGE, 80)])?;
+    /// let (open, _systems) = world.open(1)?;
+    /// assert_eq!(open.view().with(AGE)?, [oak]);
+    /// # Ok::<(), Box<dyn std::error::Error>>(())
+    /// ```
+    ///
     /// <details><summary>Contract</summary>
     ///
     /// In the words of the folder `specs/` of crate `ent_total`:
@@ -160,6 +239,14 @@ impl OpenWorld {
 
     /// How many systems the phase has.
     ///
+    /// ```
+    /// use forgeni::World;
+    ///
+    /// let (open, systems) = World::new().open(4)?;
+    /// assert_eq!((open.count(), systems.len()), (4, 4));
+    /// # Ok::<(), Box<dyn std::error::Error>>(())
+    /// ```
+    ///
     /// <details><summary>Contract</summary>
     ///
     /// In the words of the folder `specs/` of crate `ent_total`:
@@ -176,6 +263,20 @@ impl OpenWorld {
     }
 
     /// How many systems have come back: a close that was refused kept their queues.
+    ///
+    /// ```
+    /// use forgeni::World;
+    ///
+    /// let (open, mut systems) = World::new().open(2)?;
+    /// let late = systems.pop();
+    /// let queues = systems.into_iter().map(|one| one.finish()).collect();
+    /// // A system is still at work. The phase keeps the queue of the other.
+    /// let refused = open.close_lost(queues).err().ok_or("it was closed")?;
+    /// let ((open, _), _) = refused.into_parts();
+    /// assert_eq!(open.returned(), 1);
+    /// drop(late);
+    /// # Ok::<(), Box<dyn std::error::Error>>(())
+    /// ```
     ///
     /// <details><summary>Contract</summary>
     ///

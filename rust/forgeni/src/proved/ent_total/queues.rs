@@ -5,6 +5,18 @@ use core::fmt;
 
 /// The queues of a phase or of a frame, in the order of their effect, for one
 /// [`apply`](crate::proved::ent_total::World::apply) of the world whose phase it was.
+///
+/// ```
+/// use forgeni::{SyncError, World};
+///
+/// let mut world = World::new();
+/// let (spawned, queues) = world.phase(1, |_open, systems| systems[0].spawn(&[]))?;
+/// // They are of this world, and another one refuses them.
+/// let refused = World::new().apply(queues);
+/// let Err(SyncError::OtherWorld(queues)) = refused else { return Err("it took them".into()) };
+/// assert_eq!(world.apply(queues)?.born, [spawned?]);
+/// # Ok::<(), Box<dyn std::error::Error>>(())
+/// ```
 #[must_use]
 pub struct Queues {
     world: u64,
@@ -22,6 +34,15 @@ impl Queues {
 
     /// How many queues there are.
     ///
+    /// ```
+    /// use forgeni::World;
+    ///
+    /// let mut world = World::new();
+    /// let ((), queues) = world.phase(4, |_open, _systems| ())?;
+    /// assert_eq!(queues.len(), 4);
+    /// # Ok::<(), Box<dyn std::error::Error>>(())
+    /// ```
+    ///
     /// <details><summary>Contract</summary>
     ///
     /// In the words of the folder `specs/` of crate `ent_total`:
@@ -38,6 +59,15 @@ impl Queues {
     }
 
     /// Whether there is none.
+    ///
+    /// ```
+    /// use forgeni::{Queues, Report, SyncError, World};
+    ///
+    /// fn report(world: &mut World, queues: Queues) -> Result<Report, SyncError> {
+    ///     debug_assert!(!queues.is_empty(), "a phase has at least one system");
+    ///     world.apply(queues)
+    /// }
+    /// ```
     ///
     /// <details><summary>Contract</summary>
     ///

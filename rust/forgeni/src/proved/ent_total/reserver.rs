@@ -84,6 +84,19 @@ impl Reserver {
 
     /// Which of the reservers it is: its position in the list in which they were given out, from 0.
     ///
+    /// ```
+    /// use forgeni::Entities;
+    ///
+    /// let (_shared, reservers) = Entities::new().share(3)?;
+    /// // Each thread writes into a list of its own.
+    /// let mut lists = vec![Vec::new(); 3];
+    /// for mut reserver in reservers.into_iter().rev() {
+    ///     lists[reserver.number()] = reserver.reserve_many(2)?;
+    /// }
+    /// assert_eq!(lists[2][0].index(), 0);
+    /// # Ok::<(), Box<dyn std::error::Error>>(())
+    /// ```
+    ///
     /// <details><summary>Contract</summary>
     ///
     /// In the words of the folder `specs/` of crate `ent_total`:
@@ -102,6 +115,15 @@ impl Reserver {
     /// How many handles it may still request in this phase: 2^40 less what it has requested, served
     /// or not.
     ///
+    /// ```
+    /// use forgeni::Entities;
+    ///
+    /// let (_shared, mut reservers) = Entities::new().share(1)?;
+    /// reservers[0].reserve_many(1_000)?;
+    /// assert_eq!(reservers[0].quota_left(), (1 << 40) - 1_000);
+    /// # Ok::<(), Box<dyn std::error::Error>>(())
+    /// ```
+    ///
     /// <details><summary>Contract</summary>
     ///
     /// In the words of the folder `specs/` of crate `ent_total`:
@@ -119,6 +141,16 @@ impl Reserver {
 
     /// How many reservers the phase has.
     ///
+    /// ```
+    /// use forgeni::Entities;
+    ///
+    /// let (_shared, reservers) = Entities::new().share(4)?;
+    /// // A quarter of the work for each.
+    /// let shares = reservers.iter().map(|one| 1_000 / one.count());
+    /// assert_eq!(shares.sum::<usize>(), 1_000);
+    /// # Ok::<(), Box<dyn std::error::Error>>(())
+    /// ```
+    ///
     /// <details><summary>Contract</summary>
     ///
     /// In the words of the folder `specs/` of crate `ent_total`:
@@ -135,6 +167,15 @@ impl Reserver {
     }
 
     /// Whether it is of this phase.
+    ///
+    /// ```
+    /// use forgeni::Entities;
+    ///
+    /// let (one, reservers) = Entities::new().share(1)?;
+    /// let (other, _) = Entities::new().share(1)?;
+    /// assert!(reservers[0].is_of(&one) && !reservers[0].is_of(&other));
+    /// # Ok::<(), Box<dyn std::error::Error>>(())
+    /// ```
     ///
     /// <details><summary>Contract</summary>
     ///
@@ -154,6 +195,17 @@ impl Reserver {
 
     /// Whether the entity was alive when the phase was opened, as [`Shared::is_alive`] says it.
     ///
+    /// ```
+    /// use forgeni::Entities;
+    ///
+    /// let mut entities = Entities::new();
+    /// let old = entities.alloc()?;
+    /// let (_shared, mut reservers) = entities.share(1)?;
+    /// let new = reservers[0].reserve()?;
+    /// assert!(reservers[0].is_alive(old) && !reservers[0].is_alive(new));
+    /// # Ok::<(), Box<dyn std::error::Error>>(())
+    /// ```
+    ///
     /// <details><summary>Contract</summary>
     ///
     /// In the words of the folder `specs/` of crate `ent_total`:
@@ -170,6 +222,17 @@ impl Reserver {
     }
 
     /// The row of the entity when the phase was opened, as [`Shared::row`] says it.
+    ///
+    /// ```
+    /// use forgeni::Entities;
+    ///
+    /// let mut entities = Entities::new();
+    /// let cart = entities.alloc()?;
+    /// entities.try_set_row(cart, 7)?;
+    /// let (_shared, reservers) = entities.share(1)?;
+    /// assert_eq!(reservers[0].row(cart), Some(7));
+    /// # Ok::<(), Box<dyn std::error::Error>>(())
+    /// ```
     ///
     /// <details><summary>Contract</summary>
     ///
@@ -188,6 +251,17 @@ impl Reserver {
     }
 
     /// The entities that were alive when the phase was opened, as [`Shared::iter`] has them.
+    ///
+    /// ```
+    /// use forgeni::Entities;
+    ///
+    /// let mut entities = Entities::new();
+    /// let (cart, horse) = (entities.alloc()?, entities.alloc()?);
+    /// let (_shared, mut reservers) = entities.share(1)?;
+    /// reservers[0].reserve()?;
+    /// assert_eq!(reservers[0].iter().collect::<Vec<_>>(), [cart, horse]);
+    /// # Ok::<(), Box<dyn std::error::Error>>(())
+    /// ```
     ///
     /// <details><summary>Contract</summary>
     ///

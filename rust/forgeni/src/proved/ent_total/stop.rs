@@ -2,6 +2,15 @@
 
 /// Where a sync point stopped because memory ran out. All births have taken effect, and of the
 /// commands just those before.
+///
+/// ```
+/// use forgeni::{Stop, Stopped};
+///
+/// fn says(stopped: &Stopped) -> String {
+///     let Stop { system, command, done } = stopped.stop();
+///     format!("no memory at command {command} of system {system}, after {done} of its handles")
+/// }
+/// ```
 #[derive(Clone, Copy, Debug, PartialEq, Eq, Hash)]
 pub struct Stop {
     /// The number of the queue among those that are applied, from 0.

@@ -9,6 +9,23 @@ use core::fmt;
 /// the queues, which [`go_on`](Stopped::go_on) takes up from there.
 ///
 /// All births have taken effect, and of the commands just those before the one that is named.
+///
+/// ```
+/// use forgeni::{Queues, SyncError, World};
+/// use std::error::Error;
+///
+/// fn apply(world: &mut World, queues: Queues, cache: Vec<u8>) -> Result<usize, Box<dyn Error>> {
+///     match world.apply(queues) {
+///         Err(SyncError::Stopped(stopped)) => {
+///             drop(cache); // so that there is memory again
+///             let before = stopped.so_far().faults.len();
+///             Ok(before + stopped.go_on(world)?.faults.len())
+///         }
+///         applied => Ok(applied?.faults.len()),
+///     }
+/// }
+/// # Ok::<(), Box<dyn std::error::Error>>(())
+/// ```
 #[must_use]
 pub struct Stopped {
     queues: Queues,
@@ -31,6 +48,15 @@ impl Stopped {
 
     /// Where it stopped.
     ///
+    /// ```
+    /// use forgeni::Stopped;
+    ///
+    /// /// Whether a system's commands have all taken effect.
+    /// fn is_done(stopped: &Stopped, system: usize) -> bool {
+    ///     system < stopped.stop().system
+    /// }
+    /// ```
+    ///
     /// <details><summary>Contract</summary>
     ///
     /// In the words of the folder `specs/` of crate `ent_total`:
@@ -47,6 +73,19 @@ impl Stopped {
     }
 
     /// What was done before it stopped, since the sync point began or went on.
+    ///
+    /// ```
+    /// use forgeni::{Queues, Report, SyncError, World};
+    ///
+    /// fn apply(world: &mut World, queues: Queues) -> Result<Report, SyncError> {
+    ///     let applied = world.apply(queues);
+    ///     if let Err(SyncError::Stopped(stopped)) = &applied {
+    ///         // All births have taken effect, so the game may give them values.
+    ///         println!("{} were born", stopped.so_far().born.len());
+    ///     }
+    ///     applied
+    /// }
+    /// ```
     ///
     /// <details><summary>Contract</summary>
     ///

@@ -9,6 +9,21 @@ use core::fmt;
 
 /// A world that is open in blocks: each of its callers reserves from a block of its own. It can be
 /// read, as it was when it was opened. The phase ends by [`close`](WorldInBlocks::close).
+///
+/// ```
+/// use forgeni::World;
+///
+/// let (open, mut reservers) = World::new().open_in_blocks(&[10; 4])?;
+/// std::thread::scope(|scope| {
+///     for mine in &mut reservers {
+///         scope.spawn(|| open.blocks().reserve_many(mine, 10));
+///     }
+/// });
+/// let mut world = open.close(reservers)?;
+/// world.flush()?;
+/// assert_eq!(world.len(), 40);
+/// # Ok::<(), Box<dyn std::error::Error>>(())
+/// ```
 #[must_use]
 pub struct WorldInBlocks {
     pub(super) world: crate::proved::ent_world::WorldInBlocks,
@@ -18,6 +33,17 @@ pub struct WorldInBlocks {
 
 impl WorldInBlocks {
     /// The blocks from which callers reserve, each with a [`BlockReserver`] of its own.
+    ///
+    /// ```
+    /// use forgeni::World;
+    ///
+    /// let (open, mut reservers) = World::new().open_in_blocks(&[10, 10])?;
+    /// let one = open.blocks().reserve(&mut reservers[1])?;
+    /// let mut world = open.close(reservers)?;
+    /// world.flush()?;
+    /// assert!(world.contains(one) && one.index() == 10);
+    /// # Ok::<(), Box<dyn std::error::Error>>(())
+    /// ```
     ///
     /// <details><summary>Contract</summary>
     ///
@@ -35,6 +61,18 @@ impl WorldInBlocks {
     }
 
     /// All that can be read of the world, as a system of a frame reads it.
+    ///
+    /// ```
+    /// use forgeni::{ComponentId, World};
+    ///
+    /// const AGE: ComponentId = ComponentId(0);
+    ///
+    /// let mut world = World::new();
+    /// let oak = world.spawn(&[(AGE, 80)])?;
+    /// let (open, _reservers) = world.open_in_blocks(&[10])?;
+    /// assert_eq!(open.view().get(oak, AGE), Some(80));
+    /// # Ok::<(), Box<dyn std::error::Error>>(())
+    /// ```
     ///
     /// <details><summary>Contract</summary>
     ///
@@ -54,6 +92,18 @@ impl WorldInBlocks {
 
     /// Ends the phase with all its reservers, in their order. What they reserved is reserved in the
     /// world, and what is left of their blocks is given next, in the same order.
+    ///
+    /// ```
+    /// use forgeni::World;
+    ///
+    /// let (open, mut reservers) = World::new().open_in_blocks(&[2, 2])?;
+    /// open.blocks().reserve(&mut reservers[0])?;
+    /// let mut world = open.close(reservers)?;
+    /// world.flush()?;
+    /// // What is left of the blocks is given next.
+    /// assert_eq!((world.len(), world.spawn(&[])?.index()), (1, 1));
+    /// # Ok::<(), Box<dyn std::error::Error>>(())
+    /// ```
     ///
     /// # Errors
     ///
@@ -118,6 +168,18 @@ impl WorldInBlocks {
 
     /// Ends the phase although some reservers are lost. What is left of a lost one's block counts as
     /// reserved too: a [`World::flush`] brings it to life, without components.
+    ///
+    /// ```
+    /// use forgeni::World;
+    ///
+    /// let (open, mut reservers) = World::new().open_in_blocks(&[3, 4])?;
+    /// // A thread has panicked, and nobody knows what its reserver gave.
+    /// drop(reservers.pop());
+    /// let mut world = open.close_lost(reservers)?;
+    /// world.flush()?;
+    /// assert_eq!(world.len(), 4);
+    /// # Ok::<(), Box<dyn std::error::Error>>(())
+    /// ```
     ///
     /// # Errors
     ///

@@ -7,6 +7,16 @@ use crate::kit::alloc::AllocError;
 
 /// Why bytes were not read as the image of a world: the first fault that they have, in this order. The
 /// version is looked at only if there are as many bytes as stand before the allocator's part.
+///
+/// ```
+/// use forgeni::{World, WorldImageFault};
+///
+/// let mut image = Vec::new();
+/// World::new().write_image(&mut image)?;
+/// // A download that broke off.
+/// assert_eq!(World::read_image(&image[..30]).err(), Some(WorldImageFault::Length));
+/// # Ok::<(), Box<dyn std::error::Error>>(())
+/// ```
 #[derive(Clone, Copy, Debug, PartialEq, Eq, Hash)]
 #[non_exhaustive]
 pub enum WorldImageFault {

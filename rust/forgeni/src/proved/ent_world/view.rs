@@ -5,6 +5,25 @@ use crate::proved::ent_handle::{Birth, ComponentId, Handle, Memory};
 use crate::proved::ent_storage::Storage;
 
 /// What a system may read of a world while others reserve: the world as it was opened.
+///
+/// ```
+/// use forgeni::{run_frame, ComponentId, OutOfMemory, SystemCommands, View, World};
+///
+/// const HEAT: ComponentId = ComponentId(0);
+///
+/// fn warn(view: &View<'_>, commands: &mut SystemCommands<'_>) -> Result<(), OutOfMemory> {
+///     let hot = view.with(HEAT)?;
+///     let hot = hot.iter().filter(|it| view.get(**it, HEAT) > Some(90));
+///     hot.map(|it| commands.despawn(*it)).collect()
+/// }
+///
+/// let mut world = World::new();
+/// world.spawn(&[(HEAT, 95)])?;
+/// world.spawn(&[(HEAT, 20)])?;
+/// run_frame(&mut world, &[warn], 1)?;
+/// assert_eq!(world.len(), 1);
+/// # Ok::<(), Box<dyn std::error::Error>>(())
+/// ```
 pub struct View<'a> {
     storage: &'a Storage,
     phase: u64,
@@ -19,6 +38,17 @@ impl<'a> View<'a> {
     }
 
     /// Whether the entity is alive.
+    ///
+    /// ```
+    /// use forgeni::World;
+    ///
+    /// let mut world = World::new();
+    /// let (oak, lime) = (world.spawn(&[])?, world.spawn(&[])?);
+    /// world.despawn(lime)?;
+    /// let (open, _systems) = world.open(1)?;
+    /// assert!(open.view().contains(oak) && !open.view().contains(lime));
+    /// # Ok::<(), Box<dyn std::error::Error>>(())
+    /// ```
     ///
     /// <details><summary>Contract</summary>
     ///
@@ -36,6 +66,19 @@ impl<'a> View<'a> {
 
     /// The value of the entity's component, if the entity is alive and has it.
     ///
+    /// ```
+    /// use forgeni::{ComponentId, World};
+    ///
+    /// const AGE: ComponentId = ComponentId(0);
+    /// const SIZE: ComponentId = ComponentId(1);
+    ///
+    /// let mut world = World::new();
+    /// let oak = world.spawn(&[(AGE, 80)])?;
+    /// let (open, _systems) = world.open(1)?;
+    /// assert_eq!((open.view().get(oak, AGE), open.view().get(oak, SIZE)), (Some(80), None));
+    /// # Ok::<(), Box<dyn std::error::Error>>(())
+    /// ```
+    ///
     /// <details><summary>Contract</summary>
     ///
     /// In the words of the folder `specs/` of crate `ent_world`:
@@ -52,6 +95,19 @@ impl<'a> View<'a> {
 
     /// When and by whom the entity was brought to life, if it is alive.
     ///
+    /// ```
+    /// use forgeni::World;
+    ///
+    /// let mut world = World::new();
+    /// let (spawned, queues) = world.phase(2, |_open, systems| systems[1].spawn(&[]))?;
+    /// world.apply(queues)?;
+    /// let (open, _systems) = world.open(1)?;
+    /// // The first one that system 1 spawned in frame 0.
+    /// let birth = open.view().birth(spawned?);
+    /// assert_eq!(birth.map(|it| (it.frame, it.system, it.ordinal)), Some((0, 1, 0)));
+    /// # Ok::<(), Box<dyn std::error::Error>>(())
+    /// ```
+    ///
     /// <details><summary>Contract</summary>
     ///
     /// In the words of the folder `specs/` of crate `ent_world`:
@@ -67,6 +123,23 @@ impl<'a> View<'a> {
     }
 
     /// The handles of the entities that have the component, by birth and then by handle.
+    ///
+    /// ```
+    /// use forgeni::{run_frame, ComponentId, OutOfMemory, SystemCommands, View, World};
+    ///
+    /// const AGE: ComponentId = ComponentId(0);
+    ///
+    /// fn count(view: &View<'_>, _: &mut SystemCommands<'_>) -> Result<(), OutOfMemory> {
+    ///     assert_eq!(view.with(AGE)?.len(), 1);
+    ///     Ok(())
+    /// }
+    ///
+    /// let mut world = World::new();
+    /// world.spawn(&[(AGE, 80)])?;
+    /// world.spawn(&[])?;
+    /// run_frame(&mut world, &[count], 1)?;
+    /// # Ok::<(), Box<dyn std::error::Error>>(())
+    /// ```
     ///
     /// # Errors
     ///
@@ -89,6 +162,19 @@ impl<'a> View<'a> {
     }
 
     /// The handles of all entities, by birth and then by handle. The time is that of a sort.
+    ///
+    /// ```
+    /// use forgeni::World;
+    ///
+    /// let mut world = World::new();
+    /// let (oak, lime) = (world.spawn(&[])?, world.spawn(&[])?);
+    /// world.despawn(oak)?;
+    /// let elm = world.spawn(&[])?;
+    /// let (open, _systems) = world.open(1)?;
+    /// // The elm has the slot of the oak, but was born last.
+    /// assert_eq!(open.view().by_birth()?, [lime, elm]);
+    /// # Ok::<(), Box<dyn std::error::Error>>(())
+    /// ```
     ///
     /// # Errors
     ///
@@ -114,6 +200,18 @@ impl<'a> View<'a> {
     ///
     /// It takes no memory. The time is that of a look at each entity.
     ///
+    /// ```
+    /// use forgeni::{Birth, World};
+    ///
+    /// // A name that is the same on each machine, whatever the handle is.
+    /// let birth = Birth { frame: 0, system: 3, ordinal: 0 };
+    /// let mut world = World::new();
+    /// let oak = world.spawn_with_birth(birth, &[])?;
+    /// let (open, _systems) = world.open(1)?;
+    /// assert_eq!(open.view().of_birth(birth), Some(oak));
+    /// # Ok::<(), Box<dyn std::error::Error>>(())
+    /// ```
+    ///
     /// <details><summary>Contract</summary>
     ///
     /// In the words of the folder `specs/` of crate `ent_world`:
@@ -135,6 +233,17 @@ impl<'a> View<'a> {
     }
 
     /// How often the world was flushed before it was opened.
+    ///
+    /// ```
+    /// use forgeni::World;
+    ///
+    /// let mut world = World::new();
+    /// world.flush()?;
+    /// world.flush()?;
+    /// let (open, _systems) = world.open(1)?;
+    /// assert_eq!(open.view().phase(), 2);
+    /// # Ok::<(), Box<dyn std::error::Error>>(())
+    /// ```
     ///
     /// <details><summary>Contract</summary>
     ///

@@ -119,6 +119,17 @@ impl Checker {
     ///
     /// It counts to 2^64 − 1, and stays there.
     ///
+    /// ```
+    /// use forgeni::{trace, Limits};
+    ///
+    /// let mut checker = trace::Checker::new(Limits::GREATEST);
+    /// for _ in 0..10 {
+    ///     checker.len(0)?;
+    /// }
+    /// assert_eq!(checker.calls(), 10);
+    /// # Ok::<(), Box<dyn std::error::Error>>(())
+    /// ```
+    ///
     /// <details><summary>Contract</summary>
     ///
     /// In the words of the folder `specs/` of crate `ent_replay`:
@@ -135,6 +146,16 @@ impl Checker {
     }
 
     /// Why it has stopped, if it has.
+    ///
+    /// ```
+    /// use forgeni::{trace, Limits};
+    ///
+    /// let mut checker = trace::Checker::new(Limits::GREATEST);
+    /// // A game may go on, and look once a frame.
+    /// let _first = checker.len(1);
+    /// let _later = checker.len(0);
+    /// assert!(checker.error().is_some_and(|it| it.to_string().starts_with("differs line 1")));
+    /// ```
     ///
     /// <details><summary>Contract</summary>
     ///

@@ -9,10 +9,28 @@ use crate::proved::ent_replay::trace::reply::ReserveReply;
 use crate::proved::ent_replay::trace::reservation::Reservation;
 use crate::proved::ent_handle::Memory;
 
-/// The reservations of one caller, in its order.
+/// What one caller reserved, in its order.
 ///
-/// Each thread has a log of its own, and appends to it without a lock. A log has no times: the
-/// checker needs none.
+/// Each thread has one of its own, and appends to it without a lock. It keeps no time: the checker
+/// needs none.
+///
+/// ```
+/// use forgeni::trace::{Checker, Log};
+/// use forgeni::{Entities, Limits};
+///
+/// let (shared, mut reservers) = Entities::new().share(2)?;
+/// let mut logs = [Log::new(0), Log::new(1)];
+/// std::thread::scope(|scope| {
+///     for (log, reserver) in logs.iter_mut().zip(&mut reservers) {
+///         scope.spawn(|| log.push(1, reserver.reserve().expect("a handle")));
+///     }
+/// });
+/// let mut checker = Checker::new(Limits::GREATEST.keeping_placeholder());
+/// logs.iter_mut().try_for_each(|log| checker.join(log))?;
+/// checker.finish()?;
+/// let _entities = shared.close(reservers)?;
+/// # Ok::<(), Box<dyn std::error::Error>>(())
+/// ```
 #[derive(Debug, Clone, PartialEq, Eq, Hash)]
 #[repr(align(128))]
 pub struct Log {
@@ -22,6 +40,14 @@ pub struct Log {
 
 impl Log {
     /// The empty log of this caller. It takes no memory.
+    ///
+    /// ```
+    /// use forgeni::trace;
+    ///
+    /// // One for each thread, in a vector by its number.
+    /// let logs: Vec<_> = (0..8).map(trace::Log::new).collect();
+    /// assert_eq!(logs[3].caller(), 3);
+    /// ```
     ///
     /// <details><summary>Contract</summary>
     ///
@@ -41,7 +67,7 @@ impl Log {
         }
     }
 
-    /// The caller whose log it is.
+    /// Whose log it is.
     ///
     /// <details><summary>Contract</summary>
     ///
@@ -58,7 +84,17 @@ impl Log {
         self.caller
     }
 
-    /// The reservations that aren't joined yet.
+    /// What was reserved and is not joined yet.
+    ///
+    /// ```
+    /// use forgeni::{trace, Handle};
+    ///
+    /// let mut log = trace::Log::new(0);
+    /// log.push(1, "0v1".parse::<Handle>()?)?;
+    /// log.push(2, trace::ReserveReply::Space)?;
+    /// assert_eq!(log.reservations().iter().map(|it| it.requested).sum::<u32>(), 3);
+    /// # Ok::<(), Box<dyn std::error::Error>>(())
+    /// ```
     ///
     /// <details><summary>Contract</summary>
     ///
@@ -75,7 +111,18 @@ impl Log {
         &self.reservations
     }
 
-    /// Appends a reservation of that many handles, with its answer.
+    /// Appends a reservation of so many handles, with its answer.
+    ///
+    /// ```
+    /// use forgeni::{trace, Entities};
+    ///
+    /// let (shared, mut reservers) = Entities::new().share(1)?;
+    /// let mut log = trace::Log::new(0);
+    /// log.push(10, reservers[0].reserve_many(10)?)?;
+    /// assert_eq!(log.reservations()[0].requested, 10);
+    /// let _entities = shared.close(reservers)?;
+    /// # Ok::<(), Box<dyn std::error::Error>>(())
+    /// ```
     ///
     /// # Errors
     ///

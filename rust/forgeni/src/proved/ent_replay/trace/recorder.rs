@@ -54,6 +54,14 @@ impl Recorder {
     /// A recorder of an allocator that has given nothing, with a log for each of so many callers. They
     /// are numbered from 0.
     ///
+    /// ```
+    /// use forgeni::{trace, Limits};
+    ///
+    /// let mut recorder = trace::Recorder::new(Limits::new(1_000, 4).unwrap(), 8)?;
+    /// assert_eq!((recorder.logs().len(), recorder.calls()), (8, 0));
+    /// # Ok::<(), Box<dyn std::error::Error>>(())
+    /// ```
+    ///
     /// # Errors
     ///
     /// `Memory`: out of memory.
@@ -84,6 +92,17 @@ impl Recorder {
 
     /// A log for each caller.
     ///
+    /// ```
+    /// use forgeni::{trace, Handle, Limits};
+    ///
+    /// let mut recorder = trace::Recorder::new(Limits::GREATEST, 2)?;
+    /// // What thread 1 reserved came first.
+    /// recorder.logs()[0].push(1, "1v1".parse::<Handle>()?)?;
+    /// recorder.logs()[1].push(1, "0v1".parse::<Handle>()?)?;
+    /// recorder.finish()?;
+    /// # Ok::<(), Box<dyn std::error::Error>>(())
+    /// ```
+    ///
     /// <details><summary>Contract</summary>
     ///
     /// In the words of the folder `specs/` of crate `ent_replay`:
@@ -101,6 +120,17 @@ impl Recorder {
 
     /// How many calls were taken, with those of the logs that were joined.
     ///
+    /// ```
+    /// use forgeni::{trace, Handle, Limits};
+    ///
+    /// let mut recorder = trace::Recorder::new(Limits::GREATEST, 2)?;
+    /// recorder.logs()[0].push(1, "0v1".parse::<Handle>()?)?;
+    /// assert_eq!(recorder.calls(), 0);
+    /// recorder.len(0)?;
+    /// assert_eq!(recorder.calls(), 2);
+    /// # Ok::<(), Box<dyn std::error::Error>>(())
+    /// ```
+    ///
     /// <details><summary>Contract</summary>
     ///
     /// In the words of the folder `specs/` of crate `ent_replay`:
@@ -117,6 +147,16 @@ impl Recorder {
     }
 
     /// Joins the logs, and takes this call.
+    ///
+    /// ```
+    /// use forgeni::trace::{Call, Recorder};
+    /// use forgeni::Limits;
+    ///
+    /// let mut recorder = Recorder::new(Limits::GREATEST, 1)?;
+    /// recorder.call(Call::Alloc(None))?; // its answer isn't known
+    /// recorder.call(Call::Len(Some(1)))?;
+    /// # Ok::<(), Box<dyn std::error::Error>>(())
+    /// ```
     ///
     /// # Errors
     ///
@@ -142,6 +182,15 @@ impl Recorder {
 
     /// Takes a call for a handle that is alive at once.
     ///
+    /// ```
+    /// use forgeni::{trace, Handle, Limits};
+    ///
+    /// let mut recorder = trace::Recorder::new(Limits::new(1, 1).unwrap(), 1)?;
+    /// recorder.alloc("0v1".parse::<Handle>()?)?;
+    /// recorder.alloc(trace::AllocReply::Space)?;
+    /// # Ok::<(), Box<dyn std::error::Error>>(())
+    /// ```
+    ///
     /// # Errors
     ///
     /// As of [`call`](Self::call).
@@ -164,6 +213,16 @@ impl Recorder {
     }
 
     /// Takes a call that freed a handle.
+    ///
+    /// ```
+    /// use forgeni::{trace, Handle, Limits};
+    ///
+    /// let mut recorder = trace::Recorder::new(Limits::GREATEST, 1)?;
+    /// let cart: Handle = "0v1".parse()?;
+    /// recorder.alloc(cart)?;
+    /// recorder.free(cart, trace::FreeReply::Next("0v2".parse()?))?;
+    /// # Ok::<(), Box<dyn std::error::Error>>(())
+    /// ```
     ///
     /// # Errors
     ///
@@ -189,6 +248,16 @@ impl Recorder {
 
     /// Takes a flush. The answer is the handles that came to life, or how many they were.
     ///
+    /// ```
+    /// use forgeni::{trace, Handle, Limits};
+    ///
+    /// let mut recorder = trace::Recorder::new(Limits::GREATEST, 1)?;
+    /// let cart: Handle = "0v1".parse()?;
+    /// recorder.logs()[0].push(1, cart)?;
+    /// recorder.flush([cart])?;
+    /// # Ok::<(), Box<dyn std::error::Error>>(())
+    /// ```
+    ///
     /// # Errors
     ///
     /// As of [`call`](Self::call).
@@ -211,6 +280,17 @@ impl Recorder {
     }
 
     /// Takes a call for the state of a handle.
+    ///
+    /// ```
+    /// use forgeni::{trace, Handle, Limits, State};
+    ///
+    /// let mut recorder = trace::Recorder::new(Limits::GREATEST, 1)?;
+    /// let cart: Handle = "0v1".parse()?;
+    /// recorder.state(cart, State::Gone)?;
+    /// recorder.alloc(cart)?;
+    /// recorder.state(cart, State::Alive)?;
+    /// # Ok::<(), Box<dyn std::error::Error>>(())
+    /// ```
     ///
     /// # Errors
     ///
@@ -236,6 +316,16 @@ impl Recorder {
 
     /// Takes a call for the number of living handles.
     ///
+    /// ```
+    /// use forgeni::{trace, Handle, Limits};
+    ///
+    /// let mut recorder = trace::Recorder::new(Limits::GREATEST, 1)?;
+    /// recorder.alloc("0v1".parse::<Handle>()?)?;
+    /// recorder.logs()[0].push(1, "1v1".parse::<Handle>()?)?;
+    /// recorder.len(1)?; // what is reserved isn't alive
+    /// # Ok::<(), Box<dyn std::error::Error>>(())
+    /// ```
+    ///
     /// # Errors
     ///
     /// As of [`call`](Self::call).
@@ -258,6 +348,16 @@ impl Recorder {
     }
 
     /// Joins the logs, ends the trace, and compares the last reservations.
+    ///
+    /// ```
+    /// use forgeni::{trace, Handle, Limits};
+    ///
+    /// let mut recorder = trace::Recorder::new(Limits::GREATEST, 2)?;
+    /// recorder.logs()[1].push(1, "1v1".parse::<Handle>()?)?;
+    /// // Nobody reserved 0v1, which comes first.
+    /// assert!(recorder.finish().is_err());
+    /// # Ok::<(), Box<dyn std::error::Error>>(())
+    /// ```
     ///
     /// # Errors
     ///

@@ -6,6 +6,17 @@ use crate::proved::ent_replay::trace::reply::ReserveReply;
 use crate::proved::ent_handle::Memory;
 
 /// One reservation of one caller.
+///
+/// ```
+/// use forgeni::trace::{Checker, Reservation};
+/// use forgeni::{Handle, Limits};
+///
+/// // What two threads wrote down, in whatever order.
+/// let one = Reservation::new(0, 1, "1v1".parse::<Handle>()?);
+/// let other = Reservation::new(1, 1, "0v1".parse::<Handle>()?);
+/// Checker::new(Limits::GREATEST).run(vec![one, other])?;
+/// # Ok::<(), Box<dyn std::error::Error>>(())
+/// ```
 #[derive(Debug, Clone, PartialEq, Eq, Hash)]
 pub struct Reservation {
     /// The number of its call, from 1. A [`Checker`](crate::proved::ent_replay::trace::Checker) numbers what it takes.
@@ -21,6 +32,13 @@ pub struct Reservation {
 impl Reservation {
     /// The reservation of that many handles by this caller, with its answer. It has no number yet,
     /// so its number is 0.
+    ///
+    /// ```
+    /// use forgeni::trace;
+    ///
+    /// let one = trace::Reservation::new(3, 2, trace::ReserveReply::Space);
+    /// assert_eq!(trace::Call::Reserve(one).to_string(), "reserve 3 2 => space");
+    /// ```
     ///
     /// <details><summary>Contract</summary>
     ///

@@ -11,8 +11,46 @@ use crate::proved::ent_world::View;
 /// One value of it may run on any worker, so what it knows of the world is what the view says. In plain
 /// Rust a function is a system, and so is a closure: `system` tells Rust the types of its parameters.
 /// Systems of several types go into one list in boxes, or behind `&dyn System<S>`.
+///
+/// ```
+/// use forgeni::{run_frame, Handle, OutOfMemory, System, SystemCommands, View, World};
+///
+/// struct Despawn(Handle);
+///
+/// impl System for Despawn {
+///     fn run(&self, view: &View<'_>, out: &mut SystemCommands<'_>) -> Result<(), OutOfMemory> {
+///         if view.contains(self.0) { out.despawn(self.0) } else { Ok(()) }
+///     }
+/// }
+///
+/// let mut world = World::new();
+/// let cart = world.spawn(&[])?;
+/// run_frame(&mut world, &[Despawn(cart)], 1)?;
+/// assert!(world.is_empty());
+/// # Ok::<(), Box<dyn std::error::Error>>(())
+/// ```
 pub trait System<S: Source = crate::proved::ent_shared::Shared> {
     /// Runs it once.
+    ///
+    /// ```
+    /// use forgeni::{run_frame, ComponentId, OutOfMemory, SystemCommands, View, World};
+    ///
+    /// const AGE: ComponentId = ComponentId(0);
+    ///
+    /// fn grow(view: &View<'_>, commands: &mut SystemCommands<'_>) -> Result<(), OutOfMemory> {
+    ///     for one in view.with(AGE)? {
+    ///         let age = view.get(one, AGE).unwrap_or(0);
+    ///         commands.insert_with(one, &[(AGE, age + 1)])?;
+    ///     }
+    ///     Ok(())
+    /// }
+    ///
+    /// let mut world = World::new();
+    /// let oak = world.spawn(&[(AGE, 80)])?;
+    /// run_frame(&mut world, &[grow], 1)?;
+    /// assert_eq!(world.get(oak, AGE), Some(81));
+    /// # Ok::<(), Box<dyn std::error::Error>>(())
+    /// ```
     ///
     /// # Errors
     ///

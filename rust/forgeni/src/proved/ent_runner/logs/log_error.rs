@@ -1,6 +1,22 @@
 // Made of crates/ent_runner/src/logs/log_error.rt by rust/erase. It isn't edited by hand.
 
 /// Why systems filled no logs. The allocator is in its place again.
+///
+/// ```
+/// use forgeni::{run_logs, Entities, LogCommands, LogError, OutOfMemory};
+///
+/// fn idle(_: &mut LogCommands<'_, ()>) -> Result<(), OutOfMemory> {
+///     Ok(())
+/// }
+///
+/// let mut entities = Entities::new();
+/// entities.request()?;
+/// assert_eq!(run_logs(&mut entities, &[idle], 2).err(), Some(LogError::NeedsFlush));
+/// entities.flush(&mut Vec::new())?;
+/// assert_eq!(run_logs(&mut entities, &[idle], 65).err(), Some(LogError::Workers));
+/// assert!(run_logs(&mut entities, &[idle], 2).is_ok());
+/// # Ok::<(), Box<dyn std::error::Error>>(())
+/// ```
 #[non_exhaustive]
 #[derive(Clone, Copy, Debug, PartialEq, Eq, Hash)]
 pub enum LogError {

@@ -9,8 +9,39 @@ use crate::proved::ent_queue::Commands;
 /// shared allocator, or blocks.
 ///
 /// One value of it may run on any worker.
+///
+/// ```
+/// use forgeni::{run_logs, Entities, Entry, LogCommands, LogSystem, OutOfMemory};
+///
+/// struct Says(&'static str);
+///
+/// impl LogSystem<&'static str> for Says {
+///     fn run(&self, commands: &mut LogCommands<'_, &'static str>) -> Result<(), OutOfMemory> {
+///         commands.push(self.0)
+///     }
+/// }
+///
+/// let logs = run_logs(&mut Entities::new(), &[Says("one"), Says("two")], 2)?;
+/// assert_eq!(logs[1].entries(), [Entry::Command("two")]);
+/// # Ok::<(), Box<dyn std::error::Error>>(())
+/// ```
 pub trait LogSystem<C, S: Source = crate::proved::ent_shared::Shared> {
     /// Runs it once.
+    ///
+    /// ```
+    /// use forgeni::{run_logs, Entities, Handle, LogCommands, OutOfMemory};
+    ///
+    /// fn launch(commands: &mut LogCommands<'_, (Handle, String)>) -> Result<(), OutOfMemory> {
+    ///     match commands.spawn() {
+    ///         Ok(drone) => commands.push((drone, String::from("drone"))),
+    ///         Err(refused) => refused.or_memory(),
+    ///     }
+    /// }
+    ///
+    /// let logs = run_logs(&mut Entities::new(), &[launch; 3], 2)?;
+    /// assert!(logs.iter().all(|log| log.len() == 2));
+    /// # Ok::<(), Box<dyn std::error::Error>>(())
+    /// ```
     ///
     /// # Errors
     ///

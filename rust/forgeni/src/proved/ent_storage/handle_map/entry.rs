@@ -7,6 +7,18 @@ use core::mem;
 /// What a map has for one handle: a value, or none.
 ///
 /// [`HandleMap::entry`](super::HandleMap::entry) makes it, and an example is there.
+///
+/// ```
+/// use forgeni::handle_map::{Entry, HandleMap};
+///
+/// let mut names = HandleMap::new();
+/// let said = match names.entry("0v1".parse()?) {
+///     Entry::Occupied(entry) => format!("{} again", entry.get()),
+///     Entry::Vacant(entry) => format!("{} is new", entry.insert("Ada")?),
+/// };
+/// assert_eq!(said, "Ada is new");
+/// # Ok::<(), Box<dyn std::error::Error>>(())
+/// ```
 pub enum Entry<'a, T> {
     /// The handle has a value.
     Occupied(OccupiedEntry<'a, T>),
@@ -15,12 +27,40 @@ pub enum Entry<'a, T> {
 }
 
 /// A handle that has a value, with its map.
+///
+/// ```
+/// use forgeni::handle_map::{Entry, HandleMap};
+///
+/// let mut left = HandleMap::new();
+/// let fuse = "0v1".parse()?;
+/// left.insert(fuse, 1)?;
+/// if let Entry::Occupied(mut entry) = left.entry(fuse) {
+///     *entry.get_mut() -= 1;
+///     if *entry.get() == 0 {
+///         entry.remove();
+///     }
+/// }
+/// assert!(left.is_empty());
+/// # Ok::<(), Box<dyn std::error::Error>>(())
+/// ```
 pub struct OccupiedEntry<'a, T> {
     pub(super) map: &'a mut HandleMap<T>,
     pub(super) handle: Handle,
 }
 
 /// A handle that has no value, with its map.
+///
+/// ```
+/// use forgeni::handle_map::{Entry, HandleMap};
+///
+/// let mut names = HandleMap::new();
+/// if let Entry::Vacant(entry) = names.entry("3v2".parse()?) {
+///     let name = format!("entity {}", entry.handle());
+///     entry.insert(name)?;
+/// }
+/// assert!(names.values().eq(["entity 3v2"]));
+/// # Ok::<(), Box<dyn std::error::Error>>(())
+/// ```
 pub struct VacantEntry<'a, T> {
     pub(super) map: &'a mut HandleMap<T>,
     pub(super) handle: Handle,
@@ -28,6 +68,17 @@ pub struct VacantEntry<'a, T> {
 
 impl<'a, T> Entry<'a, T> {
     /// The handle.
+    ///
+    /// ```
+    /// use forgeni::HandleMap;
+    ///
+    /// let mut names: HandleMap<String> = HandleMap::new();
+    /// let entry = names.entry("3v2".parse()?);
+    /// // A name for whoever has none.
+    /// let name = format!("entity {}", entry.handle());
+    /// assert_eq!(entry.or_insert(name)?, "entity 3v2");
+    /// # Ok::<(), Box<dyn std::error::Error>>(())
+    /// ```
     ///
     /// <details><summary>Contract</summary>
     ///
@@ -48,6 +99,18 @@ impl<'a, T> Entry<'a, T> {
     }
 
     /// The value of the handle. If it has none, it is given this one.
+    ///
+    /// ```
+    /// use forgeni::HandleMap;
+    ///
+    /// let mut hits = HandleMap::new();
+    /// let cart = "0v1".parse()?;
+    /// for damage in [3, 4] {
+    ///     *hits.entry(cart).or_insert(0)? += damage;
+    /// }
+    /// assert_eq!(hits[cart], 7);
+    /// # Ok::<(), Box<dyn std::error::Error>>(())
+    /// ```
     ///
     /// # Errors
     ///
@@ -76,6 +139,18 @@ impl<'a, T> Entry<'a, T> {
     }
 
     /// The value of the handle. If it has none, it is given the one that `make` returns.
+    ///
+    /// ```
+    /// use forgeni::HandleMap;
+    ///
+    /// let mut paths: HandleMap<Vec<u32>> = HandleMap::new();
+    /// let cart = "0v1".parse()?;
+    /// for step in [5, 6] {
+    ///     paths.entry(cart).or_insert_with(Vec::new)?.push(step);
+    /// }
+    /// assert_eq!(paths[cart], [5, 6]);
+    /// # Ok::<(), Box<dyn std::error::Error>>(())
+    /// ```
     ///
     /// # Errors
     ///
@@ -113,6 +188,19 @@ impl<'a, T> Entry<'a, T> {
     }
 
     /// Calls `change` on the value, if the handle has one.
+    ///
+    /// ```
+    /// use forgeni::HandleMap;
+    ///
+    /// let mut heats = HandleMap::new();
+    /// let cart = "0v1".parse()?;
+    /// for _ in 0..3 {
+    ///     // It begins at 20, and doubles.
+    ///     heats.entry(cart).and_modify(|heat| *heat *= 2).or_insert(20)?;
+    /// }
+    /// assert_eq!(heats[cart], 80);
+    /// # Ok::<(), Box<dyn std::error::Error>>(())
+    /// ```
     ///
     /// # Panics
     ///
@@ -204,6 +292,24 @@ impl<'a, T> OccupiedEntry<'a, T> {
 
     /// The value, to be changed for as long as the map is lent.
     ///
+    /// ```
+    /// use forgeni::handle_map::{Entry, HandleMap};
+    /// use forgeni::Handle;
+    ///
+    /// /// The health of an entity, if it isn't 0.
+    /// fn living(healths: &mut HandleMap<u32>, of: Handle) -> Option<&mut u32> {
+    ///     match healths.entry(of) {
+    ///         Entry::Occupied(entry) if *entry.get() > 0 => Some(entry.into_mut()),
+    ///         _ => None,
+    ///     }
+    /// }
+    ///
+    /// let cart = "0v1".parse()?;
+    /// let mut healths: HandleMap<u32> = [(cart, 100)].into_iter().collect();
+    /// assert_eq!(living(&mut healths, cart), Some(&mut 100));
+    /// # Ok::<(), Box<dyn std::error::Error>>(())
+    /// ```
+    ///
     /// <details><summary>Contract</summary>
     ///
     /// In the words of the folder `specs/` of crate `ent_storage`:
@@ -223,6 +329,18 @@ impl<'a, T> OccupiedEntry<'a, T> {
 
     /// Gives the handle another value, and returns the one that it had.
     ///
+    /// ```
+    /// use forgeni::handle_map::{Entry, HandleMap};
+    ///
+    /// let cart = "0v1".parse()?;
+    /// let mut names: HandleMap<&str> = [(cart, "cart")].into_iter().collect();
+    /// if let Entry::Occupied(mut entry) = names.entry(cart) {
+    ///     assert_eq!(entry.insert("wreck"), "cart");
+    /// }
+    /// assert_eq!(names[cart], "wreck");
+    /// # Ok::<(), Box<dyn std::error::Error>>(())
+    /// ```
+    ///
     /// <details><summary>Contract</summary>
     ///
     /// In the words of the folder `specs/` of crate `ent_storage`:
@@ -239,6 +357,19 @@ impl<'a, T> OccupiedEntry<'a, T> {
     }
 
     /// Removes the value, and returns it.
+    ///
+    /// ```
+    /// use forgeni::handle_map::{Entry, HandleMap};
+    ///
+    /// let cart = "0v1".parse()?;
+    /// let mut names: HandleMap<String> = [(cart, "cart".into())].into_iter().collect();
+    /// if let Entry::Occupied(entry) = names.entry(cart) {
+    ///     // The value itself, without a clone.
+    ///     let name: String = entry.remove();
+    ///     assert_eq!(name, "cart");
+    /// }
+    /// # Ok::<(), Box<dyn std::error::Error>>(())
+    /// ```
     ///
     /// <details><summary>Contract</summary>
     ///
@@ -282,6 +413,19 @@ impl<'a, T> VacantEntry<'a, T> {
     }
 
     /// Gives the handle its value. If an earlier occupant of the slot has one, that is dropped.
+    ///
+    /// ```
+    /// use forgeni::handle_map::{Entry, HandleMap};
+    ///
+    /// let mut healths = HandleMap::new();
+    /// let cart = "0v1".parse()?;
+    /// if let Entry::Vacant(entry) = healths.entry(cart) {
+    ///     let health = entry.insert(100)?;
+    ///     *health -= 30;
+    /// }
+    /// assert_eq!(healths[cart], 70);
+    /// # Ok::<(), Box<dyn std::error::Error>>(())
+    /// ```
     ///
     /// # Errors
     ///

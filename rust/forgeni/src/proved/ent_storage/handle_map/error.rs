@@ -1,6 +1,18 @@
 // Made of crates/ent_storage/src/handle_map/error.rt by rust/erase. It isn't edited by hand.
 
 /// Why [`HandleMap::insert`](super::HandleMap::insert) inserted nothing. The map is as it was.
+///
+/// ```
+/// use forgeni::{HandleMap, InsertError};
+///
+/// let mut names = HandleMap::new();
+/// let (old, new) = ("7v1".parse()?, "7v2".parse()?);
+/// names.insert(new, "Ada")?;
+/// // A late message names who had the slot before. It can't take the place of Ada.
+/// let refused = names.insert(old, "Bob").err().ok_or("it was inserted")?;
+/// assert_eq!(*refused.error(), InsertError::Later);
+/// # Ok::<(), Box<dyn std::error::Error>>(())
+/// ```
 #[derive(Clone, Copy, Debug, PartialEq, Eq, Hash)]
 #[non_exhaustive]
 pub enum InsertError {

@@ -8,6 +8,18 @@ use core::mem;
 /// What a sparse map has for one handle: a value, or none.
 ///
 /// [`SparseMap::entry`](super::SparseMap::entry) makes it.
+///
+/// ```
+/// use forgeni::sparse_map::{Entry, SparseMap};
+///
+/// let mut names = SparseMap::new();
+/// let said = match names.entry("0v1".parse()?) {
+///     Entry::Occupied(entry) => format!("{} again", entry.get()),
+///     Entry::Vacant(entry) => format!("{} is new", entry.insert("Ada")?),
+/// };
+/// assert_eq!(said, "Ada is new");
+/// # Ok::<(), Box<dyn std::error::Error>>(())
+/// ```
 pub enum Entry<'a, T> {
     /// The handle has a value.
     Occupied(OccupiedEntry<'a, T>),
@@ -16,12 +28,40 @@ pub enum Entry<'a, T> {
 }
 
 /// A handle that has a value, with its map.
+///
+/// ```
+/// use forgeni::sparse_map::{Entry, SparseMap};
+///
+/// let mut left = SparseMap::new();
+/// let fuse = "0v1".parse()?;
+/// left.insert(fuse, 1)?;
+/// if let Entry::Occupied(mut entry) = left.entry(fuse) {
+///     *entry.get_mut() -= 1;
+///     if *entry.get() == 0 {
+///         entry.remove();
+///     }
+/// }
+/// assert!(left.is_empty());
+/// # Ok::<(), Box<dyn std::error::Error>>(())
+/// ```
 pub struct OccupiedEntry<'a, T> {
     pub(super) map: &'a mut SparseMap<T>,
     pub(super) handle: Handle,
 }
 
 /// A handle that has no value, with its map.
+///
+/// ```
+/// use forgeni::sparse_map::{Entry, SparseMap};
+///
+/// let mut names = SparseMap::new();
+/// if let Entry::Vacant(entry) = names.entry("3v2".parse()?) {
+///     let name = format!("entity {}", entry.handle());
+///     entry.insert(name)?;
+/// }
+/// assert!(names.values().eq(["entity 3v2"]));
+/// # Ok::<(), Box<dyn std::error::Error>>(())
+/// ```
 pub struct VacantEntry<'a, T> {
     pub(super) map: &'a mut SparseMap<T>,
     pub(super) handle: Handle,
@@ -29,6 +69,17 @@ pub struct VacantEntry<'a, T> {
 
 impl<'a, T> Entry<'a, T> {
     /// The handle.
+    ///
+    /// ```
+    /// use forgeni::SparseMap;
+    ///
+    /// let mut names: SparseMap<String> = SparseMap::new();
+    /// let entry = names.entry("3v2".parse()?);
+    /// // A name for whoever has none.
+    /// let name = format!("entity {}", entry.handle());
+    /// assert_eq!(entry.or_insert(name)?, "entity 3v2");
+    /// # Ok::<(), Box<dyn std::error::Error>>(())
+    /// ```
     ///
     /// <details><summary>Contract</summary>
     ///
@@ -49,6 +100,18 @@ impl<'a, T> Entry<'a, T> {
     }
 
     /// The value of the handle. If it has none, it is given this one.
+    ///
+    /// ```
+    /// use forgeni::SparseMap;
+    ///
+    /// let mut hits = SparseMap::new();
+    /// let cart = "0v1".parse()?;
+    /// for damage in [3, 4] {
+    ///     *hits.entry(cart).or_insert(0)? += damage;
+    /// }
+    /// assert_eq!(hits[cart], 7);
+    /// # Ok::<(), Box<dyn std::error::Error>>(())
+    /// ```
     ///
     /// # Errors
     ///
@@ -77,6 +140,18 @@ impl<'a, T> Entry<'a, T> {
     }
 
     /// The value of the handle. If it has none, it is given the one that `make` returns.
+    ///
+    /// ```
+    /// use forgeni::SparseMap;
+    ///
+    /// let mut paths: SparseMap<Vec<u32>> = SparseMap::new();
+    /// let cart = "0v1".parse()?;
+    /// for step in [5, 6] {
+    ///     paths.entry(cart).or_insert_with(Vec::new)?.push(step);
+    /// }
+    /// assert_eq!(paths[cart], [5, 6]);
+    /// # Ok::<(), Box<dyn std::error::Error>>(())
+    /// ```
     ///
     /// # Errors
     ///
@@ -114,6 +189,19 @@ impl<'a, T> Entry<'a, T> {
     }
 
     /// Calls `change` on the value, if the handle has one.
+    ///
+    /// ```
+    /// use forgeni::SparseMap;
+    ///
+    /// let mut heats = SparseMap::new();
+    /// let cart = "0v1".parse()?;
+    /// for _ in 0..3 {
+    ///     // It begins at 20, and doubles.
+    ///     heats.entry(cart).and_modify(|heat| *heat *= 2).or_insert(20)?;
+    /// }
+    /// assert_eq!(heats[cart], 80);
+    /// # Ok::<(), Box<dyn std::error::Error>>(())
+    /// ```
     ///
     /// # Panics
     ///
@@ -205,6 +293,24 @@ impl<'a, T> OccupiedEntry<'a, T> {
 
     /// The value, to be changed for as long as the map is lent.
     ///
+    /// ```
+    /// use forgeni::sparse_map::{Entry, SparseMap};
+    /// use forgeni::Handle;
+    ///
+    /// /// The shield of an entity, if it isn't 0.
+    /// fn whole(shields: &mut SparseMap<u32>, of: Handle) -> Option<&mut u32> {
+    ///     match shields.entry(of) {
+    ///         Entry::Occupied(entry) if *entry.get() > 0 => Some(entry.into_mut()),
+    ///         _ => None,
+    ///     }
+    /// }
+    ///
+    /// let knight = "0v1".parse()?;
+    /// let mut shields = SparseMap::from([(knight, 100)]);
+    /// assert_eq!(whole(&mut shields, knight), Some(&mut 100));
+    /// # Ok::<(), Box<dyn std::error::Error>>(())
+    /// ```
+    ///
     /// <details><summary>Contract</summary>
     ///
     /// In the words of the folder `specs/` of crate `ent_storage`:
@@ -224,6 +330,18 @@ impl<'a, T> OccupiedEntry<'a, T> {
 
     /// Gives the handle another value, and returns the one that it had.
     ///
+    /// ```
+    /// use forgeni::sparse_map::{Entry, SparseMap};
+    ///
+    /// let cart = "0v1".parse()?;
+    /// let mut names = SparseMap::from([(cart, "cart")]);
+    /// if let Entry::Occupied(mut entry) = names.entry(cart) {
+    ///     assert_eq!(entry.insert("wreck"), "cart");
+    /// }
+    /// assert_eq!(names[cart], "wreck");
+    /// # Ok::<(), Box<dyn std::error::Error>>(())
+    /// ```
+    ///
     /// <details><summary>Contract</summary>
     ///
     /// In the words of the folder `specs/` of crate `ent_storage`:
@@ -240,6 +358,19 @@ impl<'a, T> OccupiedEntry<'a, T> {
     }
 
     /// Removes the value, and returns it.
+    ///
+    /// ```
+    /// use forgeni::sparse_map::{Entry, SparseMap};
+    ///
+    /// let cart = "0v1".parse()?;
+    /// let mut names = SparseMap::from([(cart, String::from("cart"))]);
+    /// if let Entry::Occupied(entry) = names.entry(cart) {
+    ///     // The value itself, without a clone.
+    ///     let name: String = entry.remove();
+    ///     assert_eq!(name, "cart");
+    /// }
+    /// # Ok::<(), Box<dyn std::error::Error>>(())
+    /// ```
     ///
     /// <details><summary>Contract</summary>
     ///
@@ -283,6 +414,19 @@ impl<'a, T> VacantEntry<'a, T> {
     }
 
     /// Gives the handle its value. If an earlier occupant of the slot has one, that is dropped.
+    ///
+    /// ```
+    /// use forgeni::sparse_map::{Entry, SparseMap};
+    ///
+    /// let mut shields = SparseMap::new();
+    /// let knight = "0v1".parse()?;
+    /// if let Entry::Vacant(entry) = shields.entry(knight) {
+    ///     let shield = entry.insert(100)?;
+    ///     *shield -= 30;
+    /// }
+    /// assert_eq!(shields[knight], 70);
+    /// # Ok::<(), Box<dyn std::error::Error>>(())
+    /// ```
     ///
     /// # Errors
     ///
