@@ -4,7 +4,7 @@ use crate::numbers::next_number;
 use crate::phase::closed;
 use crate::proved::ent_total::share;
 use crate::shown::shows;
-use crate::{Entities, HandedBack};
+use crate::{Entities, HandedBack, SharedSource};
 use alloc::vec::Vec;
 
 pub use crate::proved::ent_total::{CloseError, OtherPhase, Reserver, ShareError, Shared};
@@ -59,5 +59,6 @@ impl Entities {
 
 shows! {
     Shared: count returned;
+    SharedSource: count len;
     Reserver: number quota_left;
 }
