@@ -417,7 +417,7 @@ impl<T: Drop> SparseMap<T> {
     ///
     /// If there is room for the slot ([`slots`](Self::slots)) and for one value more
     /// ([`capacity`](Self::capacity)), or the slot has a value, it takes no memory, and constant
-    /// time.
+    /// time. If not, it takes room for all slots up to that of the handle, and for an eighth more.
     ///
     /// ```
     /// use forgeni::{Handle, InsertError, SparseMap};

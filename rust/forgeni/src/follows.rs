@@ -152,6 +152,8 @@ tuples_follow!(A a B b C c D d E e F f G g H h);
 /// - `forget(handle)` and `despawn(&mut entities, handle)`, those of [`Follows`];
 /// - `sweep(&entities)`, which drops the values of all handles that are neither alive nor reserved. Call it
 ///   after entities were freed elsewhere, or a save was read: see [`AnyMap::sweep`](crate::AnyMap::sweep);
+/// - `stale(&entities)`, which returns the name of a map and a handle of it that `sweep` would drop, if
+///   there is one, for who refuses such a save;
 /// - `clear()`, which drops all values, and `lens()`, which returns the name of each map and how
 ///   many values it has;
 /// - `try_clone()` and `try_clone_from(&source)`, if the values are `Clone`: a snapshot, and the
@@ -223,6 +225,16 @@ macro_rules! tables {
             /// Drops the values of all handles that are neither alive nor reserved.
             $seen fn sweep(&mut self, entities: &$crate::Entities) {
                 $($crate::AnyMap::sweep(&mut self.$map, entities);)+
+            }
+
+            /// A map that has a value of a handle that is neither alive nor reserved, by its name, and
+            /// the handle.
+            $seen fn stale(
+                &self,
+                entities: &$crate::Entities,
+            ) -> ::core::option::Option<(&'static str, $crate::Handle)> {
+                let maps = [$((stringify!($map), $crate::AnyMap::stale(&self.$map, entities))),+];
+                maps.into_iter().find_map(|(name, one)| Some((name, one?)))
             }
 
             /// Drops all values. The room stays.

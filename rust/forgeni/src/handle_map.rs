@@ -135,6 +135,15 @@ pub trait AnyMap:
     /// Drops all values. The room stays.
     fn clear(&mut self);
 
+    /// A handle that has a value and is neither alive nor reserved, if there is one: the first in the
+    /// order of [`iter`](Self::iter).
+    ///
+    /// It is for who refuses a save whose maps name others than its allocator.
+    fn stale(&self, entities: &Entities) -> Option<Handle> {
+        let mut handles = self.iter().map(|(one, _)| one);
+        handles.find(|one| !entities.contains(*one))
+    }
+
     /// Drops the values of all handles that are neither alive nor reserved.
     ///
     /// Call it after entities were freed elsewhere, or after a map was read from a save: it drops

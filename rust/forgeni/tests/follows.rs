@@ -136,6 +136,18 @@ fn random_calls_whose_values_panic() {
                 }
                 _ => {}
             }
+            let names = ["first", "second", "rare"].into_iter();
+            let stale = names.zip(&model).find_map(|(name, map)| {
+                let gone = |one: &Handle| !entities.contains(*one);
+                Some((name, map.keys().copied().filter(gone).collect::<Vec<_>>()))
+                    .filter(|(_, gone)| !gone.is_empty())
+            });
+            match (parts.stale(&entities), stale) {
+                (Some((name, one)), Some((map, gone))) => {
+                    assert!(name == map && gone.contains(&one), "{place}");
+                }
+                (told, stale) => assert!(told.is_none() && stale.is_none(), "{place}"),
+            }
             assert_eq!(all(&parts), model, "{place}");
             assert_eq!(all(&saved.0), saved.1, "{place}");
             let lens = [model[0].len(), model[1].len(), model[2].len()];

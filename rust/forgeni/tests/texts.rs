@@ -6,8 +6,8 @@ use forgeni::trace::{Log, Recorder, Reservation, ReserveReply};
 use forgeni::{
     handle_map, sparse_map, Absent, AllocError, Birth, CloseError, Commands, ComponentId, Entities,
     Fault, FaultKind, FreeError, Freed, Handle, HandleMap, InsertError, Limits, OtherPhase,
-    OutOfMemory, ParseHandleError, Refused, ReserveError, ShareError, SparseMap, State, Stop,
-    Storage, StorageError, SyncError, World,
+    OutOfMemory, ParseHandleError, Refused, ReserveError, ShareError, SharedSource, SparseMap,
+    State, Stop, Storage, StorageError, SyncError, World,
 };
 use std::fmt::{Debug, Display};
 
@@ -26,6 +26,9 @@ fn debugs<'a>(cases: impl IntoIterator<Item = (&'a dyn Debug, &'a str)>) {
         assert_eq!(format!("{shown:?}"), text);
     }
 }
+
+/// A program has no value of this type, and gives it to others as a parameter.
+const _: fn(&SharedSource) -> &dyn Debug = |source| source;
 
 const MEMORY: &str = "out of memory";
 const NEEDS_FLUSH: &str = "a flush is needed first";
