@@ -5,7 +5,7 @@ use crate::proved::ent_alloc::space::Space;
 use crate::proved::ent_handle::Memory;
 use crate::kit::alloc::AllocError;
 
-/// Why a call gave no handle that reserves handles and keeps them in a list or a queue.
+/// Why a call that reserves handles, and keeps them in a list or a queue, gave none.
 ///
 /// ```
 /// use forgeni::{Entities, Limits, ReserveError};

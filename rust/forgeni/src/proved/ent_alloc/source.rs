@@ -6,8 +6,8 @@ use crate::proved::ent_handle::Handle;
 
 /// An allocator in a phase, which serves the requests of its reservers.
 ///
-/// What a system fills from it, and what runs the system, depend on no more than this says: whichever
-/// source it is, it is one type of systems.
+/// What a system fills from it, and what runs the system, depend only on this trait. So one type of
+/// system works with every source.
 ///
 /// ```
 /// use forgeni::{run_frame, OutOfMemory, Source, View, World, WorldCommands};
@@ -23,7 +23,7 @@ use crate::proved::ent_handle::Handle;
 /// # Ok::<(), Box<dyn std::error::Error>>(())
 /// ```
 pub trait Source {
-    /// With what a caller reserves.
+    /// What a caller reserves with.
     type Reserver;
 
     /// Whether the handle was alive when the phase was opened. It takes constant time.

@@ -2,11 +2,12 @@
 
 use core::cmp::Ordering;
 
-/// When and by whom an entity was brought to life. Of what the systems of a world spawn it is a
-/// name of the entity that needs no handle.
+/// When an entity was brought to life, and by which system. A birth names what the systems of a
+/// world spawn, without a handle.
 ///
-/// The order is by frame, then by system, then by ordinal. Births and their order are this
-/// project's own. The fields say what a sync point gives; who spawns without one chooses them.
+/// Births are ordered by frame, then by system, then by ordinal. Births and their order are this
+/// project's own. The fields say what a sync point gives; a caller that spawns without one chooses
+/// them.
 ///
 /// ```
 /// use forgeni::{Birth, World};
@@ -26,9 +27,9 @@ pub struct Birth {
     pub frame: u64,
     /// The first system whose queue lists the entity, counted from 0; 4,294,967,295 if none does.
     pub system: u32,
-    /// How many handles that queue lists before it. If no queue lists the entity: how many that no
-    /// queue lists stand before it in the order of the flush. The greatest is 4,294,967,295, which
-    /// all later ones have too.
+    /// How many handles that queue lists before it. If no queue lists the entity, how many such
+    /// entities come before it in the order of the flush. The greatest ordinal is 4,294,967,295,
+    /// which all later ones have too.
     pub ordinal: u32,
 }
 

@@ -5,7 +5,7 @@ use core::cmp::Ordering;
 /// The number of a component: a kind of data that an entity may have. What it means is up to its
 /// user.
 ///
-/// The order is by number.
+/// Components are ordered by number.
 ///
 /// ```
 /// use forgeni::{ComponentId, World};

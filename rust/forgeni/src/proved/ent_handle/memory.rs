@@ -2,8 +2,8 @@
 
 use crate::kit::alloc::{AllocError, AllocFailed};
 
-/// Out of memory: an allocation really failed, or a call says what else counts as such. It is the
-/// only error of a call that has no other.
+/// Out of memory: an allocation failed, or something else happened that the call says counts as
+/// that. A call without any other error returns this one.
 ///
 /// ```
 /// use forgeni::{Entities, OutOfMemory};

@@ -2,7 +2,7 @@
 
 use crate::proved::ent_handle::Handle;
 
-/// Why a sync point of logs did not begin. Nothing has changed.
+/// Why a sync point of logs didn't begin. Nothing has changed.
 ///
 /// ```
 /// use forgeni::{BeginError, Entities, Log, SyncPoint};

@@ -3,7 +3,7 @@
 use crate::proved::ent_alloc::Refused;
 use crate::proved::ent_handle::Handle;
 
-/// What a [`Log`](crate::proved::ent_log::Log) has of one call, and a sync point hands on.
+/// What a [`Log`](crate::proved::ent_log::Log) keeps of one call, for the sync point to hand on.
 ///
 /// ```
 /// use forgeni::{Entities, Entry, Limits, Log};
@@ -27,6 +27,6 @@ pub enum Entry<C> {
     Spawn(Handle),
     /// Why a spawn returned no handle. Nothing comes to life for it.
     Refused(Refused),
-    /// A command of the caller's.
+    /// A command of the caller.
     Command(C),
 }

@@ -9,10 +9,11 @@ use crate::proved::ent_handle::{Handle, Memory};
 use core::fmt;
 use alloc::vec::IntoIter;
 
-/// What one system spawns and commands, in the order of issue. `C` is the caller's type of commands.
+/// The spawns and commands of one system, in the order of issue. `C` is the caller's type of
+/// commands.
 ///
-/// A [`SyncPoint`](crate::proved::ent_log::SyncPoint) brings to life what was spawned, and hands on the entries. A log
-/// may go to another thread, and several systems of one worker have a log each.
+/// A [`SyncPoint`](crate::proved::ent_log::SyncPoint) brings to life what was spawned, and hands on the entries. A
+/// log can go to another thread. If a worker runs several systems, each has a log.
 ///
 /// ```
 /// use forgeni::{Entities, Log};
@@ -347,7 +348,7 @@ impl<C> Log<C> {
         Ok(())
     }
 
-    /// Drops all entries, and keeps their room. So as many as it had before take no memory.
+    /// Drops all entries, and keeps their room. So adding as many entries again takes no memory.
     ///
     /// ```
     /// use forgeni::Log;

@@ -3,7 +3,7 @@
 use crate::proved::ent_alloc::{Entities, Refused};
 use crate::proved::ent_handle::Handle;
 
-/// Who reserves handles for a [`Log`](crate::proved::ent_log::Log), one at a time.
+/// Reserves handles for a [`Log`](crate::proved::ent_log::Log), one at a time.
 ///
 /// ```
 /// use forgeni::{Entities, Handle, Log, Refused, Reserver, Reserves};
@@ -56,7 +56,7 @@ pub trait Reserves {
     fn reserve_one(&mut self) -> Result<Handle, Refused>;
 }
 
-/// It [requests](Entities::request) the handle, so that one caller alone can fill a log too.
+/// It [requests](Entities::request) the handle, so a single caller can fill a log too.
 impl Reserves for Entities {
     #[inline]
     fn reserve_one(&mut self) -> Result<Handle, Refused> {

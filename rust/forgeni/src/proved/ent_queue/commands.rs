@@ -6,11 +6,11 @@ use crate::proved::ent_alloc::Source;
 use crate::proved::ent_handle::Handle;
 use crate::proved::ent_shared::Shared;
 
-/// Fills what one system fills, with a reserver that is lent to it: the commands of a world, which take
-/// effect when their queue is applied, in a frame at its sync point; or the entries of a log.
+/// What one system fills, with a reserver that is lent to it: the commands of a world, which take
+/// effect when their queue is applied (in a frame, at its sync point), or the entries of a log.
 ///
-/// A spawn reserves its handle at once, so a system knows what it will have spawned. `O` is what is
-/// filled, and `S` the source of the handles.
+/// A spawn reserves its handle at once, so a system knows the handles of what it spawns. `O` is
+/// what is filled, and `S` the source of the handles.
 ///
 /// ```
 /// use forgeni::{run_frame, ComponentId, OutOfMemory, SystemCommands, View, World};
@@ -51,8 +51,8 @@ impl<'a, O: Output, S: Source> Commands<'a, O, S> {
 }
 
 impl<'a, O, S: Source> Commands<'a, O, S> {
-    /// Goes on with what was begun before: what it has stays in front. The reserver may be another one
-    /// than before, of those of the source.
+    /// Goes on with what was begun before, whose entries stay in front. The reserver may be another
+    /// one of the source than before.
     #[inline]
     pub(crate) fn resume(source: &'a S, reserver: &'a mut S::Reserver, output: O) -> Self
         // requires { S.serves source.now reserver.old }
@@ -134,7 +134,7 @@ impl<'a, O, S: Source> Commands<'a, O, S> {
 }
 
 impl<O, S: Source> Commands<'_, O, S> {
-    /// Gives back what was filled, and the reserver to its owner.
+    /// Returns what was filled, and gives the reserver back to its owner.
     ///
     /// <details><summary>Contract</summary>
     ///

@@ -9,10 +9,10 @@ use crate::proved::ent_replay::trace::reply::ReserveReply;
 use crate::proved::ent_replay::trace::reservation::Reservation;
 use crate::proved::ent_handle::Memory;
 
-/// What one caller reserved, in its order.
+/// The reservations of one caller, in its order.
 ///
-/// Each thread has one of its own, and appends to it without a lock. It keeps no time: the checker
-/// needs none.
+/// Each thread has a log of its own, and appends to it without a lock. A log has no times: the
+/// checker needs none.
 ///
 /// ```
 /// use forgeni::trace::{Checker, Log};
@@ -67,7 +67,7 @@ impl Log {
         }
     }
 
-    /// Whose log it is.
+    /// The caller whose log it is.
     ///
     /// <details><summary>Contract</summary>
     ///
@@ -84,7 +84,7 @@ impl Log {
         self.caller
     }
 
-    /// What was reserved and is not joined yet.
+    /// The reservations that aren't joined yet.
     ///
     /// ```
     /// use forgeni::{trace, Handle};
@@ -111,7 +111,7 @@ impl Log {
         &self.reservations
     }
 
-    /// Appends a reservation of so many handles, with its answer.
+    /// Appends a reservation of that many handles, with its answer.
     ///
     /// ```
     /// use forgeni::{trace, Entities};

@@ -6,7 +6,7 @@ use alloc::vec::Vec;
 use crate::proved::ent_replay::handle_list::HandleList;
 use crate::proved::ent_handle::{Handle, Memory};
 
-/// What was answered to a call for a handle that is alive at once.
+/// The answer to a call for a handle that is alive at once.
 ///
 /// ```
 /// use forgeni::trace::{AllocReply, Checker};
@@ -43,7 +43,7 @@ impl From<Handle> for AllocReply {
     }
 }
 
-/// What was answered to a call that frees a handle.
+/// The answer to a call that frees a handle.
 ///
 /// ```
 /// use forgeni::{trace, Handle, Limits};
@@ -69,7 +69,7 @@ pub enum FreeReply {
     NeedsFlush,
 }
 
-/// What was answered to a flush.
+/// The answer to a flush.
 ///
 /// ```
 /// use forgeni::{trace, Handle, Limits};
@@ -109,7 +109,7 @@ impl From<Vec<Handle>> for FlushReply {
     }
 }
 
-/// What was answered to a reservation.
+/// The answer to a reservation.
 ///
 /// ```
 /// use forgeni::{trace, Handle, Limits};
