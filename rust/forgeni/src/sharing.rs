@@ -5,7 +5,7 @@ use crate::phase::closed;
 use crate::proved::ent_shared::Shared as SharedSource;
 use crate::proved::ent_total::share;
 use crate::shown::shows;
-use crate::{Entities, HandedBack, SharedSource};
+use crate::{Entities, HandedBack};
 use alloc::vec::Vec;
 
 pub use crate::proved::ent_total::{CloseError, OtherPhase, Reserver, ShareError, Shared};
