@@ -16,6 +16,6 @@ pub only_memory : {T : Type 0} (r : Result T LineFault) (error : Error) (admitte
 only_memory it error admitted fault kind = search rules
 
 -- and clap's rules find it
-pub found_fault : {T : Type 0} (r : Result T LineFault) (error : Error) (kinds : Kinds) → IsErrAnd r (IsFaultOf error)
-    → HasKind kinds error → IfErr r (IsFaultAmong kinds)
+pub found_fault : {T : Type 0} (r : Result T LineFault) (error : Error) (kinds : Kinds)
+    → IsErrAnd r (IsFaultOf error) → HasKind kinds error → IfErr r (IsFaultAmong kinds)
 found_fault it error kinds fault kind = search rules

@@ -15,9 +15,10 @@ number_gives bits text r = ParsesUnsigned bits 10 text r × ExplainsUnsignedErro
     × HasUnsignedDigitsIfOk text r
 
 -- the number that the getter of an option in range reads
-pub number_read : (bits : ℕ) (option : Text) (most : ℕ) (found : Found) (r : Option ℕ) → most < 2 ^ bits
-    → HasNumber option most (rows_of found) → ((text : Text) → one_text found option ≡ Some text
-    → ReadsOne (number_gives bits) text r) → (n : ℕ) × (r ≡ Some n) × (1 ≤ n) × (n ≤ most)
+pub number_read : (bits : ℕ) (option : Text) (most : ℕ) (found : Found) (r : Option ℕ)
+    → most < 2 ^ bits → HasNumber option most (rows_of found)
+    → ((text : Text) → one_text found option ≡ Some text → ReadsOne (number_gives bits) text r)
+    → (n : ℕ) × (r ≡ Some n) × (1 ≤ n) × (n ≤ most)
     × (option_number option (rows_of found) ≡ Some n)
 number_read bits option most found r fits number reads = search
     (rules, reads (without_minus number.text) (one_text-rows found option ∙ number.is))

@@ -14,8 +14,8 @@ is_option (first ∷ others) = first == 45
 
 -- `answers` says whether words are a command line, or why that isn't known
 module _ {Word Error : Type 0} (answers : List Word → Result Bool Error → Type 0) where
-  -- the last word is a file's name: it is no option, the words before it are a command line, and all of
-  -- them aren't
+  -- the last word is a file's name: it is no option, the words before it are a command line, and
+  -- all of them aren't
   pub record NamesFile (text : Word → List ℕ) (words : List Word) (name : List ℕ) : Type 0 where
     pub before : List Word
     pub last : Word
@@ -25,8 +25,8 @@ module _ {Word Error : Type 0} (answers : List Word → Result Bool Error → Ty
     pub before_are : answers before (Ok true)
     pub all_are_not : answers words (Ok false)
 
-  -- the last word, if there is one, is an option, or it is part of a command line, or the words before it
-  -- aren't one
+  -- the last word, if there is one, is an option, or it is part of a command line, or the words
+  -- before it aren't one
   abbrev pub NamesNone : (Word → List ℕ) → List Word → Type 0
   NamesNone text words = (before : List Word) (last : Word) → words ≡ before ++ last ∷ []
       → (is_option (text last) ≡ true) ⊎ answers words (Ok true) ⊎ answers before (Ok false)

@@ -1,14 +1,23 @@
 -- What a flush brings to life: exactly what was taken. Rows are kept of the living alone, whatever
 -- a call does.
-use Rattle.ent_alloc.proofs.Common.{rules, ◌++◌, get_or, reverse, filter, All, AllPairs, Contains, IsPermutation, ◌⊎◌, All-contains_itself, IsPermutation-refl, IsPermutation-trans, IsPermutation-append, IsPermutation-append_comm, IsPermutation-reverse, IsPermutation-filter_both, All-permutation, Handle, Allocator, after_flush, born, is_old, is_fresh, IsSound, AreApart, IsLive, arith, common_steps, ◌≡◌, ℕ, List, None, IsTrue, handle_cmp, handle_cmp_total, Entities, HasRowsOfLiving}
+use Rattle.ent_alloc.proofs.Common.{rules, ◌++◌, get_or, reverse, filter, All, AllPairs, Contains}
+use Rattle.ent_alloc.proofs.Common.{IsPermutation, ◌⊎◌, All-contains_itself, IsPermutation-refl}
+use Rattle.ent_alloc.proofs.Common.{IsPermutation-trans, IsPermutation-append}
+use Rattle.ent_alloc.proofs.Common.{IsPermutation-append_comm, IsPermutation-reverse}
+use Rattle.ent_alloc.proofs.Common.{IsPermutation-filter_both, All-permutation, Handle, Allocator}
+use Rattle.ent_alloc.proofs.Common.{after_flush, born, is_old, is_fresh, IsSound, AreApart, IsLive}
+use Rattle.ent_alloc.proofs.Common.{arith, common_steps, ◌≡◌, ℕ, List, None, IsTrue, handle_cmp}
+use Rattle.ent_alloc.proofs.Common.{handle_cmp_total, Entities, HasRowsOfLiving}
 use Rattle.std.specs.FinSet as sets
 use Rattle.std.specs.FinMap as maps
 use Rattle.ent_alloc.proofs.ListLaws.{AllPairs-left, AllPairs-IsPermutation, All-left}
-use Rattle.ent_alloc.proofs.HandleSets.{in_union_list, union_list_keeps, union_list_has, same_handle}
+use Rattle.ent_alloc.proofs.HandleSets.{in_union_list, union_list_keeps, union_list_has}
+use Rattle.ent_alloc.proofs.HandleSets.{same_handle}
 use Rattle.ent_alloc.proofs.Replies.{fresh_is_not_old, apart_both, not_apart}
 
 -- who is alive after a flush was alive or was taken
-pub live-after_flush : (s : Allocator) (x : Handle) → IsLive (after_flush s) x → IsLive s x ⊎ Contains s.taken x
+pub live-after_flush : (s : Allocator) (x : Handle) → IsLive (after_flush s) x
+    → IsLive s x ⊎ Contains s.taken x
 live-after_flush s x alive = in_union_list s.live s.taken x alive
 
 -- who was alive stays so
@@ -24,7 +33,9 @@ pub born-IsPermutation : (s : Allocator) → IsPermutation s.taken (born s)
 born-IsPermutation s =
     let old = filter (is_old s.made) s.taken in
     let new = filter (is_fresh s.made) s.taken in
-    let parted = IsPermutation-filter_both (is_old s.made) (is_fresh s.made) (fresh_is_not_old s.made) s.taken in
+    let parted =
+    IsPermutation-filter_both (is_old s.made) (is_fresh s.made) (fresh_is_not_old s.made)
+    s.taken in
     let turned : IsPermutation (new ++ old) (new ++ reverse old) = search
     (rules, IsPermutation-append, IsPermutation-refl, IsPermutation-reverse) in
     search (
@@ -36,8 +47,14 @@ born-IsPermutation s =
 
 -- each that is born is alive then
 pub born-lives : (s : Allocator) → All (IsLive (after_flush s)) (born s)
-born-lives s = search
-    (rules, All-permutation (IsLive (after_flush s)) s.taken (born s), born-IsPermutation, taken-lives, All-contains_itself)
+born-lives s =
+    search (
+      rules,
+      All-permutation (IsLive (after_flush s)) s.taken (born s),
+      born-IsPermutation,
+      taken-lives,
+      All-contains_itself,
+    )
 
 module _ (s : Allocator) (h : IsSound s) where
   -- no two are of one slot
@@ -63,21 +80,23 @@ AreOf live rows = (h : Handle) → ¬ (IsTrue (sets.contains live h)) → maps.g
 pub no_rows : (live : sets.FinSet handle_cmp) → AreOf live maps.empty
 no_rows live h gone = maps.get-empty handle_cmp h
 
-pub rows-joined : (live : sets.FinSet handle_cmp) (more : List Handle) (rows : maps.FinMap handle_cmp ℕ)
-    → AreOf live rows → AreOf (sets.union live (sets.from_list more)) rows
+pub rows-joined : (live : sets.FinSet handle_cmp) (more : List Handle)
+    (rows : maps.FinMap handle_cmp ℕ) → AreOf live rows
+    → AreOf (sets.union live (sets.from_list more)) rows
 rows-joined live more rows kept h gone = kept h (λ alive. gone (union_list_keeps live more h alive))
 
 -- one goes, with its row
-pub rows-removed : (live : sets.FinSet handle_cmp) (x : Handle) (rows : maps.FinMap handle_cmp ℕ) → AreOf live rows
-    → AreOf (sets.remove live x) (maps.remove rows x)
+pub rows-removed : (live : sets.FinSet handle_cmp) (x : Handle) (rows : maps.FinMap handle_cmp ℕ)
+    → AreOf live rows → AreOf (sets.remove live x) (maps.remove rows x)
 rows-removed live x rows kept h gone =
     let removed = maps.get-remove handle_cmp_total rows x h in
     let remains = sets.contains-remove handle_cmp_total live x h in
     grind (arith, common_steps, kept h)
 
 -- one that lives gets a row
-pub rows-inserted : (live : sets.FinSet handle_cmp) (x : Handle) (row : ℕ) (rows : maps.FinMap handle_cmp ℕ)
-    → IsTrue (sets.contains live x) → AreOf live rows → AreOf live (maps.insert rows x row)
+pub rows-inserted : (live : sets.FinSet handle_cmp) (x : Handle) (row : ℕ)
+    (rows : maps.FinMap handle_cmp ℕ) → IsTrue (sets.contains live x) → AreOf live rows
+    → AreOf live (maps.insert rows x row)
 rows-inserted live x row rows lives kept h gone =
     let put = maps.get-insert handle_cmp_total rows x row h in
     grind (arith, common_steps, kept h, same_handle h x)

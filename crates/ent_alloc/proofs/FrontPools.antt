@@ -1,10 +1,27 @@
 -- A pool whose front comes in another order: the allocator stays sound, and the roster stands for
 -- it.
-use Rattle.ent_alloc.proofs.Common.{IsWithin, get_or-append_right, common_steps, IsLive, ◌≡◌, sym, subst, ℕ, ◌+◌, ◌-◌, ◌<◌, ◌≤◌, rules, List, [], ◌++◌, length, take, drop, reverse, All, arith, IsPermutation, refl, get_or, slice_get, Some, ◌∷◌, map, length-map, get_or-map, get_or_append_left, get_or-reverse, get_or_default, length-take-le, drop-append-le, take-append-le, length-drop, drop-take, length-append, length-reverse, append_assoc, take-append-drop, reverse-append, reverse-reverse, slice_get_read, get_or_from_slice_get, Limits, handle_at, roster_of, SlotRecord, cases_lt, All-append, All-take, All-drop, All-permutation, IsPermutation-append_left, IsPermutation-reverse, IsPermutation-trans, Handle, Roster, Allocator, available, top, fresh, IsSound, AreApart, idle, allocator_of, AreReserved, Requests, with_front, slots_of, AreSlotsOf, map-append}
-use Rattle.ent_alloc.proofs.FreshHandles.{first_of_slot, length-fresh, All-fresh, take_joined, drop_joined, get_or-fresh}
+use Rattle.ent_alloc.proofs.Common.{IsWithin, get_or-append_right, common_steps, IsLive, ◌≡◌, sym}
+use Rattle.ent_alloc.proofs.Common.{subst, ℕ, ◌+◌, ◌-◌, ◌<◌, ◌≤◌, rules, List, [], ◌++◌, length}
+use Rattle.ent_alloc.proofs.Common.{take, drop, reverse, All, arith, IsPermutation, refl, get_or}
+use Rattle.ent_alloc.proofs.Common.{slice_get, Some, ◌∷◌, map, length-map, get_or-map}
+use Rattle.ent_alloc.proofs.Common.{get_or_append_left, get_or-reverse, get_or_default}
+use Rattle.ent_alloc.proofs.Common.{length-take-le, drop-append-le, take-append-le, length-drop}
+use Rattle.ent_alloc.proofs.Common.{drop-take, length-append, length-reverse, append_assoc}
+use Rattle.ent_alloc.proofs.Common.{take-append-drop, reverse-append, reverse-reverse}
+use Rattle.ent_alloc.proofs.Common.{slice_get_read, get_or_from_slice_get, Limits, handle_at}
+use Rattle.ent_alloc.proofs.Common.{roster_of, SlotRecord, cases_lt, All-append, All-take, All-drop}
+use Rattle.ent_alloc.proofs.Common.{All-permutation, IsPermutation-append_left}
+use Rattle.ent_alloc.proofs.Common.{IsPermutation-reverse, IsPermutation-trans, Handle, Roster}
+use Rattle.ent_alloc.proofs.Common.{Allocator, available, top, fresh, IsSound, AreApart, idle}
+use Rattle.ent_alloc.proofs.Common.{allocator_of, AreReserved, Requests, with_front, slots_of}
+use Rattle.ent_alloc.proofs.Common.{AreSlotsOf, map-append}
+use Rattle.ent_alloc.proofs.FreshHandles.{first_of_slot, length-fresh, All-fresh, take_joined}
+use Rattle.ent_alloc.proofs.FreshHandles.{drop_joined, get_or-fresh}
 use Rattle.ent_alloc.proofs.LaidOut.{old_ones, IsLaidOut, flushed-laid_out, laid_out-sound}
-use Rattle.ent_alloc.proofs.ListLaws.{All-left, AllPairs-left, AllPairs-IsPermutation, drop-reverse, take-reverse}
-use Rattle.ent_alloc.proofs.Meaning.{top_is, length-idle, pending_below, rest_is, none_is, StandFor, closed}
+use Rattle.ent_alloc.proofs.ListLaws.{All-left, AllPairs-left, AllPairs-IsPermutation, drop-reverse}
+use Rattle.ent_alloc.proofs.ListLaws.{take-reverse}
+use Rattle.ent_alloc.proofs.Meaning.{top_is, length-idle, pending_below, rest_is, none_is, StandFor}
+use Rattle.ent_alloc.proofs.Meaning.{closed}
 
 -- ---- the allocator
 
@@ -44,7 +61,9 @@ module _ (s : Allocator) (hs : List Handle) (sound : IsSound s) (flushed : s.ask
   with_front-sound =
       let P : Handle → Type 0 = λ h. h.index < made in
       let older : All P (old_ones s) = λ k d lt. omega (arith, was.below k d lt) in
-      let both = All-append P (take n (old_ones s)) (fresh s.made (n - top s)) (All-take P n (old_ones s) older)
+      let both =
+      All-append P (take n (old_ones s)) (fresh s.made (n - top s))
+      (All-take P n (old_ones s) older)
       (All-fresh P s.made (n - top s) (λ k lt. omega arith)) in
       let front : All P hs = search (
         rules,
@@ -57,11 +76,15 @@ module _ (s : Allocator) (hs : List Handle) (sound : IsSound s) (flushed : s.ask
       let over : made ≤ s.limits.slots = omega (arith, long, was.made) in
       let below = All-append P hs (drop n (old_ones s)) front (All-drop P n (old_ones s) older) in
       let apart = AllPairs-left AreApart old (fresh made (s.limits.slots - made))
-      (rw (← pool_is) (AllPairs-IsPermutation AreApart (λ g h ne e. ne (sym e)) s.pool (hs ++ drop n s.pool) moved
+      (rw (← pool_is)
+      (AllPairs-IsPermutation AreApart (λ g h ne e. ne (sym e)) s.pool (hs ++ drop n s.pool)
+      moved
       (rw all at sound.apart))) in
-      let live_apart = λ (h : Handle) (alive : IsLive s h). each (AreApart h) (sound.live h alive).apart in
+      let live_apart =
+      λ (h : Handle) (alive : IsLive s h). each (AreApart h) (sound.live h alive).apart in
       let it = was in
-      laid_out-sound (with_front s hs) old (search (rules, arith, pool_is, each (IsWithin s.limits)))
+      laid_out-sound (with_front s hs) old
+      (search (rules, arith, pool_is, each (IsWithin s.limits)))
 
 -- ---- the roster
 
@@ -73,7 +96,8 @@ grown r more = record r { pending = r.pending ++ fresh r.made more; made = r.mad
 abbrev pub turned : Roster → List Handle → Roster
 turned r hs = record r { pending = take (length r.pending - length hs) r.pending ++ reverse hs }
 
-module _ (r : Roster) (hs : List Handle) (sound : IsSound (allocator_of r 0 0)) (few : length hs ≤ length (idle r))
+module _ (r : Roster) (hs : List Handle) (sound : IsSound (allocator_of r 0 0))
+    (few : length hs ≤ length (idle r))
     (same : IsPermutation (take (length hs) (idle r)) hs) where
   abbrev pub more : ℕ
   more = length hs - length r.pending
@@ -96,7 +120,8 @@ module _ (r : Roster) (hs : List Handle) (sound : IsSound (allocator_of r 0 0)) 
         length-fresh r.made more,
         drop-append-le (length r.pending - length hs) r.pending (fresh r.made more),
         IsPermutation-trans _ _ hs
-            (IsPermutation-append_left (fresh r.made more) last (reverse last) (IsPermutation-reverse last))
+            (IsPermutation-append_left (fresh r.made more) last (reverse last)
+            (IsPermutation-reverse last))
             (rw front at same),
       )
 
@@ -110,14 +135,28 @@ module _ (r : Roster) (hs : List Handle) (sound : IsSound (allocator_of r 0 0)) 
   )
 
   pub front_view : allocator_of (turned (grown r more) hs) 0 0 ≡ with_front (allocator_of r 0 0) hs
-  front_view = search
-      (rules, top_is r 0 0, sound, kept_is, reverse-append, reverse-reverse, append_assoc, drop_joined, below, length-reverse, drop-reverse)
+  front_view =
+      search (
+        rules,
+        top_is r 0 0,
+        sound,
+        kept_is,
+        reverse-append,
+        reverse-reverse,
+        append_assoc,
+        drop_joined,
+        below,
+        length-reverse,
+        drop-reverse,
+      )
 
 -- ---- where a call begins and ends that has the slots of the handles
 
 module _ (r : Roster) (requests : Requests) (s : Allocator) (is : List ℕ)
-    (reserved : AreReserved r requests.asked requests.served) (view : allocator_of r requests.asked requests.served ≡ s)
-    (flushed : s.asked ≡ 0) (few : length is ≤ length s.pool) (order : AreSlotsOf (take (length is) s.pool) is) where
+    (reserved : AreReserved r requests.asked requests.served)
+    (view : allocator_of r requests.asked requests.served ≡ s)
+    (flushed : s.asked ≡ 0) (few : length is ≤ length s.pool)
+    (order : AreSlotsOf (take (length is) s.pool) is) where
   abbrev hs : List Handle
   hs = order.front
 
@@ -147,29 +186,54 @@ module _ (r : Roster) (requests : Requests) (s : Allocator) (is : List ℕ)
     enough_of = search (rules, grown_is, length-append, length-fresh)
 
     pub waits_of : AreSlotsOf (drop (length r'.pending - length is) r'.pending) is
-    waits_of = search (rules, as_long, grown_is, same_waits, sound_at_rest, few_at_rest, same_at_rest, order.slots)
+    waits_of =
+        search (
+          rules,
+          as_long,
+          grown_is,
+          same_waits,
+          sound_at_rest,
+          few_at_rest,
+          same_at_rest,
+          order.slots,
+        )
 
     front_view_in : allocator_of (turned r' hs) 0 0 ≡ with_front s hs
     front_view_in = search (rules, grown_is, as_long, front_view, view_at_rest)
 
-    pub stands_of : (r'' : Roster) → ((slots : AreSlotsOf (drop (length r'.pending - length is) r'.pending) is)
-        → r'' ≡ record r' { pending = take (length r'.pending - length is) r'.pending ++ reverse slots.front })
+    pub stands_of : (r'' : Roster)
+        → ((slots : AreSlotsOf (drop (length r'.pending - length is) r'.pending) is)
+        → r''
+        ≡ record r'
+        { pending = take (length r'.pending - length is) r'.pending ++ reverse slots.front })
         → StandFor r'' requests (with_front s order.front)
     unfolding waits_of
     stands_of r'' each =
         let is : r'' ≡ turned r' hs = rw (← as_long) (each waits_of) in
-        search (rules, closed, none_is, front_view_in, with_front-sound, sound_at_rest, few_at_rest, same_at_rest, view_at_rest)
+        search (
+          rules,
+          closed,
+          none_is,
+          front_view_in,
+          with_front-sound,
+          sound_at_rest,
+          few_at_rest,
+          same_at_rest,
+          view_at_rest,
+        )
 
 -- ---- the slot at a position
 
 module _ (r : Roster) (position : ℕ) where
-  at_position : (x : ℕ) (d : Handle) → position < length (idle r) → (get_or (idle r) position d).index ≡ x
-      → slice_get (slots_of (idle r)) position ≡ Some x
+  at_position : (x : ℕ) (d : Handle) → position < length (idle r)
+      → (get_or (idle r) position d).index ≡ x → slice_get (slots_of (idle r)) position ≡ Some x
   at_position x d below is = slice_get_read (slots_of (idle r)) _ position x refl (omega
-      (arith, length-map (idle r) (λ (h : Handle). h.index))) (search (rules, get_or_default, get_or-map, length-map))
+      (arith, length-map (idle r) (λ (h : Handle). h.index))) (search
+      (rules, get_or_default, get_or-map, length-map))
 
-  pub slot_waits : (h : Handle) → position < length r.pending → slice_get r.pending (length r.pending - 1 - position)
-      ≡ Some h → slice_get (slots_of (idle r)) position ≡ Some h.index
+  pub slot_waits : (h : Handle) → position < length r.pending
+      → slice_get r.pending (length r.pending - 1 - position) ≡ Some h
+      → slice_get (slots_of (idle r)) position ≡ Some h.index
   slot_waits h waits is = at_position h.index h (omega (arith, length-idle r)) (search
       (rules, get_or_append_left, length-reverse, get_or-reverse, get_or_from_slice_get))
 
@@ -181,14 +245,16 @@ module _ (r : Roster) (position : ℕ) where
     length-reverse r.pending,
     length-idle r,
     at_position (r.made + (position - length r.pending)) (first_of_slot 0),
-    get_or-append_right (reverse r.pending) (fresh r.made (r.limits.slots - r.made)) (length r.pending) position (first_of_slot 0),
+    get_or-append_right (reverse r.pending) (fresh r.made (r.limits.slots - r.made))
+        (length r.pending) position (first_of_slot 0),
     get_or-fresh r.made (r.limits.slots - r.made) (position - length r.pending) (first_of_slot 0),
   )
 
 -- ---- those that wait, as they are listed
 
 module _ (records : List SlotRecord) where
-  slots_waiting : (pending : List ℕ) → slots_of (reverse (map (handle_at records) pending)) ≡ reverse pending
+  slots_waiting : (pending : List ℕ)
+      → slots_of (reverse (map (handle_at records) pending)) ≡ reverse pending
   slots_waiting [] = refl
   slots_waiting (i ∷ is) = grind (arith, common_steps, reverse-append, map-append, slots_waiting is)
 
@@ -213,8 +279,9 @@ pub waiting_long : (limits : Limits) (records : List SlotRecord) (pending : List
     → roster_of limits records pending ≡ r → length r.pending ≡ length pending
 waiting_long limits records pending r view = search (rules, length-map)
 
-pub waiting_part : (limits : Limits) (records : List SlotRecord) (pending : List ℕ) (r : Roster) (from n : ℕ)
-    → roster_of limits records pending ≡ r → n ≤ length r.pending - from
-    → reverse (take n (drop (length pending - from - n) pending)) ≡ take n (drop from (slots_of (idle r)))
+pub waiting_part : (limits : Limits) (records : List SlotRecord) (pending : List ℕ) (r : Roster)
+    (from n : ℕ) → roster_of limits records pending ≡ r → n ≤ length r.pending - from
+    → reverse (take n (drop (length pending - from - n) pending))
+    ≡ take n (drop from (slots_of (idle r)))
 waiting_part limits records pending r from n view few = grind
     (arith, common_steps, as_long, waiting_long, map-append, slots_waiting, turned_part)

@@ -1,12 +1,25 @@
 -- The slots that wait last in another order: the vectors stay linked, and the roster has the
 -- handles in that order.
-use Rattle.ent_alloc.proofs.Common.{rules, ◌≡◌, ◌≢◌, ◌⊎◌, inl, inr, ℕ, zero, suc, ◌+◌, ◌-◌, ◌<◌, ◌≤◌, refl, sym, ◌∙◌, List, [], ◌∷◌, ◌++◌, length, get_or, set, take, drop, map, reverse, All, AllPairs, IsPermutation, arith, false, None, common_steps, cases_lt, cases_eq, length-set, get_or-set_same, get_or-set_other, get_or-map, length-map, length-drop, get_or-drop, length-take-le, get_or-reverse, All-tail, All-cons, All-permutation, Handle, Limits, Roster, AreApart, SlotRecord, Pending, is_alive, row_of, record_at, no_slot, handle_at, occupants, rows_from, roster_of, AreLinked, waiting_at, placed, moved, slots_of, AreSlotsOf, All-map, IsPermutation-sym, append-nil, append_assoc, drop-set, drop_all, get_or-append_right, map-append, reverse-append, take-append-drop, take-map, take-set-le, map-map, map_fixed}
+use Rattle.ent_alloc.proofs.Common.{rules, ◌≡◌, ◌≢◌, ◌⊎◌, inl, inr, ℕ, zero, suc, ◌+◌, ◌-◌, ◌<◌}
+use Rattle.ent_alloc.proofs.Common.{◌≤◌, refl, sym, ◌∙◌, List, [], ◌∷◌, ◌++◌, length, get_or, set}
+use Rattle.ent_alloc.proofs.Common.{take, drop, map, reverse, All, AllPairs, IsPermutation, arith}
+use Rattle.ent_alloc.proofs.Common.{false, None, common_steps, cases_lt, cases_eq, length-set}
+use Rattle.ent_alloc.proofs.Common.{get_or-set_same, get_or-set_other, get_or-map, length-map}
+use Rattle.ent_alloc.proofs.Common.{length-drop, get_or-drop, length-take-le, get_or-reverse}
+use Rattle.ent_alloc.proofs.Common.{All-tail, All-cons, All-permutation, Handle, Limits, Roster}
+use Rattle.ent_alloc.proofs.Common.{AreApart, SlotRecord, Pending, is_alive, row_of, record_at}
+use Rattle.ent_alloc.proofs.Common.{no_slot, handle_at, occupants, rows_from, roster_of, AreLinked}
+use Rattle.ent_alloc.proofs.Common.{waiting_at, placed, moved, slots_of, AreSlotsOf, All-map}
+use Rattle.ent_alloc.proofs.Common.{IsPermutation-sym, append-nil, append_assoc, drop-set, drop_all}
+use Rattle.ent_alloc.proofs.Common.{get_or-append_right, map-append, reverse-append}
+use Rattle.ent_alloc.proofs.Common.{take-append-drop, take-map, take-set-le, map-map, map_fixed}
 use Rattle.ent_alloc.proofs.ListLaws.{AllPairs-head, AllPairs-tail, AllPairs-IsPermutation}
 use Rattle.ent_alloc.proofs.Occupants.{rows_from-set}
 
 -- ---- the positions
 
-pub length-placed : (pending : List ℕ) (top : ℕ) (is : List ℕ) → length (placed pending top is) ≡ length pending
+pub length-placed : (pending : List ℕ) (top : ℕ) (is : List ℕ)
+    → length (placed pending top is) ≡ length pending
 length-placed pending top [] = refl
 length-placed pending top (i ∷ is) = length-placed (set pending (top - 1) i) (top - 1) is
     ∙ length-set pending (top - 1) i
@@ -16,19 +29,22 @@ placed_is : (pending : List ℕ) (top : ℕ) (is : List ℕ) → length is ≤ t
     → placed pending top is ≡ take (top - length is) pending ++ (reverse is ++ drop top pending)
 placed_is pending top [] few within = search (rules, take-append-drop)
 placed_is pending top (i ∷ is) few within =
-    placed_is (set pending (top - 1) i) (top - 1) is (omega arith) (omega (arith, length-set {A = ℕ}))
+    placed_is (set pending (top - 1) i) (top - 1) is (omega arith)
+    (omega (arith, length-set {A = ℕ}))
     ∙ grind (arith, common_steps, take-set-le, drop-set, append_assoc, reverse-append)
 
 -- ---- the records
 
-pub length-moved : (records : List SlotRecord) (top : ℕ) (is : List ℕ) → length (moved records top is) ≡ length records
+pub length-moved : (records : List SlotRecord) (top : ℕ) (is : List ℕ)
+    → length (moved records top is) ≡ length records
 length-moved records top [] = refl
 length-moved records top (i ∷ is) =
     let w = waiting_at (record_at records i).generation (top - 1) in
     length-moved (set records i w) (top - 1) is ∙ length-set records i w
 
-pub moved-other : (records : List SlotRecord) (top at : ℕ) (hs : List Handle) → All (λ h. h.index ≢ at) hs
-    → record_at (moved records top (slots_of hs)) at ≡ record_at records at
+pub moved-other : (records : List SlotRecord) (top at : ℕ) (hs : List Handle)
+    → All (λ h. h.index ≢ at) hs → record_at (moved records top (slots_of hs)) at
+    ≡ record_at records at
 moved-other records top at [] others = refl
 moved-other records top at (h ∷ hs) others =
     let w = waiting_at (record_at records h.index).generation (top - 1) in
@@ -42,7 +58,8 @@ moved-other records top at (h ∷ hs) others =
     )
 
 pub generation-moved : (records : List SlotRecord) (top at : ℕ) (hs : List Handle)
-    → All (λ h. h.index < length records) hs → (record_at (moved records top (slots_of hs)) at).generation
+    → All (λ h. h.index < length records) hs
+    → (record_at (moved records top (slots_of hs)) at).generation
     ≡ (record_at records at).generation
 generation-moved records top at [] made = refl
 generation-moved records top at (h ∷ hs) made =
@@ -57,7 +74,8 @@ generation-moved records top at (h ∷ hs) made =
 
 pub moved-at : (records : List SlotRecord) (top k : ℕ) (hs : List Handle) (d : Handle)
     → All (λ h. h.index < length records) hs → AllPairs AreApart hs → k < length hs
-    → (record_at (moved records top (slots_of hs)) (get_or hs k d).index).occupancy ≡ Pending (top - 1 - k)
+    → (record_at (moved records top (slots_of hs)) (get_or hs k d).index).occupancy
+    ≡ Pending (top - 1 - k)
 moved-at records top k [] d made apart below = absurd (omega arith)
 moved-at records top k (h ∷ hs) d made apart below =
     let w = waiting_at (record_at records h.index).generation (top - 1) in
@@ -82,22 +100,26 @@ pub record IsVacant (r : SlotRecord) : Type 0 where
   pub dead : is_alive r.occupancy ≡ false
   pub bare : row_of r.occupancy ≡ None
 
-occupants-set : (from : ℕ) (records : List SlotRecord) (index : ℕ) (r : SlotRecord) → is_alive r.occupancy ≡ false
-    → is_alive (record_at records index).occupancy ≡ false → occupants from (set records index r) ≡ occupants from
-    records
+occupants-set : (from : ℕ) (records : List SlotRecord) (index : ℕ) (r : SlotRecord)
+    → is_alive r.occupancy ≡ false → is_alive (record_at records index).occupancy ≡ false
+    → occupants from (set records index r) ≡ occupants from records
 occupants-set from [] index r new old = refl
 occupants-set from (x ∷ records) zero r new old = search (rules)
-occupants-set from (x ∷ records) (suc index) r new old = search (rules, occupants-set (from + 1) records index)
+occupants-set from (x ∷ records) (suc index) r new old =
+    search (rules, occupants-set (from + 1) records index)
 
 -- what does not change where one vacant slot waits does not change where many do
-kept-moved : {T : Type 0} (f : List SlotRecord → T) → ((records : List SlotRecord) (index : ℕ) (w : SlotRecord)
-    → IsVacant w → IsVacant (record_at records index) → f (set records index w) ≡ f records)
-    → (records : List SlotRecord) (top : ℕ) (hs : List Handle) → All (λ h. IsVacant (record_at records h.index)) hs
+kept-moved : {T : Type 0} (f : List SlotRecord → T)
+    → ((records : List SlotRecord) (index : ℕ) (w : SlotRecord) → IsVacant w
+    → IsVacant (record_at records index) → f (set records index w) ≡ f records)
+    → (records : List SlotRecord) (top : ℕ) (hs : List Handle)
+    → All (λ h. IsVacant (record_at records h.index)) hs
     → f (moved records top (slots_of hs)) ≡ f records
 kept-moved f keeps records top [] vacant = refl
 kept-moved f keeps records top (h ∷ hs) vacant =
     let w = waiting_at (record_at records h.index).generation (top - 1) in
-    kept-moved f keeps (set records h.index w) (top - 1) hs (λ k d lt. grind (arith, common_steps, vacant (suc k) d))
+    kept-moved f keeps (set records h.index w) (top - 1) hs
+    (λ k d lt. grind (arith, common_steps, vacant (suc k) d))
     ∙ keeps records h.index w (record { dead = refl; bare = refl }) (vacant 0 h (omega arith))
 
 -- ---- lists of handles
@@ -109,7 +131,8 @@ map-reverse f (x ∷ xs) = grind (arith, common_steps, reverse-append, map-appen
 -- ---- links
 
 -- one of them has the slot, or none
-among : (index : ℕ) (hs : List Handle) → ((k : ℕ) × (k < length hs) × ((d : Handle) → (get_or hs k d).index ≡ index))
+among : (index : ℕ) (hs : List Handle)
+    → ((k : ℕ) × (k < length hs) × ((d : Handle) → (get_or hs k d).index ≡ index))
     ⊎ All (λ h. h.index ≢ index) hs
 among index [] = inr (λ k d lt. absurd (omega arith))
 among index (h ∷ hs) = elim (cases_eq h.index index) [
@@ -121,9 +144,11 @@ among index (h ∷ hs) = elim (cases_eq h.index index) [
 ]
 
 -- the slots that wait last, of a roster that the vectors stand for, in the order of these
-module _ (limits : Limits) (records : List SlotRecord) (pending : List ℕ) (live : ℕ) (is : List ℕ) (r : Roster)
+module _ (limits : Limits) (records : List SlotRecord) (pending : List ℕ) (live : ℕ) (is : List ℕ)
+    (r : Roster)
     (linked : AreLinked limits records pending live) (view : roster_of limits records pending ≡ r)
-    (few : length is ≤ length r.pending) (slots : AreSlotsOf (drop (length r.pending - length is) r.pending) is) where
+    (few : length is ≤ length r.pending)
+    (slots : AreSlotsOf (drop (length r.pending - length is) r.pending) is) where
   abbrev hs : List Handle
   hs = slots.front
 
@@ -159,14 +184,16 @@ module _ (limits : Limits) (records : List SlotRecord) (pending : List ℕ) (liv
       (rules, arith, waited_at, long_waited, few_in, waits))
 
   made_slots : All (λ h. h.index < length records) hs
-  made_slots = each (λ h. h.index < length records) (λ position late within. linked.made position within)
+  made_slots =
+      each (λ h. h.index < length records) (λ position late within. linked.made position within)
 
   all_vacant : All (λ h. IsVacant (record_at records h.index)) hs
   all_vacant = search (rules, each, linked.forward)
 
   apart : AllPairs AreApart hs
-  apart = AllPairs-IsPermutation AreApart (λ g h ne e. ne (sym e)) waited hs same (λ i j d lt within same_slot. search
-      (rules, long_waited, waited_at, common_steps))
+  apart =
+      AllPairs-IsPermutation AreApart (λ g h ne e. ne (sym e)) waited hs same
+      (λ i j d lt within same_slot. search (rules, long_waited, waited_at, common_steps))
 
   abbrev after : List SlotRecord
   after = moved records (length pending) (slots_of hs)
@@ -191,7 +218,8 @@ module _ (limits : Limits) (records : List SlotRecord) (pending : List ℕ) (liv
   after_long : length after ≡ length records
   after_long = length-moved records (length pending) (slots_of hs)
 
-  generation_after : (index : ℕ) → (record_at after index).generation ≡ (record_at records index).generation
+  generation_after : (index : ℕ)
+      → (record_at after index).generation ≡ (record_at records index).generation
   generation_after index = search (rules, generation-moved, made_slots)
 
   -- the early positions have the slots that they had, and the late ones those of the handles
@@ -227,8 +255,8 @@ module _ (limits : Limits) (records : List SlotRecord) (pending : List ℕ) (liv
     made_slots (length pending - 1 - position) (handle_at records 0),
   )
 
-  forward_after : (position : ℕ) → position < length order → (record_at after (get_or order position 0)).occupancy
-      ≡ Pending position
+  forward_after : (position : ℕ) → position < length order
+      → (record_at after (get_or order position 0)).occupancy ≡ Pending position
   forward_after position within =
       let d = handle_at records 0 in
       let k = length pending - 1 - position in
@@ -245,7 +273,8 @@ module _ (limits : Limits) (records : List SlotRecord) (pending : List ℕ) (liv
         moved-at records (length pending) k hs d made_slots apart,
       )
 
-  back_after : (index position : ℕ) → index < length after → (record_at after index).occupancy ≡ Pending position
+  back_after : (index position : ℕ) → index < length after
+      → (record_at after index).occupancy ≡ Pending position
       → (position < length order) × (get_or order position 0 ≡ index)
   back_after index position made is =
       let d = handle_at records 0 in
@@ -259,7 +288,9 @@ module _ (limits : Limits) (records : List SlotRecord) (pending : List ℕ) (liv
             search (rules, arith, few_in, late_is position d)
         | inr none ↦
             let was = rw (moved-other records (length pending) index hs none) at is in
-            let still = All-permutation (λ h. h.index ≢ index) hs waited (IsPermutation-sym waited hs same) none
+            let still =
+            All-permutation (λ h. h.index ≢ index) hs waited (IsPermutation-sym waited hs same)
+            none
             (position - from) d in
             search (
               rules,
@@ -274,30 +305,51 @@ module _ (limits : Limits) (records : List SlotRecord) (pending : List ℕ) (liv
       ]
 
   same_living : occupants 0 after ≡ occupants 0 records
-  same_living = kept-moved (occupants 0) (search (rules, occupants-set)) records (length pending) hs all_vacant
+  same_living =
+      kept-moved (occupants 0) (search (rules, occupants-set)) records (length pending) hs
+      all_vacant
 
   same_rows : rows_from 0 after ≡ rows_from 0 records
-  same_rows = kept-moved (rows_from 0) (search (rules, rows_from-set)) records (length pending) hs all_vacant
+  same_rows =
+      kept-moved (rows_from 0) (search (rules, rows_from-set)) records (length pending) hs
+      all_vacant
 
-  pub links_in : AreLinked limits (moved records (length pending) is) (placed pending (length pending) is) live
+  pub links_in : AreLinked limits (moved records (length pending) is)
+      (placed pending (length pending) is) live
   links_in =
-      let listed = λ (index position : ℕ) (lt : index < length after) (is : (record_at after index).occupancy
+      let listed =
+      λ (index position : ℕ) (lt : index < length after) (is : (record_at after index).occupancy
       ≡ Pending position). (back_after index position lt is).0 in
-      let back = λ (index position : ℕ) (lt : index < length after) (is : (record_at after index).occupancy
+      let back =
+      λ (index position : ℕ) (lt : index < length after) (is : (record_at after index).occupancy
       ≡ Pending position). (back_after index position lt is).1 in
-      search
-      (rules, slots.slots, order_long, after_long, same_living, generation_after, made_after, forward_after)
+      search (
+        rules,
+        slots.slots,
+        order_long,
+        after_long,
+        same_living,
+        generation_after,
+        made_after,
+        forward_after,
+      )
 
   -- they are those that waited, and then these, the last first
-  waits_after : map (handle_at after) order ≡ take from (map (handle_at records) pending) ++ reverse hs
+  waits_after : map (handle_at after) order
+      ≡ take from (map (handle_at records) pending) ++ reverse hs
   waits_after =
-      let named : map (handle_at records) (slots_of hs) ≡ hs = simp map-map (map_fixed (λ h. handle_at records h.index)
+      let named : map (handle_at records) (slots_of hs) ≡ hs =
+      simp map-map (map_fixed (λ h. handle_at records h.index)
       hs (each (λ h. handle_at records h.index ≡ h) (λ position late within. refl))) in
       search (rules, generation_after, order_is, map-append, take-map, map-reverse)
 
-  pub roster_in : roster_of limits (moved records (length pending) is) (placed pending (length pending) is)
+  pub roster_in : roster_of limits (moved records (length pending) is)
+      (placed pending (length pending) is)
       ≡ record r { pending = take (length r.pending - length is) r.pending ++ reverse hs }
-  roster_in = search (rules, slots.slots, waits_after, same_living, same_rows, after_long, long_view, as_many)
+  roster_in =
+      search
+      (rules, slots.slots, waits_after, same_living, same_rows, after_long, long_view, as_many)
 
   pub slots_in : All (λ i. i < length records) is
-  slots_in = rw slots.slots (All-map (λ i. i < length records) (λ (h : Handle). h.index) hs made_slots)
+  slots_in =
+      rw slots.slots (All-map (λ i. i < length records) (λ (h : Handle). h.index) hs made_slots)

@@ -1,6 +1,14 @@
 -- No handle is given twice: each step keeps the list of all given handles free of repetitions.
-use Rattle.ent_alloc.proofs.Common.{take, le_of_eq, common_steps, rules, ◌≡◌, ◌≢◌, refl, sym, ℕ, ◌<◌, ◌≤◌, List, [], ◌∷◌, ◌++◌, length, get_or, drop, All, Contains, IsPermutation, Ok, arith, cases_lt, All-push, All-nil, All-append, All-head, All-contains, All-contains_itself, All-weaker, All-take, All-drop, Contains-append_left, all_pairs_push, All-permutation, Handle, Allocator, after_take, after_flush, after_alloc, after_free, next, in_front, reply_to, IsSound, AreApart, IsLive, IsSpent, AreSpent, append-nil}
-use Rattle.ent_alloc.proofs.ListLaws.{All-left, All-right, AllPairs-append, AllPairs-left, AllPairs-across, AllPairs-IsPermutation, same_from_AllPairs}
+use Rattle.ent_alloc.proofs.Common.{take, le_of_eq, common_steps, rules, ◌≡◌, ◌≢◌, refl, sym, ℕ}
+use Rattle.ent_alloc.proofs.Common.{◌<◌, ◌≤◌, List, [], ◌∷◌, ◌++◌, length, get_or, drop, All}
+use Rattle.ent_alloc.proofs.Common.{Contains, IsPermutation, Ok, arith, cases_lt, All-push, All-nil}
+use Rattle.ent_alloc.proofs.Common.{All-append, All-head, All-contains, All-contains_itself}
+use Rattle.ent_alloc.proofs.Common.{All-weaker, All-take, All-drop, Contains-append_left}
+use Rattle.ent_alloc.proofs.Common.{all_pairs_push, All-permutation, Handle, Allocator, after_take}
+use Rattle.ent_alloc.proofs.Common.{after_flush, after_alloc, after_free, next, in_front, reply_to}
+use Rattle.ent_alloc.proofs.Common.{IsSound, AreApart, IsLive, IsSpent, AreSpent, append-nil}
+use Rattle.ent_alloc.proofs.ListLaws.{All-left, All-right, AllPairs-append, AllPairs-left}
+use Rattle.ent_alloc.proofs.ListLaws.{AllPairs-across, AllPairs-IsPermutation, same_from_AllPairs}
 use Rattle.ent_alloc.proofs.HandleSets.{inserted, in_removed, of_inserted, of_joined}
 use Rattle.ent_alloc.proofs.Taken.{after_take-served, after_take-refused}
 use Rattle.ent_alloc.proofs.Soundness.{after_alloc-sound, after_take-sound, of_next, All-in_front}
@@ -31,8 +39,16 @@ taken-spent s h sound in_taken =
     let among = AllPairs-left AreApart s.taken (s.aside ++ s.pool) sound.apart in
     let taken : All (NotBefore h) s.taken = λ k d lt same. search
     (rules, same_from_AllPairs AreApart s.taken (get_or s.taken k d) h among) in
-    let left : All (After h) (s.aside ++ s.pool) = search (rules, All-weaker, after_if_apart, All-contains) in
-    search (rules, taken, left, All-contains, sound.live, Contains-append_left s.taken (s.aside ++ s.pool) h in_taken)
+    let left : All (After h) (s.aside ++ s.pool) =
+    search (rules, All-weaker, after_if_apart, All-contains) in
+    search (
+      rules,
+      taken,
+      left,
+      All-contains,
+      sound.live,
+      Contains-append_left s.taken (s.aside ++ s.pool) h in_taken,
+    )
 
 -- what is alive
 pub live-spent : (s : Allocator) (h : Handle) → IsSound s → IsLive s h → IsSpent s h
@@ -54,11 +70,13 @@ module _ (s : Allocator) (h : Handle) (spent : IsSpent s h) where
   in_pool = All-right (After h) s.aside s.pool spent.left
 
   with_aside : (pool : List Handle) → All (After h) pool → All (After h) (s.aside ++ pool)
-  with_aside pool each = All-append (After h) s.aside pool (All-left (After h) s.aside s.pool spent.left) each
+  with_aside pool each =
+      All-append (After h) s.aside pool (All-left (After h) s.aside s.pool spent.left) each
 
   -- it is nothing in the pool
   spent_not_in_pool : (g : Handle) → Contains s.pool g → h ≢ g
-  spent_not_in_pool g has same = let after = All-contains (After h) s.pool g in_pool has in search rules
+  spent_not_in_pool g has same = let after = All-contains (After h) s.pool g in_pool has in
+      search rules
 
   -- after a request
   take-stays_spent : (n : ℕ) → IsSpent (after_take s n) h
@@ -67,15 +85,24 @@ module _ (s : Allocator) (h : Handle) (spent : IsSpent s h) where
       let left = with_aside (drop n s.pool) (All-drop (After h) n s.pool each) in
       let taken : All (NotBefore h) (s.taken ++ take n s.pool) = grind
       (arith, common_steps, All-append, All-weaker, not_before_if_after, All-take) in
-      search (rules, arith, cases_lt (length s.pool) n, after_take-refused s n, after_take-served s n, append-nil)
+      search (
+        rules,
+        arith,
+        cases_lt (length s.pool) n,
+        after_take-refused s n,
+        after_take-served s n,
+        append-nil,
+      )
 
   -- after a flush
   flush-stays_spent : IsSpent (after_flush s) h
   flush-stays_spent =
-      let alive = of_joined (NotBefore h) s.live s.taken spent.live spent.taken in search (rules, All-nil)
+      let alive = of_joined (NotBefore h) s.live s.taken spent.live spent.taken in
+      search (rules, All-nil)
 
   -- after an allocation
-  alloc-stays_spent : (x : Handle) (rest : List Handle) → s.pool ≡ x ∷ rest → IsSpent (after_alloc s x) h
+  alloc-stays_spent : (x : Handle) (rest : List Handle) → s.pool ≡ x ∷ rest
+      → IsSpent (after_alloc s x) h
   alloc-stays_spent x rest front =
       let first = All-head (After h) x rest (rw front at in_pool) in
       search (
@@ -103,13 +130,14 @@ module _ (s : Allocator) (h : Handle) (spent : IsSpent s h) where
 -- ---- each step
 
 -- a served request gives what was never given
-pub take-given : (s : Allocator) (n : ℕ) (given more : List Handle) → IsSound s → reply_to s n ≡ Ok more
-    → AreSpent s given → AreSpent (after_take s n) (given ++ more)
+pub take-given : (s : Allocator) (n : ℕ) (given more : List Handle) → IsSound s
+    → reply_to s n ≡ Ok more → AreSpent s given → AreSpent (after_take s n) (given ++ more)
 take-given s n given more sound served once =
     let from_pool = of_reply s n more served (Contains s.pool) (All-contains_itself s.pool) in
     search (
       rules,
-      AllPairs-append (λ g h. g ≢ h) given more once.distinct (reply-distinct s n more served sound),
+      AllPairs-append (λ g h. g ≢ h) given more once.distinct
+          (reply-distinct s n more served sound),
       spent_not_in_pool s,
       once.spent,
       from_pool,
@@ -122,16 +150,18 @@ take-given s n given more sound served once =
     )
 
 -- a refused request gives nothing
-pub refused-given : (s : Allocator) (n : ℕ) (given : List Handle) → AreSpent s given → AreSpent (after_take s n) given
+pub refused-given : (s : Allocator) (n : ℕ) (given : List Handle) → AreSpent s given
+    → AreSpent (after_take s n) given
 refused-given s n given once = search (rules, All-weaker, take-stays_spent)
 
 -- a flush gives nothing
-pub flush-given : (s : Allocator) (given : List Handle) → AreSpent s given → AreSpent (after_flush s) given
+pub flush-given : (s : Allocator) (given : List Handle) → AreSpent s given
+    → AreSpent (after_flush s) given
 flush-given s given once = search (rules, All-weaker, flush-stays_spent)
 
 -- an allocation gives what was never given
-pub alloc-given : (s : Allocator) (x : Handle) (rest given : List Handle) → IsSound s → s.asked ≡ 0 → s.pool ≡ x ∷ rest
-    → AreSpent s given → AreSpent (after_alloc s x) (given ++ x ∷ [])
+pub alloc-given : (s : Allocator) (x : Handle) (rest given : List Handle) → IsSound s → s.asked ≡ 0
+    → s.pool ≡ x ∷ rest → AreSpent s given → AreSpent (after_alloc s x) (given ++ x ∷ [])
 alloc-given s x rest given sound flushed front once =
     let first : Contains s.pool x = rw front (0, omega arith, refl) in
     search (
@@ -156,8 +186,10 @@ free-given s x given alive once = search (rules, All-weaker, free-stays_spent)
 -- ---- other lists of the same handles, and of fewer
 
 -- in another order
-pub given-IsPermutation : (s : Allocator) (given same : List Handle) → IsPermutation given same → AreSpent s given
-    → AreSpent s same
+pub given-IsPermutation : (s : Allocator) (given same : List Handle) → IsPermutation given same
+    → AreSpent s given → AreSpent s same
 given-IsPermutation s given same moved once =
-    let distinct = AllPairs-IsPermutation (λ g h. g ≢ h) (λ g h ne e. ne (sym e)) given same moved once.distinct in
+    let distinct =
+    AllPairs-IsPermutation (λ g h. g ≢ h) (λ g h ne e. ne (sym e)) given same moved
+    once.distinct in
     search (rules, All-permutation)

@@ -1,5 +1,7 @@
 -- What stands before the slots of an image, byte by byte.
-use Rattle.ent_alloc.proofs.Common.{rules, ◌≡◌, ◌≢◌, refl, ℕ, ◌^◌, ◌<◌, List, ◌++◌, length, length-append, append_assoc, word, long, magic, version, numbers_bytes, header_bytes, AreNumbers, Header}
+use Rattle.ent_alloc.proofs.Common.{rules, ◌≡◌, ◌≢◌, refl, ℕ, ◌^◌, ◌<◌, List, ◌++◌, length}
+use Rattle.ent_alloc.proofs.Common.{length-append, append_assoc, word, long, magic, version}
+use Rattle.ent_alloc.proofs.Common.{numbers_bytes, header_bytes, AreNumbers, Header}
 use Rattle.ent_handle.proofs.Spelled.{same_longs, same_parts, same_words}
 
 -- the letters as a number
@@ -23,8 +25,10 @@ pub header_then : (h : Header) (rest : List ℕ) → header_bytes h ++ rest ≡ 
     ++ (word version ++ (numbers_bytes h ++ rest))
 header_then h rest = search (rules, header_is, append_assoc)
 
-pub numbers_then : (h : Header) (rest : List ℕ) → numbers_bytes h ++ rest ≡ word h.slots
-    ++ (word h.generations ++ (word h.made ++ (word h.waiting ++ (word h.reserved ++ (long h.asked ++ rest)))))
+pub numbers_then : (h : Header) (rest : List ℕ)
+    → numbers_bytes h ++ rest ≡ word h.slots
+    ++ (word h.generations
+    ++ (word h.made ++ (word h.waiting ++ (word h.reserved ++ (long h.asked ++ rest)))))
 unfolding numbers_bytes
 numbers_then h rest = search (rules, append_assoc)
 
@@ -36,16 +40,18 @@ same_header h k xs ys is_h is_k same = search
 
 -- ---- what is no header
 
-pub too_short : (bytes : List ℕ) → length bytes < 40 → (h : Header) (rest : List ℕ) → bytes ≢ header_bytes h ++ rest
+pub too_short : (bytes : List ℕ) → length bytes < 40 → (h : Header) (rest : List ℕ)
+    → bytes ≢ header_bytes h ++ rest
 too_short bytes short h rest same = search (rules, length-append, length-header_bytes)
 
-pub other_magic : (number : ℕ) (bytes : List ℕ) → number < 2 ^ 64 → number ≢ letters → (h : Header) (rest : List ℕ)
-    → long number ++ bytes ≢ header_bytes h ++ rest
+pub other_magic : (number : ℕ) (bytes : List ℕ) → number < 2 ^ 64 → number ≢ letters
+    → (h : Header) (rest : List ℕ) → long number ++ bytes ≢ header_bytes h ++ rest
 other_magic number bytes below other h rest same = search (rules, same_longs, header_then)
 
-pub other_version : (number : ℕ) (bytes : List ℕ) → number < 2 ^ 32 → number ≢ version → (h : Header) (rest : List ℕ)
-    → long letters ++ (word number ++ bytes) ≢ header_bytes h ++ rest
-other_version number bytes below other h rest same = search (rules, same_longs, header_then, same_words)
+pub other_version : (number : ℕ) (bytes : List ℕ) → number < 2 ^ 32 → number ≢ version
+    → (h : Header) (rest : List ℕ) → long letters ++ (word number ++ bytes) ≢ header_bytes h ++ rest
+other_version number bytes below other h rest same =
+    search (rules, same_longs, header_then, same_words)
 
 -- ---- parts that are appended one by one
 

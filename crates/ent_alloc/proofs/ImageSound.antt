@@ -1,5 +1,10 @@
 -- Sound slots are those of a sound allocator, and a sound allocator has sound slots.
-use Rattle.ent_alloc.proofs.Common.{IsTrue, ◌≡◌, sym, ◌∙◌, ℕ, rules, ◌<◌, List, length, reverse, filter, arith, IsPermutation-reverse, length-map, reverse-reverse, All-filter, AllPairs-filter, Handle, Limits, Roster, Allocator, available, is_old, AreApart, Entities, idle, allocator_of, entities_of, AreReserved, occupants, roster_of, AreLinked, handle_at, AreSlots, HasImage, roster, SlotRecord}
+use Rattle.ent_alloc.proofs.Common.{IsTrue, ◌≡◌, sym, ◌∙◌, ℕ, rules, ◌<◌, List, length, reverse}
+use Rattle.ent_alloc.proofs.Common.{filter, arith, IsPermutation-reverse, length-map}
+use Rattle.ent_alloc.proofs.Common.{reverse-reverse, All-filter, AllPairs-filter, Handle, Limits}
+use Rattle.ent_alloc.proofs.Common.{Roster, Allocator, available, is_old, AreApart, Entities, idle}
+use Rattle.ent_alloc.proofs.Common.{allocator_of, entities_of, AreReserved, occupants, roster_of}
+use Rattle.ent_alloc.proofs.Common.{AreLinked, handle_at, AreSlots, HasImage, roster, SlotRecord}
 use Rattle.std.specs.FinSet as sets
 use Rattle.ent_alloc.proofs.ListLaws.{AllPairs-IsPermutation}
 use Rattle.ent_alloc.proofs.Replies.{apart_both}
@@ -13,7 +18,8 @@ use Rattle.ent_alloc.proofs.ImageLinked.{AreTied, are_slots}
 
 -- so records and positions that point at each other are linked
 pub linked : (limits : Limits) (records : List SlotRecord) (pending : List ℕ) (live : ℕ)
-    → AreTied limits records pending → live ≡ length (occupants 0 records) → AreLinked limits records pending live
+    → AreTied limits records pending → live ≡ length (occupants 0 records)
+    → AreLinked limits records pending live
 linked limits records pending live tied counted =
     let r = roster_of limits records pending in
     let sound = slots_sound r (are_slots limits records pending tied) in
@@ -38,11 +44,16 @@ module _ (e : Entities) (has : HasImage e) where
   pub roster_slots : AreSlots (roster e)
   roster_slots =
       let below = All-reverse (λ h. h.index < s.made) old (old_ones_below s) in
-      let apart = AllPairs-IsPermutation AreApart apart_both old (reverse old) (IsPermutation-reverse old)
+      let apart =
+      AllPairs-IsPermutation AreApart apart_both old (reverse old) (IsPermutation-reverse old)
       (AllPairs-filter AreApart (is_old s.made) (available s) has.sound.apart) in
-      let live_within = λ (h : Handle) (alive : IsTrue (sets.contains s.live h)). (has.sound.live h alive).within in
-      let live_made = λ (h : Handle) (alive : IsTrue (sets.contains s.live h)). (has.sound.live h alive).made in
-      let live_apart = λ (h : Handle) (alive : IsTrue (sets.contains s.live h)). All-reverse (AreApart h) old
+      let live_within =
+      λ (h : Handle) (alive : IsTrue (sets.contains s.live h)).
+      (has.sound.live h alive).within in
+      let live_made =
+      λ (h : Handle) (alive : IsTrue (sets.contains s.live h)). (has.sound.live h alive).made in
+      let live_apart =
+      λ (h : Handle) (alive : IsTrue (sets.contains s.live h)). All-reverse (AreApart h) old
       (All-filter (is_old s.made) (AreApart h) (available s) (has.sound.live h alive).apart) in
       search (rules, All-reverse, All-filter)
 
@@ -57,9 +68,10 @@ module _ (e : Entities) (has : HasImage e) where
 -- ---- entities of the same slots and requests
 
 pub same_entities : (d e : Entities) → HasImage d → HasImage e → roster d ≡ roster e
-    → d.allocator.asked ≡ e.allocator.asked → length d.allocator.taken ≡ length e.allocator.taken → d ≡ e
-same_entities d e is_d is_e slots asked taken = entities_are d is_d ∙ (λ i. entities_of (slots i) (asked i) (taken i))
-    ∙ sym (entities_are e is_e)
+    → d.allocator.asked ≡ e.allocator.asked → length d.allocator.taken ≡ length e.allocator.taken
+    → d ≡ e
+same_entities d e is_d is_e slots asked taken = entities_are d is_d
+    ∙ (λ i. entities_of (slots i) (asked i) (taken i)) ∙ sym (entities_are e is_e)
 
 -- ---- what reserved entities are
 

@@ -1,5 +1,12 @@
 -- The words of an image, and its slots, byte by byte.
-use Rattle.ent_alloc.proofs.Common.{rules, ◌≡◌, refl, ap, ℕ, zero, suc, ◌+◌, ◌*◌, ◌^◌, ◌<◌, List, ◌++◌, length, take, drop, arith, flat_map, range_with_len, length-append, take_at, drop_at, drop-drop, word, slot_bytes, kind_of, number_of, SlotRecord, Occupancy, Alive, AliveWithRow, Pending, Retired, ◌≤◌, common_steps, drop-append-le, take-append-le, length-drop, word_at, ◌≢◌, sym, ◌∙◌, ◌/◌, get_or, first_chunks, take-append-drop, length-take-le, div-mul-add, Limits, IsWritten}
+use Rattle.ent_alloc.proofs.Common.{rules, ◌≡◌, refl, ap, ℕ, zero, suc, ◌+◌, ◌*◌, ◌^◌, ◌<◌, List}
+use Rattle.ent_alloc.proofs.Common.{◌++◌, length, take, drop, arith, flat_map, range_with_len}
+use Rattle.ent_alloc.proofs.Common.{length-append, take_at, drop_at, drop-drop, word, slot_bytes}
+use Rattle.ent_alloc.proofs.Common.{kind_of, number_of, SlotRecord, Occupancy, Alive, AliveWithRow}
+use Rattle.ent_alloc.proofs.Common.{Pending, Retired, ◌≤◌, common_steps, drop-append-le}
+use Rattle.ent_alloc.proofs.Common.{take-append-le, length-drop, word_at, ◌≢◌, sym, ◌∙◌, ◌/◌}
+use Rattle.ent_alloc.proofs.Common.{get_or, first_chunks, take-append-drop, length-take-le}
+use Rattle.ent_alloc.proofs.Common.{div-mul-add, Limits, IsWritten}
 use Rattle.ent_handle.proofs.Spelled.{from_word, same_parts, same_words}
 
 -- numbers that are spelled alike are one
@@ -37,7 +44,8 @@ same_slot s t hs ht same = search (rules, same_words, kind_below, same_word, sam
 module _ (f : ℕ → List ℕ) (n : ℕ) (long : (i : ℕ) → length (f i) ≡ n) where
   pub length-pieces : (from count : ℕ) → length (flat_map f (range_with_len from count)) ≡ n * count
   length-pieces from zero = omega arith
-  length-pieces from (suc count) = search (rules, arith, length-append, long from, length-pieces (from + 1) count)
+  length-pieces from (suc count) =
+      search (rules, arith, length-append, long from, length-pieces (from + 1) count)
 
   -- the piece at a place, and what comes after it
   pub piece : (from count k at : ℕ) → k < count → at ≡ from + k
@@ -57,7 +65,8 @@ module _ (f : ℕ → List ℕ) (n : ℕ) (long : (i : ℕ) → length (f i) ≡
 pub word_past : (xs ys : List ℕ) (k place at : ℕ) → length xs ≡ k → at ≡ k + place
     → word_at (xs ++ ys) at ≡ word_at ys place
 unfolding word_at
-word_past xs ys k place at all is = rw (is, ← drop-drop place k (xs ++ ys), drop_at xs ys k all) refl
+word_past xs ys k place at all is =
+    rw (is, ← drop-drop place k (xs ++ ys), drop_at xs ys k all) refl
 
 -- three words one after the other
 module _ (a b c : ℕ) (rest : List ℕ) where
@@ -74,23 +83,28 @@ module _ (a b c : ℕ) (rest : List ℕ) where
   third_word fits = from_word c fits
 
 -- in what the bytes begin with
-pub word_before : (xs ys : List ℕ) (place : ℕ) → place + 4 ≤ length xs → word_at (xs ++ ys) place ≡ word_at xs place
+pub word_before : (xs ys : List ℕ) (place : ℕ) → place + 4 ≤ length xs
+    → word_at (xs ++ ys) place ≡ word_at xs place
 unfolding word_at
-word_before xs ys place within = grind (arith, common_steps, drop-append-le, length-drop, take-append-le)
+word_before xs ys place within =
+    grind (arith, common_steps, drop-append-le, length-drop, take-append-le)
 
 -- ---- bytes in pieces of twelve, one for each slot
 
-chunk_at : (k i : ℕ) (bytes d : List ℕ) → i < k → get_or (first_chunks 12 k bytes) i d ≡ take 12 (drop (12 * i) bytes)
+chunk_at : (k i : ℕ) (bytes d : List ℕ) → i < k
+    → get_or (first_chunks 12 k bytes) i d ≡ take 12 (drop (12 * i) bytes)
 chunk_at zero i bytes d lt = absurd (omega arith)
 chunk_at (suc k) zero bytes d lt = refl
-chunk_at (suc k) (suc i) bytes d lt = search (rules, arith, chunk_at k i (drop 12 bytes) d, drop-drop (12 * i) 12 bytes)
+chunk_at (suc k) (suc i) bytes d lt =
+    search (rules, arith, chunk_at k i (drop 12 bytes) d, drop-drop (12 * i) 12 bytes)
 
 -- how many there are
 pub pieces : (bytes : List ℕ) (made : ℕ) → length bytes ≡ 12 * made → length bytes / 12 ≡ made
 pieces bytes made long = search (rules, div-mul-add)
 
 module _ (bytes : List ℕ) (made : ℕ) (chunks : List (List ℕ)) (index : ℕ) (d : List ℕ)
-    (front : chunks ≡ first_chunks 12 (length bytes / 12) bytes) (count : length chunks ≡ length bytes / 12)
+    (front : chunks ≡ first_chunks 12 (length bytes / 12) bytes)
+    (count : length chunks ≡ length bytes / 12)
     (long : length bytes ≡ 12 * made) (lt : index < length chunks) where
   piece_is : get_or chunks index d ≡ take 12 (drop (12 * index) bytes)
   piece_is = search (rules, chunk_at)
@@ -102,11 +116,19 @@ module _ (bytes : List ℕ) (made : ℕ) (chunks : List (List ℕ)) (index : ℕ
   length-piece = search (rules, before_end, length-drop, piece_is, length-take-le)
 
   pub cut : drop (12 * index) bytes ≡ get_or chunks index d ++ drop (12 * (index + 1)) bytes
-  cut = search (rules, arith, piece_is, drop-drop 12 (12 * index) bytes, take-append-drop 12 (drop (12 * index) bytes))
+  cut =
+      search (
+        rules,
+        arith,
+        piece_is,
+        drop-drop 12 (12 * index) bytes,
+        take-append-drop 12 (drop (12 * index) bytes),
+      )
 
   -- where the piece is no slot, the bytes begin with none
   pub none_cut : (limits : Limits) → ((s : SlotRecord) → IsWritten limits s.generation s.occupancy
       → get_or chunks index d ≢ slot_bytes s) → (s : SlotRecord) (rest : List ℕ)
       → IsWritten limits s.generation s.occupancy → drop (12 * index) bytes ≢ slot_bytes s ++ rest
-  none_cut limits none s rest is same = none s is (same_parts 12 _ _ (slot_bytes s) rest length-piece
+  none_cut limits none s rest is same =
+      none s is (same_parts 12 _ _ (slot_bytes s) rest length-piece
       (length-slot_bytes s) (sym cut ∙ same)).0

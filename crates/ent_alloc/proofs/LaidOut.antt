@@ -1,5 +1,10 @@
 -- A sound allocator that is flushed, by the old handles of its pool.
-use Rattle.ent_alloc.proofs.Common.{rules, ◌≡◌, sym, ap, ◌∙◌, ℕ, ◌+◌, ◌-◌, ◌<◌, ◌≤◌, List, [], ◌++◌, length, get_or, drop, filter, All, AllPairs, arith, nil_from_length, length-append, All-append, All-weaker, filter_passes, All-filter, AllPairs-filter, Handle, AreLimits, Allocator, available, fresh, is_old, IsSound, IsWithin, AreApart, IsLive}
+use Rattle.ent_alloc.proofs.Common.{rules, ◌≡◌, sym, ap, ◌∙◌, ℕ, ◌+◌, ◌-◌, ◌<◌, ◌≤◌, List, [], ◌++◌}
+use Rattle.ent_alloc.proofs.Common.{length, get_or, drop, filter, All, AllPairs, arith}
+use Rattle.ent_alloc.proofs.Common.{nil_from_length, length-append, All-append, All-weaker}
+use Rattle.ent_alloc.proofs.Common.{filter_passes, All-filter, AllPairs-filter, Handle, AreLimits}
+use Rattle.ent_alloc.proofs.Common.{Allocator, available, fresh, is_old, IsSound, IsWithin}
+use Rattle.ent_alloc.proofs.Common.{AreApart, IsLive}
 use Rattle.ent_alloc.proofs.ListLaws.{AllPairs-append}
 use Rattle.ent_alloc.proofs.FreshHandles.{first_of_slot, All-fresh, fresh_apart, old_of_joined}
 
@@ -32,10 +37,12 @@ pub record IsLaidOut (s : Allocator) (old : List Handle) : Type 0 where
 -- what holds of the first occupant of each slot that was never made
 never_made : (made slots : ℕ) (P : Handle → Type 0) → ((index : ℕ) → made ≤ index → index < slots
     → P (first_of_slot index)) → All P (fresh made (slots - made))
-never_made made slots P each = All-fresh P made (slots - made) (λ k lt. each (made + k) (omega arith) (omega arith))
+never_made made slots P each =
+    All-fresh P made (slots - made) (λ k lt. each (made + k) (omega arith) (omega arith))
 
 -- a made slot is none of those
-below_never_made : (made slots : ℕ) (h : Handle) → h.index < made → All (AreApart h) (fresh made (slots - made))
+below_never_made : (made slots : ℕ) (h : Handle) → h.index < made
+    → All (AreApart h) (fresh made (slots - made))
 below_never_made made slots h below = never_made made slots (AreApart h)
     (λ index from _. apart_by_made made h (first_of_slot index) below from)
 
@@ -44,16 +51,28 @@ laid_out-sound s old h =
     let news = fresh s.made (s.limits.slots - s.made) in
     let all : available s ≡ old ++ news = rw (h.taken, h.aside) h.pool in
     let olds : filter (is_old s.made) (available s) ≡ old = search (rules, old_of_joined) in
-    let within : All (IsWithin s.limits) (available s) = rw all (All-append (IsWithin s.limits) old news h.within
+    let within : All (IsWithin s.limits) (available s) =
+    rw all (All-append (IsWithin s.limits) old news h.within
     (never_made s.made s.limits.slots (IsWithin s.limits)
-    (λ index from below. record { index = below; least = omega arith; greatest = h.limits.some_generation }))) in
+    (λ index from below.
+    record { index = below; least = omega arith; greatest = h.limits.some_generation }))) in
     let apart : AllPairs AreApart (available s) = rw all (AllPairs-append AreApart old news h.apart
     (fresh_apart s.made (s.limits.slots - s.made))
     (λ i d lt. below_never_made s.made s.limits.slots (get_or old i d) (h.below i d lt))) in
     let rest : (x : Handle) → IsLive s x → All (AreApart x) (available s) =
     λ x alive. rw all (All-append (AreApart x) old
-    news (h.live_apart x alive) (below_never_made s.made s.limits.slots x (h.live_below x alive))) in
-    search (rules, all ∙ ap (◌++ news) (sym olds), within, apart, rest, h.live_within, h.live_below, h.one_occupant)
+    news (h.live_apart x alive)
+    (below_never_made s.made s.limits.slots x (h.live_below x alive))) in
+    search (
+      rules,
+      all ∙ ap (◌++ news) (sym olds),
+      within,
+      apart,
+      rest,
+      h.live_within,
+      h.live_below,
+      h.one_occupant,
+    )
 
 -- nothing is taken or set aside where nothing was asked for
 pub flushed-laid_out : (s : Allocator) → IsSound s → s.asked ≡ 0 → IsLaidOut s (old_ones s)
@@ -65,6 +84,18 @@ flushed-laid_out s h flushed =
     let apart = AllPairs-filter AreApart (is_old s.made) (available s) h.apart in
     let within = λ (x : Handle) (alive : IsLive s x). (h.live x alive).within in
     let below = λ (x : Handle) (alive : IsLive s x). (h.live x alive).made in
-    let live_apart = λ (x : Handle) (alive : IsLive s x). All-filter (is_old s.made) (AreApart x) (available s)
+    let live_apart =
+    λ (x : Handle) (alive : IsLive s x). All-filter (is_old s.made) (AreApart x) (available s)
     (h.live x alive).apart in
-    search (rules, taken, all ∙ h.order, old_ones_below s, All-filter, apart, within, below, live_apart, h.one_occupant)
+    search (
+      rules,
+      taken,
+      all ∙ h.order,
+      old_ones_below s,
+      All-filter,
+      apart,
+      within,
+      below,
+      live_apart,
+      h.one_occupant,
+    )

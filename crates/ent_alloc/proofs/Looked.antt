@@ -1,16 +1,32 @@
 -- What looking a handle up in the records tells, and one slot changed: its occupant gets a row, is
 -- freed, or is the last one. The vectors stay linked, and the roster changes by that handle.
-use Rattle.ent_alloc.proofs.Common.{common_steps, rules, ◌≡◌, ◌≢◌, ℕ, ◌+◌, ◌-◌, ◌<◌, ◌≤◌, Bool, true, false, ◌&&◌, eqb, ltb, List, length, get_or, set, drop, map, refl, arith, cases_eq, false≢true, and_parts, and_from, eqb-true, leb-true, ltb-true, eq-eqb, le-leb, lt-ltb, false_from_ne_true, get_or-drop, get_or-map, length-drop, length-map, length-set, get_or-set_same, get_or-set_other, Handle, handle_cmp, handle_cmp_total, handle_cmp-IsAntisymmetric, Limits, fresh, stands_in, SlotRecord, Occupancy, AliveWithRow, Pending, Retired, occupants, occupancy_of, lives, row_kept, record_at, no_slot, handle_at, rows_from, is_pending_from, waits_from, roster_of, AreLinked, Contains, [], ◌∷◌, ◌++◌, None, cases_lt, length_push, map_push, get_or_append_left, get_or_push, following, is_alive, row_of, Roster}
+use Rattle.ent_alloc.proofs.Common.{common_steps, rules, ◌≡◌, ◌≢◌, ℕ, ◌+◌, ◌-◌, ◌<◌, ◌≤◌, Bool}
+use Rattle.ent_alloc.proofs.Common.{true, false, ◌&&◌, eqb, ltb, List, length, get_or, set, drop}
+use Rattle.ent_alloc.proofs.Common.{map, refl, arith, cases_eq, false≢true, and_parts, and_from}
+use Rattle.ent_alloc.proofs.Common.{eqb-true, leb-true, ltb-true, eq-eqb, le-leb, lt-ltb}
+use Rattle.ent_alloc.proofs.Common.{false_from_ne_true, get_or-drop, get_or-map, length-drop}
+use Rattle.ent_alloc.proofs.Common.{length-map, length-set, get_or-set_same, get_or-set_other}
+use Rattle.ent_alloc.proofs.Common.{Handle, handle_cmp, handle_cmp_total}
+use Rattle.ent_alloc.proofs.Common.{handle_cmp-IsAntisymmetric, Limits, fresh, stands_in}
+use Rattle.ent_alloc.proofs.Common.{SlotRecord, Occupancy, AliveWithRow, Pending, Retired}
+use Rattle.ent_alloc.proofs.Common.{occupants, occupancy_of, lives, row_kept, record_at, no_slot}
+use Rattle.ent_alloc.proofs.Common.{handle_at, rows_from, is_pending_from, waits_from, roster_of}
+use Rattle.ent_alloc.proofs.Common.{AreLinked, Contains, [], ◌∷◌, ◌++◌, None, cases_lt, length_push}
+use Rattle.ent_alloc.proofs.Common.{map_push, get_or_append_left, get_or_push, following, is_alive}
+use Rattle.ent_alloc.proofs.Common.{row_of, Roster}
 use Rattle.std.specs.FinSet as sets
 use Rattle.std.specs.FinMap as maps
 use Rattle.ent_alloc.proofs.ListLaws.{map_alike}
 use Rattle.ent_alloc.proofs.HandleSets.{Contains-from_stands_in, stands_in-from_Contains}
 use Rattle.ent_alloc.proofs.FreshHandles.{length-fresh, get_or-fresh}
-use Rattle.ent_alloc.proofs.Occupants.{is_occupant, contains_occupants, ties, one, length-occupants-set, occupant_made, occupant_alive, row_at, get_rows}
+use Rattle.ent_alloc.proofs.Occupants.{is_occupant, contains_occupants, ties, one}
+use Rattle.ent_alloc.proofs.Occupants.{length-occupants-set, occupant_made, occupant_alive, row_at}
+use Rattle.ent_alloc.proofs.Occupants.{get_rows}
 
 -- the handle is the next one of a slot that waits at this position or after it
 abbrev pub waits_at : List SlotRecord → Handle → ℕ → Bool
-waits_at records h from = ltb h.index (length records) && (is_pending_from (record_at records h.index).occupancy from
+waits_at records h from = ltb h.index (length records)
+    && (is_pending_from (record_at records h.index).occupancy from
     && eqb (record_at records h.index).generation h.generation)
 
 -- ---- one look-up tells all of a handle
@@ -22,7 +38,8 @@ module _ (records : List SlotRecord) (h : Handle) where
   pub row_at-occupancy : row_at records h ≡ row_kept (occupancy_of records h)
   row_at-occupancy = grind (arith, common_steps)
 
-  pub waits_at-occupancy : (from : ℕ) → waits_at records h from ≡ waits_from (occupancy_of records h) from
+  pub waits_at-occupancy : (from : ℕ)
+      → waits_at records h from ≡ waits_from (occupancy_of records h) from
   waits_at-occupancy from = grind (arith, common_steps)
 
 -- ---- who waits
@@ -36,7 +53,8 @@ waiting_position _ from is = absurd (false≢true is)
 module _ (limits : Limits) (records : List SlotRecord) (pending : List ℕ) (live : ℕ)
     (linked : AreLinked limits records pending live) where
   at_position : (from k : ℕ) (d : Handle) → from + k < length pending
-      → get_or (drop from (map (handle_at records) pending)) k d ≡ handle_at records (get_or pending (from + k) 0)
+      → get_or (drop from (map (handle_at records) pending)) k d
+      ≡ handle_at records (get_or pending (from + k) 0)
   at_position from k d within = search (rules, get_or-drop, get_or-map)
 
   long : (from : ℕ) → length (drop from (map (handle_at records) pending)) ≡ length pending - from
@@ -66,25 +84,30 @@ module _ (limits : Limits) (records : List SlotRecord) (pending : List ℕ) (liv
   -- who waits after a position is told by the record
   pub stands_in-pending : (h : Handle) (from : ℕ) → waits_at records h from
       ≡ stands_in (drop from (map (handle_at records) pending)) h
-  stands_in-pending h from = grind (arith, common_steps, waiting h from, found h from, Contains-from_stands_in)
+  stands_in-pending h from =
+      grind (arith, common_steps, waiting h from, found h from, Contains-from_stands_in)
 
 -- ---- fresh handles
 
-pub fresh_yes : (h : Handle) (made count : ℕ) → h.generation ≡ 1 → made ≤ h.index → h.index - made < count
-    → stands_in (fresh made count) h ≡ true
+pub fresh_yes : (h : Handle) (made count : ℕ) → h.generation ≡ 1 → made ≤ h.index
+    → h.index - made < count → stands_in (fresh made count) h ≡ true
 fresh_yes h made count first after within = stands_in-from_Contains (fresh made count) h
     (h.index - made, omega (arith, length-fresh made count), search (rules, get_or-fresh))
 
-pub fresh_no : (h : Handle) (made count : ℕ) → (h.generation ≡ 1 → made ≤ h.index → h.index - made < count → ⊥)
+pub fresh_no : (h : Handle) (made count : ℕ)
+    → (h.generation ≡ 1 → made ≤ h.index → h.index - made < count → ⊥)
     → stands_in (fresh made count) h ≡ false
-fresh_no h made count none = search (rules, false_from_ne_true, Contains-from_stands_in, length-fresh, get_or-fresh)
+fresh_no h made count none =
+    search (rules, false_from_ne_true, Contains-from_stands_in, length-fresh, get_or-fresh)
 
 -- ---- rows
 
-module _ (limits : Limits) (records : List SlotRecord) (pending : List ℕ) (live : ℕ) (h : Handle) (row : ℕ)
+module _ (limits : Limits) (records : List SlotRecord) (pending : List ℕ) (live : ℕ) (h : Handle)
+    (row : ℕ)
     (linked : AreLinked limits records pending live) (lives : is_occupant records h ≡ true) where
   abbrev labelled : SlotRecord
-  labelled = record { generation = (record_at records h.index).generation; occupancy = AliveWithRow row }
+  labelled =
+      record { generation = (record_at records h.index).generation; occupancy = AliveWithRow row }
 
   abbrev relabelled : List SlotRecord
   relabelled = set records h.index labelled
@@ -105,14 +128,19 @@ module _ (limits : Limits) (records : List SlotRecord) (pending : List ℕ) (liv
   set_row_keeps_links = search
       (rules, length-set, length-occupants-set, slot_made, one, occupant_alive, generations, others)
 
-  same_live : sets.from_list {R = handle_cmp} (occupants 0 relabelled) ≡ sets.from_list (occupants 0 records)
-  same_live = sets.same_set handle_cmp_total handle_cmp-IsAntisymmetric _ _
-      (λ q. grind (arith, common_steps, contains_occupants relabelled q, contains_occupants records q))
+  same_live : sets.from_list {R = handle_cmp} (occupants 0 relabelled)
+      ≡ sets.from_list (occupants 0 records)
+  same_live =
+      sets.same_set handle_cmp_total handle_cmp-IsAntisymmetric _ _
+      (λ q.
+      grind (arith, common_steps, contains_occupants relabelled q, contains_occupants records q))
 
   new_rows : maps.from_entries {R = handle_cmp} (rows_from 0 relabelled)
       ≡ maps.insert (maps.from_entries (rows_from 0 records)) h row
   new_rows = maps.same_map handle_cmp_total handle_cmp-IsAntisymmetric _ _
-      (λ q. let put = maps.get-insert handle_cmp_total (maps.from_entries (rows_from 0 records)) h row q in grind
+      (λ q. let put =
+      maps.get-insert handle_cmp_total (maps.from_entries (rows_from 0 records)) h row q in
+      grind
       (arith, common_steps, ties q h, get_rows relabelled q, get_rows records q))
 
   pub roster_of-set_row : let was = roster_of limits records pending in
@@ -128,7 +156,8 @@ module _ (limits : Limits) (records : List SlotRecord) (pending : List ℕ) (liv
   apart position below e = search (rules, occupant_alive, false≢true)
 
   -- its record has no occupant any more
-  module _ (left : SlotRecord) (dead : is_alive left.occupancy ≡ false) (bare : row_of left.occupancy ≡ None) where
+  module _ (left : SlotRecord) (dead : is_alive left.occupancy ≡ false)
+      (bare : row_of left.occupancy ≡ None) where
     abbrev changed : List SlotRecord
     changed = set records h.index left
 
@@ -141,16 +170,19 @@ module _ (limits : Limits) (records : List SlotRecord) (pending : List ℕ) (liv
     fewer : length (occupants 0 changed) + 1 ≡ length (occupants 0 records)
     fewer = search (rules, length-occupants-set, made_slot, one, occupant_alive)
 
-    live_is : sets.from_list {R = handle_cmp} (occupants 0 changed) ≡ sets.remove (sets.from_list (occupants 0 records))
-        h
+    live_is : sets.from_list {R = handle_cmp} (occupants 0 changed)
+        ≡ sets.remove (sets.from_list (occupants 0 records)) h
     live_is = sets.same_set handle_cmp_total handle_cmp-IsAntisymmetric _ _
-        (λ q. let gone = sets.contains-remove handle_cmp_total (sets.from_list (occupants 0 records)) h q in grind
+        (λ q. let gone =
+        sets.contains-remove handle_cmp_total (sets.from_list (occupants 0 records)) h q in
+        grind
         (arith, common_steps, contains_occupants changed q, contains_occupants records q))
 
     rows_is : maps.from_entries {R = handle_cmp} (rows_from 0 changed)
         ≡ maps.remove (maps.from_entries (rows_from 0 records)) h
     rows_is = maps.same_map handle_cmp_total handle_cmp-IsAntisymmetric _ _
-        (λ q. let gone = maps.get-remove handle_cmp_total (maps.from_entries (rows_from 0 records)) h q in grind
+        (λ q. let gone =
+        maps.get-remove handle_cmp_total (maps.from_entries (rows_from 0 records)) h q in grind
         (arith, common_steps, ties q h, get_rows changed q, get_rows records q))
 
     pending_is : map (handle_at changed) pending ≡ map (handle_at records) pending
@@ -167,8 +199,8 @@ module _ (limits : Limits) (records : List SlotRecord) (pending : List ℕ) (liv
   pub one_lives : 1 ≤ live
   one_lives = let counted = linked.counted in omega (arith, fewer vacant refl refl)
 
-  pub release_keeps_links : h.generation ≢ limits.generations → AreLinked limits released (pending ++ h.index ∷ [])
-      (live - 1)
+  pub release_keeps_links : h.generation ≢ limits.generations
+      → AreLinked limits released (pending ++ h.index ∷ []) (live - 1)
   release_keeps_links before =
       let less = fewer vacant refl refl in
       let made = made_slot in

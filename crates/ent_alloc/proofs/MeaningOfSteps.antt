@@ -1,19 +1,35 @@
 -- What the calls make of the roster is the allocator's step: `alloc`, a flush, `lower`, `settle`.
-use Rattle.ent_alloc.proofs.Common.{rules, ◌≡◌, ◌+◌, ◌-◌, ◌<◌, List, [], ◌∷◌, ◌++◌, length, take, reverse, sym, ap, ◌∙◌, arith, suc, slice_get, Some, None, refl, lt-ltb, le-ltb, take_all, reverse-append, take_more, nil_from_length, All-head, get_or_from_slice_get, slice_get_within, or_comm, or-false, Handle, handle_cmp, handle_cmp_total, handle_cmp-IsAntisymmetric, Roster, Requests, Allocator, fresh, after_alloc, IsSound, idle, allocator_of, entities_of, HasRowsOfLiving, common_steps, ℕ, ◌≤◌, ◌||◌, drop, filter, All, length-reverse, reverse-reverse, list_any-append, or_assoc, is_fresh, made_at_flush, after_flush, born, stands_in, ◌^◌, cases_lt, le-leb, cond-true, length-take, drop_all, drop-drop, take-add, after_take, settled, before_requests, AreReserved}
+use Rattle.ent_alloc.proofs.Common.{rules, ◌≡◌, ◌+◌, ◌-◌, ◌<◌, List, [], ◌∷◌, ◌++◌, length, take}
+use Rattle.ent_alloc.proofs.Common.{reverse, sym, ap, ◌∙◌, arith, suc, slice_get, Some, None, refl}
+use Rattle.ent_alloc.proofs.Common.{lt-ltb, le-ltb, take_all, reverse-append, take_more}
+use Rattle.ent_alloc.proofs.Common.{nil_from_length, All-head, get_or_from_slice_get}
+use Rattle.ent_alloc.proofs.Common.{slice_get_within, or_comm, or-false, Handle, handle_cmp}
+use Rattle.ent_alloc.proofs.Common.{handle_cmp_total, handle_cmp-IsAntisymmetric, Roster, Requests}
+use Rattle.ent_alloc.proofs.Common.{Allocator, fresh, after_alloc, IsSound, idle, allocator_of}
+use Rattle.ent_alloc.proofs.Common.{entities_of, HasRowsOfLiving, common_steps, ℕ, ◌≤◌, ◌||◌, drop}
+use Rattle.ent_alloc.proofs.Common.{filter, All, length-reverse, reverse-reverse, list_any-append}
+use Rattle.ent_alloc.proofs.Common.{or_assoc, is_fresh, made_at_flush, after_flush, born, stands_in}
+use Rattle.ent_alloc.proofs.Common.{◌^◌, cases_lt, le-leb, cond-true, length-take, drop_all}
+use Rattle.ent_alloc.proofs.Common.{drop-drop, take-add, after_take, settled, before_requests}
+use Rattle.ent_alloc.proofs.Common.{AreReserved}
 use Rattle.std.specs.FinSet as sets
 use Rattle.std.specs.FinMap as maps
-use Rattle.ent_alloc.proofs.FreshHandles.{first_of_slot, fresh-next, length-fresh, take_joined, drop_joined, old_of_joined, fresh_of_joined}
+use Rattle.ent_alloc.proofs.FreshHandles.{first_of_slot, fresh-next, length-fresh, take_joined}
+use Rattle.ent_alloc.proofs.FreshHandles.{drop_joined, old_of_joined, fresh_of_joined}
 use Rattle.ent_alloc.proofs.Flushes.{rows-joined}
 use Rattle.ent_alloc.proofs.HandleSets.{contains-union_list}
 use Rattle.ent_alloc.proofs.Soundness.{after_alloc-sound, after_take-sound, IsSound-moved}
-use Rattle.ent_alloc.proofs.Meaning.{to_give, pending_below, length-idle, IsAtRest, StandFor, drop_rest, length_left, rest_is, available_is}
+use Rattle.ent_alloc.proofs.Meaning.{to_give, pending_below, length-idle, IsAtRest, StandFor}
+use Rattle.ent_alloc.proofs.Meaning.{drop_rest, length_left, rest_is, available_is}
 use Rattle.ent_alloc.proofs.ListLaws.{drop-reverse, take-reverse, list_any-reverse}
 use Rattle.ent_alloc.proofs.Settled.{settled-sound}
 
-pub union_one : (live : sets.FinSet handle_cmp) (h : Handle) → sets.union live (sets.from_list (h ∷ [])) ≡ sets.insert
-    live h
-union_one live h = sets.same_set handle_cmp_total handle_cmp-IsAntisymmetric _ _
-    (λ q. search (rules, contains-union_list, or_comm, or-false, sets.contains-insert, handle_cmp_total))
+pub union_one : (live : sets.FinSet handle_cmp) (h : Handle)
+    → sets.union live (sets.from_list (h ∷ [])) ≡ sets.insert live h
+union_one live h =
+    sets.same_set handle_cmp_total handle_cmp-IsAntisymmetric _ _
+    (λ q.
+    search (rules, contains-union_list, or_comm, or-false, sets.contains-insert, handle_cmp_total))
 
 -- ---- alloc
 
@@ -31,8 +47,14 @@ made_roster r h = record r { live = sets.union r.live (sets.from_list (h ∷ [])
 module _ (r : Roster) (h : Handle) (some : 0 < length r.pending)
     (last : slice_get r.pending (length r.pending - 1) ≡ Some h) where
   pub last_is : r.pending ≡ take (length r.pending - 1) r.pending ++ h ∷ []
-  last_is = search
-      (rules, arith, take_all (length r.pending) r.pending, take_more r.pending (length r.pending - 1) h, get_or_from_slice_get)
+  last_is =
+      search (
+        rules,
+        arith,
+        take_all (length r.pending) r.pending,
+        take_more r.pending (length r.pending - 1) h,
+        get_or_from_slice_get,
+      )
 
   last_first : reverse r.pending ≡ h ∷ reverse (take (length r.pending - 1) r.pending)
   last_first = ap reverse last_is ∙ reverse-append (take (length r.pending - 1) r.pending) (h ∷ [])
@@ -49,7 +71,8 @@ module _ (r : Roster) (h : Handle) (some : 0 < length r.pending)
 
 -- where none waits, it is the first occupant of a new slot
 module _ (r : Roster) (none : length r.pending ≡ 0) (room : r.made < r.limits.slots) where
-  pub alloc_fresh_front : idle r ≡ first_of_slot r.made ∷ fresh (r.made + 1) (r.limits.slots - (r.made + 1))
+  pub alloc_fresh_front : idle r
+      ≡ first_of_slot r.made ∷ fresh (r.made + 1) (r.limits.slots - (r.made + 1))
   alloc_fresh_front =
       let more : r.limits.slots - r.made ≡ suc (r.limits.slots - (r.made + 1)) = omega arith in
       search (rules, nil_from_length, fresh-next)
@@ -73,18 +96,20 @@ module _ (r : Roster) (requests : Requests) (s : Allocator) (rest : IsAtRest r r
 
   -- the first handle of the pool is given, and the slots are left so
   given : (h : Handle) (left : Roster) (others : List Handle) → s.pool ≡ h ∷ others
-      → allocator_of left 0 0 ≡ after_alloc s h → left.rows ≡ r.rows → HasRowsOfLiving (entities_of left 0 0)
-      → (new : Roster) → new ≡ left → IsGiven requests s h new
+      → allocator_of left 0 0 ≡ after_alloc s h → left.rows ≡ r.rows
+      → HasRowsOfLiving (entities_of left 0 0) → (new : Roster) → new ≡ left
+      → IsGiven requests s h new
   given h left others front is row rows new same = search
       (rules, after_alloc-sound s h others rest.sound rest.asked front, pool_is)
 
   -- the slot that waits last gets its next occupant
-  pub reused_given : (h : Handle) → slice_get r.pending (length r.pending - 1) ≡ Some h → (new : Roster)
-      → new ≡ reused_roster r h → IsGiven requests s h new
+  pub reused_given : (h : Handle) → slice_get r.pending (length r.pending - 1) ≡ Some h
+      → (new : Roster) → new ≡ reused_roster r h → IsGiven requests s h new
   reused_given h last =
       let within = slice_get_within r.pending (length r.pending - 1) h last in
       let some : 0 < length r.pending = omega arith in
-      given h (reused_roster r h) _ (sym pool_is ∙ alloc_old_front r h some last) (search (rules, alloc_old_is)) refl
+      given h (reused_roster r h) _ (sym pool_is ∙ alloc_old_front r h some last)
+      (search (rules, alloc_old_is)) refl
       (rows-joined r.live (h ∷ []) r.rows rest.rows)
 
   -- no slot waits, and one is made
@@ -112,7 +137,9 @@ live_after live news olds = sets.same_set handle_cmp_total handle_cmp-IsAntisymm
 -- the roster after so many new slots and with so many pending ones kept
 abbrev pub flushed_roster : Roster → ℕ → ℕ → Roster
 flushed_roster r kept news = record r {
-  live = sets.union (sets.union r.live (sets.from_list (fresh r.made news))) (sets.from_list (drop kept r.pending));
+  live =
+      sets.union (sets.union r.live (sets.from_list (fresh r.made news)))
+      (sets.from_list (drop kept r.pending));
   pending = take kept r.pending;
   made = r.made + news;
 }
@@ -142,16 +169,29 @@ module _ (r : Roster) (asked given : ℕ) (within : given ≤ asked)
   made_at_flush_is = ap length taken_fresh ∙ length-fresh r.made news
 
   -- who is reserved
-  pub stands_in_taken : (h : Handle) → (stands_in (drop kept r.pending) h || stands_in (fresh r.made news) h)
+  pub stands_in_taken : (h : Handle)
+      → (stands_in (drop kept r.pending) h || stands_in (fresh r.made news) h)
       ≡ stands_in (take given (idle r)) h
   stands_in_taken h = search (rules, list_any-reverse, list_any-append, taken_is)
 
   pub born_is_listed : born (allocator_of r asked given) ≡ fresh r.made news ++ drop kept r.pending
-  born_is_listed = search (rules, taken_fresh, reverse-reverse, taken_is, old_of_joined, taken_below)
+  born_is_listed =
+      search (rules, taken_fresh, reverse-reverse, taken_is, old_of_joined, taken_below)
 
-  pub flush_is : allocator_of (flushed_roster r kept news) 0 0 ≡ after_flush (allocator_of r asked given)
-  flush_is = search
-      (rules, live_after, taken_is, made_at_flush_is, drop-reverse, length-reverse, drop_joined, waits_below, drop_rest)
+  pub flush_is : allocator_of (flushed_roster r kept news) 0 0
+      ≡ after_flush (allocator_of r asked given)
+  flush_is =
+      search (
+        rules,
+        live_after,
+        taken_is,
+        made_at_flush_is,
+        drop-reverse,
+        length-reverse,
+        drop_joined,
+        waits_below,
+        drop_rest,
+      )
 
 -- a request that there is enough for
 pub lower_served : (r : Roster) (asked given n : ℕ) → given ≡ asked → asked + n ≤ to_give r
@@ -172,22 +212,26 @@ module _ (r : Roster) (asked given n : ℕ) (s : Allocator) (reserved : AreReser
   pub served_view : asked + n ≤ to_give r → allocator_of r (asked + n) (asked + n) ≡ after_take s n
   served_view enough = search (rules, lower_served)
 
-  pub served_reserved : asked + n ≤ to_give r → asked + n ≤ 2 ^ 50 → AreReserved r (asked + n) (asked + n)
+  pub served_reserved : asked + n ≤ to_give r → asked + n ≤ 2 ^ 50
+      → AreReserved r (asked + n) (asked + n)
   served_reserved enough small = search (rules, served_view, after_take-sound)
 
   pub refused_view : to_give r < asked + n → allocator_of r (asked + n) given ≡ after_take s n
   refused_view past = search (rules, lower_refused)
 
-  pub refused_reserved : to_give r < asked + n → asked + n ≤ 2 ^ 50 → AreReserved r (asked + n) given
+  pub refused_reserved : to_give r < asked + n → asked + n ≤ 2 ^ 50
+      → AreReserved r (asked + n) given
   refused_reserved past small = search (rules, refused_view, after_take-sound)
 
 -- ---- settle
 
 -- what the two positions leave of an allocator that nothing is reserved of
-pub settled_is : (r : Roster) (asked given : ℕ) → allocator_of r asked given ≡ settled (allocator_of r 0 0) given asked
+pub settled_is : (r : Roster) (asked given : ℕ)
+    → allocator_of r asked given ≡ settled (allocator_of r 0 0) given asked
 settled_is r asked given = search (rules)
 
-module _ (r : Roster) (was_asked was_given : ℕ) (s : Allocator) (reserved : AreReserved r was_asked was_given)
+module _ (r : Roster) (was_asked was_given : ℕ) (s : Allocator)
+    (reserved : AreReserved r was_asked was_given)
     (view : allocator_of r was_asked was_given ≡ s) (idle : s.asked ≡ 0) where
   pub settled_view : (asked given : ℕ) → allocator_of r asked given ≡ settled s given asked
   settled_view asked given = search (rules, settled_is, rest_is)

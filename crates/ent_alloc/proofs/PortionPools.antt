@@ -1,14 +1,23 @@
 -- Portions of a pool: the allocator whose pool begins with what was used, and what a request for it
 -- leaves.
-use Rattle.ent_alloc.proofs.Common.{◌≡◌, sym, ◌∙◌, ℕ, ◌-◌, ◌≤◌, rules, List, [], length, take, arith, IsPermutation, common_steps, cases_eq, length-append, append_assoc, take_at, drop_at, length-map, length-take-le, take-append-drop, length_permutation, Handle, Roster, Allocator, after_take, idle, allocator_of, AreReserved, with_front, slots_of, AreSlotsOf, Portion, Requests, used_of, size_of, count_of, reach_of, AreUsed, front_of, after_portions, arranged, IsSound, ◌≢◌}
+use Rattle.ent_alloc.proofs.Common.{◌≡◌, sym, ◌∙◌, ℕ, ◌-◌, ◌≤◌, rules, List, [], length, take}
+use Rattle.ent_alloc.proofs.Common.{arith, IsPermutation, common_steps, cases_eq, length-append}
+use Rattle.ent_alloc.proofs.Common.{append_assoc, take_at, drop_at, length-map, length-take-le}
+use Rattle.ent_alloc.proofs.Common.{take-append-drop, length_permutation, Handle, Roster, Allocator}
+use Rattle.ent_alloc.proofs.Common.{after_take, idle, allocator_of, AreReserved, with_front}
+use Rattle.ent_alloc.proofs.Common.{slots_of, AreSlotsOf, Portion, Requests, used_of, size_of}
+use Rattle.ent_alloc.proofs.Common.{count_of, reach_of, AreUsed, front_of, after_portions, arranged}
+use Rattle.ent_alloc.proofs.Common.{IsSound, ◌≢◌}
 use Rattle.ent_alloc.proofs.Meaning.{rest_is}
 use Rattle.ent_alloc.proofs.FrontPools.{with_front-sound}
 use Rattle.ent_alloc.proofs.LaidOut.{flushed-laid_out}
 use Rattle.ent_alloc.proofs.Soundness.{after_take-sound}
 use Rattle.ent_alloc.proofs.Taken.{after_take-served}
-use Rattle.ent_alloc.proofs.Portioned.{front_same, behind_reach, used_is_front, left_is_behind, count_within, reach_within, length-used, front-map}
+use Rattle.ent_alloc.proofs.Portioned.{front_same, behind_reach, used_is_front, left_is_behind}
+use Rattle.ent_alloc.proofs.Portioned.{count_within, reach_within, length-used, front-map}
 
-module _ (s : Allocator) (ps : List Portion) (fits : AreUsed ps) (within : size_of ps ≤ length s.pool) where
+module _ (s : Allocator) (ps : List Portion) (fits : AreUsed ps)
+    (within : size_of ps ≤ length s.pool) where
   abbrev front : List Handle
   front = front_of s.pool ps
 
@@ -39,8 +48,9 @@ module _ (s : Allocator) (ps : List Portion) (fits : AreUsed ps) (within : size_
     pub order_slots : AreSlotsOf (take (length is) s.pool) is
     order_slots = grind (arith, common_steps, same, order_long)
 
-    pub order_is : (s' : Allocator) → count ≢ reach → ((slots : AreSlotsOf (take (length is) s.pool) is)
-        → s' ≡ with_front s slots.front) → s' ≡ arranged s ps
+    pub order_is : (s' : Allocator) → count ≢ reach
+        → ((slots : AreSlotsOf (take (length is) s.pool) is) → s' ≡ with_front s slots.front)
+        → s' ≡ arranged s ps
     unfolding order_slots
     order_is s' short each =
         let moved : arranged s ps ≡ with_front s front = grind (arith, common_steps) in
@@ -55,26 +65,51 @@ module _ (s : Allocator) (ps : List Portion) (fits : AreUsed ps) (within : size_
   us_long = length-used s.pool ps fits within
 
   -- the pool was arranged
-  moved_taken : count ≢ reach → s.taken ≡ [] → s.asked ≡ 0 → after_take (with_front s front) count ≡ after_portions s ps
-  moved_taken short none flushed = search
-      (rules, append_assoc, length-append, us_long, front_long, behind_reach, take-append-drop, take_at, drop_at, after_take-served)
+  moved_taken : count ≢ reach → s.taken ≡ [] → s.asked ≡ 0
+      → after_take (with_front s front) count ≡ after_portions s ps
+  moved_taken short none flushed =
+      search (
+        rules,
+        append_assoc,
+        length-append,
+        us_long,
+        front_long,
+        behind_reach,
+        take-append-drop,
+        take_at,
+        drop_at,
+        after_take-served,
+      )
 
-  pub portions_taken : s.taken ≡ [] → s.asked ≡ 0 → after_take (arranged s ps) count ≡ after_portions s ps
-  portions_taken none flushed = grind
-      (arith, common_steps, cases_eq, moved_taken, used_is_front, left_is_behind, after_take-served, reaches, enough)
+  pub portions_taken : s.taken ≡ [] → s.asked ≡ 0
+      → after_take (arranged s ps) count ≡ after_portions s ps
+  portions_taken none flushed =
+      grind (
+        arith,
+        common_steps,
+        cases_eq,
+        moved_taken,
+        used_is_front,
+        left_is_behind,
+        after_take-served,
+        reaches,
+        enough,
+      )
 
   pub arranged_asked : (arranged s ps).asked ≡ s.asked
   arranged_asked = grind (arith, common_steps)
 
 -- the slots of the front, as the vectors have them
-pub front_slots : (r : Roster) (requests : Requests) (s : Allocator) (is : List ℕ) (ps : List Portion)
-    → AreReserved r requests.asked requests.served → allocator_of r requests.asked requests.served ≡ s → s.asked ≡ 0
+pub front_slots : (r : Roster) (requests : Requests) (s : Allocator) (is : List ℕ)
+    (ps : List Portion) → AreReserved r requests.asked requests.served
+    → allocator_of r requests.asked requests.served ≡ s → s.asked ≡ 0
     → is ≡ front_of (slots_of (idle r)) ps → is ≡ slots_of (front_of s.pool ps)
-front_slots r requests s is ps reserved view flushed are = grind (arith, common_steps, rest_is, front-map)
+front_slots r requests s is ps reserved view flushed are =
+    grind (arith, common_steps, rest_is, front-map)
 
 -- the allocator stays sound
-pub after_portions-sound : (s : Allocator) (ps : List Portion) → IsSound s → s.asked ≡ 0 → AreUsed ps
-    → size_of ps ≤ length s.pool → IsSound (after_portions s ps)
+pub after_portions-sound : (s : Allocator) (ps : List Portion) → IsSound s → s.asked ≡ 0
+    → AreUsed ps → size_of ps ≤ length s.pool → IsSound (after_portions s ps)
 after_portions-sound s ps sound flushed fits within = search (
   rules,
   arith,

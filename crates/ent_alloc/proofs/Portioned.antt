@@ -1,5 +1,17 @@
 -- Portions of a list: where what was used of them ends, and what is left.
-use Rattle.ent_alloc.proofs.Common.{rules, ◌≡◌, ◌⊎◌, inl, inr, refl, sym, ap, ◌∙◌, subst, ℕ, ◌+◌, ◌-◌, ◌<◌, ◌≤◌, List, [], ◌∷◌, ◌++◌, length, take, drop, get_or, map, arith, IsPermutation, common_steps, take-add, take-append-add, drop-append-add, take-append-drop, length-append, length-drop, drop-drop, length-take-le, append-nil, drop-append-le, drop_more, take_more, get_or-drop, drop-take, get_or_default, All-tail, get_or_from_slice_get, append_assoc, take-map, drop-map, take-take, take_all, min, min-eq_left, min-eq_right, cases_lt, IsPermutation-refl, IsPermutation-append_left, IsPermutation-append_right, IsPermutation-append_comm, IsPermutation-trans, Portion, used_of, left_of, size_of, count_of, reach_of, AreUsed, front_of, slice_get, Some}
+use Rattle.ent_alloc.proofs.Common.{rules, ◌≡◌, ◌⊎◌, inl, inr, refl, sym, ap, ◌∙◌, subst, ℕ, ◌+◌}
+use Rattle.ent_alloc.proofs.Common.{◌-◌, ◌<◌, ◌≤◌, List, [], ◌∷◌, ◌++◌, length, take, drop, get_or}
+use Rattle.ent_alloc.proofs.Common.{map, arith, IsPermutation, common_steps, take-add}
+use Rattle.ent_alloc.proofs.Common.{take-append-add, drop-append-add, take-append-drop}
+use Rattle.ent_alloc.proofs.Common.{length-append, length-drop, drop-drop, length-take-le}
+use Rattle.ent_alloc.proofs.Common.{append-nil, drop-append-le, drop_more, take_more, get_or-drop}
+use Rattle.ent_alloc.proofs.Common.{drop-take, get_or_default, All-tail, get_or_from_slice_get}
+use Rattle.ent_alloc.proofs.Common.{append_assoc, take-map, drop-map, take-take, take_all, min}
+use Rattle.ent_alloc.proofs.Common.{min-eq_left, min-eq_right, cases_lt, IsPermutation-refl}
+use Rattle.ent_alloc.proofs.Common.{IsPermutation-append_left, IsPermutation-append_right}
+use Rattle.ent_alloc.proofs.Common.{IsPermutation-append_comm, IsPermutation-trans, Portion}
+use Rattle.ent_alloc.proofs.Common.{used_of, left_of, size_of, count_of, reach_of, AreUsed}
+use Rattle.ent_alloc.proofs.Common.{front_of, slice_get, Some}
 pub use Rattle.std.proofs.lemmas.List.{map-append}
 use Rattle.ent_alloc.proofs.ListLaws.{take-append}
 
@@ -14,7 +26,8 @@ others_used p ps fits = All-tail (λ (p : Portion). p.used ≤ p.size) p ps fits
 pub reach-none : (p : Portion) (ps : List Portion) → reach_of ps ≡ 0 → reach_of (p ∷ ps) ≡ p.used
 reach-none p ps none = grind (arith, common_steps)
 
-pub reach-some : (p : Portion) (ps : List Portion) → 0 < reach_of ps → reach_of (p ∷ ps) ≡ p.size + reach_of ps
+pub reach-some : (p : Portion) (ps : List Portion) → 0 < reach_of ps
+    → reach_of (p ∷ ps) ≡ p.size + reach_of ps
 reach-some p ps some = grind (arith, common_steps)
 
 none_or_some : (n : ℕ) → (n ≡ 0) ⊎ (0 < n)
@@ -22,11 +35,13 @@ none_or_some n = grind arith
 
 pub count_within : (ps : List Portion) → AreUsed ps → count_of ps ≤ reach_of ps
 count_within [] fits = omega arith
-count_within (p ∷ ps) fits = grind (arith, common_steps, first_used p ps fits, count_within ps (others_used p ps fits))
+count_within (p ∷ ps) fits =
+    grind (arith, common_steps, first_used p ps fits, count_within ps (others_used p ps fits))
 
 pub reach_within : (ps : List Portion) → AreUsed ps → reach_of ps ≤ size_of ps
 reach_within [] fits = omega arith
-reach_within (p ∷ ps) fits = grind (arith, common_steps, first_used p ps fits, reach_within ps (others_used p ps fits))
+reach_within (p ∷ ps) fits =
+    grind (arith, common_steps, first_used p ps fits, reach_within ps (others_used p ps fits))
 
 -- ---- what was used, and what is left
 
@@ -36,7 +51,8 @@ take_of_take n m xs le = take-take n m xs le
 module _ {A : Type 0} where
   pub used_none : (pool : List A) (ps : List Portion) → count_of ps ≡ 0 → used_of pool ps ≡ []
   used_none pool [] none = refl
-  used_none pool (p ∷ ps) none = grind (arith, common_steps, used_none (drop p.size pool) ps (omega arith))
+  used_none pool (p ∷ ps) none =
+      grind (arith, common_steps, used_none (drop p.size pool) ps (omega arith))
 
   pub left_none : (pool : List A) (ps : List Portion) → count_of ps ≡ 0 → left_of pool ps ≡ pool
   left_none pool [] none = refl
@@ -63,11 +79,15 @@ module _ {A : Type 0} where
       rest = drop p.used (take p.size pool)
 
       length-rest : length rest ≡ p.size - p.used
-      length-rest = length-drop p.used (take p.size pool) ∙ ap (λ n. n - p.used) (length-take-le p.size pool within)
+      length-rest = length-drop p.used (take p.size pool)
+          ∙ ap (λ n. n - p.used) (length-take-le p.size pool within)
 
       rest_and_behind : rest ++ drop p.size pool ≡ drop p.used pool
-      rest_and_behind = sym (drop-append-le p.used (take p.size pool) (drop p.size pool)
-          (omega (arith, length-take-le p.size pool within))) ∙ ap (drop p.used) (take-append-drop p.size pool)
+      rest_and_behind =
+          sym
+          (drop-append-le p.used (take p.size pool) (drop p.size pool)
+          (omega (arith, length-take-le p.size pool within)))
+          ∙ ap (drop p.used) (take-append-drop p.size pool)
 
       front_and_rest : take p.used pool ++ rest ≡ take p.size pool
       front_and_rest = ap (◌++ rest) (sym (take-take p.used p.size pool fits))
@@ -111,15 +131,18 @@ module _ {A : Type 0} where
         rest_and_behind p pool here,
         length-rest p pool here,
         length-drop p.size pool,
-        drop-append-add (rest p pool here (omega arith)) (left_of (drop p.size pool) ps) (reach_of ps - count_of ps),
+        drop-append-add (rest p pool here (omega arith)) (left_of (drop p.size pool) ps)
+            (reach_of ps - count_of ps),
         behind_reach (drop p.size pool) ps (others_used p ps fits),
         drop-drop,
       )
 
   -- the middle ones of four lists in the other order
-  swap_middle : (u r us rs : List A) → IsPermutation ((u ++ r) ++ (us ++ rs)) ((u ++ us) ++ (r ++ rs))
+  swap_middle : (u r us rs : List A)
+      → IsPermutation ((u ++ r) ++ (us ++ rs)) ((u ++ us) ++ (r ++ rs))
   swap_middle u r us rs =
-      let swapped : IsPermutation (u ++ ((r ++ us) ++ rs)) (u ++ ((us ++ r) ++ rs)) = IsPermutation-append_right u
+      let swapped : IsPermutation (u ++ ((r ++ us) ++ rs)) (u ++ ((us ++ r) ++ rs)) =
+      IsPermutation-append_right u
       ((r ++ us) ++ rs) ((us ++ r) ++ rs) (IsPermutation-append_left rs (r ++ us) (us ++ r)
       (IsPermutation-append_comm r us)) in
       simp append_assoc (simp append_assoc at swapped)
@@ -131,10 +154,18 @@ module _ {A : Type 0} where
   front_same pool (p ∷ ps) fits within =
       let here = first_used p ps fits in
       let few = count_within ps (others_used p ps fits) in
-      let others = front_same (drop p.size pool) ps (others_used p ps fits) (omega (arith, length-drop p.size pool)) in
+      let others =
+      front_same (drop p.size pool) ps (others_used p ps fits)
+      (omega (arith, length-drop p.size pool)) in
       elim (none_or_some (reach_of ps)) [
-        | inl none ↦ search
-            (rules, arith, reach-none p ps none, used_none (drop p.size pool) ps, append-nil, IsPermutation-refl)
+        | inl none ↦ search (
+          rules,
+          arith,
+          reach-none p ps none,
+          used_none (drop p.size pool) ps,
+          append-nil,
+          IsPermutation-refl,
+        )
         | inr some ↦
             let r = rest p pool here (omega arith) in
             let rs = take (reach_of ps - count_of ps) (left_of (drop p.size pool) ps) in
@@ -181,8 +212,8 @@ count_size ps fits = omega (arith, count_within ps fits, reach_within ps fits)
 abbrev pub no_portion : Portion
 no_portion = record { size = 0; used = 0 }
 
-pub portion_is : (ps : List Portion) (k : ℕ) → k < length ps → get_or ps k no_portion ≡ get_or ps k (get_or ps k
-    no_portion)
+pub portion_is : (ps : List Portion) (k : ℕ) → k < length ps
+    → get_or ps k no_portion ≡ get_or ps k (get_or ps k no_portion)
 portion_is ps k lt = search (rules, get_or_default)
 
 module _ (ps : List Portion) (k : ℕ) (p : Portion) (lt : k < length ps) (is : p ≡ get_or ps k p)
@@ -200,29 +231,42 @@ module _ (ps : List Portion) (k : ℕ) (p : Portion) (lt : k < length ps) (is : 
     used_at fits = subst (λ (x : Portion). x.used ≤ x.size) (sym is) (fits k p lt)
 
     module _ {A : Type 0} (pool : List A) (before : ℕ) where
-      pub left_more : (more n : ℕ) → n ≡ min (p.size - p.used) more → p.used ≤ p.size → before + p.size ≤ length pool
-          → take more (left_of (drop before pool) (drop k ps)) ≡ take n (drop (before + p.used) pool)
+      pub left_more : (more n : ℕ) → n ≡ min (p.size - p.used) more → p.used ≤ p.size
+          → before + p.size ≤ length pool
+          → take more (left_of (drop before pool) (drop k ps))
+          ≡ take n (drop (before + p.used) pool)
           ++ take (more - n) (left_of (drop (before + p.size) pool) (drop (k + 1) ps))
       left_more more n least fits within =
           rw (portion_more, ← drop-drop p.size before pool, ← drop-drop p.used before pool)
-          (take_left p (drop before pool) fits (omega (arith, length-drop before pool)) more n _ least)
+          (take_left p (drop before pool) fits (omega (arith, length-drop before pool)) more n _
+          least)
 
 -- one more of what begins at a position
-pub list_more : {X : Type 0} (pool : List X) (from more : ℕ) (x : X) → slice_get pool (from + more) ≡ Some x
-    → from + more < length pool → take (more + 1) (drop from pool) ≡ take more (drop from pool) ++ x ∷ []
-list_more pool from more x at below = search
-    (rules, take_more (drop from pool) more x, length-drop, get_or-drop, get_or_from_slice_get pool (from + more) x x)
+pub list_more : {X : Type 0} (pool : List X) (from more : ℕ) (x : X)
+    → slice_get pool (from + more) ≡ Some x → from + more < length pool
+    → take (more + 1) (drop from pool) ≡ take more (drop from pool) ++ x ∷ []
+list_more pool from more x at below =
+    search (
+      rules,
+      take_more (drop from pool) more x,
+      length-drop,
+      get_or-drop,
+      get_or_from_slice_get pool (from + more) x x,
+    )
 
 -- ---- a list of which each element is mapped
 
 module _ {A B : Type 0} (f : A → B) where
   used-map : (pool : List A) (ps : List Portion) → map f (used_of pool ps) ≡ used_of (map f pool) ps
   used-map pool [] = refl
-  used-map pool (p ∷ ps) = search (rules, map-append, take-map, drop-map, used-map (drop p.size pool) ps)
+  used-map pool (p ∷ ps) =
+      search (rules, map-append, take-map, drop-map, used-map (drop p.size pool) ps)
 
   left-map : (pool : List A) (ps : List Portion) → map f (left_of pool ps) ≡ left_of (map f pool) ps
   left-map pool [] = refl
-  left-map pool (p ∷ ps) = search (rules, map-append, take-map, drop-map, left-map (drop p.size pool) ps)
+  left-map pool (p ∷ ps) =
+      search (rules, map-append, take-map, drop-map, left-map (drop p.size pool) ps)
 
-  pub front-map : (pool : List A) (ps : List Portion) → map f (front_of pool ps) ≡ front_of (map f pool) ps
+  pub front-map : (pool : List A) (ps : List Portion)
+      → map f (front_of pool ps) ≡ front_of (map f pool) ps
   front-map pool ps = rw (map-append, used-map, ← take-map, left-map)

@@ -1,10 +1,14 @@
 -- Two numbers tell what requests leave of a flushed allocator: how many handles were given, and how
 -- many were asked for.
-use Rattle.ent_alloc.proofs.Common.{rules, ◌≡◌, ℕ, ◌+◌, ◌-◌, ◌≤◌, List, [], length, sum, take_all, drop_all, length-take, length-drop, length_permutation, Allocator, available, top, after_take, settled, IsSound}
+use Rattle.ent_alloc.proofs.Common.{rules, ◌≡◌, ℕ, ◌+◌, ◌-◌, ◌≤◌, List, [], length, sum, take_all}
+use Rattle.ent_alloc.proofs.Common.{drop_all, length-take, length-drop, length_permutation}
+use Rattle.ent_alloc.proofs.Common.{Allocator, available, top, after_take, settled, IsSound}
 use Rattle.std.proofs.Common.{append-nil}
 use Rattle.ent_alloc.proofs.LaidOut.{flushed-laid_out}
 use Rattle.ent_alloc.proofs.Taken.{length-available, after_take-served}
-use Rattle.ent_alloc.proofs.PoolLaw.{limits-after_takes, live-after_takes, after_takes, after_takes-sound, available-after_takes, made-after_takes, asked-after_takes, taken_is, aside_is}
+use Rattle.ent_alloc.proofs.PoolLaw.{limits-after_takes, live-after_takes, after_takes}
+use Rattle.ent_alloc.proofs.PoolLaw.{after_takes-sound, available-after_takes, made-after_takes}
+use Rattle.ent_alloc.proofs.PoolLaw.{asked-after_takes, taken_is, aside_is}
 use Rattle.ent_alloc.proofs.Meaning.{append_parts}
 use Rattle.ent_alloc.proofs.RequestLaws.{given_by, taken-since_flush}
 
@@ -38,8 +42,8 @@ module _ (s : Allocator) (h : IsSound s) (flushed : s.asked ≡ 0) where
       (rules, take_all, drop_all, after_take-served, length-drop, length-take, append-nil)
 
   -- requests leave such a state
-  pub after_takes-settled : (requests : List ℕ) → after_takes s requests ≡ settled s (length (given_by s requests)) (sum
-      requests)
+  pub after_takes-settled : (requests : List ℕ)
+      → after_takes s requests ≡ settled s (length (given_by s requests)) (sum requests)
   after_takes-settled requests =
       let t = after_takes s requests in
       let sound = after_takes-sound s requests h in

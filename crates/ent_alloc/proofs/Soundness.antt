@@ -1,15 +1,29 @@
 -- Every step of the sequential allocator leads from a sound state to a sound state.
-use Rattle.ent_alloc.proofs.Common.{rules, ◌≡◌, refl, sym, ap, ◌∙◌, subst, ℕ, zero, suc, ◌+◌, ◌-◌, ◌<◌, ◌≤◌, true≢false, List, [], ◌∷◌, ◌++◌, length, get_or, drop, All, arith, ◌≢◌, Some, None, Option, common_steps, cases_lt, drop-drop, drop_all, append-nil, lt-ltb, le-ltb, All-drop, All-head, All-tail, All-nil, All-cons, All-weaker, All-filter, AllPairs-filter, AllPairs-cons, Handle, handle_cmp, Limits, AreLimits, Allocator, opening, available, after_take, after_flush, after_alloc, after_free, next, following, in_front, fresh, is_old, IsSound, IsWithin, AreApart, IsLive, IfSome}
+use Rattle.ent_alloc.proofs.Common.{rules, ◌≡◌, refl, sym, ap, ◌∙◌, subst, ℕ, zero, suc, ◌+◌, ◌-◌}
+use Rattle.ent_alloc.proofs.Common.{◌<◌, ◌≤◌, true≢false, List, [], ◌∷◌, ◌++◌, length, get_or, drop}
+use Rattle.ent_alloc.proofs.Common.{All, arith, ◌≢◌, Some, None, Option, common_steps, cases_lt}
+use Rattle.ent_alloc.proofs.Common.{drop-drop, drop_all, append-nil, lt-ltb, le-ltb, All-drop}
+use Rattle.ent_alloc.proofs.Common.{All-head, All-tail, All-nil, All-cons, All-weaker, All-filter}
+use Rattle.ent_alloc.proofs.Common.{AllPairs-filter, AllPairs-cons, Handle, handle_cmp, Limits}
+use Rattle.ent_alloc.proofs.Common.{AreLimits, Allocator, opening, available, after_take}
+use Rattle.ent_alloc.proofs.Common.{after_flush, after_alloc, after_free, next, following, in_front}
+use Rattle.ent_alloc.proofs.Common.{fresh, is_old, IsSound, IsWithin, AreApart, IsLive, IfSome}
 use Rattle.std.specs.FinSet as set
-use Rattle.ent_alloc.proofs.ListLaws.{AllPairs-left, AllPairs-across, All-left, AllPairs-drop, AllPairs-head, AllPairs-tail}
+use Rattle.ent_alloc.proofs.ListLaws.{AllPairs-left, AllPairs-across, All-left, AllPairs-drop}
+use Rattle.ent_alloc.proofs.ListLaws.{AllPairs-head, AllPairs-tail}
 use Rattle.ent_alloc.proofs.FreshHandles.{fresh-next, fresh-none, first_of_slot}
-use Rattle.ent_alloc.proofs.HandleSets.{in_removed, one_occupant_inserted, one_occupant_joined, of_inserted, of_joined}
-use Rattle.ent_alloc.proofs.LaidOut.{old_ones, old_ones_below, IsLaidOut, laid_out-sound, flushed-laid_out, apart_by_made}
-use Rattle.ent_alloc.proofs.Taken.{aside_or_pool, length-pool, take_moves, after_take-served, after_take-refused, enough, left-parts, taken_below, made-after_flush}
+use Rattle.ent_alloc.proofs.HandleSets.{in_removed, one_occupant_inserted, one_occupant_joined}
+use Rattle.ent_alloc.proofs.HandleSets.{of_inserted, of_joined}
+use Rattle.ent_alloc.proofs.LaidOut.{old_ones, old_ones_below, IsLaidOut, laid_out-sound}
+use Rattle.ent_alloc.proofs.LaidOut.{flushed-laid_out, apart_by_made}
+use Rattle.ent_alloc.proofs.Taken.{aside_or_pool, length-pool, take_moves, after_take-served}
+use Rattle.ent_alloc.proofs.Taken.{after_take-refused, enough, left-parts, taken_below}
+use Rattle.ent_alloc.proofs.Taken.{made-after_flush}
 
 pub opening-sound : (limits : Limits) → AreLimits limits → IsSound (opening limits)
 opening-sound limits ok =
-    let no_one : (h : Handle) → IsLive (opening limits) h → ⊥ = λ h alive. true≢false (sym alive ∙ set.contains-empty
+    let no_one : (h : Handle) → IsLive (opening limits) h
+    → ⊥ = λ h alive. true≢false (sym alive ∙ set.contains-empty
     handle_cmp h) in
     laid_out-sound (opening limits) [] (search (rules, no_one, All-nil))
 
@@ -44,21 +58,32 @@ pub of_next : (P : Handle → Type 0) (limits : Limits) (h : Handle)
 of_next P limits h each = grind (arith, common_steps)
 
 -- what holds of a list and of what stands in front of it
-pub All-in_front : (P : Handle → Type 0) (o : Option Handle) (handles : List Handle) → IfSome o P → All P handles
-    → All P (in_front o handles)
+pub All-in_front : (P : Handle → Type 0) (o : Option Handle) (handles : List Handle) → IfSome o P
+    → All P handles → All P (in_front o handles)
 All-in_front P None handles first all = all
 All-in_front P (Some h) handles first all = All-cons P h handles first all
 
-pub after_free-sound : (s : Allocator) (x : Handle) → IsSound s → s.asked ≡ 0 → IsLive s x → IsSound (after_free s x)
-after_free-sound s x h flushed alive = search
-    (rules, flushed-laid_out, laid_out-sound, old_ones, All-in_front, of_next, in_removed, AllPairs-cons)
+pub after_free-sound : (s : Allocator) (x : Handle) → IsSound s → s.asked ≡ 0 → IsLive s x
+    → IsSound (after_free s x)
+after_free-sound s x h flushed alive =
+    search (
+      rules,
+      flushed-laid_out,
+      laid_out-sound,
+      old_ones,
+      All-in_front,
+      of_next,
+      in_removed,
+      AllPairs-cons,
+    )
 
 after_alloc-old : (s : Allocator) (x : Handle) → x.index < s.made
     → after_alloc s x ≡ record s { live = set.insert s.live x; pool = drop 1 s.pool }
 after_alloc-old s x old = search (rules, lt-ltb)
 
 after_alloc-fresh : (s : Allocator) (x : Handle) → s.made ≤ x.index
-    → after_alloc s x ≡ record s { live = set.insert s.live x; pool = drop 1 s.pool; made = s.made + 1 }
+    → after_alloc s x
+    ≡ record s { live = set.insert s.live x; pool = drop 1 s.pool; made = s.made + 1 }
 after_alloc-fresh s x new = search (rules, le-ltb)
 
 -- the first old handle comes to life
@@ -67,16 +92,26 @@ alloc_of_old : (s : Allocator) (x : Handle) (old : List Handle) → IsLaidOut s 
 alloc_of_old s x old was =
     let pool = ap (drop 1) was.pool in
     let apart = AllPairs-tail AreApart x old was.apart in
-    let within = of_inserted (IsWithin s.limits) s.live x (was.within 0 x (omega arith)) was.live_within in
-    let below = of_inserted (λ h. h.index < s.made) s.live x (was.below 0 x (omega arith)) was.live_below in
-    let live_apart = of_inserted (λ h. All (AreApart h) old) s.live x (AllPairs-head AreApart x old was.apart)
+    let within =
+    of_inserted (IsWithin s.limits) s.live x (was.within 0 x (omega arith)) was.live_within in
+    let below =
+    of_inserted (λ h. h.index < s.made) s.live x (was.below 0 x (omega arith)) was.live_below in
+    let live_apart =
+    of_inserted (λ h. All (AreApart h) old) s.live x (AllPairs-head AreApart x old was.apart)
     (λ y alive. All-tail (AreApart y) x old (was.live_apart y alive)) in
-    let one = one_occupant_inserted s.live x (λ y alive. was.live_apart y alive 0 x (omega arith)) was.one_occupant in
+    let one =
+    one_occupant_inserted s.live x (λ y alive. was.live_apart y alive 0 x (omega arith))
+    was.one_occupant in
     search (rules, pool, apart, All-tail, within, below, live_apart, one)
 
 -- where no old handle waits, the first occupant of a new slot does
 alloc_of_fresh : (s : Allocator) (more : ℕ) → IsLaidOut s [] → s.limits.slots - s.made ≡ suc more
-    → IsLaidOut (record s { live = set.insert s.live (first_of_slot s.made); pool = drop 1 s.pool; made = s.made + 1 })
+    → IsLaidOut
+    (record s {
+      live = set.insert s.live (first_of_slot s.made);
+      pool = drop 1 s.pool;
+      made = s.made + 1;
+    })
     []
 alloc_of_fresh s more was some =
     let x = first_of_slot s.made in
@@ -97,8 +132,8 @@ alloc_of_fresh s more was some =
     )
 
 -- the handle at the front of the pool comes to life
-pub after_alloc-sound : (s : Allocator) (x : Handle) (rest : List Handle) → IsSound s → s.asked ≡ 0 → s.pool ≡ x ∷ rest
-    → IsSound (after_alloc s x)
+pub after_alloc-sound : (s : Allocator) (x : Handle) (rest : List Handle) → IsSound s → s.asked ≡ 0
+    → s.pool ≡ x ∷ rest → IsSound (after_alloc s x)
 after_alloc-sound s x rest h flushed front = by_first (old_ones s) (s.limits.slots - s.made) refl
     (flushed-laid_out s h flushed)
   where
@@ -119,23 +154,30 @@ after_alloc-sound s x rest h flushed front = by_first (old_ones s) (s.limits.slo
         (laid_out-sound _ old (alloc_of_old s y old was))
 
 -- a flush leaves the old handles that were not taken
-pub flush-laid_out : (s : Allocator) → IsSound s → IsLaidOut (after_flush s) (drop (length s.taken) (old_ones s))
+pub flush-laid_out : (s : Allocator) → IsSound s
+    → IsLaidOut (after_flush s) (drop (length s.taken) (old_ones s))
 flush-laid_out s h =
     let k = length s.taken in
     let old = drop k (old_ones s) in
-    let olds : (P : Handle → Type 0) → All P (available s) → All P old = λ P all. All-drop P k (old_ones s)
+    let olds : (P : Handle → Type 0) → All P (available s)
+    → All P old = λ P all. All-drop P k (old_ones s)
     (All-filter (is_old s.made) P (available s) all) in
-    let made : (after_flush s).made ≤ s.limits.slots = omega (arith, made-after_flush s h, enough s h, h.made) in
+    let made : (after_flush s).made ≤ s.limits.slots =
+    omega (arith, made-after_flush s h, enough s h, h.made) in
     let below : All (λ h. h.index < (after_flush s).made) old =
     grind (arith, common_steps, All-drop, old_ones, All-weaker, old_ones_below) in
     let apart = AllPairs-drop AreApart k (old_ones s)
     (AllPairs-filter AreApart (is_old s.made) (available s) h.apart) in
     let live_apart = of_joined (λ h. All (AreApart h) old) s.live s.taken
-    (λ x alive. olds (AreApart x) (h.live x alive).apart) (λ i d lt. All-left (AreApart (get_or s.taken i d)) old _
+    (λ x alive. olds (AreApart x) (h.live x alive).apart)
+    (λ i d lt. All-left (AreApart (get_or s.taken i d)) old _
     (subst (All (AreApart (get_or s.taken i d))) (left-parts s h)
     (AllPairs-across AreApart s.taken (s.aside ++ s.pool) h.apart i d lt))) in
-    let one = one_occupant_joined s.live s.taken (λ x alive. All-left (AreApart x) s.taken (s.aside ++ s.pool)
-    (h.live x alive).apart) (AllPairs-left AreApart s.taken (s.aside ++ s.pool) h.apart) h.one_occupant in
+    let one =
+    one_occupant_joined s.live s.taken
+    (λ x alive. All-left (AreApart x) s.taken (s.aside ++ s.pool)
+    (h.live x alive).apart) (AllPairs-left AreApart s.taken (s.aside ++ s.pool) h.apart)
+    h.one_occupant in
     search (
       rules,
       arith,

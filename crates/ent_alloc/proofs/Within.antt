@@ -1,6 +1,10 @@
--- Images that are read within a bound: what was read is read if it has no more slots, and what is true of it stays so.
+-- Images that are read within a bound: what was read is read if it has no more slots, and what is
+-- true of it stays so.
 use Rattle.std.specs.Result.{OnOk}
-use Rattle.ent_alloc.proofs.Common.{rules, ◌≡◌, ◌≢◌, sym, ap, subst, ℕ, ◌<◌, ◌≤◌, List, Result, Ok, Err, IfOk, IfErr, ◌⊎◌, inl, inr, le-leb, lt-leb, cases_lt, ImageFault, Bound, Memory, Entities, HasImage, image, within, allowed, slots_after_flush, IsBeyond}
+use Rattle.ent_alloc.proofs.Common.{rules, ◌≡◌, ◌≢◌, sym, ap, subst, ℕ, ◌<◌, ◌≤◌, List, Result, Ok}
+use Rattle.ent_alloc.proofs.Common.{Err, IfOk, IfErr, ◌⊎◌, inl, inr, le-leb, lt-leb, cases_lt}
+use Rattle.ent_alloc.proofs.Common.{ImageFault, Bound, Memory, Entities, HasImage, image, within}
+use Rattle.ent_alloc.proofs.Common.{allowed, slots_after_flush, IsBeyond}
 
 module _ (most : ℕ) (e : Entities) where
   abbrev slots : ℕ
@@ -22,8 +26,8 @@ module _ (most : ℕ) (e : Entities) where
       by (inr less) = subst P (sym (within-few less)) (few less)
 
 -- what is true of what was read
-pub allowed-ok : (most : ℕ) (P : Entities → Type 0) (read : Result Entities ImageFault) → IfOk read P
-    → IfOk (allowed most read) P
+pub allowed-ok : (most : ℕ) (P : Entities → Type 0) (read : Result Entities ImageFault)
+    → IfOk read P → IfOk (allowed most read) P
 allowed-ok most P (Ok e) holds = by_bound most e (λ r. IfOk r P) (λ few. holds) (λ many. tt)
 allowed-ok most P (Err fault) holds = tt
 
@@ -34,26 +38,31 @@ allowed-on_ok most P (Err fault) holds = tt
 
 pub allowed-few : (most : ℕ) (read : Result Entities ImageFault)
     → IfOk (allowed most read) (λ e. slots_after_flush e.allocator ≤ most)
-allowed-few most (Ok e) = by_bound most e (λ r. IfOk r (λ e. slots_after_flush e.allocator ≤ most)) (λ few. few)
+allowed-few most (Ok e) =
+    by_bound most e (λ r. IfOk r (λ e. slots_after_flush e.allocator ≤ most)) (λ few. few)
     (λ many. tt)
 allowed-few most (Err fault) = tt
 
 -- memory runs out only where it did
 pub allowed-memory : (most : ℕ) (P : Type 0) (read : Result Entities ImageFault)
-    → IfErr read (λ fault. fault ≡ Memory → P) → IfErr (allowed most read) (λ fault. fault ≡ Memory → P)
-allowed-memory most P (Ok e) holds = by_bound most e (λ r. IfErr r (λ fault. fault ≡ Memory → P)) (λ few. tt)
+    → IfErr read (λ fault. fault ≡ Memory → P)
+    → IfErr (allowed most read) (λ fault. fault ≡ Memory → P)
+allowed-memory most P (Ok e) holds =
+    by_bound most e (λ r. IfErr r (λ fault. fault ≡ Memory → P)) (λ few. tt)
     (λ many is. absurd (cc))
 allowed-memory most P (Err fault) holds = holds
 
 -- an image is read within the bound
-pub allowed-exact : (most : ℕ) (read : Result Entities ImageFault) (e : Entities) → (read ≡ Ok e) ⊎ (read ≡ Err Memory)
+pub allowed-exact : (most : ℕ) (read : Result Entities ImageFault) (e : Entities)
+    → (read ≡ Ok e) ⊎ (read ≡ Err Memory)
     → (allowed most read ≡ within most e) ⊎ (allowed most read ≡ Err Memory)
 allowed-exact most read e (inl is) = inl (ap (allowed most) is)
 allowed-exact most read e (inr is) = inr (ap (allowed most) is)
 
 -- and else refused by its fault, or for the bound
-pub allowed-fault : (most : ℕ) (bytes : List ℕ) (P : ImageFault → Type 0) (read : Result Entities ImageFault)
-    → IfOk read (λ e. image e ≡ bytes) → IfOk read HasImage → IfErr read (λ fault. fault ≢ Memory → P fault)
+pub allowed-fault : (most : ℕ) (bytes : List ℕ) (P : ImageFault → Type 0)
+    (read : Result Entities ImageFault) → IfOk read (λ e. image e ≡ bytes) → IfOk read HasImage
+    → IfErr read (λ fault. fault ≢ Memory → P fault)
     → IfErr (allowed most read) (λ fault. fault ≢ Memory → P fault ⊎ IsBeyond bytes most fault)
 allowed-fault most bytes P (Ok e) found has fault = by_bound most e
     (λ r. IfErr r (λ fault. fault ≢ Memory → P fault ⊎ IsBeyond bytes most fault)) (λ few. tt)

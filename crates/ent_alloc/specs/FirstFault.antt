@@ -7,7 +7,8 @@ use Rattle.std.specs.Int.{w32, w64, from_le_bytes}
 use Rattle.ent_alloc.specs.Image.{magic, version}
 use Rattle.ent_alloc.specs.declared.image.Header.{Header}
 use Rattle.ent_alloc.specs.declared.image_fault.ImageFault.{ImageFault}
-use Rattle.ent_alloc.specs.declared.image_fault.ImageFault.TheVariants.{Magic, Version, Limits, Counts}
+use Rattle.ent_alloc.specs.declared.image_fault.ImageFault.TheVariants.{Magic, Version, Limits}
+use Rattle.ent_alloc.specs.declared.image_fault.ImageFault.TheVariants.{Counts}
 use Rattle.ent_alloc.specs.declared.image_fault.ImageFault.TheVariants.{Requests, Length, Slot}
 use Rattle.ent_alloc.specs.declared.image_fault.ImageFault.TheVariants.{Position}
 

@@ -120,7 +120,8 @@ image e = header_bytes (header e) ++ slots_bytes (roster e)
 
 -- ---- what has an image
 
--- What is true of every state of an `Entities`. Each of them has an image, and no two have the same.
+-- What is true of every state of an `Entities`. Each of them has an image, and no two have the
+-- same.
 pub record HasImage (e : Entities) : Type 0 where
   pub sound : IsSound e.allocator
   pub rows_of_living : HasRowsOfLiving e

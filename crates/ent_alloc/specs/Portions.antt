@@ -1,6 +1,7 @@
 -- The front of the pool in portions, one after the other: what was used of them is taken, and what
 -- is left of them can be given again.
-use Rattle.std.specs.Prelude.{ℕ, ◌+◌, ◌-◌, ◌≤◌, ◌==◌, if◌then◌else◌, List, [], ◌∷◌, ◌++◌, take, drop}
+use Rattle.std.specs.Prelude.{ℕ, ◌+◌, ◌-◌, ◌≤◌, ◌==◌, if◌then◌else◌, List, [], ◌∷◌, ◌++◌, take}
+use Rattle.std.specs.Prelude.{drop}
 use Rattle.std.specs.List.{All}
 use Rattle.ent_alloc.specs.Sequential.{Allocator, top}
 use Rattle.ent_alloc.specs.Front.{with_front}

@@ -1,7 +1,9 @@
 ghost use Rattle.std.specs.Prelude.{◌≡◌, ◌≢◌, ◌+◌, ◌-◌, ◌^◌, ◌<◌, ◌≤◌, ◌↔◌, ◌⊎◌, ◌||◌};
-ghost use Rattle.std.specs.Prelude.{IsTrue, IfOk, OnOk, OnSome, OnErr, IsErrOf, IfSome, IfNone, Some, None};
+ghost use Rattle.std.specs.Prelude.{IsTrue, IfOk, OnOk, OnSome, OnErr, IsErrOf, IfSome, IfNone};
+ghost use Rattle.std.specs.Prelude.{Some, None};
 ghost use Rattle.std.specs.Prelude.{true, false, List};
-ghost use Rattle.std.specs.Prelude.{[], ◌++◌, All, AllPairs, length, slice_get, vec_len, vec_capacity};
+ghost use Rattle.std.specs.Prelude.{[], ◌++◌, All, AllPairs, length, slice_get, vec_len};
+ghost use Rattle.std.specs.Prelude.{vec_capacity};
 ghost use Rattle.std.specs.FinSet as set;
 ghost use Rattle.std.specs.FinMap as map;
 ghost use Rattle.ent_alloc.specs.Sequential.{opening, top, cursor, available, stands_in};

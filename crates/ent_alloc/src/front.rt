@@ -1,11 +1,13 @@
 //! What was used of portions of the pool's front, and what is left of them.
-ghost use Rattle.std.specs.Prelude.{◌≡◌, ◌+◌, ◌-◌, ◌^◌, ◌<◌, ◌≤◌, ◌++◌, IfOk, OnOk, OnErr, All, Some};
+ghost use Rattle.std.specs.Prelude.{◌≡◌, ◌+◌, ◌-◌, ◌^◌, ◌<◌, ◌≤◌, ◌++◌, IfOk, OnOk, OnErr, All};
+ghost use Rattle.std.specs.Prelude.{Some};
 ghost use Rattle.std.specs.Prelude.{length, take, drop, reverse, vec_len, vec_capacity};
 ghost use Rattle.std.specs.Prelude.{slice_get, min, ◌==◌, if◌then◌else◌};
 ghost use Rattle.std.specs.List.{range_with_len};
 ghost use Rattle.ent_alloc.specs.Sequential.{fresh as fresh_handles, top};
 ghost use Rattle.ent_alloc.specs.Entities.{HasRowsOfLiving, idle};
-ghost use Rattle.ent_alloc.specs.Front.{new_waiting, placed, moved, with_front, slots_of, AreSlotsOf};
+ghost use Rattle.ent_alloc.specs.Front.{new_waiting, placed, moved, with_front, slots_of};
+ghost use Rattle.ent_alloc.specs.Front.{AreSlotsOf};
 ghost use Rattle.ent_alloc.specs.Portions.{AreUsed, size_of, count_of, reach_of, used_of, left_of};
 ghost use Rattle.ent_alloc.specs.Portions.{front_of, after_portions, arranged};
 

@@ -1,13 +1,16 @@
 //! The slots of an image: what is written of their records.
-ghost use Rattle.std.specs.Prelude.{◌≡◌, ◌≢◌, ◌+◌, ◌-◌, ◌*◌, ◌^◌, ◌<◌, ◌≤◌, ◌++◌, IfSome, IfNone, IsTrue};
-ghost use Rattle.std.specs.Prelude.{ℕ, List, length, vec_len, vec_capacity, false, slice_index, IfOk};
+ghost use Rattle.std.specs.Prelude.{◌≡◌, ◌≢◌, ◌+◌, ◌-◌, ◌*◌, ◌^◌, ◌<◌, ◌≤◌, ◌++◌, IfSome, IfNone};
+ghost use Rattle.std.specs.Prelude.{IsTrue};
+ghost use Rattle.std.specs.Prelude.{ℕ, List, length, vec_len, vec_capacity, false, slice_index};
+ghost use Rattle.std.specs.Prelude.{IfOk};
 ghost use Rattle.std.specs.Prelude.{IfErr, OnOk, OnErr, Some, None, replicate, if◌then◌else◌};
 ghost use Rattle.ent_alloc.specs.Slots.{is_alive, record_at};
 ghost use Rattle.ent_alloc.specs.Limits.{AreLimits};
 ghost use Rattle.ent_alloc.specs.Roster.{Roster};
 ghost use Rattle.std.specs.List.{flat_map};
 ghost use Rattle.ent_alloc.specs.Image.{kind_of, number_of, slot_bytes, slots_bytes, AreSlots};
-ghost use Rattle.ent_alloc.specs.ImageRecords.{kept, record_bytes, IsGeneration, IsWritten, CanWait};
+ghost use Rattle.ent_alloc.specs.ImageRecords.{kept, record_bytes, IsGeneration, IsWritten};
+ghost use Rattle.ent_alloc.specs.ImageRecords.{CanWait};
 ghost use Rattle.ent_alloc.specs.ImageRecords.{with_waiting, vacant, AreRead};
 ghost use Rattle.ent_alloc.specs.ImageRecords.{without_row, rowless_bytes};
 ghost use Rattle.ent_alloc.specs.FirstFault.{first_failing, word_at, is_slot, slots_tests};

@@ -2,7 +2,8 @@ ghost use Rattle.std.specs.Prelude.{◌≡◌, ◌+◌, ◌-◌, ◌^◌, ◌<�
 ghost use Rattle.std.specs.Prelude.{length, map, replicate, All, vec_len, vec_capacity};
 ghost use Rattle.ent_handle.specs.Handle.{IsHandle};
 ghost use Rattle.ent_alloc.specs.Sequential.{fresh};
-ghost use Rattle.ent_alloc.specs.Slots.{new_record, is_alive, lives, occupancy_of, handle_at, reused};
+ghost use Rattle.ent_alloc.specs.Slots.{new_record, is_alive, lives, occupancy_of, handle_at};
+ghost use Rattle.ent_alloc.specs.Slots.{reused};
 
 use crate::packed_slot::PackedSlot;
 use ent_handle::Handle;

@@ -1,7 +1,9 @@
 ghost use Rattle.std.specs.Prelude.{◌≡◌, ℕ, ◌+◌, ◌-◌, ◌^◌, ◌<◌, ◌≤◌, ◌↔◌, ◌⊎◌, ◌≢◌};
-ghost use Rattle.std.specs.Prelude.{◌*◌, IsTrue, IfOk, IfErr, OnOk, OnErr, IfSome, OnSome, IfNone, true, []};
+ghost use Rattle.std.specs.Prelude.{◌*◌, IsTrue, IfOk, IfErr, OnOk, OnErr, IfSome, OnSome, IfNone};
+ghost use Rattle.std.specs.Prelude.{true, []};
 ghost use Rattle.std.specs.Prelude.{◌∷◌, ◌++◌, IsErrOf, Err, false};
-ghost use Rattle.std.specs.Prelude.{length, take, drop, pos, slice_get, vec_len, vec_capacity, AllPairs};
+ghost use Rattle.std.specs.Prelude.{length, take, drop, pos, slice_get, vec_len, vec_capacity};
+ghost use Rattle.std.specs.Prelude.{AllPairs};
 ghost use Rattle.std.specs.FinSet as set;
 ghost use Rattle.std.specs.FinMap as maps;
 ghost use Rattle.ent_alloc.specs.Limits.{AreLimits};

@@ -13,7 +13,8 @@ same_before : (b r : Block) → is_same b r ≡ true → b.before ≡ r.before
 same_before b r same = grind (arith, common_steps)
 
 -- no more than there are blocks
-pub few_among : (blocks reservers : List Block) → are_among blocks reservers ≡ true → length reservers ≤ length blocks
+pub few_among : (blocks reservers : List Block) → are_among blocks reservers ≡ true
+    → length reservers ≤ length blocks
 few_among [] rs among = search rules
 few_among (b ∷ blocks) [] among = omega arith
 few_among (b ∷ blocks) (r ∷ reservers) among = grind
@@ -50,13 +51,21 @@ pub all_accounted : (blocks reservers : List Block) → are_among blocks reserve
 all_accounted [] [] among all = refl
 all_accounted [] (r ∷ reservers) among all = absurd (omega arith)
 all_accounted (b ∷ blocks) [] among all = absurd (omega arith)
-all_accounted (b ∷ blocks) (r ∷ reservers) among all = grind
-    (arith, common_steps, few_among blocks (r ∷ reservers), all_accounted blocks reservers, same_before b r, same_size b r)
+all_accounted (b ∷ blocks) (r ∷ reservers) among all =
+    grind (
+      arith,
+      common_steps,
+      few_among blocks (r ∷ reservers),
+      all_accounted blocks reservers,
+      same_before b r,
+      same_size b r,
+    )
 
 -- ---- one more block
 
 -- of whatever holds a block
-module _ {A : Type 0} (of : A → Block) (bs : List Block) (rs : List A) (i k : ℕ) (b : Block) (here : i < length bs)
+module _ {A : Type 0} (of : A → Block) (bs : List Block) (rs : List A) (i k : ℕ) (b : Block)
+    (here : i < length bs)
     (b_is : b ≡ get_or bs i b) where
   module _ (r : A) (lt : k < length rs) (r_is : r ≡ get_or rs k r) where
     next : drop k (map of rs) ≡ of r ∷ drop (k + 1) (map of rs)
@@ -82,7 +91,8 @@ module _ {A : Type 0} (of : A → Block) (bs : List Block) (rs : List A) (i k : 
     none : drop k (map of rs) ≡ []
     none = search (rules, drop_all, length-map)
 
-    pub among_none : are_among (drop i bs) (drop k (map of rs)) ≡ are_among (drop (i + 1) bs) (drop k (map of rs))
+    pub among_none : are_among (drop i bs) (drop k (map of rs))
+        ≡ are_among (drop (i + 1) bs) (drop k (map of rs))
     among_none = search (rules, drop_more, none)
 
     pub accounted_none : accounted (drop i bs) (drop k (map of rs)) ≡ record b { used = b.size }
@@ -95,11 +105,12 @@ all_among [] = refl
 all_among (r ∷ rs) = grind (arith, common_steps, all_among rs)
 
 pub all_here : (blocks rs : List Block) → map unused rs ≡ blocks → accounted blocks rs ≡ rs
-all_here blocks rs all = rw (← all) (all_accounted (map unused rs) rs (all_among rs) (sym (length-map rs unused)))
+all_here blocks rs all =
+    rw (← all) (all_accounted (map unused rs) rs (all_among rs) (sym (length-map rs unused)))
 
 -- one is left when there is no more block
-pub one_left : {A : Type 0} (of : A → Block) (bs : List Block) (rs : List A) (i k : ℕ) → length bs ≤ i → k < length rs
-    → are_among (drop i bs) (drop k (map of rs)) ≡ false
+pub one_left : {A : Type 0} (of : A → Block) (bs : List Block) (rs : List A) (i k : ℕ)
+    → length bs ≤ i → k < length rs → are_among (drop i bs) (drop k (map of rs)) ≡ false
 one_left of bs rs i k past lt =
     let some = drop_more (map of rs) k (record { before = 0; size = 0; used = 0 })
     (omega (arith, length-map rs of)) in

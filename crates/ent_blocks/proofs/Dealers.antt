@@ -13,13 +13,16 @@ use Rattle.ent_blocks.proofs.Common.{HasDealt, IsDealer, past_records, past_hist
 use Rattle.ent_blocks.proofs.Dealing.{none_used, are_dealt, length-from}
 
 -- a reserver that has done nothing has its whole quota
-pub whole_quota : (s : Shared) (r : SharedReserver) → IsReserverOf s r → r.own.entries ≡ [] → r.own.left ≡ quota
+pub whole_quota : (s : Shared) (r : SharedReserver) → IsReserverOf s r → r.own.entries ≡ []
+    → r.own.left ≡ quota
 whole_quota s r of nothing = let adds = of.quota in search (rules, nothing)
 
-pub has_dealt : (s : Shared) (old new : SharedReserver) (n : ℕ) (result : Result (List Handle) Refused)
-    → Reserves s old new n result → old.own.entries ≡ [] → HasDealt n new.own
+pub has_dealt : (s : Shared) (old new : SharedReserver) (n : ℕ)
+    (result : Result (List Handle) Refused) → Reserves s old new n result → old.own.entries ≡ []
+    → HasDealt n new.own
 has_dealt s old new n result did nothing =
-    let own : new.own ≡ after_reservation old.own did.high n = ap (λ (r : SharedReserver). r.own) did.after in
+    let own : new.own ≡ after_reservation old.own did.high n =
+    ap (λ (r : SharedReserver). r.own) did.after in
     record {
       call = reservation_at old.own did.high n;
       entries = search rules;
@@ -28,16 +31,19 @@ has_dealt s old new n result did nothing =
       mark = search (rules, own);
     }
 
-pub is_dealer : (s : Shared) (old new : SharedReserver) (n : ℕ) (result : Result (List Handle) Refused) → 0 < n
-    → Reserves s old new n result → old.own.entries ≡ [] → IsDealer n new.own
+pub is_dealer : (s : Shared) (old new : SharedReserver) (n : ℕ)
+    (result : Result (List Handle) Refused) → 0 < n → Reserves s old new n result
+    → old.own.entries ≡ [] → IsDealer n new.own
 is_dealer s old new zero result some did nothing = absurd (omega arith)
 is_dealer s old new (suc n) result some did nothing = search (rules, has_dealt)
 
 -- where the others begin after it
-pub dealt_mark : (s : Shared) (old new : SharedReserver) (n : ℕ) (result : Result (List Handle) Refused)
-    → Reserves s old new n result → old.own.mark ≡ cursor s.start → new.own.mark ≤ℤ (cursor s.start -ℤ pos n)
+pub dealt_mark : (s : Shared) (old new : SharedReserver) (n : ℕ)
+    (result : Result (List Handle) Refused) → Reserves s old new n result
+    → old.own.mark ≡ cursor s.start → new.own.mark ≤ℤ (cursor s.start -ℤ pos n)
 dealt_mark s old new n result did at =
-    let mark : new.own.mark ≡ did.high -ℤ pos n = ap (λ (r : SharedReserver). r.own.mark) did.after in
+    let mark : new.own.mark ≡ did.high -ℤ pos n =
+    ap (λ (r : SharedReserver). r.own.mark) did.after in
     omega (arith, ints, mark, did.at_mark, at)
 
 pub none_dealt_mark : (a b : ℤ) → a ≡ b → a ≤ℤ (b -ℤ pos 0)
@@ -51,7 +57,8 @@ pub record IsUnused (c : Caller) : Type 0 where
 -- a reserver that has met the dealer, and a block
 module _ (p : Overflow) (laid : AreLaid 0 p.blocks) (k : ℕ) (b : Block) (lt : k < length p.blocks)
     (there : b ≡ get_or p.blocks k b) (r met : SharedReserver) (fresh : IsFresh p.shared r)
-    (of : IsReserverOf p.shared met) (is : met ≡ record r { own = after_meeting r.own p.dealer.own })
+    (of : IsReserverOf p.shared met)
+    (is : met ≡ record r { own = after_meeting r.own p.dealer.own })
   where
     own_is : met.own ≡ after_meeting r.own p.dealer.own
     own_is = ap (λ (x : SharedReserver). x.own) is
@@ -69,7 +76,8 @@ module _ (p : Overflow) (laid : AreLaid 0 p.blocks) (k : ℕ) (b : Block) (lt : 
     unused_of_block = search (rules, nothing_own, own_is, whole_quota, fresh)
 
 -- nobody has gone past its block
-nothing_past : (callers : List Caller) → All IsUnused callers → own_of_all (past_records callers) ≡ []
+nothing_past : (callers : List Caller) → All IsUnused callers
+    → own_of_all (past_records callers) ≡ []
 nothing_past [] all = refl
 nothing_past (c ∷ callers) all =
     let first = (All-head IsUnused c callers all).nothing in
@@ -79,7 +87,8 @@ pub none_past : (callers : List Caller) → All IsUnused callers → past_histor
 none_past callers all = search (rules, nothing_past)
 
 -- the last one of these, and the others
-module _ (s : Shared) (all rest : List SharedReserver) (r : SharedReserver) (front : all ≡ rest ++ r ∷ [])
+module _ (s : Shared) (all rest : List SharedReserver) (r : SharedReserver)
+    (front : all ≡ rest ++ r ∷ [])
     (fresh : All (IsFresh s) all) where
   pub last_fresh : IsFresh s r
   last_fresh = All-head (IsFresh s) r [] (All-right (IsFresh s) rest (r ∷ []) (rw front at fresh))
@@ -87,10 +96,13 @@ module _ (s : Shared) (all rest : List SharedReserver) (r : SharedReserver) (fro
   pub others_fresh : All (IsFresh s) rest
   others_fresh = All-left (IsFresh s) rest (r ∷ []) (rw front at fresh)
 
-pub blocks_more : (before after : List Caller) (bs : List Block) (k : ℕ) (b : Block) (met : SharedReserver) → AreLaid 0 bs
-    → k < length bs → b ≡ get_or bs k b → after ≡ before ++ record { block = unused b; past = met } ∷ []
+pub blocks_more : (before after : List Caller) (bs : List Block) (k : ℕ) (b : Block)
+    (met : SharedReserver) → AreLaid 0 bs
+    → k < length bs → b ≡ get_or bs k b
+    → after ≡ before ++ record { block = unused b; past = met } ∷ []
     → own_blocks before ≡ take k bs → own_blocks after ≡ take (k + 1) bs
-blocks_more before after bs k b met laid lt there is so_far = search (rules, none_used, map-append, take_more)
+blocks_more before after bs k b met laid lt there is so_far =
+    search (rules, none_used, map-append, take_more)
 
 -- the marks of reservers as an opening makes them
 opened_marks : (start : Allocator) (rs : List SharedReserver) (number count : ℕ)
@@ -101,21 +113,26 @@ opened_marks start [] number count is = All-nil (λ (r : SharedReserver). r.own.
 opened_marks start (r ∷ rs) number zero is = absurd (cc)
 opened_marks start (r ∷ rs) number (suc count) is =
     let first : r.own ≡ opened_record start number = (cc) in
-    All-cons (λ (r : SharedReserver). r.own.mark ≡ cursor start) r rs (ap (λ (x : Record). x.mark) first)
+    All-cons (λ (r : SharedReserver). r.own.mark ≡ cursor start) r rs
+    (ap (λ (x : Record). x.mark) first)
     (opened_marks start rs (number + 1) count (cc))
 
-pub all_fresh : (s : Shared) (rs : List SharedReserver) (start : Allocator) (count : ℕ) → s.start ≡ start
-    → records_of rs ≡ opened_records start 0 count → All (IsReserverOf s) rs
+pub all_fresh : (s : Shared) (rs : List SharedReserver) (start : Allocator) (count : ℕ)
+    → s.start ≡ start → records_of rs ≡ opened_records start 0 count → All (IsReserverOf s) rs
     → All (λ (r : SharedReserver). r.own.entries ≡ []) rs → All (IsFresh s) rs
 all_fresh s rs start count is made of nothing k d lt =
-    record { of = of k d lt; nothing = nothing k d lt; mark = rw is (opened_marks start rs 0 count made k d lt) }
+    record {
+      of = of k d lt;
+      nothing = nothing k d lt;
+      mark = rw is (opened_marks start rs 0 count made k d lt);
+    }
 
 -- what the opening leaves
-pub opened : (s : Allocator) (sizes : List ℕ) (shared : Shared) (dealer : SharedReserver) (blocks : List Block) (d : ℕ)
-    → s.asked ≡ 0 → IsSound shared.start → shared.start ≡ s → shared.count ≡ length sizes + 1
-    → blocks ≡ blocks_from 0 (length s.pool) sizes → dealt blocks < 2 ^ 32 → IsReserverOf shared dealer
-    → d ≡ dealt blocks → IsDealer d dealer.own → dealer.own.mark ≤ℤ (cursor shared.start -ℤ pos d)
-    → IsPhase shared dealer blocks
+pub opened : (s : Allocator) (sizes : List ℕ) (shared : Shared) (dealer : SharedReserver)
+    (blocks : List Block) (d : ℕ) → s.asked ≡ 0 → IsSound shared.start → shared.start ≡ s
+    → shared.count ≡ length sizes + 1 → blocks ≡ blocks_from 0 (length s.pool) sizes
+    → dealt blocks < 2 ^ 32 → IsReserverOf shared dealer → d ≡ dealt blocks → IsDealer d dealer.own
+    → dealer.own.mark ≤ℤ (cursor shared.start -ℤ pos d) → IsPhase shared dealer blocks
 opened s sizes shared dealer blocks d flushed sound start count is few of deals dealer_is mark =
     let lie : AreDealt shared.start blocks = rw (start, is)
     (are_dealt s sizes (rw start at sound) flushed (rw is at few)) in

@@ -15,7 +15,8 @@ use Rattle.ent_blocks.proofs.Dealing.{of_phase}
 pub here : (p q : Overflow) (c d : Caller) → p ≡ q → c ≡ d → IsCallerOf q d → IsCallerOf p c
 here p q c d e f of = search rules
 
-module _ (p : Overflow) (c : Caller) (is : IsPhase p.shared p.dealer p.blocks) (of : IsCallerOf p c) where
+module _ (p : Overflow) (c : Caller) (is : IsPhase p.shared p.dealer p.blocks)
+    (of : IsCallerOf p c) where
   pub lies_within : c.block.before + c.block.size ≤ length p.shared.start.pool
   lies_within = omega (arith, of_phase p.blocks c.block is.lie.laid of.block, is.lie.within)
 
@@ -28,7 +29,8 @@ pub used_on : (p : Overflow) (c : Caller) (n : ℕ) → IsCallerOf p c
 used_on p c n of = search rules
 
 -- after a reservation past it
-module _ (p : Overflow) (c : Caller) (new : SharedReserver) (n : ℕ) (result : Result (List Handle) Refused) (of : IsCallerOf p c)
+module _ (p : Overflow) (c : Caller) (new : SharedReserver) (n : ℕ)
+    (result : Result (List Handle) Refused) (of : IsCallerOf p c)
     (stays : IsReserverOf p.shared new) where
   module _ (did : Reserves p.shared c.past new n result) where
     own_is : new.own ≡ after_reservation c.past.own did.high n
@@ -41,7 +43,8 @@ module _ (p : Overflow) (c : Caller) (new : SharedReserver) (n : ℕ) (result : 
     made = reservation_at c.past.own did.high n
 
     entries : own_reservations new.own.entries ≡ own_reservations c.past.own.entries ++ made ∷ []
-    entries = ap (λ (r : Record). own_reservations r.entries) own_is ∙ own-made c.past.own.entries made
+    entries =
+        ap (λ (r : Record). own_reservations r.entries) own_is ∙ own-made c.past.own.entries made
 
     behind : All (IsBehind p) (own_reservations new.own.entries)
     behind = rw entries (All-push (IsBehind p) (own_reservations c.past.own.entries) made of.all
@@ -55,7 +58,8 @@ module _ (p : Overflow) (c : Caller) (new : SharedReserver) (n : ℕ) (result : 
     gone : IsCallerOf p (record { block = c.block; past = new })
     gone = search (rules, own_is, next, behind)
 
-  pub gone_past : (c.past.own.left < n → new ≡ c.past) → (n ≤ c.past.own.left → Reserves p.shared c.past new n result)
+  pub gone_past : (c.past.own.left < n → new ≡ c.past)
+      → (n ≤ c.past.own.left → Reserves p.shared c.past new n result)
       → IsCallerOf p (record { block = c.block; past = new })
   gone_past same gains = search (rules, cases_lt, gone)
 
@@ -77,7 +81,8 @@ module _ (p : Overflow) (c : Caller) where
         → IsServed p c (record { block = c.block; past = new }) n reply
     from_past n reply less same gains = record {
       block = λ enough. absurd (omega (arith, less));
-      quota = λ _ few. let is = same few in (is.0, ap (λ (r : SharedReserver). record c { past = r }) is.1);
+      quota = λ _ few. let is = same few in
+          (is.0, ap (λ (r : SharedReserver). record c { past = r }) is.1);
       past = λ _ enough. (refl, gains enough);
     }
 
@@ -90,8 +95,8 @@ module _ (p : Overflow) (c : Caller) where
         let zero : c.past.own.left ≡ 0 = omega (arith, few) in
         let is = same zero in (rw (is.0, zero) refl, is.1)) gains
 
-pub one_of_block : (made : ℕ) (rest : List Handle) (h : Handle) → Ok (h ∷ []) ≡ reply_from made rest 1
-    → h ∷ [] ≡ listed made (take 1 rest)
+pub one_of_block : (made : ℕ) (rest : List Handle) (h : Handle)
+    → Ok (h ∷ []) ≡ reply_from made rest 1 → h ∷ [] ≡ listed made (take 1 rest)
 one_of_block made rest h is = grind (arith, common_steps)
 
 -- a refusal for lack of handles says how many were requested
@@ -99,7 +104,8 @@ refused_wanted : (s : Shared) (old new : SharedReserver) (n wanted left : ℕ)
     → Reserves s old new n (Err (Space wanted left)) → wanted ≡ n
 refused_wanted s old new n wanted left did = grind (arith, common_steps, did.recorded, did.reply)
 
-pub says_wanted : (p : Overflow) (b a : Caller) (n : ℕ) (why : Refused) → IsServed p b a n (Err why) → SaysWanted n why
+pub says_wanted : (p : Overflow) (b a : Caller) (n : ℕ) (why : Refused) → IsServed p b a n (Err why)
+    → SaysWanted n why
 says_wanted p b a n (Quota left) served = tt
 says_wanted p b a n (Space wanted left) served = grind (
   arith,
@@ -111,8 +117,8 @@ says_wanted p b a n (Space wanted left) served = grind (
 )
 
 -- a request leaves the caller its block
-served_same : (p : Overflow) (b a : Caller) (n : ℕ) (reply : Result (List Handle) Refused) → IsServed p b a n reply
-    → unused a.block ≡ unused b.block
+served_same : (p : Overflow) (b a : Caller) (n : ℕ) (reply : Result (List Handle) Refused)
+    → IsServed p b a n reply → unused a.block ≡ unused b.block
 served_same p b a n reply served = elim (cases_lt (left_of_block b.block) n) [
   | inl less ↦ elim (cases_lt b.past.own.left n) [
     | inl few ↦ ap (λ (c : Caller). unused c.block) (served.quota less few).1
@@ -122,8 +128,8 @@ served_same p b a n reply served = elim (cases_lt (left_of_block b.block) n) [
 ]
 
 -- So whatever a caller requested, its block is the one that was dealt: the close takes it.
-pub served_block : (p : Overflow) (b a : Caller) (requests : List Request) → AreServed (IsServed p) b requests a
-    → unused a.block ≡ unused b.block
+pub served_block : (p : Overflow) (b a : Caller) (requests : List Request)
+    → AreServed (IsServed p) b requests a → unused a.block ≡ unused b.block
 served_block p b a [] was = ap (λ (c : Caller). unused c.block) (sym was)
 served_block p b a (request ∷ requests) was =
     served_block p was.0 a requests was.2 ∙ served_same p b was.0 request.0 request.1 was.1

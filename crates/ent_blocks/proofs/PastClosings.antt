@@ -1,6 +1,15 @@
--- What the end of a phase says, of the phase and of its callers. The dealer's reservation is the first one of all, and
--- the others are a history of their own.
-use Rattle.ent_blocks.proofs.Common.{rules, ◌≡◌, ◌≢◌, ◌∙◌, ◌+◌, ◌≤◌, ◌<ℤ◌, List, [], ◌∷◌, ◌↔◌, length, take, drop, sum, All, AllPairs, Contains, All-nil, All-cons, All-head, All-tail, Handle, Allocator, after_take, before_requests, after_history-takes, AllPairs-across, dealt, Record, own_reservations, reservations_of, history_of, Respects, IsReserverOf, Overflow, Caller, IsCallerOf, IsPhase, IsInOrder, past_of, past_records, past_history, refl, subst, ℕ, zero, suc, ◌≤ℤ◌, ℤ, All-append, All-weaker, AllPairs-right, after_take-none, Reservation, as_call, insert_reservation, own_of_all, all_sorted, IsDealer, HasDealt}
+-- What the end of a phase says, of the phase and of its callers. The dealer's reservation is the
+-- first one of all, and the others are a history of their own.
+use Rattle.ent_blocks.proofs.Common.{rules, ◌≡◌, ◌≢◌, ◌∙◌, ◌+◌, ◌≤◌, ◌<ℤ◌, List, [], ◌∷◌, ◌↔◌}
+use Rattle.ent_blocks.proofs.Common.{length, take, drop, sum, All, AllPairs, Contains, All-nil}
+use Rattle.ent_blocks.proofs.Common.{All-cons, All-head, All-tail, Handle, Allocator, after_take}
+use Rattle.ent_blocks.proofs.Common.{before_requests, after_history-takes, AllPairs-across, dealt}
+use Rattle.ent_blocks.proofs.Common.{Record, own_reservations, reservations_of, history_of}
+use Rattle.ent_blocks.proofs.Common.{Respects, IsReserverOf, Overflow, Caller, IsCallerOf, IsPhase}
+use Rattle.ent_blocks.proofs.Common.{IsInOrder, past_of, past_records, past_history, refl, subst, ℕ}
+use Rattle.ent_blocks.proofs.Common.{zero, suc, ◌≤ℤ◌, ℤ, All-append, All-weaker, AllPairs-right}
+use Rattle.ent_blocks.proofs.Common.{after_take-none, Reservation, as_call, insert_reservation}
+use Rattle.ent_blocks.proofs.Common.{own_of_all, all_sorted, IsDealer, HasDealt}
 use Rattle.ent_alloc.specs.History as history
 use Rattle.ent_blocks.proofs.PastEndings as ends
 
@@ -8,16 +17,18 @@ use Rattle.ent_blocks.proofs.PastEndings as ends
 abbrev pub AreBehind : ℤ → List Reservation → Type 0
 AreBehind mark cs = All (λ (c : Reservation). c.high ≤ℤ mark) cs
 
-pub all_behind : (mark : ℤ) (records : List Record) → All (λ (r : Record). AreBehind mark (own_reservations r.entries))
-    records → AreBehind mark (own_of_all records)
+pub all_behind : (mark : ℤ) (records : List Record)
+    → All (λ (r : Record). AreBehind mark (own_reservations r.entries)) records
+    → AreBehind mark (own_of_all records)
 all_behind mark [] all = All-nil (λ (c : Reservation). c.high ≤ℤ mark)
 all_behind mark (r ∷ records) all =
     let Q : Record → Type 0 = λ (r : Record). AreBehind mark (own_reservations r.entries) in
-    All-append (λ (c : Reservation). c.high ≤ℤ mark) (own_reservations r.entries) (own_of_all records)
+    All-append (λ (c : Reservation). c.high ≤ℤ mark) (own_reservations r.entries)
+    (own_of_all records)
     (All-head Q r records all) (all_behind mark records (All-tail Q r records all))
 
-inserted_first : (c : Reservation) (cs : List Reservation) → All (λ (d : Reservation). d.high <ℤ c.high) cs
-    → insert_reservation c cs ≡ c ∷ cs
+inserted_first : (c : Reservation) (cs : List Reservation)
+    → All (λ (d : Reservation). d.high <ℤ c.high) cs → insert_reservation c cs ≡ c ∷ cs
 inserted_first c [] below = refl
 inserted_first c (d ∷ ds) below = search (rules, All-head)
 
@@ -43,9 +54,11 @@ module _ (s : Allocator) (dealer : Record) (records : List Record)
   dealt_first d h =
       let mark = h.mark in
       let some = h.requested in
-      let below : All (λ (c : Reservation). c.high <ℤ h.call.high) (own_of_all records) = search (rules, All-weaker) in
+      let below : All (λ (c : Reservation). c.high <ℤ h.call.high) (own_of_all records) =
+      search (rules, All-weaker) in
       let first =
-      inserted_first h.call (reservations_of records) (all_sorted (λ (c : Reservation). c.high <ℤ h.call.high)
+      inserted_first h.call (reservations_of records)
+      (all_sorted (λ (c : Reservation). c.high <ℤ h.call.high)
       (own_of_all records) below) in
       search (rules, h.entries, first)
 
@@ -56,7 +69,9 @@ module _ (s : Allocator) (dealer : Record) (records : List Record)
   splits (suc d) h legal falls =
       let same = dealt_first d h in
       let from : history.IsLegal s (as_call h.call ∷ history_of records) = search (rules, same) in
-      let behind = AllPairs-right Falls (h.call ∷ []) (reservations_of records) (subst (AllPairs Falls) same falls) in
+      let behind =
+      AllPairs-right Falls (h.call ∷ []) (reservations_of records)
+      (subst (AllPairs Falls) same falls) in
       search (rules, same, h.requested)
 
 -- what the shared allocator says at its close
@@ -86,18 +101,23 @@ pub record Ending (p : Overflow) (callers : List Caller) (a : Allocator) : Type 
 pub own_past : (p : Overflow) (callers : List Caller) → All (IsCallerOf p) callers
     → All (IsReserverOf p.shared) (past_of callers)
 own_past p [] own = All-nil (IsReserverOf p.shared)
-own_past p (c ∷ callers) own = All-cons (IsReserverOf p.shared) c.past (past_of callers)
-    (All-head (IsCallerOf p) c callers own).past (own_past p callers (All-tail (IsCallerOf p) c callers own))
+own_past p (c ∷ callers) own =
+    All-cons (IsReserverOf p.shared) c.past (past_of callers)
+    (All-head (IsCallerOf p) c callers own).past
+    (own_past p callers (All-tail (IsCallerOf p) c callers own))
 
 behind_past : (p : Overflow) (callers : List Caller) → All (IsCallerOf p) callers
-    → All (λ (r : Record). AreBehind p.dealer.own.mark (own_reservations r.entries)) (past_records callers)
+    → All (λ (r : Record). AreBehind p.dealer.own.mark (own_reservations r.entries))
+    (past_records callers)
 behind_past p [] own = search (rules, All-nil)
-behind_past p (c ∷ callers) own = All-cons (λ (r : Record). AreBehind p.dealer.own.mark (own_reservations r.entries))
-    c.past.own (past_records callers) (λ k d lt. ((All-head (IsCallerOf p) c callers own).all k d lt).high)
+behind_past p (c ∷ callers) own =
+    All-cons (λ (r : Record). AreBehind p.dealer.own.mark (own_reservations r.entries)) c.past.own
+    (past_records callers) (λ k d lt. ((All-head (IsCallerOf p) c callers own).all k d lt).high)
     (behind_past p callers (All-tail (IsCallerOf p) c callers own))
 
-pub ending : (p : Overflow) (callers : List Caller) (a : Allocator) → IsPhase p.shared p.dealer p.blocks
-    → All (IsCallerOf p) callers → Closed p.shared.start (p.dealer.own ∷ past_records callers) a → Ending p callers a
+pub ending : (p : Overflow) (callers : List Caller) (a : Allocator)
+    → IsPhase p.shared p.dealer p.blocks → All (IsCallerOf p) callers
+    → Closed p.shared.start (p.dealer.own ∷ past_records callers) a → Ending p callers a
 ending p callers a is own closed =
     let s = p.shared.start in
     let d = dealt p.blocks in

@@ -1,12 +1,22 @@
 -- A position of the pool, from its front, and what a request finds there.
-use Rattle.ent_blocks.proofs.Common.{rules, ◌≡◌, refl, sym, ap, ◌∙◌, ℕ, ℤ, pos, ◌-ℤ◌, ◌+◌, ◌-◌, ◌<◌, ◌≤◌, List, [], ◌∷◌, ◌++◌, length, take, drop, get_or, arith, Ok, Err, slice_get, Some, Result, common_steps, le-leb, lt-leb, get_or-drop, length-drop, take_more, drop_more, drop-take, length-take-le, take-take, drop-drop, length_permutation, get_or_from_slice_get, slice_get_read, Handle, Space, Allocator, top, cursor, asked_at, pool_at, reply_from, listed, listed_alone, IsSound, asked_at-is, flushed-laid_out, listed-IsPermutation, Block, used_of, rest_of}
+use Rattle.ent_blocks.proofs.Common.{rules, ◌≡◌, refl, sym, ap, ◌∙◌, ℕ, ℤ, pos, ◌-ℤ◌, ◌+◌, ◌-◌, ◌<◌}
+use Rattle.ent_blocks.proofs.Common.{◌≤◌, List, [], ◌∷◌, ◌++◌, length, take, drop, get_or, arith}
+use Rattle.ent_blocks.proofs.Common.{Ok, Err, slice_get, Some, Result, common_steps, le-leb, lt-leb}
+use Rattle.ent_blocks.proofs.Common.{get_or-drop, length-drop, take_more, drop_more, drop-take}
+use Rattle.ent_blocks.proofs.Common.{length-take-le, take-take, drop-drop, length_permutation}
+use Rattle.ent_blocks.proofs.Common.{get_or_from_slice_get, slice_get_read, Handle, Space}
+use Rattle.ent_blocks.proofs.Common.{Allocator, top, cursor, asked_at, pool_at, reply_from, listed}
+use Rattle.ent_blocks.proofs.Common.{listed_alone, IsSound, asked_at-is, flushed-laid_out}
+use Rattle.ent_blocks.proofs.Common.{listed-IsPermutation, Block, used_of, rest_of}
 
 -- one more of what begins at a position
-pub list_more : (pool : List Handle) (from more : ℕ) (h : Handle) → slice_get pool (from + more) ≡ Some h
-    → from + more < length pool → take (more + 1) (drop from pool) ≡ take more (drop from pool) ++ h ∷ []
-list_more pool from more h at below = take_more (drop from pool) more h (omega (arith, length-drop from pool))
-    ∙ ap (λ x. take more (drop from pool) ++ x ∷ []) (get_or-drop from pool more h
-    ∙ get_or_from_slice_get pool (from + more) h h at)
+pub list_more : (pool : List Handle) (from more : ℕ) (h : Handle)
+    → slice_get pool (from + more) ≡ Some h → from + more < length pool
+    → take (more + 1) (drop from pool) ≡ take more (drop from pool) ++ h ∷ []
+list_more pool from more h at below =
+    take_more (drop from pool) more h (omega (arith, length-drop from pool))
+    ∙ ap (λ x. take more (drop from pool) ++ x ∷ [])
+    (get_or-drop from pool more h ∙ get_or_from_slice_get pool (from + more) h h at)
 
 single : (made : ℕ) (x : Handle) → listed made (x ∷ []) ≡ x ∷ []
 single made x = grind (arith, common_steps)
@@ -26,8 +36,10 @@ module _ (s : Allocator) (sound : IsSound s) (flushed : s.asked ≡ 0) (position
       → slice_get s.pool position ≡ Some h
   one_there reply below replies h is =
       let x = get_or s.pool position h in
-      let rest : drop position s.pool ≡ x ∷ drop (position + 1) s.pool = drop_more s.pool position h below in
-      let given : reply_from s.made (drop position s.pool) 1 ≡ Ok (listed s.made (x ∷ [])) = search (rules, le-leb) in
+      let rest : drop position s.pool ≡ x ∷ drop (position + 1) s.pool =
+      drop_more s.pool position h below in
+      let given : reply_from s.made (drop position s.pool) 1 ≡ Ok (listed s.made (x ∷ [])) =
+      search (rules, le-leb) in
       let here : x ≡ h = grind (arith, common_steps, pool_there, single) in
       slice_get_read s.pool (length s.pool) position h refl below (sym here)
 
@@ -42,17 +54,19 @@ served made n pool enough = search (rules, le-leb)
 pub rest_is : (pool : List Handle) (b : Block) → b.used ≤ b.size → b.before + b.size ≤ length pool
     → rest_of pool b ≡ take (b.size - b.used) (drop (b.before + b.used) pool)
 rest_is pool b used within =
-    let whole : b.used + (b.size - b.used) ≡ b.size = omega arith in search (rules, drop-take, drop-drop)
+    let whole : b.used + (b.size - b.used) ≡ b.size = omega arith in
+    search (rules, drop-take, drop-drop)
 
-pub length-rest : (pool : List Handle) (b : Block) → b.used ≤ b.size → b.before + b.size ≤ length pool
-    → length (rest_of pool b) ≡ b.size - b.used
+pub length-rest : (pool : List Handle) (b : Block) → b.used ≤ b.size
+    → b.before + b.size ≤ length pool → length (rest_of pool b) ≡ b.size - b.used
 length-rest pool b used within = search (rules, rest_is, length-take-le, length-drop)
 
-pub used_is : (pool : List Handle) (b : Block) → b.used ≤ b.size → used_of pool b ≡ take b.used (drop b.before pool)
+pub used_is : (pool : List Handle) (b : Block) → b.used ≤ b.size
+    → used_of pool b ≡ take b.used (drop b.before pool)
 used_is pool b used = take-take b.used b.size (drop b.before pool) used
 
-pub length-used : (pool : List Handle) (b : Block) → b.used ≤ b.size → b.before + b.size ≤ length pool
-    → length (used_of pool b) ≡ b.used
+pub length-used : (pool : List Handle) (b : Block) → b.used ≤ b.size
+    → b.before + b.size ≤ length pool → length (used_of pool b) ≡ b.used
 length-used pool b used within = search (rules, used_is, length-take-le, length-drop)
 
 -- too few are left
@@ -67,13 +81,16 @@ pub served_one : (made : ℕ) (pool : List Handle) (b : Block) (h : Handle) → 
 served_one made pool b h less within at =
     let rest = rest_of pool b in
     let long : length rest ≡ b.size - b.used = length-rest pool b (omega arith) within in
-    let first : take 1 rest ≡ h ∷ [] = search (rules, rest_is, take-take, list_more pool (b.before + b.used) 0 h) in
+    let first : take 1 rest ≡ h ∷ [] =
+    search (rules, rest_is, take-take, list_more pool (b.before + b.used) 0 h) in
     search (rules, served, single)
 
 -- n of a block are those that begin where its rest begins
-pub served_many : (made n : ℕ) (pool : List Handle) (b : Block) → b.used + n ≤ b.size → b.before + b.size ≤ length pool
+pub served_many : (made n : ℕ) (pool : List Handle) (b : Block) → b.used + n ≤ b.size
+    → b.before + b.size ≤ length pool
     → reply_from made (drop (b.before + b.used) pool) n ≡ reply_from made (rest_of pool b) n
-served_many made n pool b few within = search (rules, length-rest, rest_is, take-take, served, length-drop)
+served_many made n pool b few within =
+    search (rules, length-rest, rest_is, take-take, served, length-drop)
 
 -- as many are listed as are given
 pub length-listed : (made : ℕ) (given : List Handle) → length (listed made given) ≡ length given

@@ -1,5 +1,5 @@
--- What a phase in blocks ends with, and why it did not end: each field is a clause of `Blocks::close` and
--- `Blocks::close_lost`. For callers that cite it whole.
+-- What a phase in blocks ends with, and why it did not end: each field is a clause of
+-- `Blocks::close` and `Blocks::close_lost`. For callers that cite it whole.
 use Rattle.std.specs.Prelude.{◌≡◌, ◌≢◌, ◌↔◌, ◌⊎◌, ◌<◌, IsTrue, List, length}
 use Rattle.std.specs.Prelude.{All, AllPairs, Contains}
 use Rattle.ent_handle.specs.Handle.{Handle}
@@ -20,8 +20,8 @@ pub record TakesAnew (start after : Allocator) : Type 0 where
 abbrev pub AreOf : Phase → List Reserver → Type 0
 AreOf phase reservers = All (λ (r : Reserver). r.number ≡ phase.number) reservers
 
--- When the phase isn't ended for reservers of another phase, for their order, or for lack of memory. The
--- error is one of which this holds.
+-- When the phase isn't ended for reservers of another phase, for their order, or for lack of
+-- memory. The error is one of which this holds.
 pub record IsRefused (phase : Phase) (reservers : List Reserver)
     (holds : (EndError → Type 0) → Type 0) : Type 0 where
   pub other_phase : holds (λ error. error ≡ unended.OtherPhase) ↔ ¬ (AreOf phase reservers)

@@ -18,8 +18,8 @@ IsMissing n failed.Order = ⊥
 IsMissing n (failed.Missing count) = count ≡ n
 IsMissing n failed.Memory = ⊥
 
--- what a request that was refused leaves of its reserver: only if its block has too few, it remembers
--- how many were wanted
+-- what a request that was refused leaves of its reserver: only if its block has too few, it
+-- remembers how many were wanted
 abbrev pub after_error : Reserver → BlockError → Reserver
 after_error r (block.Space wanted left) = after_refusal r wanted
 after_error r block.OtherPhase = r

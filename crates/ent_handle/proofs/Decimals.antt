@@ -1,7 +1,9 @@
 -- A decimal is what std's `decimal` writes of its value, and reading gives the value of nothing
 -- else.
 use Rattle.std.proofs.lemmas.Grind.{common_steps}
-use Rattle.std.proofs.Common.{◌≡◌, ℕ, ◌+◌, ◌*◌, ◌^◌, ◌<◌, ◌≤◌, ◌↔◌, true, false, List, [], ◌∷◌, length, take, get_or, Option, Result, Ok, Err, IsSome, IfSome, IfOk, IsErrOf, refl, ap, ◌∙◌, arith, rules}
+use Rattle.std.proofs.Common.{◌≡◌, ℕ, ◌+◌, ◌*◌, ◌^◌, ◌<◌, ◌≤◌, ◌↔◌, true, false, List, [], ◌∷◌}
+use Rattle.std.proofs.Common.{length, take, get_or, Option, Result, Ok, Err, IsSome, IfSome, IfOk}
+use Rattle.std.proofs.Common.{IsErrOf, refl, ap, ◌∙◌, arith, rules}
 use Rattle.std.specs.Char.{is_ascii_digit}
 use Rattle.std.specs.Fmt.{decimal}
 use Rattle.std.specs.List.{list_all}
@@ -9,10 +11,13 @@ use Rattle.std.specs.Option.{ok_or}
 use Rattle.std.specs.Str.Parse.{digits_value}
 use Rattle.std.proofs.lemmas.Int.Digits.{digits_value_more}
 use Rattle.std.proofs.lemmas.Str.{digit_value_digit}
-use Rattle.std.proofs.lemmas.Bool.{false≢true, cases_Bool, cases_eq, cases_lt, cond-true, cond-false, eqb-true, eq-eqb, ne_eqb, lt-ltb, le-ltb}
+use Rattle.std.proofs.lemmas.Bool.{false≢true, cases_Bool, cases_eq, cases_lt, cond-true}
+use Rattle.std.proofs.lemmas.Bool.{cond-false, eqb-true, eq-eqb, ne_eqb, lt-ltb, le-ltb}
 use Rattle.std.proofs.lemmas.List.{nil_from_length}
-use Rattle.std.proofs.lemmas.Str.Parse.{IsNumeralModel, numerals_by_value, digit_at, digits_value-take-le}
-use Rattle.std.proofs.lemmas.Fmt.{decimal_is_IsNumeral, decimal-digits_value, digits_decimal, decimal_digit, decimal_nonempty, first_decimal}
+use Rattle.std.proofs.lemmas.Str.Parse.{IsNumeralModel, numerals_by_value, digit_at}
+use Rattle.std.proofs.lemmas.Str.Parse.{digits_value-take-le}
+use Rattle.std.proofs.lemmas.Fmt.{decimal_is_IsNumeral, decimal-digits_value, digits_decimal}
+use Rattle.std.proofs.lemmas.Fmt.{decimal_digit, decimal_nonempty, first_decimal}
 use Rattle.ent_handle.specs.declared.text.TextFault.{TextFault}
 use Rattle.ent_handle.specs.declared.text.TextFault.TheVariants.{Shape, Range}
 use Rattle.ent_handle.specs.Text.{is_decimal, IsDecimal, number_of}
@@ -30,23 +35,35 @@ zero_is_plain : (c : ℕ) (cs : List ℕ) → c ≡ 48 → cs ≡ [] → IsPlain
 zero_is_plain c cs e n = search rules
 
 pub plain_from_decimal : (ds : List ℕ) → IsDecimal ds → IsPlain ds
-plain_from_decimal cs h = search (rules, cases_Bool, zero_is_plain, eqb-true, nil_from_length, cond-true)
+plain_from_decimal cs h =
+    search (rules, cases_Bool, zero_is_plain, eqb-true, nil_from_length, cond-true)
 
 pub decimal_from_plain : (ds : List ℕ) → IsPlain ds → IsDecimal ds
 decimal_from_plain cs h = search (rules, cases_Bool, cond-true, eq-eqb, eqb-true, cond-false)
 
 -- a decimal is the text of its value
-pub decimal-value : (ds : List ℕ) → IsDecimal ds → digits_value 10 ds < 2 ^ 64 → decimal (digits_value 10 ds) ≡ ds
+pub decimal-value : (ds : List ℕ) → IsDecimal ds → digits_value 10 ds < 2 ^ 64
+    → decimal (digits_value 10 ds) ≡ ds
 decimal-value ds h small =
-    let p = plain_from_decimal ds h in decimal-digits_value digit_texts ds p.digits p.nonempty p.no_leading_zero small
+    let p = plain_from_decimal ds h in
+    decimal-digits_value digit_texts ds p.digits p.nonempty p.no_leading_zero small
 
 one_digit : (n : ℕ) → n ≡ 0 → IsPlain (decimal n)
 one_digit n e = search (rules, decimal_digit)
 
 -- the text of a number is a decimal
 pub decimal_is_decimal : (n : ℕ) → n < 2 ^ 64 → IsDecimal (decimal n)
-decimal_is_decimal n small = search
-    (rules, decimal_from_plain, cases_eq, one_digit, digits_decimal, digit_texts, decimal_nonempty, first_decimal)
+decimal_is_decimal n small =
+    search (
+      rules,
+      decimal_from_plain,
+      cases_eq,
+      one_digit,
+      digits_decimal,
+      digit_texts,
+      decimal_nonempty,
+      first_decimal,
+    )
 
 pub value-decimal : (n : ℕ) → n < 2 ^ 64 → digits_value 10 (decimal n) ≡ n
 value-decimal n small = (decimal_is_IsNumeral n small).1
@@ -61,7 +78,8 @@ pub number_in_range : (ds : List ℕ) → IsDecimal ds → digits_value 10 ds < 
     → number_of ds ≡ Ok (digits_value 10 ds)
 number_in_range ds h small = rw (h, lt-ltb _ _ small) refl
 
-pub number_too_large : (ds : List ℕ) → IsDecimal ds → 2 ^ 32 ≤ digits_value 10 ds → number_of ds ≡ Err Range
+pub number_too_large : (ds : List ℕ) → IsDecimal ds → 2 ^ 32 ≤ digits_value 10 ds
+    → number_of ds ≡ Err Range
 number_too_large ds h large = rw (h, le-ltb _ _ large) refl
 
 pub number_of_none : (ds : List ℕ) → is_decimal ds ≡ false → number_of ds ≡ Err Shape
@@ -72,20 +90,23 @@ number_of-decimal n small = search (rules, value-decimal, number_in_range, decim
 
 -- ---- what reading gives, in plain facts
 
-pub number_found : (ds : List ℕ) (r : Result ℕ TextFault) → r ≡ number_of ds → IfOk r (λ n. ds ≡ decimal n)
+pub number_found : (ds : List ℕ) (r : Result ℕ TextFault) → r ≡ number_of ds
+    → IfOk r (λ n. ds ≡ decimal n)
 number_found ds r e = search
     (rules, cases_Bool, number_of_none, cases_lt, number_in_range, decimal-value, number_too_large)
 
-pub number_only : (ds : List ℕ) (r : Result ℕ TextFault) → r ≡ number_of ds → (n : ℕ) → n < 2 ^ 32 → ds ≡ decimal n
-    → r ≡ Ok n
+pub number_only : (ds : List ℕ) (r : Result ℕ TextFault) → r ≡ number_of ds → (n : ℕ) → n < 2 ^ 32
+    → ds ≡ decimal n → r ≡ Ok n
 number_only ds r e n small is = e ∙ ap number_of is ∙ number_of-decimal n small
 
-pub number_shape : (ds : List ℕ) (r : Result ℕ TextFault) → r ≡ number_of ds → IsErrOf r Shape ↔ (¬ IsDecimal ds)
+pub number_shape : (ds : List ℕ) (r : Result ℕ TextFault) → r ≡ number_of ds
+    → IsErrOf r Shape ↔ (¬ IsDecimal ds)
 number_shape ds r e = search (rules, cases_lt (digits_value 10 ds) (2 ^ 32))
 
 pub number_range : (ds : List ℕ) (r : Result ℕ TextFault) → r ≡ number_of ds
     → IsErrOf r Range ↔ (IsDecimal ds × (2 ^ 32 ≤ digits_value 10 ds))
-number_range ds r e = search (rules, cases_Bool, number_of_none, cases_lt, number_in_range, number_too_large)
+number_range ds r e =
+    search (rules, cases_Bool, number_of_none, cases_lt, number_in_range, number_too_large)
 
 -- what one digit more adds
 pub value_more : (ds : List ℕ) (i : ℕ) → IsDecimal ds → i < length ds
@@ -102,5 +123,7 @@ pub record IsValue (ds : List ℕ) (o : Option ℕ) : Type 0 where
   pub value : IfSome o (λ n. n ≡ digits_value 10 ds)
   pub in_range : IsSome o ↔ (digits_value 10 ds < 2 ^ 32)
 
-pub number_from_value : (ds : List ℕ) (o : Option ℕ) → IsDecimal ds → IsValue ds o → ok_or o Range ≡ number_of ds
-number_from_value ds it is v = search (rules, number_in_range, cases_lt, false≢true, number_too_large)
+pub number_from_value : (ds : List ℕ) (o : Option ℕ) → IsDecimal ds → IsValue ds o
+    → ok_or o Range ≡ number_of ds
+number_from_value ds it is v =
+    search (rules, number_in_range, cases_lt, false≢true, number_too_large)

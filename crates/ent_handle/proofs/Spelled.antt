@@ -22,8 +22,8 @@ unfolding long
 from_long n h = from_le_bytes-to_le_bytes_8 n h
 
 -- parts of as many bytes
-pub same_parts : (n : ℕ) (xs ys us vs : List ℕ) → length xs ≡ n → length us ≡ n → xs ++ ys ≡ us ++ vs
-    → (xs ≡ us) × (ys ≡ vs)
+pub same_parts : (n : ℕ) (xs ys us vs : List ℕ) → length xs ≡ n → length us ≡ n
+    → xs ++ ys ≡ us ++ vs → (xs ≡ us) × (ys ≡ vs)
 same_parts n xs ys us vs long_x long_u same = (
   sym (take_at xs ys n long_x) ∙ ap (take n) same ∙ take_at us vs n long_u,
   sym (drop_at xs ys n long_x) ∙ ap (drop n) same ∙ drop_at us vs n long_u,

@@ -1,5 +1,10 @@
--- The names that proofs of this crate cite, of std, of the crates below and of its own specs. Declares nothing.
-pub use Rattle.std.proofs.Common.{Err, Fits, Global, IfErr, IfOk, IsErrOf, IsTrue, List, Ok, OnErr, OnOk, Result, Vec, [], ap, append-nil, append_assoc, arith, drop, inl, inr, length, length-append, map, nat_eq, refl, rules, slice_index, subst, suc, sym, take, vec_capacity, vec_len, zero, ℕ, ℤ, ◌*◌, ◌++◌, ◌+◌, ◌-◌, ◌<◌, ◌^◌, ◌∙◌, ◌∷◌, ◌≡◌, ◌≤◌}
+-- The names that proofs of this crate cite, of std, of the crates below and of its own specs.
+-- Declares nothing.
+pub use Rattle.std.proofs.Common.{Err, Fits, Global, IfErr, IfOk, IsErrOf, IsTrue, List, Ok, OnErr}
+pub use Rattle.std.proofs.Common.{OnOk, Result, Vec, [], ap, append-nil, append_assoc, arith, drop}
+pub use Rattle.std.proofs.Common.{inl, inr, length, length-append, map, nat_eq, refl, rules}
+pub use Rattle.std.proofs.Common.{slice_index, subst, suc, sym, take, vec_capacity, vec_len, zero}
+pub use Rattle.std.proofs.Common.{ℕ, ℤ, ◌*◌, ◌++◌, ◌+◌, ◌-◌, ◌<◌, ◌^◌, ◌∙◌, ◌∷◌, ◌≡◌, ◌≤◌}
 pub use Rattle.std.proofs.Math.Facts.{Fits-lt-pow, Fits-of_lt, Fits-of_z}
 pub use Rattle.std.proofs.Math.Seq.{drop-append_seam}
 pub use Rattle.std.proofs.lemmas.Bool.{cases_lt}
@@ -8,14 +13,16 @@ pub use Rattle.std.proofs.lemmas.Int.{to_z-of_z}
 pub use Rattle.std.proofs.lemmas.List.{drop-take, map-append}
 pub use Rattle.std.proofs.lemmas.List.Elements.{All-cons, All-head, All-nil, All-push, All-tail}
 pub use Rattle.std.proofs.lemmas.List.Sums.{sum_by-append, sum_by-cons}
-pub use Rattle.std.proofs.lemmas.Nat.{from_le_bytes-to_le_bytes_2, from_le_bytes-to_le_bytes_4, from_le_bytes-to_le_bytes_8}
+pub use Rattle.std.proofs.lemmas.Nat.{from_le_bytes-to_le_bytes_2, from_le_bytes-to_le_bytes_4}
+pub use Rattle.std.proofs.lemmas.Nat.{from_le_bytes-to_le_bytes_8}
 pub use Rattle.std.specs.Int.{cast_unsigned, w64}
 pub use Rattle.std.specs.Int.RustNames.{FitsSigned}
 pub use Rattle.std.specs.List.{All, flat_map, sum_by}
 pub use Rattle.std.specs.Simd.{first_chunks}
 pub use Rattle.ent_alloc.specs.Fault.{as_reserve_error}
 pub use Rattle.ent_alloc.specs.Sequential.{Allocator, listed, listed_alone}
-pub use Rattle.ent_alloc.proofs.Served.{one_served, served_none, served_one, served_parts, served_then}
+pub use Rattle.ent_alloc.proofs.Served.{one_served, served_none, served_one, served_parts}
+pub use Rattle.ent_alloc.proofs.Served.{served_then}
 pub use Rattle.ent_alloc.specs.Serving.{AreServed, Replying, Request, SaysWanted}
 pub use Rattle.ent_alloc.specs.declared.refused.Refused.{Refused as Refusal}
 pub use Rattle.ent_alloc.specs.declared.refused.Refused.TheVariants.{Quota, Space}
@@ -33,15 +40,26 @@ pub use Rattle.ent_shared.specs.Replies.{IsReturned}
 pub use Rattle.ent_shared.specs.declared.record.Record.{Record}
 pub use Rattle.ent_storage.proofs.Few.{few_items}
 pub use Rattle.ent_storage.specs.Bundle.{Bundle, IsBundle, IsItem}
-pub use Rattle.ent_queue.specs.Command.{Command, Despawn, HasRange, Insert, IsCommand, IsRefusal, Refused, Remove, Spawn, SpawnMany}
+pub use Rattle.ent_queue.specs.Command.{Command, Despawn, HasRange, Insert, IsCommand, IsRefusal}
+pub use Rattle.ent_queue.specs.Command.{Refused, Remove, Spawn, SpawnMany}
 pub use Rattle.ent_queue.specs.declared.commands.Commands.{Commands}
 pub use Rattle.ent_queue.specs.Commands.{Extends, IsReady, output_of, reserver_of, source_of}
 pub use Rattle.ent_queue.specs.Drawing.{AreDrawnBy, Draws, IsDrawnBy, after_commands, used_by}
 pub use Rattle.ent_queue.specs.Entry.{command_of}
 pub use Rattle.ent_queue.specs.Issuing.{Issues}
 pub use Rattle.ent_queue.specs.Logging.{Logs, request_of}
-pub use Rattle.ent_queue.specs.Packing.{bundle_bytes, command_bytes, handle_bytes, item_bytes, queue_bytes, refusal_bytes}
+pub use Rattle.ent_queue.specs.Packing.{bundle_bytes, command_bytes, handle_bytes, item_bytes}
+pub use Rattle.ent_queue.specs.Packing.{queue_bytes, refusal_bytes}
 unfoldable pub use Rattle.ent_queue.specs.Packing.{bytes_2, bytes_4, bytes_8}
-pub use Rattle.ent_queue.specs.Reserving.{FitQuota, FitsQuota, Gains, as_list, cost, queued, refused_by, requests_of, stands_for}
-pub use Rattle.ent_queue.specs.Unpacking.{ArePacked, BeginsWith, after_first, command_of_kind, handle_of_bits, unpacked_bundle, unpacked_command, unpacked_handle, unpacked_handles, unpacked_item, unpacked_refusal}
-unfoldable pub use Rattle.ent_queue.specs.Unpacking.{number_2, number_4, number_8, unpacked_commands}
+pub use Rattle.ent_queue.specs.Reserving.{FitQuota, FitsQuota, Gains, as_list, cost, queued}
+pub use Rattle.ent_queue.specs.Reserving.{refused_by, requests_of, stands_for}
+pub use Rattle.ent_queue.specs.Unpacking.{ArePacked, BeginsWith, after_first, command_of_kind}
+pub use Rattle.ent_queue.specs.Unpacking.{handle_of_bits, unpacked_bundle, unpacked_command}
+pub use Rattle.ent_queue.specs.Unpacking.{unpacked_handle, unpacked_handles, unpacked_item}
+pub use Rattle.ent_queue.specs.Unpacking.{unpacked_refusal}
+unfoldable pub use Rattle.ent_queue.specs.Unpacking.{
+  number_2,
+  number_4,
+  number_8,
+  unpacked_commands,
+}

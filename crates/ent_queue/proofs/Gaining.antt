@@ -1,12 +1,23 @@
 -- How the record of a reserver of a shared allocator gains what commands have requested with it.
-use Rattle.ent_queue.proofs.Common.{rules, ◌≡◌, refl, ℕ, ◌-◌, ◌<◌, ◌≤◌, ℤ, List, [], ◌∷◌, ◌++◌, arith, ◌∙◌, subst, append_assoc, Ok, Err, inl, inr, common_steps, flat_map-append, sum_by, All-nil, All-cons, cases_lt, sum_by-append, Handle, Record, Refusal, Quota, Space, Shared, Reserver, after_reservation, reservation_at, Command, Refused, HasRange, SaysWanted, IsRefusal, stands_for, cost, FitsQuota, FitQuota, Gains, IsReturned, refused_by, as_reserve_error, map-append, length, Result, Spawn, SpawnMany, Insert, Remove, Despawn, queued, Bundle, AreServed, requests_of, served_parts, one_served, flat_map, Commands, Extends, Issues, reserver_of, source_of}
+use Rattle.ent_queue.proofs.Common.{rules, ◌≡◌, refl, ℕ, ◌-◌, ◌<◌, ◌≤◌, ℤ, List, [], ◌∷◌, ◌++◌}
+use Rattle.ent_queue.proofs.Common.{arith, ◌∙◌, subst, append_assoc, Ok, Err, inl, inr}
+use Rattle.ent_queue.proofs.Common.{common_steps, flat_map-append, sum_by, All-nil, All-cons}
+use Rattle.ent_queue.proofs.Common.{cases_lt, sum_by-append, Handle, Record, Refusal, Quota, Space}
+use Rattle.ent_queue.proofs.Common.{Shared, Reserver, after_reservation, reservation_at, Command}
+use Rattle.ent_queue.proofs.Common.{Refused, HasRange, SaysWanted, IsRefusal, stands_for, cost}
+use Rattle.ent_queue.proofs.Common.{FitsQuota, FitQuota, Gains, IsReturned, refused_by}
+use Rattle.ent_queue.proofs.Common.{as_reserve_error, map-append, length, Result, Spawn, SpawnMany}
+use Rattle.ent_queue.proofs.Common.{Insert, Remove, Despawn, queued, Bundle, AreServed, requests_of}
+use Rattle.ent_queue.proofs.Common.{served_parts, one_served, flat_map, Commands, Extends, Issues}
+use Rattle.ent_queue.proofs.Common.{reserver_of, source_of}
 use Rattle.ent_shared.specs.Phase.{IsOf}
 
 pub gains_nothing : (r : Record) → Gains r [] r
 gains_nothing r = grind (arith, common_steps)
 
 -- a command that stands for no reservation
-pub gains_none : (r : Record) (c : Command) → stands_for c ≡ [] → FitsQuota r.left c → Gains r (c ∷ []) r
+pub gains_none : (r : Record) (c : Command) → stands_for c ≡ [] → FitsQuota r.left c
+    → Gains r (c ∷ []) r
 gains_none r c none within = grind (arith, common_steps)
 
 -- a command that stands for one reservation
@@ -24,13 +35,15 @@ gains_one r high n c enough one within = record {
   within = (within, tt);
 }
 
-within_both : (left : ℕ) (cs ds : List Command) → FitQuota left cs → FitQuota (left - sum_by cost cs) ds
-    → FitQuota left (cs ++ ds)
+within_both : (left : ℕ) (cs ds : List Command) → FitQuota left cs
+    → FitQuota (left - sum_by cost cs) ds → FitQuota left (cs ++ ds)
 within_both left [] ds first second = search (rules)
-within_both left (c ∷ cs) ds first second = grind (arith, common_steps, within_both (left - cost c) cs ds)
+within_both left (c ∷ cs) ds first second =
+    grind (arith, common_steps, within_both (left - cost c) cs ds)
 
 -- The commands of two queues, one after the other: so many queues of one reserver are added up.
-pub gains_then : (a b c : Record) (cs ds : List Command) → Gains a cs b → Gains b ds c → Gains a (cs ++ ds) c
+pub gains_then : (a b c : Record) (cs ds : List Command) → Gains a cs b → Gains b ds c
+    → Gains a (cs ++ ds) c
 gains_then a b c cs ds first second = record {
   start = second.start ∙ first.start;
   number = second.number ∙ first.number;
@@ -39,7 +52,9 @@ gains_then a b c cs ds first second = record {
   requests = search (rules, map-append, flat_map-append);
   callers = grind (arith, common_steps);
   left = omega (arith, first.left, second.left, sum_by-append cost cs ds);
-  within = within_both a.left cs ds first.within (subst (λ n. FitQuota n ds) (omega (arith, first.left)) second.within);
+  within =
+      within_both a.left cs ds first.within
+      (subst (λ n. FitQuota n ds) (omega (arith, first.left)) second.within);
 }
 
 module _ (shared : Shared) (before after : Reserver) (n : ℕ) where
@@ -65,10 +80,12 @@ module _ (shared : Shared) (before after : Reserver) (n : ℕ) where
 pub is_refusal : (n : ℕ) (why : Refusal) → SaysWanted n why → HasRange why → IsRefusal n why
 is_refusal n it says range = search rules
 
-pub refused_by_fault : (n : ℕ) (why : Refusal) → refused_by n (as_reserve_error why) ≡ Refused n why ∷ []
+pub refused_by_fault : (n : ℕ) (why : Refusal)
+    → refused_by n (as_reserve_error why) ≡ Refused n why ∷ []
 refused_by_fault n it = search rules
 
-pub queued_ok : (reply : Result (List Handle) Refusal) (hs : List Handle) → Ok hs ≡ queued reply → Ok hs ≡ reply
+pub queued_ok : (reply : Result (List Handle) Refusal) (hs : List Handle) → Ok hs ≡ queued reply
+    → Ok hs ≡ reply
 queued_ok it hs e = search rules
 
 many_request : (hs : List Handle) (items : Bundle) (n : ℕ) → length hs ≡ n → 0 < n
@@ -77,31 +94,39 @@ many_request hs items n e some = search rules
 
 -- what one command has gained, by the replies to its requests
 gains_at : (shared : Shared) (before after : Reserver) (c : Command)
-    → AreServed (IsReturned shared) before (requests_of c) after → Gains before.own (c ∷ []) after.own
+    → AreServed (IsReturned shared) before (requests_of c) after
+    → Gains before.own (c ∷ []) after.own
 gains_at shared before after (Spawn h items) served =
-    served_gains shared before after 1 (h ∷ []) (Spawn h items) (one_served (IsReturned shared) served) (λ some. refl) (λ none. absurd (omega (arith, none)))
+    served_gains shared before after 1 (h ∷ []) (Spawn h items)
+    (one_served (IsReturned shared) served) (λ some. refl) (λ none. absurd (omega (arith, none)))
     (λ enough. enough)
 gains_at shared before after (SpawnMany hs items) served =
-    served_gains shared before after (length hs) hs (SpawnMany hs items) (one_served (IsReturned shared) served)
-    (many_request hs items (length hs) refl) (λ none is. rw is refl) (λ enough. enough)
+    served_gains shared before after (length hs) hs (SpawnMany hs items)
+    (one_served (IsReturned shared) served) (many_request hs items (length hs) refl)
+    (λ none is. rw is refl) (λ enough. enough)
 gains_at shared before after (Insert h items) served = search (rules, gains_none)
 gains_at shared before after (Remove h id) served = search (rules, gains_none)
 gains_at shared before after (Despawn h) served = search (rules, gains_none)
 gains_at shared before after (Refused wanted why) served =
     refused_gains shared before after wanted why (one_served (IsReturned shared) served)
 
--- So the record has gained the reservations of commands that a shared allocator served, and no others.
+-- So the record has gained the reservations of commands that a shared allocator served, and no
+-- others.
 pub gains_of : (shared : Shared) (before after : Reserver) (commands : List Command)
     → AreServed (IsReturned shared) before (flat_map requests_of commands) after
     → Gains before.own commands after.own
 gains_of shared before after [] served = search (rules, gains_nothing)
 gains_of shared before after (c ∷ commands) served =
-    let parts = served_parts (IsReturned shared) before after (requests_of c) (flat_map requests_of commands) served in
+    let parts =
+    served_parts (IsReturned shared) before after (requests_of c)
+    (flat_map requests_of commands) served in
     gains_then _ _ _ (c ∷ []) commands (gains_at shared before parts.0 c parts.1)
     (gains_of shared parts.0 after commands parts.2)
 
 -- So a reserver has gained the reservations of what was issued with it.
-pub gains_added : (a b : Commands (List Command) Shared Reserver) (e : Extends Issues IsOf IsReturned a b)
+pub gains_added : (a b : Commands (List Command) Shared Reserver)
+    (e : Extends Issues IsOf IsReturned a b)
     → Gains (reserver_of a).own e.adds.added (reserver_of b).own
 gains_added a b e =
-    gains_of (source_of a) (reserver_of a) (reserver_of b) e.adds.added (rw e.adds.requests_are at e.served)
+    gains_of (source_of a) (reserver_of a) (reserver_of b) e.adds.added
+    (rw e.adds.requests_are at e.served)

@@ -1,6 +1,19 @@
 -- Commands as bytes, and back, and a command at the end of a queue.
-use Rattle.ent_queue.proofs.Common.{◌≡◌, refl, ℕ, zero, suc, ◌*◌, ◌^◌, ◌<◌, List, [], ◌∷◌, ◌++◌, length, drop, arith, ap, sym, append_assoc, length-append, slice_index, IsTrue, nat_eq, rules, All, flat_map, All-head, All-tail, drop-append_seam, Handle, IsHandle, Refusal, Bundle, IsBundle, Command, IsRefusal, IsCommand, Spawn, SpawnMany, Insert, Remove, Despawn, Refused, bytes_4, handle_bytes, bundle_bytes, refusal_bytes, command_bytes, queue_bytes, number_4, unpacked_handle, unpacked_handles, unpacked_refusal, unpacked_command, after_first, unpacked_commands, ArePacked, BeginsWith, ◌≤◌, command_of_kind, ◌+◌, append-nil, Fits, Vec, w64, common_steps, Fits-of_lt, All-nil, All-push}
-use Rattle.ent_queue.proofs.Parts.{number_4-bytes, number_8-bytes, drop-bytes_4, drop-bytes_8, unpacked_handle-bytes, length-bytes_4, length-bytes_8, length-handles, unpacked_handles-bytes, drop-handles, BundleBegins, bundle_begins}
+use Rattle.ent_queue.proofs.Common.{◌≡◌, refl, ℕ, zero, suc, ◌*◌, ◌^◌, ◌<◌, List, [], ◌∷◌, ◌++◌}
+use Rattle.ent_queue.proofs.Common.{length, drop, arith, ap, sym, append_assoc, length-append}
+use Rattle.ent_queue.proofs.Common.{slice_index, IsTrue, nat_eq, rules, All, flat_map, All-head}
+use Rattle.ent_queue.proofs.Common.{All-tail, drop-append_seam, Handle, IsHandle, Refusal, Bundle}
+use Rattle.ent_queue.proofs.Common.{IsBundle, Command, IsRefusal, IsCommand, Spawn, SpawnMany}
+use Rattle.ent_queue.proofs.Common.{Insert, Remove, Despawn, Refused, bytes_4, handle_bytes}
+use Rattle.ent_queue.proofs.Common.{bundle_bytes, refusal_bytes, command_bytes, queue_bytes}
+use Rattle.ent_queue.proofs.Common.{number_4, unpacked_handle, unpacked_handles, unpacked_refusal}
+use Rattle.ent_queue.proofs.Common.{unpacked_command, after_first, unpacked_commands, ArePacked}
+use Rattle.ent_queue.proofs.Common.{BeginsWith, ◌≤◌, command_of_kind, ◌+◌, append-nil, Fits, Vec}
+use Rattle.ent_queue.proofs.Common.{w64, common_steps, Fits-of_lt, All-nil, All-push}
+use Rattle.ent_queue.proofs.Parts.{number_4-bytes, number_8-bytes, drop-bytes_4, drop-bytes_8}
+use Rattle.ent_queue.proofs.Parts.{unpacked_handle-bytes, length-bytes_4, length-bytes_8}
+use Rattle.ent_queue.proofs.Parts.{length-handles, unpacked_handles-bytes, drop-handles}
+use Rattle.ent_queue.proofs.Parts.{BundleBegins, bundle_begins}
 
 -- What the parts after the byte for each kind say, and let be read.
 pub record WithBundle (h : Handle) (items : Bundle) (parts rest : List ℕ) : Type 0 where
@@ -13,7 +26,15 @@ with_bundle : (h : Handle) (items : Bundle) (rest : List ℕ) → IsHandle h →
     → WithBundle h items ((handle_bytes h ++ bundle_bytes items) ++ rest) rest
 with_bundle h items rest is bundle =
     let begins = bundle_begins items rest (bundle_bytes items ++ rest) bundle refl in
-    search (rules, append_assoc, length-append, length-bytes_8, unpacked_handle-bytes, drop-bytes_8, begins)
+    search (
+      rules,
+      append_assoc,
+      length-append,
+      length-bytes_8,
+      unpacked_handle-bytes,
+      drop-bytes_8,
+      begins,
+    )
 
 pub record WithHandles (hs : List Handle) (items : Bundle) (parts rest : List ℕ) : Type 0 where
   pub header : 4 ≤ length parts
@@ -22,14 +43,27 @@ pub record WithHandles (hs : List Handle) (items : Bundle) (parts rest : List �
   pub each : All IsHandle hs
   pub bundle : BundleBegins items (drop (8 * number_4 parts) (drop 4 parts)) rest
 
-with_handles : (hs : List Handle) (items : Bundle) (parts rest : List ℕ) → length hs < 2 ^ 32 → All IsHandle hs
-    → IsBundle items → parts ≡ bytes_4 (length hs) ++ (flat_map handle_bytes hs ++ (bundle_bytes items ++ rest))
+with_handles : (hs : List Handle) (items : Bundle) (parts rest : List ℕ) → length hs < 2 ^ 32
+    → All IsHandle hs → IsBundle items
+    → parts ≡ bytes_4 (length hs) ++ (flat_map handle_bytes hs ++ (bundle_bytes items ++ rest))
     → WithHandles hs items parts rest
 with_handles hs items parts rest few all bundle e =
     let count : number_4 parts ≡ length hs = rw (e, number_4-bytes) in
-    let more : drop 4 parts ≡ flat_map handle_bytes hs ++ (bundle_bytes items ++ rest) = rw (e, drop-bytes_4) in
+    let more : drop 4 parts ≡ flat_map handle_bytes hs ++ (bundle_bytes items ++ rest) =
+    rw (e, drop-bytes_4) in
     let begins = bundle_begins items rest (bundle_bytes items ++ rest) bundle refl in
-    search (rules, arith, count, more, length-append, length-bytes_4, length-handles, unpacked_handles-bytes, drop-handles, begins)
+    search (
+      rules,
+      arith,
+      count,
+      more,
+      length-append,
+      length-bytes_4,
+      length-handles,
+      unpacked_handles-bytes,
+      drop-handles,
+      begins,
+    )
 
 pub record WithComponent (h : Handle) (id : ℕ) (parts rest : List ℕ) : Type 0 where
   pub long : 8 ≤ length parts
@@ -50,8 +84,10 @@ pub record HandleAlone (h : Handle) (parts rest : List ℕ) : Type 0 where
   pub is : IsHandle h
   pub rest_is : drop 8 parts ≡ rest
 
-handle_alone : (h : Handle) (rest : List ℕ) → IsHandle h → HandleAlone h (handle_bytes h ++ rest) rest
-handle_alone h rest is = search (rules, arith, length-append, length-bytes_8, unpacked_handle-bytes, drop-bytes_8)
+handle_alone : (h : Handle) (rest : List ℕ) → IsHandle h
+    → HandleAlone h (handle_bytes h ++ rest) rest
+handle_alone h rest is =
+    search (rules, arith, length-append, length-bytes_8, unpacked_handle-bytes, drop-bytes_8)
 
 pub record WithReason (wanted : ℕ) (why : Refusal) (parts rest : List ℕ) : Type 0 where
   pub header : 4 ≤ length parts
@@ -71,8 +107,17 @@ after_refusal it rest = search (rules, length-append, length-bytes_8, drop-bytes
 
 with_reason : (wanted : ℕ) (why : Refusal) (rest : List ℕ) → wanted < 2 ^ 32 → IsRefusal wanted why
     → WithReason wanted why ((bytes_4 wanted ++ refusal_bytes why) ++ rest) rest
-with_reason wanted why rest few is = search
-    (rules, append_assoc, length-append, length-bytes_4, number_4-bytes, drop-bytes_4, unpacked_refusal-bytes, after_refusal why rest)
+with_reason wanted why rest few is =
+    search (
+      rules,
+      append_assoc,
+      length-append,
+      length-bytes_4,
+      number_4-bytes,
+      drop-bytes_4,
+      unpacked_refusal-bytes,
+      after_refusal why rest,
+    )
 
 abbrev pub Says : Command → List ℕ → List ℕ → Type 0
 Says (Spawn h items) parts rest = WithBundle h items parts rest
@@ -83,13 +128,16 @@ Says (Despawn h) parts rest = HandleAlone h parts rest
 Says (Refused wanted why) parts rest = WithReason wanted why parts rest
 
 says : (c : Command) (rest : List ℕ) → IsCommand c → Says c (drop 1 (command_bytes c ++ rest)) rest
-says it rest is = search (rules, append_assoc, with_bundle, with_handles, with_component, handle_alone, with_reason)
+says it rest is =
+    search
+    (rules, append_assoc, with_bundle, with_handles, with_component, handle_alone, with_reason)
 
 pub unpacked_command-bytes : (c : Command) (rest : List ℕ) → IsCommand c
     → unpacked_command (command_bytes c ++ rest) ≡ c
 unpacked_command-bytes it rest is = let s = says it rest is in search (rules, s)
 
-pub after_first-bytes : (c : Command) (rest : List ℕ) → IsCommand c → after_first (command_bytes c ++ rest) ≡ rest
+pub after_first-bytes : (c : Command) (rest : List ℕ) → IsCommand c
+    → after_first (command_bytes c ++ rest) ≡ rest
 after_first-bytes c rest is = search (rules, unpacked_command-bytes, drop-append_seam)
 
 -- what bytes that begin with a command let be read after the byte for its kind
@@ -104,8 +152,9 @@ pub begins_kind : (bytes : List ℕ) → (c : Command) × (rest : List ℕ) × B
     → slice_index bytes 0 ≤ 5
 begins_kind bytes b = rw b.2.bytes_are (last_kind b.0 b.1)
 
-pub says_of_kind : (kind : ℕ) (bytes : List ℕ) → (c : Command) × (rest : List ℕ) × BeginsWith c bytes rest
-    → kind ≡ slice_index bytes 0 → Says (command_of_kind kind (drop 1 bytes)) (drop 1 bytes) (after_first bytes)
+pub says_of_kind : (kind : ℕ) (bytes : List ℕ)
+    → (c : Command) × (rest : List ℕ) × BeginsWith c bytes rest → kind ≡ slice_index bytes 0
+    → Says (command_of_kind kind (drop 1 bytes)) (drop 1 bytes) (after_first bytes)
 says_of_kind kind bytes b e = rw e (begins_says bytes b)
 
 pub unpacked_commands-bytes : (commands : List Command) → All IsCommand commands
@@ -115,13 +164,19 @@ unpacked_commands-bytes [] all = refl
 unpacked_commands-bytes (c ∷ commands) all =
     let is = All-head IsCommand c commands all in
     let others = unpacked_commands-bytes commands (All-tail IsCommand c commands all) in
-    search
-    (rules, after_first-bytes c (queue_bytes commands) is, unpacked_command-bytes c (queue_bytes commands) is, others)
+    search (
+      rules,
+      after_first-bytes c (queue_bytes commands) is,
+      unpacked_command-bytes c (queue_bytes commands) is,
+      others,
+    )
 
-pub are_packed : (commands : List Command) → All IsCommand commands → ArePacked (length commands) (queue_bytes commands)
+pub are_packed : (commands : List Command) → All IsCommand commands
+    → ArePacked (length commands) (queue_bytes commands)
 are_packed commands all = search (rules, unpacked_commands-bytes)
 
-pub length_of_commands : (count : ℕ) (bytes : List ℕ) → length (unpacked_commands count bytes) ≡ count
+pub length_of_commands : (count : ℕ) (bytes : List ℕ)
+    → length (unpacked_commands count bytes) ≡ count
 unfolding unpacked_commands
 length_of_commands zero bytes = refl
 length_of_commands (suc count) bytes = ap suc (length_of_commands count (after_first bytes))
@@ -130,18 +185,23 @@ pub no_commands : (count : ℕ) (bytes : List ℕ) → count ≡ 0 → unpacked_
 unfolding unpacked_commands
 no_commands count bytes e = rw e
 
-pub no_commands_iff : (count : ℕ) (bytes : List ℕ) (now : List Command) → unpacked_commands count bytes ≡ now
+pub no_commands_iff : (count : ℕ) (bytes : List ℕ) (now : List Command)
+    → unpacked_commands count bytes ≡ now
     → (IsTrue (nat_eq count 0) → now ≡ []) × (now ≡ [] → IsTrue (nat_eq count 0))
-no_commands_iff count bytes now e = search (rules, arith, no_commands, length_of_commands count bytes)
+no_commands_iff count bytes now e =
+    search (rules, arith, no_commands, length_of_commands count bytes)
 
 -- the first of some commands
 pub first_of_commands : (count left : ℕ) (bytes : List ℕ) → suc left ≡ count
-    → unpacked_commands count bytes ≡ unpacked_command bytes ∷ unpacked_commands left (after_first bytes)
+    → unpacked_commands count bytes
+    ≡ unpacked_command bytes ∷ unpacked_commands left (after_first bytes)
 unfolding unpacked_commands
 first_of_commands count left bytes e = ap (λ n. unpacked_commands n bytes) (sym e)
 
-pub some_command_begins : (count left : ℕ) (bytes : List ℕ) → suc left ≡ count → ArePacked count bytes
-    → BeginsWith (unpacked_command bytes) bytes (queue_bytes (unpacked_commands left (after_first bytes)))
+pub some_command_begins : (count left : ℕ) (bytes : List ℕ) → suc left ≡ count
+    → ArePacked count bytes
+    → BeginsWith (unpacked_command bytes) bytes
+    (queue_bytes (unpacked_commands left (after_first bytes)))
 some_command_begins count left bytes e packed =
     let first = first_of_commands count left bytes e in search (rules, All-head)
 
@@ -153,7 +213,8 @@ others_are_packed count left bytes e packed =
     let each = All-tail IsCommand (unpacked_command bytes) _ (rw first at packed.each) in
     search (rules, begins, after_first-bytes, each)
 
-queue_bytes-push : (cs : List Command) (c : Command) → queue_bytes (cs ++ c ∷ []) ≡ queue_bytes cs ++ command_bytes c
+queue_bytes-push : (cs : List Command) (c : Command)
+    → queue_bytes (cs ++ c ∷ []) ≡ queue_bytes cs ++ command_bytes c
 queue_bytes-push cs c = grind (arith, common_steps, append-nil)
 
 -- The bytes of some commands, and then those of one more, are those of one more command.
@@ -179,7 +240,8 @@ count_le_bytes count bytes packed =
     grind (arith, common_steps, counted (unpacked_commands count bytes), length_of_commands)
 
 -- so that one more can be counted
-pub count_fits : {Z : Type 0} (count : ℕ) (bytes : Vec ℕ Z) → ArePacked count bytes.items → Fits w64 (count + 1)
+pub count_fits : {Z : Type 0} (count : ℕ) (bytes : Vec ℕ Z) → ArePacked count bytes.items
+    → Fits w64 (count + 1)
 count_fits count bytes packed = search (rules, count_le_bytes, Fits-of_lt)
 
 pub nothing_packed : ArePacked 0 []

@@ -38,8 +38,8 @@ AreDrawnBy s b (c ∷ cs) = IsDrawnBy s b c × AreDrawnBy s (after_use b (used_b
 abbrev pub after_commands : Block → List Command → Block
 after_commands b commands = after_use b (sum_by used_by commands)
 
--- The handles of these commands are the next ones of the block, in the order of issue, and these alone
--- are used.
+-- The handles of these commands are the next ones of the block, in the order of issue, and these
+-- alone are used.
 pub record Draws (s : Allocator) (before : Block) (commands : List Command) (after : Block)
     : Type 0 where
   pub each : AreDrawnBy s before commands

@@ -5,7 +5,8 @@ use Rattle.ent_queue.specs.Command.{Command}
 use Rattle.ent_queue.specs.Reserving.{requests_of}
 
 -- Commands were added to the queue, which stand for these requests and no others.
-pub record Issues (before : List Command) (requests : List Request) (after : List Command) : Type 0 where
+pub record Issues (before : List Command) (requests : List Request) (after : List Command) :
+    Type 0 where
   pub added : List Command
   pub queue : after ≡ before ++ added
   pub requests_are : requests ≡ flat_map requests_of added

@@ -25,8 +25,8 @@ requests_of (Remove h id) = []
 requests_of (Despawn h) = []
 requests_of (Refused wanted why) = (wanted, Err why) ∷ []
 
--- those of them that are reservations of a shared allocator: a request for no handle is none, nor is
--- one for more than the quota
+-- those of them that are reservations of a shared allocator: a request for no handle is none, nor
+-- is one for more than the quota
 abbrev pub stands_for : Command → List (ℕ × Result (List Handle) OutOfSpace)
 stands_for (Spawn h items) = (1, Ok (h ∷ [])) ∷ []
 stands_for (SpawnMany [] items) = []

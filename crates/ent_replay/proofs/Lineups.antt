@@ -1,6 +1,18 @@
--- What is placed of a run, and what is left: one pass over what is left, what stops it, and which one a
--- difference names.
-use Rattle.ent_replay.proofs.Common.{add-one, rules, ◌≡◌, ℕ, suc, ◌+◌, ◌-◌, ◌<◌, ◌≤◌, ℤ, pos, ◌+ℤ◌, ◌-ℤ◌, ◌≤ℤ◌, List, [], ◌∷◌, ◌++◌, length, take, drop, slice_get, Some, arith, ints, drop-drop, append_assoc, length-append, Handle, Allocator, top, cursor, asked_at, pool_at, IsSound, ◌^◌, get_or, common_steps, drop-cons, sum_by-cons, after_take, asked-after_take, Placed, after_lines, reservations_of, requested_in, ◌≢◌, filter, None, refl, cases_eq, take_more, take-append-drop, length-take, filter-append, nat_cmp, IsFirstAt, is_of, sym, inl, inr, ◌⊎◌, available, reply_from, reply_to, cursor-after_take, made-after_take, reply-cursor, top-after_take, after_take-sound, available-after_take, Lineup, AreAnswered, FitsReserved, FitsAt, IsLineup, KeepsCallers, NoneFits, all_of, lines_of, reached, append-nil}
+-- What is placed of a run, and what is left: one pass over what is left, what stops it, and which
+-- one a difference names.
+use Rattle.ent_replay.proofs.Common.{add-one, rules, ◌≡◌, ℕ, suc, ◌+◌, ◌-◌, ◌<◌, ◌≤◌, ℤ, pos, ◌+ℤ◌}
+use Rattle.ent_replay.proofs.Common.{◌-ℤ◌, ◌≤ℤ◌, List, [], ◌∷◌, ◌++◌, length, take, drop, slice_get}
+use Rattle.ent_replay.proofs.Common.{Some, arith, ints, drop-drop, append_assoc, length-append}
+use Rattle.ent_replay.proofs.Common.{Handle, Allocator, top, cursor, asked_at, pool_at, IsSound}
+use Rattle.ent_replay.proofs.Common.{◌^◌, get_or, common_steps, drop-cons, sum_by-cons, after_take}
+use Rattle.ent_replay.proofs.Common.{asked-after_take, Placed, after_lines, reservations_of}
+use Rattle.ent_replay.proofs.Common.{requested_in, ◌≢◌, filter, None, refl, cases_eq, take_more}
+use Rattle.ent_replay.proofs.Common.{take-append-drop, length-take, filter-append, nat_cmp}
+use Rattle.ent_replay.proofs.Common.{IsFirstAt, is_of, sym, inl, inr, ◌⊎◌, available, reply_from}
+use Rattle.ent_replay.proofs.Common.{reply_to, cursor-after_take, made-after_take, reply-cursor}
+use Rattle.ent_replay.proofs.Common.{top-after_take, after_take-sound, available-after_take, Lineup}
+use Rattle.ent_replay.proofs.Common.{AreAnswered, FitsReserved, FitsAt, IsLineup, KeepsCallers}
+use Rattle.ent_replay.proofs.Common.{NoneFits, all_of, lines_of, reached, append-nil}
 use Rattle.std.specs.FinMap as finite
 use Rattle.ent_replay.proofs.Sorted.{lines, lines_append}
 use Rattle.ent_replay.proofs.Tables.{get-inserted, get-insert_other, nothing_in}
@@ -13,7 +25,8 @@ use Rattle.ent_replay.proofs.Lists.{parted, no_middle}
 asked_below : (high : ℕ) (p : ℤ) → p ≤ℤ pos high → asked_at high (p -ℤ pos 1) ≡ asked_at high p + 1
 asked_below high p below = search (rules, ints)
 
-pool_below : (s : Allocator) (p : ℤ) → p ≤ℤ pos (top s) → pool_at s (p -ℤ pos 1) ≡ drop 1 (pool_at s p)
+pool_below : (s : Allocator) (p : ℤ) → p ≤ℤ pos (top s)
+    → pool_at s (p -ℤ pos 1) ≡ drop 1 (pool_at s p)
 pool_below s p below = search (rules, asked_below, drop-drop)
 
 -- what is listed of the front, and what is left of it
@@ -22,9 +35,10 @@ pub record Listed (s : Allocator) (start next : ℤ) (front : List Handle) : Typ
   pub few : length front ≤ 8
   pub above : start ≡ next +ℤ pos (length front)
 
-module _ (s : Allocator) (start next : ℤ) (front : List Handle) (listed : Listed s start next front) where
-  pub Listed-next : next ≤ℤ pos (top s) → length front < 8 → (h : Handle) → slice_get (pool_at s next) 0 ≡ Some h
-      → Listed s start (next -ℤ pos 1) (front ++ h ∷ [])
+module _ (s : Allocator) (start next : ℤ) (front : List Handle)
+    (listed : Listed s start next front) where
+  pub Listed-next : next ≤ℤ pos (top s) → length front < 8 → (h : Handle)
+      → slice_get (pool_at s next) 0 ≡ Some h → Listed s start (next -ℤ pos 1) (front ++ h ∷ [])
   Listed-next below more h is =
       let left : 8 - length front ≡ suc (7 - length front) = omega arith in
       search (rules, length-append, append_assoc, pool_below, ints)
@@ -39,15 +53,18 @@ module _ (old s : Allocator) (run : List Placed) (i : ℕ) where
       → s.asked + p.reservation.requested ≤ 2 ^ 50
   Made-few made p within is = grind (arith, common_steps, drop-cons, sum_by-cons)
 
-  pub Made-next : Made old s run i → (p : Placed) → i < length run → p ≡ get_or run i p → (t : Allocator)
-      → t ≡ after_take s p.reservation.requested → Made old t run (i + 1)
-  Made-next made p within is t after = grind (arith, common_steps, lines, drop-cons, sum_by-cons, asked-after_take)
+  pub Made-next : Made old s run i → (p : Placed) → i < length run → p ≡ get_or run i p
+      → (t : Allocator) → t ≡ after_take s p.reservation.requested → Made old t run (i + 1)
+  Made-next made p within is t after =
+      grind (arith, common_steps, lines, drop-cons, sum_by-cons, asked-after_take)
 
 -- a caller that was not seen has none among the first ones
 abbrev pub AreSeen : finite.FinMap nat_cmp ℕ → List Placed → ℕ → Type 0
-AreSeen seen rest index = (q : ℕ) → finite.get seen q ≡ None → filter (is_of q) (take index rest) ≡ []
+AreSeen seen rest index = (q : ℕ) → finite.get seen q ≡ None
+    → filter (is_of q) (take index rest) ≡ []
 
-module _ (seen : finite.FinMap nat_cmp ℕ) (rest : List Placed) (index : ℕ) (p : Placed) (within : index < length rest)
+module _ (seen : finite.FinMap nat_cmp ℕ) (rest : List Placed) (index : ℕ) (p : Placed)
+    (within : index < length rest)
     (at : p ≡ get_or rest index p) (h : AreSeen seen rest index) where
   more : take (index + 1) rest ≡ take index rest ++ p ∷ []
   more = cc (take_more rest index p within, at)
@@ -93,14 +110,23 @@ pub is_after : (run : List Placed) (s : Allocator) → IsSound s → IsAfter s (
 is_after [] s sound = search rules
 is_after (p ∷ run) s sound =
     let more = is_after run (after_take s (asks p)) (after_take-sound s (asks p) sound) in
-    search (rules, arith, available-after_take, made-after_take, top-after_take, asked-after_take, more)
+    search (
+      rules,
+      arith,
+      available-after_take,
+      made-after_take,
+      top-after_take,
+      asked-after_take,
+      more,
+    )
 
 after-append : (xs ys : List Placed) (s : Allocator) → after s (xs ++ ys) ≡ after (after s xs) ys
 after-append [] ys s = refl
 after-append (x ∷ xs) ys s = after-append xs ys (after_take s (asks x))
 
 -- the position stands for the state
-module _ (s : Allocator) (run : List Placed) (at : ℤ) (sound : IsSound s) (at_is : at ≡ cursor (after s run)) where
+module _ (s : Allocator) (run : List Placed) (at : ℤ) (sound : IsSound s)
+    (at_is : at ≡ cursor (after s run)) where
   pub here : IsAfter s (after s run) run
   here = is_after run s sound
 
@@ -118,7 +144,8 @@ module _ (s : Allocator) (run : List Placed) (at : ℤ) (sound : IsSound s) (at_
 
   -- after one more
   pub at-next : (p : Placed) → (at -ℤ pos (asks p)) ≡ cursor (after s (run ++ p ∷ []))
-  at-next p = cc (at_is, cursor-after_take (after s run) (asks p) here.sound, after-append run (p ∷ []) s)
+  at-next p =
+      cc (at_is, cursor-after_take (after s run) (asks p) here.sound, after-append run (p ∷ []) s)
 
 -- ---- one pass
 
@@ -143,7 +170,8 @@ pub record Passing (s : Allocator) (start : Lineup) (placed left rest : List Pla
 
 -- ---- what a loop has
 
-module _ {s : Allocator} {start : Lineup} {placed left all : List Placed} {at : ℤ} {blocked : finite.FinMap nat_cmp ℕ}
+module _ {s : Allocator} {start : Lineup} {placed left all : List Placed} {at : ℤ}
+    {blocked : finite.FinMap nat_cmp ℕ}
     (begun : IsLineup s start) (h : Passing s start placed left all at blocked) where
   few : s.asked + total (placed ++ (left ++ all)) ≤ 2 ^ 50
   few = omega (arith, total_is)
@@ -156,33 +184,44 @@ module _ {s : Allocator} {start : Lineup} {placed left all : List Placed} {at : 
 
   module _ {rest : List Placed} {p : Placed} (parts : all ≡ p ∷ rest) where
     pub Passing-lower : pos (top s) ≤ℤ ((at -ℤ pos (asks p)) +ℤ pos (2 ^ 50))
-    Passing-lower = at-least s (placed ++ p ∷ []) _ begun.sound (at-next s placed at begun.sound h.at_is p)
+    Passing-lower =
+        at-least s (placed ++ p ∷ []) _ begun.sound (at-next s placed at begun.sound h.at_is p)
         (search (rules, few, total_append))
 
-    fits_here : FitsReserved p.reservation.reply (reply_from s.made (pool_at s at) (asks p)) ≡ FitsAt (after s placed) p
+    fits_here : FitsReserved p.reservation.reply (reply_from s.made (pool_at s at) (asks p))
+        ≡ FitsAt (after s placed) p
     fits_here = cc (reply-here s placed at begun.sound h.at_is (asks p))
 
     -- it is its caller's next one, and fits
-    pub placed_next : {items : List Placed} {below : ℤ} → items ≡ placed ++ p ∷ [] → below ≡ at -ℤ pos (asks p)
-        → finite.get blocked p.reservation.caller ≡ None
+    pub placed_next : {items : List Placed} {below : ℤ} → items ≡ placed ++ p ∷ []
+        → below ≡ at -ℤ pos (asks p) → finite.get blocked p.reservation.caller ≡ None
         → FitsReserved p.reservation.reply (reply_from s.made (pool_at s at) (asks p))
         → Passing s start items left rest below blocked
     placed_next {items} {below} is lower none fits =
         let here : Passing s start placed left (p ∷ rest) at blocked = rw parts at h in
         let fits : FitsAt (after s placed) p = rw (← fits_here) fits in
         let sound = begun.sound in
-        rw (is, lower) (search
-        (rules, append_assoc, length-append, keeps-forward, lines_append, AreAnswered-append, at-next, total_append))
+        rw (is, lower) (search (
+          rules,
+          append_assoc,
+          length-append,
+          keeps-forward,
+          lines_append,
+          AreAnswered-append,
+          at-next,
+          total_append,
+        ))
 
     -- it isn't, or doesn't fit
-    pub left_next : {items : List Placed} {now : finite.FinMap nat_cmp ℕ} (key : ℕ) → items ≡ left ++ p ∷ []
-        → now ≡ finite.insert blocked p.reservation.caller key
+    pub left_next : {items : List Placed} {now : finite.FinMap nat_cmp ℕ} (key : ℕ)
+        → items ≡ left ++ p ∷ [] → now ≡ finite.insert blocked p.reservation.caller key
         → ((v : ℕ) × (finite.get blocked p.reservation.caller ≡ Some v))
         ⊎ (FitsReserved p.reservation.reply (reply_from s.made (pool_at s at) (asks p)) → ⊥)
         → Passing s start placed items rest at now
     left_next {items} {now} key is inserted why =
         let h : Passing s start placed left (p ∷ rest) at blocked = rw parts at h in
-        let why : ((v : ℕ) × (finite.get blocked p.reservation.caller ≡ Some v)) ⊎ (FitsAt (after s placed) p → ⊥) =
+        let why : ((v : ℕ) × (finite.get blocked p.reservation.caller ≡ Some v))
+        ⊎ (FitsAt (after s placed) p → ⊥) =
         rw (← fits_here) why in
         rw (is, inserted) (record {
           keeps = rw (append_assoc left (p ∷ []) rest) h.keeps;
@@ -191,8 +230,12 @@ module _ {s : Allocator} {start : Lineup} {placed left all : List Placed} {at : 
           sum = rw (append_assoc left (p ∷ []) rest) h.sum;
           count = omega (arith, length-append left (p ∷ []));
           grown = h.grown;
-          free = search (rules, cases_eq, get-inserted, get-insert_other, filter-append, other, append-nil);
-          held = search (rules, cases_eq, no_middle, own, get-insert_other, filter-append, other, append-nil);
+          free =
+              search
+              (rules, cases_eq, get-inserted, get-insert_other, filter-append, other, append-nil);
+          held =
+              search
+              (rules, cases_eq, no_middle, own, get-insert_other, filter-append, other, append-nil);
           still = λ same. let before = h.still same in (
             before.0,
             λ front x more parts first. elim (parted left [] front more p x parts) [
@@ -207,7 +250,8 @@ module _ {s : Allocator} {start : Lineup} {placed left all : List Placed} {at : 
         })
 
 -- nothing is left to go over
-module _ {s : Allocator} {start : Lineup} {all : List Placed} {blocked : finite.FinMap nat_cmp ℕ} (l : Lineup)
+module _ {s : Allocator} {start : Lineup} {all : List Placed} {blocked : finite.FinMap nat_cmp ℕ}
+    (l : Lineup)
     (begun : IsLineup s start) (none : all ≡ [])
     (h : Passing s start l.placed.items l.rest.items all l.at blocked) where
   over : l.placed.items ++ (l.rest.items ++ all) ≡ all_of l
@@ -216,12 +260,15 @@ module _ {s : Allocator} {start : Lineup} {all : List Placed} {blocked : finite.
   pub over_lined : IsLineup s l
   over_lined = search (rules, few, total_is, total, over)
 
-  pub over_stuck : length l.rest.items ≡ length start.rest.items → NoneFits (reached s l) l.rest.items
+  pub over_stuck : length l.rest.items ≡ length start.rest.items
+      → NoneFits (reached s l) l.rest.items
   over_stuck same = search (rules, length-append)
 
-pub started : (s : Allocator) (l : Lineup) (left rest : List Placed) (blocked : finite.FinMap nat_cmp ℕ) → IsLineup s l
-    → left ≡ [] → rest ≡ l.rest.items → blocked ≡ finite.empty → Passing s l l.placed.items left rest l.at blocked
-started s l left rest blocked h none all empty = search (rules, length-append, nothing_in, no_middle)
+pub started : (s : Allocator) (l : Lineup) (left rest : List Placed)
+    (blocked : finite.FinMap nat_cmp ℕ) → IsLineup s l → left ≡ [] → rest ≡ l.rest.items
+    → blocked ≡ finite.empty → Passing s l l.placed.items left rest l.at blocked
+started s l left rest blocked h none all empty =
+    search (rules, length-append, nothing_in, no_middle)
 
 -- ---- pass after pass
 
@@ -242,5 +289,6 @@ module _ (s : Allocator) (l : Lineup) (h : IsLineup s l) where
   pub lined-passed : l.at ≤ℤ pos (top s)
   lined-passed = at-passed s l.placed.items l.at h.sound h.at_is
 
-pub at_middle : (before after : List Placed) (p x : Placed) → get_or (before ++ p ∷ after) (length before) x ≡ p
+pub at_middle : (before after : List Placed) (p x : Placed)
+    → get_or (before ++ p ∷ after) (length before) x ≡ p
 at_middle before after p x = grind (arith, common_steps)

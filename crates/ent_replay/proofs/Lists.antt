@@ -1,11 +1,15 @@
--- Lists of which one element is taken out, and orders of lines of which one overlaps nothing: an order of
--- those before it, that line, and an order of those after it.
-use Rattle.ent_replay.proofs.Common.{rules, ◌≡◌, Bool, true, false, List, [], ◌∷◌, ◌++◌, filter, refl, inl, inr, cases_Bool, filter-append, AllByRecursion, common_steps, arith, subst, ◌⊎◌, append_assoc, Call, Reservation, MayPass, IsAlone, IsOrderOf, reserve_lines}
+-- Lists of which one element is taken out, and orders of lines of which one overlaps nothing: an
+-- order of those before it, that line, and an order of those after it.
+use Rattle.ent_replay.proofs.Common.{rules, ◌≡◌, Bool, true, false, List, [], ◌∷◌, ◌++◌, filter}
+use Rattle.ent_replay.proofs.Common.{refl, inl, inr, cases_Bool, filter-append, AllByRecursion}
+use Rattle.ent_replay.proofs.Common.{common_steps, arith, subst, ◌⊎◌, append_assoc, Call}
+use Rattle.ent_replay.proofs.Common.{Reservation, MayPass, IsAlone, IsOrderOf, reserve_lines}
 use Rattle.ent_replay.specs.declared.trace.call.Call.TheVariants as line
 
 -- what holds of all
 module _ {X : Type 0} (P : X → Type 0) where
-  pub all_parts : (xs ys : List X) → AllByRecursion P (xs ++ ys) → AllByRecursion P xs × AllByRecursion P ys
+  pub all_parts : (xs ys : List X) → AllByRecursion P (xs ++ ys)
+      → AllByRecursion P xs × AllByRecursion P ys
   all_parts [] ys all = (tt, all)
   all_parts (x ∷ xs) ys all = let more = all_parts xs ys all.1 in ((all.0, more.0), more.1)
 
@@ -21,7 +25,8 @@ module _ {X : Type 0} (P : X → Type 0) where
   all_push [] x all here = (here, tt)
   all_push (y ∷ xs) x all here = (all.0, all_push xs x all.1 here)
 
-  pub all_weaker : (Q : X → Type 0) → ((x : X) → P x → Q x) → (xs : List X) → AllByRecursion P xs → AllByRecursion Q xs
+  pub all_weaker : (Q : X → Type 0) → ((x : X) → P x → Q x) → (xs : List X) → AllByRecursion P xs
+      → AllByRecursion Q xs
   all_weaker Q each [] all = tt
   all_weaker Q each (x ∷ xs) all = (each x all.0, all_weaker Q each xs all.1)
 
@@ -40,7 +45,8 @@ module _ {X : Type 0} (f : X → Bool) where
       → filter f (x ∷ (before ++ after)) ≡ filter f (before ++ x ∷ after)
   kept_forward before after x none = search (rules, cases_Bool, filter-append)
 
-  pub kept_rest : (xs ys : List X) (x : X) → filter f (x ∷ xs) ≡ filter f (x ∷ ys) → filter f xs ≡ filter f ys
+  pub kept_rest : (xs ys : List X) (x : X) → filter f (x ∷ xs) ≡ filter f (x ∷ ys)
+      → filter f xs ≡ filter f ys
   kept_rest xs ys x e = search (rules, cases_Bool)
 
 -- a list that a filter begins with an element
@@ -60,7 +66,13 @@ module _ {X : Type 0} (p : X → Bool) (h : X) (rest : List X) where
         record { before = []; after = xs; is = cc; none = tt; rest_is = cc }
     | inr fails ↦
         let s = split xs (simp fails at e) in
-        record { before = d ∷ s.before; after = s.after; is = cc s.is; none = (fails, s.none); rest_is = s.rest_is }
+        record {
+          before = d ∷ s.before;
+          after = s.after;
+          is = cc s.is;
+          none = (fails, s.none);
+          rest_is = s.rest_is;
+        }
   ]
 
 abbrev pub IsReserve : Call → Type 0
@@ -88,8 +100,10 @@ module _ {X : Type 0} where
     pub before_is : before ≡ front ++ x ∷ more
     pub rest_is : rest ≡ more ++ l ∷ after
 
-  pub parted : (front rest before after : List X) (x l : X) → front ++ x ∷ rest ≡ before ++ l ∷ after
-      → InFront front rest before after x l ⊎ (Itself front rest before after x l ⊎ Behind front rest before after x l)
+  pub parted : (front rest before after : List X) (x l : X)
+      → front ++ x ∷ rest ≡ before ++ l ∷ after
+      → InFront front rest before after x l
+      ⊎ (Itself front rest before after x l ⊎ Behind front rest before after x l)
   parted [] rest [] after x l e = search rules
   parted (f ∷ front) rest (b ∷ before) after x l e =
       let others : front ++ x ∷ rest ≡ before ++ l ∷ after = cc in
@@ -106,7 +120,8 @@ module _ {X : Type 0} where
 not_passed : (l x : Call) → IsAlone x → MayPass l x → ⊥
 not_passed l other alone p = search rules
 
-none_before : (x : Call) (front : List Call) → IsAlone x → AllByRecursion (MayPass x) front → front ≡ []
+none_before : (x : Call) (front : List Call) → IsAlone x → AllByRecursion (MayPass x) front
+    → front ≡ []
 none_before x [] alone all = refl
 none_before x (y ∷ front) alone all = absurd (grind (arith, common_steps))
 
@@ -117,13 +132,15 @@ pub record Parts (front rest order : List Call) (x : Call) : Type 0 where
   pub first_is : IsOrderOf front first
   pub second_is : IsOrderOf rest second
 
-pub parts : (front rest : List Call) (x : Call) (order : List Call) → AllByRecursion IsReserve front → IsAlone x
-    → IsOrderOf (front ++ x ∷ rest) order → Parts front rest order x
+pub parts : (front rest : List Call) (x : Call) (order : List Call) → AllByRecursion IsReserve front
+    → IsAlone x → IsOrderOf (front ++ x ∷ rest) order → Parts front rest order x
 parts front rest x [] reserves alone e = absurd (no_middle front rest x e)
 parts front rest x (l ∷ order) reserves alone (before, after, is, passes, more) = elim
     (parted front rest before after x l is) [
       | inl p ↦
-          let here = subst (λ (ls : List Call). IsOrderOf ls order) (grind (arith, common_steps, append_assoc)) more in
+          let here =
+          subst (λ (ls : List Call). IsOrderOf ls order)
+          (grind (arith, common_steps, append_assoc)) more in
           let left = all_without IsReserve before p.more l (rw (← p.front_is) reserves) in
           let next = parts (before ++ p.more) rest x order left alone here in
           record {

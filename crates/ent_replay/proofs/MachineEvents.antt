@@ -1,8 +1,29 @@
 -- What a test of a machine's answer tells, and what a refusal for lack of memory has to be.
-use Rattle.ent_replay.proofs.Common.{allocator_is, rules, ◌≡◌, sym, ◌∙◌, ℕ, ◌<◌, true, false, List, ◌∷◌, drop, slice_get, Option, Some, None, Result, Ok, Err, arith, option_map, is_some, OnOk, OnErr, is_err, next, Allocator, Outcome, ReplayFault, MachineState, Returned, event_takes_memory, Makes, machine_state, AreConsistent, nat_cmp, StoredCall, none, Step, cond-true, cond-false, All-nil, ap, ◌+◌, ◌^◌, ◌≤◌, inl, inr, unwrap_or, FinMap, get-empty, len-empty, empty_of_len, nat_tests, Handle, quota, born, after_alloc, after_free, after_flush, IsSound, after_alloc-sound, after_free-sound, after_flush-sound, OpenCall, is_busy, on_alloc, on_free, on_flush, alloc_front, callers, sum_below, all_held, map_values, open_call_of, awaited, cases_eq, get-remove, pos, ◌-ℤ◌, nat_lt, ints, same_Some, none-some, ℕ_discrete, Span, cursor, reply_from, pool_at, after_take, available-after_take, after_take-sound, made-after_take, asked-after_take, top-after_take, cursor-after_take, reply-cursor, on_begin, on_step, on_answer, left_of, reported, unasked, HasPassed}
+use Rattle.ent_replay.proofs.Common.{allocator_is, rules, ◌≡◌, sym, ◌∙◌, ℕ, ◌<◌, true, false, List}
+use Rattle.ent_replay.proofs.Common.{◌∷◌, drop, slice_get, Option, Some, None, Result, Ok, Err}
+use Rattle.ent_replay.proofs.Common.{arith, option_map, is_some, OnOk, OnErr, is_err, next}
+use Rattle.ent_replay.proofs.Common.{Allocator, Outcome, ReplayFault, MachineState, Returned}
+use Rattle.ent_replay.proofs.Common.{event_takes_memory, Makes, machine_state, AreConsistent}
+use Rattle.ent_replay.proofs.Common.{nat_cmp, StoredCall, none, Step, cond-true, cond-false}
+use Rattle.ent_replay.proofs.Common.{All-nil, ap, ◌+◌, ◌^◌, ◌≤◌, inl, inr, unwrap_or, FinMap}
+use Rattle.ent_replay.proofs.Common.{get-empty, len-empty, empty_of_len, nat_tests, Handle, quota}
+use Rattle.ent_replay.proofs.Common.{born, after_alloc, after_free, after_flush, IsSound}
+use Rattle.ent_replay.proofs.Common.{after_alloc-sound, after_free-sound, after_flush-sound}
+use Rattle.ent_replay.proofs.Common.{OpenCall, is_busy, on_alloc, on_free, on_flush, alloc_front}
+use Rattle.ent_replay.proofs.Common.{callers, sum_below, all_held, map_values, open_call_of}
+use Rattle.ent_replay.proofs.Common.{awaited, cases_eq, get-remove, pos, ◌-ℤ◌, nat_lt, ints}
+use Rattle.ent_replay.proofs.Common.{same_Some, none-some, ℕ_discrete, Span, cursor, reply_from}
+use Rattle.ent_replay.proofs.Common.{pool_at, after_take, available-after_take, after_take-sound}
+use Rattle.ent_replay.proofs.Common.{made-after_take, asked-after_take, top-after_take}
+use Rattle.ent_replay.proofs.Common.{cursor-after_take, reply-cursor, on_begin, on_step, on_answer}
+use Rattle.ent_replay.proofs.Common.{left_of, reported, unasked, HasPassed}
 use Rattle.std.specs.FinMap as finite
 use Rattle.ent_replay.specs.declared.fault.ReplayFault.TheVariants as fault
-use Rattle.ent_replay.proofs.Tables.{no_test, sum_below-bound, sum_below-none, maps_alike, get-map_values, map_values-empty, nothing_in, get-inserted, get-insert_other, get-removed, get-remove_other, map_values-insert, on_inserted, on_removed, sum_below-changed, sum_below-part}
+use Rattle.ent_replay.proofs.Tables.{no_test, sum_below-bound, sum_below-none, maps_alike}
+use Rattle.ent_replay.proofs.Tables.{get-map_values, map_values-empty, nothing_in, get-inserted}
+use Rattle.ent_replay.proofs.Tables.{get-insert_other, get-removed, get-remove_other}
+use Rattle.ent_replay.proofs.Tables.{map_values-insert, on_inserted, on_removed, sum_below-changed}
+use Rattle.ent_replay.proofs.Tables.{sum_below-part}
 use Rattle.std.specs.FinSet as set
 use Rattle.ent_alloc.specs.Spent as given
 use Rattle.ent_replay.specs.declared.outcome.Outcome.TheVariants as outcome
@@ -12,36 +33,41 @@ use Rattle.ent_replay.proofs.Histories.{all_held-none, all_held-next}
 -- The machine did what the step says, or refused for lack of memory: told of the values that a
 -- contract sees.
 pub done : (on : MachineState → Returned) {inside now : MachineState} → inside ≡ now
-    → {result answer : Result Outcome ReplayFault} → result ≡ answer → {after next : MachineState} → after ≡ next
-    → on inside ≡ (answer, next) → Makes (on now) now result after
+    → {result answer : Result Outcome ReplayFault} → result ≡ answer → {after next : MachineState}
+    → after ≡ next → on inside ≡ (answer, next) → Makes (on now) now result after
 done on view is is_next step = search rules
 
 -- It found a fault, and changed nothing.
-pub faulty : (on : MachineState → Returned) {inside now : MachineState} → inside ≡ now → (why : ReplayFault)
-    → on inside ≡ (Err why, inside) → Makes (on now) now (Err why) now
+pub faulty : (on : MachineState → Returned) {inside now : MachineState} → inside ≡ now
+    → (why : ReplayFault) → on inside ≡ (Err why, inside) → Makes (on now) now (Err why) now
 faulty on view why = search (rules, done)
 
 pub refused : (on : MachineState → Returned) {inside now : MachineState} → inside ≡ now
-    → {result : Result Outcome ReplayFault} → result ≡ Err fault.Memory → {after : MachineState} → after ≡ inside
-    → event_takes_memory inside (on inside).0 ≡ true → Makes (on now) now result after
+    → {result : Result Outcome ReplayFault} → result ≡ Err fault.Memory → {after : MachineState}
+    → after ≡ inside → event_takes_memory inside (on inside).0 ≡ true
+    → Makes (on now) now result after
 refused on view is unchanged takes = search rules
 
 -- The same of an event that the allocator alone decides.
 module _ (on : MachineState → Returned) (s : Allocator) (spent : finite.FinMap nat_cmp ℕ)
-    (calls : finite.FinMap nat_cmp StoredCall) (now : MachineState) (view : machine_state s spent calls ≡ now)
+    (calls : finite.FinMap nat_cmp StoredCall) (now : MachineState)
+    (view : machine_state s spent calls ≡ now)
     (result : Result Outcome ReplayFault) (new : Allocator) where
-  pub allocator_did : (answer : Result Outcome ReplayFault) → result ≡ answer → (next : Allocator) → new ≡ next
+  pub allocator_did : (answer : Result Outcome ReplayFault) → result ≡ answer → (next : Allocator)
+      → new ≡ next
       → on (machine_state s spent calls) ≡ (answer, machine_state next spent calls)
       → Makes (on now) now result (machine_state new spent calls)
   allocator_did answer is next is_next step = search rules
 
-  pub allocator_refused : result ≡ Err fault.Memory → new ≡ s → event_takes_memory (machine_state s spent calls) (on
-      (machine_state s spent calls)).0 ≡ true → Makes (on now) now result (machine_state new spent calls)
+  pub allocator_refused : result ≡ Err fault.Memory → new ≡ s
+      → event_takes_memory (machine_state s spent calls) (on (machine_state s spent calls)).0 ≡ true
+      → Makes (on now) now result (machine_state new spent calls)
   allocator_refused is unchanged takes = search rules
 
 -- what is consistent of an allocator is so under another name
-pub consistent_as : {s t : Allocator} {spent : finite.FinMap nat_cmp ℕ} {calls : finite.FinMap nat_cmp StoredCall}
-    → t ≡ s → AreConsistent s spent calls → AreConsistent t spent calls
+pub consistent_as : {s t : Allocator} {spent : finite.FinMap nat_cmp ℕ}
+    {calls : finite.FinMap nat_cmp StoredCall} → t ≡ s → AreConsistent s spent calls
+    → AreConsistent t spent calls
 consistent_as {s} {t} {spent} {calls} is h = rw is h
 
 -- what a test of an answer tells
@@ -66,8 +92,8 @@ pub ok_not_err : {T E : Type 0} (x : T) (e : E) → Ok x ≡ Err e → ⊥
 ok_not_err x e is = cc
 
 -- and one refusal is no other
-pub not_other : {T E : Type 0} (x why other : E) → x ≡ why → ¬ (why ≡ other) → ◌≡◌ {A = Result T E} (Err x) (Err other)
-    → ⊥
+pub not_other : {T E : Type 0} (x why other : E) → x ≡ why → ¬ (why ≡ other)
+    → ◌≡◌ {A = Result T E} (Err x) (Err other) → ⊥
 not_other x why other is differ same = let also : x ≡ other = cc in differ (sym is ∙ also)
 
 -- what an event says that the allocator refused, or did
@@ -101,25 +127,34 @@ module _ (s : Allocator) (spent : FinMap nat_cmp ℕ) (calls : FinMap nat_cmp St
   busy some = elim (cases_eq (finite.len (map_values (open_call_of s) calls)) 0) [
     | inl is ↦
         let none = empty_of_len (map_values (open_call_of s) calls) is in
-        absurd (some (maps_alike calls finite.empty (λ q. none_is_none (open_call_of s) (finite.get calls q)
-        (cc (get-map_values (open_call_of s) calls q, none, get-empty {X = _} nat_cmp q)) ∙ sym (get-empty nat_cmp q))))
+        absurd
+        (some
+        (maps_alike calls finite.empty (λ q. none_is_none (open_call_of s) (finite.get calls q)
+        (cc (get-map_values (open_call_of s) calls q, none, get-empty {X = _} nat_cmp q))
+        ∙ sym (get-empty nat_cmp q))))
     | inr other ↦ grind (arith, nat_tests)
   ]
 
   -- nor is anything kept for one
-  quiet_once : calls ≡ finite.empty → (t : Allocator) → given.AreSpent t (all_held (map_values (open_call_of t) calls))
+  quiet_once : calls ≡ finite.empty → (t : Allocator)
+      → given.AreSpent t (all_held (map_values (open_call_of t) calls))
   quiet_once none t = search (rules, All-nil, all_held-none, map_values-empty)
 
-  pub quiet_played : AreConsistent s spent calls → calls ≡ finite.empty → (t : Allocator) → IsSound t
-      → t.asked ≡ s.asked → AreConsistent t spent calls
+  pub quiet_played : AreConsistent s spent calls → calls ≡ finite.empty → (t : Allocator)
+      → IsSound t → t.asked ≡ s.asked → AreConsistent t spent calls
   quiet_played h none t sound same =
       let once = quiet_once none t in search (rules, once, nothing_in, h.quota, h.requests)
 
   -- what was asked for, and what is still to be, is within what a span can have
-  pub asked-bound : AreConsistent s spent calls → s.asked + sum_below (λ q. awaited (finite.get calls q)) callers
-      ≤ 2 ^ 50
+  pub asked-bound : AreConsistent s spent calls
+      → s.asked + sum_below (λ q. awaited (finite.get calls q)) callers ≤ 2 ^ 50
   unfolding quota
-  asked-bound h = search (rules, sum_below-bound (λ q. unwrap_or (finite.get spent q) 0) quota callers h.quota, h.asked)
+  asked-bound h =
+      search (
+        rules,
+        sum_below-bound (λ q. unwrap_or (finite.get spent q) 0) quota callers h.quota,
+        h.asked,
+      )
 
   -- ---- events that need the allocator to themselves
 
@@ -143,12 +178,14 @@ module _ (s : Allocator) (spent : FinMap nat_cmp ℕ) (calls : FinMap nat_cmp St
         → on_alloc here ≡ (Ok (outcome.Handle h), machine_state (after_alloc s h) spent calls)
     alloc-given h rest first = search (rules, alloc-flushed, front, map_values-empty)
 
-    pub alloc-consistent : (h : Handle) → AreConsistent s spent calls → ¬ (0 < s.asked) → slice_get s.pool 0 ≡ Some h
-        → AreConsistent (after_alloc s h) spent calls
+    pub alloc-consistent : (h : Handle) → AreConsistent s spent calls → ¬ (0 < s.asked)
+        → slice_get s.pool 0 ≡ Some h → AreConsistent (after_alloc s h) spent calls
     alloc-consistent h played rest first =
-        let nothing : s.asked ≡ 0 = omega arith in search (rules, quiet_played, after_alloc-sound, front)
+        let nothing : s.asked ≡ 0 = omega arith in
+        search (rules, quiet_played, after_alloc-sound, front)
 
-    pub free-needs_flush : (h : Handle) → 0 < s.asked → on_free here h ≡ (Ok outcome.NeedsFlush, here)
+    pub free-needs_flush : (h : Handle) → 0 < s.asked
+        → on_free here h ≡ (Ok outcome.NeedsFlush, here)
     free-needs_flush h some = search (rules, quiet none, nat_tests)
 
     pub free-not_alive : (h : Handle) → s.asked ≡ 0 → set.contains s.live h ≡ false
@@ -156,21 +193,26 @@ module _ (s : Allocator) (spent : FinMap nat_cmp ℕ) (calls : FinMap nat_cmp St
     free-not_alive h rest gone = search (rules, quiet none, nat_tests)
 
     pub free-freed : (h : Handle) → ¬ (0 < s.asked) → set.contains s.live h ≡ true
-        → on_free here h ≡ (Ok (outcome.Freed h (next s.limits h)), machine_state (after_free s h) spent calls)
-    free-freed h rest lives = search (rules, cond-false, quiet, nat_tests, cond-true, map_values-empty)
+        → on_free here h
+        ≡ (Ok (outcome.Freed h (next s.limits h)), machine_state (after_free s h) spent calls)
+    free-freed h rest lives =
+        search (rules, cond-false, quiet, nat_tests, cond-true, map_values-empty)
 
-    pub free-consistent : (h : Handle) → AreConsistent s spent calls → ¬ (0 < s.asked) → set.contains s.live h ≡ true
-        → AreConsistent (after_free s h) spent calls
+    pub free-consistent : (h : Handle) → AreConsistent s spent calls → ¬ (0 < s.asked)
+        → set.contains s.live h ≡ true → AreConsistent (after_free s h) spent calls
     free-consistent h played rest lives =
         let nothing : s.asked ≡ 0 = omega arith in search (rules, quiet_played, after_free-sound)
 
-    pub flush-flushed : on_flush here ≡ (Ok (outcome.Born (born s)), machine_state (after_flush s) finite.empty calls)
+    pub flush-flushed : on_flush here
+        ≡ (Ok (outcome.Born (born s)), machine_state (after_flush s) finite.empty calls)
     flush-flushed = search (rules, cond-false, quiet, map_values-empty)
 
-    pub flush-consistent : AreConsistent s spent calls → AreConsistent (after_flush s) finite.empty calls
+    pub flush-consistent : AreConsistent s spent calls
+        → AreConsistent (after_flush s) finite.empty calls
     flush-consistent played =
         let once = quiet_once none (after_flush s) in
-        search (rules, once, after_flush-sound, get-empty, sum_below-none, nothing_in, played.requests)
+        search
+        (rules, once, after_flush-sound, get-empty, sum_below-none, nothing_in, played.requests)
 
   -- ---- events of a call
 
@@ -178,18 +220,19 @@ module _ (s : Allocator) (spent : FinMap nat_cmp ℕ) (calls : FinMap nat_cmp St
     is_caller : nat_lt caller callers ≡ true
     is_caller = grind (arith, nat_tests)
 
-    opened : (o : Option StoredCall) → finite.get calls caller ≡ o → finite.get (map_values (open_call_of s) calls)
-        caller ≡ option_map (open_call_of s) o
+    opened : (o : Option StoredCall) → finite.get calls caller ≡ o
+        → finite.get (map_values (open_call_of s) calls) caller ≡ option_map (open_call_of s) o
     opened o is = simp (get-map_values, is)
 
     -- what waits for this caller is counted
-    pub awaited-bound : AreConsistent s spent calls → (call : StoredCall) → finite.get calls caller ≡ Some call
-        → s.asked + unasked call.requested call.span ≤ 2 ^ 50
+    pub awaited-bound : AreConsistent s spent calls → (call : StoredCall)
+        → finite.get calls caller ≡ Some call → s.asked + unasked call.requested call.span ≤ 2 ^ 50
     awaited-bound h call is = search
         (rules, asked-bound h, sum_below-part (λ q. awaited (finite.get calls q)) _ _ below)
 
     -- what waits in all where this call is new
-    waits-inserted : (new : StoredCall) → sum_below (λ q. awaited (finite.get calls q)) callers + awaited (Some new)
+    waits-inserted : (new : StoredCall)
+        → sum_below (λ q. awaited (finite.get calls q)) callers + awaited (Some new)
         ≡ sum_below (λ q. awaited (finite.get (finite.insert calls caller new) q)) callers
         + awaited (finite.get calls caller)
     waits-inserted new = simp get-inserted at (sum_below-changed (λ q. awaited (finite.get calls q))
@@ -231,12 +274,17 @@ module _ (s : Allocator) (spent : FinMap nat_cmp ℕ) (calls : FinMap nat_cmp St
               let before = h.asked in
               let waits = waits-inserted begun in
               let waited : awaited (finite.get calls caller) ≡ 0 = ap awaited none in
-              let spends = simp get-inserted at (sum_below-changed (λ q. unwrap_or (finite.get spent q) 0)
+              let spends =
+              simp get-inserted at (sum_below-changed (λ q. unwrap_or (finite.get spent q) 0)
               (λ q. unwrap_or (finite.get more q) 0) caller callers below
-              (λ q other. ap (λ o. unwrap_or o 0) (sym (get-insert_other spent caller _ q other)))) in
+              (λ q other. ap (λ o. unwrap_or o 0)
+              (sym (get-insert_other spent caller _ q other)))) in
               omega arith;
-          requests = search (rules, on_inserted (λ q (c : StoredCall). c.requested < 2 ^ 32), h.requests);
-          spans = λ q call span at. on_inserted (λ q c. c.span ≡ Some span → HasPassed s c.requested span) calls caller
+          requests =
+              search (rules, on_inserted (λ q (c : StoredCall). c.requested < 2 ^ 32), h.requests);
+          spans =
+              λ q call span at.
+              on_inserted (λ q c. c.span ≡ Some span → HasPassed s c.requested span) calls caller
               (λ q c _ at. h.spans q c span at) begun (λ no. absurd (none-some span no)) q call at;
           once = all_held-next here (event.Begin caller n) begin-begun h.sound h.once;
         }
@@ -245,25 +293,36 @@ module _ (s : Allocator) (spent : FinMap nat_cmp ℕ) (calls : FinMap nat_cmp St
       pub begin-open : (n : ℕ) → on_begin here caller n ≡ (Err fault.AlreadyOpen, here)
       begin-open n = search (rules, is_caller, opened (Some call) is)
 
-      pub step-stepped : (span : Span) → call.span ≡ Some span → on_step here caller ≡ (Err fault.AlreadyStepped, here)
+      pub step-stepped : (span : Span) → call.span ≡ Some span
+          → on_step here caller ≡ (Err fault.AlreadyStepped, here)
       step-stepped span passed = search (rules, is_caller, opened (Some call) is)
 
-      pub step-taken : IsSound s → call.span ≡ None → on_step here caller
+      pub step-taken : IsSound s → call.span ≡ None
+          → on_step here caller
           ≡ (
             Ok (outcome.Cursor (cursor s -ℤ pos call.requested)),
-            machine_state (after_take s call.requested) spent (finite.insert calls caller (stepped s call)),
+            machine_state (after_take s call.requested) spent
+                (finite.insert calls caller (stepped s call)),
           )
       step-taken sound waits =
           let made = made-after_take s call.requested in
           let given = available-after_take s call.requested sound in
           let fs : open_call_of s ≡ open_call_of (after_take s call.requested) = λ i c. same c i in
-          search (rules, is_caller, opened (Some call) is, cursor-after_take, reply-cursor, map_values-insert)
+          search (
+            rules,
+            is_caller,
+            opened (Some call) is,
+            cursor-after_take,
+            reply-cursor,
+            map_values-insert,
+          )
         where
           same : (c : StoredCall) → open_call_of s c ≡ open_call_of (after_take s call.requested) c
           same c = simp (made-after_take, available-after_take)
 
-      pub step-consistent : AreConsistent s spent calls → call.span ≡ None → AreConsistent (after_take s call.requested)
-          spent (finite.insert calls caller (stepped s call))
+      pub step-consistent : AreConsistent s spent calls → call.span ≡ None
+          → AreConsistent (after_take s call.requested) spent
+          (finite.insert calls caller (stepped s call))
       step-consistent h waits = record {
         sound = after_take-sound s call.requested h.sound;
         quota = h.quota;
@@ -273,15 +332,21 @@ module _ (s : Allocator) (spent : FinMap nat_cmp ℕ) (calls : FinMap nat_cmp St
             let waited : awaited (finite.get calls caller) ≡ call.requested = ap awaited is
             ∙ ap (unasked call.requested) waits in
             omega (arith, asked-after_take);
-        requests = search (rules, on_inserted (λ q (c : StoredCall). c.requested < 2 ^ 32), h.requests);
-        spans = λ q other_call span at. on_inserted (λ q c. c.span ≡ Some span
-            → HasPassed (after_take s call.requested) c.requested span) _ _
-            (λ q c _ at passed. search (rules, h.spans q c span at passed, top-after_take s call.requested h.sound)) _
-            (λ passed. search (rules, same_Some _ span passed, asked-bound, top-after_take, ints)) q _ at;
+        requests =
+            search (rules, on_inserted (λ q (c : StoredCall). c.requested < 2 ^ 32), h.requests);
+        spans =
+            λ q other_call span at. on_inserted
+            (λ q c. c.span ≡ Some span → HasPassed (after_take s call.requested) c.requested span) _
+            _
+            (λ q c _ at passed.
+            search (rules, h.spans q c span at passed, top-after_take s call.requested h.sound)) _
+            (λ passed. search (rules, same_Some _ span passed, asked-bound, top-after_take, ints)) q
+            _ at;
         once = all_held-next here (event.Step caller) (step-taken h.sound waits) h.sound h.once;
       }
 
-      pub answer-not_stepped : call.span ≡ None → on_answer here caller ≡ (Err fault.NotStepped, here)
+      pub answer-not_stepped : call.span ≡ None
+          → on_answer here caller ≡ (Err fault.NotStepped, here)
       answer-not_stepped waits = search (rules, is_caller, opened (Some call) is)
 
       module _ (span : Span) (passed : call.span ≡ Some span) where
@@ -295,7 +360,8 @@ module _ (s : Allocator) (spent : FinMap nat_cmp ℕ) (calls : FinMap nat_cmp St
             (finite.remove (map_values (open_call_of s) calls) caller) in
             search (rules, is_caller, opened (Some call) is, left, get-map_values, get-remove)
 
-        pub answer-consistent : AreConsistent s spent calls → AreConsistent s spent (finite.remove calls caller)
+        pub answer-consistent : AreConsistent s spent calls
+            → AreConsistent s spent (finite.remove calls caller)
         answer-consistent h = record {
           sound = h.sound;
           quota = h.quota;
@@ -304,10 +370,14 @@ module _ (s : Allocator) (spent : FinMap nat_cmp ℕ) (calls : FinMap nat_cmp St
               let all = simp get-removed at (sum_below-changed (λ q. awaited (finite.get calls q))
               (λ q. awaited (finite.get (finite.remove calls caller) q)) caller callers below
               (λ q other. ap awaited (sym (get-remove_other calls caller q other)))) in
-              let waited : awaited (finite.get calls caller) ≡ 0 = ap awaited is ∙ ap (unasked call.requested) passed in
+              let waited : awaited (finite.get calls caller) ≡ 0 = ap awaited is
+              ∙ ap (unasked call.requested) passed in
               omega arith;
-          requests = search (rules, on_removed (λ q (c : StoredCall). c.requested < 2 ^ 32), h.requests);
-          spans = λ q other_call span at. on_removed (λ q c. c.span ≡ Some span → HasPassed s c.requested span) calls
-              caller (λ q c _ at. h.spans q c span at) q other_call at;
+          requests =
+              search (rules, on_removed (λ q (c : StoredCall). c.requested < 2 ^ 32), h.requests);
+          spans =
+              λ q other_call span at. on_removed
+              (λ q c. c.span ≡ Some span → HasPassed s c.requested span) calls caller
+              (λ q c _ at. h.spans q c span at) q other_call at;
           once = all_held-next here (event.Answer caller) answer-answered h.sound h.once;
         }

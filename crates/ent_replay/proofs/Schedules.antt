@@ -1,5 +1,6 @@
 -- Whole schedules: one event more, and one part after the other.
-use Rattle.ent_replay.proofs.Common.{rules, ◌≡◌, refl, List, [], ◌∷◌, ◌++◌, Event, MachineState, after_event, outcomes_of, after_events}
+use Rattle.ent_replay.proofs.Common.{rules, ◌≡◌, refl, List, [], ◌∷◌, ◌++◌, Event, MachineState}
+use Rattle.ent_replay.proofs.Common.{after_event, outcomes_of, after_events}
 
 pub after_events-append : (s : MachineState) (xs ys : List Event)
     → after_events s (xs ++ ys) ≡ after_events (after_events s xs) ys

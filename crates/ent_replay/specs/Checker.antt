@@ -9,7 +9,8 @@ use Rattle.std.specs.FinMap as finite
 use Rattle.std.specs.Coded.{Coded, code_by, coded×, coded_list}
 use Rattle.ent_handle.specs.Handle.{Handle}
 use Rattle.ent_alloc.specs.Limits.{Limits}
-use Rattle.ent_alloc.specs.Sequential.{Allocator, allocator_code, available, cursor, opening, stands_in}
+use Rattle.ent_alloc.specs.Sequential.{Allocator, allocator_code, available, cursor, opening}
+use Rattle.ent_alloc.specs.Sequential.{stands_in}
 use Rattle.ent_replay.specs.contracts.trace.reservation.Reservation as reservation
 use Rattle.ent_replay.specs.declared.trace.reservation.Reservation.{Reservation}
 use Rattle.ent_replay.specs.declared.trace.call.Call.{Call}
@@ -66,8 +67,8 @@ pub record IsSettled (c : Checked) (after : Allocator) : Type 0 where
   pub only : (other : List Call) → IsOrderOf (reserve_lines c.run) other
       → AreAnswered c.allocator other → after_lines c.allocator other ≡ after
 
--- The state after a line: a reservation joins the run, and any other call is made in the state after the
--- run, where its reply fits.
+-- The state after a line: a reservation joins the run, and any other call is made in the state
+-- after the run, where its reply fits.
 abbrev pub Reaches : Checked → Call → Checked → Type 0
 Reaches old (line.Reserve r) new = new ≡ record old { run = old.run ++ r ∷ [] }
 Reaches old l new =
@@ -91,8 +92,8 @@ abbrev pub number_of : ℕ → Call → ℕ
 number_of number (line.Reserve r) = r.number
 number_of number other = number
 
--- The line's reply isn't the allocator's in this state. The difference says what it is, and which one
--- is the allocator's, and shows the state: the front of the pool, and the cursor.
+-- The line's reply isn't the allocator's in this state. The difference says what it is, and which
+-- one is the allocator's, and shows the state: the front of the pool, and the cursor.
 pub record Differs (s : Allocator) (number : ℕ) (l : Call) (d : Difference) : Type 0 where
   pub unlike : ¬ (Fits s l)
   pub expected : d.expected ≡ answered_line s l
@@ -116,8 +117,9 @@ abbrev pub IsStuck : Allocator → List Call → List Call → Type 0
 IsStuck s lines placed = (next : Call) (left : List Call)
     → IsOrderOf lines (placed ++ next ∷ left) → ¬ (Fits (after_lines s placed) next)
 
--- The lines may have come in this order, in which some agree and the next one doesn't. After those that
--- agree no line that may come next does. It is a reservation only if the run agrees in no order.
+-- The lines may have come in this order, in which some agree and the next one doesn't. After those
+-- that agree no line that may come next does. It is a reservation only if the run agrees in no
+-- order.
 pub record Shows (c : Checked) (number : ℕ) (rest : List Call) (d : Difference) : Type 0 where
   pub placed : List Call
   pub next : Call
@@ -166,10 +168,10 @@ AreSteady (p ∷ run) = AllByRecursion (ComesAfter p) run × AreSteady run
 
 -- ---- keys
 
--- What a reservation's own key may be: the place of a handle that it was given among those that there
--- were to give, if it is there; for a refusal a number above all places. First comes the one that
--- says how many handles it left, then those that don't say it, the greatest first, then those that
--- found none.
+-- What a reservation's own key may be: the place of a handle that it was given among those that
+-- there were to give, if it is there; for a refusal a number above all places. First comes the one
+-- that says how many handles it left, then those that don't say it, the greatest first, then those
+-- that found none.
 abbrev pub KeyOf : List Handle → ℕ → ReserveReply → ℕ → Type 0
 KeyOf given n (reserve.Handles []) own = own ≡ 0
 KeyOf given n (reserve.Handles (h ∷ told)) own =

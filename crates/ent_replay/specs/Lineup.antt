@@ -1,5 +1,7 @@
--- The reservations of a run in an order that they may have come in: those that agree, and the others.
-use Rattle.std.specs.Prelude.{◌≡◌, ℕ, ◌+◌, ◌^◌, ◌≤◌, ◌==◌, Bool, List, [], ◌∷◌, ◌++◌, filter, length}
+-- The reservations of a run in an order that they may have come in: those that agree, and the
+-- others.
+use Rattle.std.specs.Prelude.{◌≡◌, ℕ, ◌+◌, ◌^◌, ◌≤◌, ◌==◌, Bool, List, [], ◌∷◌, ◌++◌, filter}
+use Rattle.std.specs.Prelude.{length}
 use Rattle.ent_alloc.specs.Sequential.{Allocator, cursor, reply_to}
 use Rattle.ent_alloc.specs.Sound.{IsSound}
 use Rattle.ent_replay.specs.declared.trace.lineup.Lineup.{Lineup}

@@ -1,5 +1,10 @@
 -- Lists of numbers that weigh the same, however each number is weighed.
-use Rattle.ent_runner.proofs.Common.{IsPermutation, common_steps, rules, ◌≡◌, ℕ, zero, suc, ◌+◌, ◌<◌, ◌≤◌, List, [], ◌∷◌, sym, refl, ap, arith, eq-eqb, ne_eqb, remove, cond, Bool, ◌==◌, sum_by, Contains, range_with_len, sum_by-cons, IsPermutation-refl, IsPermutation-trans, IsPermutation-cons, IsPermutation-remove, sum_by_popped, dite, ℕ_discrete}
+use Rattle.ent_runner.proofs.Common.{IsPermutation, common_steps, rules, ◌≡◌, ℕ, zero, suc, ◌+◌}
+use Rattle.ent_runner.proofs.Common.{◌<◌, ◌≤◌, List, [], ◌∷◌, sym, refl, ap, arith, eq-eqb, ne_eqb}
+use Rattle.ent_runner.proofs.Common.{remove, cond, Bool, ◌==◌, sum_by, Contains, range_with_len}
+use Rattle.ent_runner.proofs.Common.{sum_by-cons, IsPermutation-refl, IsPermutation-trans}
+use Rattle.ent_runner.proofs.Common.{IsPermutation-cons, IsPermutation-remove, sum_by_popped, dite}
+use Rattle.ent_runner.proofs.Common.{ℕ_discrete}
 
 -- 1 for the number itself
 abbrev pub is : ℕ → ℕ → ℕ
@@ -24,7 +29,16 @@ pub in_range : (n low many : ℕ) → (sum_by (is n) (range_with_len low many) �
     × (low + many ≤ n → sum_by (is n) (range_with_len low many) ≡ 0)
 in_range n low zero = (omega arith, λ _. refl, λ le lt. absurd (omega arith), λ _. refl)
 in_range n low (suc many) =
-    grind (arith, common_steps, in_range n (low + 1) many, sum_by-cons, dite, ℕ_discrete, is_same, is_other)
+    grind (
+      arith,
+      common_steps,
+      in_range n (low + 1) many,
+      sum_by-cons,
+      dite,
+      ℕ_discrete,
+      is_same,
+      is_other,
+    )
 
 nothing_in : (xs : List ℕ) → sum_by (λ (_ : ℕ). 1) xs ≡ 0 → xs ≡ []
 nothing_in [] e = refl
@@ -33,6 +47,11 @@ nothing_in (x ∷ xs) e = grind (arith, common_steps, sum_by-cons)
 pub weigh_same : (xs ys : List ℕ) → ((f : ℕ → ℕ) → sum_by f xs ≡ sum_by f ys) → IsPermutation xs ys
 weigh_same xs [] same = rw (nothing_in xs (same (λ (_ : ℕ). 1))) (IsPermutation-refl [])
 weigh_same xs (y ∷ ys) same =
-    let at = inside y xs (grind (arith, common_steps, same (is y), sum_by-cons (is y) y ys, is_same y y refl)) in
-    let rest = weigh_same (remove xs at.0) ys (λ f. grind (arith, common_steps, sum_by_popped, sum_by-cons)) in
-    IsPermutation-trans _ _ _ (IsPermutation-remove xs at.0 y at.1 (sym at.2)) (IsPermutation-cons y _ _ rest)
+    let at =
+    inside y xs
+    (grind (arith, common_steps, same (is y), sum_by-cons (is y) y ys, is_same y y refl)) in
+    let rest =
+    weigh_same (remove xs at.0) ys
+    (λ f. grind (arith, common_steps, sum_by_popped, sum_by-cons)) in
+    IsPermutation-trans _ _ _ (IsPermutation-remove xs at.0 y at.1 (sym at.2))
+    (IsPermutation-cons y _ _ rest)

@@ -1,12 +1,20 @@
--- What a relation says of the output of a job alone holds of each output. What jobs did with what was lent to them,
--- seen by one part of it.
-use Rattle.ent_runner.proofs.Common.{rules, arith, common_steps, all_pairs_push, All, AllPairs, StopShort, get_or, slice_get, [], List, Some, inl, inr, length, ℕ, Option, ◌<◌, ◌∷◌, ◌≡◌, ◌⊎◌, FoldsTo-push, All-cons, All-nil, get_or-range_with_len, length-range_with_len, All-permutation, get_or_from_slice_get, slice_get_within, flat_map, range_with_len, IsPermutation, AreBrokenOff, AreDone, DidAll, DidUntil, DoesAt, OfEach, map, ap, ◌∙◌, ⊎_elim, length-map}
-use Rattle.ent_runner.proofs.Lists.{at_within, all_flat, all_from_each, mapped_at, get_mapped, last_pushed}
+-- What a relation says of the output of a job alone holds of each output. What jobs did with what
+-- was lent to them, seen by one part of it.
+use Rattle.ent_runner.proofs.Common.{rules, arith, common_steps, all_pairs_push, All, AllPairs}
+use Rattle.ent_runner.proofs.Common.{StopShort, get_or, slice_get, [], List, Some, inl, inr, length}
+use Rattle.ent_runner.proofs.Common.{ℕ, Option, ◌<◌, ◌∷◌, ◌≡◌, ◌⊎◌, FoldsTo-push, All-cons, All-nil}
+use Rattle.ent_runner.proofs.Common.{get_or-range_with_len, length-range_with_len, All-permutation}
+use Rattle.ent_runner.proofs.Common.{get_or_from_slice_get, slice_get_within, flat_map}
+use Rattle.ent_runner.proofs.Common.{range_with_len, IsPermutation, AreBrokenOff, AreDone, DidAll}
+use Rattle.ent_runner.proofs.Common.{DidUntil, DoesAt, OfEach, map, ap, ◌∙◌, ⊎_elim, length-map}
+use Rattle.ent_runner.proofs.Lists.{at_within, all_flat, all_from_each, mapped_at, get_mapped}
+use Rattle.ent_runner.proofs.Lists.{last_pushed}
 
 -- what holds of the jobs of each worker, holds of each job
 pub everywhere : (P : ℕ → Type 0) (total : ℕ) (ran : List (List ℕ))
     → IsPermutation (flat_map (λ mine. mine) ran) (range_with_len 0 total)
-    → ((k : ℕ) (mine : List ℕ) → slice_get ran k ≡ Some mine → All P mine) → (n : ℕ) → n < total → P n
+    → ((k : ℕ) (mine : List ℕ) → slice_get ran k ≡ Some mine → All P mine) → (n : ℕ) → n < total
+    → P n
 everywhere P total ran once each n less = search (
   rules,
   all_flat P (λ mine. mine) ran (all_from_each (λ mine. All P mine) ran each),
@@ -21,14 +29,18 @@ HoldsAt {O} P outputs n = (output : O) → slice_get outputs n ≡ Some output �
 
 module _ {O L : Type 0} where
   -- jobs that ended or stopped: each did one or the other
-  module _ (may leave either : ℕ → L → O → L → Type 0) (ended : (n : ℕ) (a : L) (o : O) (b : L) → may n a o b
+  module _ (may leave either : ℕ → L → O → L → Type 0)
+      (ended : (n : ℕ) (a : L) (o : O) (b : L) → may n a o b
       → either n a o b) (stopped : (n : ℕ) (a : L) (o : O) (b : L) → leave n a o b → either n a o b)
       (outputs : List O) where
-    all_ended : (a : L) (mine : List ℕ) (b : L) → DidAll may outputs a mine b → DidAll either outputs a mine b
+    all_ended : (a : L) (mine : List ℕ) (b : L) → DidAll may outputs a mine b
+        → DidAll either outputs a mine b
     all_ended a [] b same = same
-    all_ended a (n ∷ mine) b (j, (o, at, does), rest) = (j, (o, at, ended n a o j does), all_ended j mine b rest)
+    all_ended a (n ∷ mine) b (j, (o, at, does), rest) =
+        (j, (o, at, ended n a o j does), all_ended j mine b rest)
 
-    pub did_either : (a : L) (mine : List ℕ) (b : L) → DidAll may outputs a mine b ⊎ DidUntil may leave outputs a mine b
+    pub did_either : (a : L) (mine : List ℕ) (b : L)
+        → DidAll may outputs a mine b ⊎ DidUntil may leave outputs a mine b
         → DidAll either outputs a mine b
     did_either a mine b (inl did) = all_ended a mine b did
     did_either a mine b (inr did) = search (
@@ -42,26 +54,32 @@ module _ {O L : Type 0} where
 
   -- what follows of the number of each job
   module _ (may : ℕ → L → O → L → Type 0) (outputs : List O) (Q : ℕ → Type 0)
-      (holds : (n : ℕ) (a : L) (o : O) (b : L) → slice_get outputs n ≡ Some o → may n a o b → Q n) where
-    pub held : (a : L) (mine : List ℕ) (b : L) → DidAll may outputs a mine b → All Q mine
-    held a [] b did = All-nil Q
-    held a (n ∷ mine) b (j, (o, at, does), rest) = All-cons Q n mine (holds n a o j at does) (held j mine b rest)
+      (holds : (n : ℕ) (a : L) (o : O) (b : L) → slice_get outputs n ≡ Some o → may n a o b → Q n)
+    where
+      pub held : (a : L) (mine : List ℕ) (b : L) → DidAll may outputs a mine b → All Q mine
+      held a [] b did = All-nil Q
+      held a (n ∷ mine) b (j, (o, at, does), rest) =
+          All-cons Q n mine (holds n a o j at does) (held j mine b rest)
 
-    pub each_held : (jobs : ℕ) (before after : List L) (ran : List (List ℕ)) → length ran ≡ length before
-        → length after ≡ length before → IsPermutation (flat_map (λ mine. mine) ran) (range_with_len 0 jobs)
-        → OfEach ran before after (λ mine a b. DidAll may outputs a mine b) → (n : ℕ) → n < jobs → Q n
-    each_held jobs before after ran teams same once did = everywhere Q jobs ran once (λ k mine at.
-        let a = at_within before k (search (rules, slice_get_within ran k mine at)) in
-        let b = at_within after k (search (rules, slice_get_within ran k mine at)) in
-        held a.0 mine b.0 (did k mine a.0 b.0 at a.1 b.1))
+      pub each_held : (jobs : ℕ) (before after : List L) (ran : List (List ℕ))
+          → length ran ≡ length before → length after ≡ length before
+          → IsPermutation (flat_map (λ mine. mine) ran) (range_with_len 0 jobs)
+          → OfEach ran before after (λ mine a b. DidAll may outputs a mine b) → (n : ℕ) → n < jobs
+          → Q n
+      each_held jobs before after ran teams same once did = everywhere Q jobs ran once (λ k mine at.
+          let a = at_within before k (search (rules, slice_get_within ran k mine at)) in
+          let b = at_within after k (search (rules, slice_get_within ran k mine at)) in
+          held a.0 mine b.0 (did k mine a.0 b.0 at a.1 b.1))
 
   -- Jobs that were broken off, seen as what each system filled: the systems stopped short.
-  module _ {K : Type 0} (may leave : ℕ → L → O → L → Type 0) (May Leave : ℕ → K → Type 0) (jobs : ℕ) (before : List L)
+  module _ {K : Type 0} (may leave : ℕ → L → O → L → Type 0) (May Leave : ℕ → K → Type 0) (jobs : ℕ)
+      (before : List L)
       (left : List (Option O)) (after : List L) (same : length after ≡ length before)
       (done : AreBrokenOff may leave jobs before left after) (seen : List K) (empty : K)
       (many : length seen ≡ done.count)
       (ends : (n : ℕ) (a : L) (o : O) (b : L) → slice_get done.outputs n ≡ Some o → may n a o b
-      → May n (get_or seen n empty)) (stops : (n : ℕ) (a : L) (o : O) (b : L) → slice_get done.outputs n ≡ Some o
+      → May n (get_or seen n empty)) (stops : (n : ℕ) (a : L) (o : O) (b : L)
+      → slice_get done.outputs n ≡ Some o
       → leave n a o b → Leave n (get_or seen n empty)) where
     abbrev Either : ℕ → L → O → L → Type 0
     Either n a o b = may n a o b ⊎ leave n a o b
@@ -76,7 +94,8 @@ module _ {O L : Type 0} where
       arith,
       common_steps,
       all_pairs_push,
-      held may done.outputs (λ n. May n (get_or seen n empty)) ends a did.earlier did.between did.ended,
+      held may done.outputs (λ n. May n (get_or seen n empty)) ends a did.earlier did.between
+          did.ended,
     )
 
     pub stop_short : StopShort May Leave seen empty jobs done.count done.ran
@@ -84,11 +103,14 @@ module _ {O L : Type 0} where
       within = done.within;
       some = done.some;
       each_output = many;
-      each_system = each_held Either done.outputs
+      each_system =
+          each_held Either done.outputs
           (λ n. May n (get_or seen n empty) ⊎ Leave n (get_or seen n empty))
-          (λ n a o b at. ⊎_elim (λ did. inl (ends n a o b at did)) (λ did. inr (stops n a o b at did))) done.count
-          before after done.ran done.run.each_worker same done.run.once (λ k mine a b x y z. did_either may leave Either
-          (λ n a o b it. inl it) (λ n a o b it. inr it) done.outputs a mine b (done.did k mine a b x y z));
+          (λ n a o b at. ⊎_elim (λ did. inl (ends n a o b at did))
+          (λ did. inr (stops n a o b at did))) done.count before after done.ran done.run.each_worker
+          same done.run.once
+          (λ k mine a b x y z. did_either may leave Either (λ n a o b it. inl it)
+          (λ n a o b it. inr it) done.outputs a mine b (done.did k mine a b x y z));
       ended = λ worker mine at.
           let within = slice_get_within done.ran worker mine at in
           let a = at_within before worker (omega (arith, within, done.run.each_worker)) in
@@ -111,27 +133,33 @@ module _ {O L : Type 0} where
   abbrev Alone : (ℕ → O → Type 0) → ℕ → L → O → L → Type 0
   Alone P number before output after = P number output
 
-  pub each_done : (P : ℕ → O → Type 0) (jobs : ℕ) (before : List L) (outputs : List O) (after : List L)
-      → length after ≡ length before → AreDone (Alone P) jobs before outputs after → (n : ℕ) → n < jobs
-      → HoldsAt P outputs n
-  each_done P jobs before outputs after same done n less output at = rw (get_or_from_slice_get outputs n output output at)
+  pub each_done : (P : ℕ → O → Type 0) (jobs : ℕ) (before : List L) (outputs : List O)
+      (after : List L) → length after ≡ length before → AreDone (Alone P) jobs before outputs after
+      → (n : ℕ) → n < jobs → HoldsAt P outputs n
+  each_done P jobs before outputs after same done n less output at =
+      rw (get_or_from_slice_get outputs n output output at)
       at (each_held (Alone P) outputs (λ m. P m (get_or outputs m output))
-      (λ m a o b there it. rw (get_or_from_slice_get outputs m o output there) it) jobs before after done.ran
+      (λ m a o b there it. rw (get_or_from_slice_get outputs m o output there) it) jobs before after
+      done.ran
       done.run.each_worker same done.run.once done.did n less)
 
-  pub each_either : (P Q : ℕ → O → Type 0) (jobs : ℕ) (before : List L) (left : List (Option O)) (after : List L)
-      → length after ≡ length before → (done : AreBrokenOff (Alone P) (Alone Q) jobs before left after) → (n : ℕ)
-      → n < done.count → HoldsAt (λ m output. P m output ⊎ Q m output) done.outputs n
+  pub each_either : (P Q : ℕ → O → Type 0) (jobs : ℕ) (before : List L) (left : List (Option O))
+      (after : List L) → length after ≡ length before
+      → (done : AreBrokenOff (Alone P) (Alone Q) jobs before left after) → (n : ℕ) → n < done.count
+      → HoldsAt (λ m output. P m output ⊎ Q m output) done.outputs n
   each_either P Q jobs before left after same done n less output at =
       let outputs : List O = done.outputs in
       let here : (m : ℕ) (o : O) → slice_get outputs m ≡ Some o → get_or outputs m output ≡ o =
       λ m o there. get_or_from_slice_get outputs m o output there in
-      let short = stop_short (Alone P) (Alone Q) P Q jobs before left after same done outputs output done.each_output
+      let short =
+      stop_short (Alone P) (Alone Q) P Q jobs before left after same done outputs output
+      done.each_output
       (λ m a o b there it. rw (here m o there) it) (λ m a o b there it. rw (here m o there) it) in
       rw (here n output at) at (short.each_system n less)
 
 -- What was done with what was lent says this of the part that is seen.
-module _ {O L K : Type 0} (f : L → K) (may leave : ℕ → K → O → K → Type 0) (done left : ℕ → L → O → L → Type 0)
+module _ {O L K : Type 0} (f : L → K) (may leave : ℕ → K → O → K → Type 0)
+    (done left : ℕ → L → O → L → Type 0)
     (ended : (n : ℕ) (a : L) (o : O) (b : L) → done n a o b → may n (f a) o (f b))
     (stopped : (n : ℕ) (a : L) (o : O) (b : L) → left n a o b → leave n (f a) o (f b)) where
   did_seen : (outputs : List O) (mine : List ℕ) (a b : L) → DidAll done outputs a mine b
@@ -148,16 +176,20 @@ module _ {O L K : Type 0} (f : L → K) (may leave : ℕ → K → O → K → T
     numbers_are = did.numbers_are;
     between = f did.between;
     ended = did_seen outputs did.earlier a did.between did.ended;
-    stopped = (did.stopped.0, did.stopped.1, stopped did.last did.between did.stopped.0 b did.stopped.2);
+    stopped =
+        (did.stopped.0, did.stopped.1, stopped did.last did.between did.stopped.0 b did.stopped.2);
   }
 
   pub done_seen : (jobs : ℕ) (before : List L) (outputs : List O) (after : List L)
-      → AreDone done jobs before outputs after → AreDone may jobs (map f before) outputs (map f after)
+      → AreDone done jobs before outputs after
+      → AreDone may jobs (map f before) outputs (map f after)
   done_seen jobs before outputs after all = record {
     ran = all.ran;
     run = rw (length-map before f) all.run;
     count = all.count;
-    did = λ worker mine a b at at_a at_b. search (rules, all.did worker mine, mapped_at, did_seen outputs mine);
+    did =
+        λ worker mine a b at at_a at_b.
+        search (rules, all.did worker mine, mapped_at, did_seen outputs mine);
   }
 
   pub broken_off_seen : (jobs : ℕ) (before : List L) (left_out : List (Option O)) (after : List L)
@@ -172,9 +204,21 @@ module _ {O L K : Type 0} (f : L → K) (may leave : ℕ → K → O → K → T
     outputs = all.outputs;
     each_output = all.each_output;
     left_are = all.left_are;
-    did = λ worker mine a b at at_a at_b. search
-        (rules, all.did worker mine, mapped_at, did_seen all.outputs mine, until_seen all.outputs mine);
-    why = ⊎_elim (λ s. inl (search
-        (rules, s, get_mapped f before s.0 s.2 s.5, get_mapped f after s.0 s.3 s.6, until_seen all.outputs s.1 s.2 s.3 s.7))) inr all.why;
+    did =
+        λ worker mine a b at at_a at_b.
+        search (
+          rules,
+          all.did worker mine,
+          mapped_at,
+          did_seen all.outputs mine,
+          until_seen all.outputs mine,
+        );
+    why = ⊎_elim (λ s. inl (search (
+      rules,
+      s,
+      get_mapped f before s.0 s.2 s.5,
+      get_mapped f after s.0 s.3 s.6,
+      until_seen all.outputs s.1 s.2 s.3 s.7,
+    ))) inr all.why;
     busy = all.busy;
   }

@@ -1,5 +1,13 @@
--- Systems that filled lists as the jobs of a crew, each from its own block. The lists are logs or queues.
-use Rattle.ent_runner.proofs.Common.{StopShort, get_or, slice_get, [], zero, suc, All, All-map, List, Option, Some, rules, arith, inl, inr, length, map, refl, sym, ℕ, ⊎_elim, ◌<◌, ◌∙◌, ◌∷◌, ◌≡◌, ◌⊎◌, length-map, get_or_from_slice_get, slice_get-get_or, slice_get_within, Block, Phase, after_use, blocks_of, spawned_in, Entry, Command, after_commands, AreBrokenOff, AreDone, Draws, AreReady, IsDealt, Logs, HaveFilled, blocks_after, SystemMayIssue, View, HaveIssued, HaveStopped, blocks_after_queues}
+-- Systems that filled lists as the jobs of a crew, each from its own block. The lists are logs or
+-- queues.
+use Rattle.ent_runner.proofs.Common.{StopShort, get_or, slice_get, [], zero, suc, All, All-map}
+use Rattle.ent_runner.proofs.Common.{List, Option, Some, rules, arith, inl, inr, length, map, refl}
+use Rattle.ent_runner.proofs.Common.{sym, ℕ, ⊎_elim, ◌<◌, ◌∙◌, ◌∷◌, ◌≡◌, ◌⊎◌, length-map}
+use Rattle.ent_runner.proofs.Common.{get_or_from_slice_get, slice_get-get_or, slice_get_within}
+use Rattle.ent_runner.proofs.Common.{Block, Phase, after_use, blocks_of, spawned_in, Entry, Command}
+use Rattle.ent_runner.proofs.Common.{after_commands, AreBrokenOff, AreDone, Draws, AreReady}
+use Rattle.ent_runner.proofs.Common.{IsDealt, Logs, HaveFilled, blocks_after, SystemMayIssue, View}
+use Rattle.ent_runner.proofs.Common.{HaveIssued, HaveStopped, blocks_after_queues}
 use Rattle.ent_runner.specs.Blocks.{IsBrokenOff}
 use Rattle.ent_runner.specs.Logs.{SystemMayLog}
 use Rattle.ent_blocks.specs.Blocks.{Reserver}
@@ -17,19 +25,22 @@ module _ {E : Type 0} where
   abbrev reservers_of : List (List E × Reserver) → List Reserver
   reservers_of all = map (λ (one : List E × Reserver). one.1) all
 
-  filled_is : (all : List (List E × Reserver)) (n : ℕ) (one : List E × Reserver) → slice_get all n ≡ Some one
-      → get_or (filled_of all) n [] ≡ one.0
+  filled_is : (all : List (List E × Reserver)) (n : ℕ) (one : List E × Reserver)
+      → slice_get all n ≡ Some one → get_or (filled_of all) n [] ≡ one.0
   filled_is all n one at =
-      search (rules, get_or_from_slice_get, get_mapped (λ (one : List E × Reserver). one.0) all n one)
+      search
+      (rules, get_or_from_slice_get, get_mapped (λ (one : List E × Reserver). one.0) all n one)
 
   module _ (Drawn : Block → List E → Type 0) (use_one : Block → List E → Block)
       (use_all : List Block → List (List E) → List Block) (none : use_all [] [] ≡ [])
-      (more : (b : Block) (bs : List Block) (l : List E) (ls : List (List E)) → use_all (b ∷ bs) (l ∷ ls) ≡ use_one b l
+      (more : (b : Block) (bs : List Block) (l : List E) (ls : List (List E))
+      → use_all (b ∷ bs) (l ∷ ls) ≡ use_one b l
       ∷ use_all bs ls) where
     -- each block is used as its system's list says
-    blocks_are : (before : List Reserver) (all : List (List E × Reserver)) → length all ≡ length before
-        → ((n : ℕ) (r : Reserver) (one : List E × Reserver) → slice_get before n ≡ Some r → slice_get all n ≡ Some one
-        → one.1.block ≡ use_one r.block one.0)
+    blocks_are : (before : List Reserver) (all : List (List E × Reserver))
+        → length all ≡ length before
+        → ((n : ℕ) (r : Reserver) (one : List E × Reserver) → slice_get before n ≡ Some r
+        → slice_get all n ≡ Some one → one.1.block ≡ use_one r.block one.0)
         → blocks_of (reservers_of all) ≡ use_all (blocks_of before) (filled_of all)
     blocks_are [] [] same each = sym none
     blocks_are (r ∷ before) (one ∷ all) same each = search (
@@ -42,15 +53,19 @@ module _ {E : Type 0} where
     blocks_are _ _ same _ = absurd (omega arith)
 
     module _ (number : ℕ) (reservers : List Reserver) where
-      -- the job of this number filled the list from its own block, and hands back the list and the reserver
+      -- the job of this number filled the list from its own block, and hands back the list and the
+      -- reserver
       abbrev Fills : (ℕ → List E → Type 0) → ℕ → List E × Reserver → Type 0
-      Fills May n one = May n one.0 × (one.1.number ≡ number) × ((r : Reserver) → slice_get reservers n ≡ Some r
+      Fills May n one = May n one.0 × (one.1.number ≡ number)
+          × ((r : Reserver) → slice_get reservers n ≡ Some r
           → Drawn r.block one.0 × (one.1.block ≡ use_one r.block one.0))
 
-      module _ (May : ℕ → List E → Type 0) (all : List (List E × Reserver)) (n : ℕ) (less : n < length all)
+      module _ (May : ℕ → List E → Type 0) (all : List (List E × Reserver)) (n : ℕ)
+          (less : n < length all)
           (each : HoldsAt (Fills May) all n) where
         may_at : May n (get_or (filled_of all) n [])
-        may_at = let one = at_within all n less in rw (filled_is all n one.0 one.1) ((each one.0 one.1).0)
+        may_at = let one = at_within all n less in
+            rw (filled_is all n one.0 one.1) ((each one.0 one.1).0)
 
         drawn_at : (block : Block) → slice_get (blocks_of reservers) n ≡ Some block
             → Drawn block (get_or (filled_of all) n [])
@@ -61,9 +76,11 @@ module _ {E : Type 0} where
 
       module _ {L : Type 0} (before after : List L) (same : length after ≡ length before) (jobs : ℕ)
           (count : length reservers ≡ jobs) (Fits Left : ℕ → List E × Reserver → Type 0)
-          (May Leave : ℕ → List E → Type 0) (fits : (n : ℕ) (one : List E × Reserver) → Fits n one → Fills May n one)
+          (May Leave : ℕ → List E → Type 0)
+          (fits : (n : ℕ) (one : List E × Reserver) → Fits n one → Fills May n one)
           (left : (n : ℕ) (one : List E × Reserver) → Left n one → Fills Leave n one) where
-        done_all : (all : List (List E × Reserver)) → AreDone (λ n a one b. Fits n one) jobs before all after
+        done_all : (all : List (List E × Reserver))
+            → AreDone (λ n a one b. Fits n one) jobs before all after
             → ((n : ℕ) → n < jobs → May n (get_or (filled_of all) n []))
             × ((n : ℕ) (block : Block) → slice_get (blocks_of reservers) n ≡ Some block
             → Drawn block (get_or (filled_of all) n []))
@@ -71,10 +88,13 @@ module _ {E : Type 0} where
             × All (λ (r : Reserver). r.number ≡ number) (reservers_of all)
         done_all all done =
             let each : (n : ℕ) → n < length all → HoldsAt (Fills May) all n = λ n less one at.
-            fits n one (each_done Fits jobs before all after same done n (omega (arith, less, done.count)) one at) in
+            fits n one
+            (each_done Fits jobs before all after same done n (omega (arith, less, done.count))
+            one at) in
             let of_phase = λ (k : ℕ) (d : List E × Reserver) (within : k < length all).
             (each k within (get_or all k d) (slice_get-get_or all k d within)).1 in (
-              λ n less. let here : n < length all = omega (arith, done.count) in may_at May all n here (each n here),
+              λ n less. let here : n < length all = omega (arith, done.count) in
+                  may_at May all n here (each n here),
               λ n block at.
                   let here : n < length all = omega (
                     arith,
@@ -85,32 +105,42 @@ module _ {E : Type 0} where
                   ) in
                   drawn_at May all n here (each n here) block at,
               blocks_are reservers all (omega (arith, done.count))
-                  (λ n r one at there. ((each n (slice_get_within all n one there) one there).2 r at).1),
-              All-map (λ (r : Reserver). r.number ≡ number) (λ (one : List E × Reserver). one.1) all of_phase,
+                  (λ n r one at there.
+                  ((each n (slice_get_within all n one there) one there).2 r at).1),
+              All-map (λ (r : Reserver). r.number ≡ number) (λ (one : List E × Reserver). one.1) all
+                  of_phase,
             )
 
         lost_all : (left_out : List (Option (List E × Reserver)))
-            → (done : AreBrokenOff (λ n a one b. Fits n one) (λ n a one b. Left n one) jobs before left_out after)
+            → (done : AreBrokenOff (λ n a one b. Fits n one) (λ n a one b. Left n one) jobs before
+            left_out after)
             → StopShort May Leave (filled_of done.outputs) [] jobs done.count done.ran
-            × ((n : ℕ) (block : Block) → n < done.count → slice_get (blocks_of reservers) n ≡ Some block
+            × ((n : ℕ) (block : Block) → n < done.count
+            → slice_get (blocks_of reservers) n ≡ Some block
             → Drawn block (get_or (filled_of done.outputs) n []))
         lost_all left_out done =
             let Either : ℕ → List E → Type 0 = λ n l. May n l ⊎ Leave n l in
-            let each : (n : ℕ) → n < done.count → HoldsAt (Fills Either) done.outputs n = λ n less one at. ⊎_elim
-            (λ f. let g = fits n one f in (inl g.0, g.1, g.2)) (λ f. let g = left n one f in (inr g.0, g.1, g.2))
+            let each : (n : ℕ) → n < done.count
+            → HoldsAt (Fills Either) done.outputs n = λ n less one at. ⊎_elim
+            (λ f. let g = fits n one f in (inl g.0, g.1, g.2))
+            (λ f. let g = left n one f in (inr g.0, g.1, g.2))
             (each_either Fits Left jobs before left_out after same done n less one at) in
             let here = filled_is done.outputs in (
-              stop_short _ _ May Leave jobs before left_out after same done (filled_of done.outputs) []
+              stop_short _ _ May Leave jobs before left_out after same done (filled_of done.outputs)
+                  []
                   (length-map done.outputs (λ (one : List E × Reserver). one.0) ∙ done.each_output)
                   (λ n a one b at f. rw (here n one at) ((fits n one f).0))
                   (λ n a one b at f. rw (here n one at) ((left n one f).0)),
-              λ n block less. drawn_at Either done.outputs n (omega (arith, less, done.each_output)) (each n less)
+              λ n block less. drawn_at Either done.outputs n (omega (arith, less, done.each_output))
+                  (each n less)
                   block,
             )
 
 -- logs
-module _ {C S L : Type 0} (may leave : S → List (Entry C) → Type 0) (systems : List S) (phase : Phase)
-    (reservers : List Reserver) (ready : AreReady phase (length systems) reservers) (before after : List L)
+module _ {C S L : Type 0} (may leave : S → List (Entry C) → Type 0) (systems : List S)
+    (phase : Phase)
+    (reservers : List Reserver) (ready : AreReady phase (length systems) reservers)
+    (before after : List L)
     (same : length after ≡ length before) where
   abbrev uses : Block → List (Entry C) → Block
   uses block log = after_use block (length (spawned_in log))
@@ -119,27 +149,35 @@ module _ {C S L : Type 0} (may leave : S → List (Entry C) → Type 0) (systems
   DrawsLog block log = Draws phase.phase.start.pool block log (uses block log)
 
   fits_log : (may : S → List (Entry C) → Type 0) (n : ℕ) (one : List (Entry C) × Reserver)
-      → IsDealt Logs [] (SystemMayLog may systems) phase reservers n one → Fills DrawsLog uses blocks_after refl (λ b bs l ls. refl)
-      phase.number reservers (SystemMayLog may systems) n one
+      → IsDealt Logs [] (SystemMayLog may systems) phase reservers n one
+      → Fills DrawsLog uses blocks_after refl (λ b bs l ls. refl) phase.number reservers
+      (SystemMayLog may systems) n one
   fits_log may n one f =
       (f.system, f.of_phase, λ r at. search (rules, log_draws phase r one.1 one.0 (f.filled r at)))
 
   pub filled_done : (all : List (List (Entry C) × Reserver))
-      → AreDone (λ n a one b. IsDealt Logs [] (SystemMayLog may systems) phase reservers n one) (length systems)
-      before all after
+      → AreDone (λ n a one b. IsDealt Logs [] (SystemMayLog may systems) phase reservers n one)
+      (length systems) before all after
       → HaveFilled may systems phase.phase.start.pool (blocks_of reservers) (filled_of all)
-      (blocks_of (reservers_of all)) × All (λ (r : Reserver). r.number ≡ phase.number) (reservers_of all)
+      (blocks_of (reservers_of all))
+      × All (λ (r : Reserver). r.number ≡ phase.number) (reservers_of all)
   filled_done all done =
-      let d = done_all DrawsLog uses blocks_after refl (λ b bs l ls. refl) phase.number reservers before after same _
+      let d =
+      done_all DrawsLog uses blocks_after refl (λ b bs l ls. refl) phase.number reservers before
+      after same _
       ready.count _ _ _ _ (fits_log may) (fits_log leave) all done in
       (search (rules, d.0, d.1, d.2, done.count, length-map, slice_get_within), d.3)
 
-  pub lost_off : (workers : ℕ) → length before ≡ workers → (left : List (Option (List (Entry C) × Reserver)))
+  pub lost_off : (workers : ℕ) → length before ≡ workers
+      → (left : List (Option (List (Entry C) × Reserver)))
       → AreBrokenOff (λ n a one b. IsDealt Logs [] (SystemMayLog may systems) phase reservers n one)
-      (λ n a one b. IsDealt Logs [] (SystemMayLog leave systems) phase reservers n one) (length systems) before left after
+      (λ n a one b. IsDealt Logs [] (SystemMayLog leave systems) phase reservers n one)
+      (length systems) before left after
       → IsBrokenOff may leave systems workers phase.phase.start.pool (blocks_of reservers)
   lost_off workers team left done =
-      let d = lost_all DrawsLog uses blocks_after refl (λ b bs l ls. refl) phase.number reservers before after same _
+      let d =
+      lost_all DrawsLog uses blocks_after refl (λ b bs l ls. refl) phase.number reservers before
+      after same _
       ready.count _ _ _ _ (fits_log may) (fits_log leave) left done in
       record {
         ran = done.ran;
@@ -151,33 +189,51 @@ module _ {C S L : Type 0} (may leave : S → List (Entry C) → Type 0) (systems
       }
 
 -- queues
-module _ {S L : Type 0} (may leave : S → View → List Command → Type 0) (systems : List S) (view : View) (phase : Phase)
-    (reservers : List Reserver) (ready : AreReady phase (length systems) reservers) (before after : List L)
+module _ {S L : Type 0} (may leave : S → View → List Command → Type 0) (systems : List S)
+    (view : View) (phase : Phase)
+    (reservers : List Reserver) (ready : AreReady phase (length systems) reservers)
+    (before after : List L)
     (same : length after ≡ length before) where
   fits_queue : (may : S → View → List Command → Type 0) (n : ℕ) (one : List Command × Reserver)
-      → IsDealt Issues [] (SystemMayIssue may systems view) phase reservers n one → Fills (AreDrawnBy phase.phase.start) after_commands
-      blocks_after_queues refl (λ b bs l ls. refl) phase.number reservers (SystemMayIssue may systems view) n one
-  fits_queue may n one f =
-      (f.system, f.of_phase, λ r at. search (rules, queue_draws phase r one.1 one.0 (f.filled r at)))
+      → IsDealt Issues [] (SystemMayIssue may systems view) phase reservers n one
+      → Fills (AreDrawnBy phase.phase.start) after_commands
+      blocks_after_queues refl (λ b bs l ls. refl) phase.number reservers
+      (SystemMayIssue may systems view) n one
+  fits_queue may n one f = (
+    f.system,
+    f.of_phase,
+    λ r at.
+        search (rules, queue_draws phase r one.1 one.0 (f.filled r at)),
+  )
 
   pub issued_done : (all : List (List Command × Reserver))
-      → AreDone (λ n a one b. IsDealt Issues [] (SystemMayIssue may systems view) phase reservers n one)
+      → AreDone
+      (λ n a one b. IsDealt Issues [] (SystemMayIssue may systems view) phase reservers n one)
       (length systems) before all after
       → HaveIssued may systems view phase.phase.start (blocks_of reservers) (filled_of all)
-      (blocks_of (reservers_of all)) × All (λ (r : Reserver). r.number ≡ phase.number) (reservers_of all)
+      (blocks_of (reservers_of all))
+      × All (λ (r : Reserver). r.number ≡ phase.number) (reservers_of all)
   issued_done all done =
-      let d = done_all (AreDrawnBy phase.phase.start) after_commands blocks_after_queues refl (λ b bs l ls. refl)
-      phase.number reservers before after same _ ready.count _ _ _ _ (fits_queue may) (fits_queue leave) all done in
+      let d =
+      done_all (AreDrawnBy phase.phase.start) after_commands blocks_after_queues refl
+      (λ b bs l ls. refl)
+      phase.number reservers before after same _ ready.count _ _ _ _ (fits_queue may)
+      (fits_queue leave) all done in
       (search (rules, d.0, d.1, d.2, done.count, length-map, slice_get_within), d.3)
 
-  pub issued_lost : (workers : ℕ) → length before ≡ workers → (left : List (Option (List Command × Reserver)))
-      → AreBrokenOff (λ n a one b. IsDealt Issues [] (SystemMayIssue may systems view) phase reservers n one)
-      (λ n a one b. IsDealt Issues [] (SystemMayIssue leave systems view) phase reservers n one) (length systems) before
-      left after
+  pub issued_lost : (workers : ℕ) → length before ≡ workers
+      → (left : List (Option (List Command × Reserver)))
+      → AreBrokenOff
+      (λ n a one b. IsDealt Issues [] (SystemMayIssue may systems view) phase reservers n one)
+      (λ n a one b. IsDealt Issues [] (SystemMayIssue leave systems view) phase reservers n one)
+      (length systems) before left after
       → HaveStopped may leave systems workers view phase.phase.start (blocks_of reservers)
   issued_lost workers team left done =
-      let d = lost_all (AreDrawnBy phase.phase.start) after_commands blocks_after_queues refl (λ b bs l ls. refl)
-      phase.number reservers before after same _ ready.count _ _ _ _ (fits_queue may) (fits_queue leave) left done in
+      let d =
+      lost_all (AreDrawnBy phase.phase.start) after_commands blocks_after_queues refl
+      (λ b bs l ls. refl)
+      phase.number reservers before after same _ ready.count _ _ _ _ (fits_queue may)
+      (fits_queue leave) left done in
       record {
         ran = done.ran;
         count = done.count;

@@ -1,6 +1,19 @@
--- What a crew did whose jobs are the systems of a frame, and the history of its reservers, are a frame.
--- What a frame leaves if no queue was applied.
-use Rattle.ent_runner.proofs.Common.{rules, ◌≡◌, ℕ, List, [], OnErr, IsFilled, IsReturned, Shared, Reserver, records_of, gains_of, Record, Command, Gains, View, SystemMayIssue, Result, All, slice_get, Some, length, map, ◌<◌, ◌∙◌, slice_get_within, flat_map, range_with_len, IsPermutation, Call, IsLegal, gains_nothing, gains_then, Respects, history_of, reservations_by, reservations_of, opened_records, Reservation, World, AreBrokenOff, AreDone, DidAll, OfEach, IsBrokenOff, IsFrame, IsWork, get_or_from_slice_get, ◌⊎◌, queue_at, requests_by, view_of, sym, Option, Vec, Global, ap, IfOk, IfErr, IfOk-weaker, IsErr, drop_of_length-le, IsSound, after_history, after_takes-sound, available-after_takes, limits-after_takes, live-after_takes, made-after_takes, length-taken, after_history-takes, OpenWorld, world_at_start, IsLost, reserved_by}
+-- What a crew did whose jobs are the systems of a frame, and the history of its reservers, are a
+-- frame. What a frame leaves if no queue was applied.
+use Rattle.ent_runner.proofs.Common.{rules, ◌≡◌, ℕ, List, [], OnErr, IsFilled, IsReturned, Shared}
+use Rattle.ent_runner.proofs.Common.{Reserver, records_of, gains_of, Record, Command, Gains, View}
+use Rattle.ent_runner.proofs.Common.{SystemMayIssue, Result, All, slice_get, Some, length, map, ◌<◌}
+use Rattle.ent_runner.proofs.Common.{◌∙◌, slice_get_within, flat_map, range_with_len, IsPermutation}
+use Rattle.ent_runner.proofs.Common.{Call, IsLegal, gains_nothing, gains_then, Respects, history_of}
+use Rattle.ent_runner.proofs.Common.{reservations_by, reservations_of, opened_records, Reservation}
+use Rattle.ent_runner.proofs.Common.{World, AreBrokenOff, AreDone, DidAll, OfEach, IsBrokenOff}
+use Rattle.ent_runner.proofs.Common.{IsFrame, IsWork, get_or_from_slice_get, ◌⊎◌, queue_at}
+use Rattle.ent_runner.proofs.Common.{requests_by, view_of, sym, Option, Vec, Global, ap, IfOk}
+use Rattle.ent_runner.proofs.Common.{IfErr, IfOk-weaker, IsErr, drop_of_length-le, IsSound}
+use Rattle.ent_runner.proofs.Common.{after_history, after_takes-sound, available-after_takes}
+use Rattle.ent_runner.proofs.Common.{limits-after_takes, live-after_takes, made-after_takes}
+use Rattle.ent_runner.proofs.Common.{length-taken, after_history-takes, OpenWorld, world_at_start}
+use Rattle.ent_runner.proofs.Common.{IsLost, reserved_by}
 use Rattle.ent_queue.specs.Issuing as issuing
 use Rattle.ent_runner.proofs.Lists.{each_of_all, filter_map_is, map_map_is}
 use Rattle.ent_runner.proofs.Adding.{own_mapped, all_either, added_at, ours, each_may}
@@ -8,11 +21,14 @@ use Rattle.ent_runner.proofs.Conducting.{err_follows}
 use Rattle.ent_runner.proofs.EachOutput.{done_seen, broken_off_seen, stop_short}
 
 -- the calls of one caller in the history
-by_caller : (k : ℕ) (records : List Record) → requests_by k (history_of records)
-    ≡ map (λ (r : Reservation). (r.requested, r.reply)) (reservations_by k (reservations_of records))
+by_caller : (k : ℕ) (records : List Record)
+    → requests_by k (history_of records)
+    ≡ map (λ (r : Reservation). (r.requested, r.reply))
+    (reservations_by k (reservations_of records))
 by_caller k records = search (rules, filter_map_is, map_map_is)
 
-module _ {S : Type 0} (may : S → View → List Command → Type 0) (systems : List S) (view : View) where
+module _ {S : Type 0} (may : S → View → List Command → Type 0) (systems : List S)
+    (view : View) where
   -- what a system may do as a job
   abbrev pub Issues : ℕ → Record → List Command → Record → Type 0
   Issues n before queue after = Gains before queue after × SystemMayIssue may systems view n queue
@@ -26,23 +42,28 @@ module _ {S : Type 0} (may : S → View → List Command → Type 0) (systems : 
     pub fills_gain : (n : ℕ) (before : Reserver) (queue : List Command) (after : Reserver)
         → Fills n before queue after → Issues n before.own queue after.own
     fills_gain n before queue after (f, system) = (
-      rw f.adds.queue (gains_of shared before after f.adds.added (rw f.adds.requests_are at f.served)),
+      rw f.adds.queue
+          (gains_of shared before after f.adds.added (rw f.adds.requests_are at f.served)),
       system,
     )
 
-module _ {S : Type 0} (may leave : S → View → List Command → Type 0) (systems : List S) (view : View) (shared : Shared)
+module _ {S : Type 0} (may leave : S → View → List Command → Type 0) (systems : List S)
+    (view : View) (shared : Shared)
   where
-    pub all_gained : (jobs : ℕ) (before : List Reserver) (queues : List (List Command)) (after : List Reserver)
-        → AreDone (Fills may systems view shared) jobs before queues after
+    pub all_gained : (jobs : ℕ) (before : List Reserver) (queues : List (List Command))
+        (after : List Reserver) → AreDone (Fills may systems view shared) jobs before queues after
         → AreDone (Issues may systems view) jobs (records_of before) queues (records_of after)
     all_gained = done_seen (λ (r : Reserver). r.own) _ _ _ _ (fills_gain may systems view shared)
         (fills_gain leave systems view shared)
 
-    pub some_gained : (jobs : ℕ) (before : List Reserver) (left : List (Option (List Command))) (after : List Reserver)
-        → AreBrokenOff (Fills may systems view shared) (Fills leave systems view shared) jobs before left after
-        → AreBrokenOff (Issues may systems view) (Issues leave systems view) jobs (records_of before) left
-        (records_of after)
-    some_gained = broken_off_seen (λ (r : Reserver). r.own) _ _ _ _ (fills_gain may systems view shared)
+    pub some_gained : (jobs : ℕ) (before : List Reserver) (left : List (Option (List Command)))
+        (after : List Reserver)
+        → AreBrokenOff (Fills may systems view shared) (Fills leave systems view shared) jobs before
+        left after
+        → AreBrokenOff (Issues may systems view) (Issues leave systems view) jobs
+        (records_of before) left (records_of after)
+    some_gained =
+        broken_off_seen (λ (r : Reserver). r.own) _ _ _ _ (fills_gain may systems view shared)
         (fills_gain leave systems view shared)
 
 -- what the workers gained, and their histories
@@ -52,11 +73,14 @@ module _ (before : World) (workers : ℕ) (opens records : List Record)
     (respects : All (Respects (reservations_of records)) records) where
   module _ (P : ℕ → List Command → Type 0) (queues : List (List Command)) (ran : List (List ℕ))
       (teams : length ran ≡ length opens) (did : OfEach ran opens records
-      (λ mine a b. DidAll (λ n before queue after. Gains before queue after × P n queue) queues a mine b)) where
+      (λ mine a b. DidAll (λ n before queue after. Gains before queue after × P n queue) queues a
+      mine b)) where
     worked : (k : ℕ) (mine : List ℕ) → slice_get ran k ≡ Some mine
         → IsWork queues (history_of records) k mine
     worked k mine at =
-        let r = added_at Gains gains_nothing gains_then P queues before.allocator workers opens records opened_are many
+        let r =
+        added_at Gains gains_nothing gains_then P queues before.allocator workers opens records
+        opened_are many
         long ran teams did k mine at in
         let own = each_of_all (Respects (reservations_of records)) records k r.0 respects r.1 in
         search (
@@ -68,19 +92,24 @@ module _ (before : World) (workers : ℕ) (opens records : List Record)
         )
 
     callers : All (λ (call : Call). call.caller < workers) (history_of records)
-    callers = ours Gains gains_nothing gains_then P queues before.allocator workers opens records opened_are many long
-        ran teams did (λ k xs r g. rw (g.entries, own_mapped g.reservations) g.callers)
+    callers =
+        ours Gains gains_nothing gains_then P queues before.allocator workers opens records
+        opened_are many long ran teams did
+        (λ k xs r g. rw (g.entries, own_mapped g.reservations) g.callers)
 
-    each_issues : (jobs : ℕ) → IsPermutation (flat_map (λ mine. mine) ran) (range_with_len 0 jobs) → (n : ℕ) → n < jobs
-        → P n (queue_at queues n)
-    each_issues = each_may _ gains_nothing gains_then P _ before.allocator _ _ _ opened_are many long ran teams did
+    each_issues : (jobs : ℕ) → IsPermutation (flat_map (λ mine. mine) ran) (range_with_len 0 jobs)
+        → (n : ℕ) → n < jobs → P n (queue_at queues n)
+    each_issues =
+        each_may _ gains_nothing gains_then P _ before.allocator _ _ _ opened_are many long ran
+        teams did
 
   module _ {S : Type 0} (may : S → View → List Command → Type 0) (systems : List S) where
     abbrev May : ℕ → List Command → Type 0
     May n queue = SystemMayIssue may systems (view_of before) n queue
 
-    pub frame_is : (queues : List (List Command)) → AreDone (Issues may systems (view_of before)) (length systems) opens
-        queues records → IsFrame may systems workers before queues (history_of records)
+    pub frame_is : (queues : List (List Command))
+        → AreDone (Issues may systems (view_of before)) (length systems) opens queues records
+        → IsFrame may systems workers before queues (history_of records)
     frame_is queues done = record {
       legal = legal;
       callers = callers May queues done.ran done.run.each_worker done.did;
@@ -88,21 +117,26 @@ module _ (before : World) (workers : ℕ) (opens records : List Record)
       run = rw many at done.run;
       work = worked May queues done.ran done.run.each_worker done.did;
       count = done.count;
-      each_system = λ n system at. each_issues May queues done.ran done.run.each_worker done.did (length systems)
-          done.run.once n (slice_get_within systems n system at) system at;
+      each_system =
+          λ n system at. each_issues May queues done.ran done.run.each_worker done.did
+          (length systems) done.run.once n (slice_get_within systems n system at) system at;
     }
 
-    pub broken_off : (leave : S → View → List Command → Type 0) (left : List (Option (List Command)))
-        → AreBrokenOff (Issues may systems (view_of before)) (Issues leave systems (view_of before)) (length systems)
-        opens left records → IsBrokenOff may leave systems workers before (history_of records)
+    pub broken_off : (leave : S → View → List Command → Type 0)
+        (left : List (Option (List Command)))
+        → AreBrokenOff (Issues may systems (view_of before)) (Issues leave systems (view_of before))
+        (length systems) opens left records
+        → IsBrokenOff may leave systems workers before (history_of records)
     broken_off leave left done =
         let Leave : ℕ → List Command → Type 0 = SystemMayIssue leave systems (view_of before) in
         let Left : ℕ → List Command → Type 0 = λ n queue. May n queue ⊎ Leave n queue in
-        let did : OfEach done.ran opens records (λ mine a b. DidAll (λ n before queue after. Gains before queue after
+        let did : OfEach done.ran opens records
+        (λ mine a b. DidAll (λ n before queue after. Gains before queue after
         × Left n queue) done.outputs a mine b) =
         λ k mine a b at at_a at_b. all_either Gains May Leave done.outputs a mine b
         (done.did k mine a b at at_a at_b) in
-        let here = λ (n : ℕ) (queue : List Command). get_or_from_slice_get done.outputs n queue [] in
+        let here =
+        λ (n : ℕ) (queue : List Command). get_or_from_slice_get done.outputs n queue [] in
         record {
           legal = legal;
           callers = callers Left done.outputs done.ran done.run.each_worker did;
@@ -110,13 +144,15 @@ module _ (before : World) (workers : ℕ) (opens records : List Record)
           count = done.count;
           run = rw many at done.run;
           queues = done.outputs;
-          short = stop_short _ _ May Leave _ opens left records (long ∙ sym many) done done.outputs [] done.each_output
-              (λ n a queue b at it. rw (here n queue at) it.1) (λ n a queue b at it. rw (here n queue at) it.1);
+          short =
+              stop_short _ _ May Leave _ opens left records (long ∙ sym many) done done.outputs []
+              done.each_output (λ n a queue b at it. rw (here n queue at) it.1)
+              (λ n a queue b at it. rw (here n queue at) it.1);
           work = worked Left done.outputs done.ran done.run.each_worker did;
         }
 
-pub is_lost : (before w : World) (history : List Call) → IsSound before.allocator → before.allocator.asked ≡ 0
-    → w ≡ reserved_by history before → IsLost before w
+pub is_lost : (before w : World) (history : List Call) → IsSound before.allocator
+    → before.allocator.asked ≡ 0 → w ≡ reserved_by history before → IsLost before w
 is_lost before w history sound flushed changed = search (
   rules,
   after_history-takes,
@@ -135,35 +171,41 @@ abbrev pub Queues : Type 0
 Queues = Result (Vec (List Command) Global) (Vec (Option (List Command)) Global)
 
 -- What is known of a world that was opened and closed again, and of the queues, if there are any.
-abbrev pub ClosedAgain : {S : Type 0} → (S → View → List Command → Type 0) → (S → View → List Command → Type 0) → List S
-    → OpenWorld → World → Queues → Type 0
+abbrev pub ClosedAgain : {S : Type 0} → (S → View → List Command → Type 0)
+    → (S → View → List Command → Type 0) → List S → OpenWorld → World → Queues → Type 0
 ClosedAgain may leave systems world after got = (history : List Call)
     × OnErr got (IsBrokenOff may leave systems world.shared.count (world_at_start world) history)
-    × (after ≡ reserved_by history (world_at_start world)) × IfOk got (λ q. IsFrame may systems world.shared.count
-    (world_at_start world) q.items history)
+    × (after ≡ reserved_by history (world_at_start world))
+    × IfOk got (λ q. IsFrame may systems world.shared.count (world_at_start world) q.items history)
 
-pub view_is : (world : OpenWorld) (view : View) → view.phase ≡ world.phase → view.entities ≡ world.entities
-    → view ≡ view_of (world_at_start world)
+pub view_is : (world : OpenWorld) (view : View) → view.phase ≡ world.phase
+    → view.entities ≡ world.entities → view ≡ view_of (world_at_start world)
 view_is world view phase entities = (λ i. record { phase = phase i; entities = entities i })
 
 -- The crew has worked, and the world was closed: so it is closed again.
-pub closed_again : {S : Type 0} (may leave : S → View → List Command → Type 0) (systems : List S) (world : OpenWorld)
-    (after : World) (got : Queues) (opens records : List Record) (jobs : ℕ) (view : View)
-    → jobs ≡ length systems → view ≡ view_of (world_at_start world)
-    → opens ≡ opened_records world.shared.start 0 world.shared.count → length opens ≡ world.shared.count
-    → length records ≡ world.shared.count → IfOk got (λ q. AreDone (Issues may systems view) jobs opens q.items
-    records) → IfErr got (λ left. AreBrokenOff (Issues may systems view) (Issues leave systems view) jobs opens
-    left.items records)
-    → after.phase ≡ world.phase → after.entities ≡ world.entities → after.allocator ≡ after_history world.shared.start
-    (history_of records) → IsLegal world.shared.start (history_of records)
-    → All (Respects (reservations_of records)) records → ClosedAgain may leave systems world after got
-closed_again may leave systems world after got opens records jobs view all seen opened many long done lost phase
+pub closed_again : {S : Type 0} (may leave : S → View → List Command → Type 0) (systems : List S)
+    (world : OpenWorld) (after : World) (got : Queues) (opens records : List Record) (jobs : ℕ)
+    (view : View) → jobs ≡ length systems → view ≡ view_of (world_at_start world)
+    → opens ≡ opened_records world.shared.start 0 world.shared.count
+    → length opens ≡ world.shared.count → length records ≡ world.shared.count
+    → IfOk got (λ q. AreDone (Issues may systems view) jobs opens q.items records)
+    → IfErr got
+    (λ left. AreBrokenOff (Issues may systems view) (Issues leave systems view) jobs opens
+    left.items records) → after.phase ≡ world.phase → after.entities ≡ world.entities
+    → after.allocator ≡ after_history world.shared.start (history_of records)
+    → IsLegal world.shared.start (history_of records)
+    → All (Respects (reservations_of records)) records
+    → ClosedAgain may leave systems world after got
+closed_again may leave systems world after got opens records jobs view all seen opened many long
+    done lost phase
     entities allocator legal respects =
     let start = world_at_start world in
-    let lost_by : (left : Vec (Option (List Command)) Global) → AreBrokenOff (Issues may systems view)
+    let lost_by : (left : Vec (Option (List Command)) Global)
+    → AreBrokenOff (Issues may systems view)
     (Issues leave systems view) jobs opens left.items records
     → IsBrokenOff may leave systems world.shared.count start (history_of records) =
-    λ left done. broken_off start world.shared.count opens records opened many long legal respects may systems
+    λ left done. broken_off start world.shared.count opens records opened many long legal respects
+    may systems
     leave left.items (rw (seen, all) at done) in
     search (rules, err_follows got lost_by lost, IfOk-weaker, frame_is)
 

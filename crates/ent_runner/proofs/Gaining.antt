@@ -1,5 +1,8 @@
 -- What the record of a reserver gains by the entries of a log that a system filled with it.
-use Rattle.ent_runner.proofs.Common.{◌≡◌, refl, ap, ℕ, List, [], ◌∷◌, ◌++◌, Result, All, All-nil, All-cons, flat_map, flat_map-append, Handle, Space, Record, Reservation, Shared, Reserver, IsReturned, Entry, Spawn, spawned_in, Logs, request_of, requests_in, IsFilled}
+use Rattle.ent_runner.proofs.Common.{◌≡◌, refl, ap, ℕ, List, [], ◌∷◌, ◌++◌, Result, All, All-nil}
+use Rattle.ent_runner.proofs.Common.{All-cons, flat_map, flat_map-append, Handle, Space, Record}
+use Rattle.ent_runner.proofs.Common.{Reservation, Shared, Reserver, IsReturned, Entry, Spawn}
+use Rattle.ent_runner.proofs.Common.{spawned_in, Logs, request_of, requests_in, IsFilled}
 use Rattle.ent_alloc.specs.declared.refused.Refused.TheVariants as refused
 use Rattle.ent_log.specs.declared.entry.Entry.TheVariants as entry
 use Rattle.ent_runner.proofs.Lists.{of_mapped}
@@ -26,7 +29,8 @@ module _ {C : Type 0} where
   pub log_gains : (shared : Shared) (before after : Reserver) (log : List (Entry C))
       → IsFilled Logs [] (IsReturned shared) before log after → LogGains before.own log after.own
   log_gains shared before after log f = rw f.adds.log
-      (requested.gains_served shared (requests_in f.adds.added) before after (rw f.adds.requests_are at f.served))
+      (requested.gains_served shared (requests_in f.adds.added) before after
+      (rw f.adds.requests_are at f.served))
 
   -- the handles of the replies are those of the spawns
   pub spawned : (log : List (Entry C)) → flat_map handles_in (requests_in log) ≡ spawned_in log
@@ -38,7 +42,8 @@ module _ {C : Type 0} where
   each_one : (log : List (Entry C)) → All OfOne (flat_map stands_for (requests_in log))
   each_one [] = All-nil OfOne
   each_one (Spawn h ∷ log) = All-cons OfOne _ _ refl (each_one log)
-  each_one (entry.Refused (refused.Space wanted left) ∷ log) = All-cons OfOne _ _ refl (each_one log)
+  each_one (entry.Refused (refused.Space wanted left) ∷ log) =
+      All-cons OfOne _ _ refl (each_one log)
   each_one (entry.Refused (refused.Quota left) ∷ log) = each_one log
   each_one (entry.Command command ∷ log) = each_one log
 
@@ -46,4 +51,5 @@ module _ {C : Type 0} where
   pub one_each : (before after : Record) (log : List (Entry C)) (g : LogGains before log after)
       → All (λ (r : Reservation). r.requested ≡ 1) g.reservations
   one_each before after log g =
-      of_mapped OfOne (λ (r : Reservation). (r.requested, r.reply)) g.reservations (rw g.calls (each_one log))
+      of_mapped OfOne (λ (r : Reservation). (r.requested, r.reply)) g.reservations
+      (rw g.calls (each_one log))

@@ -1,5 +1,14 @@
 -- What a crew did whose jobs are systems that fill logs, and the history of its reservers.
-use Rattle.ent_runner.proofs.Common.{rules, [], IsFilled, IsReturned, Shared, Reserver, records_of, All, slice_get, List, Some, Option, Vec, Global, Result, IfOk, IfErr, OnErr, IfOk-weaker, ap, length, sym, ℕ, ◌<◌, ◌∙◌, ◌≡◌, slice_get_within, flat_map, ◌==◌, Call, IsLegal, after_history, given_in, Allocator, spawned_in, Entry, map, AreBrokenOff, AreDone, DidAll, OfEach, Respects, as_call, handles_of, history_of, reservations_by, reservations_of, opened, opened_records, Record, Reservation, requests_by, quota, HaveLogged, HaveRun, AreRun, get_or_from_slice_get, ◌⊎◌, SystemMayLog, entries_by, given_to, log_at, requests_in}
+use Rattle.ent_runner.proofs.Common.{rules, [], IsFilled, IsReturned, Shared, Reserver, records_of}
+use Rattle.ent_runner.proofs.Common.{All, slice_get, List, Some, Option, Vec, Global, Result, IfOk}
+use Rattle.ent_runner.proofs.Common.{IfErr, OnErr, IfOk-weaker, ap, length, sym, ℕ, ◌<◌, ◌∙◌, ◌≡◌}
+use Rattle.ent_runner.proofs.Common.{slice_get_within, flat_map, ◌==◌, Call, IsLegal, after_history}
+use Rattle.ent_runner.proofs.Common.{given_in, Allocator, spawned_in, Entry, map, AreBrokenOff}
+use Rattle.ent_runner.proofs.Common.{AreDone, DidAll, OfEach, Respects, as_call, handles_of}
+use Rattle.ent_runner.proofs.Common.{history_of, reservations_by, reservations_of, opened}
+use Rattle.ent_runner.proofs.Common.{opened_records, Record, Reservation, requests_by, quota}
+use Rattle.ent_runner.proofs.Common.{HaveLogged, HaveRun, AreRun, get_or_from_slice_get, ◌⊎◌}
+use Rattle.ent_runner.proofs.Common.{SystemMayLog, entries_by, given_to, log_at, requests_in}
 use Rattle.ent_queue.specs.Logging as logging
 use Rattle.ent_shared.specs.Requests.{stands_for, FitQuota}
 use Rattle.ent_runner.specs.Logs.{IsBrokenOff}
@@ -7,19 +16,23 @@ use Rattle.ent_runner.proofs.Adding.{added_at, all_either, each_may, of_each, ou
 use Rattle.ent_runner.proofs.Conducting.{err_follows}
 use Rattle.ent_runner.proofs.EachOutput.{done_seen, broken_off_seen, stop_short}
 use Rattle.ent_runner.proofs.Lists.{each_of_all, filter_map_is, map_map_is}
-use Rattle.ent_runner.proofs.Gaining.{LogGains, log_gains, log_gains_nothing, log_gains_then, one_each as each_one, spawned}
+use Rattle.ent_runner.proofs.Gaining.{LogGains, log_gains, log_gains_nothing, log_gains_then}
+use Rattle.ent_runner.proofs.Gaining.{one_each as each_one, spawned}
 
 -- the calls of one caller in the history
-by_caller : (k : ℕ) (records : List Record) → requests_by k (history_of records)
-    ≡ map (λ (r : Reservation). (r.requested, r.reply)) (reservations_by k (reservations_of records))
+by_caller : (k : ℕ) (records : List Record)
+    → requests_by k (history_of records)
+    ≡ map (λ (r : Reservation). (r.requested, r.reply))
+    (reservations_by k (reservations_of records))
 by_caller k records = search (rules, filter_map_is, map_map_is)
 
 -- what a system may do as a job
-abbrev pub Logs : {C S : Type 0} → (S → List (Entry C) → Type 0) → List S → ℕ → Record → List (Entry C) → Record
-    → Type 0
+abbrev pub Logs : {C S : Type 0} → (S → List (Entry C) → Type 0) → List S → ℕ → Record
+    → List (Entry C) → Record → Type 0
 Logs may systems n before log after = LogGains before log after × SystemMayLog may systems n log
 
-module _ {C S : Type 0} (may : S → List (Entry C) → Type 0) (systems : List S) (shared : Shared) where
+module _ {C S : Type 0} (may : S → List (Entry C) → Type 0) (systems : List S)
+    (shared : Shared) where
   -- seen with the whole reserver that was lent to it
   abbrev pub Fills : ℕ → Reserver → List (Entry C) → Reserver → Type 0
   Fills n before log after =
@@ -29,16 +42,19 @@ module _ {C S : Type 0} (may : S → List (Entry C) → Type 0) (systems : List 
       → Fills n before log after → Logs may systems n before.own log after.own
   fills_gain n before log after (f, system) = (log_gains shared before after log f, system)
 
-module _ {C S : Type 0} (may leave : S → List (Entry C) → Type 0) (systems : List S) (shared : Shared) where
-  pub all_gained : (jobs : ℕ) (before : List Reserver) (logs : List (List (Entry C))) (after : List Reserver)
-      → AreDone (Fills may systems shared) jobs before logs after
+module _ {C S : Type 0} (may leave : S → List (Entry C) → Type 0) (systems : List S)
+    (shared : Shared) where
+  pub all_gained : (jobs : ℕ) (before : List Reserver) (logs : List (List (Entry C)))
+      (after : List Reserver) → AreDone (Fills may systems shared) jobs before logs after
       → AreDone (Logs may systems) jobs (records_of before) logs (records_of after)
   all_gained = done_seen (λ (r : Reserver). r.own) _ _ _ _ (fills_gain may systems shared)
       (fills_gain leave systems shared)
 
-  pub some_gained : (jobs : ℕ) (before : List Reserver) (left : List (Option (List (Entry C)))) (after : List Reserver)
+  pub some_gained : (jobs : ℕ) (before : List Reserver) (left : List (Option (List (Entry C))))
+      (after : List Reserver)
       → AreBrokenOff (Fills may systems shared) (Fills leave systems shared) jobs before left after
-      → AreBrokenOff (Logs may systems) (Logs leave systems) jobs (records_of before) left (records_of after)
+      → AreBrokenOff (Logs may systems) (Logs leave systems) jobs (records_of before) left
+      (records_of after)
   some_gained = broken_off_seen (λ (r : Reserver). r.own) _ _ _ _ (fills_gain may systems shared)
       (fills_gain leave systems shared)
 
@@ -47,16 +63,23 @@ module _ {C : Type 0} (start after : Allocator) (workers : ℕ) (opens records :
     (long : length records ≡ workers) (legal : IsLegal start (history_of records))
     (respects : All (Respects (reservations_of records)) records)
     (after_is : after ≡ after_history start (history_of records)) where
-  module _ (P : ℕ → List (Entry C) → Type 0) (count : ℕ) (logs : List (List (Entry C))) (ran : List (List ℕ))
-      (each : length ran ≡ length opens) (runs : AreRun workers count ran) (each_log : length logs ≡ count)
-      (did : OfEach ran opens records (λ mine a b. DidAll (λ n before log after. LogGains before log after × P n log)
+  module _ (P : ℕ → List (Entry C) → Type 0) (count : ℕ) (logs : List (List (Entry C)))
+      (ran : List (List ℕ))
+      (each : length ran ≡ length opens) (runs : AreRun workers count ran)
+      (each_log : length logs ≡ count)
+      (did : OfEach ran opens records
+      (λ mine a b. DidAll (λ n before log after. LogGains before log after × P n log)
       logs a mine b)) where
-    worked_at : (k : ℕ) (mine : List ℕ) → slice_get ran k ≡ Some mine → (r : Record) × (slice_get records k ≡ Some r)
+    worked_at : (k : ℕ) (mine : List ℕ) → slice_get ran k ≡ Some mine
+        → (r : Record) × (slice_get records k ≡ Some r)
         × LogGains (opened start k) (entries_by logs mine) r
-    worked_at = added_at LogGains (log_gains_nothing C) log_gains_then P logs start workers opens records opened_are many
+    worked_at =
+        added_at LogGains (log_gains_nothing C) log_gains_then P logs start workers opens records
+        opened_are many
         long ran each did
 
-    calls_at : (k : ℕ) (mine : List ℕ) → slice_get ran k ≡ Some mine → requests_by k (history_of records)
+    calls_at : (k : ℕ) (mine : List ℕ) → slice_get ran k ≡ Some mine
+        → requests_by k (history_of records)
         ≡ flat_map stands_for (requests_in (entries_by logs mine))
     calls_at k mine at =
         let r = worked_at k mine at in
@@ -67,37 +90,42 @@ module _ {C : Type 0} (start after : Allocator) (workers : ℕ) (opens records :
         (entries_by logs mine))
     within_at k mine at = (worked_at k mine at).2.within
 
-    given_at : (k : ℕ) (mine : List ℕ) → slice_get ran k ≡ Some mine → given_to k (history_of records) ≡ spawned_in
-        (entries_by logs mine)
+    given_at : (k : ℕ) (mine : List ℕ) → slice_get ran k ≡ Some mine
+        → given_to k (history_of records) ≡ spawned_in (entries_by logs mine)
     given_at k mine at =
         let r = worked_at k mine at in
         let own = each_of_all (Respects (reservations_of records)) records k r.0 respects r.1 in
-        ap given_in (filter_map_is (λ (call : Call). call.caller == k) as_call (reservations_of records))
+        ap given_in
+        (filter_map_is (λ (call : Call). call.caller == k) as_call (reservations_of records))
         ∙ (ap handles_of (rw r.2.number at own.own) ∙ (r.2.given ∙ spawned (entries_by logs mine)))
 
     one_each : All (λ (call : Call). call.requested ≡ 1) (history_of records)
-    one_each = of_each LogGains (log_gains_nothing C) log_gains_then P logs start workers opens records opened_are many
-        long ran each did (λ call. call.requested ≡ 1)
+    one_each =
+        of_each LogGains (log_gains_nothing C) log_gains_then P logs start workers opens records
+        opened_are many long ran each did (λ call. call.requested ≡ 1)
         (λ k xs r less g. rw (g.entries, own_mapped g.reservations) (each_one _ _ xs g))
 
     run_is : HaveRun workers count start logs after
-    run_is = search (
-      rules,
-      legal,
-      after_is,
-      runs,
-      calls_at,
-      within_at,
-      given_at,
-      each_log,
-      ours LogGains (log_gains_nothing C) log_gains_then P logs start workers opens records opened_are many long ran each
-          did (λ k xs r g. rw (g.entries, own_mapped g.reservations) g.callers),
-      one_each,
-    )
+    run_is =
+        search (
+          rules,
+          legal,
+          after_is,
+          runs,
+          calls_at,
+          within_at,
+          given_at,
+          each_log,
+          ours LogGains (log_gains_nothing C) log_gains_then P logs start workers opens records
+              opened_are many long ran each did
+              (λ k xs r g. rw (g.entries, own_mapped g.reservations) g.callers),
+          one_each,
+        )
 
     each_holds : (n : ℕ) → n < count → P n (log_at logs n)
-    each_holds = each_may LogGains (log_gains_nothing C) log_gains_then P logs start workers opens records opened_are many
-        long ran each did count runs.once
+    each_holds =
+        each_may LogGains (log_gains_nothing C) log_gains_then P logs start workers opens records
+        opened_are many long ran each did count runs.once
 
   module _ {S : Type 0} (may leave : S → List (Entry C) → Type 0) (systems : List S) where
     abbrev May : ℕ → List (Entry C) → Type 0
@@ -106,12 +134,15 @@ module _ {C : Type 0} (start after : Allocator) (workers : ℕ) (opens records :
     abbrev Leave : ℕ → List (Entry C) → Type 0
     Leave n log = SystemMayLog leave systems n log
 
-    logged : (logs : List (List (Entry C))) → AreDone (Logs may systems) (length systems) opens logs records
+    logged : (logs : List (List (Entry C)))
+        → AreDone (Logs may systems) (length systems) opens logs records
         → HaveLogged may systems workers start logs after
     logged logs done = search (
       rules,
-      run_is May (length systems) logs done.ran done.run.each_worker (rw many at done.run) done.count done.did,
-      each_holds May (length systems) logs done.ran done.run.each_worker (rw many at done.run) done.count done.did,
+      run_is May (length systems) logs done.ran done.run.each_worker (rw many at done.run)
+          done.count done.did,
+      each_holds May (length systems) logs done.ran done.run.each_worker (rw many at done.run)
+          done.count done.did,
       slice_get_within,
     )
 
@@ -122,22 +153,30 @@ module _ {C : Type 0} (start after : Allocator) (workers : ℕ) (opens records :
     broken_off left done =
         let logs : List (List (Entry C)) = done.outputs in
         let Left : ℕ → List (Entry C) → Type 0 = λ n log. May n log ⊎ Leave n log in
-        let did : OfEach done.ran opens records (λ mine a b. DidAll (λ n before log after. LogGains before log after
-        × Left n log) logs a mine b) = λ k mine a b at at_a at_b. all_either LogGains May Leave logs a mine b
+        let did : OfEach done.ran opens records
+        (λ mine a b. DidAll (λ n before log after. LogGains before log after
+        × Left n log) logs a mine b) =
+        λ k mine a b at at_a at_b. all_either LogGains May Leave logs a mine b
         (done.did k mine a b at at_a at_b) in
         let here = λ (n : ℕ) (log : List (Entry C)). get_or_from_slice_get logs n log [] in
         record {
           count = done.count;
           logs = logs;
-          run = run_is Left done.count logs done.ran done.run.each_worker (rw many at done.run) done.each_output did;
-          short = stop_short _ _ May Leave _ opens left records (long ∙ sym many) done logs [] done.each_output
-              (λ n a log b at it. rw (here n log at) it.1) (λ n a log b at it. rw (here n log at) it.1);
+          run =
+              run_is Left done.count logs done.ran done.run.each_worker (rw many at done.run)
+              done.each_output did;
+          short =
+              stop_short _ _ May Leave _ opens left records (long ∙ sym many) done logs []
+              done.each_output (λ n a log b at it. rw (here n log at) it.1)
+              (λ n a log b at it. rw (here n log at) it.1);
         }
 
     -- the crew has worked, and the allocator was closed
-    pub ran : (got : Result (Vec (List (Entry C)) Global) (Vec (Option (List (Entry C))) Global)) (jobs : ℕ)
-        → jobs ≡ length systems → IfOk got (λ logs. AreDone (Logs may systems) jobs opens logs.items records)
-        → IfErr got (λ left. AreBrokenOff (Logs may systems) (Logs leave systems) jobs opens left.items records)
+    pub ran : (got : Result (Vec (List (Entry C)) Global) (Vec (Option (List (Entry C))) Global))
+        (jobs : ℕ) → jobs ≡ length systems
+        → IfOk got (λ logs. AreDone (Logs may systems) jobs opens logs.items records)
+        → IfErr got
+        (λ left. AreBrokenOff (Logs may systems) (Logs leave systems) jobs opens left.items records)
         → IfOk got (λ logs. HaveLogged may systems workers start logs.items after)
         × OnErr got (IsBrokenOff may leave systems workers start after)
     ran got jobs all done lost = search (rules, err_follows, broken_off, IfOk-weaker, logged)

@@ -1,5 +1,6 @@
 -- What holds of a run of no systems.
-use Rattle.ent_runner.proofs.Common.{◌≡◌, ℕ, ◌<◌, List, [], ◌∷◌, length, refl, arith, replicate, length-replicate, All-nil, Allocator, Call, Entry, HaveLogged}
+use Rattle.ent_runner.proofs.Common.{◌≡◌, ℕ, ◌<◌, List, [], ◌∷◌, length, refl, arith, replicate}
+use Rattle.ent_runner.proofs.Common.{length-replicate, All-nil, Allocator, Call, Entry, HaveLogged}
 use Rattle.ent_runner.proofs.NoSystems.{no_jobs, none_once, all_rise, is_none}
 
 logged_none : {C S : Type 0} (may : S → List (Entry C) → Type 0) (workers : ℕ) (s : Allocator)
@@ -25,8 +26,11 @@ logged_none may workers s = record {
   each_system = λ n system at. absurd (cc);
 }
 
-pub logged_nothing : {C S : Type 0} (may : S → List (Entry C) → Type 0) (systems : List S) (workers : ℕ)
-    (before : Allocator) (logs : List (List (Entry C))) (after : Allocator) → length systems ≡ 0 → logs ≡ []
-    → after ≡ before → HaveLogged may systems workers before logs after
-logged_nothing may [] workers before logs after none no_logs same = rw (no_logs, same) (logged_none may workers before)
-logged_nothing may (system ∷ systems) workers before logs after none no_logs same = absurd (omega arith)
+pub logged_nothing : {C S : Type 0} (may : S → List (Entry C) → Type 0) (systems : List S)
+    (workers : ℕ) (before : Allocator) (logs : List (List (Entry C))) (after : Allocator)
+    → length systems ≡ 0 → logs ≡ [] → after ≡ before
+    → HaveLogged may systems workers before logs after
+logged_nothing may [] workers before logs after none no_logs same =
+    rw (no_logs, same) (logged_none may workers before)
+logged_nothing may (system ∷ systems) workers before logs after none no_logs same =
+    absurd (omega arith)

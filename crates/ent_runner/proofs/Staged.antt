@@ -1,5 +1,8 @@
 -- What a system filled that began with nothing, as a job of a crew: if it ended, and if it stopped.
-use Rattle.ent_runner.proofs.Common.{rules, ◌≡◌, ◌∙◌, ap, ℕ, List, Result, Ok, Err, OnOk, OnErr, Some, slice_get, get_or, get_or_from_slice_get, Replying, Request, Phase, IsDrawn, IsOfPhase, Commands, Extends, output_of, reserver_of, source_of, IsDealt, IsFilled}
+use Rattle.ent_runner.proofs.Common.{rules, ◌≡◌, ◌∙◌, ap, ℕ, List, Result, Ok, Err, OnOk, OnErr}
+use Rattle.ent_runner.proofs.Common.{Some, slice_get, get_or, get_or_from_slice_get, Replying}
+use Rattle.ent_runner.proofs.Common.{Request, Phase, IsDrawn, IsOfPhase, Commands, Extends}
+use Rattle.ent_runner.proofs.Common.{output_of, reserver_of, source_of, IsDealt, IsFilled}
 use Rattle.ent_blocks.specs.Blocks.{Reserver}
 
 -- what the system of this number may do with its output
@@ -7,11 +10,13 @@ module _ {S O : Type 0} (may : S → O → Type 0) (systems : List S) (n : ℕ) 
   abbrev May : Type 0
   May = (system : S) → slice_get systems n ≡ Some system → may system output
 
-  pub may_ok : {A E : Type 0} (r : Result A E) → OnOk r (may (get_or systems n d) output) → OnOk r May
+  pub may_ok : {A E : Type 0} (r : Result A E) → OnOk r (may (get_or systems n d) output)
+      → OnOk r May
   may_ok (Ok x) ran = λ system at. search (rules, get_or_from_slice_get)
   may_ok (Err why) ran = tt
 
-  pub may_err : {A E : Type 0} (r : Result A E) → OnErr r (may (get_or systems n d) output) → OnErr r May
+  pub may_err : {A E : Type 0} (r : Result A E) → OnErr r (may (get_or systems n d) output)
+      → OnErr r May
   may_err (Ok x) ran = tt
   may_err (Err why) ran = λ system at. search (rules, get_or_from_slice_get)
 
@@ -22,7 +27,8 @@ module _ {O : Type 0} (Adds : O → List Request → O → Type 0) (empty : O) w
     filled = record { requests = e.requests; adds = rw none at e.adds; served = e.served }
 
     module _ (source : S) (before after : R) (output : O) (of : source ≡ source_of a)
-        (first : before ≡ reserver_of a) (same : output ≡ output_of b) (last : after ≡ reserver_of b)
+        (first : before ≡ reserver_of a) (same : output ≡ output_of b)
+        (last : after ≡ reserver_of b)
         (P : O → Type 0) where
       abbrev Fills : Type 0
       Fills = IsFilled Adds empty (may source) before output after × P output
@@ -40,8 +46,10 @@ module _ {O : Type 0} (Adds : O → List Request → O → Type 0) (empty : O) w
 
   -- with the reserver at its number
   module _ (phase : Phase) (reservers : List Reserver) (n : ℕ) (a b : Commands O Phase Reserver)
-      (none : output_of a ≡ empty) (e : Extends Adds IsOfPhase IsDrawn a b) (source : source_of a ≡ phase)
-      (is : (r : Reserver) → slice_get reservers n ≡ Some r → reserver_of a ≡ r) (output : O) (after : Reserver)
+      (none : output_of a ≡ empty) (e : Extends Adds IsOfPhase IsDrawn a b)
+      (source : source_of a ≡ phase)
+      (is : (r : Reserver) → slice_get reservers n ≡ Some r → reserver_of a ≡ r) (output : O)
+      (after : Reserver)
       (same : output ≡ output_of b) (last : after ≡ reserver_of b) (may : ℕ → O → Type 0) where
     abbrev Dealt : Type 0
     Dealt = IsDealt Adds empty may phase reservers n (output, after)

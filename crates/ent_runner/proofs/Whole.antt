@@ -1,5 +1,9 @@
 -- Reservers of all blocks, in their order, still are so after systems have used the blocks.
-use Rattle.ent_runner.proofs.Common.{◌↔◌, IsWhyUnended, rules, ◌≡◌, refl, ap, subst, arith, ℕ, suc, ◌-◌, ◌<◌, List, [], ◌∷◌, length, map, true, IsTrue, if◌then◌else◌, common_steps, length-map, Block, unused, is_same, are_among, IsMissing, EndError, Command, blocks_after_queues}
+use Rattle.ent_runner.proofs.Common.{◌↔◌, IsWhyUnended, rules, ◌≡◌, refl, ap, subst, arith, ℕ, suc}
+use Rattle.ent_runner.proofs.Common.{◌-◌, ◌<◌, List, [], ◌∷◌, length, map, true, IsTrue}
+use Rattle.ent_runner.proofs.Common.{if◌then◌else◌, common_steps, length-map, Block, unused}
+use Rattle.ent_runner.proofs.Common.{is_same, are_among, IsMissing, EndError, Command}
+use Rattle.ent_runner.proofs.Common.{blocks_after_queues}
 use Rattle.ent_blocks.specs.declared.end_error.EndError.TheVariants as unended
 
 among_used : (blocks before : List Block) (queues : List (List Command))
@@ -21,14 +25,14 @@ among_all : (before : List Block) → are_among (map unused before) before ≡ t
 among_all [] = refl
 among_all (r ∷ before) = search (rules, same_unused r, among_all before)
 
-length_used : (before : List Block) (queues : List (List Command)) → length (blocks_after_queues before queues) ≡ length
-    before
+length_used : (before : List Block) (queues : List (List Command))
+    → length (blocks_after_queues before queues) ≡ length before
 length_used (r ∷ before) (queue ∷ queues) = ap suc (length_used before queues)
 length_used _ _ = refl
 
 -- which blocks they are does not depend on how many were used
-pub unused_used : (before : List Block) (queues : List (List Command)) → map unused (blocks_after_queues before queues)
-    ≡ map unused before
+pub unused_used : (before : List Block) (queues : List (List Command))
+    → map unused (blocks_after_queues before queues) ≡ map unused before
 unused_used (r ∷ before) (queue ∷ queues) = ap (λ bs. unused r ∷ bs) (unused_used before queues)
 unused_used _ _ = refl
 
@@ -40,18 +44,20 @@ only_memory unended.Order phase order none = absurd (order refl)
 only_memory (unended.Missing count) phase order none = absurd (none count refl)
 only_memory unended.Memory phase order none = refl
 
--- Why the world was not closed with what is left is why with what was handed in: the systems change only how many
--- handles were used.
-pub why_unended : (blocks before left : List Block) (queues : List (List Command)) (e : EndError) (count : ℕ)
-    (OfPhase : Type 0) → OfPhase → left ≡ blocks_after_queues before queues → length left ≡ count
-    → ((e ≡ unended.OtherPhase) ↔ ¬ OfPhase)
+-- Why the world was not closed with what is left is why with what was handed in: the systems change
+-- only how many handles were used.
+pub why_unended : (blocks before left : List Block) (queues : List (List Command)) (e : EndError)
+    (count : ℕ) (OfPhase : Type 0) → OfPhase → left ≡ blocks_after_queues before queues
+    → length left ≡ count → ((e ≡ unended.OtherPhase) ↔ ¬ OfPhase)
     → ((e ≡ unended.Order) ↔ (OfPhase × ¬ (IsTrue (are_among blocks left))))
     → (IsMissing (length blocks - count) e
-    ↔ (OfPhase × (IsTrue (are_among blocks left) × (count < length blocks))))
-    → ((n : ℕ) → IsMissing n e → n ≡ length blocks - count) → (e ≡ unended.Memory → 0 < length blocks)
+    ↔ (OfPhase × (IsTrue (are_among blocks left) × (count < length blocks)))) → ((n : ℕ)
+    → IsMissing n e → n ≡ length blocks - count) → (e ≡ unended.Memory → 0 < length blocks)
     → IsWhyUnended blocks before e
-why_unended blocks before left queues e count OfPhase of_phase used long phase order missing counts memory =
-    let among : are_among blocks left ≡ are_among blocks before = search (rules, among_used blocks before queues) in
+why_unended blocks before left queues e count OfPhase of_phase used long phase order missing counts
+    memory =
+    let among : are_among blocks left ≡ are_among blocks before =
+    search (rules, among_used blocks before queues) in
     let same : count ≡ length before = search (rules, length_used before queues) in
     let counted = rw (among, same) at missing in
     let ordered = rw among at order in
@@ -70,4 +76,7 @@ whole blocks before e why all =
     let among : are_among blocks before ≡ true = search (rules, among_all before) in
     let same : length blocks ≡ length before = search (rules, length-map before unused) in
     only_memory e why.of_phase (λ is. why.order.0 is among)
-    (λ n is. absurd (omega (arith, same, (why.missing.0 (subst (λ m. IsMissing m e) (why.missing_count n is) is)).1)))
+    (λ n is.
+    absurd
+    (omega
+    (arith, same, (why.missing.0 (subst (λ m. IsMissing m e) (why.missing_count n is) is)).1)))

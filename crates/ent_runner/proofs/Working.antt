@@ -1,9 +1,14 @@
 -- A worker does one job after the other. Two parts of the workers have worked, so all of them have.
-use Rattle.ent_runner.proofs.Common.{rules, ◌≡◌, ℕ, List, [], ◌∷◌, ◌++◌, is_err, false, true≢false, OnOk, OnErr, FoldsTo-push, map-append, Done, numbers_of, HaveEnded, HasStoppedAt, Result, ◌-◌, length, arith, sym, cases_lt, length-append, get_or_append_left, get_or-append_right, Claims, Worker, HaveAllWorked}
+use Rattle.ent_runner.proofs.Common.{rules, ◌≡◌, ℕ, List, [], ◌∷◌, ◌++◌, is_err, false, true≢false}
+use Rattle.ent_runner.proofs.Common.{OnOk, OnErr, FoldsTo-push, map-append, Done, numbers_of}
+use Rattle.ent_runner.proofs.Common.{HaveEnded, HasStoppedAt, Result, ◌-◌, length, arith, sym}
+use Rattle.ent_runner.proofs.Common.{cases_lt, length-append, get_or_append_left}
+use Rattle.ent_runner.proofs.Common.{get_or-append_right, Claims, Worker, HaveAllWorked}
 
 module _ {O : Type 0} where
-  pub numbers_more : (done next : List (Done O)) (d : Done O) (claims more : List ℕ) → next ≡ done ++ d ∷ []
-      → numbers_of done ≡ claims → more ≡ claims ++ d.number ∷ [] → numbers_of next ≡ more
+  pub numbers_more : (done next : List (Done O)) (d : Done O) (claims more : List ℕ)
+      → next ≡ done ++ d ∷ [] → numbers_of done ≡ claims → more ≡ claims ++ d.number ∷ []
+      → numbers_of next ≡ more
   numbers_more done next d claims more pushed same claimed = search (rules, map-append)
 
   module _ {L : Type 0} (may leave : ℕ → L → O → L → Type 0) where
@@ -24,7 +29,8 @@ on_err it p = search rules
 pub on_ok : {X E : Type 0} {P : Type 0} (r : Result X E) → is_err r ≡ false → OnOk r P → P
 on_ok it test p = search (rules, true≢false)
 
-module _ {O L : Type 0} (may leave : ℕ → L → O → L → Type 0) (may_have : L → Type 0) (claims : Claims) where
+module _ {O L : Type 0} (may leave : ℕ → L → O → L → Type 0) (may_have : L → Type 0)
+    (claims : Claims) where
   abbrev HaveDone : List L → List L → List (Worker O) → Type 0
   HaveDone before after team = HaveAllWorked may leave may_have claims before after team
 

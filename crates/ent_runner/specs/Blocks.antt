@@ -1,6 +1,6 @@
--- Systems that fill logs, each from a block of its own. What comes of it depends on the blocks and on
--- the systems alone: there is no history. Workers appear only in how far the systems came if they were
--- broken off.
+-- Systems that fill logs, each from a block of its own. What comes of it depends on the blocks and
+-- on the systems alone: there is no history. Workers appear only in how far the systems came if
+-- they were broken off.
 pub mod Filling
 pub mod Queues
 pub mod Frame
@@ -16,7 +16,8 @@ use Rattle.ent_runner.specs.Logs.{log_at, SystemMayLog}
 use Rattle.ent_runner.specs.Runs.{AreRun, StopShort}
 
 module _ {C : Type 0} where
-  -- the blocks after systems have filled these logs: of each, one handle more is used for each spawn
+  -- the blocks after systems have filled these logs: of each, one handle more is used for each
+  -- spawn
   abbrev pub blocks_after : List Block → List (List (Entry C)) → List Block
   blocks_after [] logs = []
   blocks_after (b ∷ blocks) [] = b ∷ blocks

@@ -41,8 +41,8 @@ module _ {O L : Type 0} where
     pub ended : DidAll may outputs before earlier between
     pub stopped : DoesAt leave outputs between last after
 
-  -- Workers that lent this have done all jobs, each once, and have that back. The outputs are in the
-  -- order of the jobs.
+  -- Workers that lent this have done all jobs, each once, and have that back. The outputs are in
+  -- the order of the jobs.
   pub record AreDone (may : ℕ → L → O → L → Type 0) (jobs : ℕ) (before : List L)
       (outputs : List O) (after : List L) : Type 0 where
     -- for each worker the jobs that it did

@@ -1,4 +1,5 @@
--- Systems that fill logs: they run on workers, each with a log of its own, over one shared allocator.
+-- Systems that fill logs: they run on workers, each with a log of its own, over one shared
+-- allocator.
 use Rattle.std.specs.Prelude.{◌≡◌, ℕ, ◌<◌, ◌==◌, List, [], ◌++◌, length, filter}
 use Rattle.std.specs.Prelude.{slice_get, slice_index_or, Some}
 use Rattle.std.specs.List.{All, flat_map}
@@ -70,8 +71,8 @@ module _ {C : Type 0} where
     pub each_system : (n : ℕ) (system : S) → slice_get systems n ≡ Some system
         → may system (log_at logs n)
 
-  -- Some systems have run, at least one if there are any, and the workers stopped. A log is what the
-  -- system had entered when it ended or stopped.
+  -- Some systems have run, at least one if there are any, and the workers stopped. A log is what
+  -- the system had entered when it ended or stopped.
   pub record IsBrokenOff {S : Type 0} (may leave : S → List (Entry C) → Type 0) (systems : List S)
       (workers : ℕ) (before after : Allocator) : Type 0 where
     pub count : ℕ
@@ -81,8 +82,8 @@ module _ {C : Type 0} where
         (length systems) count run.ran
 
   -- All systems have run, and each filled a log that it may fill so. The flush brought to life what
-  -- they had reserved, and listed it behind what was in the list. The entries are those of all logs,
-  -- one log after the other.
+  -- they had reserved, and listed it behind what was in the list. The entries are those of all
+  -- logs, one log after the other.
   pub record HaveBegun {S : Type 0} (may : S → List (Entry C) → Type 0) (systems : List S)
       (workers : ℕ) (before : Allocator) (listed : List Handle) (entries : List (Entry C))
       (after : Allocator) (list : List Handle) : Type 0 where

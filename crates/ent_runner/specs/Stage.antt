@@ -6,16 +6,16 @@ use Rattle.ent_blocks.specs.Blocks.{Phase, Reserver}
 use Rattle.ent_blocks.specs.Drawing.{IsDrawn}
 
 module _ {O : Type 0} (Adds : O → List Request → O → Type 0) (empty : O) where
-  -- The output was filled from nothing on, and the reserver has made the requests for which it stands
-  -- and no others.
+  -- The output was filled from nothing on, and the reserver has made the requests for which it
+  -- stands and no others.
   pub record IsFilled {R : Type 0} (may : Replying R) (before : R) (output : O) (after : R)
       : Type 0 where
     pub requests : List Request
     pub adds : Adds empty requests output
     pub served : AreServed may before requests after
 
-  -- The system of this number filled the output from its own block, and hands back the output and the
-  -- reserver.
+  -- The system of this number filled the output from its own block, and hands back the output and
+  -- the reserver.
   pub record IsDealt (may : ℕ → O → Type 0) (phase : Phase) (reservers : List Reserver) (n : ℕ)
       (done : O × Reserver) : Type 0 where
     pub system : may n done.0

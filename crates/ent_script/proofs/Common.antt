@@ -1,10 +1,21 @@
--- The names that proofs of this crate cite, of std, of the crates below and of its own specs. Declares nothing.
-pub use Rattle.std.proofs.Common.{All, BTreeMap, Bool, Bor, Equal, Err, Global, Greater, IfSome, Less, List, MatchOption, None, Ok, Option, Ordering, Result, Some, String, Vec, [], add-one, ap, append_assoc, arith, bytes_eq, codes, cond, drop, eqb, false, get_or, inl, inr, is_eq, is_some, le-leb, length, length-append, length-drop, map, nat_cmp, ok_or, option_and_then, option_map, refl, rules, slice_get, string_bytes, string_cmp, subst, suc, sym, take, take_all, true, true≢false, zero, ℕ, ℤ, ◌&&◌, ◌*◌, ◌++◌, ◌+◌, ◌-◌, ◌<◌, ◌||◌, ◌∙◌, ◌∷◌, ◌≡◌, ◌≢◌, ◌≤◌, ◌⊎◌}
+-- The names that proofs of this crate cite, of std, of the crates below and of its own specs.
+-- Declares nothing.
+pub use Rattle.std.proofs.Common.{All, BTreeMap, Bool, Bor, Equal, Err, Global, Greater, IfSome}
+pub use Rattle.std.proofs.Common.{Less, List, MatchOption, None, Ok, Option, Ordering, Result, Some}
+pub use Rattle.std.proofs.Common.{String, Vec, [], add-one, ap, append_assoc, arith, bytes_eq}
+pub use Rattle.std.proofs.Common.{codes, cond, drop, eqb, false, get_or, inl, inr, is_eq, is_some}
+pub use Rattle.std.proofs.Common.{le-leb, length, length-append, length-drop, map, nat_cmp, ok_or}
+pub use Rattle.std.proofs.Common.{option_and_then, option_map, refl, rules, slice_get, string_bytes}
+pub use Rattle.std.proofs.Common.{string_cmp, subst, suc, sym, take, take_all, true, true≢false}
+pub use Rattle.std.proofs.Common.{zero, ℕ, ℤ, ◌&&◌, ◌*◌, ◌++◌, ◌+◌, ◌-◌, ◌<◌, ◌||◌, ◌∙◌, ◌∷◌, ◌≡◌}
+pub use Rattle.std.proofs.Common.{◌≢◌, ◌≤◌, ◌⊎◌}
 pub use Rattle.std.proofs.lemmas.Bool.{cases_Bool, cond-false, lt-leb, ne_eqb}
 pub use Rattle.std.proofs.lemmas.Cmp.{nat_list_cmp_total, tied_itself}
 pub use Rattle.std.proofs.lemmas.Grind.{common_steps}
-pub use Rattle.std.proofs.lemmas.List.{append-nil, drop_more, get_or-map, get_or_default, length-map, map-append, take-map, take_more}
-pub use Rattle.std.proofs.lemmas.List.Splits.{join_with_byte-slice_split, slice_split_at, slice_split_none}
+pub use Rattle.std.proofs.lemmas.List.{append-nil, drop_more, get_or-map, get_or_default}
+pub use Rattle.std.proofs.lemmas.List.{length-map, map-append, take-map, take_more}
+pub use Rattle.std.proofs.lemmas.List.Splits.{join_with_byte-slice_split, slice_split_at}
+pub use Rattle.std.proofs.lemmas.List.Splits.{slice_split_none}
 pub use Rattle.std.proofs.lemmas.List.Sums.{fold-append}
 pub use Rattle.std.proofs.lemmas.Map.Text.{btree_map_updates_str, is_eq-slice_cmp}
 pub use Rattle.std.proofs.lemmas.Slice.Eq.{bytes_eq-Decides}
@@ -23,13 +34,16 @@ pub use Rattle.ent_handle.specs.Text.{is_decimal}
 pub use Rattle.ent_handle.specs.declared.component.ComponentId.{ComponentId}
 pub use Rattle.ent_storage.specs.Bundle.{Bundle, with_put}
 pub use Rattle.fast_float.specs.Text.{scan}
-pub use Rattle.json.proofs.Grammar.{items_end, items_more, left-parse_map, left_none, left_some, members_end, members_more, members_no_key, read_key-shorter, value-begin_array, value-begin_object, value_is}
+pub use Rattle.json.proofs.Grammar.{items_end, items_more, left-parse_map, left_none, left_some}
+pub use Rattle.json.proofs.Grammar.{members_end, members_more, members_no_key, read_key-shorter}
+pub use Rattle.json.proofs.Grammar.{value-begin_array, value-begin_object, value_is}
 pub use Rattle.json.specs.Json.{Parse, after_end_array, parse_map, read_key}
 unfoldable pub use Rattle.json.specs.Json.{items, members, value}
 pub use Rattle.json.specs.Lex.{tokens}
 pub use Rattle.json.specs.Reads.{token_of}
 pub use Rattle.json.specs.Token.{Token}
-pub use Rattle.serde_json.specs.Data.{Data, Items, Members, array, boolean, item, member, no_items, no_members, null, number, object, put, string}
+pub use Rattle.serde_json.specs.Data.{Data, Items, Members, array, boolean, item, member, no_items}
+pub use Rattle.serde_json.specs.Data.{no_members, null, number, object, put, string}
 pub use Rattle.serde_json.specs.Find.{as_array, as_object, as_str, get, get_member}
 pub use Rattle.serde_json.specs.Read.{converted, of_items, of_json, of_members, read}
 unfoldable pub use Rattle.serde_json.specs.Read.{number_of}
@@ -44,11 +58,38 @@ pub use Rattle.ent_script.specs.Names.{as_name, names_in, number_among, with_nam
 pub use Rattle.ent_script.specs.Numbers.{HaveNumbers}
 pub use Rattle.ent_script.specs.Part.{data_of, leaf_data, leaves_of, members_of}
 pub use Rattle.ent_script.specs.Passing.{Passes, after_items, after_members, left}
-pub use Rattle.ent_script.specs.Ranges.{AllFrom, IsBindingAt, IsBundleOf, IsFrameOf, IsOperationAt, IsScript, IsSystemOf, IsTargetAt}
-pub use Rattle.ent_script.specs.Reading.{ReadsAs, ReadsList, at_operation, birth_number, birth_of_parts, births_before, bound_name, bundle_by, component_at, component_of, format_of, in_script, items_of, json_of, new_name, numbered, only, operation_at, or_absent, target_birth, with_of, ◌>>=◌}
-unfoldable pub use Rattle.ent_script.specs.Reading.{binding_of, birth_of, component_names, count_of, frame_of, has_keys, heading_of, is_despawn, is_insert, is_remove, is_spawn, is_spawn_many, of_kind, operation_of, read_bundle, removed_of, script_of, system_of, target_at, target_of}
+pub use Rattle.ent_script.specs.Ranges.{AllFrom, IsBindingAt, IsBundleOf, IsFrameOf, IsOperationAt}
+pub use Rattle.ent_script.specs.Ranges.{IsScript, IsSystemOf, IsTargetAt}
+pub use Rattle.ent_script.specs.Reading.{ReadsAs, ReadsList, at_operation, birth_number}
+pub use Rattle.ent_script.specs.Reading.{birth_of_parts, births_before, bound_name, bundle_by}
+pub use Rattle.ent_script.specs.Reading.{component_at, component_of, format_of, in_script, items_of}
+pub use Rattle.ent_script.specs.Reading.{json_of, new_name, numbered, only, operation_at, or_absent}
+pub use Rattle.ent_script.specs.Reading.{target_birth, with_of, ◌>>=◌}
+unfoldable pub use Rattle.ent_script.specs.Reading.{
+  binding_of,
+  birth_of,
+  component_names,
+  count_of,
+  frame_of,
+  has_keys,
+  heading_of,
+  is_despawn,
+  is_insert,
+  is_remove,
+  is_spawn,
+  is_spawn_many,
+  of_kind,
+  operation_of,
+  read_bundle,
+  removed_of,
+  script_of,
+  system_of,
+  target_at,
+  target_of,
+}
 pub use Rattle.ent_script.specs.Script.{Script}
-pub use Rattle.ent_script.specs.Streaming.{BeginsArray, FaultOfArray, PassesAtMost, Streams, StreamsList, begins_object, frames_of, ran_out}
+pub use Rattle.ent_script.specs.Streaming.{BeginsArray, FaultOfArray, PassesAtMost, Streams}
+pub use Rattle.ent_script.specs.Streaming.{StreamsList, begins_object, frames_of, ran_out}
 pub use Rattle.ent_script.specs.Top.{head, heads}
 pub use Rattle.ent_script.specs.declared.cause.Cause.{Cause}
 pub use Rattle.ent_script.specs.declared.cause.ScriptCause.{ScriptCause}

@@ -1,5 +1,9 @@
 -- One law, with a step for each test of the format: a value that is cut means the same.
-use Rattle.ent_script.proofs.Common.{take-map, arith, rules, ◌≡◌, ℕ, suc, ◌+◌, List, [], ◌∷◌, map, refl, Option, option_map, Result, common_steps, Data, Members, no_members, member, cut, cut_members, pairs_of, whole, items_of, read_bundle, with_of, count_of, binding_of, removed_of, target_of, numbered, component_at}
+use Rattle.ent_script.proofs.Common.{take-map, arith, rules, ◌≡◌, ℕ, suc, ◌+◌, List, [], ◌∷◌, map}
+use Rattle.ent_script.proofs.Common.{refl, Option, option_map, Result, common_steps, Data, Members}
+use Rattle.ent_script.proofs.Common.{no_members, member, cut, cut_members, pairs_of, whole}
+use Rattle.ent_script.proofs.Common.{items_of, read_bundle, with_of, count_of, binding_of}
+use Rattle.ent_script.proofs.Common.{removed_of, target_of, numbered, component_at}
 use Rattle.ent_script.specs.Json.{members}
 
 abbrev cut_pair : ℕ → List ℕ × Data → List ℕ × Data
@@ -9,7 +13,8 @@ pairs_of-cut : (l : ℕ) (ms : Members) → pairs_of (cut_members l ms) ≡ map 
 pairs_of-cut l no_members = refl
 pairs_of-cut l (member k d ms) = search (rules, pairs_of-cut l ms)
 
-members-cut : (l : ℕ) (d : Data) → members (cut (suc l) d) ≡ option_map (map (cut_pair l)) (members d)
+members-cut : (l : ℕ) (d : Data)
+    → members (cut (suc l) d) ≡ option_map (map (cut_pair l)) (members d)
 members-cut l d = search (rules, pairs_of-cut)
 
 pub whole-cut : (l : ℕ) (d : Data) → whole (cut l d) ≡ whole d
@@ -27,8 +32,8 @@ pub bundle-cut : (l : ℕ) (components : List (List ℕ)) (o : Option Data)
 unfolding read_bundle
 bundle-cut l components it = search (rules, pairs_of-cut, items_of-cut)
 
-pub with-cut : (l : ℕ) (components : List (List ℕ)) (o : Option Data) → with_of components (option_map (cut (suc l)) o)
-    ≡ with_of components o
+pub with-cut : (l : ℕ) (components : List (List ℕ)) (o : Option Data)
+    → with_of components (option_map (cut (suc l)) o) ≡ with_of components o
 with-cut l components it = search (rules, bundle-cut)
 
 pub count-cut : (l : ℕ) (o : Option Data) → count_of (option_map (cut l) o) ≡ count_of o
@@ -46,7 +51,8 @@ unfolding removed_of
 removed-cut l components it = search rules
 
 pub target-cut : (l : ℕ) (components bound : List (List ℕ)) (before : Option ℕ) (o : Option Data)
-    → target_of components bound before (option_map (cut (suc l)) o) ≡ target_of components bound before o
+    → target_of components bound before (option_map (cut (suc l)) o)
+    ≡ target_of components bound before o
 unfolding target_of
 target-cut l components bound before it = search (rules, members-cut)
 

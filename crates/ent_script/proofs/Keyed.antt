@@ -1,8 +1,15 @@
 -- The keys of an operation as they are put in, and what it is by them.
-use Rattle.ent_script.proofs.Common.{rules, ◌≡◌, ℕ, List, Bool, true, false, ◌&&◌, Option, Some, None, option_map, is_some, bytes_eq, refl, Err, bytes_eq-Decides, list_any, Data, object, Members, no_members, member, put, as_object, data_of, Part, cut, IsUnder, AreAmong, AreFields, of_fields, keys_among, pairs_of, has_keys, is_spawn, is_spawn_many, is_insert, is_remove, is_despawn, of_kind, operation_of, Fields, Kind, Bor, option_copied, ◌||◌}
+use Rattle.ent_script.proofs.Common.{rules, ◌≡◌, ℕ, List, Bool, true, false, ◌&&◌, Option, Some}
+use Rattle.ent_script.proofs.Common.{None, option_map, is_some, bytes_eq, refl, Err}
+use Rattle.ent_script.proofs.Common.{bytes_eq-Decides, list_any, Data, object, Members, no_members}
+use Rattle.ent_script.proofs.Common.{member, put, as_object, data_of, Part, cut, IsUnder, AreAmong}
+use Rattle.ent_script.proofs.Common.{AreFields, of_fields, keys_among, pairs_of, has_keys, is_spawn}
+use Rattle.ent_script.proofs.Common.{is_spawn_many, is_insert, is_remove, is_despawn, of_kind}
+use Rattle.ent_script.proofs.Common.{operation_of, Fields, Kind, Bor, option_copied, ◌||◌}
 use Rattle.ent_script.specs.declared.cause.Cause.TheVariants as cause
 use Rattle.ent_script.specs.declared.kind.Kind.TheVariants as kinds
-use Rattle.ent_script.proofs.CutMeanings.{bundle-cut, with-cut, count-cut, binding-cut, removed-cut, target-cut}
+use Rattle.ent_script.proofs.CutMeanings.{bundle-cut, with-cut, count-cut, binding-cut, removed-cut}
+use Rattle.ent_script.proofs.CutMeanings.{target-cut}
 use Rattle.ent_script.proofs.Puts.{found_here, found_before, tied}
 
 -- ---- whether each key is one of some
@@ -11,13 +18,15 @@ abbrev one_of : List (List ℕ) → List ℕ → Bool
 one_of allowed k = list_any (λ name. bytes_eq k name) allowed
 
 pub among-put : (allowed : List (List ℕ)) (k : List ℕ) (d : Data) (ms : Members)
-    → keys_among allowed (pairs_of (put k d ms)) ≡ (one_of allowed k && keys_among allowed (pairs_of ms))
+    → keys_among allowed (pairs_of (put k d ms))
+    ≡ (one_of allowed k && keys_among allowed (pairs_of ms))
 among-put allowed k d no_members = refl
 among-put allowed k d (member l e ms) = search (rules, tied k l, among-put allowed k d ms)
 
 -- all keys are among some, if those before are, and the key is
 pub with_key : (allowed : List (List ℕ)) (k : List ℕ) (d : Data) (ms : Members) (are one : Bool)
-    → AreAmong allowed are ms → AreAmong allowed one (put k d no_members) → AreAmong allowed (are && one) (put k d ms)
+    → AreAmong allowed are ms → AreAmong allowed one (put k d no_members)
+    → AreAmong allowed (are && one) (put k d ms)
 with_key allowed k d ms are one a o = search (rules, among-put)
 
 -- a key that is one of one, two or three
@@ -32,8 +41,8 @@ three_keys a b c = search rules
 
 -- ---- what is under a key
 
-pub under_here : (name k : List ℕ) (d : Data) (ms : Members) (v : Part) → data_of v ≡ cut 1 d → bytes_eq k name ≡ true
-    → IsUnder name (Some v) (put k d ms)
+pub under_here : (name k : List ℕ) (d : Data) (ms : Members) (v : Part) → data_of v ≡ cut 1 d
+    → bytes_eq k name ≡ true → IsUnder name (Some v) (put k d ms)
 under_here name k d ms v seen e = search (rules, found_here)
 
 pub under_before : (name k : List ℕ) (d : Data) (ms : Members) (f : Option Part) → IsUnder name f ms
@@ -41,7 +50,8 @@ pub under_before : (name k : List ℕ) (d : Data) (ms : Members) (f : Option Par
 under_before name k d ms f under e = search (rules, found_before)
 
 -- a key is one name, and so no other
-pub apart : (name other k : List ℕ) → bytes_eq k name ≡ true → bytes_eq name other ≡ false → bytes_eq k other ≡ false
+pub apart : (name other k : List ℕ) → bytes_eq k name ≡ true → bytes_eq name other ≡ false
+    → bytes_eq k other ≡ false
 apart name other k e differ = search (rules, bytes_eq-Decides)
 
 -- ---- what an operation is
@@ -74,7 +84,8 @@ pub lent : (r : Option (Bor Part)) → option_map (λ (v : Bor Part). data_of v.
 lent None = refl
 lent (Some v) = refl
 
-module _ (components bound : List (List ℕ)) (before : Option ℕ) (f : Fields) (ms : Members) (at : AreFields f ms) where
+module _ (components bound : List (List ℕ)) (before : Option ℕ) (f : Fields) (ms : Members)
+    (at : AreFields f ms) where
   pub of_fields-means : (kind : Kind) → of_fields components bound before f kind
       ≡ of_kind components bound before (object ms) kind
   unfolding of_kind of_fields
@@ -85,7 +96,7 @@ module _ (components bound : List (List ℕ)) (before : Option ℕ) (f : Fields)
   of_fields-means kinds.Despawn = search (rules, target-cut, at)
 
 -- what is no object is no operation
-pub no_operation : (components bound : List (List ℕ)) (before : Option ℕ) (d : Data) → as_object d ≡ None
-    → operation_of components bound before d ≡ Err cause.Shape
+pub no_operation : (components bound : List (List ℕ)) (before : Option ℕ) (d : Data)
+    → as_object d ≡ None → operation_of components bound before d ≡ Err cause.Shape
 unfolding operation_of is_spawn is_spawn_many is_insert is_remove is_despawn has_keys
 no_operation components bound before d e = search rules

@@ -1,5 +1,6 @@
 -- What stands under the keys of an operation, as it is read.
-use Rattle.std.specs.Prelude.{◌≡◌, ℕ, ◌-◌, Bool, true, false, List, [], ◌∷◌, length, codes, Option, Some}
+use Rattle.std.specs.Prelude.{◌≡◌, ℕ, ◌-◌, Bool, true, false, List, [], ◌∷◌, length, codes, Option}
+use Rattle.std.specs.Prelude.{Some}
 use Rattle.std.specs.Prelude.{None, option_map, Result, Ok, Err}
 use Rattle.json.specs.Token.{Token}
 use Rattle.json.specs.Json.{value, members}
@@ -34,7 +35,8 @@ AreAmong allowed are ms = are ≡ keys_among allowed (pairs_of ms)
 -- The kinds have all keys of the members.
 pub record AreKinds (kinds : Kinds) (ms : Members) : Type 0 where
   pub spawn : AreAmong (codes "spawn" ∷ codes "as" ∷ []) kinds.spawn ms
-  pub spawn_many : AreAmong (codes "spawn_many" ∷ codes "with" ∷ codes "as" ∷ []) kinds.spawn_many ms
+  pub spawn_many : AreAmong (codes "spawn_many" ∷ codes "with" ∷ codes "as" ∷ []) kinds.spawn_many
+      ms
   pub insert : AreAmong (codes "insert" ∷ codes "on" ∷ []) kinds.insert ms
   pub remove : AreAmong (codes "remove" ∷ codes "on" ∷ []) kinds.remove ms
   pub despawn : AreAmong (codes "despawn" ∷ []) kinds.despawn ms

@@ -18,7 +18,8 @@ use Rattle.ent_script.specs.declared.read_fault.ReadFault.TheVariants as fault
 pub record IsFront (front : Front) (d : Data) : Type 0 where
   pub heading : in_script (heading_of d) ≡ Ok front.heading
   pub components : option_map (λ vs. map view vs.items) front.components
-      ≡ option_map (map (cut 0)) (option_and_then (at_most most_components) (get (codes "components") d))
+      ≡ option_map (map (cut 0))
+      (option_and_then (at_most most_components) (get (codes "components") d))
 
 -- What was returned is the front of the value that a text is read as, or the first test that the
 -- value fails, unless memory ran out.

@@ -5,7 +5,8 @@ use Rattle.ent_alloc.specs.Limits.{AreLimits}
 use Rattle.ent_handle.specs.declared.birth.Birth.{Birth}
 use Rattle.ent_handle.specs.declared.component.ComponentId.{ComponentId}
 use Rattle.ent_script.specs.Script.{Script}
-use Rattle.ent_script.specs.Sizes.{most_components, most_frames, most_systems, most_operations, most_spawned}
+use Rattle.ent_script.specs.Sizes.{most_components, most_frames, most_systems, most_operations}
+use Rattle.ent_script.specs.Sizes.{most_spawned}
 use Rattle.ent_script.specs.declared.operation.Operation.{Operation}
 use Rattle.ent_script.specs.declared.operation.Operation.TheVariants as operation
 use Rattle.ent_script.specs.declared.target.Target.{Target}

@@ -15,7 +15,8 @@ use Rattle.ent_storage.specs.Bundle.{bundle_of}
 use Rattle.ent_script.specs.Json.{at_most, members, keys_among, whole, whole_within}
 use Rattle.ent_script.specs.Names.{as_name, number_among, names_in}
 use Rattle.ent_script.specs.Script.{Script}
-use Rattle.ent_script.specs.Sizes.{most_components, most_frames, most_systems, most_operations, most_spawned}
+use Rattle.ent_script.specs.Sizes.{most_components, most_frames, most_systems, most_operations}
+use Rattle.ent_script.specs.Sizes.{most_spawned}
 use Rattle.ent_script.specs.declared.cause.Cause.{Cause}
 use Rattle.ent_script.specs.declared.cause.Cause.TheVariants as cause
 use Rattle.ent_script.specs.declared.cause.ScriptCause.{ScriptCause}

@@ -1,11 +1,24 @@
 -- The end of a phase: the history of all records is legal, and the cursor and the least floor tell
 -- the allocator after it.
 use Rattle.ent_shared.proofs.Histories.{falls_apart, reservations_are, respects_all, numbers_differ}
-use Rattle.ent_shared.proofs.Common.{rules, ◌≡◌, ◌≢◌, ℕ, ◌+◌, ◌-◌, ◌^◌, ◌≤◌, ℤ, pos, ◌+ℤ◌, ◌-ℤ◌, ◌≤ℤ◌, ◌<ℤ◌, List, length, map, sym, ap, ◌∙◌, arith, sum, length-append, AllPairs, ◌↔◌, ◌⊎◌, common_steps, sum_by, cases_lt, length_permutation, ints, Handle, Entities, Allocator, available, cursor, top, asked_at, settled, after_flush, IsSound, IsLive, after_takes-sound, available-after_takes, asked-after_takes, cursor-after_takes, length-taken, length-available, flushed-laid_out, asked_at-is, after_history-takes, given_in-distinct, given_in-not_live, given_in-taken, given_in-bring_to_life, after_history-settled, Record, Opening, least_floor, IsClosed, as_call, own_of_all, reservations_of, history_of, Respects, All, Contains, w64, to_z, of_z, Shared, TableId, IsPhase}
+use Rattle.ent_shared.proofs.Common.{rules, ◌≡◌, ◌≢◌, ℕ, ◌+◌, ◌-◌, ◌^◌, ◌≤◌, ℤ, pos, ◌+ℤ◌, ◌-ℤ◌}
+use Rattle.ent_shared.proofs.Common.{◌≤ℤ◌, ◌<ℤ◌, List, length, map, sym, ap, ◌∙◌, arith, sum}
+use Rattle.ent_shared.proofs.Common.{length-append, AllPairs, ◌↔◌, ◌⊎◌, common_steps, sum_by}
+use Rattle.ent_shared.proofs.Common.{cases_lt, length_permutation, ints, Handle, Entities}
+use Rattle.ent_shared.proofs.Common.{Allocator, available, cursor, top, asked_at, settled}
+use Rattle.ent_shared.proofs.Common.{after_flush, IsSound, IsLive, after_takes-sound}
+use Rattle.ent_shared.proofs.Common.{available-after_takes, asked-after_takes, cursor-after_takes}
+use Rattle.ent_shared.proofs.Common.{length-taken, length-available, flushed-laid_out, asked_at-is}
+use Rattle.ent_shared.proofs.Common.{after_history-takes, given_in-distinct, given_in-not_live}
+use Rattle.ent_shared.proofs.Common.{given_in-taken, given_in-bring_to_life, after_history-settled}
+use Rattle.ent_shared.proofs.Common.{Record, Opening, least_floor, IsClosed, as_call, own_of_all}
+use Rattle.ent_shared.proofs.Common.{reservations_of, history_of, Respects, All, Contains, w64}
+use Rattle.ent_shared.proofs.Common.{to_z, of_z, Shared, TableId, IsPhase}
 use Rattle.ent_alloc.specs.History as history
 use Rattle.ent_shared.proofs.Words.{requested, follow_asked, few_asked}
 use Rattle.ent_shared.proofs.Sorting.{follow_falls}
-use Rattle.ent_shared.proofs.Settling.{IsLater, legal_from, min_right, floor_below, taken_floor, floor_sorted, floor_of_all}
+use Rattle.ent_shared.proofs.Settling.{IsLater, legal_from, min_right, floor_below, taken_floor}
+use Rattle.ent_shared.proofs.Settling.{floor_sorted, floor_of_all}
 
 -- what the closing call owes and gives, in the numbers of its code
 pub record Ended (here start : Allocator) (records : List Record) (at floor : ℤ) : Type 0 where
@@ -26,14 +39,20 @@ pub record Ended (here start : Allocator) (records : List Record) (at floor : �
       → IsLive (after_flush (history.after_history start (history_of records))) h ↔ IsLive start h
       ⊎ Contains (history.given_in (history_of records)) h
 
-module _ (start : Allocator) (count : ℕ) (records : List Record) (at : ℤ) (k : IsClosed start count records at)
+module _ (start : Allocator) (count : ℕ) (records : List Record) (at : ℤ)
+    (k : IsClosed start count records at)
     (sound : IsSound start) (flushed : start.asked ≡ 0) where
   pub asked_in_all : cursor start ≡ at +ℤ pos (sum_by requested k.log)
   asked_in_all = follow_asked (cursor start) k.log at k.follow
 
   pub cursor_least : count ≤ 1024 → pos (top start) ≤ℤ (at +ℤ pos (2 ^ 50))
   cursor_least few =
-      omega (arith, ints, asked_in_all, few_asked (sum_by requested k.log) count (omega (arith, k.quota)) few)
+      omega (
+        arith,
+        ints,
+        asked_in_all,
+        few_asked (sum_by requested k.log) count (omega (arith, k.quota)) few,
+      )
 
   pub cursor_greatest : at ≤ℤ pos (top start)
   cursor_greatest = omega (arith, ints, asked_in_all)
@@ -59,7 +78,8 @@ module _ (start : Allocator) (count : ℕ) (records : List Record) (at : ℤ) (k
         let sorted = floor_sorted start (own_of_all records) in
         let log = reservations_are start count records at k whole in
         let taken = taken_floor start start k.log at flushed itself k.follow in
-        search (rules, min_right, history_is, floor_below start k.log, all, sorted, log, none, taken)
+        search
+        (rules, min_right, history_is, floor_below start k.log, all, sorted, log, none, taken)
 
     asked_is : sum (history.requests_of (history_of records)) ≡ sum_by requested k.log
     asked_is = grind (arith, common_steps, history_is)
@@ -69,7 +89,8 @@ module _ (start : Allocator) (count : ℕ) (records : List Record) (at : ℤ) (k
 
     -- its cursor is the one that the word told
     pub final_cursor : cursor final ≡ at
-    final_cursor = search (rules, cursor-after_takes, after_history-takes, asked_is, asked_in_all, ints)
+    final_cursor =
+        search (rules, cursor-after_takes, after_history-takes, asked_is, asked_in_all, ints)
 
     final_sound : IsSound final
     final_sound = search (rules, after_history-takes, after_takes-sound)
@@ -82,7 +103,8 @@ module _ (start : Allocator) (count : ℕ) (records : List Record) (at : ℤ) (k
 
     taken_all : sum_by requested k.log ≤ top start + (start.limits.slots - start.made)
         → length final.taken ≡ sum_by requested k.log
-    taken_all enough = search (rules, final_available, length-available, final_asked, length-taken, final_sound)
+    taken_all enough =
+        search (rules, final_available, length-available, final_asked, length-taken, final_sound)
 
     module _ (floor : ℤ) (is : floor ≡ least_floor (pos (top start)) records) where
       floor_here : floor ≡ pos (top start) -ℤ pos (length final.taken)
@@ -96,7 +118,8 @@ module _ (start : Allocator) (count : ℕ) (records : List Record) (at : ℤ) (k
           record {
             least = cursor_least few;
             greatest = omega (arith, ints);
-            ordered = search (rules, here, asked_in_all, taken_few, cases_lt, requested, ints, taken_all);
+            ordered =
+                search (rules, here, asked_in_all, taken_few, cases_lt, requested, ints, taken_all);
             reachable = omega (arith, ints);
             all_given = search (rules, floor_here, asked_in_all, taken_all);
             is_legal = legal;
@@ -108,7 +131,8 @@ module _ (start : Allocator) (count : ℕ) (records : List Record) (at : ℤ) (k
                 (rules, asked_at-is, cursor_greatest, asked_is, asked_in_all, ints) in
                 let long : length final.taken ≡ length (history.given_in calls) = search
                 (rules, length_permutation, given_in-taken, legal) in
-                (λ i. settled start ((given ∙ long) i) (asked i)) ∙ sym (after_history-settled start calls sound legal
+                (λ i. settled start ((given ∙ long) i) (asked i))
+                ∙ sym (after_history-settled start calls sound legal
                 flushed);
             all_fall = rw (reservations_are start count records at k whole)
                 (falls_apart k.log (follow_falls (cursor start) k.log at k.follow));
@@ -119,12 +143,14 @@ module _ (start : Allocator) (count : ℕ) (records : List Record) (at : ℤ) (k
           }
 
 -- the same of the numbers as the code has them
-pub ended : (entities : Entities) (n : ℕ) (key : Opening) (word : TableId) (shared : Shared) (records : List Record)
+pub ended : (entities : Entities) (n : ℕ) (key : Opening) (word : TableId) (shared : Shared)
+    (records : List Record)
     (at floor from : ℤ) → IsPhase entities n key word
     → record { word = word; start = entities.allocator; rows = entities.rows; count = n } ≡ shared
     → length records ≡ shared.count → IsClosed key.entities.allocator key.count records at
     → from ≡ pos (top entities.allocator) → floor ≡ least_floor (to_z w64 (of_z w64 from)) records
-    → Ended entities.allocator shared.start records (to_z w64 (of_z w64 at)) (to_z w64 (of_z w64 floor))
+    → Ended entities.allocator shared.start records (to_z w64 (of_z w64 at))
+    (to_z w64 (of_z w64 floor))
 ended entities n key word shared records at floor from phase view whole closed from_is floor_is =
     let here : Allocator = entities.allocator in
     let small = phase.begins.top in
@@ -133,6 +159,8 @@ ended entities n key word shared records at floor from phase view whole closed f
     let e = ended_at here n records at k phase.sound phase.begins.flushed
     (whole ∙ sym (ap (λ (s : Shared). s.count) view)) floor
     (floor_is ∙ ap (λ (z : ℤ). least_floor z records) from_word) phase.few in
-    let at_word : to_z w64 (of_z w64 at) ≡ at = omega (arith, ints, e.ordered, e.least, e.greatest) in
-    let floor_word : to_z w64 (of_z w64 floor) ≡ floor = omega (arith, ints, e.ordered, e.least, e.greatest) in
+    let at_word : to_z w64 (of_z w64 at) ≡ at =
+    omega (arith, ints, e.ordered, e.least, e.greatest) in
+    let floor_word : to_z w64 (of_z w64 floor) ≡ floor =
+    omega (arith, ints, e.ordered, e.least, e.greatest) in
     rw (at_word, floor_word, sym (ap (λ (s : Shared). s.start) view)) e

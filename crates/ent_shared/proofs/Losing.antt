@@ -1,6 +1,23 @@
--- The end of a phase where some reservers are lost: the front of the pool counts as reserved. The handles of a list
--- differ if each is there at most once, so those of some reservers differ if those of all do.
-use Rattle.ent_shared.proofs.Common.{rules, ◌≡◌, ℕ, ◌+◌, ◌-◌, ◌*◌, ◌^◌, ◌<◌, ◌≤◌, ℤ, pos, ◌+ℤ◌, ◌-ℤ◌, ◌≤ℤ◌, get_or, List, [], ◌∷◌, length, take, drop, sym, ap, ◌∙◌, arith, AllPairs, ◌⊎◌, ◌≢◌, neg_ℤ, zero-add, refl, map, Ok, Err, common_steps, true, false, cond, nat_le, sum_by, drop-take, take-take, take_all, drop_all, length-take, take-append-drop, All-head, All-tail, All-nil, All-append, All-take, All-drop, All-contains, All-contains_itself, All-permutation, int_max, ints, Handle, Entities, quota, Allocator, available, cursor, top, asked_at, pool_at, listed, settled, IsSound, IsLive, length-available, flushed-laid_out, asked_at-is, listed-IsPermutation, not_apart, given_in-distinct, Reservation, Record, Opening, low, own_reservations, requested_by, after_loss, Follow, HasItsReply, IsClosed, history_of, handles_of, as_call, own_of_all, All, Contains, w64, to_z, of_z, IsPhase, Shared, TableId, nat_tests, AllPairs-cons, sum_by-append, sum_by-cons, handle_eq, handles_in, AllPairs-head, AllPairs-tail, weigh}
+-- The end of a phase where some reservers are lost: the front of the pool counts as reserved. The
+-- handles of a list differ if each is there at most once, so those of some reservers differ if
+-- those of all do.
+use Rattle.ent_shared.proofs.Common.{rules, ◌≡◌, ℕ, ◌+◌, ◌-◌, ◌*◌, ◌^◌, ◌<◌, ◌≤◌, ℤ, pos, ◌+ℤ◌}
+use Rattle.ent_shared.proofs.Common.{◌-ℤ◌, ◌≤ℤ◌, get_or, List, [], ◌∷◌, length, take, drop, sym, ap}
+use Rattle.ent_shared.proofs.Common.{◌∙◌, arith, AllPairs, ◌⊎◌, ◌≢◌, neg_ℤ, zero-add, refl, map, Ok}
+use Rattle.ent_shared.proofs.Common.{Err, common_steps, true, false, cond, nat_le, sum_by}
+use Rattle.ent_shared.proofs.Common.{drop-take, take-take, take_all, drop_all, length-take}
+use Rattle.ent_shared.proofs.Common.{take-append-drop, All-head, All-tail, All-nil, All-append}
+use Rattle.ent_shared.proofs.Common.{All-take, All-drop, All-contains, All-contains_itself}
+use Rattle.ent_shared.proofs.Common.{All-permutation, int_max, ints, Handle, Entities, quota}
+use Rattle.ent_shared.proofs.Common.{Allocator, available, cursor, top, asked_at, pool_at, listed}
+use Rattle.ent_shared.proofs.Common.{settled, IsSound, IsLive, length-available, flushed-laid_out}
+use Rattle.ent_shared.proofs.Common.{asked_at-is, listed-IsPermutation, not_apart}
+use Rattle.ent_shared.proofs.Common.{given_in-distinct, Reservation, Record, Opening, low}
+use Rattle.ent_shared.proofs.Common.{own_reservations, requested_by, after_loss, Follow}
+use Rattle.ent_shared.proofs.Common.{HasItsReply, IsClosed, history_of, handles_of, as_call}
+use Rattle.ent_shared.proofs.Common.{own_of_all, All, Contains, w64, to_z, of_z, IsPhase, Shared}
+use Rattle.ent_shared.proofs.Common.{TableId, nat_tests, AllPairs-cons, sum_by-append, sum_by-cons}
+use Rattle.ent_shared.proofs.Common.{handle_eq, handles_in, AllPairs-head, AllPairs-tail, weigh}
 use Rattle.ent_alloc.specs.History as history
 use Rattle.ent_shared.proofs.Words.{requested}
 use Rattle.ent_shared.proofs.Records.{all_own}
@@ -41,7 +58,8 @@ none_there h (g ∷ gs) all = grind (
 -- each handle of the list counts
 counted : (h : Handle) (gs : List Handle) → Contains gs h → 1 ≤ sum_by (is_one h) gs
 counted h [] inside = absurd (omega arith)
-counted h (g ∷ gs) inside = grind (arith, common_steps, sum_by-cons, contains_cases, one_itself h, counted h gs)
+counted h (g ∷ gs) inside =
+    grind (arith, common_steps, sum_by-cons, contains_cases, one_itself h, counted h gs)
 
 -- a list of different handles has each at most once
 once : (gs : List Handle) → Differ gs → (h : Handle) → sum_by (is_one h) gs ≤ 1
@@ -54,8 +72,10 @@ once (g ∷ gs) differ h =
 -- and the other way around
 differ_if_once : (gs : List Handle) → ((h : Handle) → sum_by (is_one h) gs ≤ 1) → Differ gs
 differ_if_once [] few = λ i j d lt within. absurd (omega arith)
-differ_if_once (g ∷ gs) few = AllPairs-cons (λ g h. g ≢ h) g gs
-    (λ i d lt same. grind (arith, common_steps, sum_by-cons, one_itself g, few g, counted, All-contains_itself))
+differ_if_once (g ∷ gs) few =
+    AllPairs-cons (λ g h. g ≢ h) g gs
+    (λ i d lt same.
+    grind (arith, common_steps, sum_by-cons, one_itself g, few g, counted, All-contains_itself))
     (differ_if_once gs (λ h. grind (arith, common_steps, sum_by-cons, few h)))
 
 -- a handle is in replies as often as in the lists of their handles
@@ -65,44 +85,70 @@ in_replies h [] = refl
 in_replies h (c ∷ cs) = search (rules, sum_by-append, sum_by-cons, in_replies h cs)
 
 -- what these records were given differs if what all were given does
-pub some_differ : (records : List Record) (log : List Reservation) → ((f : Reservation → ℕ) → weigh f records ≤ sum_by f
-    log) → Differ (handles_of log) → Differ (handles_of (own_of_all records))
-some_differ records log some differ = differ_if_once _ (λ h. grind
-    (arith, common_steps, in_replies, once (handles_of log) differ h, some (λ c. sum_by (is_one h) (handles_in c.reply)), sum_by-flat_map))
+pub some_differ : (records : List Record) (log : List Reservation)
+    → ((f : Reservation → ℕ) → weigh f records ≤ sum_by f log) → Differ (handles_of log)
+    → Differ (handles_of (own_of_all records))
+some_differ records log some differ =
+    differ_if_once _
+    (λ h.
+    grind (
+      arith,
+      common_steps,
+      in_replies,
+      once (handles_of log) differ h,
+      some (λ c. sum_by (is_one h) (handles_in c.reply)),
+      sum_by-flat_map,
+    ))
 
 -- what lies inside the front of a list is in it
 front_contains : (xs : List Handle) (k n asked : ℕ) → k + n ≤ asked
     → All (Contains (take asked xs)) (take n (drop k xs))
-front_contains xs k n asked le = rw (sym (drop-take k n xs), sym (take-take (k + n) asked xs le)) (All-drop (Contains
-    (take asked xs)) k _ (All-take (Contains (take asked xs)) (k + n) _ (All-contains_itself (take asked xs))))
+front_contains xs k n asked le =
+    rw (sym (drop-take k n xs), sym (take-take (k + n) asked xs le))
+    (All-drop (Contains (take asked xs)) k _
+    (All-take (Contains (take asked xs)) (k + n) _ (All-contains_itself (take asked xs))))
 
 -- the handles of a call are in the front that reaches as far
 reservation_contains : (start : Allocator) (c : Reservation) (asked : ℕ) → HasItsReply start c
-    → asked_at (top start) c.high + c.requested ≤ asked → All (Contains (take asked (available start)))
-    (history.handles_in c.reply)
+    → asked_at (top start) c.high + c.requested ≤ asked
+    → All (Contains (take asked (available start))) (history.handles_in c.reply)
 reservation_contains start c asked replied le =
     let pool : List Handle = pool_at start c.high in
     let P : Handle → Type 0 = Contains (take asked (available start)) in
     let all = All-permutation P _ _ (listed-IsPermutation start.made (take c.requested pool))
     (front_contains (available start) (asked_at (top start) c.high) c.requested asked le) in
     rw replied (elim (nat_le c.requested (length pool)) as (λ b. All P (history.handles_in (cond b
-    (Ok (listed start.made (take c.requested pool))) (Err (record { wanted = c.requested; left = length pool })))))
+    (Ok (listed start.made (take c.requested pool)))
+    (Err (record { wanted = c.requested; left = length pool })))))
     [ true ↦ all | false ↦ All-nil P ])
 
-reservations_contain : (start : Allocator) (asked : ℕ) (cs : List Reservation) → All (HasItsReply start) cs
+reservations_contain : (start : Allocator) (asked : ℕ) (cs : List Reservation)
+    → All (HasItsReply start) cs
     → All (λ (c : Reservation). asked_at (top start) c.high + c.requested ≤ asked) cs
     → All (Contains (take asked (available start))) (handles_of cs)
 reservations_contain start asked [] replied within = search (rules, All-nil)
-reservations_contain start asked (c ∷ cs) replied within = search
-    (rules, All-append, reservation_contains start c asked, reservations_contain start asked cs, All-head, All-tail)
+reservations_contain start asked (c ∷ cs) replied within =
+    search (
+      rules,
+      All-append,
+      reservation_contains start c asked,
+      reservations_contain start asked cs,
+      All-head,
+      All-tail,
+    )
 
 -- each call lies between the top and the cursor
 reservations_within : (start : Allocator) (high : ℤ) (cs : List Reservation) (end : ℤ) (asked : ℕ)
     → high ≤ℤ pos (top start) → pos (top start) ≡ end +ℤ pos asked → Follow high cs end
-    → All (λ (c : Reservation). asked_at (top start) c.high + c.requested ≤ asked) cs × (end ≤ℤ high)
+    → All (λ (c : Reservation). asked_at (top start) c.high + c.requested ≤ asked) cs
+    × (end ≤ℤ high)
 reservations_within start high [] end asked up is f = grind (arith, common_steps)
-reservations_within start high (c ∷ cs) end asked up is f = grind
-    (arith, common_steps, reservations_within start (low c) cs end asked (omega (arith, ints)) is f.2)
+reservations_within start high (c ∷ cs) end asked up is f =
+    grind (
+      arith,
+      common_steps,
+      reservations_within start (low c) cs end asked (omega (arith, ints)) is f.2,
+    )
 
 -- what the closing call with lost reservers owes and gives
 pub record Lost (here start : Allocator) (count : ℕ) (records : List Record) (at floor : ℤ) : Type 0
@@ -134,10 +180,13 @@ module _ (start : Allocator) (sound : IsSound start) (flushed : start.asked ≡ 
 
   loss_is : (given asked : ℕ) → given ≤ asked → (given ≡ asked) ⊎ (given ≡ length start.pool)
       → settled start given asked ≡ after_loss start asked
-  loss_is given asked le which = search (rules, flushed-laid_out, take_all, length-take, drop_all, zero-add)
+  loss_is given asked le which =
+      search (rules, flushed-laid_out, take_all, length-take, drop_all, zero-add)
 
-  lost_at : (count : ℕ) (records : List Record) (at floor : ℤ) → count ≤ 1024 → IsClosed start count records at
-      → floor ≡ int_max at (neg_ℤ (pos (start.limits.slots - start.made))) → Lost start start count records at floor
+  lost_at : (count : ℕ) (records : List Record) (at floor : ℤ) → count ≤ 1024
+      → IsClosed start count records at
+      → floor ≡ int_max at (neg_ℤ (pos (start.limits.slots - start.made)))
+      → Lost start start count records at floor
   lost_at count records at floor few k is =
       let asked : ℕ = sum_by requested k.log in
       let all = asked_in_all start count records at k sound flushed in
@@ -150,8 +199,10 @@ module _ (start : Allocator) (sound : IsSound start) (flushed : start.asked ≡ 
       let given : ℕ = asked_at (top start) floor in
       let asked_is : asked_at (top start) at ≡ asked = omega (arith, ints) in
       let cases : (given ≡ asked) ⊎ (given ≡ length start.pool) = grind (arith, ints) in
-      let W : Reservation → Type 0 = λ (c : Reservation). asked_at (top start) c.high + c.requested ≤ asked in
-      let log_within : All W k.log = (reservations_within start (cursor start) k.log at asked (omega (arith, ints))
+      let W : Reservation → Type 0 =
+      λ (c : Reservation). asked_at (top start) c.high + c.requested ≤ asked in
+      let log_within : All W k.log =
+      (reservations_within start (cursor start) k.log at asked (omega (arith, ints))
       within k.follow).0 in
       let left : cursor (after_loss start asked) ≡ cursor start -ℤ pos asked = search
       (rules, take-append-drop, all_pool, ints) in
@@ -161,30 +212,43 @@ module _ (start : Allocator) (sound : IsSound start) (flushed : start.asked ≡ 
         all_asked = λ all_here. k.all all_here requested;
         most_asked = k.quota;
         reached = λ i d lt. let mark = (k.each i d lt).marks.mark in omega (arith, ints);
-        whole = λ all_here. left ∙ sym (final_cursor start count records at k sound flushed all_here ∙ (omega
-            (arith, ints)));
+        whole =
+            λ all_here. left
+            ∙ sym
+            (final_cursor start count records at k sound flushed all_here ∙ (omega (arith, ints)));
         least = cursor_least start count records at k sound flushed few;
         greatest = floor_in;
         all_given = λ room. grind (arith, ints);
         after = search (rules, loss_is);
-        given = λ i d lt. let own = all_own (Contains k.log) (get_or records i d).entries (k.each i d lt).marks.known in
-            rw (sym all_pool) (reservations_contain start asked _ (λ j c l. All-contains (HasItsReply start) k.log _
+        given = λ i d lt. let own =
+            all_own (Contains k.log) (get_or records i d).entries (k.each i d lt).marks.known in
+            rw (sym all_pool)
+            (reservations_contain start asked _
+            (λ j c l. All-contains (HasItsReply start) k.log _
             k.replied (own j c l)) (λ j c l. All-contains W k.log _ log_within (own j c l)));
-        none_live = All-take (λ h. ¬ (IsLive start h)) asked start.pool (search (rules, all_pool, not_apart));
+        none_live =
+            All-take (λ h. ¬ (IsLive start h)) asked start.pool
+            (search (rules, all_pool, not_apart));
         distinct =
-            let itself : IsLater start start = record { sound = sound; available_is = refl; made_is = refl } in
+            let itself : IsLater start start =
+            record { sound = sound; available_is = refl; made_is = refl } in
             some_differ records k.log k.some (given_in-distinct start (map as_call k.log) sound
             (legal_from start start k.log at itself k.follow k.replied));
       }
 
-pub lost : (entities : Entities) (n room : ℕ) (key : Opening) (word : TableId) (shared : Shared) (records : List Record)
+pub lost : (entities : Entities) (n room : ℕ) (key : Opening) (word : TableId) (shared : Shared)
+    (records : List Record)
     (at floor roomed : ℤ) → IsPhase entities n key word
     → record { word = word; start = entities.allocator; rows = entities.rows; count = n } ≡ shared
     → IsClosed key.entities.allocator key.count records at
-    → room ≡ entities.allocator.limits.slots - entities.allocator.made → room < 2 ^ 32 → roomed ≡ pos room
-    → floor ≡ int_max (to_z w64 (of_z w64 at)) (to_z w64 (of_z w64 (pos 0 -ℤ to_z w64 (of_z w64 roomed))))
-    → Lost entities.allocator shared.start shared.count records (to_z w64 (of_z w64 at)) (to_z w64 (of_z w64 floor))
-lost entities n room key word shared records at floor roomed phase view closed room_is room_small roomed_is floor_is =
+    → room ≡ entities.allocator.limits.slots - entities.allocator.made → room < 2 ^ 32
+    → roomed ≡ pos room
+    → floor ≡ int_max (to_z w64 (of_z w64 at))
+    (to_z w64 (of_z w64 (pos 0 -ℤ to_z w64 (of_z w64 roomed))))
+    → Lost entities.allocator shared.start shared.count records (to_z w64 (of_z w64 at))
+    (to_z w64 (of_z w64 floor))
+lost entities n room key word shared records at floor roomed phase view closed room_is room_small
+    roomed_is floor_is =
     let here : Allocator = entities.allocator in
     let small = phase.begins.top in
     let k : IsClosed here n records at = rw phase.key_is at closed in

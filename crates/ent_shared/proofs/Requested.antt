@@ -1,5 +1,10 @@
 -- How the record of a reserver gains what was requested with it.
-use Rattle.ent_shared.proofs.Common.{rules, ◌≡◌, refl, sym, ap, ◌∙◌, ℕ, zero, suc, ◌-◌, ◌<◌, ◌≤◌, ℤ, List, [], ◌∷◌, ◌++◌, append-nil, append_assoc, arith, common_steps, subst, sum_by, sum_by-append, Result, Ok, Err, inl, inr, All-nil, All-cons, All-append, cases_lt, map-append, flat_map-append, Handle, Record, Reservation, reservation_at, after_reservation, handles_given, Shared, Reserver}
+use Rattle.ent_shared.proofs.Common.{rules, ◌≡◌, refl, sym, ap, ◌∙◌, ℕ, zero, suc, ◌-◌, ◌<◌, ◌≤◌, ℤ}
+use Rattle.ent_shared.proofs.Common.{List, [], ◌∷◌, ◌++◌, append-nil, append_assoc, arith}
+use Rattle.ent_shared.proofs.Common.{common_steps, subst, sum_by, sum_by-append, Result, Ok, Err}
+use Rattle.ent_shared.proofs.Common.{inl, inr, All-nil, All-cons, All-append, cases_lt, map-append}
+use Rattle.ent_shared.proofs.Common.{flat_map-append, Handle, Record, Reservation, reservation_at}
+use Rattle.ent_shared.proofs.Common.{after_reservation, handles_given, Shared, Reserver}
 use Rattle.ent_alloc.specs.Serving.{AreServed, Request}
 use Rattle.ent_alloc.specs.declared.refused.Refused.{Refused}
 use Rattle.ent_alloc.specs.declared.refused.Refused.TheVariants.{Space, Quota}
@@ -23,13 +28,15 @@ gains_nothing r = record {
   given = sym (append-nil (handles_given r));
 }
 
-within_both : (left : ℕ) (xs ys : List Request) → FitQuota left xs → FitQuota (left - sum_by cost xs) ys
-    → FitQuota left (xs ++ ys)
+within_both : (left : ℕ) (xs ys : List Request) → FitQuota left xs
+    → FitQuota (left - sum_by cost xs) ys → FitQuota left (xs ++ ys)
 within_both left [] ys first second = search rules
-within_both left (x ∷ xs) ys first second = grind (arith, common_steps, within_both (left - cost x) xs ys)
+within_both left (x ∷ xs) ys first second =
+    grind (arith, common_steps, within_both (left - cost x) xs ys)
 
 -- Requests one after the other: so those of many systems that one reserver served are added up.
-pub gains_then : (a b c : Record) (xs ys : List Request) → Gains a xs b → Gains b ys c → Gains a (xs ++ ys) c
+pub gains_then : (a b c : Record) (xs ys : List Request) → Gains a xs b → Gains b ys c
+    → Gains a (xs ++ ys) c
 gains_then a b c xs ys first second = record {
   start = second.start ∙ first.start;
   number = second.number ∙ first.number;
@@ -39,8 +46,12 @@ gains_then a b c xs ys first second = record {
   callers = All-append (CalledBy a.number) first.reservations second.reservations first.callers
       (rw first.number at second.callers);
   left = omega (arith, first.left, second.left, sum_by-append cost xs ys);
-  within = within_both a.left xs ys first.within (subst (λ n. FitQuota n ys) (omega (arith, first.left)) second.within);
-  given = second.given ∙ rw (first.given, flat_map-append handles_in xs ys) (append_assoc (handles_given a) _ _);
+  within =
+      within_both a.left xs ys first.within
+      (subst (λ n. FitQuota n ys) (omega (arith, first.left)) second.within);
+  given =
+      second.given ∙ rw (first.given, flat_map-append handles_in xs ys)
+      (append_assoc (handles_given a) _ _);
 }
 
 -- a request that is no reservation
@@ -59,17 +70,20 @@ gains_none r request none within nothing = record {
 }
 
 -- a request that is one reservation
-gains_one : (r after : Record) (high : ℤ) (request : Request) → after ≡ after_reservation r high request.0
-    → request.0 ≤ r.left
-    → stands_for request ≡ (request.0, (reservation_at r high request.0).reply) ∷ [] → FitsQuota r.left request
-    → handles_given after ≡ handles_given r ++ handles_in request → Gains r (request ∷ []) after
+gains_one : (r after : Record) (high : ℤ) (request : Request)
+    → after ≡ after_reservation r high request.0 → request.0 ≤ r.left
+    → stands_for request ≡ (request.0, (reservation_at r high request.0).reply) ∷ []
+    → FitsQuota r.left request → handles_given after ≡ handles_given r ++ handles_in request
+    → Gains r (request ∷ []) after
 gains_one r after high request is enough one within given = rw is (record {
   start = refl;
   number = refl;
   reservations = reservation_at r high request.0 ∷ [];
   entries = refl;
   calls = search (rules, one);
-  callers = All-cons (CalledBy r.number) (reservation_at r high request.0) [] refl (All-nil (CalledBy r.number));
+  callers =
+      All-cons (CalledBy r.number) (reservation_at r high request.0) [] refl
+      (All-nil (CalledBy r.number));
   left = rw one (omega (arith, enough));
   within = (within, tt);
   given = rw (append-nil (handles_in request)) (rw is at given);
@@ -89,7 +103,8 @@ module _ (shared : Shared) (before after : Reserver) where
     | inl short ↦ let no = (reply.quota short).0 in absurd (cc)
     | inr enough ↦
         let g = reply.gains (omega arith) (omega (arith, enough)) in
-        gains_one before.own after.own g.high (suc n, Ok handles) (ap (λ (r : Reserver). r.own) g.after)
+        gains_one before.own after.own g.high (suc n, Ok handles)
+        (ap (λ (r : Reserver). r.own) g.after)
         (omega (arith, enough)) (ap (λ r. (suc n, r) ∷ []) (sym g.recorded)) (omega (arith, enough))
         (given_more shared before after (suc n) handles reply)
   ]
@@ -101,9 +116,11 @@ module _ (shared : Shared) (before after : Reserver) where
     | inr enough ↦ elim (cases_lt 0 n) [
       | inl some ↦
           let g = reply.gains some (omega (arith, enough)) in
-          gains_one before.own after.own g.high (n, Err (Space wanted left)) (ap (λ (r : Reserver). r.own) g.after)
+          gains_one before.own after.own g.high (n, Err (Space wanted left))
+          (ap (λ (r : Reserver). r.own) g.after)
           (omega (arith, enough)) (ap (λ r. (n, r) ∷ []) (sym g.recorded)) (omega (arith, enough))
-          (given_no_more shared before after n (Space wanted left) reply ∙ sym (append-nil (handles_given before.own)))
+          (given_no_more shared before after n (Space wanted left) reply
+          ∙ sym (append-nil (handles_given before.own)))
       | inr nothing ↦ let no = (reply.nothing (omega arith)).0 in absurd (cc)
     ]
   ]
@@ -123,7 +140,8 @@ module _ (shared : Shared) (before after : Reserver) where
   replied n (Ok handles) reply = served n handles reply
   replied n (Err why) reply = refused n why reply
 
--- So the record has gained the reservations of requests that a shared allocator served, and no others.
+-- So the record has gained the reservations of requests that a shared allocator served, and no
+-- others.
 pub gains_served : (shared : Shared) (requests : List Request) (before after : Reserver)
     → AreServed (IsReturned shared) before requests after → Gains before.own requests after.own
 gains_served shared [] before after was = rw was (gains_nothing _)

@@ -1,5 +1,5 @@
--- What a phase of a shared allocator ends with, as one fact: each field is a clause of `Shared::close` or
--- `Shared::close_lost`. For callers that cite it whole.
+-- What a phase of a shared allocator ends with, as one fact: each field is a clause of
+-- `Shared::close` or `Shared::close_lost`. For callers that cite it whole.
 use Rattle.std.specs.Prelude.{◌≡◌, ◌≢◌, ◌↔◌, ◌⊎◌, ◌+◌, ◌*◌, ◌≤◌, ◌≤ℤ◌, ◌<ℤ◌, List}
 use Rattle.std.specs.Prelude.{All, AllPairs, Contains, length, sum_by}
 use Rattle.ent_handle.specs.Handle.{Handle}
@@ -29,11 +29,11 @@ pub record EndsWithAll (opened : Shared) (returned : List Reserver) (after : All
   pub brings_to_life : (h : Handle) → IsLive (after_flush after) h
       ↔ (IsLive opened.start h ⊎ Contains (given_in (history_of (records_of returned))) h)
 
--- The phase ended with those of its reservers that are returned. A front of the pool is reserved. It
--- counts what these have requested, and of the others no more than their quota. It has all handles
--- that these got: they differ, and none was alive. A flush brings to life just what is reserved. If all
--- are returned, it counts exactly what they have requested, and the cursor is where their history
--- leaves it.
+-- The phase ended with those of its reservers that are returned. A front of the pool is reserved.
+-- It counts what these have requested, and of the others no more than their quota. It has all
+-- handles that these got: they differ, and none was alive. A flush brings to life just what is
+-- reserved. If all are returned, it counts exactly what they have requested, and the cursor is
+-- where their history leaves it.
 pub record EndsWithSome (opened : Shared) (returned : List Reserver) (after : Allocator)
     : Type 0 where
   pub after_is : after ≡ after_loss opened.start after.asked

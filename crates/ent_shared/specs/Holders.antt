@@ -1,4 +1,5 @@
--- What a rule over a word and its records must be like, so that records may move from holder to holder.
+-- What a rule over a word and its records must be like, so that records may move from holder to
+-- holder.
 use Rattle.std.specs.Prelude.{List, flat_map, IsPermutation}
 use Rattle.atomic_table.specs.Table.{State}
 

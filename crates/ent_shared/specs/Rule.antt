@@ -101,8 +101,8 @@ pub record IsRuled (start : Allocator) (count : ℕ) (s : State (Unit {0}) (List
   pub numbers : (k : ℕ) → sum_by (count_by (λ (r : Record). r.number == k)) s.views ≤ 1
   pub each : All (All (IsKept start (cursor_of word) spans.log)) s.views
 
--- After a reservation of n by the one reserver of a holder: the word is in its range, and the record
--- has one reservation more.
+-- After a reservation of n by the one reserver of a holder: the word is in its range, and the
+-- record has one reservation more.
 pub record AfterReserve (n : ℕ) (r : Record) (found : ℕ) (others : List Record) : Type 0 where
   pub least : offset ≤ found + 2 ^ 50
   pub greatest : found < offset + 2 ^ 32

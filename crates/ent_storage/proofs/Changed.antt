@@ -1,11 +1,17 @@
 -- The components or the birth of the entity at a place are changed.
-use Rattle.ent_storage.proofs.Common.{rules, length-set, ◌≡◌, ℕ, zero, suc, ◌-◌, ◌<◌, List, [], ◌∷◌, length, get_or, set, Some, refl, ap, ◌∙◌, arith, get_or_default, FinMap, Birth, Handle, handle_cmp, Components, Column, Resident, Store, with_components, with_birth, LivingEntity, change_at, with_birth_at, entities_from, map_of, handles_by_place, counted, IsKeptIndex, fin_get}
+use Rattle.ent_storage.proofs.Common.{rules, length-set, ◌≡◌, ℕ, zero, suc, ◌-◌, ◌<◌, List, [], ◌∷◌}
+use Rattle.ent_storage.proofs.Common.{length, get_or, set, Some, refl, ap, ◌∙◌, arith}
+use Rattle.ent_storage.proofs.Common.{get_or_default, FinMap, Birth, Handle, handle_cmp, Components}
+use Rattle.ent_storage.proofs.Common.{Column, Resident, Store, with_components, with_birth}
+use Rattle.ent_storage.proofs.Common.{LivingEntity, change_at, with_birth_at, entities_from, map_of}
+use Rattle.ent_storage.proofs.Common.{handles_by_place, counted, IsKeptIndex, fin_get}
 use Rattle.ent_storage.proofs.Indexed.{some_entity, entities_set, get_placed}
 use Rattle.ent_storage.proofs.Counted.{kept_set}
 use Rattle.ent_storage.proofs.Placed.{handles_set}
 
 -- the resident at the place is written again with another birth
-pub reborn_from : (n : ℕ) (residents : List Resident) (columns : List Column) (i : ℕ) (birth : Birth)
+pub reborn_from : (n : ℕ) (residents : List Resident) (columns : List Column) (i : ℕ)
+    (birth : Birth)
     (resident : Resident) → i < length residents → resident ≡ get_or residents i resident
     → entities_from n (set residents i (record resident { birth = birth })) columns
     ≡ with_birth_at (entities_from n residents columns) i birth
@@ -19,18 +25,23 @@ pub length_reborn : (living : List LivingEntity) (i : ℕ) (birth : Birth)
 length_reborn (e ∷ living) (suc i) birth = ap suc (length_reborn living i birth)
 length_reborn living i birth = refl
 
-reborn_set : (living : List LivingEntity) (i : ℕ) (d : LivingEntity) (birth : Birth) → i < length living
+reborn_set : (living : List LivingEntity) (i : ℕ) (d : LivingEntity) (birth : Birth)
+    → i < length living
     → with_birth_at living i birth ≡ set living i (record (get_or living i d) { birth = birth })
 reborn_set [] i d birth l = absurd (omega arith)
 reborn_set (e ∷ living) zero d birth l = refl
-reborn_set (e ∷ living) (suc i) d birth l = ap (λ es. e ∷ es) (reborn_set living i d birth (omega arith))
+reborn_set (e ∷ living) (suc i) d birth l =
+    ap (λ es. e ∷ es) (reborn_set living i d birth (omega arith))
 
-changed_set : (living : List LivingEntity) (i : ℕ) (d : LivingEntity) (change : Components → Components)
+changed_set : (living : List LivingEntity) (i : ℕ) (d : LivingEntity)
+    (change : Components → Components)
     → i < length living → change_at living i change
-    ≡ set living i (record (get_or living i d) { components = change (get_or living i d).components })
+    ≡ set living i
+    (record (get_or living i d) { components = change (get_or living i d).components })
 changed_set [] i d change l = absurd (omega arith)
 changed_set (e ∷ living) zero d change l = refl
-changed_set (e ∷ living) (suc i) d change l = ap (λ es. e ∷ es) (changed_set living i d change (omega arith))
+changed_set (e ∷ living) (suc i) d change l =
+    ap (λ es. e ∷ es) (changed_set living i d change (omega arith))
 
 -- the store in which the components of one entity are changed
 pub record IsChanged (s : Store) (h : Handle) (change : Components → Components)
@@ -40,7 +51,8 @@ pub record IsChanged (s : Store) (h : Handle) (change : Components → Component
   pub spare : room - length living ≡ s.spare
   pub kept : IsKeptIndex living index room
 
-module _ (living : List LivingEntity) (index : FinMap handle_cmp ℕ) (room : ℕ) (kept : IsKeptIndex living index room)
+module _ (living : List LivingEntity) (index : FinMap handle_cmp ℕ) (room : ℕ)
+    (kept : IsKeptIndex living index room)
     (h : Handle) (i : ℕ) (placed : fin_get (counted living index) h ≡ Some i) where
   abbrev was : LivingEntity
   was = get_or living i (some_entity h)

@@ -1,5 +1,7 @@
 -- A bundle has no more items than there are components.
-use Rattle.ent_storage.proofs.Common.{rules, ◌+◌, ◌≤◌, ℤ, [], ◌∷◌, length, arith, T, All, All-head, All-tail, is_sorted, component_cmp, ComponentId, Bundle, IsItem, IsBundle}
+use Rattle.ent_storage.proofs.Common.{rules, ◌+◌, ◌≤◌, ℤ, [], ◌∷◌, length, arith, T, All, All-head}
+use Rattle.ent_storage.proofs.Common.{All-tail, is_sorted, component_cmp, ComponentId, Bundle}
+use Rattle.ent_storage.proofs.Common.{IsItem, IsBundle}
 use Rattle.ent_storage.proofs.Positions.{second}
 
 from_head : (item : ComponentId × ℤ) (items : Bundle) → T (is_sorted component_cmp (item ∷ items))

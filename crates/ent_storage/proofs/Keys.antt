@@ -1,5 +1,12 @@
 -- Keys of a map that are the same or apart, and what a map has at them after a change.
-use Rattle.ent_storage.proofs.Common.{All-map, All-contains, [], ◌∷◌, Option, is_some, false≢true, ◌≡◌, ◌≢◌, Bool, true, false, ◌⊎◌, Some, None, Ordering, refl, rules, arith, eq_by_cmp, IsTotalOrder, false_from_ne_true, FinMap, IsAntisymmetric, ℕ, ◌<◌, ◌≤◌, List, length, mapped, All, AllPairs, eqb, eqb-true, get_or-map, length-map, length-le_from_distinct_below, IsDistinct-from_apart, Contains-from_any, fin_get, fin_get-insert, fin_get-remove, fin_insert, fin_remove, fin_same_map}
+use Rattle.ent_storage.proofs.Common.{All-map, All-contains, [], ◌∷◌, Option, is_some, false≢true}
+use Rattle.ent_storage.proofs.Common.{◌≡◌, ◌≢◌, Bool, true, false, ◌⊎◌, Some, None, Ordering, refl}
+use Rattle.ent_storage.proofs.Common.{rules, arith, eq_by_cmp, IsTotalOrder, false_from_ne_true}
+use Rattle.ent_storage.proofs.Common.{FinMap, IsAntisymmetric, ℕ, ◌<◌, ◌≤◌, List, length, mapped}
+use Rattle.ent_storage.proofs.Common.{All, AllPairs, eqb, eqb-true, get_or-map, length-map}
+use Rattle.ent_storage.proofs.Common.{length-le_from_distinct_below, IsDistinct-from_apart}
+use Rattle.ent_storage.proofs.Common.{Contains-from_any, fin_get, fin_get-insert, fin_get-remove}
+use Rattle.ent_storage.proofs.Common.{fin_insert, fin_remove, fin_same_map}
 use Rattle.ent_storage.proofs.Rising.{equal}
 
 pub some_value : {X : Type 0} (o : Option X) → is_some o ≡ true → (v : X) × (o ≡ Some v)
@@ -53,13 +60,17 @@ pub AllPairs-map : {X Y : Type 0} (R : Y → Y → Type 0) (f : X → Y) (xs : L
 AllPairs-map R f [] all i j d l k = absurd (omega (arith, k))
 AllPairs-map R f (x ∷ xs) all i j d l k =
     let below : j < length (x ∷ xs) = omega (arith, length-map (x ∷ xs) f, k) in
-    rw (get_or-map f (x ∷ xs) i x d (omega arith), get_or-map f (x ∷ xs) j x d below) (all i j x l below)
+    rw (get_or-map f (x ∷ xs) i x d (omega arith), get_or-map f (x ∷ xs) j x d below)
+    (all i j x l below)
 
 -- elements with numbers that are apart, all below n, are no more than n
 pub few_apart : {X : Type 0} (f : X → ℕ) (xs : List X) (n : ℕ) → AllPairs (λ a b. f a ≢ f b) xs
     → All (λ a. f a < n) xs → length xs ≤ n
 few_apart f xs n apart below =
-    let most = length-le_from_distinct_below (mapped f xs) n (IsDistinct-from_apart eqb _ (λ i j d l k. search
-    (rules, false_from_ne_true, eqb-true, AllPairs-map (λ a b. a ≢ b) f xs apart i j d l k))) (λ q any. All-contains
+    let most =
+    length-le_from_distinct_below (mapped f xs) n
+    (IsDistinct-from_apart eqb _ (λ i j d l k. search
+    (rules, false_from_ne_true, eqb-true, AllPairs-map (λ a b. a ≢ b) f xs apart i j d l k))) (λ q
+    any. All-contains
     (λ a. a < n) _ q (All-map (λ a. a < n) f xs below) (Contains-from_any eqb-true q _ any)) in
     omega (arith, most, length-map xs f)

@@ -1,6 +1,15 @@
 -- Lists of pairs whose keys strictly rise, as maps: what an edit at a position leaves.
-use Rattle.ent_storage.proofs.Common.{common_steps, rules, ◌≡◌, ℕ, zero, suc, ◌+◌, ◌-◌, ◌<◌, ◌≤◌, inl, inr, Bool, T, ◌&&◌, List, [], ◌∷◌, length, get_or, set, Some, None, Ordering, refl, sym, ap, subst, ◌∙◌, arith, Less, Equal, Greater, is_eq, IsTotalOrder, insert, HoldsAt, cases_lt, IsAntisymmetric, find, put, is_sorted, is_sorted-put, IsAt, IsGapFor, fin_empty, fin_empty_of_len, fin_entries-from_sorted, fin_entries-insert, fin_from_sorted, fin_get, fin_get-from_sorted, fin_insert, fin_len-entries, fin_same_entries_map}
-use Rattle.ent_storage.proofs.Positions.{second, turn, rising_at, above_head, find_in_gap, inserted, written}
+use Rattle.ent_storage.proofs.Common.{common_steps, rules, ◌≡◌, ℕ, zero, suc, ◌+◌, ◌-◌, ◌<◌, ◌≤◌}
+use Rattle.ent_storage.proofs.Common.{inl, inr, Bool, T, ◌&&◌, List, [], ◌∷◌, length, get_or, set}
+use Rattle.ent_storage.proofs.Common.{Some, None, Ordering, refl, sym, ap, subst, ◌∙◌, arith, Less}
+use Rattle.ent_storage.proofs.Common.{Equal, Greater, is_eq, IsTotalOrder, insert, HoldsAt}
+use Rattle.ent_storage.proofs.Common.{cases_lt, IsAntisymmetric, find, put, is_sorted}
+use Rattle.ent_storage.proofs.Common.{is_sorted-put, IsAt, IsGapFor, fin_empty, fin_empty_of_len}
+use Rattle.ent_storage.proofs.Common.{fin_entries-from_sorted, fin_entries-insert, fin_from_sorted}
+use Rattle.ent_storage.proofs.Common.{fin_get, fin_get-from_sorted, fin_insert, fin_len-entries}
+use Rattle.ent_storage.proofs.Common.{fin_same_entries_map}
+use Rattle.ent_storage.proofs.Positions.{second, turn, rising_at, above_head, find_in_gap, inserted}
+use Rattle.ent_storage.proofs.Positions.{written}
 
 pub both : (a b : Bool) → T a → T b → T (a && b)
 both a b x y = search rules
@@ -20,12 +29,16 @@ module _ {K X : Type 0} {R : K → K → Ordering} (o : IsTotalOrder R) where
   -- the maps of the edited lists
   pub from_sorted-put : (es : List (K × X)) (k : K) (v : X) → T (is_sorted R es)
       → fin_from_sorted {R = R} (put R k v es) ≡ fin_insert (fin_from_sorted es) k v
-  from_sorted-put es k v h = fin_same_entries_map _ _ (fin_entries-from_sorted R _ (is_sorted-put R o k v es h)
-      ∙ sym (fin_entries-insert o (fin_from_sorted es) k v ∙ ap (put R k v) (fin_entries-from_sorted R es h)))
+  from_sorted-put es k v h =
+      fin_same_entries_map _ _ (fin_entries-from_sorted R _ (is_sorted-put R o k v es h)
+      ∙ sym
+      (fin_entries-insert o (fin_from_sorted es) k v
+      ∙ ap (put R k v) (fin_entries-from_sorted R es h)))
 
 -- a key between two neighbours is between all pairs before and all after
-pub gap_from_neighbours : {K X : Type 0} {R : K → K → Ordering} (o : IsTotalOrder R) (es : List (K × X)) (k : K) (p : ℕ)
-    → T (is_sorted R es) → p ≤ length es → ((j : ℕ) → j + 1 ≡ p → HoldsAt (λ e. R e.0 k ≡ Less) es j)
+pub gap_from_neighbours : {K X : Type 0} {R : K → K → Ordering} (o : IsTotalOrder R)
+    (es : List (K × X)) (k : K) (p : ℕ) → T (is_sorted R es) → p ≤ length es
+    → ((j : ℕ) → j + 1 ≡ p → HoldsAt (λ e. R e.0 k ≡ Less) es j)
     → (p < length es → HoldsAt (λ e. R e.0 k ≡ Greater) es p) → IsGapFor R es k p
 gap_from_neighbours {K = K} {X = X} {R = R} o es k p rising l before after = record {
   in_range = l;
@@ -39,13 +52,17 @@ gap_from_neighbours {K = K} {X = X} {R = R} o es k p rising l before after = rec
   ];
 }
 
-pub from_sorted-nil : {K X : Type 0} (R : K → K → Ordering) → fin_from_sorted {X = X} {R = R} [] ≡ fin_empty
-from_sorted-nil R = fin_empty_of_len _ (fin_len-entries _ ∙ ap length (fin_entries-from_sorted R [] tt))
+pub from_sorted-nil : {K X : Type 0} (R : K → K → Ordering)
+    → fin_from_sorted {X = X} {R = R} [] ≡ fin_empty
+from_sorted-nil R =
+    fin_empty_of_len _ (fin_len-entries _ ∙ ap length (fin_entries-from_sorted R [] tt))
 
 -- what an edit leaves, if the pairs stand for a map
-module _ {K X : Type 0} {R : K → K → Ordering} (o : IsTotalOrder R) (same : IsAntisymmetric R) (es : List (K × X))
+module _ {K X : Type 0} {R : K → K → Ordering} (o : IsTotalOrder R) (same : IsAntisymmetric R)
+    (es : List (K × X))
     (h : T (is_sorted R es)) (k : K) (i : ℕ) where
-  pub get_at : (d : K × X) → IsAt R es k i → fin_get (fin_from_sorted {R = R} es) k ≡ Some (get_or es i d).1
+  pub get_at : (d : K × X) → IsAt R es k i
+      → fin_get (fin_from_sorted {R = R} es) k ≡ Some (get_or es i d).1
   get_at d at = fin_get-from_sorted R es k h ∙ find_at o es k i d h at.in_range (at.has_key d)
 
   pub get_in_gap : IsGapFor R es k i → fin_get (fin_from_sorted {R = R} es) k ≡ None

@@ -35,7 +35,8 @@ module _ {T : Type 0} where
   entry_value (Vacant v) = None
 
   -- the second map is the first one, once a handle without a value has this one
-  pub record IsFilled (old : HandleMap T) (h : Handle) (value : T) (new : HandleMap T) : Type 0 where
+  pub record IsFilled (old : HandleMap T) (h : Handle) (value : T) (new : HandleMap T) :
+      Type 0 where
     pub values : new.values ≡ map.insert (without_slot old.values h.index) h value
     pub slots : new.slots ≡ max old.slots (h.index + 1)
     pub room : old.room ≤ new.room
@@ -47,7 +48,8 @@ module _ {T : Type 0} where
   Gives (Vacant v) value new = IsFilled v.map.now v.handle value new
 
   -- why the map refuses a value for the handle, if it does
-  pub record IsRefusal (m : HandleMap T) (h : Handle) (error : Option why.InsertError) : Type 0 where
+  pub record IsRefusal (m : HandleMap T) (h : Handle) (error : Option why.InsertError) :
+      Type 0 where
     pub limit : (error ≡ Some why.TheVariants.Limit) ↔ IsBeyond m.limit h
     pub later : (error ≡ Some why.TheVariants.Later)
         ↔ (¬ (IsBeyond m.limit h) × HasLater m.values h)
@@ -82,6 +84,7 @@ module _ (T : RattleType) where
 
   -- once the borrow ends, the handle has the last value written through it, and after an error
   -- nothing has changed
-  abbrev pub entry_lends : Entry T.Denot → Result (MutBor T.Denot) (HandedBack T.Denot why.InsertError) → Fml
+  abbrev pub entry_lends : Entry T.Denot
+      → Result (MutBor T.Denot) (HandedBack T.Denot why.InsertError) → Fml
   entry_lends e r = LendsSoOk (the_row T) T (entry_ref e) r (λ new value. Gives e value new)
       (λ new. new ≡ entry_map e)

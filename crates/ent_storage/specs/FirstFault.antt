@@ -8,7 +8,8 @@ use Rattle.ent_storage.specs.EntityMap.{EntityMap, value_of}
 use Rattle.ent_handle.specs.Bytes.{word}
 use Rattle.ent_storage.specs.Image.{entity_bytes, width, IsStored}
 use Rattle.ent_storage.specs.declared.image_fault.StorageImageFault.{StorageImageFault}
-use Rattle.ent_storage.specs.declared.image_fault.StorageImageFault.TheVariants.{Length, Width, Entity}
+use Rattle.ent_storage.specs.declared.image_fault.StorageImageFault.TheVariants.{Length, Width}
+use Rattle.ent_storage.specs.declared.image_fault.StorageImageFault.TheVariants.{Entity}
 use Rattle.ent_storage.specs.declared.image_fault.StorageImageFault.TheVariants.{Memory}
 
 -- The bytes begin with those of the first entities, so many, after a width that there may be. What

@@ -1,5 +1,5 @@
--- For `inverse` in `impl Model for Generation`: a generation is kept as a number with a proof that it
--- isn't 0.
+-- For `inverse` in `impl Model for Generation`: a generation is kept as a number with a proof that
+-- it isn't 0.
 use Rattle.std.specs.Prelude.{◌≡◌, ℕ, ◌+◌, ◌-◌, ◌<◌}
 use Rattle.std.proofs.Common.{arith}
 

@@ -6,7 +6,8 @@ use mir.Syntax.{named}
 use Rattle.ent_handle.specs.HandedBack.{HandedBack}
 use Rattle.ent_handle.specs.Handle.{Handle}
 use Rattle.ent_storage.specs.HandleMap.{HasLater, IsBeyond, without_slot}
-use Rattle.ent_storage.specs.SparseMap.{SparseMap, IsFullFor, HasNone, with_written_in, some_written}
+use Rattle.ent_storage.specs.SparseMap.{SparseMap, IsFullFor, HasNone, with_written_in}
+use Rattle.ent_storage.specs.SparseMap.{some_written}
 use Rattle.ent_storage.specs.declared.sparse_map.entry.Entry.{Entry}
 pub use Rattle.ent_storage.specs.declared.sparse_map.entry.Entry.TheVariants.{Occupied, Vacant}
 use Rattle.ent_storage.specs.declared.sparse_map.entry.OccupiedEntry.{OccupiedEntry}
@@ -35,7 +36,8 @@ module _ {T : Type 0} where
   entry_value (Vacant v) = None
 
   -- the second map is the first one, once a handle without a value has this one
-  pub record IsFilled (old : SparseMap T) (h : Handle) (value : T) (new : SparseMap T) : Type 0 where
+  pub record IsFilled (old : SparseMap T) (h : Handle) (value : T) (new : SparseMap T) :
+      Type 0 where
     pub values : new.values ≡ map.insert (without_slot old.values h.index) h value
     pub slots : old.slots ≤ new.slots
     pub room : old.room ≤ new.room
@@ -54,7 +56,8 @@ module _ {T : Type 0} where
   Gives (Vacant v) value new = IsFilled v.map.now v.handle value new
 
   -- why the map refuses a value for the handle, if it does
-  pub record IsRefusal (m : SparseMap T) (h : Handle) (error : Option why.InsertError) : Type 0 where
+  pub record IsRefusal (m : SparseMap T) (h : Handle) (error : Option why.InsertError) :
+      Type 0 where
     pub limit : (error ≡ Some why.TheVariants.Limit) ↔ IsBeyond m.limit h
     pub later : (error ≡ Some why.TheVariants.Later)
         ↔ (¬ (IsBeyond m.limit h) × HasLater m.values h)
@@ -90,6 +93,7 @@ module _ (T : RattleType) where
 
   -- once the borrow ends, the handle has the last value written through it, and after an error
   -- there may be more room
-  abbrev pub entry_lends : Entry T.Denot → Result (MutBor T.Denot) (HandedBack T.Denot why.InsertError) → Fml
+  abbrev pub entry_lends : Entry T.Denot
+      → Result (MutBor T.Denot) (HandedBack T.Denot why.InsertError) → Fml
   entry_lends e r = LendsSoOk (the_row T) T (entry_ref e) r (λ new value. Gives e value new)
       (λ new. IsRoomier (entry_map e) new)

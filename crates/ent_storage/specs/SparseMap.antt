@@ -72,7 +72,8 @@ module _ {T : Type 0} where
 
   -- the second map has a clone of each value of the first one, and no other value
   abbrev pub AreCloned : (T → T → Type 0) → HandleValues T → HandleValues T → Type 0
-  AreCloned is_clone old new = (h : Handle) → IsClonedOption is_clone (map.get old h) (map.get new h)
+  AreCloned is_clone old new = (h : Handle)
+      → IsClonedOption is_clone (map.get old h) (map.get new h)
 
   -- both entries are of the same handle, and the second value is a clone of the first one
   abbrev pub IsEntryClone : (T → T → Type 0) → Handle × T → Handle × T → Type 0

@@ -1,6 +1,7 @@
 //! Entities as bytes, and back: what the image of a world has of its living ones.
 ghost use Rattle.std.specs.Prelude.{◌≡◌, ◌≢◌, ◌+◌, ◌*◌, ◌<◌, ◌≤◌, ◌++◌, ℕ, ℤ, List, [], ◌∷◌};
-ghost use Rattle.std.specs.Prelude.{Option, None, Some, IfSome, IfNone, OnSome, IsSomeAnd, IfOk, IfErr};
+ghost use Rattle.std.specs.Prelude.{Option, None, Some, IfSome, IfNone, OnSome, IsSomeAnd, IfOk};
+ghost use Rattle.std.specs.Prelude.{IfErr};
 ghost use Rattle.std.specs.Prelude.{OnOk, OnErr, IsTrue, Contains, AllPairs};
 ghost use Rattle.std.specs.Prelude.{length, is_some, true, slice_get, vec_len, vec_capacity};
 ghost use Rattle.std.specs.Int.{w64};

@@ -1,4 +1,5 @@
-ghost use Rattle.std.specs.Prelude.{◌≡◌, ◌<◌, ◌≤◌, T, OnOk, OnErr, IsOk, None, Some, IsSome, length, []};
+ghost use Rattle.std.specs.Prelude.{◌≡◌, ◌<◌, ◌≤◌, T, OnOk, OnErr, IsOk, None, Some, IsSome};
+ghost use Rattle.std.specs.Prelude.{length, []};
 ghost use Rattle.std.specs.Prelude.{vec_len, vec_capacity, ◌+◌, IfSome, IsTrue};
 ghost use Rattle.std.specs.Prelude.{IfOk, IfErr, is_none};
 ghost use Rattle.std.specs.FinMap as map;

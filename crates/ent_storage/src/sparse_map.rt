@@ -8,7 +8,8 @@ ghost use Rattle.std.specs.Borrow.{sem};
 ghost use Rattle.std.specs.FinMap as map;
 ghost use Rattle.ent_handle.specs.Handle.{Handle};
 ghost use Rattle.ent_storage.specs.HandleMap.{no_limit, IsBeyond, without_slot, HasLater, error_of};
-ghost use Rattle.ent_storage.specs.SparseMap.{AreEntries, HasNone, IsFullFor, IsPositioned, values_of};
+ghost use Rattle.ent_storage.specs.SparseMap.{AreEntries, HasNone, IsFullFor, IsPositioned};
+ghost use Rattle.ent_storage.specs.SparseMap.{values_of};
 ghost use Rattle.ent_storage.specs.SparseMap.{AreCloned, IsEntryClone, IsFree};
 
 mod entry;

@@ -1,4 +1,5 @@
-ghost use Rattle.std.specs.Prelude.{◌≡◌, ◌+◌, ◌≤◌, ◌<◌, ◌⊎◌, ◌↔◌, IsTrue, IsErrOf, IfOk, IfSome, IfErr};
+ghost use Rattle.std.specs.Prelude.{◌≡◌, ◌+◌, ◌≤◌, ◌<◌, ◌⊎◌, ◌↔◌, IsTrue, IsErrOf, IfOk, IfSome};
+ghost use Rattle.std.specs.Prelude.{IfErr};
 ghost use Rattle.std.specs.Prelude.{OnOk, OnErr, IsOk, None, Some, [], ◌∷◌, ◌++◌};
 ghost use Rattle.std.specs.Prelude.{slice_get, SomeIndex, length};
 ghost use Rattle.ent_handle.specs.Handle.{Handle};

@@ -1,7 +1,12 @@
--- The names that proofs of this crate cite, of std, of the crates below and of its own specs. Declares nothing.
-pub use Rattle.std.proofs.Common.{All, Err, Global, IfErr, IsErrAnd, List, Ok, Result, Vec, [], ap, append_assoc, arith, inl, inr, length, map, refl, reverse, rules, subst, sym, take, vec_len, ℕ, ◌++◌, ◌+◌, ◌-◌, ◌<◌, ◌^◌, ◌↔◌, ◌∙◌, ◌∷◌, ◌≡◌, ◌≢◌, ◌≤◌, ◌⊎◌}
+-- The names that proofs of this crate cite, of std, of the crates below and of its own specs.
+-- Declares nothing.
+pub use Rattle.std.proofs.Common.{All, Err, Global, IfErr, IsErrAnd, List, Ok, Result, Vec, [], ap}
+pub use Rattle.std.proofs.Common.{append_assoc, arith, inl, inr, length, map, refl, reverse, rules}
+pub use Rattle.std.proofs.Common.{subst, sym, take, vec_len, ℕ, ◌++◌, ◌+◌, ◌-◌, ◌<◌, ◌^◌, ◌↔◌, ◌∙◌}
+pub use Rattle.std.proofs.Common.{◌∷◌, ◌≡◌, ◌≢◌, ◌≤◌, ◌⊎◌}
 pub use Rattle.std.proofs.lemmas.Grind.{common_steps}
-pub use Rattle.std.proofs.lemmas.List.{append-nil, length-append, length-take-le, map-append, nil_from_length, take-append-drop, take_all, take_at}
+pub use Rattle.std.proofs.lemmas.List.{append-nil, length-append, length-take-le, map-append}
+pub use Rattle.std.proofs.lemmas.List.{nil_from_length, take-append-drop, take_all, take_at}
 pub use Rattle.std.proofs.lemmas.List.Elements.{All-head, All-more, All-push, All-same, All-tail}
 pub use Rattle.std.specs.Prelude.{IfOk, IsErrOf, OnErr, vec_capacity}
 pub use Rattle.ent_alloc.specs.History.{after_history}

@@ -1,5 +1,10 @@
--- What a reserver was given is recorded, and what a spawn returns is the reply of a reservation, as each of its cases.
-use Rattle.ent_total.proofs.Common.{rules, ◌≡◌, ℕ, List, [], ◌∷◌, ◌++◌, refl, Vec, Global, Result, Ok, Err, IfOk, IfErr, OnErr, IsErrOf, Handle, listed_alone, Refused, Space, Quota, handles_given, Shared, Reserver, given_more, given_no_more, ReserveError, IsReturned, IsRefused, queued, as_list}
+-- What a reserver was given is recorded, and what a spawn returns is the reply of a reservation, as
+-- each of its cases.
+use Rattle.ent_total.proofs.Common.{rules, ◌≡◌, ℕ, List, [], ◌∷◌, ◌++◌, refl, Vec, Global, Result}
+use Rattle.ent_total.proofs.Common.{Ok, Err, IfOk, IfErr, OnErr, IsErrOf, Handle, listed_alone}
+use Rattle.ent_total.proofs.Common.{Refused, Space, Quota, handles_given, Shared, Reserver}
+use Rattle.ent_total.proofs.Common.{given_more, given_no_more, ReserveError, IsReturned, IsRefused}
+use Rattle.ent_total.proofs.Common.{queued, as_list}
 use Rattle.ent_queue.proofs.Gaining.{gains_added}
 use Rattle.ent_queue.specs.Commands.{output_of, reserver_of}
 use Rattle.ent_queue.specs.OfShared.{Issued}
@@ -10,24 +15,29 @@ use Rattle.ent_alloc.specs.declared.reserve_error.ReserveError.TheVariants as fa
 
 module _ (s : Shared) (b a : Reserver) where
   module _ (n : ℕ) where
-    pub unrecorded : {X : Type 0} (r : Result X ReserveError) → ((why : Refused) → r ≡ queued (Err why)
-        → IsReturned s b a n (Err why)) → (IsErrOf r fault.Memory → a ≡ b)
-        → OnErr r (handles_given a.own ≡ handles_given b.own)
+    pub unrecorded : {X : Type 0} (r : Result X ReserveError)
+        → ((why : Refused) → r ≡ queued (Err why) → IsReturned s b a n (Err why))
+        → (IsErrOf r fault.Memory → a ≡ b) → OnErr r (handles_given a.own ≡ handles_given b.own)
     unrecorded (Ok x) replies memory = tt
-    unrecorded (Err (fault.Space wanted left)) replies memory = given_no_more s b a n _ (replies (Space wanted left) refl)
-    unrecorded (Err (fault.Quota left)) replies memory = given_no_more s b a n _ (replies (Quota left) refl)
+    unrecorded (Err (fault.Space wanted left)) replies memory =
+        given_no_more s b a n _ (replies (Space wanted left) refl)
+    unrecorded (Err (fault.Quota left)) replies memory =
+        given_no_more s b a n _ (replies (Quota left) refl)
     unrecorded (Err fault.Memory) replies memory = search (rules, memory refl)
 
-    pub recorded_many : (r : Result (Vec Handle Global) ReserveError) → ((reply : Result (List Handle) Refused)
-        → as_list r ≡ queued reply → IsReturned s b a n reply)
-        → IfOk r (λ hs. handles_given a.own ≡ handles_given b.own ++ hs.items)
+    pub recorded_many : (r : Result (Vec Handle Global) ReserveError)
+        → ((reply : Result (List Handle) Refused) → as_list r ≡ queued reply
+        → IsReturned s b a n reply) → IfOk r (λ hs. handles_given a.own
+        ≡ handles_given b.own ++ hs.items)
     recorded_many (Ok hs) replies = given_more s b a n hs.items (replies (Ok hs.items) refl)
     recorded_many (Err why) replies = tt
 
   abbrev RepliesOne : Result Handle ReserveError → Type 0
-  RepliesOne r = (reply : Result Handle Refused) → r ≡ queued reply → IsReturned s b a 1 (listed_alone reply)
+  RepliesOne r = (reply : Result Handle Refused) → r ≡ queued reply
+      → IsReturned s b a 1 (listed_alone reply)
 
-  pub given_one : (r : Result Handle ReserveError) → RepliesOne r → IfOk r (λ h. IsReturned s b a 1 (Ok (h ∷ [])))
+  pub given_one : (r : Result Handle ReserveError) → RepliesOne r
+      → IfOk r (λ h. IsReturned s b a 1 (Ok (h ∷ [])))
   given_one (Ok h) replies = replies (Ok h) refl
   given_one (Err why) replies = tt
 
@@ -43,14 +53,17 @@ module _ (s : Shared) (b a : Reserver) where
   recorded_one (Err why) replies = tt
 
 -- What a system issued of a phase.
-pub extends_issued : (a b : Issued) → issued.Extends a b → (before after : Commands) → after.number ≡ before.number
-    → after.world ≡ before.world → IsOf after.world.shared after.reserver → output_of a ≡ before.queue
-    → output_of b ≡ after.queue → reserver_of a ≡ before.reserver → reserver_of b ≡ after.reserver → Extends before after
-extends_issued a b e before after number world ready queue_before queue_after reserver_before reserver_after = record {
-  number = number;
-  world = world;
-  ready = ready;
-  added = e.adds.added;
-  queue = rw (queue_before, queue_after) at e.adds.queue;
-  gains = rw (reserver_before, reserver_after) at (gains_added a b e);
-}
+pub extends_issued : (a b : Issued) → issued.Extends a b → (before after : Commands)
+    → after.number ≡ before.number → after.world ≡ before.world
+    → IsOf after.world.shared after.reserver → output_of a ≡ before.queue
+    → output_of b ≡ after.queue → reserver_of a ≡ before.reserver → reserver_of b ≡ after.reserver
+    → Extends before after
+extends_issued a b e before after number world ready queue_before queue_after reserver_before
+    reserver_after = record {
+      number = number;
+      world = world;
+      ready = ready;
+      added = e.adds.added;
+      queue = rw (queue_before, queue_after) at e.adds.queue;
+      gains = rw (reserver_before, reserver_after) at (gains_added a b e);
+    }

@@ -3,7 +3,8 @@ use Rattle.ent_total.proofs.Common.{◌≡◌, ◌≢◌, ◌⊎◌, ◌↔◌, 
 
 module _ {X : Type 0} (first second : X) (differ : second ≢ first) {A B : Type 0} where
   -- the first reason holds just where A does not
-  pub first_reason : (why : X) → ((why ≡ first) × ¬ A) ⊎ ((why ≡ second) × A × B) → (why ≡ first) ↔ ¬ A
+  pub first_reason : (why : X) → ((why ≡ first) × ¬ A) ⊎ ((why ≡ second) × A × B)
+      → (why ≡ first) ↔ ¬ A
   first_reason why r = elim r [
     | inl w ↦ ((λ _. w.1), (λ _. w.0))
     | inr w ↦

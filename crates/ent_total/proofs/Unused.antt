@@ -1,13 +1,17 @@
 -- An allocator that was shared, and from which nobody reserved, is as it was.
-use Rattle.ent_total.proofs.Common.{rules, ◌≡◌, List, [], ◌∷◌, refl, All, All-head, All-tail, Allocator, after_history, Reserver, records_of, own_of_all, history_of}
+use Rattle.ent_total.proofs.Common.{rules, ◌≡◌, List, [], ◌∷◌, refl, All, All-head, All-tail}
+use Rattle.ent_total.proofs.Common.{Allocator, after_history, Reserver, records_of, own_of_all}
+use Rattle.ent_total.proofs.Common.{history_of}
 
 abbrev IsUnused : Reserver → Type 0
 IsUnused r = r.own.entries ≡ []
 
 own-none : (rs : List Reserver) → All IsUnused rs → own_of_all (records_of rs) ≡ []
 own-none [] unused = refl
-own-none (r ∷ rs) unused = search (rules, own_of_all, All-head, All-tail, own-none rs (All-tail IsUnused r rs unused))
+own-none (r ∷ rs) unused =
+    search (rules, own_of_all, All-head, All-tail, own-none rs (All-tail IsUnused r rs unused))
 
-pub nothing-reserved : (s : Allocator) (rs : List Reserver) → All (λ (r : Reserver). r.own.entries ≡ []) rs
+pub nothing-reserved : (s : Allocator) (rs : List Reserver)
+    → All (λ (r : Reserver). r.own.entries ≡ []) rs
     → after_history s (history_of (records_of rs)) ≡ s
 nothing-reserved s rs unused = search (rules, own-none)

@@ -1,12 +1,21 @@
 -- A list is walked, and what each item has is put behind a list.
-use Rattle.ent_total.proofs.Common.{rules, ◌≡◌, ◌+◌, List, [], ◌∷◌, ◌++◌, map, append_assoc, All, length, arith, All-head, All-tail, map-append}
+use Rattle.ent_total.proofs.Common.{rules, ◌≡◌, ◌+◌, List, [], ◌∷◌, ◌++◌, map, append_assoc, All}
+use Rattle.ent_total.proofs.Common.{length, arith, All-head, All-tail, map-append}
 
 module _ {X : Type 0} (yielded : List X) (x : X) where
-  pub walked : (old rest : List X) → old ≡ x ∷ rest → (all : List X) → yielded ++ old ≡ all → (P : X → Type 0)
-      → All P old → ((yielded ++ x ∷ []) ++ rest ≡ all) × P x × All P rest × (length old ≡ length rest + 1)
+  pub walked : (old rest : List X) → old ≡ x ∷ rest → (all : List X) → yielded ++ old ≡ all
+      → (P : X → Type 0) → All P old
+      → ((yielded ++ x ∷ []) ++ rest ≡ all) × P x × All P rest × (length old ≡ length rest + 1)
   walked old rest front all e P left =
-      search (rules, arith, append_assoc, All-head P x rest (rw front at left), All-tail P x rest (rw front at left))
+      search (
+        rules,
+        arith,
+        append_assoc,
+        All-head P x rest (rw front at left),
+        All-tail P x rest (rw front at left),
+      )
 
   pub moved_on : {Y : Type 0} (f : X → Y) (start before after : List Y) (y : X) → y ≡ x
-      → before ≡ start ++ map f yielded → after ≡ before ++ f y ∷ [] → after ≡ start ++ map f (yielded ++ x ∷ [])
+      → before ≡ start ++ map f yielded → after ≡ before ++ f y ∷ []
+      → after ≡ start ++ map f (yielded ++ x ∷ [])
   moved_on f start before after y view moved push = search (rules, append_assoc, map-append)

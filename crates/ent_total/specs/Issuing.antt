@@ -117,7 +117,8 @@ world_opening_code =
     code_by (ℕ × (ℕ × (Opened × List Reserver)))
     (coded× coded_ℕ (coded× coded_ℕ (coded× opened_code (coded_list reserver_code))))
     (λ o. (o.of_world, (o.spawned, (o.world, o.returned))))
-    (λ t. record { of_world = t.0; spawned = t.1.0; world = t.1.1.0; returned = t.1.1.1 }) (λ _. refl)
+    (λ t. record { of_world = t.0; spawned = t.1.0; world = t.1.1.0; returned = t.1.1.1 })
+    (λ _. refl)
 
 abbrev pub open_world_code : Coded OpenWorld
 open_world_code =

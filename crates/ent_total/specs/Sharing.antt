@@ -80,9 +80,9 @@ pub record GivesReply (before after : Reserver) (n : ℕ) (old new : List Handle
   pub many : length given ≡ n
   pub recorded : handles_given after.reserver.own ≡ handles_given before.reserver.own ++ given
 
--- A request for n handles was refused, for the first of these that holds: the quota has too few, there is
--- no memory, the pool has too few. Only in the last case a reservation was made. Nothing is recorded as
--- given.
+-- A request for n handles was refused, for the first of these that holds: the quota has too few,
+-- there is no memory, the pool has too few. Only in the last case a reservation was made. Nothing
+-- is recorded as given.
 pub record IsUnserved (before after : Reserver) (n : ℕ) (error : ReserveError) : Type 0 where
   pub quota_left : IfQuota error (λ left. left ≡ before.reserver.own.left)
   pub memory : error ≡ failed.Memory → MayBeServed before n

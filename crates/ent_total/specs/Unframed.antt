@@ -29,8 +29,8 @@ IsUnrunFor (unframed.Stopped world stopped) why = ⊥
 
 module _ {S : Type 0} (may leave : S → View → List Command → Type 0) (systems : List S)
     (workers : ℕ) where
-  -- What holds if these systems, with reservers of these, filled no queues. Only if they were broken
-  -- off are the reservers lost.
+  -- What holds if these systems, with reservers of these, filled no queues. Only if they were
+  -- broken off are the reservers lost.
   pub record AreUnfilled {J : Type 0} (opened : WorldInBlocks J) (reservers left : List Reserver)
       (error : RunError) : Type 0 where
     pub handed_back : error ≢ failed.Lost → left ≡ reservers
@@ -42,11 +42,12 @@ module _ {S : Type 0} (may leave : S → View → List Command → Type 0) (syst
 
   -- What holds if all systems ran, and the world was not closed. If the reservers are those of all
   -- blocks, in their order, it is because memory ran out.
-  pub record IsUnended {J : Type 0} (opened world : WorldInBlocks J) (reservers left : List Reserver)
+  pub record IsUnended {J : Type 0} (opened world : WorldInBlocks J)
+      (reservers left : List Reserver)
       (error : EndError) (queues : Queues) : Type 0 where
     pub same : world ≡ opened
-    pub issued : HaveIssued may systems (view_in_blocks opened.world) opened.world.blocks.phase.start
-        (blocks_of reservers) queues.queues (blocks_of left)
+    pub issued : HaveIssued may systems (view_in_blocks opened.world)
+        opened.world.blocks.phase.start (blocks_of reservers) queues.queues (blocks_of left)
     pub of : All (λ (r : Reserver). r.number ≡ opened.world.blocks.number) left
     pub of_world : queues.world ≡ opened.of_world
     pub why : IsWhyUnended opened.world.blocks.phase.blocks (blocks_of reservers) error
@@ -54,11 +55,12 @@ module _ {S : Type 0} (may leave : S → View → List Command → Type 0) (syst
         → error ≡ unended.Memory
 
   -- What holds if all systems ran, with the reservers of all blocks, and the sync point stopped.
-  pub record IsHeld {J : Type 0} (opened : WorldInBlocks J) (reservers : List Reserver) (world : World)
+  pub record IsHeld {J : Type 0} (opened : WorldInBlocks J) (reservers : List Reserver)
+      (world : World)
       (why : SyncFault) (queues : Queues) : Type 0 where
     pub all : map unused (blocks_of reservers) ≡ opened.world.blocks.phase.blocks
-    pub stops : StopsInBlocks may systems opened.world (blocks_of reservers) queues.queues world.world
-        why
+    pub stops : StopsInBlocks may systems opened.world (blocks_of reservers) queues.queues
+        world.world why
     pub number : world.number ≡ opened.of_world
     pub counted : world.spawned ≡ spawned_after why opened.spawned
     pub of_world : queues.world ≡ opened.of_world

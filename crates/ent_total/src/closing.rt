@@ -61,7 +61,8 @@ impl<J: Numbering> Shared<J> {
             ↔ (MayReturn self reservers.items
             × (length (all_returned self reservers.items) < self.shared.count)) }
         ensures how_many { IfErr result (λ h. IsMissing h.error
-            → length (all_returned self reservers.items) + count_missing h.error ≡ self.shared.count) }
+            → length (all_returned self reservers.items) + count_missing h.error
+            ≡ self.shared.count) }
         ensures handed_back { IfErr result (λ h. h.error ≢ InUse
             → (h.value.0 ≡ self) × (h.value.1.items ≡ reservers.items)) }
         ensures returned { IfErr result (λ h. h.error ≡ InUse

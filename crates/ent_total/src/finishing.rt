@@ -1,8 +1,10 @@
 //! A phase of a world ends, and gives the world back, with the queues of its systems.
-ghost use Rattle.std.specs.Prelude.{◌≡◌, ◌≢◌, ◌↔◌, ◌+◌, ◌<◌, ◌≤◌, ◌^◌, [], All, IfOk, IfErr, IsErrAnd, length};
+ghost use Rattle.std.specs.Prelude.{◌≡◌, ◌≢◌, ◌↔◌, ◌+◌, ◌<◌, ◌≤◌, ◌^◌, [], All, IfOk, IfErr};
+ghost use Rattle.std.specs.Prelude.{IsErrAnd, length};
 ghost use Rattle.std.specs.Prelude.{IfSome, IsSome, OnOk};
 ghost use Rattle.ent_shared.specs.Phase.{IsOf};
-ghost use Rattle.ent_total.specs.Issuing.{MayReturn, reservers_returned, queues_returned, with_returned};
+ghost use Rattle.ent_total.specs.Issuing.{MayReturn, reservers_returned, queues_returned};
+ghost use Rattle.ent_total.specs.Issuing.{with_returned};
 ghost use Rattle.ent_total.specs.Issuing.{IsClosed, IsClosedLost};
 ghost use Rattle.ent_total.specs.Closing.{IsMissing, count_missing};
 ghost use Rattle.ent_total.specs.declared.close_error.CloseError.TheVariants.{OtherPhase, InUse};

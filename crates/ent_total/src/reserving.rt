@@ -1,6 +1,7 @@
 //! What a reserver reserves: one handle, or many at once.
 ghost use Rattle.std.specs.Prelude.{◌≡◌, ◌↔◌, ◌⊎◌, ◌+◌, ◌<◌, ◌≤◌, [], ◌∷◌, ◌++◌, length};
-ghost use Rattle.std.specs.Prelude.{Ok, Err, IfOk, IfErr, IsErrAnd, OnOk, OnErr, IsOk, IsErrOf, IsTrue};
+ghost use Rattle.std.specs.Prelude.{Ok, Err, IfOk, IfErr, IsErrAnd, OnOk, OnErr, IsOk, IsErrOf};
+ghost use Rattle.std.specs.Prelude.{IsTrue};
 ghost use Rattle.std.specs.Prelude.{vec_len, vec_capacity};
 ghost use Rattle.ent_alloc.specs.Sequential.{listed_alone};
 ghost use Rattle.ent_alloc.specs.declared.refused.Refused.TheVariants as refused;

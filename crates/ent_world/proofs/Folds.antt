@@ -1,5 +1,12 @@
--- Commands in order: what was applied so far, one more, where it stopped, and where it may take memory.
-use Rattle.ent_world.proofs.Common.{[], rules, ◌≡◌, refl, ℕ, ◌+◌, ◌<◌, List, ◌∷◌, ◌++◌, length, take, drop, arith, common_steps, take_more, drop_more, length-drop, Handle, Command, World, Applied, on_each, after_command, after_commands, after_queues, first_part, true, slice_get, Some, zero, suc, max, nat_tests, slice_get-get_or, Bundle, insert_takes_memory, one_takes_memory, command_takes_memory, TakesMemoryIn}
+-- Commands in order: what was applied so far, one more, where it stopped, and where it may take
+-- memory.
+use Rattle.ent_world.proofs.Common.{[], rules, ◌≡◌, refl, ℕ, ◌+◌, ◌<◌, List, ◌∷◌, ◌++◌, length}
+use Rattle.ent_world.proofs.Common.{take, drop, arith, common_steps, take_more, drop_more}
+use Rattle.ent_world.proofs.Common.{length-drop, Handle, Command, World, Applied, on_each}
+use Rattle.ent_world.proofs.Common.{after_command, after_commands, after_queues, first_part, true}
+use Rattle.ent_world.proofs.Common.{slice_get, Some, zero, suc, max, nat_tests, slice_get-get_or}
+use Rattle.ent_world.proofs.Common.{Bundle, insert_takes_memory, one_takes_memory}
+use Rattle.ent_world.proofs.Common.{command_takes_memory, TakesMemoryIn}
 
 -- the next element of a list, of which the first ones are done
 module _ {X : Type 0} (xs rest : List X) (k : ℕ) (x : X) (left : drop k xs ≡ x ∷ rest) where
@@ -21,8 +28,9 @@ some_left xs k lt none = grind (arith, common_steps, length-drop k xs)
 
 -- Handles.
 
-pub on_each-append : (system command : ℕ) (change : Handle → World → World) (xs ys : List Handle) (a : Applied)
-    → on_each system command change (xs ++ ys) a ≡ on_each system command change ys (on_each system command change xs a)
+pub on_each-append : (system command : ℕ) (change : Handle → World → World) (xs ys : List Handle)
+    (a : Applied) → on_each system command change (xs ++ ys) a
+    ≡ on_each system command change ys (on_each system command change xs a)
 on_each-append system command change [] ys a = refl
 on_each-append system command change (x ∷ xs) ys a = on_each-append _ _ _ xs ys _
 
@@ -35,36 +43,39 @@ after_commands-append system command [] ys a = search (rules)
 after_commands-append system command (x ∷ xs) ys a = search
     (rules, after_commands-append system (command + 1) xs ys (after_command system command x a))
 
-pub first_alone : (done : ℕ) (c : Command) (rest : List Command) → first_part done (c ∷ rest) ≡ first_part done (c ∷ [])
+pub first_alone : (done : ℕ) (c : Command) (rest : List Command)
+    → first_part done (c ∷ rest) ≡ first_part done (c ∷ [])
 first_alone done it rest = search rules
 
 -- Queues.
 
 pub after_queues-append : (system : ℕ) (xs ys : List (List Command)) (a : Applied)
-    → after_queues system (xs ++ ys) a ≡ after_queues (system + length xs) ys (after_queues system xs a)
+    → after_queues system (xs ++ ys) a
+    ≡ after_queues (system + length xs) ys (after_queues system xs a)
 after_queues-append system [] ys a = search (rules)
 after_queues-append system (x ∷ xs) ys a = search
     (rules, after_queues-append (system + 1) xs ys (after_commands system 0 x a))
 
 -- Where a command may take memory.
 
-at_takes_memory : (w : World) (items : Bundle) (hs : List Handle) (k : ℕ) → k < length hs → 1 < length items
-    → one_takes_memory w items (slice_get hs k) ≡ true
+at_takes_memory : (w : World) (items : Bundle) (hs : List Handle) (k : ℕ) → k < length hs
+    → 1 < length items → one_takes_memory w items (slice_get hs k) ≡ true
 at_takes_memory w items [] k lt some = absurd (omega arith)
 at_takes_memory w items (h ∷ hs) zero lt some = search (rules, nat_tests)
 at_takes_memory w items (h ∷ hs) (suc k) lt some = at_takes_memory w items hs k (omega arith) some
 
 -- to the first of the handles that are left
-pub stop_takes_memory : (w : World) (items : Bundle) (hs : List Handle) (k : ℕ) → (hs ≡ [] → ⊥) → k < max 1 (length hs)
-    → 1 < length items → one_takes_memory w items (slice_get hs k) ≡ true
+pub stop_takes_memory : (w : World) (items : Bundle) (hs : List Handle) (k : ℕ) → (hs ≡ [] → ⊥)
+    → k < max 1 (length hs) → 1 < length items → one_takes_memory w items (slice_get hs k) ≡ true
 stop_takes_memory w items hs k some_handle lt some = grind (arith, common_steps, at_takes_memory)
 
 -- to the next of them
-pub next_takes_memory : (w : World) (items : Bundle) (hs rest : List Handle) (k : ℕ) (h : Handle) → drop k hs ≡ h ∷ rest
-    → insert_takes_memory w items h ≡ true → one_takes_memory w items (slice_get hs k) ≡ true
+pub next_takes_memory : (w : World) (items : Bundle) (hs rest : List Handle) (k : ℕ) (h : Handle)
+    → drop k hs ≡ h ∷ rest → insert_takes_memory w items h ≡ true
+    → one_takes_memory w items (slice_get hs k) ≡ true
 next_takes_memory w items hs rest k h left takes = search (rules, next_at)
 
 -- at this command of a queue
-pub takes_memory_in : (w : World) (q rest : List Command) (k done : ℕ) (c : Command) → drop k q ≡ c ∷ rest
-    → command_takes_memory w done c ≡ true → TakesMemoryIn w k done q
+pub takes_memory_in : (w : World) (q rest : List Command) (k done : ℕ) (c : Command)
+    → drop k q ≡ c ∷ rest → command_takes_memory w done c ≡ true → TakesMemoryIn w k done q
 takes_memory_in w q rest k done c left takes = search (rules, next_at)

@@ -101,7 +101,8 @@ pub record IsRowFault (rows : Rows) (handles : List Handle) (fault : WorldImageF
   pub first : IsFirstRow rows handles index
 
 -- the bytes behind the allocator's part have this fault
-pub record IsRestFault (handles : List Handle) (rest : List ℕ) (fault : WorldImageFault) : Type 0 where
+pub record IsRestFault (handles : List Handle) (rest : List ℕ) (fault : WorldImageFault) :
+    Type 0 where
   pub why : StorageImageFault
   pub named : fault ≡ Storage why
   pub first : HasStorageFault handles rest why

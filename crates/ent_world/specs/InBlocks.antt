@@ -4,7 +4,8 @@ use Rattle.std.specs.Coded.{Coded, code_by, coded×, coded_ℕ}
 use Rattle.std.specs.FinMap as map
 use Rattle.ent_handle.specs.Handle.{handle_code}
 use Rattle.ent_alloc.specs.Sequential.{Allocator, top}
-use Rattle.ent_blocks.specs.Blocks.{Block, Blocks, Phase, blocks_code, phase_code, after_blocks, dealt}
+use Rattle.ent_blocks.specs.Blocks.{Block, Blocks, Phase, blocks_code, phase_code, after_blocks}
+use Rattle.ent_blocks.specs.Blocks.{dealt}
 use Rattle.ent_storage.specs.EntityMap.{EntityMap, Store, entity_code}
 use Rattle.ent_world.specs.Rows.{AreRows, Rows}
 use Rattle.ent_world.specs.World.{World, IsWorld, world_code}
@@ -35,15 +36,15 @@ world_dealt blocks phase entities =
 abbrev pub world_after : World → List Block → World
 world_after w blocks = record w { allocator = after_blocks w.allocator blocks }
 
--- For invariants: it is a world, its rows are the places, and there is room for the next occupant of each
--- slot that waits.
+-- For invariants: it is a world, its rows are the places, and there is room for the next occupant
+-- of each slot that waits.
 pub record IsPlaced (s : Allocator) (rows : Rows) (phase : ℕ) (store : Store) : Type 0 where
   pub world : IsWorld (record { allocator = s; phase = phase; entities = store.entities })
   pub rows_are : AreRows rows store.places store.entities
   pub room : top s ≤ store.spare
 
--- For invariants: it was a world with nothing reserved, its rows are the places, and there is room for
--- the next occupant of each slot that waits, also if all slots of the blocks do.
+-- For invariants: it was a world with nothing reserved, its rows are the places, and there is room
+-- for the next occupant of each slot that waits, also if all slots of the blocks do.
 pub record IsKeptInBlocks (blocks : Blocks) (phase : ℕ) (store : Store) : Type 0 where
   pub world : IsWorld (world_dealt blocks phase store.entities)
   pub flushed : blocks.start.asked ≡ 0

@@ -11,8 +11,8 @@ use Rattle.ent_queue.specs.Command.{Command, Spawn, SpawnMany, Insert, Remove}
 use Rattle.ent_queue.specs.Command.{Despawn, Refused}
 use Rattle.ent_world.specs.World.{World, lives_in}
 
--- The entity lacks one of the components; or there are several, which are read into a list first; or
--- it is not alive, which is a fault to be listed.
+-- The entity lacks one of the components; or there are several, which are read into a list first;
+-- or it is not alive, which is a fault to be listed.
 abbrev pub insert_takes_memory : World → Bundle → Handle → Bool
 insert_takes_memory w items h = nat_lt 1 (length items)
     || option_map_or (λ held. nat_lt 0 (missing held items)) (components_of w.entities h) true
@@ -28,8 +28,9 @@ despawn_takes_memory w h = is_some (next w.allocator.limits h) || not (lives_in 
 
 -- The command may take memory in this world, at that of its handles: it gives an entity several
 -- components, or one that the entity lacks, frees a handle whose slot is given again, or lists a
--- fault. No other takes any: no spawn of nobody, no empty bundle for who lives, no other value of one
--- component, no component that is taken away from who lives, no despawn by which a slot is retired.
+-- fault. No other takes any: no spawn of nobody, no empty bundle for who lives, no other value of
+-- one component, no component that is taken away from who lives, no despawn by which a slot is
+-- retired.
 abbrev pub command_takes_memory : World → ℕ → Command → Bool
 command_takes_memory w done (Spawn h items) = insert_takes_memory w items h
 command_takes_memory w done (SpawnMany hs items) = one_takes_memory w items (slice_get hs done)

@@ -1,4 +1,5 @@
--- For private contracts and proofs: the components of a command's bundle, read before it takes effect.
+-- For private contracts and proofs: the components of a command's bundle, read before it takes
+-- effect.
 use Rattle.std.specs.Prelude.{◌≡◌, ◌⊎◌, length}
 use Rattle.ent_storage.specs.Bundle.{Bundle}
 

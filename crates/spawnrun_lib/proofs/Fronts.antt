@@ -1,6 +1,17 @@
--- Fronts of texts: of a text that is appended to, of one in printable ASCII, of one of which only the first parts are
--- looked at, and of one that is shown letter after letter or piece after piece.
-use Rattle.spawnrun_lib.proofs.Common.{common_steps, flat_map-append, rules, ◌≡◌, ℕ, suc, ◌+◌, ◌≤◌, ◌<◌, true, List, [], ◌∷◌, ◌++◌, length, take, sym, subst, arith, codes, append_assoc, inl, inr, slice_index, cut_to, floor_char_boundary, is_char_start, cond-true, cond-false, cases_lt, nat_tests, take-append-le, length-take-le, take_all, All-append, All-take, All-cons, All-nil, ArePrintable, IsPrintable, front, append-nil, length-append, flat_map, IsUtf8, nil_from_length, chars-nil, chars_past_char, encode_utf8, chars, ◌^◌, decimal, list_all, is_printable, plain, refl, and_parts, All-head, All-tail, All-weaker, chars-IsAscii, IsAscii-from_all, decimal_by_steps, char_text}
+-- Fronts of texts: of a text that is appended to, of one in printable ASCII, of one of which only
+-- the first parts are looked at, and of one that is shown letter after letter or piece after piece.
+use Rattle.spawnrun_lib.proofs.Common.{common_steps, flat_map-append, rules, ◌≡◌, ℕ, suc, ◌+◌, ◌≤◌}
+use Rattle.spawnrun_lib.proofs.Common.{◌<◌, true, List, [], ◌∷◌, ◌++◌, length, take, sym, subst}
+use Rattle.spawnrun_lib.proofs.Common.{arith, codes, append_assoc, inl, inr, slice_index, cut_to}
+use Rattle.spawnrun_lib.proofs.Common.{floor_char_boundary, is_char_start, cond-true, cond-false}
+use Rattle.spawnrun_lib.proofs.Common.{cases_lt, nat_tests, take-append-le, length-take-le}
+use Rattle.spawnrun_lib.proofs.Common.{take_all, All-append, All-take, All-cons, All-nil}
+use Rattle.spawnrun_lib.proofs.Common.{ArePrintable, IsPrintable, front, append-nil, length-append}
+use Rattle.spawnrun_lib.proofs.Common.{flat_map, IsUtf8, nil_from_length, chars-nil}
+use Rattle.spawnrun_lib.proofs.Common.{chars_past_char, encode_utf8, chars, ◌^◌, decimal, list_all}
+use Rattle.spawnrun_lib.proofs.Common.{is_printable, plain, refl, and_parts, All-head, All-tail}
+use Rattle.spawnrun_lib.proofs.Common.{All-weaker, chars-IsAscii, IsAscii-from_all}
+use Rattle.spawnrun_lib.proofs.Common.{decimal_by_steps, char_text}
 
 pub front-short : (text : List ℕ) → length text ≤ 60 → front text ≡ text
 unfolding front
@@ -74,7 +85,9 @@ unfolding cut_to
 cut_to-long text long at = search (rules, cond-false)
 
 pub cut_is_front : (text : List ℕ) → ArePrintable text → cut_to 60 text ≡ front text
-cut_is_front text h = search (rules, cases_lt, cut_to-long, cut_to-short, front-long, front-short, boundary_at, starts)
+cut_is_front text h =
+    search
+    (rules, cases_lt, cut_to-long, cut_to-short, front-long, front-short, boundary_at, starts)
 
 -- a piece after a piece
 pub go_on : (old new piece more : List ℕ) → new ≡ front (old ++ piece)
@@ -87,22 +100,25 @@ pub length-parts : (part : ℕ → List ℕ) → ((x : ℕ) → 0 < length (part
 length-parts part some [] = omega arith
 length-parts part some (x ∷ xs) = search (rules, length-append, length-parts part some xs)
 
-pub front-of_parts : (part : ℕ → List ℕ) → ((x : ℕ) → 0 < length (part x)) → (xs ys : List ℕ) → 60 < length xs
-    → front (flat_map part (xs ++ ys)) ≡ front (flat_map part xs)
+pub front-of_parts : (part : ℕ → List ℕ) → ((x : ℕ) → 0 < length (part x)) → (xs ys : List ℕ)
+    → 60 < length xs → front (flat_map part (xs ++ ys)) ≡ front (flat_map part xs)
 front-of_parts part some xs ys long = search (rules, flat_map-append, front-past, length-parts)
 
 -- ---- a text letter after letter
 
 -- one more letter of a text that is shown after others
 pub next_letter : (part : ℕ → List ℕ) (old new text rest all : List ℕ) (c : ℕ) → IsUtf8 text
-    → text ≡ encode_utf8 c ++ rest → new ≡ front (old ++ part c) → front (old ++ flat_map part (chars text)) ≡ all
+    → text ≡ encode_utf8 c ++ rest → new ≡ front (old ++ part c)
+    → front (old ++ flat_map part (chars text)) ≡ all
     → front (new ++ flat_map part (chars rest)) ≡ all
-next_letter part old new text rest all c utf8 parts shown so_far = search (rules, go_on, chars_past_char)
+next_letter part old new text rest all c utf8 parts shown so_far =
+    search (rules, go_on, chars_past_char)
 
 -- and all of them
 pub all_letters : (part : ℕ → List ℕ) (old text all : List ℕ) → length text ≡ 0 → length old ≤ 60
     → front (old ++ flat_map part (chars text)) ≡ all → old ≡ all
-all_letters part old text all none short so_far = search (rules, nil_from_length, chars-nil, append-nil, front-short)
+all_letters part old text all none short so_far =
+    search (rules, nil_from_length, chars-nil, append-nil, front-short)
 
 -- ---- pieces of a text that is shown, from nothing on
 
@@ -116,37 +132,41 @@ digit : (n : ℕ) → n < 10 → ArePrintable ((48 + n) ∷ [])
 digit n small = search (rules, All-cons, All-nil)
 
 pub decimal-printable : (n : ℕ) → n < 2 ^ 64 → ArePrintable (decimal n)
-decimal-printable n fits = decimal_by_steps (λ m text. ArePrintable text) digit (grind (arith, common_steps)) n fits
+decimal-printable n fits =
+    decimal_by_steps (λ m text. ArePrintable text) digit (grind (arith, common_steps)) n fits
 
 pub both : (a b : List ℕ) → ArePrintable a → ArePrintable b → ArePrintable (a ++ b)
 both a b = All-append IsPrintable a b
 
-pub three : (a b c : List ℕ) → ArePrintable a → ArePrintable b → ArePrintable c → ArePrintable (a ++ b ++ c)
+pub three : (a b c : List ℕ) → ArePrintable a → ArePrintable b → ArePrintable c
+    → ArePrintable (a ++ b ++ c)
 three a b c first second third = search (rules, All-append)
 
 single : (text : List ℕ) → ArePrintable text → flat_map char_text text ≡ text
 single [] h = refl
-single (x ∷ xs) h = search (rules, All-head, cond-true, All-tail, single xs (All-tail IsPrintable x xs h))
+single (x ∷ xs) h =
+    search (rules, All-head, cond-true, All-tail, single xs (All-tail IsPrintable x xs h))
 
 -- such a text is shown as it is
 pub plain_same : (text : List ℕ) → ArePrintable text → plain text ≡ text
 plain_same text h = search (rules, chars-IsAscii, IsAscii-from_all, All-weaker, single)
 
-pub from_nothing : (nothing text new : List ℕ) → nothing ≡ [] → new ≡ front (nothing ++ text) → new ≡ front text
+pub from_nothing : (nothing text new : List ℕ) → nothing ≡ [] → new ≡ front (nothing ++ text)
+    → new ≡ front text
 from_nothing nothing text new none e = search rules
 
 pub more_text : (old new text : List ℕ) → ArePrintable text → new ≡ front (old ++ plain text)
     → new ≡ front (old ++ text)
 more_text old new text h e = search (rules, front, plain_same)
 
-pub two_pieces : (old mid new first second : List ℕ) → mid ≡ front (old ++ first) → new ≡ front (mid ++ second)
-    → new ≡ front (old ++ (first ++ second))
+pub two_pieces : (old mid new first second : List ℕ) → mid ≡ front (old ++ first)
+    → new ≡ front (mid ++ second) → new ≡ front (old ++ (first ++ second))
 two_pieces old mid new first second a b = search (rules, go_on)
 
 -- ---- printable texts with more behind them
 
-pub added : (old new words : List ℕ) → new ≡ old ++ words → list_all is_printable words ≡ true → ArePrintable old
-    → ArePrintable new
+pub added : (old new words : List ℕ) → new ≡ old ++ words → list_all is_printable words ≡ true
+    → ArePrintable old → ArePrintable new
 added old new words e test h = search (rules, both, passes)
 
 pub counted : (old mid new words : List ℕ) (n : ℕ) → mid ≡ old ++ words → new ≡ mid ++ decimal n

@@ -1,5 +1,13 @@
 -- A birth that is looked up in the list of all entities.
-use Rattle.spawnrun_lib.proofs.Common.{rules, ◌≡◌, ◌≢◌, ◌⊎◌, ℕ, ◌<◌, ◌≤◌, true, false, List, length, get_or, Option, Some, arith, Contains, Ordering, Less, Equal, Greater, eq_by_cmp, is_lt, option_cmp, option_eq, IsTotalOrder, tied_itself, options_total, IsPartitionedBy, cases_lt, false≢true, get_or_default, Birth, birth_cmp, birth_cmp_total, birth_cmp-IsAntisymmetric, Handle, handle_cmp, handle_cmp_total, birth_order, ListsAll, EntityMap, birth_of, same_birth, View, is_before, IsFirstFrom}
+use Rattle.spawnrun_lib.proofs.Common.{rules, ◌≡◌, ◌≢◌, ◌⊎◌, ℕ, ◌<◌, ◌≤◌, true, false, List, length}
+use Rattle.spawnrun_lib.proofs.Common.{get_or, Option, Some, arith, Contains, Ordering, Less, Equal}
+use Rattle.spawnrun_lib.proofs.Common.{Greater, eq_by_cmp, is_lt, option_cmp, option_eq}
+use Rattle.spawnrun_lib.proofs.Common.{IsTotalOrder, tied_itself, options_total, IsPartitionedBy}
+use Rattle.spawnrun_lib.proofs.Common.{cases_lt, false≢true, get_or_default, Birth, birth_cmp}
+use Rattle.spawnrun_lib.proofs.Common.{birth_cmp_total, birth_cmp-IsAntisymmetric, Handle}
+use Rattle.spawnrun_lib.proofs.Common.{handle_cmp, handle_cmp_total, birth_order, ListsAll}
+use Rattle.spawnrun_lib.proofs.Common.{EntityMap, birth_of, same_birth, View, is_before}
+use Rattle.spawnrun_lib.proofs.Common.{IsFirstFrom}
 
 abbrev key_cmp : Option Birth → Option Birth → Ordering
 key_cmp = option_cmp birth_cmp
@@ -8,12 +16,12 @@ key_total : IsTotalOrder key_cmp
 key_total = options_total birth_cmp_total
 
 -- two births that are tested
-pub same_if_equal : (o : Option Birth) (birth : Birth) → option_eq (eq_by_cmp birth_cmp) o (Some birth) ≡ true
-    → o ≡ Some birth
+pub same_if_equal : (o : Option Birth) (birth : Birth)
+    → option_eq (eq_by_cmp birth_cmp) o (Some birth) ≡ true → o ≡ Some birth
 same_if_equal it birth e = search (rules, false≢true, same_birth)
 
-pub other_if_not : (o : Option Birth) (birth : Birth) → option_eq (eq_by_cmp birth_cmp) o (Some birth) ≡ false
-    → o ≢ Some birth
+pub other_if_not : (o : Option Birth) (birth : Birth)
+    → option_eq (eq_by_cmp birth_cmp) o (Some birth) ≡ false → o ≢ Some birth
 other_if_not it birth e is = search rules
 
 -- ---- what tests tell
@@ -25,12 +33,14 @@ module _ (view : View) (birth : Birth) where
   abbrev m : EntityMap
   m = view.entities
 
-  in_order : (a b : Handle) → birth_order m a b ≡ Less → (key_cmp (birth_of m a) (birth_of m b) ≡ Less)
+  in_order : (a b : Handle) → birth_order m a b ≡ Less
+      → (key_cmp (birth_of m a) (birth_of m b) ≡ Less)
       ⊎ ((key_cmp (birth_of m a) (birth_of m b) ≡ Equal) × (handle_cmp a b ≡ Less))
   in_order a b e = search rules
 
   -- who stands before an earlier birth has an earlier birth
-  before_too : (a b : Handle) → birth_order m a b ≡ Less → is_before view birth b ≡ true → is_before view birth a ≡ true
+  before_too : (a b : Handle) → birth_order m a b ≡ Less → is_before view birth b ≡ true
+      → is_before view birth a ≡ true
   before_too a b e is = search (
     rules,
     in_order a b e,
@@ -39,19 +49,27 @@ module _ (view : View) (birth : Birth) where
     less_if,
   )
 
-  pub parted : (handles : List Handle) → ListsAll m handles → IsPartitionedBy (is_before view birth) handles
+  pub parted : (handles : List Handle) → ListsAll m handles
+      → IsPartitionedBy (is_before view birth) handles
   parted handles lists i j d le lt is =
-      search (rules, arith, cases_lt i j, before_too (get_or handles i d) (get_or handles j d), lists.rising i j d)
+      search (
+        rules,
+        arith,
+        cases_lt i j,
+        before_too (get_or handles i d) (get_or handles j d),
+        lists.rising i j d,
+      )
 
   -- who has a birth is listed
-  listed : (handles : List Handle) → ListsAll m handles → (h : Handle) → birth_of m h ≡ Some birth → Contains handles h
+  listed : (handles : List Handle) → ListsAll m handles → (h : Handle) → birth_of m h ≡ Some birth
+      → Contains handles h
   listed handles lists h is = (lists.holds h).1 (search rules)
 
   module _ (handles : List Handle) (lists : ListsAll m handles) (index : ℕ)
       (first : IsFirstFrom view birth handles index) where
     -- who has the birth stands at the index or after it
-    at_or_after : (h : Handle) (k : ℕ) → k < length handles → get_or handles k h ≡ h → birth_of m h ≡ Some birth
-        → index ≤ k
+    at_or_after : (h : Handle) (k : ℕ) → k < length handles → get_or handles k h ≡ h
+        → birth_of m h ≡ Some birth → index ≤ k
     at_or_after h k lt here is = search (rules, cases_lt, false≢true, birth_cmp_total)
 
     module _ (h : Handle) (within : index < length handles) (here : get_or handles index h ≡ h)
@@ -69,9 +87,19 @@ module _ (view : View) (birth : Birth) where
               lists.rising index at.0 g,
             )
 
-        pub least_here : birth_of m h ≡ Some birth → (g : Handle) → birth_of m g ≡ Some birth → handle_cmp h g ≢ Greater
-        least_here own g is greater = search (rules, after g is, in_order h g, tied_itself handle_cmp_total h)
+        pub least_here : birth_of m h ≡ Some birth → (g : Handle) → birth_of m g ≡ Some birth
+            → handle_cmp h g ≢ Greater
+        least_here own g is greater =
+            search (rules, after g is, in_order h g, tied_itself handle_cmp_total h)
 
         pub none_here : birth_of m h ≢ Some birth → (g : Handle) → birth_of m g ≢ Some birth
         none_here other g is =
-            search (rules, arith, first.1 index h, after g is, in_order, false≢true, birth_cmp-IsAntisymmetric)
+            search (
+              rules,
+              arith,
+              first.1 index h,
+              after g is,
+              in_order,
+              false≢true,
+              birth_cmp-IsAntisymmetric,
+            )

@@ -1,5 +1,13 @@
--- A system whose first operations have run: what they have issued, the names that they bound, and their targets.
-use Rattle.spawnrun_lib.proofs.Common.{rules, ◌≡◌, refl, ◌∙◌, ℕ, ◌+◌, ◌<◌, List, [], ◌∷◌, ◌++◌, length, get_or, drop, inr, append_assoc, append-nil, arith, drop_more, Handle, Command, View, Operation, Bindings, unbound, IssuesAll, MayIssue, StopsAmong, names_of, HasIssued, common_steps, set, eqb-suc-zero, eqb-zero-suc, eqb-suc-suc, bound, map, Result, OnOk, OnErr, Memory, Target, IsTargeted, StopsOnEach, Stops, HasIssuedOn, HasStoppedOn, HasStopped, HasStoppedAmong}
+-- A system whose first operations have run: what they have issued, the names that they bound, and
+-- their targets.
+use Rattle.spawnrun_lib.proofs.Common.{rules, ◌≡◌, refl, ◌∙◌, ℕ, ◌+◌, ◌<◌, List, [], ◌∷◌, ◌++◌}
+use Rattle.spawnrun_lib.proofs.Common.{length, get_or, drop, inr, append_assoc, append-nil, arith}
+use Rattle.spawnrun_lib.proofs.Common.{drop_more, Handle, Command, View, Operation, Bindings}
+use Rattle.spawnrun_lib.proofs.Common.{unbound, IssuesAll, MayIssue, StopsAmong, names_of}
+use Rattle.spawnrun_lib.proofs.Common.{HasIssued, common_steps, set, eqb-suc-zero, eqb-zero-suc}
+use Rattle.spawnrun_lib.proofs.Common.{eqb-suc-suc, bound, map, Result, OnOk, OnErr, Memory, Target}
+use Rattle.spawnrun_lib.proofs.Common.{IsTargeted, StopsOnEach, Stops, HasIssuedOn, HasStoppedOn}
+use Rattle.spawnrun_lib.proofs.Common.{HasStopped, HasStoppedAmong}
 use Rattle.std.specs.Prelude.{Ok, Err}
 use Rattle.ent_script.specs.declared.target.Target.TheVariants as target
 
@@ -14,13 +22,14 @@ pub record HasRun (view : View) (ops : List Operation) (i : ℕ) (names : Bindin
   pub stop : (cs : List Command) → StopsAmong view names (drop i ops) cs
       → StopsAmong view unbound ops (added ++ cs)
 
-pub has_begun : (view : View) (ops : List Operation) (start : List Command) (lists : List (List Handle)) → lists ≡ []
-    → HasRun view ops 0 (names_of lists) start start
+pub has_begun : (view : View) (ops : List Operation) (start : List Command)
+    (lists : List (List Handle)) → lists ≡ [] → HasRun view ops 0 (names_of lists) start start
 has_begun view ops start lists none = search (rules, append-nil)
 
-pub has_gone_on : (view : View) (ops : List Operation) (i : ℕ) (op : Operation) (start : List Command)
-    (before after : List Command) (lists lists_after : List (List Handle)) → i < length ops → op ≡ get_or ops i op
-    → HasRun view ops i (names_of lists) start before → HasIssued view op before after lists lists_after
+pub has_gone_on : (view : View) (ops : List Operation) (i : ℕ) (op : Operation)
+    (start : List Command) (before after : List Command) (lists lists_after : List (List Handle))
+    → i < length ops → op ≡ get_or ops i op → HasRun view ops i (names_of lists) start before
+    → HasIssued view op before after lists lists_after
     → HasRun view ops (i + 1) (names_of lists_after) start after
 has_gone_on view ops i op start before after lists lists_after within is run step =
     let from : drop i ops ≡ op ∷ drop (i + 1) ops = cc (drop_more ops i op within) in
@@ -33,8 +42,9 @@ has_gone_on view ops i op start before after lists lists_after within is run ste
           (rw from (inr (step.issued, cs, refl, step.may, rw step.names at may))));
     }
 
-pub has_ended : (view : View) (ops : List Operation) (i : ℕ) (names : Bindings) (start now : List Command)
-    → drop i ops ≡ [] → HasRun view ops i names start now → start ≡ [] → MayIssue ops view now
+pub has_ended : (view : View) (ops : List Operation) (i : ℕ) (names : Bindings)
+    (start now : List Command) → drop i ops ≡ [] → HasRun view ops i names start now → start ≡ []
+    → MayIssue ops view now
 has_ended view ops i names start now none run empty =
     grind (arith, common_steps, append-nil run.added, run.added, run.queue, run.rest)
 
@@ -52,7 +62,8 @@ names_added lists = λ i n. added_at lists n i
 set_at : (lists : List (List Handle)) (hs : List Handle) (n : ℕ) → n < length lists → (m : ℕ)
     → names_of (set lists n hs) m ≡ bound n hs (names_of lists) m
 set_at [] hs n within m = absurd (omega arith)
-set_at (xs ∷ lists) hs n within m = search (rules, arith, eqb-suc-zero, eqb-zero-suc, eqb-suc-suc, set_at lists hs)
+set_at (xs ∷ lists) hs n within m =
+    search (rules, arith, eqb-suc-zero, eqb-zero-suc, eqb-suc-suc, set_at lists hs)
 
 pub names_set : (lists : List (List Handle)) (hs : List Handle) (n : ℕ) → n < length lists
     → names_of (set lists n hs) ≡ bound n hs (names_of lists)
@@ -61,8 +72,9 @@ names_set lists hs n within = λ i m. set_at lists hs n within m i
 -- ---- commands for the handles of a target
 
 pub issued_on : (view : View) (names : Bindings) (on : Target) (command : Handle → Command)
-    (before after : List Command) (hs : List Handle) (result : Result (Unit {0}) Memory) → IsTargeted view names on hs
-    → OnOk result (after ≡ before ++ map command hs) → OnOk result (HasIssuedOn view names on command before after)
+    (before after : List Command) (hs : List Handle) (result : Result (Unit {0}) Memory)
+    → IsTargeted view names on hs → OnOk result (after ≡ before ++ map command hs)
+    → OnOk result (HasIssuedOn view names on command before after)
 issued_on view names on command before after hs it targeted queue = search rules
 
 -- The handles of a target were known when memory ran out.
@@ -88,9 +100,10 @@ pub on_error : (result : Result (Unit {0}) Memory) (P : Type 0) → P → OnErr 
 on_error it P holds = search rules
 
 -- the operation is a change of its target
-pub stopped_in : (view : View) (lists : List (List Handle)) (op : Operation) (on : Target) (command : Handle → Command)
-    (before after : List Command) (result : Result (Unit {0}) Memory)
+pub stopped_in : (view : View) (lists : List (List Handle)) (op : Operation) (on : Target)
+    (command : Handle → Command) (before after : List Command) (result : Result (Unit {0}) Memory)
     → ((issued : List Command) → StopsOnEach view (names_of lists) on command issued
-    → Stops view (names_of lists) op issued) → OnErr result (HasStoppedOn view (names_of lists) on command before after)
+    → Stops view (names_of lists) op issued)
+    → OnErr result (HasStoppedOn view (names_of lists) on command before after)
     → OnErr result (HasStopped view op before after lists)
 stopped_in view lists op on command before after it is stopped = search rules

@@ -1,5 +1,8 @@
 -- The premises of one report by births, at small scripts and texts.
-use Rattle.spawnrun_lib.proofs.Common.{◌≡◌, refl, inr, List, [], ◌∷◌, ◌++◌, All, Some, None, All-head, All-tail, digits, Handle, Script, Operation, NamesNoHandle, NeedsNoHandle, IsWithoutHandles, TellsNoRefusal, requested_in_all, codes}
+use Rattle.spawnrun_lib.proofs.Common.{◌≡◌, refl, inr, List, [], ◌∷◌, ◌++◌, All, Some, None}
+use Rattle.spawnrun_lib.proofs.Common.{All-head, All-tail, digits, Handle, Script, Operation}
+use Rattle.spawnrun_lib.proofs.Common.{NamesNoHandle, NeedsNoHandle, IsWithoutHandles}
+use Rattle.spawnrun_lib.proofs.Common.{TellsNoRefusal, requested_in_all, codes}
 use Rattle.ent_script.specs.declared.operation.Operation.TheVariants as operation
 use Rattle.ent_script.specs.declared.target.Target.TheVariants as target
 use Rattle.ent_world.specs.declared.fault.FaultKind.TheVariants as kind
@@ -13,8 +16,11 @@ of_systems first second = record {
 }
 
 -- one entity, then four more and three: eight requests, though seven slots would do
-eight : requested_in_all (of_systems (operation.Spawn [] (Some 0) ∷ operation.Despawn (target.Name 0)
-    ∷ operation.SpawnMany 4 [] None ∷ []) (operation.SpawnMany 3 [] None ∷ [])) ≡ 8
+eight :
+    requested_in_all
+    (of_systems
+    (operation.Spawn [] (Some 0) ∷ operation.Despawn (target.Name 0) ∷ operation.SpawnMany 4 [] None
+    ∷ []) (operation.SpawnMany 3 [] None ∷ [])) ≡ 8
 eight = refl
 
 -- the second frame names an entity by its handle

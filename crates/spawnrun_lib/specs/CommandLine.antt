@@ -1,5 +1,6 @@
 -- The program's command line, in the words of clap.
-use Rattle.std.specs.Prelude.{◌≡◌, ◌⊎◌, ℕ, List, [], ◌∷◌, ◌<◌, ◌≤◌, map, Option, None, Some, pos, true, codes}
+use Rattle.std.specs.Prelude.{◌≡◌, ◌⊎◌, ℕ, List, [], ◌∷◌, ◌<◌, ◌≤◌, map, Option, None, Some, pos}
+use Rattle.std.specs.Prelude.{true, codes}
 use Rattle.std.specs.Borrow.{Bor}
 use Rattle.clap.specs.Words.{App, IsAmong, Row, Rule, Text, fault_of, first_of, new_app, new_rule}
 use Rattle.clap.specs.Words.{one_of}
@@ -9,7 +10,8 @@ use Rattle.clap.specs.declared.builder.ArgAction.TheVariants.{Set}
 use Rattle.clap.specs.declared.builder.value_parser.ValueParser.TheVariants.{Names, Signed}
 use Rattle.clap.specs.declared.error.kind.ErrorKind.{ErrorKind}
 use Rattle.cli.specs.Fault.{IsFaultAmong}
-use Rattle.cli.specs.Options.{HasNumber, generations_option, number_option, option_number, slots_option}
+use Rattle.cli.specs.Options.{HasNumber, generations_option, number_option, option_number}
+use Rattle.cli.specs.Options.{slots_option}
 use Rattle.cli.specs.declared.line_fault.LineFault.{LineFault}
 use Rattle.ent_alloc.specs.Limits.{AreLimits}
 use Rattle.spawnrun_lib.specs.declared.show.Show.{Show}
@@ -93,7 +95,8 @@ HasShow rows = (show : Show) × (first_of (codes "show") rows ≡ Some (show_tex
 
 -- there are no blocks, or the option's value is a number in its range
 abbrev pub MayHaveBlocks : List Row → Type 0
-MayHaveBlocks rows = (one_of (codes "blocks") rows ≡ None) ⊎ HasNumber (codes "blocks") most_handles rows
+MayHaveBlocks rows =
+    (one_of (codes "blocks") rows ≡ None) ⊎ HasNumber (codes "blocks") most_handles rows
 
 -- a number of workers that the program takes
 abbrev pub AreWorkers : ℕ → Type 0

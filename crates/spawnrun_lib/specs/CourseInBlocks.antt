@@ -43,8 +43,8 @@ StopsInBlocks sizes systems workers w =
     HaveStopped MayIssue MayStop systems workers (view_of w) w.allocator
     (blocks_from 0 (length w.allocator.pool) sizes)
 
--- These frames were run from the first world on: whatever text the others have, this one and that are
--- the text of all.
+-- These frames were run from the first world on: whatever text the others have, this one and that
+-- are the text of all.
 pub record HaveGoneInBlocks (names : List (List ℕ)) (size : ℕ) (show : Show) (first now : World)
     (gone : List (List (List Operation))) (text : List ℕ) : Type 0 where
   pub rest : (frames : List (List (List Operation))) (others : List ℕ)

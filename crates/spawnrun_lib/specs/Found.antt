@@ -52,8 +52,8 @@ unshown_text e = codes "; found what there was no memory to show" ++ position_te
 abbrev pub longest_shown : ℕ
 longest_shown = 65536
 
--- For a longer text the line says only where the test failed. For a shorter one it also says what is
--- there, or that there was no memory to show it.
+-- For a longer text the line says only where the test failed. For a shorter one it also says what
+-- is there, or that there was no memory to show it.
 pub record TellsOfScript (text : List ℕ) (e : ReadFault) (found : List ℕ) : Type 0 where
   pub long : longest_shown < length text → found ≡ position_text e
   pub short : length text ≤ longest_shown → TellsOfValue text e found ⊎ (found ≡ unshown_text e)

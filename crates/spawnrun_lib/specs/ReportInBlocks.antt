@@ -1,6 +1,6 @@
--- The report of a script whose systems get their handles from blocks. In each frame each system has a
--- block of its own, so the report follows from the script and the size of the blocks: there is no history
--- in it, no order in which systems ran, and no word of workers.
+-- The report of a script whose systems get their handles from blocks. In each frame each system has
+-- a block of its own, so the report follows from the script and the size of the blocks: there is no
+-- history in it, no order in which systems ran, and no word of workers.
 use Rattle.std.specs.Prelude.{◌≡◌, ℕ, ◌+◌, List, [], ◌∷◌, ◌++◌, length, map}
 use Rattle.ent_handle.specs.Handle.{Handle}
 use Rattle.ent_alloc.specs.Sequential.{born}
@@ -23,12 +23,13 @@ use Rattle.spawnrun_lib.specs.WorldText.{IsWorldText}
 abbrev pub sizes_of : ℕ → List (List Operation) → List ℕ
 sizes_of size systems = map (λ (_ : List Operation). size) systems
 
--- the blocks of a frame: the front of the pool, in the order of the systems. A block is smaller where the
--- pool ends
+-- the blocks of a frame: the front of the pool, in the order of the systems. A block is smaller
+-- where the pool ends
 abbrev pub blocks_of_frame : ℕ → World → List (List Operation) → List Block
 blocks_of_frame size w systems = blocks_from 0 (length w.allocator.pool) (sizes_of size systems)
 
--- Each system has a queue that it may issue, and the handles of its spawns are the next ones of its block.
+-- Each system has a queue that it may issue, and the handles of its spawns are the next ones of its
+-- block.
 abbrev pub AreQueues : ℕ → World → List (List Operation) → List (List Command) → Type 0
 AreQueues size w systems queues =
     let blocks = blocks_of_frame size w systems in
@@ -44,10 +45,10 @@ reserved_in size w systems queues =
 abbrev pub IsTextFrom : List (List ℕ) → ℕ → Show → ℕ → World → List (List (List Operation)) → List ℕ
     → Type 0
 IsTextFrom names size show number w [] text = IsWorldText names show w.entities text
-IsTextFrom names size show number w (systems ∷ frames) text =
-    (queues : List (List Command)) × (rest : List ℕ) × AreQueues size w systems queues
-    × IsTextFrom names size show (number + 1) (sync queues (reserved_in size w systems queues)).world
-    frames rest
+IsTextFrom names size show number w (systems ∷ frames) text = (queues : List (List Command))
+    × (rest : List ℕ) × AreQueues size w systems queues
+    × IsTextFrom names size show (number + 1)
+    (sync queues (reserved_in size w systems queues)).world frames rest
     × (text ≡ frame_text show number (born (reserved_in size w systems queues).allocator)
     (sync queues (reserved_in size w systems queues)).faults ++ rest)
 

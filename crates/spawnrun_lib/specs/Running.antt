@@ -40,8 +40,8 @@ abbrev pub Runs : ℕ → Show → List ℕ → List ℕ → Type 0
 Runs workers show input text = (script : Script) × (script_of_text input ≡ Ok script)
     × IsScriptReport script workers show text
 
--- The text is that of the script that the input means, in blocks of this size, and the script has no
--- other one. So it is the same however many workers there are, and in whatever order they ran.
+-- The text is that of the script that the input means, in blocks of this size, and the script has
+-- no other one. So it is the same however many workers there are, and in whatever order they ran.
 abbrev pub RunsInBlocks : ℕ → Show → List ℕ → List ℕ → Type 0
 RunsInBlocks size show input text = (script : Script) × (script_of_text input ≡ Ok script)
     × IsTextInBlocks script size show text

@@ -1,5 +1,6 @@
 //! The first of several keys, members or names that fails its test.
-ghost use Rattle.std.specs.Prelude.{◌≡◌, [], Some, false, map, option_and_then, option_map, string_bytes};
+ghost use Rattle.std.specs.Prelude.{◌≡◌, [], Some, false, map, option_and_then, option_map};
+ghost use Rattle.std.specs.Prelude.{string_bytes};
 ghost use Rattle.std.specs.Prelude.{unwrap_or};
 ghost use Rattle.std.specs.List.{list_any};
 ghost use Rattle.serde_json.specs.View.{view};

@@ -1,5 +1,12 @@
--- What is said of a trace whose first line can't be. The edits in must-fail/ say something else of it.
-use Rattle.tracecheck.proofs.Common.{no_middle, rules, ◌≡◌, ℕ, ◌+◌, ◌^◌, ◌<◌, List, [], ◌∷◌, ◌++◌, length, take, None, Some, Ok, Err, refl, arith, if◌then◌else◌, common_steps, Handle, Space, Limits, Allocator, cursor, opening, Difference, Call, Reservation, AreAnswered, Fits, FitsReserved, IsOrderOf, after_line, line_of, words_of, calls_from, requested_from, AskFew, HasTaken, IsVerdict, asks_too_many, differs, Checking, Bool, true}
+-- What is said of a trace whose first line can't be. The edits in must-fail/ say something else of
+-- it.
+use Rattle.tracecheck.proofs.Common.{no_middle, rules, ◌≡◌, ℕ, ◌+◌, ◌^◌, ◌<◌, List, [], ◌∷◌, ◌++◌}
+use Rattle.tracecheck.proofs.Common.{length, take, None, Some, Ok, Err, refl, arith, if◌then◌else◌}
+use Rattle.tracecheck.proofs.Common.{common_steps, Handle, Space, Limits, Allocator, cursor}
+use Rattle.tracecheck.proofs.Common.{opening, Difference, Call, Reservation, AreAnswered, Fits}
+use Rattle.tracecheck.proofs.Common.{FitsReserved, IsOrderOf, after_line, line_of, words_of}
+use Rattle.tracecheck.proofs.Common.{calls_from, requested_from, AskFew, HasTaken, IsVerdict}
+use Rattle.tracecheck.proofs.Common.{asks_too_many, differs, Checking, Bool, true}
 use Rattle.ent_replay.specs.declared.trace.call.Call.TheVariants as line
 use Rattle.ent_replay.specs.declared.trace.reply.ReserveReply.TheVariants as reserve
 use Rattle.tracecheck.specs.declared.verdict.Verdict.TheVariants as verdict
@@ -7,9 +14,11 @@ use Rattle.tracecheck.specs.declared.verdict.Refusal.TheVariants as refusal
 
 -- a request for none that was refused
 abbrev pub never : ℕ → ℕ → Reservation
-never number caller = record { number = number; caller = caller; requested = 0; reply = reserve.Space }
+never number caller =
+    record { number = number; caller = caller; requested = 0; reply = reserve.Space }
 
-none_refused : (b : Bool) (x : List Handle) (e : Space) → b ≡ true → FitsReserved reserve.Space (if b then Ok x else Err
+none_refused : (b : Bool) (x : List Handle) (e : Space) → b ≡ true
+    → FitsReserved reserve.Space (if b then Ok x else Err
     e) → ⊥
 none_refused it x e is fits = grind (arith, common_steps)
 
@@ -22,7 +31,8 @@ dead : (l : Call) → ((s : Allocator) → Fits s l → ⊥) → (order rest : L
 dead l unfit [] rest s is answered = absurd cc
 dead l unfit (k ∷ order) rest s ([], after, parts, passes, more) answered = search rules
 dead l unfit (k ∷ order) rest s (x ∷ before, after, parts, passes, more) answered =
-    let same : x ≡ l = cc in dead l unfit order (before ++ after) (after_line s k) (rw same at more) answered.1
+    let same : x ≡ l =
+    cc in dead l unfit order (before ++ after) (after_line s k) (rw same at more) answered.1
 
 -- the first line of the trace, and the line that is named
 abbrev first : Reservation
@@ -31,15 +41,17 @@ first = never 1 1
 abbrev named : Reservation
 named = never 1 1
 
-no_order : (s : Allocator) (order : List Call) → IsOrderOf (line.Reserve named ∷ []) order → AreAnswered s order → ⊥
+no_order : (s : Allocator) (order : List Call) → IsOrderOf (line.Reserve named ∷ []) order
+    → AreAnswered s order → ⊥
 no_order s order is answered = search (rules, dead, never_fits)
 
 -- of the two lines only the first may come next
-only_first : (s : Allocator) (next : Call) (left : List Call) → IsOrderOf (line.Reserve named ∷ line.Flush None ∷ [])
-    (next ∷ left) → Fits s next → ⊥
+only_first : (s : Allocator) (next : Call) (left : List Call)
+    → IsOrderOf (line.Reserve named ∷ line.Flush None ∷ []) (next ∷ left) → Fits s next → ⊥
 only_first s next left ([], after, parts, passes, more) fits = search (rules, never_fits)
 only_first s next left (b ∷ [], after, parts, passes, more) fits = search rules
-only_first s next left (b ∷ d ∷ before, after, parts, passes, more) fits = no_middle before after next cc
+only_first s next left (b ∷ d ∷ before, after, parts, passes, more) fits =
+    no_middle before after next cc
 
 -- the state in which it is compared
 abbrev state : Limits → Allocator
@@ -54,7 +66,8 @@ said limits = record {
   cursor = cursor (state limits);
 }
 
-module _ (limits : Limits) (one two : List ℕ) (read : calls_from 1 (one ∷ []) ≡ Ok (line.Reserve first ∷ [])) where
+module _ (limits : Limits) (one two : List ℕ)
+    (read : calls_from 1 (one ∷ []) ≡ Ok (line.Reserve first ∷ [])) where
   few : AskFew 0 (line.Reserve first ∷ [])
   few = (omega arith, omega arith)
 
@@ -64,7 +77,16 @@ module _ (limits : Limits) (one two : List ℕ) (read : calls_from 1 (one ∷ []
     number = 2;
     calls = line.Reserve first ∷ [];
     next = line.Flush None;
-    stands = record { before = one ∷ []; text = two; after = []; is = refl; number_is = refl; read = read; named = is };
+    stands =
+        record {
+          before = one ∷ [];
+          text = two;
+          after = [];
+          is = refl;
+          number_is = refl;
+          read = read;
+          named = is;
+        };
     alone = tt;
     few = few;
     checked = record { allocator = state limits; run = named ∷ [] };
@@ -90,16 +112,19 @@ module _ (limits : Limits) (one two : List ℕ) (read : calls_from 1 (one ∷ []
   })
 
 -- a trace is refused for its requests since the last flush
-pub refuses_too_many : (limits : Limits) (texts after : List (List ℕ)) (text : List ℕ) (r : Reservation)
-    (old : Checking) (h : HasTaken (opening limits) texts old) → line_of (length texts + 1) (words_of text) ≡ Ok (Some
-    (line.Reserve r)) → 2 ^ 50 < requested_from 0 (h.calls ++ line.Reserve r ∷ [])
-    → IsVerdict (opening limits) (texts ++ text ∷ after) (verdict.Refused (length texts + 1) refusal.Requests)
-refuses_too_many limits texts after text r old h named many = asks_too_many (length texts + 1) (record {
-  calls = h.calls;
-  next = line.Reserve r;
-  stands = search rules;
-  checked = old.comparer;
-  reached = h.reached;
-  few = h.few;
-  many = many;
-})
+pub refuses_too_many : (limits : Limits) (texts after : List (List ℕ)) (text : List ℕ)
+    (r : Reservation) (old : Checking) (h : HasTaken (opening limits) texts old)
+    → line_of (length texts + 1) (words_of text) ≡ Ok (Some (line.Reserve r))
+    → 2 ^ 50 < requested_from 0 (h.calls ++ line.Reserve r ∷ [])
+    → IsVerdict (opening limits) (texts ++ text ∷ after)
+    (verdict.Refused (length texts + 1) refusal.Requests)
+refuses_too_many limits texts after text r old h named many =
+    asks_too_many (length texts + 1) (record {
+      calls = h.calls;
+      next = line.Reserve r;
+      stands = search rules;
+      checked = old.comparer;
+      reached = h.reached;
+      few = h.few;
+      many = many;
+    })

@@ -15,7 +15,8 @@ pub record HasTaken (begin : Allocator) (texts : List (List ℕ)) (c : Checking)
   pub read : calls_from 1 texts ≡ Ok calls
   pub follow : AllFollow (begun begin) calls c.comparer
   pub reached : ReachesAll (begun begin) calls c.comparer
-  pub requested : c.comparer.allocator.asked + requested_in c.comparer.run ≡ requested_from begin.asked calls
+  pub requested : c.comparer.allocator.asked + requested_in c.comparer.run
+      ≡ requested_from begin.asked calls
   pub few : AskFew begin.asked calls
   pub lines : c.lines ≡ length texts
   pub given : c.given ≡ sum_by given_in calls

@@ -51,8 +51,8 @@ is_written option rows = is_of_words (option_and_then (λ (row : Row). row.sourc
 abbrev pub has_limits : List Row → Bool
 has_limits rows = is_written (codes "slots") rows || is_written (codes "generations") rows
 
--- a trace begins empty, within limits, or with the allocator whose image is in the file that is named,
--- which has its own limits
+-- a trace begins empty, within limits, or with the allocator whose image is in the file that is
+-- named, which has its own limits
 abbrev pub HasBeginning : List Row → Beginning → Type 0
 HasBeginning rows (begin.Limits limits) =
     (first_of (codes "from") rows ≡ None) × AreGiven rows limits

@@ -36,8 +36,8 @@ abbrev pub IsSaidOf : Allocator → Status → List ℕ → List ℕ → Type 0
 IsSaidOf begin ended text written = (v : Verdict) × IsVerdict begin (lines_of text) v
     × (status_of v ≡ ended) × (written ≡ verdict_text v)
 
--- A line was written that may be said of the trace, which begins in the state that has this image. Or
--- the bytes are no image, their first fault was written, and the trace is unread.
+-- A line was written that may be said of the trace, which begins in the state that has this image.
+-- Or the bytes are no image, their first fault was written, and the trace is unread.
 abbrev pub HasSaidFrom : List ℕ → Status → Type 0 → Option (List ℕ) → Option (List ℕ)
     → Option (List ℕ) → Type 0
 HasSaidFrom bytes ended unread input old new =

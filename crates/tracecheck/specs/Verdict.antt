@@ -47,8 +47,8 @@ pub record AreTaken (begin : Allocator) (lines : List (List ℕ)) (number : ℕ)
   pub checked : Checked
   pub reached : ReachesAll (begun begin) calls checked
 
--- The calls before this line were taken. With its call, which is no reservation, the difference shows,
--- and no trace that goes on after it agrees.
+-- The calls before this line were taken. With its call, which is no reservation, the difference
+-- shows, and no trace that goes on after it agrees.
 pub record DiffersAt (begin : Allocator) (lines : List (List ℕ)) (d : Difference) : Type 0 where
   pub number : ℕ
   pub calls : List Call
@@ -71,8 +71,8 @@ pub record DiffersInAll (begin : Allocator) (lines : List (List ℕ)) (d : Diffe
   pub shows : Shows checked 0 [] d
   pub none : Agrees (begin) calls → ⊥
 
--- The calls before this line were taken. Only with its call more was requested since the last flush than
--- an allocator counts.
+-- The calls before this line were taken. Only with its call more was requested since the last flush
+-- than an allocator counts.
 pub record AsksAt (begin : Allocator) (lines : List (List ℕ)) (number : ℕ) : Type 0 where
   pub calls : List Call
   pub next : Call
@@ -82,8 +82,8 @@ pub record AsksAt (begin : Allocator) (lines : List (List ℕ)) (number : ℕ) :
   pub few : AskFew begin.asked calls
   pub many : 2 ^ 50 < requested_from begin.asked (calls ++ next ∷ [])
 
--- What may be said of the trace of these lines. Nothing else is said once more was requested than an
--- allocator counts.
+-- What may be said of the trace of these lines. Nothing else is said once more was requested than
+-- an allocator counts.
 pub data IsVerdict (begin : Allocator) (lines : List (List ℕ)) : Verdict → Type 0 where
   -- they are a trace, and it agrees
   agrees : (calls : List Call) → calls_from 1 lines ≡ Ok calls → AskFew begin.asked calls
@@ -125,7 +125,8 @@ pool_words (h ∷ front) =
 -- the state in which a line differs
 abbrev pub state_text : List Handle → ℤ → List ℕ
 state_text front at =
-    codes "pool" ++ spaced (pool_words front) ++ codes ", cursor " ++ signed_decimal at ++ codes "\n"
+    codes "pool" ++ spaced (pool_words front) ++ codes ", cursor " ++ signed_decimal at
+    ++ codes "\n"
 
 abbrev pub difference_lines : Difference → List ℕ
 difference_lines d = difference_text d ++ codes "\n" ++ state_text d.front d.cursor

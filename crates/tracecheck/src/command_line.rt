@@ -1,13 +1,16 @@
 //! Where a trace begins, by the program's arguments.
-ghost use Rattle.std.specs.Prelude.{◌≡◌, ◌≢◌, ◌⊎◌, ◌∷◌, [], IfOk, IfErr, IfSome, OnOk, OnErr, Ok, Some};
+ghost use Rattle.std.specs.Prelude.{◌≡◌, ◌≢◌, ◌⊎◌, ◌∷◌, [], IfOk, IfErr, IfSome, OnOk, OnErr, Ok};
+ghost use Rattle.std.specs.Prelude.{Some};
 ghost use Rattle.std.specs.Prelude.{None, codes, map, option_map, true, false};
 ghost use Rattle.clap.specs.Words.{app_of, kind_of, rule_of};
 ghost use Rattle.clap.specs.declared.error.kind.ErrorKind.TheVariants.{ArgumentConflict};
 ghost use Rattle.cli.specs.Fault.{IsFaultAmong};
 ghost use Rattle.cli.specs.Options.{HasNumber, given};
 ghost use Rattle.tracecheck.specs.CommandLine.{AsksFor, HasBeginning, IsFaultIn, IsFaulty};
-ghost use Rattle.tracecheck.specs.CommandLine.{fault_in, from_option, has_both, has_limits, image_in};
-ghost use Rattle.tracecheck.specs.CommandLine.{is_of_words, is_taken, is_written, program, top_command};
+ghost use Rattle.tracecheck.specs.CommandLine.{fault_in, from_option, has_both, has_limits};
+ghost use Rattle.tracecheck.specs.CommandLine.{image_in};
+ghost use Rattle.tracecheck.specs.CommandLine.{is_of_words, is_taken, is_written, program};
+ghost use Rattle.tracecheck.specs.CommandLine.{top_command};
 
 use clap::error::ErrorKind;
 use clap::parser::ValueSource;

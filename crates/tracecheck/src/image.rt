@@ -1,6 +1,7 @@
 //! The image of the allocator with which a trace begins.
 ghost use Rattle.std.specs.Prelude.{◌≡◌, ◌≢◌, ◌+◌, Err, IfErr, IfOk, IfSome, string_bytes};
-ghost use Rattle.tracecheck.specs.Beginning.{IsImageOf, MayBeUnread, fault_text, refused_image_text};
+ghost use Rattle.tracecheck.specs.Beginning.{IsImageOf, MayBeUnread, fault_text};
+ghost use Rattle.tracecheck.specs.Beginning.{refused_image_text};
 ghost use Rattle.tracecheck.specs.Beginning.{unread_by};
 ghost use Rattle.tracecheck.specs.declared.image.Unread.TheVariants.{Device};
 

@@ -1,10 +1,12 @@
 //! An allocator is dealt in blocks, and the rest of it is shared.
-ghost use Rattle.std.specs.Prelude.{◌≡◌, ◌+◌, ◌<◌, ◌≤◌, ◌++◌, [], IfOk, IfErr, All, length, vec_len};
+ghost use Rattle.std.specs.Prelude.{◌≡◌, ◌+◌, ◌<◌, ◌≤◌, ◌++◌, [], IfOk, IfErr, All, length};
+ghost use Rattle.std.specs.Prelude.{vec_len};
 ghost use Rattle.std.specs.Vec.{vec_capacity};
 ghost use Rattle.ent_alloc.specs.Limits.{quota};
 ghost use Rattle.ent_blocks.specs.Blocks.{blocks_from};
 ghost use Rattle.ent_shared.specs.Phase.{IsOf as IsReserverOf};
-ghost use Rattle.ent_blocks.specs.Overflow.{IsCallerOf, IsFresh, IsPhase, Overflow, own_blocks, past_history};
+ghost use Rattle.ent_blocks.specs.Overflow.{IsCallerOf, IsFresh, IsPhase, Overflow, own_blocks};
+ghost use Rattle.ent_blocks.specs.Overflow.{past_history};
 
 use crate::opening::parts_of;
 use crate::overflow::dealing::{deal, dealt};

@@ -3,7 +3,8 @@ ghost use Rattle.std.specs.Prelude.{◌≡◌, ◌∷◌, [], ◌&&◌, ◌==◌
 ghost use Rattle.std.specs.List.{slice_split};
 ghost use Rattle.std.specs.Str.{bytes_eq};
 ghost use Rattle.ent_replay.specs.Text.{number_told, handle_told, handles_told, words_in, ReadsAs};
-ghost use Rattle.ent_replay.specs.Text.{alloc_told, free_told, freed_told, unfreed_told, state_told};
+ghost use Rattle.ent_replay.specs.Text.{alloc_told, free_told, freed_told, unfreed_told};
+ghost use Rattle.ent_replay.specs.Text.{state_told};
 ghost use Rattle.ent_replay.specs.Text.{len_told, count_in, count_told, born_told, flush_told};
 ghost use Rattle.ent_replay.specs.Text.{space_told};
 ghost use Rattle.ent_replay.specs.Text.{listed_told, reserve_told};

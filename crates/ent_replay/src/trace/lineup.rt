@@ -5,7 +5,8 @@ ghost use Rattle.std.specs.Prelude.{◌^◌, pos, ◌+ℤ◌, ◌≤ℤ◌};
 ghost use Rattle.ent_alloc.specs.Sequential.{cursor, pool_at, reply_from, top};
 ghost use Rattle.ent_alloc.specs.Sound.{IsSound};
 ghost use Rattle.ent_replay.specs.Checker.{requested_in, reservations_of};
-ghost use Rattle.ent_replay.specs.Lineup.{IsLineup, KeepsCallers, NoneFits, all_of, lines_of, reached};
+ghost use Rattle.ent_replay.specs.Lineup.{IsLineup, KeepsCallers, NoneFits, all_of, lines_of};
+ghost use Rattle.ent_replay.specs.Lineup.{reached};
 ghost use Rattle.ent_replay.specs.Lineup.{NamesOne};
 ghost use Rattle.ent_replay.specs.Trace.{AreAnswered, FitsReserved, after_lines, reserve_reply};
 

@@ -1,7 +1,8 @@
 //! A line of a trace, read from its text.
 ghost use Rattle.std.specs.Prelude.{◌≡◌};
 ghost use Rattle.ent_replay.specs.Text.{number_word, handle_word, words_in, words_of, ReadsAs};
-ghost use Rattle.ent_replay.specs.Text.{alloc_line, free_line, flush_line, reserve_line, state_line};
+ghost use Rattle.ent_replay.specs.Text.{alloc_line, free_line, flush_line, reserve_line};
+ghost use Rattle.ent_replay.specs.Text.{state_line};
 ghost use Rattle.ent_replay.specs.Text.{len_line, call_of, line_of};
 
 use crate::trace::answers::{

@@ -1,6 +1,6 @@
--- A frame in blocks: systems fill queues, each from a block of its own, and the sync point applies the
--- queues in the order of the systems. What it ends with depends on the world, the sizes of the blocks
--- and the systems alone: there is no history, and no word of workers.
+-- A frame in blocks: systems fill queues, each from a block of its own, and the sync point applies
+-- the queues in the order of the systems. What it ends with depends on the world, the sizes of the
+-- blocks and the systems alone: there is no history, and no word of workers.
 use Rattle.std.specs.Prelude.{◌≡◌, ℕ, List}
 use Rattle.ent_handle.specs.Handle.{Handle}
 use Rattle.ent_alloc.specs.Sequential.{born}
@@ -26,12 +26,13 @@ abbrev pub reserved_in_blocks : WorldInBlocks → List Block → List (List Comm
 reserved_in_blocks w blocks queues =
     world_after (world_dealt w.blocks.phase w.phase w.entities) (blocks_after_queues blocks queues)
 
--- Each queue is what its system may issue, with handles of its own block, and the frame ends with the
--- world and the report of the sync point of these queues.
+-- Each queue is what its system may issue, with handles of its own block, and the frame ends with
+-- the world and the report of the sync point of these queues.
 pub record EndsInBlocks {S : Type 0} (may : S → View → List Command → Type 0) (systems : List S)
     (opened : WorldInBlocks) (blocks : List Block) (queues : List (List Command)) (after : World)
     (came : List Handle) (faults : List Fault) : Type 0 where
-  pub issued : HaveIssued may systems (view_in_blocks opened) opened.blocks.phase.start blocks queues
+  pub issued : HaveIssued may systems (view_in_blocks opened) opened.blocks.phase.start blocks
+      queues
       (blocks_after_queues blocks queues)
   pub world : after ≡ (sync queues (reserved_in_blocks opened blocks queues)).world
   pub born_are : came ≡ born (reserved_in_blocks opened blocks queues).allocator
@@ -41,7 +42,8 @@ pub record EndsInBlocks {S : Type 0} (may : S → View → List Command → Type
 pub record StopsInBlocks {S : Type 0} (may : S → View → List Command → Type 0) (systems : List S)
     (opened : WorldInBlocks) (blocks : List Block) (queues : List (List Command)) (after : World)
     (fault : SyncFault) : Type 0 where
-  pub issued : HaveIssued may systems (view_in_blocks opened) opened.blocks.phase.start blocks queues
+  pub issued : HaveIssued may systems (view_in_blocks opened) opened.blocks.phase.start blocks
+      queues
       (blocks_after_queues blocks queues)
   pub flush_memory : fault ≡ stop.FlushMemory → after ≡ reserved_in_blocks opened blocks queues
   pub memory : (system command done : ℕ) (so_far : SyncReport)

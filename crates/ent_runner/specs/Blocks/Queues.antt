@@ -1,6 +1,6 @@
--- Systems of a frame that fill queues, each from a block of its own. What comes of it depends on the
--- world, the blocks and the systems alone: there is no history. Workers appear only in how far the
--- systems came if they were broken off.
+-- Systems of a frame that fill queues, each from a block of its own. What comes of it depends on
+-- the world, the blocks and the systems alone: there is no history. Workers appear only in how far
+-- the systems came if they were broken off.
 use Rattle.std.specs.Prelude.{◌≡◌, ℕ, ◌<◌, List, [], ◌∷◌, length, slice_get, Some}
 use Rattle.ent_alloc.specs.Sequential.{Allocator}
 use Rattle.ent_blocks.specs.Blocks.{Block}
@@ -17,8 +17,8 @@ blocks_after_queues (b ∷ blocks) [] = b ∷ blocks
 blocks_after_queues (b ∷ blocks) (queue ∷ queues) =
     after_commands b queue ∷ blocks_after_queues blocks queues
 
--- All systems have run, and each has a queue that it may issue. The handles of each queue are the next
--- ones of the system's block.
+-- All systems have run, and each has a queue that it may issue. The handles of each queue are the
+-- next ones of the system's block.
 pub record HaveIssued {S : Type 0} (may : S → View → List Command → Type 0) (systems : List S)
     (view : View) (s : Allocator) (before : List Block) (queues : List (List Command))
     (after : List Block) : Type 0 where
@@ -39,7 +39,7 @@ pub record HaveStopped {S : Type 0} (may leave : S → View → List Command →
   pub run : AreRun workers count ran
   -- what each of them had issued when it ended or stopped
   pub queues : List (List Command)
-  pub short : StopShort (SystemMayIssue may systems view) (SystemMayIssue leave systems view) queues []
-      (length systems) count ran
+  pub short : StopShort (SystemMayIssue may systems view) (SystemMayIssue leave systems view) queues
+      [] (length systems) count ran
   pub draws : (n : ℕ) (block : Block) → n < count → slice_get before n ≡ Some block
       → AreDrawnBy s block (queue_at queues n)

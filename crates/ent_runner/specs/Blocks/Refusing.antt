@@ -1,12 +1,12 @@
--- When systems in blocks are refused before any of them runs, as one fact: each field is a clause of
--- `run_frame_in_blocks`, `fill_in_blocks` and `run_in_blocks`.
+-- When systems in blocks are refused before any of them runs, as one fact: each field is a clause
+-- of `run_frame_in_blocks`, `fill_in_blocks` and `run_in_blocks`.
 use Rattle.std.specs.Prelude.{◌≡◌, ◌≢◌, ◌<◌, ◌≤◌, ◌^◌, ◌↔◌, ◌⊎◌, ℕ, List, length, All}
 use Rattle.ent_blocks.specs.Blocks.{Reserver}
 use Rattle.ent_runner.specs.declared.blocks.run_error.RunError.{RunError}
 use Rattle.ent_runner.specs.declared.blocks.run_error.RunError.TheVariants as failed
 
--- That many systems run on that many workers, with these reservers in the phase of this number. The run
--- is refused for an error if this holds of it.
+-- That many systems run on that many workers, with these reservers in the phase of this number. The
+-- run is refused for an error if this holds of it.
 pub record IsRefused (workers systems number : ℕ) (reservers : List Reserver)
     (refuses : RunError → Type 0) : Type 0 where
   pub workers_are : refuses failed.Workers ↔ ((workers ≡ 0) ⊎ (64 < workers))

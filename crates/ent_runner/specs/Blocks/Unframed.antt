@@ -28,9 +28,11 @@ IfUnrun P (unframed.Sync world fault queues) = Unit {0}
 
 -- what holds if the world was not closed
 abbrev pub IfUnended : {J : Type 0}
-    → (WorldInBlocks → List Reserver → EndError → List (List Command) → Type 0) → Unframed J → Type 0
+    → (WorldInBlocks → List Reserver → EndError → List (List Command) → Type 0) → Unframed J
+    → Type 0
 IfUnended P (unframed.Unrun world reservers error) = Unit {0}
-IfUnended P (unframed.Unended left queues) = P left.value.0 left.value.1.items left.error queues.items
+IfUnended P (unframed.Unended left queues) =
+    P left.value.0 left.value.1.items left.error queues.items
 IfUnended P (unframed.Sync world fault queues) = Unit {0}
 
 -- what holds if the sync point stopped
@@ -47,8 +49,8 @@ IfStoppedAt {J} P unframed = IfSyncStopped {J = J} (λ world fault queues.
     IfStopped {X = World} (Err fault) (λ system command done so_far.
     P world system command done queues)) unframed
 
--- Why a world was not closed whose blocks are the first, with reservers of its phase whose blocks are
--- the second.
+-- Why a world was not closed whose blocks are the first, with reservers of its phase whose blocks
+-- are the second.
 pub record IsWhyUnended (blocks reservers : List Block) (error : EndError) : Type 0 where
   pub of_phase : error ≢ unended.OtherPhase
   pub order : (error ≡ unended.Order) ↔ ¬ (IsTrue (are_among blocks reservers))

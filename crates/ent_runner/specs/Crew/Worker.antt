@@ -52,8 +52,8 @@ module _ {O : Type 0} where
       pub ended : HaveEnded may before earlier between
       pub stopped : DoesKept leave between last after
 
-    -- It has done all that it claimed, until none was left, or there was no room for another output,
-    -- or the last of them stopped. It lent this, and has that now.
+    -- It has done all that it claimed, until none was left, or there was no room for another
+    -- output, or the last of them stopped. It lent this, and has that now.
     pub record HasWorked (may leave : ℕ → L → O → L → Type 0) (may_have : L → Type 0)
         (claims : Claims) (before after : L) (w : Worker O) : Type 0 where
       pub lent : may_have after
@@ -78,8 +78,8 @@ module _ {O : Type 0} where
       pub count : length team ≡ length before
       pub lent : length after ≡ length before
       pub each : (k : ℕ) (d e : L) (f : Worker O) → k < length before
-          → HasWorked may leave may_have claims (slice_index_or before k d) (slice_index_or after k e)
-          (slice_index_or team k f)
+          → HasWorked may leave may_have claims (slice_index_or before k d)
+          (slice_index_or after k e) (slice_index_or team k f)
 
   -- the same of one worker without what its jobs may do
   pub record HasClaimed (claims : Claims) (w : Worker O) : Type 0 where

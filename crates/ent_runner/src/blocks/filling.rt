@@ -1,4 +1,5 @@
-ghost use Rattle.std.specs.Prelude.{◌≡◌, ◌≢◌, ◌<◌, ◌≤◌, ◌^◌, ◌↔◌, ◌⊎◌, [], length, All, IfOk, IfErr};
+ghost use Rattle.std.specs.Prelude.{◌≡◌, ◌≢◌, ◌<◌, ◌≤◌, ◌^◌, ◌↔◌, ◌⊎◌, [], length, All, IfOk};
+ghost use Rattle.std.specs.Prelude.{IfErr};
 ghost use Rattle.ent_blocks.specs.Blocks.{blocks_of};
 ghost use Rattle.ent_blocks.specs.Faults.{IsErrWith};
 ghost use Rattle.ent_runner.specs.Blocks.Queues.{HaveIssued, HaveStopped};
@@ -70,7 +71,8 @@ where
 
     // What is left if the systems were broken off.
     ensures lost { IsErrWith result (λ h. h.error ≡ failed.Lost) → HaveStopped S.may_issue
-        S.may_leave systems.now workers view.entry blocks.now.phase.start (blocks_of reservers.items) }
+        S.may_leave systems.now workers view.entry blocks.now.phase.start
+        (blocks_of reservers.items) }
     ensures lost_some { IsErrWith result (λ h. h.error ≡ failed.Lost) → 0 < length systems.now }
     ensures lost_reservers { IfErr result (λ h. h.error ≡ failed.Lost → h.value.items ≡ []) }
 {

@@ -1,4 +1,5 @@
-ghost use Rattle.std.specs.Prelude.{◌≡◌, ◌≢◌, ◌<◌, ◌≤◌, ◌^◌, ◌↔◌, ◌⊎◌, [], length, map, All, IfOk, OnOk, IfErr};
+ghost use Rattle.std.specs.Prelude.{◌≡◌, ◌≢◌, ◌<◌, ◌≤◌, ◌^◌, ◌↔◌, ◌⊎◌, [], length, map, All, IfOk};
+ghost use Rattle.std.specs.Prelude.{OnOk, IfErr};
 ghost use Rattle.ent_blocks.specs.Blocks.{blocks_of, unused};
 ghost use Rattle.ent_blocks.specs.declared.end_error.EndError.TheVariants as unended;
 ghost use Rattle.ent_blocks.specs.Faults.{IsErrWith};
@@ -130,7 +131,8 @@ where
     ensures stopped_all { IfErr result (IfSyncStopped (λ _ _ _.
         map unused (blocks_of reservers.items) ≡ opened.blocks.phase.blocks)) }
     ensures stopped { IfErr result (IfSyncStopped (λ world fault queues.
-        StopsInBlocks S.may_issue systems.now opened (blocks_of reservers.items) queues world fault)) }
+        StopsInBlocks S.may_issue systems.now opened (blocks_of reservers.items) queues world
+        fault)) }
     ensures stopped_flushed { IfErr result (IfStoppedAt (λ world _ _ _ _. world.allocator.asked ≡ 0)) }
     ensures stopped_memory { IfErr result (IfStoppedAt TakesMemoryAt) }
     ensures flush_reserved { IfErr result (IfSyncStopped (λ world fault _.

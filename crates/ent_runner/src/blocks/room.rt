@@ -1,5 +1,6 @@
 //! What systems in blocks need before they run: a reserver each, a crew, and room for what they hand back.
-ghost use Rattle.std.specs.Prelude.{◌≡◌, ◌≢◌, ◌<◌, ◌≤◌, ◌^◌, ◌↔◌, ◌⊎◌, [], length, All, IfOk, OnOk, IsErrOf};
+ghost use Rattle.std.specs.Prelude.{◌≡◌, ◌≢◌, ◌<◌, ◌≤◌, ◌^◌, ◌↔◌, ◌⊎◌, [], length, All, IfOk, OnOk};
+ghost use Rattle.std.specs.Prelude.{IsErrOf};
 ghost use Rattle.std.specs.Prelude.{IsTrue, vec_capacity};
 ghost use Rattle.ent_runner.specs.Stage.{AreReady};
 ghost use Rattle.ent_runner.specs.declared.blocks.run_error.RunError.TheVariants as failed;

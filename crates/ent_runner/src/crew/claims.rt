@@ -1,7 +1,8 @@
 ghost use Rattle.std.specs.Prelude.{◌≡◌, ◌<◌, ◌≤◌, ◌^◌, ℕ, [], ◌∷◌, ◌++◌, length, All, flat_map};
 ghost use Rattle.std.specs.Prelude.{IsPermutation, IfOk, IfSome, IfNone, None, true, false};
 ghost use Rattle.std.specs.List.{range_with_len};
-ghost use Rattle.ent_runner.specs.Crew.Claims.{IsOpen, IsClaimerOf, IsClaimedBy, HaveEnded, AreFirst};
+ghost use Rattle.ent_runner.specs.Crew.Claims.{IsOpen, IsClaimerOf, IsClaimedBy, HaveEnded};
+ghost use Rattle.ent_runner.specs.Crew.Claims.{AreFirst};
 
 use crate::crew::claimer::Claimer;
 use crate::crew::rule::Opening;

@@ -1,7 +1,8 @@
 ghost use Rattle.std.specs.Prelude.{◌≡◌, ◌+◌, ◌-◌, ◌^◌, ◌<◌, ◌≤◌, Some, OnOk, OnErr};
 ghost use Rattle.std.specs.Prelude.{IsSome, length, option_copied, vec_capacity};
 ghost use Rattle.std.specs.Borrow.{Lends, sem};
-ghost use Rattle.ent_storage.specs.Slots.{generation_of, handle_in, any_value, value_under, count_at, padded};
+ghost use Rattle.ent_storage.specs.Slots.{generation_of, handle_in, any_value, value_under};
+ghost use Rattle.ent_storage.specs.Slots.{count_at, padded};
 ghost use Rattle.ent_storage.specs.Slots.{IsSlotClone};
 ghost use Rattle.std.specs.List.{AppendsClones};
 

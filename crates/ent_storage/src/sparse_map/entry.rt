@@ -77,7 +77,8 @@ pub struct VacantEntry<'a, T> {
 }
 
 impl<'a, T: Drop> Entry<'a, T> {
-    ghost use Rattle.ent_storage.specs.SparseEntry.{entry_handle, entry_map, entry_ref, entry_value};
+    ghost use Rattle.ent_storage.specs.SparseEntry.{entry_handle, entry_map, entry_ref};
+    ghost use Rattle.ent_storage.specs.SparseEntry.{entry_value};
     ghost use Rattle.ent_storage.specs.SparseEntry.{entry_lends, Gives, IsRefusal};
 
     /// The handle.
@@ -212,7 +213,8 @@ impl<'a, T: Drop> Entry<'a, T> {
 impl<'a, T: Drop> OccupiedEntry<'a, T> {
     ghost use Rattle.std.specs.FinMap as finite;
     ghost use Rattle.ent_storage.specs.SparseEntry.{Occupied, entry_handle, entry_map, entry_value};
-    ghost use Rattle.ent_storage.specs.SparseEntry.{occupied_lends, lends_in, with_value, IsWritten};
+    ghost use Rattle.ent_storage.specs.SparseEntry.{occupied_lends, lends_in, with_value};
+    ghost use Rattle.ent_storage.specs.SparseEntry.{IsWritten};
 
     /// The handle.
     #[must_use]

@@ -11,4 +11,5 @@ returns c =
     let left = c.next-name.new.self in
     let next = after_next c.args.words left c.next-name.result c.next-name.ensures.cases in
     items_from_collect c.collect.result c.collect.ensures.ran
-    (YieldsList-from_vec (after_name (into_iter_items c.args.words)) next (left.rest.ok.0 ∙ ap length next))
+    (YieldsList-from_vec (after_name (into_iter_items c.args.words)) next
+    (left.rest.ok.0 ∙ ap length next))

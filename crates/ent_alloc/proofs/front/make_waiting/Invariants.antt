@@ -1,4 +1,5 @@
-use Rattle.ent_alloc.proofs.Common.{◌≡◌, ◌+◌, ◌++◌, vec_len, vec_capacity, range_with_len, new_waiting}
+use Rattle.ent_alloc.proofs.Common.{◌≡◌, ◌+◌, ◌++◌, vec_len, vec_capacity, range_with_len}
+use Rattle.ent_alloc.proofs.Common.{new_waiting}
 use Rattle.ent_alloc.proofs.front.make_waiting.Given as goal
 
 abbrev pub invariant-loop-more : goal.invariant-loop-more

@@ -1,4 +1,5 @@
-use Rattle.ent_alloc.proofs.Common.{◌≡◌, ◌*◌, ◌≤◌, ◌++◌, length, drop, vec_len, flat_map, record_bytes, AreRead, vec_capacity}
+use Rattle.ent_alloc.proofs.Common.{◌≡◌, ◌*◌, ◌≤◌, ◌++◌, length, drop, vec_len, flat_map}
+use Rattle.ent_alloc.proofs.Common.{record_bytes, AreRead, vec_capacity}
 use Rattle.ent_alloc.proofs.image_slots.read_slots.Given as goal
 
 -- the slots before the index are read, and the bytes of the others are left

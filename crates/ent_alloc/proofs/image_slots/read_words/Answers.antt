@@ -4,8 +4,10 @@ use Rattle.ent_alloc.proofs.image_slots.read_words.Goals.{After-record_of}
 use Rattle.ent_alloc.proofs.image_slots.read_words.Goals as goal
 
 -- the three words, which are all
-in_words : (c : After-record_of) → c.args.bytes.now ≡ word c.read_word-generation.result.0
-    ++ (word c.read_word-kind.result.0 ++ (word c.read_word-number.result.0 ++ c.read_word-number.result.1.now))
+in_words : (c : After-record_of)
+    → c.args.bytes.now ≡ word c.read_word-generation.result.0
+    ++ (word c.read_word-kind.result.0
+    ++ (word c.read_word-number.result.0 ++ c.read_word-number.result.1.now))
 in_words c = search rules
 
 all : (c : After-record_of) → length c.read_word-number.result.1.now ≡ 0

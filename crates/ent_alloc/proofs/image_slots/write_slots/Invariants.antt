@@ -1,10 +1,13 @@
-use Rattle.ent_alloc.proofs.Common.{◌≡◌, ℕ, ◌^◌, ◌<◌, ◌+◌, ◌-◌, ◌*◌, ◌≤◌, ◌++◌, length, take, vec_len, flat_map, record_at, number_of, record_bytes, vec_capacity}
+use Rattle.ent_alloc.proofs.Common.{◌≡◌, ℕ, ◌^◌, ◌<◌, ◌+◌, ◌-◌, ◌*◌, ◌≤◌, ◌++◌, length, take}
+use Rattle.ent_alloc.proofs.Common.{vec_len, flat_map, record_at, number_of, record_bytes}
+use Rattle.ent_alloc.proofs.Common.{vec_capacity}
 use Rattle.ent_alloc.proofs.image_slots.write_slots.Given as goal
 
 -- those before the index are written, and there is room for the rest
 abbrev pub invariant-loop-record : goal.invariant-loop-record
 invariant-loop-record l = record {
   written : l.out.items ≡ l.fn.out.items ++ flat_map record_bytes (take l.record-index l.records);
-  fits : (index : ℕ) → index < l.record-index → number_of (record_at l.records index).occupancy < 2 ^ 32;
+  fits : (index : ℕ) → index < l.record-index
+      → number_of (record_at l.records index).occupancy < 2 ^ 32;
   room : vec_len l.out + 12 * (length l.records - l.record-index) ≤ vec_capacity l.out;
 }

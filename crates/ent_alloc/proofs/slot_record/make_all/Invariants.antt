@@ -1,4 +1,5 @@
-use Rattle.ent_alloc.proofs.Common.{◌≡◌, ◌+◌, ◌-◌, ◌++◌, replicate, vec_len, vec_capacity, fresh, new_record}
+use Rattle.ent_alloc.proofs.Common.{◌≡◌, ◌+◌, ◌-◌, ◌++◌, replicate, vec_len, vec_capacity, fresh}
+use Rattle.ent_alloc.proofs.Common.{new_record}
 use Rattle.ent_alloc.proofs.slot_record.make_all.Given as goal
 
 abbrev pub invariant-loop-index : goal.invariant-loop-index

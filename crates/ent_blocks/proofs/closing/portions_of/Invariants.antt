@@ -1,4 +1,5 @@
-use Rattle.ent_blocks.proofs.Common.{◌≡◌, ◌≤◌, ◌++◌, drop, length, vec_len, vec_capacity, AreUsed, portions_of}
+use Rattle.ent_blocks.proofs.Common.{◌≡◌, ◌≤◌, ◌++◌, drop, length, vec_len, vec_capacity, AreUsed}
+use Rattle.ent_blocks.proofs.Common.{portions_of}
 use Rattle.ent_blocks.proofs.closing.portions_of.Given as goal
 
 -- what is still to come does the rest

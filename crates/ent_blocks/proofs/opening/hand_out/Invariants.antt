@@ -1,4 +1,5 @@
-use Rattle.ent_blocks.proofs.Common.{◌≡◌, ◌≤◌, take, length, vec_len, All, vec_capacity, Reserver, blocks_of}
+use Rattle.ent_blocks.proofs.Common.{◌≡◌, ◌≤◌, take, length, vec_len, All, vec_capacity, Reserver}
+use Rattle.ent_blocks.proofs.Common.{blocks_of}
 use Rattle.ent_blocks.proofs.opening.hand_out.Given as goal
 
 abbrev pub invariant-loop-part : goal.invariant-loop-part

@@ -1,4 +1,5 @@
-use Rattle.ent_blocks.proofs.Common.{◌≡◌, ◌+◌, ◌≤◌, ◌++◌, length, drop, vec_len, vec_capacity, blocks_from, dealt}
+use Rattle.ent_blocks.proofs.Common.{◌≡◌, ◌+◌, ◌≤◌, ◌++◌, length, drop, vec_len, vec_capacity}
+use Rattle.ent_blocks.proofs.Common.{blocks_from, dealt}
 use Rattle.ent_blocks.proofs.opening.parts_of.Given as goal
 
 -- what is still to come does the rest

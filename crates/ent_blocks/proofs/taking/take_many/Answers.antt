@@ -1,4 +1,5 @@
-use Rattle.ent_blocks.proofs.Common.{rules, ◌≡◌, ap, ◌∙◌, ◌+◌, ◌-ℤ◌, pos, Ok, arith, take, ints, length-take-le, reply_from, listed, cursor, Span, rest_of}
+use Rattle.ent_blocks.proofs.Common.{rules, ◌≡◌, ap, ◌∙◌, ◌+◌, ◌-ℤ◌, pos, Ok, arith, take, ints}
+use Rattle.ent_blocks.proofs.Common.{length-take-le, reply_from, listed, cursor, Span, rest_of}
 use Rattle.ent_blocks.proofs.Positions.{served_many, served, pool_there, length-rest, length-listed}
 use Rattle.ent_blocks.proofs.taking.take_many.Goals as goal
 use Rattle.ent_blocks.proofs.taking.take_many.Goals.{After-reply}
@@ -13,11 +14,13 @@ replied c =
     let s = c.args.entities.now.allocator in
     let r = c.args.part.now in
     let n = c.args.n in
-    let at : c.new-span.result.high ≡ cursor s -ℤ pos (r.before + r.used) = ap (λ (s : Span). s.high)
+    let at : c.new-span.result.high ≡ cursor s -ℤ pos (r.before + r.used) =
+    ap (λ (s : Span). s.high)
     c.new-span.ensures.value ∙ (omega (arith, ints, c.requires.few, c.requires.flushed)) in
     let long = length-rest s.pool r (omega (arith, c.requires.left)) c.requires.within in
     let pool =
-    pool_there s c.cursor-cursor.ensures.sound c.requires.flushed (r.before + r.used) c.new-span.result.high at in
+    pool_there s c.cursor-cursor.ensures.sound c.requires.flushed (r.before + r.used)
+    c.new-span.result.high at in
     c.reply.ensures n (search rules) ∙ ap (λ pool. reply_from s.made pool n) pool
     ∙ served_many s.made n s.pool r c.requires.left c.requires.within
     ∙ served s.made n (rest_of s.pool r) (omega (arith, long, c.requires.left))

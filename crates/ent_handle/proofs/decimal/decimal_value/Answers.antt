@@ -6,7 +6,9 @@ use Rattle.ent_handle.proofs.decimal.decimal_value.Goals as goal
 
 pub returns-in_err-checked_mul-clause-in_range : goal.returns-in_err-checked_mul-clause-in_range
 returns-in_err-checked_mul-clause-in_range c =
-    let more = value_more c.args.bytes.now c.loop-byte.byte-index c.requires (omega (arith, c.loop-byte-test.true)) in
+    let more =
+    value_more c.args.bytes.now c.loop-byte.byte-index c.requires
+    (omega (arith, c.loop-byte-test.true)) in
     let least = value_least c.args.bytes.now (c.loop-byte.byte-index + 1) in
     grind (arith, common_steps, more, least)
 

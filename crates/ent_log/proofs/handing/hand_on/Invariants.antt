@@ -7,8 +7,8 @@ abbrev pub invariant-loop-next : goal.invariant-loop-next
 invariant-loop-next g l = record {
   callable : goal.F-IsAlwaysCallable g l.run;
   front : l.front ≡ None;
-  taken : HasTaken (goal.F-step g) l.fn.run l.fn.entities (option_to_list l.fn.front ++ l.fn.rest) l.run l.entities
-      (option_to_list l.next ++ l.rest);
+  taken : HasTaken (goal.F-step g) l.fn.run l.fn.entities (option_to_list l.fn.front ++ l.fn.rest)
+      l.run l.entities (option_to_list l.next ++ l.rest);
   done : l.next ≡ None → l.rest ≡ [];
 }
 

@@ -6,7 +6,8 @@ use Rattle.ent_log.proofs.rest.first_of.Given as goal
 
 abbrev pub invariant-loop-entries : goal.invariant-loop-entries
 invariant-loop-entries g l = record {
-  same : into_iter_items l.fn.entries ++ entries_of (into_iter_items l.fn.logs) ≡ option_to_list l.next
+  same : into_iter_items l.fn.entries ++ entries_of (into_iter_items l.fn.logs)
+      ≡ option_to_list l.next
       ++ (into_iter_items l.entries ++ entries_of (into_iter_items l.logs));
   none : l.next ≡ None → into_iter_items l.entries ≡ [];
 }

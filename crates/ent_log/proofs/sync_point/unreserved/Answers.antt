@@ -7,5 +7,6 @@ returns-in-Some-unreserved g c = found_in_log c.args.entities.now.allocator c.ar
     c.loop-log.invariant c.in-Some.ensures.cases.0 c.unreserved.ensures _ c.in-Some-unreserved.is
 
 pub loop-log-preserved : goal.loop-log-preserved
-loop-log-preserved g c = none_in_log c.args.entities.now.allocator c.args.logs.now _ _ _ _ c.loop-log.invariant
+loop-log-preserved g c =
+    none_in_log c.args.entities.now.allocator c.args.logs.now _ _ _ _ c.loop-log.invariant
     c.in-Some.ensures.cases.0 c.unreserved.ensures (search rules)

@@ -80,15 +80,21 @@ returns-in-4-clause-rest c =
 
 pub read_u32-wanted-requires : goal.read_u32-wanted-requires
 read_u32-wanted-requires c =
-    let s = says_of_kind 5 c.args.bytes.now c.requires (omega (arith, begins_kind c.args.bytes.now c.requires)) in
+    let s =
+    says_of_kind 5 c.args.bytes.now c.requires
+    (omega (arith, begins_kind c.args.bytes.now c.requires)) in
     search (rules, s)
 
 pub read_reason-why-requires : goal.read_reason-why-requires
 read_reason-why-requires c =
-    let s = says_of_kind 5 c.args.bytes.now c.requires (omega (arith, begins_kind c.args.bytes.now c.requires)) in
+    let s =
+    says_of_kind 5 c.args.bytes.now c.requires
+    (omega (arith, begins_kind c.args.bytes.now c.requires)) in
     search (rules, s.long, s.is)
 
 pub returns-in_default-clause-rest : goal.returns-in_default-clause-rest
 returns-in_default-clause-rest c =
-    let s = says_of_kind 5 c.args.bytes.now c.requires (omega (arith, begins_kind c.args.bytes.now c.requires)) in
+    let s =
+    says_of_kind 5 c.args.bytes.now c.requires
+    (omega (arith, begins_kind c.args.bytes.now c.requires)) in
     search (rules, s.rest_is)

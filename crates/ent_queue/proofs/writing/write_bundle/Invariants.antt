@@ -1,4 +1,5 @@
-use Rattle.ent_queue.proofs.Common.{◌≡◌, ◌+◌, ◌*◌, ◌≤◌, ◌++◌, take, vec_len, vec_capacity, flat_map, item_bytes}
+use Rattle.ent_queue.proofs.Common.{◌≡◌, ◌+◌, ◌*◌, ◌≤◌, ◌++◌, take, vec_len, vec_capacity, flat_map}
+use Rattle.ent_queue.proofs.Common.{item_bytes}
 use Rattle.ent_queue.proofs.writing.write_bundle.Given as goal
 
 abbrev pub invariant-loop-item : goal.invariant-loop-item

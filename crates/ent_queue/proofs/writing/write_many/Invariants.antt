@@ -1,4 +1,5 @@
-use Rattle.ent_queue.proofs.Common.{◌≡◌, ◌+◌, ◌*◌, ◌≤◌, ◌++◌, length, vec_len, vec_capacity, All, flat_map, IsHandle, handle_bytes}
+use Rattle.ent_queue.proofs.Common.{◌≡◌, ◌+◌, ◌*◌, ◌≤◌, ◌++◌, length, vec_len, vec_capacity, All}
+use Rattle.ent_queue.proofs.Common.{flat_map, IsHandle, handle_bytes}
 use Rattle.ent_queue.proofs.writing.write_many.Given as goal
 
 abbrev pub invariant-loop-handle : goal.invariant-loop-handle

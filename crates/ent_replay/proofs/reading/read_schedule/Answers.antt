@@ -11,7 +11,10 @@ returns-clause-found c =
 pub returns-in-Err-clause-refused : goal.returns-in-Err-clause-refused
 returns-in-Err-clause-refused c =
     let text = c.args.text.now in
-    let e = stops c.loop-rest.events.items (vec_len c.loop-rest.events) c.loop-rest.rest.now c.first_line.result.0.now
-    c.first_line.result.1.now c.in-Err.cause (schedule_of text) c.first_line.ensures.lines (sym c.in-Err.ensures)
+    let e =
+    stops c.loop-rest.events.items (vec_len c.loop-rest.events) c.loop-rest.rest.now
+    c.first_line.result.0.now
+    c.first_line.result.1.now c.in-Err.cause (schedule_of text) c.first_line.ensures.lines
+    (sym c.in-Err.ensures)
     c.loop-rest.invariant in
     search (rules, schedule_refused, c.len.result, c.in-Err.cause, c.len.ensures)

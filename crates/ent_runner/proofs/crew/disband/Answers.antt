@@ -18,6 +18,9 @@ loop-worker-preserved g c =
       claimers = moved_on (λ w. w.claimer) _ _ _ _ i.claimers p.items;
       by_number = next.outputs_are _ (rw front at i.by_number);
       inside = next.inside;
-      lacking = fewer_on _ _ _ _ _ _ _ front (rw (c.len.ensures, c.in-Some.worker.done.ok.0) at c.saturating_sub-lacking.ensures) i.lacking;
+      lacking =
+          fewer_on _ _ _ _ _ _ _ front
+          (rw (c.len.ensures, c.in-Some.worker.done.ok.0) at c.saturating_sub-lacking.ensures)
+          i.lacking;
       claimers_fit = omega (arith, less, p.len, p.capacity, i.claimers_fit);
     }

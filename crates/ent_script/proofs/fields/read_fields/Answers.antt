@@ -1,16 +1,19 @@
-use Rattle.ent_script.proofs.Common.{◌≡◌, ◌-◌, Some, arith, read_key-shorter, read_key, value, put, data_of}
+use Rattle.ent_script.proofs.Common.{◌≡◌, ◌-◌, Some, arith, read_key-shorter, read_key, value, put}
+use Rattle.ent_script.proofs.Common.{data_of}
 use Rattle.ent_script.proofs.Finding.{next_member, last_member, no_key}
 use Rattle.ent_script.proofs.Listing.{cut_read}
 use Rattle.ent_script.proofs.fields.read_fields.Goals as goal
 
 pub returns-in_err-key-clause-value : goal.returns-in_err-key-clause-value
 returns-in_err-key-clause-value c n ms rest e =
-    let at = c.members.invariant.found n ms rest e in no_key _ _ _ _ _ ms c.in_err-key.ensures.value at.2
+    let at = c.members.invariant.found n ms rest e in
+    no_key _ _ _ _ _ ms c.in_err-key.ensures.value at.2
 
 pub members-preserved : goal.members-preserved
 members-preserved c =
     let l = c.members in
-    let named : read_key l.reader ≡ Some (Some c.in-Some.key.now, c.next_key.new.self) = grind arith in
+    let named : read_key l.reader ≡ Some (Some c.in-Some.key.now, c.next_key.new.self) =
+    grind arith in
     let less = read_key-shorter _ _ _ named in
     record {
       no_longer = omega (arith, less, c.in_ok-part.ensures.shorter, l.invariant.no_longer);
@@ -18,7 +21,9 @@ members-preserved c =
           let at = l.invariant.found n ms rest e in
           let next = next_member _ _ _ _ _ _ _ ms named at.2 in
           let done = c.in_ok-part.ensures.ok in
-          let read = cut_read (value c.args.depth) _ _ _ _ done.0 (data_of c.in_ok-part.part) done.1 done.2 next.2 in
+          let read =
+          cut_read (value c.args.depth) _ _ _ _ done.0 (data_of c.in_ok-part.part) done.1 done.2
+          next.2 in
           (at.0 - 1, put _ next.0 at.1, rw read.1 next.3, c.put.ensures next.0 at.1 read.0 at.3);
     }
 

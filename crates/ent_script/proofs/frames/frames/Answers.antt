@@ -4,7 +4,8 @@ use Rattle.ent_script.proofs.frames.frames.Goals as goal
 
 pub returns-then-not-branch-clause-value : goal.returns-then-not-branch-clause-value
 returns-then-not-branch-clause-value c d rest e =
-    let is = no_array_begun c.args.depth c.in_ok-begins_array.field-0 c.begins_array.new.reader d rest
+    let is =
+    no_array_begun c.args.depth c.in_ok-begins_array.field-0 c.begins_array.new.reader d rest
     (c.in_ok-begins_array.ensures.value d rest e) (grind arith) in
     (rw is.0, is.1)
 

@@ -1,4 +1,5 @@
-use Rattle.ent_script.proofs.Common.{rules, ◌≡◌, ◌+◌, ◌-◌, length, None, ap, arith, after_end_array, value, frame_of}
+use Rattle.ent_script.proofs.Common.{rules, ◌≡◌, ◌+◌, ◌-◌, length, None, ap, arith, after_end_array}
+use Rattle.ent_script.proofs.Common.{value, frame_of}
 use Rattle.ent_script.specs.declared.cause.ScriptCause.TheVariants as script_cause
 use Rattle.ent_script.specs.declared.read_fault.ReadFault.TheVariants as fault
 use Rattle.ent_script.proofs.Listing.{at_next, at_end, at_most_many, at_fault, fault_streams_list}
@@ -7,14 +8,16 @@ use Rattle.ent_script.proofs.frames.frames_inside.Goals as goal
 pub returns-then-number-eq-FRAMES-clause-value : goal.returns-then-number-eq-FRAMES-clause-value
 returns-then-number-eq-FRAMES-clause-value c n ds rest e =
     let many = at_most_many (value c.args.depth) (frame_of c.args.format c.args.components.now) 1000
-    (fault.Script script_cause.Frames) c.fault_of_array.result _ _ _ c.fault_of_array.new.reader ds rest
+    (fault.Script script_cause.Frames) c.fault_of_array.result _ _ _ c.fault_of_array.new.reader ds
+    rest
     (c.frames.invariant.at n ds rest e) in
     search (rules, fault_streams_list, many)
 
 pub returns-in-Err-clause-value : goal.returns-in-Err-clause-value
 returns-in-Err-clause-value c n ds rest e =
     let l = c.frames in
-    let going : (after_end_array l.reader ≡ None) × (c.take_end_array.new.self ≡ l.reader) = grind arith in
+    let going : (after_end_array l.reader ≡ None)
+    × (c.take_end_array.new.self ≡ l.reader) = grind arith in
     let found = c.fault_of_array-in-Err in
     let room : 999 - l.number + l.number + 1 ≡ 1000 = omega (arith, l.invariant.few) in
     fault_streams_list _ _ _ _ (λ other.
@@ -25,16 +28,20 @@ returns-in-Err-clause-value c n ds rest e =
 pub frames-preserved : goal.frames-preserved
 frames-preserved c =
     let l = c.frames in
-    let going : (after_end_array l.reader ≡ None) × (c.take_end_array.new.self ≡ l.reader) = grind arith in
+    let going : (after_end_array l.reader ≡ None)
+    × (c.take_end_array.new.self ≡ l.reader) = grind arith in
     record {
       at = λ n ds rest e. rw c.in_ok-push-in-Ok.ensures.items (at_next _ _ _ _ _ _ _ ds rest
-          (l.invariant.at n ds rest e) going.0 (λ d r is. c.in-Ok.ensures.value d r (rw going.1 is)));
+          (l.invariant.at n ds rest e) going.0
+          (λ d r is. c.in-Ok.ensures.value d r (rw going.1 is)));
       few = omega (arith, l.invariant.few);
       shorter = omega (arith, l.invariant.shorter, ap length going.1, c.in-Ok.ensures.shorter);
     }
 
 pub returns-clause-value : goal.returns-clause-value
 returns-clause-value c n ds rest e =
-    let over = at_end (value c.args.depth) (frame_of _ c.args.components.now) 1000 (fault.Script script_cause.Frames)
+    let over =
+    at_end (value c.args.depth) (frame_of _ c.args.components.now) 1000
+    (fault.Script script_cause.Frames)
     _ _ _ c.take_end_array.new.self ds rest (c.frames.invariant.at n ds rest e) in
     search (rules, over)

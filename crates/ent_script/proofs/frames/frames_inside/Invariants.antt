@@ -1,11 +1,15 @@
-use Rattle.ent_script.proofs.Common.{◌≡◌, ℕ, ◌≤◌, List, length, Some, Token, items, value, Items, of_items, converted, frame_of}
+use Rattle.ent_script.proofs.Common.{◌≡◌, ℕ, ◌≤◌, List, length, Some, Token, items, value, Items}
+use Rattle.ent_script.proofs.Common.{of_items, converted, frame_of}
 use Rattle.ent_script.proofs.Listing.{At}
 use Rattle.ent_script.proofs.frames.frames_inside.Given as goal
 
 abbrev pub invariant-frames : goal.invariant-frames
 invariant-frames l = record {
-  at : (n : ℕ) (ds : Items) (rest : List Token) → converted of_items (items (value l.depth) n l.initial.reader)
-      ≡ Some (ds, rest) → At (value l.depth) (frame_of l.format l.components) l.frames.items l.number l.reader ds rest;
+  at : (n : ℕ) (ds : Items) (rest : List Token)
+      → converted of_items (items (value l.depth) n l.initial.reader)
+      ≡ Some (ds, rest)
+      → At (value l.depth) (frame_of l.format l.components) l.frames.items l.number l.reader ds
+      rest;
   few : l.number ≤ 1000;
   shorter : length l.reader ≤ length l.initial.reader;
 }

@@ -13,18 +13,21 @@ returns-in_err-fields-clause-value c d rest e = search
 
 pub returns-in_err-operation-clause-value : goal.returns-in_err-operation-clause-value
 returns-in_err-operation-clause-value c d rest e =
-    let is = object_begun _ _ _ d rest (c.in_ok-begins_object.ensures.value d rest e) (grind arith) in
+    let is =
+    object_begun _ _ _ d rest (c.in_ok-begins_object.ensures.value d rest e) (grind arith) in
     let at = c.in_ok-fields.ensures.value _ is.0 rest is.2 in
     search (rules, is.1, at.1, c.in_err-operation.ensures is.0 at.0)
 
 pub returns-clause-value : goal.returns-clause-value
 returns-clause-value c d rest e =
-    let is = object_begun _ _ _ d rest (c.in_ok-begins_object.ensures.value d rest e) (grind arith) in
+    let is =
+    object_begun _ _ _ d rest (c.in_ok-begins_object.ensures.value d rest e) (grind arith) in
     let at = c.in_ok-fields.ensures.value _ is.0 rest is.2 in
     search (rules, is.1, at.1, c.in_ok-operation.ensures is.0 at.0)
 
 pub returns-clause-binds : goal.returns-clause-binds
 returns-clause-binds c d rest e =
-    let is = object_begun _ _ _ d rest (c.in_ok-begins_object.ensures.value d rest e) (grind arith) in
+    let is =
+    object_begun _ _ _ d rest (c.in_ok-begins_object.ensures.value d rest e) (grind arith) in
     let at = c.in_ok-fields.ensures.value _ is.0 rest is.2 in
     search (rules, is.1, c.in_ok-bind.ensures is.0 at.0)

@@ -1,4 +1,5 @@
-use Rattle.ent_script.proofs.Common.{rules, ◌≡◌, ◌+◌, ◌-◌, length, None, ap, arith, after_end_array, value, frame_of, system_of}
+use Rattle.ent_script.proofs.Common.{rules, ◌≡◌, ◌+◌, ◌-◌, length, None, ap, arith, after_end_array}
+use Rattle.ent_script.proofs.Common.{value, frame_of, system_of}
 use Rattle.ent_script.specs.declared.read_fault.ReadFault.TheVariants as fault
 use Rattle.ent_script.proofs.Listing.{at_next, at_end, at_most_many, at_fault, fault_streams}
 use Rattle.ent_script.proofs.frames.systems.Goals as goal
@@ -6,7 +7,9 @@ use Rattle.ent_script.proofs.frames.systems.Goals as goal
 pub returns-then-number-eq-SYSTEMS-clause-value : goal.returns-then-number-eq-SYSTEMS-clause-value
 unfolding frame_of
 returns-then-number-eq-SYSTEMS-clause-value c n ds rest e =
-    let many = at_most_many (value c.args.depth) (system_of c.args.format c.args.components.now c.args.frame) 256
+    let many =
+    at_most_many (value c.args.depth)
+    (system_of c.args.format c.args.components.now c.args.frame) 256
     (fault.Frame c.args.frame) c.fault_of_array.result _ _ _ c.fault_of_array.new.reader ds rest
     (c.systems.invariant.at n ds rest e) in
     search (rules, fault_streams, many)
@@ -15,7 +18,8 @@ pub returns-in-Err-clause-value : goal.returns-in-Err-clause-value
 unfolding frame_of
 returns-in-Err-clause-value c n ds rest e =
     let l = c.systems in
-    let going : (after_end_array l.reader ≡ None) × (c.take_end_array.new.self ≡ l.reader) = grind arith in
+    let going : (after_end_array l.reader ≡ None)
+    × (c.take_end_array.new.self ≡ l.reader) = grind arith in
     let found = c.fault_of_array-in-Err in
     let room : 255 - l.number + l.number + 1 ≡ 256 = omega (arith, l.invariant.few) in
     fault_streams _ _ _ _ (λ other.
@@ -26,10 +30,12 @@ returns-in-Err-clause-value c n ds rest e =
 pub systems-preserved : goal.systems-preserved
 systems-preserved c =
     let l = c.systems in
-    let going : (after_end_array l.reader ≡ None) × (c.take_end_array.new.self ≡ l.reader) = grind arith in
+    let going : (after_end_array l.reader ≡ None)
+    × (c.take_end_array.new.self ≡ l.reader) = grind arith in
     record {
       at = λ n ds rest e. rw c.in_ok-push-in-Ok.ensures.items (at_next _ _ _ _ _ _ _ ds rest
-          (l.invariant.at n ds rest e) going.0 (λ d r is. c.in-Ok.ensures.value d r (rw going.1 is)));
+          (l.invariant.at n ds rest e) going.0
+          (λ d r is. c.in-Ok.ensures.value d r (rw going.1 is)));
       few = omega (arith, l.invariant.few);
       shorter = omega (arith, l.invariant.shorter, ap length going.1, c.in-Ok.ensures.shorter);
     }
@@ -37,6 +43,8 @@ systems-preserved c =
 pub returns-clause-value : goal.returns-clause-value
 unfolding frame_of
 returns-clause-value c n ds rest e =
-    let over = at_end (value c.args.depth) (system_of _ c.args.components.now _) 256 (fault.Frame c.args.frame) _ _ _
+    let over =
+    at_end (value c.args.depth) (system_of _ c.args.components.now _) 256
+    (fault.Frame c.args.frame) _ _ _
     c.take_end_array.new.self ds rest (c.systems.invariant.at n ds rest e) in
     search (rules, over)

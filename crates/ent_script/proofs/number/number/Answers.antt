@@ -1,4 +1,5 @@
-use Rattle.ent_script.proofs.Common.{common_steps, rules, drop, arith, take_all, length-drop, scan, number_of}
+use Rattle.ent_script.proofs.Common.{common_steps, rules, drop, arith, take_all, length-drop, scan}
+use Rattle.ent_script.proofs.Common.{number_of}
 use Rattle.ent_script.proofs.number.number.Goals as goal
 
 pub returns-then-has_minus : goal.returns-then-has_minus

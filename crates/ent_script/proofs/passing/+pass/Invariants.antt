@@ -1,4 +1,6 @@
-use Rattle.ent_script.proofs.Common.{◌≡◌, ℕ, ◌+◌, ◌*◌, ◌≤◌, length, items, members, value, Members, of_items, of_members, converted, left, after_items, after_members}
+use Rattle.ent_script.proofs.Common.{◌≡◌, ℕ, ◌+◌, ◌*◌, ◌≤◌, length, items, members, value, Members}
+use Rattle.ent_script.proofs.Common.{of_items, of_members, converted, left, after_items}
+use Rattle.ent_script.proofs.Common.{after_members}
 use Rattle.ent_script.proofs.passing.+pass.Given as goal
 
 abbrev pub decreases-pass_value : goal.decreases-pass_value
@@ -15,7 +17,8 @@ decreases-pass_members l = 3 * l.depth + 2
 
 abbrev pub invariant-pass_items-loop-reader : goal.invariant-pass_items-loop-reader
 invariant-pass_items-loop-reader l = (n : ℕ) × (length l.reader ≤ n)
-    × (after_items l.depth l.initial.reader ≡ left (converted of_items (items (value l.depth) n l.reader)))
+    × (after_items l.depth l.initial.reader
+    ≡ left (converted of_items (items (value l.depth) n l.reader)))
     × (length l.reader ≤ length l.initial.reader)
 
 abbrev pub decreases-pass_items-loop-reader : goal.decreases-pass_items-loop-reader

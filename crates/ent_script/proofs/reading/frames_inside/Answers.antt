@@ -1,5 +1,7 @@
-use Rattle.ent_script.proofs.Common.{◌≡◌, ◌-◌, Some, None, codes, sym, ◌∙◌, refl, arith, read_key, value, no_members, put}
-use Rattle.ent_script.proofs.Finding.{next_member, last_member, no_key, member_over, member_not_over}
+use Rattle.ent_script.proofs.Common.{◌≡◌, ◌-◌, Some, None, codes, sym, ◌∙◌, refl, arith, read_key}
+use Rattle.ent_script.proofs.Common.{value, no_members, put}
+use Rattle.ent_script.proofs.Finding.{next_member, last_member, no_key, member_over}
+use Rattle.ent_script.proofs.Finding.{member_not_over}
 use Rattle.ent_script.proofs.Listing.{streamed_list}
 use Rattle.ent_script.proofs.Puts.{found_here, found_before}
 use Rattle.ent_script.proofs.reading.frames_inside.Goals as goal
@@ -27,13 +29,19 @@ members-preserved c n ms rest e =
     let at = c.members.invariant n ms rest e in
     let k = c.in-Some.key.now in
     let named : read_key c.members.reader ≡ Some (Some k, c.next_key.new.self) = grind arith in
-    let next = member_over _ _ k _ _ _ _ ms named at.2 _ c.in_ok-pass_value.ensures.value in
-    (at.0 - 1, put k next.0 at.1, next.1, rw (found_before (codes "frames") k next.0 at.1 (sym c.if-eq.ensures)) at.3)
+    let next = member_over _ _ k _ _ _ _ ms named at.2 _ c.in_ok-pass_value.ensures.value in (
+      at.0 - 1,
+      put k next.0 at.1,
+      next.1,
+      rw (found_before (codes "frames") k next.0 at.1 (sym c.if-eq.ensures)) at.3,
+    )
 
 pub returns-in_err-pass_value : goal.returns-in_err-pass_value
 returns-in_err-pass_value c n ms rest e =
-    let named : read_key c.members.reader ≡ Some (Some c.in-Some.key.now, c.next_key.new.self) = grind arith in
-    member_not_over _ _ _ _ _ _ _ ms named (c.members.invariant n ms rest e).2 c.in_err-pass_value.ensures.value
+    let named : read_key c.members.reader ≡ Some (Some c.in-Some.key.now, c.next_key.new.self) =
+    grind arith in
+    member_not_over _ _ _ _ _ _ _ ms named (c.members.invariant n ms rest e).2
+    c.in_err-pass_value.ensures.value
 
 pub returns : goal.returns
 returns c n ms rest e =

@@ -7,4 +7,5 @@ returns-then-not-branch-clause-value c d rest e = search
     (rules, no_array_begun, c.in_ok-begins_array.ensures.value d rest e)
 
 pub returns-clause-value : goal.returns-clause-value
-returns-clause-value c d rest e = search (rules, array_begun, c.in_ok-begins_array.ensures.value d rest e)
+returns-clause-value c d rest e =
+    search (rules, array_begun, c.in_ok-begins_array.ensures.value d rest e)

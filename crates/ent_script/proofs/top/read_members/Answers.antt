@@ -1,4 +1,6 @@
-use Rattle.ent_script.proofs.Common.{read_key-shorter, ◌≡◌, ◌-◌, length, Some, refl, sym, ap, ◌∙◌, arith, rules, read_key, value, no_members, put, members_view, the_lemmas}
+use Rattle.ent_script.proofs.Common.{read_key-shorter, ◌≡◌, ◌-◌, length, Some, refl, sym, ap, ◌∙◌}
+use Rattle.ent_script.proofs.Common.{arith, rules, read_key, value, no_members, put, members_view}
+use Rattle.ent_script.proofs.Common.{the_lemmas}
 use Rattle.ent_script.proofs.Turns.{member_read}
 use Rattle.ent_script.proofs.Cuts.{members_view-insert_entry}
 use Rattle.ent_script.proofs.Puts.{found_here, found_before}
@@ -6,8 +8,12 @@ use Rattle.ent_script.proofs.Tops.{heads-put, read_there}
 use Rattle.ent_script.proofs.top.read_members.Goals as goal
 
 pub members-init : goal.members-init
-members-init c =
-    (length c.args.reader.now, omega arith, (no_members, refl, ap members_view c.new-found.ensures.empty, refl), tt)
+members-init c = (
+  length c.args.reader.now,
+  omega arith,
+  (no_members, refl, ap members_view c.new-found.ensures.empty, refl),
+  tt,
+)
 
 pub members-preserved-then-eq : goal.members-preserved-then-eq
 members-preserved-then-eq c =
@@ -23,7 +29,8 @@ members-preserved-then-eq c =
       omega (arith, l.invariant.1, less, lesser),
       (
         put k _ _,
-        l.invariant.2.1 ∙ member_read _ _ _ k _ _ _ _ (omega (arith, l.invariant.1, less)) named was.1,
+        l.invariant.2.1 ∙ member_read _ _ _ k _ _ _ _ (omega (arith, l.invariant.1, less)) named
+            was.1,
         search (rules, members_view-insert_entry, heads-put, the_lemmas, here),
         rw (found_here _ k _ _ here) was.2.0,
       ),
@@ -42,7 +49,8 @@ members-preserved c =
       omega (arith, l.invariant.1, less, done.shorter),
       (
         put k _ _,
-        l.invariant.2.1 ∙ member_read _ _ _ k _ _ _ _ (omega (arith, l.invariant.1, less)) named done.ok.1,
+        l.invariant.2.1 ∙ member_read _ _ _ k _ _ _ _ (omega (arith, l.invariant.1, less)) named
+            done.ok.1,
         search (rules, members_view-insert_entry, heads-put, other),
         rw (found_before _ k _ _ other) l.invariant.2.3,
       ),

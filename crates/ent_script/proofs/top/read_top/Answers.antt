@@ -1,4 +1,6 @@
-use Rattle.ent_script.proofs.Common.{common_steps, value-begin_object, ◌≡◌, ◌∷◌, refl, ap, ◌∙◌, arith, rules, None, Token, value, object, as_object, the_lemmas, heading_of}
+use Rattle.ent_script.proofs.Common.{common_steps, value-begin_object, ◌≡◌, ◌∷◌, refl, ap, ◌∙◌}
+use Rattle.ent_script.proofs.Common.{arith, rules, None, Token, value, object, as_object}
+use Rattle.ent_script.proofs.Common.{the_lemmas, heading_of}
 use Rattle.ent_script.proofs.Finding.{no_object_at}
 use Rattle.ent_script.proofs.Openings.{passed_nested}
 use Rattle.ent_script.proofs.Turns.{if_ok, converted-object}

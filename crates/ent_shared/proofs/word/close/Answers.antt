@@ -8,7 +8,8 @@ least : (c : goal.After-free) → offset ≤ c.word-last.result + 2 ^ 50
 least c = let f = c.close_with-closed.ensures.values.2 in search (rules, word_least _ _ f.0 f.1.0)
 
 greatest : (c : goal.After-free) → c.word-last.result < offset + 2 ^ 32
-greatest c = let f = c.close_with-closed.ensures.values.2 in search (rules, word_greatest _ _ f.0 f.1.0)
+greatest c = let f = c.close_with-closed.ensures.values.2 in
+    search (rules, word_greatest _ _ f.0 f.1.0)
 
 pub overflow_cast-result : goal.overflow_cast-result
 unfolding offset
@@ -19,5 +20,10 @@ unfolding offset
 overflow_sub-result c = omega (arith, ints, least c, greatest c)
 
 pub returns : goal.returns
-returns c = search
-    (rules, cursor_is c.word-last.result (least c) (greatest c), ends, c.close_with-closed.ensures.values.2)
+returns c =
+    search (
+      rules,
+      cursor_is c.word-last.result (least c) (greatest c),
+      ends,
+      c.close_with-closed.ensures.values.2,
+    )

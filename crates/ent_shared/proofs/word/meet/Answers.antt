@@ -8,7 +8,8 @@ join_seat-requires c = (
   search rules,
   search rules,
   search rules,
-  meets_at _ _ _ _ _ _ (own_of c.args.a.now.views) (own_of c.args.b.now.views) (search rules) (search rules),
+  meets_at _ _ _ _ _ _ (own_of c.args.a.now.views) (own_of c.args.b.now.views) (search rules)
+      (search rules),
 )
 
 pub split_seat-requires : goal.split_seat-requires

@@ -11,11 +11,13 @@ pub fetch_sub-found-requires : goal.fetch_sub-found-requires
 fetch_sub-found-requires c = (
   search rules,
   search rules,
-  reserves_at _ _ _ _ _ _ _ _ (seat c) c.into_seat-seat.ensures.3 c.into.ensures c.requires.some c.requires.quota,
+  reserves_at _ _ _ _ _ _ _ _ (seat c) c.into_seat-seat.ensures.3
+      c.into.ensures c.requires.some c.requires.quota,
 )
 
 -- what the step tells
-told : (c : goal.After-drop-token) → AfterReserve c.args.n (own_of c.args.token.now.views) c.fetch_sub-found.result
+told : (c : goal.After-drop-token)
+    → AfterReserve c.args.n (own_of c.args.token.now.views) c.fetch_sub-found.result
     c.fetch_sub-found.new.seat.me.0
 told c = search (rules, c.fetch_sub-found.ensures.2.1 (own_of c.args.token.now.views))
 
@@ -34,7 +36,8 @@ pub returns-clause-mark : goal.returns-clause-mark
 returns-clause-mark c = search (rules, told c, cursor_is, c.fetch_sub-found.result)
 
 pub returns-clause-least : goal.returns-clause-least
-returns-clause-least c = let d = told c in search (rules, cursor_is, c.fetch_sub-found.result, least_cursor)
+returns-clause-least c = let d = told c in
+    search (rules, cursor_is, c.fetch_sub-found.result, least_cursor)
 
 pub returns-clause-greatest : goal.returns-clause-greatest
 returns-clause-greatest c = search (rules, told, cursor_is)

@@ -4,7 +4,9 @@ use Rattle.ent_storage.proofs.columns.swap_remove.Goals as goal
 
 pub loop-number-preserved : goal.loop-number-preserved
 loop-number-preserved c = record {
-  passed = passed_more _ _ _ _ _ _ _ _ c.requires.in_use.rising (omega arith) (omega arith) c.index-columns-number.is
+  passed =
+      passed_more _ _ _ _ _ _ _ _ c.requires.in_use.rising (omega arith) (omega arith)
+      c.index-columns-number.is
       c.swap_remove.ensures c.loop-number.invariant.passed;
   len = search rules;
 }

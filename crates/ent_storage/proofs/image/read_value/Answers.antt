@@ -1,4 +1,6 @@
-use Rattle.ent_storage.proofs.Common.{rules, ◌≡◌, ◌≢◌, ◌<◌, ◌++◌, ℕ, ℤ, List, Option, None, Some, ◌∷◌, length, ap, ◌∙◌, arith, get_or, w64, cast_unsigned, length-append, value_bytes}
+use Rattle.ent_storage.proofs.Common.{rules, ◌≡◌, ◌≢◌, ◌<◌, ◌++◌, ℕ, ℤ, List, Option, None, Some}
+use Rattle.ent_storage.proofs.Common.{◌∷◌, length, ap, ◌∙◌, arith, get_or, w64, cast_unsigned}
+use Rattle.ent_storage.proofs.Common.{length-append, value_bytes}
 use Rattle.ent_handle.proofs.Spelled.{length-long}
 use Rattle.ent_storage.proofs.image.read_value.Goals as goal
 
@@ -7,8 +9,8 @@ other_flag : (flag : ℕ) (bytes : List ℕ) (value : Option ℤ) (rest : List �
     → flag ∷ bytes ≢ value_bytes value ++ rest
 other_flag flag bytes value rest not_0 not_1 same = search rules
 
-too_short : (flag : ℕ) (bytes : List ℕ) (value : Option ℤ) (rest : List ℕ) → flag ≢ 0 → length bytes < 8
-    → flag ∷ bytes ≢ value_bytes value ++ rest
+too_short : (flag : ℕ) (bytes : List ℕ) (value : Option ℤ) (rest : List ℕ) → flag ≢ 0
+    → length bytes < 8 → flag ∷ bytes ≢ value_bytes value ++ rest
 too_short flag bytes None rest not_0 short same = not_0 (ap (λ xs. get_or xs 0 0) same)
 too_short flag bytes (Some v) rest not_0 short same = omega
     (arith, length-long (cast_unsigned w64 v), simp length-append at (ap length same))

@@ -1,4 +1,6 @@
-use Rattle.ent_storage.proofs.Common.{◌≡◌, ◌≢◌, ◌≤◌, ◌<◌, ◌++◌, ℤ, None, Some, w64, FitsSigned, ComponentId, Handle, birth_of, value_of, values_bytes, fin_get}
+use Rattle.ent_storage.proofs.Common.{◌≡◌, ◌≢◌, ◌≤◌, ◌<◌, ◌++◌, ℤ, None, Some, w64, FitsSigned}
+use Rattle.ent_storage.proofs.Common.{ComponentId, Handle, birth_of, value_of, values_bytes}
+use Rattle.ent_storage.proofs.Common.{fin_get}
 use Rattle.ent_storage.proofs.image.read_values.Given as goal
 
 -- the entity has the values so far
@@ -9,7 +11,8 @@ invariant-loop-number l = record {
   fits : (id : ComponentId) (v : ℤ) → value_of l.storage.entities l.handle id ≡ Some v
       → (id.0 < 256) × FitsSigned w64 v;
   birth : birth_of l.storage.entities l.handle ≡ birth_of l.fn.storage.entities l.handle;
-  others : (h : Handle) → h ≢ l.handle → fin_get l.storage.entities h ≡ fin_get l.fn.storage.entities h;
+  others : (h : Handle) → h ≢ l.handle
+      → fin_get l.storage.entities h ≡ fin_get l.fn.storage.entities h;
   places : l.storage.places ≡ l.fn.storage.places;
   spare : l.storage.spare ≡ l.fn.storage.spare;
 }

@@ -1,4 +1,6 @@
-use Rattle.ent_storage.proofs.Common.{rules, ◌≡◌, ◌+◌, ◌<◌, true, cond, filter, take, length, get_or, ap, ◌∙◌, arith, Bool, take_all, length-filter_more, total, same}
+use Rattle.ent_storage.proofs.Common.{rules, ◌≡◌, ◌+◌, ◌<◌, true, cond, filter, take, length}
+use Rattle.ent_storage.proofs.Common.{get_or, ap, ◌∙◌, arith, Bool, take_all, length-filter_more}
+use Rattle.ent_storage.proofs.Common.{total, same}
 use Rattle.ent_storage.proofs.Copied.{first_fit}
 use Rattle.ent_storage.proofs.Counted.{counts, from_sorted_left, left_fits}
 use Rattle.ent_storage.proofs.Overwritten.{is_sorted-filter}
@@ -31,4 +33,5 @@ returns-clause-sorted c =
     rw whole (is_sorted-filter total same (counts c.args.living.now.entities) _ c.requires.sorted)
 
 pub returns-clause-counted : goal.returns-clause-counted
-returns-clause-counted c = search (rules, arith, take_all, from_sorted_left, c.loop-pair.invariant.items)
+returns-clause-counted c =
+    search (rules, arith, take_all, from_sorted_left, c.loop-pair.invariant.items)

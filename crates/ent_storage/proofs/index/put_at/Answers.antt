@@ -19,5 +19,6 @@ returns-in-Ok-clause-placed c =
 pub returns-in-Ok-clause-kept : goal.returns-in-Ok-clause-kept
 returns-in-Ok-clause-kept c q i n old =
     let at = rw c.in-Ok.is at c.requires.found in
-    ap (λ m. fin_get m q) (map_set total same _ c.requires.sorted _ _ _ at) ∙ get-insert_other total same _ _ _ q n
+    ap (λ m. fin_get m q) (map_set total same _ c.requires.sorted _ _ _ at)
+    ∙ get-insert_other total same _ _ _ q n
     ∙ (counted_gives _ _ q i old).0

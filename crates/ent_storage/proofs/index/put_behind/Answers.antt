@@ -1,4 +1,5 @@
-use Rattle.ent_storage.proofs.Common.{rules, ◌≡◌, length, arith, insert, handle_cmp, total, same, IsGapFor, insert_end}
+use Rattle.ent_storage.proofs.Common.{rules, ◌≡◌, length, arith, insert, handle_cmp, total, same}
+use Rattle.ent_storage.proofs.Common.{IsGapFor, insert_end}
 use Rattle.ent_storage.proofs.Counted.{put_between, counted_none}
 use Rattle.ent_storage.proofs.Rising.{get_in_gap}
 use Rattle.ent_storage.proofs.index.put_behind.Goals as goal
@@ -14,6 +15,10 @@ module _ (c : goal.After-push_reserved) where
 
 pub returns-then-is_gap : goal.returns-then-is_gap
 returns-then-is_gap c =
-    let new = counted_none c.args.living.now.entities _ _ (get_in_gap total same _ c.requires _ _ (gap c)) in
-    let put = rw (end c) at (put_between c.args.living.now.entities _ c.requires _ c.args.pair.1 _ (gap c)) in
+    let new =
+    counted_none c.args.living.now.entities _ _
+    (get_in_gap total same _ c.requires _ _ (gap c)) in
+    let put =
+    rw (end c) at
+    (put_between c.args.living.now.entities _ c.requires _ c.args.pair.1 _ (gap c)) in
     search (rules, new, put)

@@ -9,15 +9,17 @@ module _ (c : goal.After-pairs-1) where
   free : IsFree c.args.living.now.entities c.args.pairs.now.items c.in-Some.position
   free = rw c.deref-2.ensures.value at c.is_free.ensures c.if-is_free.true
 
-  put : IsPut c.args.living.now.entities c.args.pairs.now.items (set c.args.pairs.now.items c.in-Some.position
-      (c.args.pair.0, c.args.pair.1)) c.args.pair.0 c.args.pair.1
+  put : IsPut c.args.living.now.entities c.args.pairs.now.items
+      (set c.args.pairs.now.items c.in-Some.position (c.args.pair.0, c.args.pair.1)) c.args.pair.0
+      c.args.pair.1
   put = put_same _ _ c.requires _ _ _ at
 
 pub returns-then-is_free-clause-sorted : goal.returns-then-is_free-clause-sorted
 returns-then-is_free-clause-sorted c = (put c).sorted
 
 pub returns-then-is_free-clause-new : goal.returns-then-is_free-clause-new
-returns-then-is_free-clause-new c _ = same_not_counted _ _ c.requires _ c.args.pair.1 _ (at c) (free c)
+returns-then-is_free-clause-new c _ =
+    same_not_counted _ _ c.requires _ c.args.pair.1 _ (at c) (free c)
 
 pub returns-then-is_free-clause-placed : goal.returns-then-is_free-clause-placed
 returns-then-is_free-clause-placed c _ = (put c).placed

@@ -1,11 +1,14 @@
-use Rattle.ent_storage.proofs.Common.{rules, Some, ap, sym, ◌∙◌, slice_get_within, get_or_from_slice_get, slice_get-get_or}
+use Rattle.ent_storage.proofs.Common.{rules, Some, ap, sym, ◌∙◌, slice_get_within}
+use Rattle.ent_storage.proofs.Common.{get_or_from_slice_get, slice_get-get_or}
 use Rattle.ent_storage.proofs.Dense.{not_past}
 use Rattle.ent_storage.proofs.Sparse.{missing, had, is_handle}
 use Rattle.ent_storage.proofs.sparse_map.find.Goals as goal
 
 pub returns-in_err-position : goal.returns-in_err-position
 returns-in_err-position g c =
-    let none = missing _ _ c.requires c.args.handle (λ k v s d. search (rules, not_past, slice_get_within, s)) in
+    let none =
+    missing _ _ c.requires c.args.handle
+    (λ k v s d. search (rules, not_past, slice_get_within, s)) in
     search (rules, none)
 
 pub returns-in_err-entry : goal.returns-in_err-entry

@@ -13,5 +13,6 @@ returns-in-Err-Memory-clause-stopped c =
       faults_are = rw is at ensured.stopped_faults;
       memory = rw is at ensured.stopped_memory;
       whole_world = λ w earlier stopped. (rw is at (ensured.whole_later w earlier stopped)).world;
-      whole_faults = λ w earlier stopped. (rw is at (ensured.whole_later w earlier stopped)).faults_are;
+      whole_faults =
+          λ w earlier stopped. (rw is at (ensured.whole_later w earlier stopped)).faults_are;
     }

@@ -1,4 +1,5 @@
-use Rattle.ent_total.proofs.Common.{◌≡◌, ◌≤◌, ◌+◌, ◌++◌, length, vec_len, vec_capacity, IsOf, AreOf, reservers_of, All}
+use Rattle.ent_total.proofs.Common.{◌≡◌, ◌≤◌, ◌+◌, ◌++◌, length, vec_len, vec_capacity, IsOf, AreOf}
+use Rattle.ent_total.proofs.Common.{reservers_of, All}
 use Rattle.ent_total.proofs.returning.bring_back.Given as goal
 
 -- those that came so far

@@ -1,4 +1,6 @@
-use Rattle.ent_world.proofs.Common.{flat_map-cons, rules, ◌≡◌, ◌<◌, ◌∷◌, arith, IfSome, IsSomeAnd, is_some, true, w64, FitsSigned, append_assoc, All-tail, All-cons, Handle, ComponentId, birth_of, value_of, IsBirth}
+use Rattle.ent_world.proofs.Common.{flat_map-cons, rules, ◌≡◌, ◌<◌, ◌∷◌, arith, IfSome, IsSomeAnd}
+use Rattle.ent_world.proofs.Common.{is_some, true, w64, FitsSigned, append_assoc, All-tail}
+use Rattle.ent_world.proofs.Common.{All-cons, Handle, ComponentId, birth_of, value_of, IsBirth}
 use Rattle.std.specs.FinMap as map
 use Rattle.ent_world.proofs.image.write_entities.Goals as goal
 
@@ -18,6 +20,9 @@ loop-handle-preserved c =
       placed = All-tail HasRow h left (rw step at loop.placed);
       room = omega (arith, room, c.write_entity.ensures.len, c.write_entity.ensures.capacity);
       items = search (rules, append_assoc, flat_map-cons);
-      births = λ all. loop.births (rw step (All-cons HasBirth h left c.write_entity.ensures.birth all));
-      values = λ all. loop.values (rw step (All-cons HasValues h left c.write_entity.ensures.values all));
+      births =
+          λ all. loop.births (rw step (All-cons HasBirth h left c.write_entity.ensures.birth all));
+      values =
+          λ all.
+          loop.values (rw step (All-cons HasValues h left c.write_entity.ensures.values all));
     }

@@ -4,7 +4,8 @@ use Rattle.ent_world.proofs.spawning.next_handle.Goals.{After-reply_one}
 use Rattle.ent_world.proofs.spawning.next_handle.Goals as goal
 
 -- it is the reply to a request for one
-replied : (c : After-reply_one) → listed_alone c.reply_one.result ≡ reply_to c.args.entities.now.allocator 1
+replied : (c : After-reply_one)
+    → listed_alone c.reply_one.result ≡ reply_to c.args.entities.now.allocator 1
 replied c = search (rules, reply_at_top)
 
 pub returns-in-Ok-clause-front : goal.returns-in-Ok-clause-front

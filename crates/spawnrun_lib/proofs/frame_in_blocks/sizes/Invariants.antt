@@ -1,4 +1,5 @@
-use Rattle.spawnrun_lib.proofs.Common.{◌≡◌, ◌≤◌, ◌+◌, length, take, drop, vec_len, vec_capacity, sizes_of}
+use Rattle.spawnrun_lib.proofs.Common.{◌≡◌, ◌≤◌, ◌+◌, length, take, drop, vec_len, vec_capacity}
+use Rattle.spawnrun_lib.proofs.Common.{sizes_of}
 use Rattle.spawnrun_lib.proofs.frame_in_blocks.sizes.Given as goal
 
 abbrev pub invariant-loop-system : goal.invariant-loop-system

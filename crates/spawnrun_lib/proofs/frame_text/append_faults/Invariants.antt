@@ -1,4 +1,5 @@
-use Rattle.spawnrun_lib.proofs.Common.{◌≡◌, ◌≤◌, ◌++◌, take, drop, vec_len, vec_capacity, flat_map, fault_line}
+use Rattle.spawnrun_lib.proofs.Common.{◌≡◌, ◌≤◌, ◌++◌, take, drop, vec_len, vec_capacity, flat_map}
+use Rattle.spawnrun_lib.proofs.Common.{fault_line}
 use Rattle.spawnrun_lib.proofs.frame_text.append_faults.Given as goal
 
 abbrev pub invariant-loop-fault : goal.invariant-loop-fault

@@ -8,6 +8,6 @@ abbrev pub invariant-loop-operation : goal.invariant-loop-operation
 invariant-loop-operation g l = record {
   extends : Extends Issues g.S.Source.serves g.S.Source.may_reply l.initial.commands l.commands;
   roll : IsRollOf l.view l.roll;
-  run : HasRun l.view l.operations l.operation-index (names_of l.names) (output_of l.initial.commands)
-      (output_of l.commands);
+  run : HasRun l.view l.operations l.operation-index (names_of l.names)
+      (output_of l.initial.commands) (output_of l.commands);
 }

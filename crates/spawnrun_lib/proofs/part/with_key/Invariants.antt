@@ -1,4 +1,5 @@
-use Rattle.spawnrun_lib.proofs.Common.{◌≡◌, ◌≤◌, ◌++◌, IsUtf8, length, inline_text, flat_map, chars, chars_rest, key_char, ArePrintable, front}
+use Rattle.spawnrun_lib.proofs.Common.{◌≡◌, ◌≤◌, ◌++◌, IsUtf8, length, inline_text, flat_map, chars}
+use Rattle.spawnrun_lib.proofs.Common.{chars_rest, key_char, ArePrintable, front}
 use Rattle.spawnrun_lib.proofs.part.with_key.Given as goal
 
 abbrev pub invariant-loop-letter : goal.invariant-loop-letter

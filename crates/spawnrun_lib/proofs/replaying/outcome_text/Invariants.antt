@@ -1,4 +1,5 @@
-use Rattle.spawnrun_lib.proofs.Common.{◌≡◌, take, after_events, outcomes_of, starting, outcome_lines}
+use Rattle.spawnrun_lib.proofs.Common.{◌≡◌, take, after_events, outcomes_of, starting}
+use Rattle.spawnrun_lib.proofs.Common.{outcome_lines}
 use Rattle.spawnrun_lib.proofs.replaying.outcome_text.Given as goal
 
 abbrev pub invariant-loop-done : goal.invariant-loop-done

@@ -1,5 +1,6 @@
 use Rattle.spawnrun_lib.proofs.Fronts.{decimal-printable, passes, three}
-use Rattle.spawnrun_lib.proofs.Common.{rules, ◌≡◌, ℕ, ◌++◌, List, sym, subst, codes, decimal, inline_text, ArePrintable}
+use Rattle.spawnrun_lib.proofs.Common.{rules, ◌≡◌, ℕ, ◌++◌, List, sym, subst, codes, decimal}
+use Rattle.spawnrun_lib.proofs.Common.{inline_text, ArePrintable}
 use Rattle.spawnrun_lib.proofs.schedule.schedule_found.Goals as goal
 
 framed : (shown number : List ℕ) → ArePrintable shown → ArePrintable number

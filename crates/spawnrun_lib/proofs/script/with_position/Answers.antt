@@ -1,8 +1,10 @@
-use Rattle.spawnrun_lib.proofs.Common.{rules, arith, ◌≡◌, ◌++◌, List, ℕ, append_assoc, refl, common_steps}
+use Rattle.spawnrun_lib.proofs.Common.{rules, arith, ◌≡◌, ◌++◌, List, ℕ, append_assoc, refl}
+use Rattle.spawnrun_lib.proofs.Common.{common_steps}
 use Rattle.spawnrun_lib.proofs.Fronts.{added}
 use Rattle.spawnrun_lib.proofs.script.with_position.Goals as goal
 
-seven : (s a b c d e f g : List ℕ) → s ++ a ++ b ++ c ++ d ++ e ++ f ++ g ≡ s ++ (a ++ b ++ c ++ d ++ e ++ f ++ g)
+seven : (s a b c d e f g : List ℕ)
+    → s ++ a ++ b ++ c ++ d ++ e ++ f ++ g ≡ s ++ (a ++ b ++ c ++ d ++ e ++ f ++ g)
 seven s a b c d e f g = simp append_assoc refl
 
 pub returns-in-Frame-clause-printable : goal.returns-in-Frame-clause-printable

@@ -12,7 +12,9 @@ loop-current-preserved g c =
     let front = c.in-Some.ensures.steps.0 in
     let went = c.in_ok-report.ensures.went in
     let ends = rw c.systems.ensures at went.1 in
-    let on = has_gone_on c.args.workers c.args.show c.args.world.now c.loop-current.world c.run.new.world gone x
+    let on =
+    has_gone_on c.args.workers c.args.show c.args.world.now c.loop-current.world c.run.new.world
+    gone x
     c.loop-current.text.items went.0 _ _ i.run ends in
     record {
       all = goes_on gone old rest x front c.args.frames.items i.all;

@@ -8,7 +8,8 @@ returns g c =
     search (
       rules,
       text_in_blocks c.args.script c.args.size c.args.show c.new-world.result c.in_ok-world.world
-          c.into_parts-limits.result.2.items (map string_bytes c.deref.result.now) c.in_ok-world.text.items wrote.0
+          c.into_parts-limits.result.2.items (map string_bytes c.deref.result.now)
+          c.in_ok-world.text.items wrote.0
           c.write_world.new.out.items c.in_ok-world.ensures.went,
     )
 

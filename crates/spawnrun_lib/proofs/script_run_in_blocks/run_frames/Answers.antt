@@ -11,12 +11,14 @@ loop-current-preserved g c =
     record {
       all = search (rules, append_assoc, rw front at i.all);
       counted = search (rules, length-append, i.counted);
-      few = others_are_few c.loop-current.yielded c.loop-current.current-iterator.rest.items c.next.new.self.rest.items
-          c.in-Some.current front i.few;
+      few =
+          others_are_few c.loop-current.yielded c.loop-current.current-iterator.rest.items
+          c.next.new.self.rest.items c.in-Some.current front i.few;
       run = λ names. search (
         rules,
         i.counted,
-        has_gone_on_in_blocks names c.args.size c.args.show c.args.world c.loop-current.world _ c.loop-current.yielded
+        has_gone_on_in_blocks names c.args.size c.args.show c.args.world c.loop-current.world _
+            c.loop-current.yielded
             c.in-Some.current c.loop-current.text.items went.0 _ _ (i.run names) ends,
       );
     }

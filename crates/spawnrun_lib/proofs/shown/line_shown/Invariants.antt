@@ -1,4 +1,5 @@
-use Rattle.spawnrun_lib.proofs.Common.{◌≡◌, take, inline_text, flat_map, ArePrintable, byte_text, front}
+use Rattle.spawnrun_lib.proofs.Common.{◌≡◌, take, inline_text, flat_map, ArePrintable, byte_text}
+use Rattle.spawnrun_lib.proofs.Common.{front}
 use Rattle.spawnrun_lib.proofs.shown.line_shown.Given as goal
 
 abbrev pub invariant-loop-byte : goal.invariant-loop-byte

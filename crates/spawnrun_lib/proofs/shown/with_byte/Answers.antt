@@ -1,8 +1,10 @@
-use Rattle.spawnrun_lib.proofs.Common.{append_assoc, rules, ◌≡◌, ◌∷◌, [], ℕ, ◌/◌, ◌%◌, arith, false, cond-false, nat_tests, byte_text, hex, is_printable}
+use Rattle.spawnrun_lib.proofs.Common.{append_assoc, rules, ◌≡◌, ◌∷◌, [], ℕ, ◌/◌, ◌%◌, arith, false}
+use Rattle.spawnrun_lib.proofs.Common.{cond-false, nat_tests, byte_text, hex, is_printable}
 use Rattle.spawnrun_lib.proofs.Fronts.{front-more}
 use Rattle.spawnrun_lib.proofs.shown.with_byte.Goals as goal
 
-escaped : (byte : ℕ) → is_printable byte ≡ false → byte_text byte ≡ 92 ∷ 120 ∷ hex (byte / 16) ∷ hex (byte % 16) ∷ []
+escaped : (byte : ℕ) → is_printable byte ≡ false
+    → byte_text byte ≡ 92 ∷ 120 ∷ hex (byte / 16) ∷ hex (byte % 16) ∷ []
 escaped byte not_printable = search (rules, cond-false)
 
 pub returns-clause-text : goal.returns-clause-text

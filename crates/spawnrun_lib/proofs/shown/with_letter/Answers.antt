@@ -1,8 +1,10 @@
-use Rattle.spawnrun_lib.proofs.Common.{rules, ◌∷◌, ◌++◌, [], arith, common_steps, All-push, inline_text, ArePrintable}
+use Rattle.spawnrun_lib.proofs.Common.{rules, ◌∷◌, ◌++◌, [], arith, common_steps, All-push}
+use Rattle.spawnrun_lib.proofs.Common.{inline_text, ArePrintable}
 use Rattle.spawnrun_lib.proofs.Fronts.{cut_is_front, front-printable, length-front}
 use Rattle.spawnrun_lib.proofs.shown.with_letter.Goals as goal
 
-printable : (c : goal.After-bytes-2-1) → ArePrintable (inline_text c.args.shown ++ c.args.letter ∷ [])
+printable : (c : goal.After-bytes-2-1)
+    → ArePrintable (inline_text c.args.shown ++ c.args.letter ∷ [])
 printable c = search (rules, All-push)
 
 pub returns-clause-text : goal.returns-clause-text

@@ -1,4 +1,5 @@
-use Rattle.spawnrun_lib.proofs.Common.{◌≡◌, ◌≤◌, ◌++◌, IsUtf8, length, inline_text, chars_rest, ArePrintable, plain, front}
+use Rattle.spawnrun_lib.proofs.Common.{◌≡◌, ◌≤◌, ◌++◌, IsUtf8, length, inline_text, chars_rest}
+use Rattle.spawnrun_lib.proofs.Common.{ArePrintable, plain, front}
 use Rattle.spawnrun_lib.proofs.shown.with_text.Given as goal
 
 abbrev pub invariant-loop-letter : goal.invariant-loop-letter

@@ -1,4 +1,5 @@
-use Rattle.spawnrun_lib.proofs.Common.{◌≡◌, ◌≤◌, ◌++◌, map, string_bytes, take, drop, vec_len, vec_capacity, flat_map, line_in}
+use Rattle.spawnrun_lib.proofs.Common.{◌≡◌, ◌≤◌, ◌++◌, map, string_bytes, take, drop, vec_len}
+use Rattle.spawnrun_lib.proofs.Common.{vec_capacity, flat_map, line_in}
 use Rattle.spawnrun_lib.proofs.world_text.append_entities.Given as goal
 
 abbrev pub invariant-loop-handle : goal.invariant-loop-handle

@@ -1,11 +1,15 @@
-use Rattle.spawnrun_lib.proofs.Common.{rules, ◌≡◌, ◌+◌, ◌++◌, ℕ, List, length, refl, flat_map, err_from_is_err_and, on_err_weaker, Handle, EntityMap, ListsAll, Show, line_in, alive_line, IsWorldText, length-append}
+use Rattle.spawnrun_lib.proofs.Common.{rules, ◌≡◌, ◌+◌, ◌++◌, ℕ, List, length, refl, flat_map}
+use Rattle.spawnrun_lib.proofs.Common.{err_from_is_err_and, on_err_weaker, Handle, EntityMap}
+use Rattle.spawnrun_lib.proofs.Common.{ListsAll, Show, line_in, alive_line, IsWorldText}
+use Rattle.spawnrun_lib.proofs.Common.{length-append}
 use Rattle.std.specs.FinMap as finite
 use Rattle.spawnrun_lib.proofs.OneCourse.{one_text}
 use Rattle.spawnrun_lib.proofs.world_text.append_world.Goals as goal
 
 -- the one text has the lines of these handles and the last line
-long : (names : List (List ℕ)) (s : Show) (m : EntityMap) (handles : List Handle) (text : List ℕ) → ListsAll m handles
-    → IsWorldText names s m text → length text ≡ length (flat_map (line_in names s m) handles)
+long : (names : List (List ℕ)) (s : Show) (m : EntityMap) (handles : List Handle) (text : List ℕ)
+    → ListsAll m handles → IsWorldText names s m text
+    → length text ≡ length (flat_map (line_in names s m) handles)
     + length (alive_line (finite.len m))
 long names s m handles text lists is = search (
   rules,

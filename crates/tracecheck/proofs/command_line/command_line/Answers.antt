@@ -1,5 +1,8 @@
-use Rattle.tracecheck.proofs.Common.{rules, ◌≡◌, ◌∙◌, List, ℕ, true, ap, map, takes, only_memory, is_taken, App}
-use Rattle.tracecheck.proofs.Beginnings.{both_not_taken, clap_fault, faultless_of_one, faulty_of_both, is_taken-takes, generations-given, slots-given}
+use Rattle.tracecheck.proofs.Common.{rules, ◌≡◌, ◌∙◌, List, ℕ, true, ap, map, takes, only_memory}
+use Rattle.tracecheck.proofs.Common.{is_taken, App}
+use Rattle.tracecheck.proofs.Beginnings.{both_not_taken, clap_fault, faultless_of_one}
+use Rattle.tracecheck.proofs.Beginnings.{faulty_of_both, is_taken-takes, generations-given}
+use Rattle.tracecheck.proofs.Beginnings.{slots-given}
 use Rattle.tracecheck.proofs.command_line.command_line.Goals as goal
 
 pub returns-in_err-matches-clause-refused : goal.returns-in_err-matches-clause-refused
@@ -10,7 +13,8 @@ returns-in_err-matches-clause-refused g c =
     ∙ is_taken-takes words yes))
 
 pub returns-in_err-matches-clause-fault : goal.returns-in_err-matches-clause-fault
-returns-in_err-matches-clause-fault g c = clap_fault _ _ _ (map g.S.AsStr.text c.args.words.now) c.in_ok-program.ensures
+returns-in_err-matches-clause-fault g c =
+    clap_fault _ _ _ (map g.S.AsStr.text c.args.words.now) c.in_ok-program.ensures
     c.from_residual-in_err-matches.ensures.1 c.in_err-matches.ensures.kinds
 
 pub beginning_of-requires-clause-slots : goal.beginning_of-requires-clause-slots
@@ -20,14 +24,18 @@ pub beginning_of-requires-clause-generations : goal.beginning_of-requires-clause
 beginning_of-requires-clause-generations g c = search (rules, generations-given)
 
 pub returns-clause-taken : goal.returns-clause-taken
-returns-clause-taken g c = faultless_of_one _ (map g.S.AsStr.text c.args.words.now) _ c.in_ok-program.ensures
-    c.in_ok-matches.ensures.matches c.beginning_of.result c.in_ok-matches.ensures.kinds c.beginning_of.ensures.one
+returns-clause-taken g c =
+    faultless_of_one _ (map g.S.AsStr.text c.args.words.now) _ c.in_ok-program.ensures
+    c.in_ok-matches.ensures.matches c.beginning_of.result c.in_ok-matches.ensures.kinds
+    c.beginning_of.ensures.one
 
 pub returns-clause-fault : goal.returns-clause-fault
-returns-clause-fault g c = faulty_of_both _ (map g.S.AsStr.text c.args.words.now) _ c.in_ok-program.ensures
-    c.in_ok-matches.ensures.matches c.beginning_of.result c.in_ok-matches.ensures.kinds c.beginning_of.ensures.both
-    c.beginning_of.ensures.fault
+returns-clause-fault g c =
+    faulty_of_both _ (map g.S.AsStr.text c.args.words.now) _ c.in_ok-program.ensures
+    c.in_ok-matches.ensures.matches c.beginning_of.result c.in_ok-matches.ensures.kinds
+    c.beginning_of.ensures.both c.beginning_of.ensures.fault
 
 pub returns-clause-refused : goal.returns-clause-refused
-returns-clause-refused g c = both_not_taken _ (map g.S.AsStr.text c.args.words.now) _ c.in_ok-program.ensures
+returns-clause-refused g c =
+    both_not_taken _ (map g.S.AsStr.text c.args.words.now) _ c.in_ok-program.ensures
     c.in_ok-matches.ensures.matches c.beginning_of.result c.beginning_of.ensures.both

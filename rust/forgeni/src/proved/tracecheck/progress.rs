@@ -20,7 +20,8 @@ const STEP: u64 = 1_000_000;
 /// ensures early { lines / 1000000 ≤ told → terminal.new ≡ terminal.old }
 /// ensures said { is_wanted ≡ true → told < lines / 1000000
 ///     → T.failures terminal.new ≡ T.failures terminal.old
-///     → Appends (T.written terminal.old) (T.written terminal.new) (millions_text (lines / 1000000)) }
+///     → Appends (T.written terminal.old) (T.written terminal.new)
+///     (millions_text (lines / 1000000)) }
 /// ensures once { is_wanted ≡ true → told < lines / 1000000 → result ≡ lines / 1000000 }
 /// ensures kept { lines / 1000000 ≤ told → result ≡ told }
 /// ```

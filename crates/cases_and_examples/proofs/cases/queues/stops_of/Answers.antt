@@ -9,7 +9,8 @@ pub returns-in-Some-SpawnMany : goal.returns-in-Some-SpawnMany
 returns-in-Some-SpawnMany c =
     let here : c.args.command ≡ c.loop-number._number = omega
     (arith, c.loop-number-test.false, c.loop-number.auto._number-end) in
-    let left = ap (λ n. drop n c.args.queue.now) here ∙ sym c.loop-number.invariant ∙ c.in-Some-SpawnMany.ensures.steps
+    let left = ap (λ n. drop n c.args.queue.now) here ∙ sym c.loop-number.invariant
+    ∙ c.in-Some-SpawnMany.ensures.steps
     ∙ ap (λ (e : Entry). command_of e ∷ c.next-2.new.self) c.in-Some-SpawnMany.field-0-is in
     omega (arith, ap stops left, c.len.ensures)
 
@@ -17,5 +18,6 @@ pub returns-in-Some-next : goal.returns-in-Some-next
 returns-in-Some-next c =
     let here : c.args.command ≡ c.loop-number._number = omega
     (arith, c.loop-number-test.false, c.loop-number.auto._number-end) in
-    let left = ap (λ n. drop n c.args.queue.now) here ∙ sym c.loop-number.invariant ∙ c.in-Some-next.ensures.steps in
+    let left = ap (λ n. drop n c.args.queue.now) here ∙ sym c.loop-number.invariant
+    ∙ c.in-Some-next.ensures.steps in
     omega (arith, ap stops left, some_stop (command_of c.in-Some-next.field-0) c.next-2.new.self)

@@ -15,7 +15,8 @@ pub returns-then-count-room-clause-at_most : goal.returns-then-count-room-clause
 returns-then-count-room-clause-at_most g c = λ _. TakesAtMost-Takes _ _ _
     (returns-then-count-room-clause-stops g c refl)
 
-pub returns-in_err-extend_from_slice-clause-at_most : goal.returns-in_err-extend_from_slice-clause-at_most
+pub returns-in_err-extend_from_slice-clause-at_most :
+    goal.returns-in_err-extend_from_slice-clause-at_most
 returns-in_err-extend_from_slice-clause-at_most g c = λ _. (
   c.loop.bytes.items ++ take c.in_ok-count.count c.take.new.buffer,
   grind (arith, common_steps),

@@ -8,6 +8,7 @@ invariant-loop g l =
     record {
       progress : l.counter ≤ vec_len l.bytes;
       within : vec_len l.bytes ≤ l.limit;
-      taken : Consumes (device.remaining l.initial.source) (device.remaining l.source) l.bytes.items;
+      taken : Consumes (device.remaining l.initial.source) (device.remaining l.source)
+          l.bytes.items;
       failures : device.failures l.source ≡ device.failures l.initial.source;
     }

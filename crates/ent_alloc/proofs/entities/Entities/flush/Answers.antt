@@ -1,4 +1,5 @@
-use Rattle.ent_alloc.proofs.Common.{rules, Result, Ok, Err, OnErr, ◌-◌, length, ap, subst, ◌∙◌, length-take-le, after_flush, IsSound, Entities, HasRowsOfLiving}
+use Rattle.ent_alloc.proofs.Common.{rules, Result, Ok, Err, OnErr, ◌-◌, length, ap, subst, ◌∙◌}
+use Rattle.ent_alloc.proofs.Common.{length-take-le, after_flush, IsSound, Entities, HasRowsOfLiving}
 use Rattle.ent_alloc.proofs.Soundness.{after_flush-sound}
 use Rattle.ent_alloc.proofs.Meaning.{allocator_is, length-idle, closed, StandFor}
 use Rattle.ent_alloc.proofs.MeaningOfSteps.{flushed_roster, made_at_flush_is, flush_is}
@@ -20,9 +21,12 @@ left c =
     let inv = c.self.invariant in
     let given = c.self.inside.requests.served in
     let is = flush_is r c.self.inside.requests.asked given inv.given_least inv.given_in inv.sound in
-    closed c.bring_to_life.new.self (flushed_roster r (length r.pending - given) (given - length r.pending))
-    c.none-self-inside.result (after_flush c.args.self.now.allocator) (search (rules)) c.none-self-inside.ensures
-    (is ∙ ap after_flush view) (search (rules, after_flush-sound, view)) (search (rules, rows-joined))
+    closed c.bring_to_life.new.self
+    (flushed_roster r (length r.pending - given) (given - length r.pending))
+    c.none-self-inside.result (after_flush c.args.self.now.allocator) (search (rules))
+    c.none-self-inside.ensures
+    (is ∙ ap after_flush view) (search (rules, after_flush-sound, view))
+    (search (rules, rows-joined))
 
 pub returns-in_err-bring_to_life-clause-memory : goal.returns-in_err-bring_to_life-clause-memory
 returns-in_err-bring_to_life-clause-memory c = search

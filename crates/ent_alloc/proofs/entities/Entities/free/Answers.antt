@@ -1,4 +1,5 @@
-use Rattle.ent_alloc.proofs.Common.{arith, rules, ◌≡◌, ◌≢◌, true, common_steps, cases_eq, after_free, allocator_of, freed_roster, retired_roster}
+use Rattle.ent_alloc.proofs.Common.{arith, rules, ◌≡◌, ◌≢◌, true, common_steps, cases_eq}
+use Rattle.ent_alloc.proofs.Common.{after_free, allocator_of, freed_roster, retired_roster}
 use Rattle.std.specs.FinSet as sets
 use Rattle.ent_alloc.proofs.Soundness.{after_free-sound}
 use Rattle.ent_alloc.proofs.Meaning.{allocator_is, at_rest, closed, StandFor}

@@ -1,7 +1,10 @@
-use Rattle.ent_alloc.proofs.Common.{rules, ◌≡◌, ◌+◌, subst, sym, arith, length, inl, inr, ℕ, ◌-◌, ints, cases_lt, Requests, Roster, Allocator, AreReserved, IsSpanOf, IsSound, pos, ◌^◌, ◌<◌, ◌≤◌, ◌-ℤ◌, cursor, after_take}
+use Rattle.ent_alloc.proofs.Common.{rules, ◌≡◌, ◌+◌, subst, sym, arith, length, inl, inr, ℕ, ◌-◌}
+use Rattle.ent_alloc.proofs.Common.{ints, cases_lt, Requests, Roster, Allocator, AreReserved}
+use Rattle.ent_alloc.proofs.Common.{IsSpanOf, IsSound, pos, ◌^◌, ◌<◌, ◌≤◌, ◌-ℤ◌, cursor, after_take}
 use Rattle.ent_alloc.proofs.PoolLaw.{top-after_take}
 use Rattle.ent_alloc.proofs.Meaning.{allocator_is, length_available}
-use Rattle.ent_alloc.proofs.MeaningOfSteps.{served_view, served_reserved, refused_view, refused_reserved}
+use Rattle.ent_alloc.proofs.MeaningOfSteps.{served_view, served_reserved, refused_view}
+use Rattle.ent_alloc.proofs.MeaningOfSteps.{refused_reserved}
 use Rattle.ent_alloc.proofs.entities.Entities.lower.Goals.{After-available-available}
 use Rattle.ent_alloc.proofs.entities.Entities.lower.Goals as goal
 

@@ -1,4 +1,9 @@
-use Rattle.ent_alloc.proofs.Common.{rules, ◌≡◌, ℕ, ◌+◌, ◌-◌, ◌<◌, false, length, drop, leb, get_or, ◌∙◌, arith, lt-leb, Handle, Roster, Allocator, available, fresh, stands_in, allocator_of, AreReserved, le-leb, ◌≤◌, true, ◌||◌, List, slice_get, Some, common_steps, get_or-append-add, get_or_append_left, length-reverse, get_or-reverse, list_any-append, slice_get-get_or, idle}
+use Rattle.ent_alloc.proofs.Common.{rules, ◌≡◌, ℕ, ◌+◌, ◌-◌, ◌<◌, false, length, drop, leb, get_or}
+use Rattle.ent_alloc.proofs.Common.{◌∙◌, arith, lt-leb, Handle, Roster, Allocator, available, fresh}
+use Rattle.ent_alloc.proofs.Common.{stands_in, allocator_of, AreReserved, le-leb, ◌≤◌, true, ◌||◌}
+use Rattle.ent_alloc.proofs.Common.{List, slice_get, Some, common_steps, get_or-append-add}
+use Rattle.ent_alloc.proofs.Common.{get_or_append_left, length-reverse, get_or-reverse}
+use Rattle.ent_alloc.proofs.Common.{list_any-append, slice_get-get_or, idle}
 use Rattle.ent_alloc.proofs.Looked.{fresh_no}
 use Rattle.ent_alloc.proofs.Meaning.{allocator_is, available_is, length-idle}
 use Rattle.ent_alloc.proofs.FreshHandles.{length-fresh, get_or-fresh}
@@ -33,22 +38,34 @@ waiting_place r h n within is =
     search (rules, slice_get-get_or, get_or_append_left, get_or-reverse)
 
 -- a fresh one stands after all that wait
-fresh_place : (r : Roster) (h : Handle) → stands_in (fresh r.made (r.limits.slots - r.made)) h ≡ true
+fresh_place : (r : Roster) (h : Handle)
+    → stands_in (fresh r.made (r.limits.slots - r.made)) h ≡ true
     → (r.made ≤ h.index) × (slice_get (idle r) (length r.pending + (h.index - r.made)) ≡ Some h)
-fresh_place r h stands = search
-    (rules, Contains-from_stands_in, length-fresh, get_or-fresh, length-reverse, length-idle, slice_get-get_or, get_or-append-add)
+fresh_place r h stands =
+    search (
+      rules,
+      Contains-from_stands_in,
+      length-fresh,
+      get_or-fresh,
+      length-reverse,
+      length-idle,
+      slice_get-get_or,
+      get_or-append-add,
+    )
 
 -- it neither waits nor is it fresh
 nowhere : (r : Roster) (asked given : ℕ) (s : Allocator) (h : Handle) → AreReserved r asked given
     → allocator_of r asked given ≡ s → stands_in (drop 0 r.pending) h ≡ false
-    → stands_in (fresh r.made (r.limits.slots - r.made)) h ≡ false → stands_in (available s) h ≡ false
+    → stands_in (fresh r.made (r.limits.slots - r.made)) h ≡ false
+    → stands_in (available s) h ≡ false
 nowhere r asked given s h inv view waits fresh_is = search (rules, available_view, stands_idle)
 
 -- where it waits
-waiting : (r : Roster) (h : Handle) (position : ℕ) → ((from : ℕ)
-    → stands_in (drop from r.pending) h ≡ leb from position) → (position < length r.pending) × (get_or r.pending
-    position h ≡ h)
-waiting r h position waits = waits_here r.pending h position (waits position ∙ le-leb position position (omega arith))
+waiting : (r : Roster) (h : Handle) (position : ℕ)
+    → ((from : ℕ) → stands_in (drop from r.pending) h ≡ leb from position)
+    → (position < length r.pending) × (get_or r.pending position h ≡ h)
+waiting r h position waits =
+    waits_here r.pending h position (waits position ∙ le-leb position position (omega arith))
     (waits (position + 1) ∙ lt-leb (position + 1) position (omega arith))
 
 -- where the slot waits that was looked up
@@ -70,17 +87,43 @@ returns-in-Some-Pending-clause-found c = search
 pub returns-in-Some-Alive-clause-none : goal.returns-in-Some-Alive-clause-none
 returns-in-Some-Alive-clause-none c =
     let at = c.in-Some-Alive in
-    search (rules, nowhere, allocator_is, at.field-0-is, at.ensures.made, at.ensures.waits 0, fresh_no, c.args.handle)
+    search (
+      rules,
+      nowhere,
+      allocator_is,
+      at.field-0-is,
+      at.ensures.made,
+      at.ensures.waits 0,
+      fresh_no,
+      c.args.handle,
+    )
 
 pub returns-in-Some-AliveWithRow-clause-none : goal.returns-in-Some-AliveWithRow-clause-none
 returns-in-Some-AliveWithRow-clause-none c =
     let at = c.in-Some-AliveWithRow in
-    search (rules, nowhere, at.field-0-is, at.ensures.made, at.ensures.waits 0, fresh_no, c.args.handle)
+    search (
+      rules,
+      nowhere,
+      at.field-0-is,
+      at.ensures.made,
+      at.ensures.waits 0,
+      fresh_no,
+      c.args.handle,
+    )
 
 pub returns-in-Some-Retired-clause-none : goal.returns-in-Some-Retired-clause-none
 returns-in-Some-Retired-clause-none c =
     let at = c.in-Some-Retired in
-    search (rules, nowhere, allocator_is, at.field-0-is, at.ensures.made, at.ensures.waits 0, fresh_no, c.args.handle)
+    search (
+      rules,
+      nowhere,
+      allocator_is,
+      at.field-0-is,
+      at.ensures.made,
+      at.ensures.waits 0,
+      fresh_no,
+      c.args.handle,
+    )
 
 pub returns-in-None-clause-none : goal.returns-in-None-clause-none
 returns-in-None-clause-none c = search
@@ -92,8 +135,17 @@ room_is : (r : Roster) (asked given : ℕ) (s : Allocator) (room : ℕ) → allo
 room_is r asked given s room view is = search rules
 
 pub returns-in-None-2-clause-found : goal.returns-in-None-2-clause-found
-returns-in-None-2-clause-found c = search (rules, allocator_is, room_is, fresh_place, available_view)
+returns-in-None-2-clause-found c =
+    search (rules, allocator_is, room_is, fresh_place, available_view)
 
 pub returns-in-None-3-clause-none : goal.returns-in-None-3-clause-none
-returns-in-None-3-clause-none c = search
-    (rules, nowhere, allocator_is, c.args.handle, c.in-None-3.ensures.waits 0, c.is_next.ensures, c.if-is_next.false)
+returns-in-None-3-clause-none c =
+    search (
+      rules,
+      nowhere,
+      allocator_is,
+      c.args.handle,
+      c.in-None-3.ensures.waits 0,
+      c.is_next.ensures,
+      c.if-is_next.false,
+    )

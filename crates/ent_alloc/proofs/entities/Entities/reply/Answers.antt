@@ -1,7 +1,9 @@
-use Rattle.ent_alloc.proofs.Common.{rules, ◌≡◌, ap, ◌∙◌, Ok, arith, to_z, of_z, w64, ℕ, ints, pool_at, reply_from, reserved_handles}
+use Rattle.ent_alloc.proofs.Common.{rules, ◌≡◌, ap, ◌∙◌, Ok, arith, to_z, of_z, w64, ℕ, ints}
+use Rattle.ent_alloc.proofs.Common.{pool_at, reply_from, reserved_handles}
 use Rattle.ent_alloc.proofs.FreshHandles.{fresh-none}
 use Rattle.ent_alloc.proofs.Meaning.{allocator_is}
-use Rattle.ent_alloc.proofs.OneReply.{reply_none, IsBelowTop, below_top, replied, several, short_of, left_is, IsServed}
+use Rattle.ent_alloc.proofs.OneReply.{reply_none, IsBelowTop, below_top, replied, several, short_of}
+use Rattle.ent_alloc.proofs.OneReply.{left_is, IsServed}
 use Rattle.ent_alloc.proofs.entities.Entities.reply.Goals.{After-self, After-slots}
 use Rattle.ent_alloc.proofs.entities.Entities.reply.Goals as goal
 
@@ -14,9 +16,11 @@ slots_is : (c : After-slots) → c.slots.result ≡ c.self.inside.slots.limits.s
 slots_is c = search rules
 
 -- what a reply lists that owns these positions and indexes
-lists : (c : After-self) (n position end index index_end : ℕ) → IsServed c.self.inside.slots c.args.span.high n position
-    end index index_end → Ok (reserved_handles c.self.inside.slots position end index index_end)
-    ≡ reply_from c.args.self.now.allocator.made (pool_at c.args.self.now.allocator c.args.span.high) n
+lists : (c : After-self) (n position end index index_end : ℕ)
+    → IsServed c.self.inside.slots c.args.span.high n position end index index_end
+    → Ok (reserved_handles c.self.inside.slots position end index index_end)
+    ≡ reply_from c.args.self.now.allocator.made (pool_at c.args.self.now.allocator c.args.span.high)
+    n
 lists c = search (rules, several, allocator_is)
 
 pub returns-then-low-high : goal.returns-then-low-high
@@ -39,7 +43,8 @@ returns-then-index_end-from c n requested =
     let word : to_z w64 (of_z w64 c.args.span.high) ≡ c.args.span.high = omega (arith, ints) in
     let view = allocator_is c.self.view_is in
     let left = left_is _ _ _ c.args.span.high _ c.self.invariant view in
-    short_of _ _ _ c.args.span.high _ c.self.invariant view n _ _ (omega (arith, ints)) (omega (arith, ints))
+    short_of _ _ _ c.args.span.high _ c.self.invariant view n _ _ (omega (arith, ints))
+    (omega (arith, ints))
     (omega (arith, ints)) (search (rules, c.left_below.ensures, word, left))
 
 pub new-requires-then-high-gt0 : goal.new-requires-then-high-gt0

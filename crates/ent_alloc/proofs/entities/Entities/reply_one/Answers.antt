@@ -1,4 +1,5 @@
-use Rattle.ent_alloc.proofs.Common.{rules, ◌≡◌, ◌+◌, pos, ◌-ℤ◌, nat_abs, ap, ◌∙◌, ◌∷◌, [], Ok, arith, to_z, of_z, w64, ints, Handle}
+use Rattle.ent_alloc.proofs.Common.{rules, ◌≡◌, ◌+◌, pos, ◌-ℤ◌, nat_abs, ap, ◌∙◌, ◌∷◌, [], Ok}
+use Rattle.ent_alloc.proofs.Common.{arith, to_z, of_z, w64, ints, Handle}
 use Rattle.ent_alloc.proofs.Meaning.{allocator_is}
 use Rattle.ent_alloc.proofs.OneReply.{IsBelowTop, below_top, one_pending, one_fresh, one_refused}
 use Rattle.ent_alloc.proofs.entities.Entities.reply_one.Goals.{After-self, After-slots}
@@ -30,5 +31,6 @@ returns-else-index-from c =
       ints,
       slots_is,
       one_refused _ _ _ _ _ c.self.invariant (allocator_is c.self.view_is)
-          (c.from.result + nat_abs (to_z w64 (of_z w64 (pos 0 -ℤ to_z w64 (of_z w64 c.args.high))))) at.within,
+          (c.from.result + nat_abs (to_z w64 (of_z w64 (pos 0 -ℤ to_z w64 (of_z w64 c.args.high)))))
+          at.within,
     )

@@ -4,7 +4,8 @@ use Rattle.ent_alloc.proofs.entities.Entities.request_any.Goals.{After-reply_one
 use Rattle.ent_alloc.proofs.entities.Entities.request_any.Goals as goal
 
 -- the reply that is looked up is that to the request
-replied : (c : After-reply_one) → listed_alone c.reply_one.result ≡ reply_to c.args.self.now.allocator 1
+replied : (c : After-reply_one)
+    → listed_alone c.reply_one.result ≡ reply_to c.args.self.now.allocator 1
 replied c = search (rules, told_one)
 
 pub returns-in_err-reply_one-clause-space : goal.returns-in_err-reply_one-clause-space

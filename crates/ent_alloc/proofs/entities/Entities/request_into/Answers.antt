@@ -12,13 +12,31 @@ replied : (c : After-reply) → c.reply.result ≡ reply_to c.args.self.now.allo
 replied c = search (rules, told, sound)
 
 pub returns-in_err-reply-clause-refused : goal.returns-in_err-reply-clause-refused
-returns-in_err-reply-clause-refused c = search
-    (rules, of_refused c.args.self.now.allocator c.args.n c.in_err-reply.field-0.0, replied, c.in_err-reply.was, space_of_three)
+returns-in_err-reply-clause-refused c =
+    search (
+      rules,
+      of_refused c.args.self.now.allocator c.args.n c.in_err-reply.field-0.0,
+      replied,
+      c.in_err-reply.was,
+      space_of_three,
+    )
 
 pub append-requires : goal.append-requires
-append-requires c = search
-    (rules, of_served c.args.self.now.allocator c.args.n c.in_ok-reply.field-0, sound, replied, c.in_ok-reply.was)
+append-requires c =
+    search (
+      rules,
+      of_served c.args.self.now.allocator c.args.n c.in_ok-reply.field-0,
+      sound,
+      replied,
+      c.in_ok-reply.was,
+    )
 
 pub returns : goal.returns
-returns c = search
-    (rules, of_served c.args.self.now.allocator c.args.n c.in_ok-reply.field-0, sound, replied, c.in_ok-reply.was)
+returns c =
+    search (
+      rules,
+      of_served c.args.self.now.allocator c.args.n c.in_ok-reply.field-0,
+      sound,
+      replied,
+      c.in_ok-reply.was,
+    )

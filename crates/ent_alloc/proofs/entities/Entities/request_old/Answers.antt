@@ -1,4 +1,5 @@
-use Rattle.ent_alloc.proofs.Common.{rules, ◌≡◌, ◌+◌, ◌-◌, ◌<◌, subst, sym, ap, refl, arith, length, Ok, ints, Allocator, after_take, cursor, top, IsSound}
+use Rattle.ent_alloc.proofs.Common.{rules, ◌≡◌, ◌+◌, ◌-◌, ◌<◌, subst, sym, ap, refl, arith, length}
+use Rattle.ent_alloc.proofs.Common.{Ok, ints, Allocator, after_take, cursor, top, IsSound}
 use Rattle.ent_alloc.proofs.OneReply.{told_one, one_pending}
 use Rattle.ent_alloc.proofs.Meaning.{allocator_is, top_view, StandFor}
 use Rattle.ent_alloc.proofs.MeaningOfSteps.{served_view, served_reserved}
@@ -36,8 +37,12 @@ returns-clause-reply c =
     let below : c.self.inside.requests.asked < length r.pending = c.in_ok-handle.ensures.enough in
     let tops : top s ≡ length r.pending = top_view r _ _ s c.self.invariant view in
     let asked = ap (λ (x : Allocator). x.asked) view in
-    let waits = one_pending r _ _ (cursor s) (after_take s 1) asks.reserved asks.view c.in_ok-handle.handle
-    (length r.pending - 1 - c.self.inside.requests.asked) (omega (arith, ints)) (omega (arith, ints))
+    let waits =
+    one_pending r _ _ (cursor s) (after_take s 1) asks.reserved asks.view c.in_ok-handle.handle
+    (length r.pending - 1 - c.self.inside.requests.asked) (omega (arith, ints))
+    (omega (arith, ints))
     c.in_ok-handle.ensures.some in
-    sym (told_one s (after_take s 1) (cursor s) (subst IsSound view c.self.invariant.sound) refl refl
+    sym
+    (told_one s (after_take s 1) (cursor s) (subst IsSound view c.self.invariant.sound) refl
+    refl
     (Ok c.in_ok-handle.handle) waits)

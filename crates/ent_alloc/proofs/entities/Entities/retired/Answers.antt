@@ -6,8 +6,10 @@ use Rattle.ent_alloc.proofs.entities.Entities.retired.Goals.{After-waiting}
 use Rattle.ent_alloc.proofs.entities.Entities.retired.Goals as goal
 
 -- the slots, counted
-counted : (c : After-waiting) → let s = c.args.self.now.allocator in (c.live.result ≡ set.len s.live)
-    × (c.waiting.result ≡ top s) × (c.total.result ≡ s.made) × (retired s + (set.len s.live + top s) ≡ s.made)
+counted : (c : After-waiting) → let s = c.args.self.now.allocator in
+    (c.live.result ≡ set.len s.live)
+    × (c.waiting.result ≡ top s) × (c.total.result ≡ s.made)
+    × (retired s + (set.len s.live + top s) ≡ s.made)
 counted c = search (rules, allocator_is, top_view, retired-rest)
 
 pub overflow_sub-result : goal.overflow_sub-result

@@ -1,4 +1,6 @@
-use Rattle.ent_alloc.proofs.Common.{rules, ◌≡◌, ℕ, ◌-◌, ◌||◌, Bool, false, cond, length, drop, or-false, Handle, Reserved, Gone, Allocator, fresh, stands_in, state_of, Roster, allocator_of, AreReserved}
+use Rattle.ent_alloc.proofs.Common.{rules, ◌≡◌, ℕ, ◌-◌, ◌||◌, Bool, false, cond, length, drop}
+use Rattle.ent_alloc.proofs.Common.{or-false, Handle, Reserved, Gone, Allocator, fresh, stands_in}
+use Rattle.ent_alloc.proofs.Common.{state_of, Roster, allocator_of, AreReserved}
 use Rattle.std.specs.FinSet as sets
 use Rattle.ent_alloc.proofs.Looked.{fresh_no}
 use Rattle.ent_alloc.proofs.Meaning.{allocator_is}

@@ -1,4 +1,5 @@
-use Rattle.ent_alloc.proofs.Common.{◌≡◌, ◌≤◌, ◌+◌, ◌++◌, take, drop, vec_len, vec_capacity, idle, slots_of}
+use Rattle.ent_alloc.proofs.Common.{◌≡◌, ◌≤◌, ◌+◌, ◌++◌, take, drop, vec_len, vec_capacity, idle}
+use Rattle.ent_alloc.proofs.Common.{slots_of}
 use Rattle.ent_alloc.proofs.slots.Slots.append_slots.Given as goal
 
 abbrev pub invariant-loop-more : goal.invariant-loop-more

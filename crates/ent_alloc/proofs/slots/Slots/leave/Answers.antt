@@ -1,8 +1,10 @@
 use Rattle.ent_alloc.proofs.Common.{rules, ◌≡◌, ◌≢◌, ◌≤◌, true, arith, false≢true}
 use Rattle.std.specs.FinSet as sets
 use Rattle.ent_alloc.proofs.Occupants.{is_occupant, contains_occupants, occupant_generation}
-use Rattle.ent_alloc.proofs.Looked.{one_lives, release_keeps_links, roster_of-release, retire_keeps_links, roster_of-retire}
-use Rattle.ent_alloc.proofs.slots.Slots.leave.Goals.{Else-not-is_occupied_by, After-is_occupied_by, Else-generation-generations}
+use Rattle.ent_alloc.proofs.Looked.{one_lives, release_keeps_links, roster_of-release}
+use Rattle.ent_alloc.proofs.Looked.{retire_keeps_links, roster_of-retire}
+use Rattle.ent_alloc.proofs.slots.Slots.leave.Goals.{Else-not-is_occupied_by, After-is_occupied_by}
+use Rattle.ent_alloc.proofs.slots.Slots.leave.Goals.{Else-generation-generations}
 use Rattle.ent_alloc.proofs.slots.Slots.leave.Goals as goal
 
 -- whom the vectors let live
@@ -17,13 +19,15 @@ some_live : (c : Else-not-is_occupied_by) → 1 ≤ c.self.inside.live
 some_live c = one_lives _ _ _ _ _ c.self.invariant (lives c)
 
 -- it is not of the last generation
-not_last : (c : Else-generation-generations) → c.args.handle.generation ≢ c.self.inside.limits.generations
+not_last : (c : Else-generation-generations)
+    → c.args.handle.generation ≢ c.self.inside.limits.generations
 not_last c last = search (rules)
 
 pub returns-in_default-clause-not_alive : goal.returns-in_default-clause-not_alive
 returns-in_default-clause-not_alive c = search (rules, contains_occupants, c.self.view_is)
 
-pub returns-then-not-is_occupied_by-clause-not_alive : goal.returns-then-not-is_occupied_by-clause-not_alive
+pub returns-then-not-is_occupied_by-clause-not_alive :
+    goal.returns-then-not-is_occupied_by-clause-not_alive
 returns-then-not-is_occupied_by-clause-not_alive c = search (rules, living)
 
 pub overflow_sub-self : goal.overflow_sub-self
@@ -32,14 +36,23 @@ overflow_sub-self c = search (rules, some_live)
 pub overflow_sub-self-2 : goal.overflow_sub-self-2
 overflow_sub-self-2 c = search (rules, some_live)
 
-pub invariant_of-self-then-generation-generations : goal.invariant_of-self-then-generation-generations
+pub invariant_of-self-then-generation-generations :
+    goal.invariant_of-self-then-generation-generations
 invariant_of-self-then-generation-generations c =
-    let lives = lives (goal.at.invariant_of-self-then-generation-generations c).Else-not-is_occupied_by in
-    search (rules, occupant_generation c.self.inside.records.items c.args.handle lives, retire_keeps_links _ _ _ _ _ c.self.invariant lives)
+    let lives =
+    lives (goal.at.invariant_of-self-then-generation-generations c).Else-not-is_occupied_by in
+    search (
+      rules,
+      occupant_generation c.self.inside.records.items c.args.handle lives,
+      retire_keeps_links _ _ _ _ _ c.self.invariant lives,
+    )
 
-pub returns-then-generation-generations-clause-retired : goal.returns-then-generation-generations-clause-retired
+pub returns-then-generation-generations-clause-retired :
+    goal.returns-then-generation-generations-clause-retired
 returns-then-generation-generations-clause-retired c last =
-    let lives = lives (goal.at.returns-then-generation-generations-clause-retired c).Else-not-is_occupied_by in
+    let lives =
+    lives
+    (goal.at.returns-then-generation-generations-clause-retired c).Else-not-is_occupied_by in
     search (
       rules,
       occupant_generation c.self.inside.records.items c.args.handle lives,
@@ -47,10 +60,12 @@ returns-then-generation-generations-clause-retired c last =
       c.self.view_is,
     )
 
-pub returns-then-generation-generations-clause-lived : goal.returns-then-generation-generations-clause-lived
+pub returns-then-generation-generations-clause-lived :
+    goal.returns-then-generation-generations-clause-lived
 returns-then-generation-generations-clause-lived c = search (rules, living, lives)
 
-pub returns-then-generation-generations-clause-not_alive : goal.returns-then-generation-generations-clause-not_alive
+pub returns-then-generation-generations-clause-not_alive :
+    goal.returns-then-generation-generations-clause-not_alive
 returns-then-generation-generations-clause-not_alive c = search (rules, living, lives, false≢true)
 
 pub returns-then-is_err-clause-not_alive : goal.returns-then-is_err-clause-not_alive

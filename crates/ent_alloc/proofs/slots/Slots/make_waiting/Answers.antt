@@ -10,4 +10,8 @@ invariant_of-self-2 c =
 pub returns-clause-ok : goal.returns-clause-ok
 returns-clause-ok c =
     let room = ap (λ (r : Roster). r.limits.slots - r.made) c.self.view_is in
-    search (rules, roster_of-waiting _ _ _ _ c.args.count c.self.invariant (omega arith), c.self.view_is)
+    search (
+      rules,
+      roster_of-waiting _ _ _ _ c.args.count c.self.invariant (omega arith),
+      c.self.view_is,
+    )

@@ -9,8 +9,12 @@ lives : (c : After-self) → is_occupant c.self.inside.records.items c.args.hand
 lives c = search (rules, lives_in)
 
 pub index_mut-requires : goal.index_mut-requires
-index_mut-requires c = omega
-    (arith, occupant_made c.self.inside.records.items c.args.handle (lives (goal.at.index_mut-requires c).After-self))
+index_mut-requires c =
+    omega (
+      arith,
+      occupant_made c.self.inside.records.items c.args.handle
+          (lives (goal.at.index_mut-requires c).After-self),
+    )
 
 pub invariant_of-self : goal.invariant_of-self
 invariant_of-self c =

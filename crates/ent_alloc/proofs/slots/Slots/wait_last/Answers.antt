@@ -1,12 +1,15 @@
-use Rattle.ent_alloc.proofs.Common.{rules, sym, subst, ◌≡◌, ℕ, List, ◌<◌, length, All, with_items_is, SlotRecord, placed, moved}
+use Rattle.ent_alloc.proofs.Common.{rules, sym, subst, ◌≡◌, ℕ, List, ◌<◌, length, All}
+use Rattle.ent_alloc.proofs.Common.{with_items_is, SlotRecord, placed, moved}
 use Rattle.ent_alloc.proofs.Fronts.{slots_in, links_in, roster_in, length-moved, length-placed}
 use Rattle.ent_alloc.proofs.slots.Slots.wait_last.Goals.{After-wait_last}
 use Rattle.ent_alloc.proofs.slots.Slots.wait_last.Goals as goal
 
 pub wait_last-requires-clause-made : goal.wait_last-requires-clause-made
-wait_last-requires-clause-made c = subst (λ (rs : List SlotRecord). All (λ i. i < length rs) c.args.order.now)
+wait_last-requires-clause-made c =
+    subst (λ (rs : List SlotRecord). All (λ i. i < length rs) c.args.order.now)
     (sym c.deref_mut.ensures.value)
-    (slots_in _ _ _ _ _ c.args.self.now c.self.invariant c.self.view_is c.requires.few c.requires.same)
+    (slots_in _ _ _ _ _ c.args.self.now c.self.invariant c.self.view_is c.requires.few
+    c.requires.same)
 
 -- what is written
 record AreWritten (records new_records : List SlotRecord) (pending new_pending : List ℕ)
@@ -30,7 +33,8 @@ invariant_of-self c =
       with_items_is c.self.inside.pending c.wait_last.new.pending all.waiting_are,
       all.records_are,
       all.pending_are,
-      links_in _ _ _ _ _ c.args.self.now c.self.invariant c.self.view_is c.requires.few c.requires.same,
+      links_in _ _ _ _ _ c.args.self.now c.self.invariant c.self.view_is c.requires.few
+          c.requires.same,
     )
 
 pub returns : goal.returns

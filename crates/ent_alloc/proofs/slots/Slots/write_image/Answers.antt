@@ -8,5 +8,6 @@ returns c =
     let ties : AreTied e.limits e.records.items e.pending.items = search (rules, tied) in
     record {
       written = search (rules, slots_bytes_are);
-      slots = subst AreSlots c.self.view_is (are_slots e.limits e.records.items e.pending.items ties);
+      slots =
+          subst AreSlots c.self.view_is (are_slots e.limits e.records.items e.pending.items ties);
     }

@@ -6,5 +6,6 @@ pub returns-clause-extends : goal.returns-clause-extends
 returns-clause-extends g c =
     let s = c.spawn.ensures in
     extends_called Issues _ _ c.args.self.now _ refl refl s.stays
-    (called_spawn _ (output_of c.args.self.now) c.spawn.new.self (reserver_of c.args.self.now) c.spawn.new.reserver
+    (called_spawn _ (output_of c.args.self.now) c.spawn.new.self (reserver_of c.args.self.now)
+    c.spawn.new.reserver
     c.items.result.now c.spawn.result s.ok s.refused s.memory s.replies)

@@ -7,4 +7,5 @@ returns-clause-extends g c =
     let s = c.spawn_many.ensures in
     extends_called Issues _ _ c.args.self.now _ refl refl s.stays
     (called_many _ (output_of c.args.self.now) c.spawn_many.new.self (reserver_of c.args.self.now)
-    c.spawn_many.new.reserver c.args.n c.items.result.now c.spawn_many.result s.ok s.refused s.memory s.replies s.length)
+    c.spawn_many.new.reserver c.args.n c.items.result.now c.spawn_many.result s.ok s.refused
+    s.memory s.replies s.length)

@@ -6,5 +6,6 @@ pub returns-clause-extends : goal.returns-clause-extends
 returns-clause-extends g c =
     let s = c.spawn_from.ensures in
     extends_called Logs _ _ c.args.self.now _ refl refl s.stays
-    (called_log_spawn _ (output_of c.args.self.now) c.spawn_from.new.self (reserver_of c.args.self.now)
+    (called_log_spawn _ (output_of c.args.self.now) c.spawn_from.new.self
+    (reserver_of c.args.self.now)
     c.spawn_from.new.reserver c.spawn_from.result s.ok s.refused s.memory s.replies)

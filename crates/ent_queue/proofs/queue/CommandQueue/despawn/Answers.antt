@@ -4,12 +4,16 @@ use Rattle.ent_queue.proofs.queue.CommandQueue.despawn.Goals as goal
 
 pub invariant_of-self-2 : goal.invariant_of-self-2
 invariant_of-self-2 c =
-    let p = pushed c.self.inside.count c.self.inside.bytes.items c.write_despawn.new.bytes.items (Despawn c.args.handle)
+    let p =
+    pushed c.self.inside.count c.self.inside.bytes.items c.write_despawn.new.bytes.items
+    (Despawn c.args.handle)
     c.self.invariant (search rules) (search rules) in
     search (rules, p)
 
 pub returns-clause-ok : goal.returns-clause-ok
 returns-clause-ok c =
-    let p = pushed c.self.inside.count c.self.inside.bytes.items c.write_despawn.new.bytes.items (Despawn c.args.handle)
+    let p =
+    pushed c.self.inside.count c.self.inside.bytes.items c.write_despawn.new.bytes.items
+    (Despawn c.args.handle)
     c.self.invariant (search rules) (search rules) in
     search (rules, p)

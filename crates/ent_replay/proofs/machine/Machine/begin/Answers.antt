@@ -1,9 +1,12 @@
-use Rattle.ent_replay.proofs.Common.{get-insert, get-remove, nat_tests, rules, ◌≡◌, ◌+◌, sym, ap, ◌∙◌, None, arith, unwrap_or, quota}
+use Rattle.ent_replay.proofs.Common.{get-insert, get-remove, nat_tests, rules, ◌≡◌, ◌+◌, sym, ap}
+use Rattle.ent_replay.proofs.Common.{◌∙◌, None, arith, unwrap_or, quota}
 use Rattle.ent_replay.proofs.Tables.{maps_alike}
 use Rattle.std.specs.FinMap as finite
-use Rattle.ent_replay.proofs.MachineEvents.{done, refused, none_of, on_ok, on_err, begin-quota, begin-begun, begin-takes_memory, begin-consistent}
+use Rattle.ent_replay.proofs.MachineEvents.{done, refused, none_of, on_ok, on_err, begin-quota}
+use Rattle.ent_replay.proofs.MachineEvents.{begin-begun, begin-takes_memory, begin-consistent}
 use Rattle.ent_replay.proofs.machine.Machine.begin.Goals as goal
-use Rattle.ent_replay.proofs.machine.Machine.begin.Goals.{Else-is_some, After-unwrap_or-spent, After-remove, Else-is_err-2}
+use Rattle.ent_replay.proofs.machine.Machine.begin.Goals.{Else-is_some, After-unwrap_or-spent}
+use Rattle.ent_replay.proofs.machine.Machine.begin.Goals.{After-remove, Else-is_err-2}
 
 -- the caller has no open call
 none : (c : Else-is_some) → finite.get c.self.inside.calls c.args.caller ≡ None
@@ -39,7 +42,8 @@ unfolding quota
 returns-then-is_err-2 c = search (rules, none, spent, refused, on_err, undone, begin-takes_memory)
 
 -- the call is among the caller's requests
-more : (c : Else-is_err-2) → c.unwrap_or-spent.result ≡ unwrap_or (finite.get c.self.inside.spent c.args.caller) 0
+more : (c : Else-is_err-2) → c.unwrap_or-spent.result
+    ≡ unwrap_or (finite.get c.self.inside.spent c.args.caller) 0
     → c.insert-2.new.self ≡ finite.insert c.self.inside.spent c.args.caller
     (unwrap_or (finite.get c.self.inside.spent c.args.caller) 0 + c.args.n)
 more c spent = search (rules, on_ok)
@@ -51,7 +55,8 @@ invariant_of-self-else-is_err-2 c =
     let at = goal.at.invariant_of-self-else-is_err-2 c in
     let spent = spent at.After-unwrap_or-spent in
     let begun = on_ok c.insert.result c.if-is_err.ensures.value c.insert.ensures.ok in
-    rw (more at.Else-is_err-2 spent, begun) (begin-consistent e.entities.allocator e.spent e.calls c.args.caller
+    rw (more at.Else-is_err-2 spent, begun)
+    (begin-consistent e.entities.allocator e.spent e.calls c.args.caller
     (omega arith) (none at.Else-is_some) c.args.n (omega arith) c.self.invariant (omega arith))
 
 pub returns : goal.returns

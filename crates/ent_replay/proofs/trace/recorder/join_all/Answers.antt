@@ -1,4 +1,5 @@
-use Rattle.ent_replay.proofs.Common.{rules, arith, ◌≤◌, length, map_over_more, emptied, drop-set-lt, add-one, drop-cons, take_all, drop_all, append-nil}
+use Rattle.ent_replay.proofs.Common.{rules, arith, ◌≤◌, length, map_over_more, emptied, drop-set-lt}
+use Rattle.ent_replay.proofs.Common.{add-one, drop-cons, take_all, drop_all, append-nil}
 use Rattle.ent_replay.proofs.Recorded.{TakesAll-append}
 use Rattle.ent_replay.proofs.trace.recorder.join_all.Goals as goal
 

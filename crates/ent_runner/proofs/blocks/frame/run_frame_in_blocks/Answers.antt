@@ -1,4 +1,5 @@
-use Rattle.ent_runner.proofs.Common.{◌≡◌, sym, ap, ◌∙◌, All, length, map, length-map, blocks_of, unused, IsWhyUnended}
+use Rattle.ent_runner.proofs.Common.{◌≡◌, sym, ap, ◌∙◌, All, length, map, length-map, blocks_of}
+use Rattle.ent_runner.proofs.Common.{unused, IsWhyUnended}
 use Rattle.ent_blocks.specs.Blocks.{Reserver}
 use Rattle.ent_runner.proofs.Whole.{whole, why_unended, unused_used}
 use Rattle.ent_runner.proofs.blocks.frame.run_frame_in_blocks.Given as given
@@ -25,13 +26,17 @@ unended_why : (g : given.Over) (c : In-Err-close g) → IsWhyUnended c.args.open
 unended_why g c =
     let e = c.in-Err-close.ensures in
     let left = c.in-Ok.filled.1.items in
-    why_unended c.args.opened.blocks.phase.blocks (blocks_of c.args.reservers.items) (blocks_of left) c.in-Ok.filled.0.items
-    c.in-Err-close.unended.error (length left) (All (λ (r : Reserver). r.number ≡ c.args.opened.blocks.number) left)
+    why_unended c.args.opened.blocks.phase.blocks (blocks_of c.args.reservers.items)
+    (blocks_of left) c.in-Ok.filled.0.items
+    c.in-Err-close.unended.error (length left)
+    (All (λ (r : Reserver). r.number ≡ c.args.opened.blocks.number) left)
     (rw c.blocks-2.ensures at c.in-Ok.ensures.of) c.in-Ok.ensures.ok.used
-    (length-map left (λ (r : Reserver). r.block)) e.other_phase e.order e.missing e.missing_count e.memory
+    (length-map left (λ (r : Reserver). r.block)) e.other_phase e.order e.missing e.missing_count
+    e.memory
 
 pub returns-in-Err-close-clause-unended_why : goal.returns-in-Err-close-clause-unended_why
-returns-in-Err-close-clause-unended_why g c = unended_why g (goal.at.returns-in-Err-close-clause-unended_why g c).In-Err-close
+returns-in-Err-close-clause-unended_why g c =
+    unended_why g (goal.at.returns-in-Err-close-clause-unended_why g c).In-Err-close
 
 pub returns-in-Err-close-clause-whole : goal.returns-in-Err-close-clause-whole
 returns-in-Err-close-clause-whole g c all = whole _ _ _
@@ -47,4 +52,5 @@ pub returns-in-Ok-apply-clause-all : goal.returns-in-Ok-apply-clause-all
 returns-in-Ok-apply-clause-all g c = all g (goal.at.returns-in-Ok-apply-clause-all g c).In-Ok-close
 
 pub returns-in-Err-apply-clause-stopped_all : goal.returns-in-Err-apply-clause-stopped_all
-returns-in-Err-apply-clause-stopped_all g c = all g (goal.at.returns-in-Err-apply-clause-stopped_all g c).In-Ok-close
+returns-in-Err-apply-clause-stopped_all g c =
+    all g (goal.at.returns-in-Err-apply-clause-stopped_all g c).In-Ok-close

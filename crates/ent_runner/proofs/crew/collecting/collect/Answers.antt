@@ -10,5 +10,7 @@ pub loop-output-preserved : goal.loop-output-preserved
 loop-output-preserved g c =
     let i = c.loop-output.invariant in
     let p = c.push_reserved.ensures in
-    let next = collected_on _ _ _ _ _ _ (rw c.unwrap.ensures at c.in-Some.ensures.steps.0) p.items i.same in
+    let next =
+    collected_on _ _ _ _ _ _ (rw c.unwrap.ensures at c.in-Some.ensures.steps.0) p.items
+    i.same in
     record { same = next.0; room = omega (arith, next.1, p.len, p.capacity, i.room) }

@@ -3,7 +3,8 @@ use Rattle.ent_runner.proofs.Steps.{claims_at}
 use Rattle.ent_runner.proofs.crew.word.claim.Goals as goal
 
 -- the holder has the token's record alone
-seat : (c : goal.After-seat-1) → c.into_seat-seat.result.me.0 ≡ claims_of c.args.token.now.views ∷ []
+seat : (c : goal.After-seat-1)
+    → c.into_seat-seat.result.me.0 ≡ claims_of c.args.token.now.views ∷ []
 seat c = search rules
 
 pub fetch_add-found-requires : goal.fetch_add-found-requires
@@ -15,7 +16,8 @@ fetch_add-found-requires c = (
 )
 
 -- what the step tells
-told : (c : goal.After-drop-token) → AfterClaim (claims_of c.args.token.now.views) c.fetch_add-found.result
+told : (c : goal.After-drop-token)
+    → AfterClaim (claims_of c.args.token.now.views) c.fetch_add-found.result
     c.fetch_add-found.new.seat.me.0
 told c = c.fetch_add-found.ensures.2.1 (claims_of c.args.token.now.views)
     (cc (c.into_seat-seat.ensures.2, c.replace.ensures.value, c.requires.alone)) c.requires.goes_on

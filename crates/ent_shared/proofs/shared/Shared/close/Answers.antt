@@ -13,30 +13,40 @@ known c = ended _ _ _ _ _ _ _ _ _ c.self.invariant c.self.view_is
     (c.from.ensures ∙ ap pos c.top.ensures) c.end_phase-cursor.ensures.floor
 
 pub settle-requires : goal.settle-requires
-settle-requires c = search
-    (rules, known (goal.at.settle-requires c).After-end_phase-cursor, c.self.invariant.begins.flushed)
+settle-requires c =
+    search (
+      rules,
+      known (goal.at.settle-requires c).After-end_phase-cursor,
+      c.self.invariant.begins.flushed,
+    )
 
 pub returns-clause-legal : goal.returns-clause-legal
 returns-clause-legal c = (known (goal.at.returns-clause-legal c).After-end_phase-cursor).is_legal
 
 pub returns-clause-respects : goal.returns-clause-respects
-returns-clause-respects c = (known (goal.at.returns-clause-respects c).After-end_phase-cursor).respects
+returns-clause-respects c =
+    (known (goal.at.returns-clause-respects c).After-end_phase-cursor).respects
 
 pub returns-clause-after : goal.returns-clause-after
-returns-clause-after c = let end = known (goal.at.returns-clause-after c).After-end_phase-cursor in search (rules, end)
+returns-clause-after c = let end = known (goal.at.returns-clause-after c).After-end_phase-cursor in
+    search (rules, end)
 
 pub returns-clause-falls : goal.returns-clause-falls
 returns-clause-falls c = (known (goal.at.returns-clause-falls c).After-end_phase-cursor).all_fall
 
 pub returns-clause-numbers : goal.returns-clause-numbers
-returns-clause-numbers c = (known (goal.at.returns-clause-numbers c).After-end_phase-cursor).all_numbers
+returns-clause-numbers c =
+    (known (goal.at.returns-clause-numbers c).After-end_phase-cursor).all_numbers
 
 pub returns-clause-distinct : goal.returns-clause-distinct
-returns-clause-distinct c = (known (goal.at.returns-clause-distinct c).After-end_phase-cursor).all_distinct
+returns-clause-distinct c =
+    (known (goal.at.returns-clause-distinct c).After-end_phase-cursor).all_distinct
 
 pub returns-clause-not_live : goal.returns-clause-not_live
-returns-clause-not_live c = (known (goal.at.returns-clause-not_live c).After-end_phase-cursor).none_live
+returns-clause-not_live c =
+    (known (goal.at.returns-clause-not_live c).After-end_phase-cursor).none_live
 
 pub returns-clause-brings_to_life : goal.returns-clause-brings_to_life
 returns-clause-brings_to_life c =
-    let end = known (goal.at.returns-clause-brings_to_life c).After-end_phase-cursor in search (rules, end)
+    let end = known (goal.at.returns-clause-brings_to_life c).After-end_phase-cursor in
+    search (rules, end)

@@ -1,4 +1,5 @@
-use Rattle.ent_shared.proofs.Common.{rules, ◌≡◌, ◌-ℤ◌, pos, arith, ap, to_z, of_z, w64, append-nil, ints, Ok, [], Span}
+use Rattle.ent_shared.proofs.Common.{rules, ◌≡◌, ◌-ℤ◌, pos, arith, ap, to_z, of_z, w64, append-nil}
+use Rattle.ent_shared.proofs.Common.{ints, Ok, [], Span}
 use Rattle.ent_shared.proofs.Holding.{Gives, gives, nothing_at, length-served, enough_at_first}
 use Rattle.ent_shared.proofs.shared.Shared.reserve_many.Goals as goal
 use Rattle.ent_shared.proofs.shared.Shared.reserve_many.Goals.{After-reply, After-reply-2}
@@ -27,10 +28,12 @@ spanned : (c : After-reply-2) → c.new-span.result
 spanned c = search (rules, ints)
 
 -- what it gives and leaves
-known : (c : After-reply-2) → Gives c.args.self.now c.args.reserver.now c.reserve.new.token.views
-    c.reserve.new.token.table_id c.reserver.inside.number c.reserver.inside.left c.args.n c.reserver.inside.floor
-    c.reserve.result c.reply-2.result
-known c = gives _ _ _ _ _ _ _ _ _ _ _ _ c.reserver.view_is c.reserver.invariant c.requires (omega arith)
+known : (c : After-reply-2)
+    → Gives c.args.self.now c.args.reserver.now c.reserve.new.token.views
+    c.reserve.new.token.table_id c.reserver.inside.number c.reserver.inside.left c.args.n
+    c.reserver.inside.floor c.reserve.result c.reply-2.result
+known c =
+    gives _ _ _ _ _ _ _ _ _ _ _ _ c.reserver.view_is c.reserver.invariant c.requires (omega arith)
     c.reserve.ensures.same c.reserve.ensures.gains c.reserve.ensures.mark (search (rules, spanned))
 
 pub invariant_of-reserver-2 : goal.invariant_of-reserver-2
@@ -44,8 +47,9 @@ invariant_of-reserver-2 c =
     rw (c.from-2.ensures, low) ((known at).served _ c.in_ok-handles.was)
 
 pub invariant_of-reserver : goal.invariant_of-reserver
-invariant_of-reserver c = rw c.from-2.ensures ((known (goal.at.invariant_of-reserver c).After-reply-2).refused _
-    c.in_err-handles.was)
+invariant_of-reserver c =
+    rw c.from-2.ensures
+    ((known (goal.at.invariant_of-reserver c).After-reply-2).refused _ c.in_err-handles.was)
 
 pub returns-then-n-eq0-clause-length : goal.returns-then-n-eq0-clause-length
 returns-then-n-eq0-clause-length c =
@@ -62,7 +66,8 @@ pub returns-clause-enough : goal.returns-clause-enough
 returns-clause-enough c = search (rules, enough_at_first, spanned)
 
 pub returns-in_err-handles-clause-stays : goal.returns-in_err-handles-clause-stays
-returns-in_err-handles-clause-stays c = (known (goal.at.returns-in_err-handles-clause-stays c).After-reply-2).stays
+returns-in_err-handles-clause-stays c =
+    (known (goal.at.returns-in_err-handles-clause-stays c).After-reply-2).stays
 
 pub returns-then-n-eq0-clause-given : goal.returns-then-n-eq0-clause-given
 returns-then-n-eq0-clause-given c =

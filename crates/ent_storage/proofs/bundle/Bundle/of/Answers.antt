@@ -1,4 +1,5 @@
-use Rattle.ent_storage.proofs.Common.{◌≡◌, ◌∙◌, ap, arith, rules, get_or, pos, to_z-of_z, drop_all, drop_more, put, component_cmp, w64, FitsSigned}
+use Rattle.ent_storage.proofs.Common.{◌≡◌, ◌∙◌, ap, arith, rules, get_or, pos, to_z-of_z, drop_all}
+use Rattle.ent_storage.proofs.Common.{drop_more, put, component_cmp, w64, FitsSigned}
 use Rattle.ent_storage.proofs.Puts.{last_value, more_than, still_rising}
 use Rattle.ent_storage.proofs.Missing.{on_err}
 use Rattle.ent_storage.proofs.bundle.Bundle.of.Goals as goal

@@ -1,4 +1,5 @@
-use Rattle.ent_storage.proofs.Common.{◌≡◌, ◌++◌, ◌-◌, ◌+◌, ◌≤◌, replicate, vec_len, vec_capacity, Vacant}
+use Rattle.ent_storage.proofs.Common.{◌≡◌, ◌++◌, ◌-◌, ◌+◌, ◌≤◌, replicate, vec_len, vec_capacity}
+use Rattle.ent_storage.proofs.Common.{Vacant}
 use Rattle.ent_storage.proofs.handle_map.slot.add_slots.Given as goal
 
 abbrev pub invariant-loop : goal.invariant-loop

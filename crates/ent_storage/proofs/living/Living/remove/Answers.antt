@@ -1,5 +1,6 @@
 use Rattle.ent_storage.proofs.Common.{rules}
-use Rattle.ent_storage.proofs.EntitiesOfResidents.{inside_from, changed_within, written_back, changed_from, read_from}
+use Rattle.ent_storage.proofs.EntitiesOfResidents.{inside_from, changed_within, written_back}
+use Rattle.ent_storage.proofs.EntitiesOfResidents.{changed_from, read_from}
 use Rattle.ent_storage.proofs.InUse.{in_use_changed}
 use Rattle.ent_storage.proofs.ColumnsAtPlaces.{get_components}
 use Rattle.ent_storage.proofs.living.Living.remove.Goals as goal

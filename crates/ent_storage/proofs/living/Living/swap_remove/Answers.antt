@@ -1,4 +1,5 @@
-use Rattle.ent_storage.proofs.Common.{rules, ◌≡◌, ◌<◌, length, ap, arith, vec_len, Living, IsMovedInto, AreColumnsOf, entities_from}
+use Rattle.ent_storage.proofs.Common.{rules, ◌≡◌, ◌<◌, length, ap, arith, vec_len, Living}
+use Rattle.ent_storage.proofs.Common.{IsMovedInto, AreColumnsOf, entities_from}
 use Rattle.ent_storage.proofs.EntitiesOfResidents.{inside_from, moved, written_back}
 use Rattle.ent_storage.proofs.living.Living.swap_remove.Goals.{After-self, After-swap_remove-2}
 use Rattle.ent_storage.proofs.living.Living.swap_remove.Goals as goal
@@ -19,12 +20,13 @@ swap_remove-requires-2 c = inside (goal.at.swap_remove-requires-2 c).After-self
 -- the last entity has moved into the place
 after : (c : After-swap_remove-2) → c.args.place < vec_len c.self.inside.residents
     → length c.swap_remove.new.columns ≡ length c.self.inside.columns.items
-    → IsMovedInto (entities_from 0 c.self.inside.residents.items c.self.inside.columns.items) c.args.place
-    (entities_from 0 c.swap_remove-2.new.self.items c.swap_remove.new.columns)
+    → IsMovedInto (entities_from 0 c.self.inside.residents.items c.self.inside.columns.items)
+    c.args.place (entities_from 0 c.swap_remove-2.new.self.items c.swap_remove.new.columns)
     × AreColumnsOf (length c.swap_remove-2.new.self.items) c.swap_remove.new.columns
 after c inside as_many =
     let down = rw (c.deref_mut.ensures.value, c.len-last.ensures) at c.swap_remove.ensures.moved in
-    moved _ _ _ _ _ c.self.inside.residents.ok.0 c.swap_remove-2.new.self.ok.0 c.swap_remove-2.ensures.len inside
+    moved _ _ _ _ _ c.self.inside.residents.ok.0 c.swap_remove-2.new.self.ok.0
+    c.swap_remove-2.ensures.len inside
     c.swap_remove-2.ensures.by_index _ _ down as_many c.self.invariant.0
 
 pub invariant_of-self : goal.invariant_of-self
@@ -38,5 +40,8 @@ pub returns-clause-entities : goal.returns-clause-entities
 returns-clause-entities c =
     let inside = inside (goal.at.returns-clause-entities c).After-self in
     let as_many = rw c.deref_mut.ensures.value at c.swap_remove.ensures.len in
-    rw (written_back _ _ _ as_many c.self.inside.columns.ok.0, ← ap (λ (l : Living). l.entities) c.self.view_is)
+    rw (
+      written_back _ _ _ as_many c.self.inside.columns.ok.0,
+      ← ap (λ (l : Living). l.entities) c.self.view_is,
+    )
     (after (goal.at.returns-clause-entities c).After-swap_remove-2 inside as_many).0

@@ -1,4 +1,6 @@
-use Rattle.ent_storage.proofs.Common.{rules, ◌≡◌, ◌<◌, length, min, None, Option, is_none, is_some, true, false, sym, ap, ◌∙◌, arith, false≢true, LivingEntity, Store, fin_empty}
+use Rattle.ent_storage.proofs.Common.{rules, ◌≡◌, ◌<◌, length, min, None, Option, is_none, is_some}
+use Rattle.ent_storage.proofs.Common.{true, false, sym, ap, ◌∙◌, arith, false≢true, LivingEntity}
+use Rattle.ent_storage.proofs.Common.{Store, fin_empty}
 use Rattle.ent_storage.proofs.Indexed.{entities_push}
 use Rattle.ent_storage.proofs.Counted.{kept_push}
 use Rattle.ent_storage.proofs.Placed.{placed_known}
@@ -14,12 +16,15 @@ some_from_test o e = search rules
 pub invariant_of-self : goal.invariant_of-self
 invariant_of-self c =
     let new = none_from_test _ (sym c.put.ensures.new ∙ c.if-put.true) in
-    let entity : LivingEntity = record { handle = c.args.handle; birth = c.args.birth; components = fin_empty } in
+    let entity : LivingEntity =
+    record { handle = c.args.handle; birth = c.args.birth; components = fin_empty } in
     let room = ap (λ (s : Store). s.spare) c.self.view_is in
-    let fits : length c.self.inside.living.entities < min c.self.inside.living.room c.self.inside.index.room = omega
+    let fits : length c.self.inside.living.entities
+    < min c.self.inside.living.room c.self.inside.index.room = omega
     arith in
     let keeps = c.put.ensures.kept c.if-put.true in
-    rw (c.push.ensures.entities, c.push.ensures.room, c.put.ensures.room) (kept_push _ _ _ c.self.invariant entity _ new
+    rw (c.push.ensures.entities, c.push.ensures.room, c.put.ensures.room)
+    (kept_push _ _ _ c.self.invariant entity _ new
     fits (c.put.ensures.placed c.if-put.true) keeps)
 
 pub returns-then-put-clause-ok : goal.returns-then-put-clause-ok

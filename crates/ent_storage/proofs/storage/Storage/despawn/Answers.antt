@@ -5,8 +5,11 @@ use Rattle.ent_storage.proofs.storage.Storage.despawn.Goals as goal
 -- it was taken out at its place
 pub returns-clause-places : goal.returns-clause-places
 returns-clause-places c =
-    let at = (c.in-Some.ensures.at c.in-Some.place).0 refl in
-    (c.in-Some.place, slice_get_within _ _ _ at, (at, rw c.forget.ensures c.despawn_at.ensures.places))
+    let at = (c.in-Some.ensures.at c.in-Some.place).0 refl in (
+      c.in-Some.place,
+      slice_get_within _ _ _ at,
+      (at, rw c.forget.ensures c.despawn_at.ensures.places),
+    )
 
 -- who was taken out is not there
 pub forget-requires : goal.forget-requires

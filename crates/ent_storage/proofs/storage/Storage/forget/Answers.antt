@@ -10,7 +10,9 @@ invariant_of-self c =
     let index = c.self.inside.index.by_handle in
     let none = placed_known living (counted living index) c.self.invariant.indexed c.args.handle in
     record {
-      indexed = indexed_counted living c.forget.new.self.by_handle (counted living index) c.self.invariant.indexed
+      indexed =
+          indexed_counted living c.forget.new.self.by_handle (counted living index)
+          c.self.invariant.indexed
           (λ q i there. c.forget.ensures.kept q i (search (rules, false≢true))
           (counted_gives living index q i there).0);
       fits = rw c.forget.ensures.room c.self.invariant.fits;

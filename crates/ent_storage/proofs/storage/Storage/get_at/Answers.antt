@@ -5,5 +5,7 @@ use Rattle.ent_storage.proofs.storage.Storage.get_at.Goals as goal
 
 pub returns : goal.returns
 returns c =
-    let at = found_at _ _ _ _ c.self.invariant.indexed c.self.view_is c.args.handle c.args.place c.requires in
+    let at =
+    found_at _ _ _ _ c.self.invariant.indexed c.self.view_is c.args.handle c.args.place
+    c.requires in
     search (rules, at, c.value.ensures, some_entity, c.args.handle, c.args.id)

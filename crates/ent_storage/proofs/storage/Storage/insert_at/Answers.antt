@@ -7,16 +7,22 @@ use Rattle.ent_storage.proofs.storage.Storage.insert_at.Goals.{In_ok-insert}
 use Rattle.ent_storage.proofs.storage.Storage.insert_at.Goals as goal
 
 -- the entity has the new components
-after : (c : In_ok-insert) → IsChanged c.args.self.now c.args.handle (λ held. with_items held c.args.items.now)
-    c.insert.new.self.entities c.self.inside.index.by_handle (min c.insert.new.self.room c.self.inside.index.room)
-after c = changed _ _ _ c.self.invariant _ _ (placed_at _ _ _ _ c.self.invariant.indexed c.self.view_is _ _ c.requires)
-    _ c.self.view_is _ _ _ c.in_ok-insert.ensures.ok (ap (λ (room : ℕ). min room c.self.inside.index.room)
-    c.insert.ensures.room)
+after : (c : In_ok-insert)
+    → IsChanged c.args.self.now c.args.handle (λ held. with_items held c.args.items.now)
+    c.insert.new.self.entities c.self.inside.index.by_handle
+    (min c.insert.new.self.room c.self.inside.index.room)
+after c =
+    changed _ _ _ c.self.invariant _ _
+    (placed_at _ _ _ _ c.self.invariant.indexed c.self.view_is _ _ c.requires) _ c.self.view_is _ _
+    _ c.in_ok-insert.ensures.ok
+    (ap (λ (room : ℕ). min room c.self.inside.index.room) c.insert.ensures.room)
 
 -- memory was refused, for a component that is missing
 pub returns-in_err-insert-clause-memory_to_grow : goal.returns-in_err-insert-clause-memory_to_grow
 returns-in_err-insert-clause-memory_to_grow c =
-    let at = found_at _ _ _ _ c.self.invariant.indexed c.self.view_is c.args.handle c.args.place c.requires in
+    let at =
+    found_at _ _ _ _ c.self.invariant.indexed c.self.view_is c.args.handle c.args.place
+    c.requires in
     search (rules, on_err, at, c.in_err-insert.ensures.growing (some_entity c.args.handle))
 
 pub returns : goal.returns

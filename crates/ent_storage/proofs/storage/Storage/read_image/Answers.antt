@@ -1,5 +1,11 @@
-use Rattle.ent_storage.proofs.Common.{rules, ◌≡◌, sym, ap, ◌∙◌, arith, length, subst, is_some, false, inl, inr, refl, false≢true, get_or_default, nil_from_length, length-take-le, common_steps, handle_cmp, EntityMap, IsNoEntity, HasFault, fin_get, fin_get-empty, NoEntity}
-use Rattle.ent_storage.proofs.ImageRead.{damaged, read_more, places_more, first_read, all_first, are_stored, is_read, nothing_left, width_told, width_placed, too_wide}
+use Rattle.ent_storage.proofs.Common.{rules, ◌≡◌, sym, ap, ◌∙◌, arith, length, subst, is_some}
+use Rattle.ent_storage.proofs.Common.{false, inl, inr, refl, false≢true, get_or_default}
+use Rattle.ent_storage.proofs.Common.{nil_from_length, length-take-le, common_steps, handle_cmp}
+use Rattle.ent_storage.proofs.Common.{EntityMap, IsNoEntity, HasFault, fin_get, fin_get-empty}
+use Rattle.ent_storage.proofs.Common.{NoEntity}
+use Rattle.ent_storage.proofs.ImageRead.{damaged, read_more, places_more, first_read, all_first}
+use Rattle.ent_storage.proofs.ImageRead.{are_stored, is_read, nothing_left, width_told}
+use Rattle.ent_storage.proofs.ImageRead.{width_placed, too_wide}
 use Rattle.ent_storage.proofs.storage.Storage.read_image.Goals as goal
 
 pub loop-handle-init : goal.loop-handle-init
@@ -20,7 +26,8 @@ loop-handle-init c =
 pub returns-in_default-clause-refused : goal.returns-in_default-clause-refused
 returns-in_default-clause-refused c other m stored same =
     let none = rw c.in_default.is at c.in_ok-left.ensures.none in
-    damaged _ _ c.loop-handle.invariant.read _ c.loop-handle-test.true c.handle-item.is m (search rules) none stored
+    damaged _ _ c.loop-handle.invariant.read _ c.loop-handle-test.true c.handle-item.is m
+    (search rules) none stored
     same
 
 pub loop-handle-preserved : goal.loop-handle-preserved
@@ -29,7 +36,9 @@ loop-handle-preserved c =
     let lt = c.loop-handle-test.true in
     let told = rw c.in-Some.is at c.in_ok-left.ensures in
     record {
-      read = read_more _ _ loop.read _ lt c.handle-item.is c.requires.apart _ c.in_ok-left.ensures.rest _ told.found
+      read =
+          read_more _ _ loop.read _ lt c.handle-item.is c.requires.apart _ c.in_ok-left.ensures.rest
+          _ told.found
           told.stored told.beyond;
       places = places_more _ _ loop.read _ lt c.handle-item.is _ _ loop.places told.places;
       spare = omega (arith, told.spare);
@@ -37,14 +46,19 @@ loop-handle-preserved c =
 
 pub returns-then-not-is_empty-clause-refused : goal.returns-then-not-is_empty-clause-refused
 returns-then-not-is_empty-clause-refused c other m stored same =
-    let none = nothing_left _ _ c.loop-handle-test.false c.loop-handle.invariant.read m (search rules) stored same in
+    let none =
+    nothing_left _ _ c.loop-handle-test.false c.loop-handle.invariant.read m (search rules)
+    stored same in
     let zeros = ap length none in
     grind (arith, common_steps, zeros, c.is_empty.ensures, c.if-not-is_empty.true)
 
 pub returns-then-width-clause-refused : goal.returns-then-width-clause-refused
 returns-then-width-clause-refused c other m stored same =
-    c.if-width.true (c.width.ensures.value ∙ width_placed _ _ _ c.loop-handle-test.false c.loop-handle.invariant.places
-    ∙ width_told _ _ c.loop-handle-test.false c.loop-handle.invariant.read m (search rules) stored same)
+    c.if-width.true
+    (c.width.ensures.value ∙ width_placed _ _ _ c.loop-handle-test.false
+    c.loop-handle.invariant.places
+    ∙ width_told _ _ c.loop-handle-test.false c.loop-handle.invariant.read m (search rules) stored
+    same)
 
 pub returns-clause-stored : goal.returns-clause-stored
 returns-clause-stored c = are_stored _ _ c.loop-handle-test.false c.loop-handle.invariant.read
@@ -59,8 +73,12 @@ pub returns-then-bytes-lt4-clause-fault : goal.returns-then-bytes-lt4-clause-fau
 returns-then-bytes-lt4-clause-fault c other = inl c.if-bytes-lt4.true
 
 pub returns-then-width-gt256-clause-fault : goal.returns-then-width-gt256-clause-fault
-returns-then-width-gt256-clause-fault c other = inl
-    (c.if-width-gt256.true, search rules, (c.read_word-width.result.1.now, c.read_word-width.ensures.bytes))
+returns-then-width-gt256-clause-fault c other =
+    inl (
+      c.if-width-gt256.true,
+      search rules,
+      (c.read_word-width.result.1.now, c.read_word-width.ensures.bytes),
+    )
 
 pub returns-in_default-clause-fault : goal.returns-in_default-clause-fault
 returns-in_default-clause-fault c other =

@@ -6,16 +6,22 @@ use Rattle.ent_storage.proofs.storage.Storage.remove_at.Goals.{After-remove}
 use Rattle.ent_storage.proofs.storage.Storage.remove_at.Goals as goal
 
 -- the entity has the new components
-after : (c : After-remove) → IsChanged c.args.self.now c.args.handle (λ held. fin_remove held c.args.id)
-    c.remove.new.self.entities c.self.inside.index.by_handle (min c.remove.new.self.room c.self.inside.index.room)
-after c = changed _ _ _ c.self.invariant _ _ (placed_at _ _ _ _ c.self.invariant.indexed c.self.view_is _ _ c.requires)
-    _ c.self.view_is _ _ _ c.remove.ensures.entities (ap (λ (room : ℕ). min room c.self.inside.index.room)
-    c.remove.ensures.room)
+after : (c : After-remove)
+    → IsChanged c.args.self.now c.args.handle (λ held. fin_remove held c.args.id)
+    c.remove.new.self.entities c.self.inside.index.by_handle
+    (min c.remove.new.self.room c.self.inside.index.room)
+after c =
+    changed _ _ _ c.self.invariant _ _
+    (placed_at _ _ _ _ c.self.invariant.indexed c.self.view_is _ _ c.requires) _ c.self.view_is _ _
+    _ c.remove.ensures.entities
+    (ap (λ (room : ℕ). min room c.self.inside.index.room) c.remove.ensures.room)
 
 -- the component is that of the entity
 pub returns-clause-value : goal.returns-clause-value
 returns-clause-value c =
-    let at = found_at _ _ _ _ c.self.invariant.indexed c.self.view_is c.args.handle c.args.place c.requires in
+    let at =
+    found_at _ _ _ _ c.self.invariant.indexed c.self.view_is c.args.handle c.args.place
+    c.requires in
     search (rules, at, c.remove.ensures.value (some_entity c.args.handle))
 
 pub returns-clause-entities : goal.returns-clause-entities

@@ -6,7 +6,8 @@ use Rattle.ent_storage.proofs.storage.Storage.set_birth_at.Goals as goal
 pub invariant_of-self : goal.invariant_of-self
 invariant_of-self c =
     let placed = placed_at _ _ _ _ c.self.invariant.indexed c.self.view_is _ _ c.requires in
-    rw (c.set_birth.ensures.entities, c.set_birth.ensures.room) (reborn_kept _ _ _ c.self.invariant _ _ placed _)
+    rw (c.set_birth.ensures.entities, c.set_birth.ensures.room)
+    (reborn_kept _ _ _ c.self.invariant _ _ placed _)
 
 -- the entity has the new birth
 pub returns-clause-entities : goal.returns-clause-entities

@@ -9,7 +9,11 @@ returns-clause-value c = let all : c.loop-number.number ≡ 256 = omega arith in
 pub returns-clause-within : goal.returns-clause-within
 unfolding width
 returns-clause-within c h id v is =
-    let below = within _ _ _ _ c.self.invariant.indexed c.self.view_is 256 (omega arith) c.beyond.ensures.within h id v
+    let below =
+    within _ _ _ _ c.self.invariant.indexed c.self.view_is 256 (omega arith)
+    c.beyond.ensures.within h id v
     is in
     let all : c.loop-number.number ≡ 256 = omega arith in
-    rw (c.loop-number.invariant.width ∙ ap (width_below c.args.self.now.entities c.args.self.now.places) all) below
+    rw
+    (c.loop-number.invariant.width
+    ∙ ap (width_below c.args.self.now.entities c.args.self.now.places) all) below

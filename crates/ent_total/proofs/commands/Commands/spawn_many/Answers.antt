@@ -20,7 +20,9 @@ returns-clause-unrecorded g c = search (
 )
 
 pub returns-clause-extends : goal.returns-clause-extends
-returns-clause-extends g c = search (
-  rules,
-  extends_issued c.resume-commands.result c.spawn_many_with-spawned.new.self c.spawn_many_with-spawned.ensures.extends,
-)
+returns-clause-extends g c =
+    search (
+      rules,
+      extends_issued c.resume-commands.result c.spawn_many_with-spawned.new.self
+          c.spawn_many_with-spawned.ensures.extends,
+    )

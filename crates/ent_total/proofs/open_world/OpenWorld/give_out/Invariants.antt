@@ -1,4 +1,5 @@
-use Rattle.ent_total.proofs.Common.{◌≡◌, ◌≤◌, ◌+◌, ◌++◌, [], length, reverse, vec_len, vec_capacity, AreNew, issuing}
+use Rattle.ent_total.proofs.Common.{◌≡◌, ◌≤◌, ◌+◌, ◌++◌, [], length, reverse, vec_len, vec_capacity}
+use Rattle.ent_total.proofs.Common.{AreNew, issuing}
 use Rattle.ent_total.proofs.open_world.OpenWorld.give_out.Given as goal
 
 -- each time one less is returned

@@ -1,4 +1,5 @@
-use Rattle.ent_total.proofs.Common.{◌≡◌, ◌≤◌, ◌+◌, ◌++◌, length, reverse, vec_len, vec_capacity, AreOf, reservers_of, All}
+use Rattle.ent_total.proofs.Common.{◌≡◌, ◌≤◌, ◌+◌, ◌++◌, length, reverse, vec_len, vec_capacity}
+use Rattle.ent_total.proofs.Common.{AreOf, reservers_of, All}
 use Rattle.ent_total.specs.Sharing.{Reserver}
 use Rattle.ent_total.proofs.shared.Shared.give_out.Given as goal
 
@@ -9,7 +10,8 @@ decreases-loop-reserver g l = length l.self.returned
 -- those that were given out so far, and those that are left
 abbrev pub invariant-loop-reserver : goal.invariant-loop-reserver
 invariant-loop-reserver g l = record {
-  given : reservers_of l.reservers.items ++ reverse l.self.returned ≡ reservers_of l.initial.reservers.items
+  given : reservers_of l.reservers.items ++ reverse l.self.returned
+      ≡ reservers_of l.initial.reservers.items
       ++ reverse l.initial.self.returned;
   of : AreOf l.self.number l.reservers.items;
   same : All (λ (r : Reserver). r.shared ≡ l.initial.self.shared) l.reservers.items;

@@ -3,8 +3,10 @@ use Rattle.ent_total.proofs.world_in_blocks.WorldInBlocks.close.Goals as goal
 
 pub returns-in-Ok-clause-world : goal.returns-in-Ok-clause-world
 returns-in-Ok-clause-world g c =
-    let e = c.in-Ok.ensures in
-    (e.world, record { distinct = e.distinct; not_live = e.not_live; brings_to_life = e.brings_to_life })
+    let e = c.in-Ok.ensures in (
+      e.world,
+      record { distinct = e.distinct; not_live = e.not_live; brings_to_life = e.brings_to_life },
+    )
 
 pub returns-in-Ok-clause-refused : goal.returns-in-Ok-clause-refused
 returns-in-Ok-clause-refused g c =
@@ -19,4 +21,5 @@ returns-in-Err-clause-refused g c =
     (record { other_phase = e.other_phase; order = e.order; memory = e.memory })
 
 pub returns-in-Err-clause-missing_count : goal.returns-in-Err-clause-missing_count
-returns-in-Err-clause-missing_count g c = rw c.handed_back.ensures.error c.in-Err.ensures.missing_count
+returns-in-Err-clause-missing_count g c =
+    rw c.handed_back.ensures.error c.in-Err.ensures.missing_count

@@ -3,8 +3,10 @@ use Rattle.ent_total.proofs.world_in_blocks.WorldInBlocks.close_lost.Goals as go
 
 pub returns-in-Ok-clause-world : goal.returns-in-Ok-clause-world
 returns-in-Ok-clause-world g c =
-    let e = c.in-Ok.ensures in
-    (e.world, record { distinct = e.distinct; not_live = e.not_live; brings_to_life = e.brings_to_life })
+    let e = c.in-Ok.ensures in (
+      e.world,
+      record { distinct = e.distinct; not_live = e.not_live; brings_to_life = e.brings_to_life },
+    )
 
 pub returns-in-Ok-clause-refused : goal.returns-in-Ok-clause-refused
 returns-in-Ok-clause-refused g c =

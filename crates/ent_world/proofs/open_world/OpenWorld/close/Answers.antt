@@ -9,8 +9,10 @@ closed : (c : After-close) → IsWorld (record {
   phase = c.self.inside.phase;
   entities = c.self.inside.storage.entities;
 })
-closed c = rw c.close.ensures.after
-    (after_history-world (history_of (records_of c.args.reservers.items)) _ c.self.invariant.world.world)
+closed c =
+    rw c.close.ensures.after
+    (after_history-world (history_of (records_of c.args.reservers.items)) _
+    c.self.invariant.world.world)
 
 pub invariant_of-result : goal.invariant_of-result
 invariant_of-result c =

@@ -11,5 +11,7 @@ returns-in-Ok-applied-clause-world c = commands-world c.args.queues.now
 pub returns-clause-world : goal.returns-clause-world
 returns-clause-world c =
     let stop = c.in-Err.stop in
-    commands-world (cut stop.at.system stop.at.command stop.done c.args.queues.now) c.new-applying.result.faults.items
-    c.in-Err.ensures.err c.in-Ok.ensures.world (ap (λ (w : World). w.allocator.asked) c.in-Ok.ensures.ok)
+    commands-world (cut stop.at.system stop.at.command stop.done c.args.queues.now)
+    c.new-applying.result.faults.items
+    c.in-Err.ensures.err c.in-Ok.ensures.world
+    (ap (λ (w : World). w.allocator.asked) c.in-Ok.ensures.ok)

@@ -11,4 +11,7 @@ returns-in-Ok-clause-whole_faults c before earlier stopped = search (rules, gone
 pub returns-clause-whole_later : goal.returns-clause-whole_later
 returns-clause-whole_later c before earlier stopped =
     let stop = c.in-Err.stop in
-    search (rules, gone_on_until stopped stop.at.system stop.at.command stop.done c.in-Err.ensures.later)
+    search (
+      rules,
+      gone_on_until stopped stop.at.system stop.at.command stop.done c.in-Err.ensures.later,
+    )

@@ -1,4 +1,5 @@
-use Rattle.ent_world.proofs.Common.{rules, ◌≡◌, ◌+◌, ◌∷◌, drop, arith, err_from_is_err_and, drop_more, applied}
+use Rattle.ent_world.proofs.Common.{rules, ◌≡◌, ◌+◌, ◌∷◌, drop, arith, err_from_is_err_and}
+use Rattle.ent_world.proofs.Common.{drop_more, applied}
 use Rattle.ent_world.proofs.Left.{queues_left-step, queues_cut-step}
 use Rattle.ent_world.proofs.world.World.apply_queues.Goals as goal
 
@@ -20,7 +21,9 @@ loop-system-preserved c =
     let start = applied c.args.self.now c.args.applying.now.faults.items in
     let left : drop k qs ≡ q ∷ drop (k + 1) qs = search (rules, drop_more) in
     let number = c.in_queue.ensures.system (omega (arith, c.if-system-from.false)) in
-    let step = queues_left-step from.at.system from.at.command from.done qs (drop (k + 1) qs) k q start left
+    let step =
+    queues_left-step from.at.system from.at.command from.done qs (drop (k + 1) qs) k q start
+    left
     here.at.system here.at.command here.done number (omega (arith, c.if-system-from.false))
     (λ is. let same = c.in_queue.ensures.first is in search (rules, same))
     (λ lt. let same = c.in_queue.ensures.later lt in search (rules, same)) in

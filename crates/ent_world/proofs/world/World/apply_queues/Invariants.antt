@@ -5,6 +5,7 @@ use Rattle.ent_world.proofs.world.World.apply_queues.Given as goal
 abbrev pub invariant-loop-system : goal.invariant-loop-system
 invariant-loop-system l = record {
   flushed : l.self.allocator.asked ≡ 0;
-  so_far : applied l.self l.applying.faults.items ≡ after_left l.from.at.system l.from.at.command l.from.done
-      (take l.system l.queues) (applied l.fn.self l.fn.applying.faults.items);
+  so_far : applied l.self l.applying.faults.items
+      ≡ after_left l.from.at.system l.from.at.command l.from.done (take l.system l.queues)
+      (applied l.fn.self l.fn.applying.faults.items);
 }

@@ -1,14 +1,19 @@
-use Rattle.ent_world.proofs.Common.{rules, ◌≡◌, sym, ap, ◌∙◌, ℕ, length, drop, arith, length_permutation, born, born-IsPermutation, born-lives, IsWorld, birth_in, with_born, first_birth, drop_at, AreRows, Birth, Handle, born-apart}
+use Rattle.ent_world.proofs.Common.{rules, ◌≡◌, sym, ap, ◌∙◌, ℕ, length, drop, arith}
+use Rattle.ent_world.proofs.Common.{length_permutation, born, born-IsPermutation, born-lives}
+use Rattle.ent_world.proofs.Common.{IsWorld, birth_in, with_born, first_birth, drop_at, AreRows}
+use Rattle.ent_world.proofs.Common.{Birth, Handle, born-apart}
 use Rattle.ent_world.proofs.Born.{born-new, births_given, distinct}
 use Rattle.ent_world.proofs.PlacedRows.{rows-born, rows-count, born-fit}
 use Rattle.ent_world.proofs.Worlds.{room-after_flush, after_births-world}
-use Rattle.ent_world.proofs.world.World.bring_to_life.Goals.{After-len-first, After-deref, After-set_rows, After-number_others}
+use Rattle.ent_world.proofs.world.World.bring_to_life.Goals.{After-len-first, After-deref}
+use Rattle.ent_world.proofs.world.World.bring_to_life.Goals.{After-set_rows, After-number_others}
 use Rattle.ent_world.proofs.world.World.bring_to_life.Goals as goal
 
 -- the first that is born has the next place
 next_place : (c : After-len-first) → c.len-first.result ≡ length c.self.inside.storage.places
 next_place c = c.len-first.ensures
-    ∙ rows-count c.self.inside.entities.allocator c.self.invariant.rows c.self.invariant.world.living
+    ∙ rows-count c.self.inside.entities.allocator c.self.invariant.rows
+    c.self.invariant.world.living
 
 -- what the flush lists is what is born
 are_born : (c : After-deref) → c.deref.result.now ≡ born c.self.inside.entities.allocator
@@ -26,7 +31,8 @@ set_rows-requires-clause-living c = search (rules, are_born, born-lives)
 pub set_rows-requires-clause-fits : goal.set_rows-requires-clause-fits
 set_rows-requires-clause-fits c =
     let at = goal.at.set_rows-requires-clause-fits c in
-    let all = ap length (c.deref-2.ensures.value ∙ sym c.deref.ensures.value ∙ are_born at.After-deref) in
+    let all =
+    ap length (c.deref-2.ensures.value ∙ sym c.deref.ensures.value ∙ are_born at.After-deref) in
     let fit = born-fit c.self.inside.entities.allocator c.self.invariant.world.sound
     c.self.invariant.world.living c.self.invariant.rows in
     omega (arith, all, next_place at.After-len-first, fit)
@@ -46,22 +52,26 @@ name_listed-requires-clause-rows c =
     (placed (goal.at.name_listed-requires-clause-rows c).After-set_rows (λ _. first_birth 0 0)).at
 
 -- they stand from the first place on
-stand : (c : After-set_rows) → drop c.len-first.result c.enter_all.new.storage.places ≡ c.deref.result.now
+stand : (c : After-set_rows) → drop c.len-first.result c.enter_all.new.storage.places
+    ≡ c.deref.result.now
 stand c = rw next_place (search (rules, drop_at))
 
 pub number_others-requires : goal.number_others-requires
 number_others-requires c = search (rules, stand)
 
 -- all that are born have their births
-entered : (c : After-number_others) → drop c.len-first.result c.enter_all.new.storage.places ≡ c.deref.result.now
-    → c.number_others.new.storage.entities ≡ with_born c.self.inside.storage.entities
+entered : (c : After-number_others)
+    → drop c.len-first.result c.enter_all.new.storage.places ≡ c.deref.result.now
+    → c.number_others.new.storage.entities
+    ≡ with_born c.self.inside.storage.entities
     (birth_in c.self.inside.phase c.args.queues.now (born c.self.inside.entities.allocator))
     (born c.self.inside.entities.allocator)
 entered c stand_there =
     let s = c.self.inside.entities.allocator in
     let are : c.deref.result.now ≡ born s = search (rules, are_born) in
     let again : c.deref-3.result.now ≡ born s = search (rules, are) in
-    let given = births_given c.self.inside.storage.entities c.self.inside.phase c.args.queues.now (born s)
+    let given =
+    births_given c.self.inside.storage.entities c.self.inside.phase c.args.queues.now (born s)
     (distinct (born s) (born-apart s c.self.invariant.world.sound)) c.requires in
     rw (c.number_others.ensures.numbered, c.name_listed.ensures.named, c.enter_all.ensures.entered)
     (rw (c.reserve_births.ensures.entities, stand_there, again, are) given)
@@ -90,11 +100,20 @@ invariant_of-self-2 c =
     let same = length_permutation s.taken (born s) (born-IsPermutation s) in
     record {
       world = risen at.After-number_others c.saturating_add-self-inside.result all;
-      rows = rw (c.number_others.ensures.places, c.name_listed.ensures.places, all) (placed at.After-set_rows _);
+      rows =
+          rw (c.number_others.ensures.places, c.name_listed.ensures.places, all)
+          (placed at.After-set_rows _);
       -- there is room for each that waits still
-      room = rw (c.set_rows.ensures.allocator, c.in_ok-flush.ensures.ok) (room-after_flush s c.reserve_births.new.storage.spare
-          c.number_others.new.storage.spare i.world.sound (omega (arith, c.reserve_births.ensures.grows, i.room))
-          (omega (arith, c.enter_all.ensures.spare, c.name_listed.ensures.spare, c.number_others.ensures.spare)));
+      room =
+          rw (c.set_rows.ensures.allocator, c.in_ok-flush.ensures.ok)
+          (room-after_flush s c.reserve_births.new.storage.spare c.number_others.new.storage.spare
+          i.world.sound (omega (arith, c.reserve_births.ensures.grows, i.room))
+          (omega (
+            arith,
+            c.enter_all.ensures.spare,
+            c.name_listed.ensures.spare,
+            c.number_others.ensures.spare,
+          )));
     }
 
 pub returns-clause-ok : goal.returns-clause-ok

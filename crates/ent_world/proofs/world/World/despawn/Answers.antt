@@ -1,7 +1,9 @@
-use Rattle.ent_world.proofs.Common.{rules, ◌≡◌, sym, ◌∙◌, arith, get-insert_same, IsWorld, AreRows, with_moved, common_steps}
+use Rattle.ent_world.proofs.Common.{rules, ◌≡◌, sym, ◌∙◌, arith, get-insert_same, IsWorld, AreRows}
+use Rattle.ent_world.proofs.Common.{with_moved, common_steps}
 use Rattle.ent_world.proofs.PlacedRows.{rows-remove}
 use Rattle.ent_world.proofs.Worlds.{room-after_free, after_despawn-world}
-use Rattle.ent_world.proofs.world.World.despawn.Goals.{After-despawn_at, in-Some-despawn_at, in_default-despawn_at}
+use Rattle.ent_world.proofs.world.World.despawn.Goals.{After-despawn_at, in-Some-despawn_at}
+use Rattle.ent_world.proofs.world.World.despawn.Goals.{in_default-despawn_at}
 use Rattle.ent_world.proofs.world.World.despawn.Goals as goal
 
 -- the entity is gone, and its handle is free
@@ -17,19 +19,26 @@ gone c =
     (c.self.invariant.world.living c.args.handle ∙ c.in_ok-freed.ensures.lived))
 
 -- each row is a place still, once the entity that moved has its own
-placed : (c : After-despawn_at) → AreRows (with_moved c.free.new.self.rows c.in-Some.row c.despawn_at.result)
+placed : (c : After-despawn_at)
+    → AreRows (with_moved c.free.new.self.rows c.in-Some.row c.despawn_at.result)
     c.despawn_at.new.self.places c.despawn_at.new.self.entities
 placed c =
     let here = (c.self.invariant.rows.at c.args.handle c.in-Some.row).0
     (sym c.row-row.ensures.value ∙ c.in-Some.is) in
-    rw (c.despawn_at.ensures.entities, c.in_ok-freed.ensures.row) (search (rules, rows-remove, here))
+    rw (c.despawn_at.ensures.entities, c.in_ok-freed.ensures.row)
+    (search (rules, rows-remove, here))
 
 pub set_row-requires : goal.set_row-requires
 set_row-requires c =
     let at = (goal.at.set_row-requires c).After-despawn_at in
     let rows = rw c.in-Some-despawn_at.is at (placed at) in
     let is = gone at in
-    search (rules, get-insert_same, rows.each c.in-Some-despawn_at.moved, is.living c.in-Some-despawn_at.moved)
+    search (
+      rules,
+      get-insert_same,
+      rows.each c.in-Some-despawn_at.moved,
+      is.living c.in-Some-despawn_at.moved,
+    )
 
 pub invariant_of-self-in-Some-despawn_at : goal.invariant_of-self-in-Some-despawn_at
 invariant_of-self-in-Some-despawn_at c =

@@ -4,7 +4,8 @@ use Rattle.ent_world.proofs.PlacedRows.{on_either}
 use Rattle.ent_world.proofs.world.World.insert_items.Goals as goal
 
 pub invariant_of-self : goal.invariant_of-self
-invariant_of-self c = elim (on_either c.insert_at.result c.insert_at.ensures.ok c.insert_at.ensures.err) [
-  | inl changed ↦ search (rules, keys-components, same_keys-components, c.self.invariant)
-  | inr same ↦ rw same c.self.invariant
-]
+invariant_of-self c =
+    elim (on_either c.insert_at.result c.insert_at.ensures.ok c.insert_at.ensures.err) [
+      | inl changed ↦ search (rules, keys-components, same_keys-components, c.self.invariant)
+      | inr same ↦ rw same c.self.invariant
+    ]

@@ -5,12 +5,12 @@ use Rattle.spawnrun_lib.proofs.change.Change.on_target.Goals.{After-drop-branch}
 use Rattle.spawnrun_lib.proofs.change.Change.on_target.Goals as goal
 
 pub returns-in-Handle-clause-issued : goal.returns-in-Handle-clause-issued
-returns-in-Handle-clause-issued g c = issued_on _ _ _ _ _ _ (c.in-Handle.handle ∷ []) _ (search rules)
-    c.on_each-in-Handle.ensures.ok
+returns-in-Handle-clause-issued g c =
+    issued_on _ _ _ _ _ _ (c.in-Handle.handle ∷ []) _ (search rules) c.on_each-in-Handle.ensures.ok
 
 -- the entities that have the component
-listed : (g : given.Over) (c : After-drop-branch g) → IsTargeted c.args.view.now (names_of c.args.names.now)
-    c.args.target c.deref.result.now
+listed : (g : given.Over) (c : After-drop-branch g)
+    → IsTargeted c.args.view.now (names_of c.args.names.now) c.args.target c.deref.result.now
 listed g c = search (rules)
 
 pub returns-in_ok-with-in-Each-clause-issued : goal.returns-in_ok-with-in-Each-clause-issued

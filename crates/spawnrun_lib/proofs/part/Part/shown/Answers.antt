@@ -1,5 +1,7 @@
-use Rattle.spawnrun_lib.proofs.Fronts.{decimal-printable, from_nothing, more_text, passes, two_pieces}
-use Rattle.spawnrun_lib.proofs.Common.{IfSome_then, rules, ◌++◌, refl, codes, decimal, inline_text, quoted, plain}
+use Rattle.spawnrun_lib.proofs.Fronts.{decimal-printable, from_nothing, more_text, passes}
+use Rattle.spawnrun_lib.proofs.Fronts.{two_pieces}
+use Rattle.spawnrun_lib.proofs.Common.{IfSome_then, rules, ◌++◌, refl, codes, decimal, inline_text}
+use Rattle.spawnrun_lib.proofs.Common.{quoted, plain}
 use Rattle.spawnrun_lib.proofs.part.Part.shown.Goals as goal
 
 pub returns-in-Absent-clause-text : goal.returns-in-Absent-clause-text
@@ -10,8 +12,11 @@ returns-in-Absent-clause-text c = rw c.in-Absent.is (record {
 })
 
 pub returns-in-Twice-clause-text : goal.returns-in-Twice-clause-text
-returns-in-Twice-clause-text c = rw c.in-Twice.is (record
-    { text = quoted c.in-Twice.name.now ++ codes " twice"; spells = refl; is = search (rules, from_nothing, two_pieces, more_text, passes) })
+returns-in-Twice-clause-text c = rw c.in-Twice.is (record {
+  text = quoted c.in-Twice.name.now ++ codes " twice";
+  spells = refl;
+  is = search (rules, from_nothing, two_pieces, more_text, passes);
+})
 
 pub returns-in-Long-clause-text : goal.returns-in-Long-clause-text
 returns-in-Long-clause-text c =
@@ -27,7 +32,9 @@ pub returns-in-Member-clause-text : goal.returns-in-Member-clause-text
 returns-in-Member-clause-text c =
     let nothing = inline_text c.new-nothing.result in
     let name = c.in-Member.key.now in
-    rw c.in-Member.is (IfSome_then c.with_json-in-Member.result c.with_json-in-Member.ensures.text (λ shown h. record {
+    rw c.in-Member.is
+    (IfSome_then c.with_json-in-Member.result c.with_json-in-Member.ensures.text
+    (λ shown h. record {
       text = quoted name ++ codes ":" ++ plain h.0;
       spells = (h.0, h.1, refl);
       is = search (rules, from_nothing, two_pieces nothing, more_text, passes);

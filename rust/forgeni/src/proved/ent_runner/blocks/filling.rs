@@ -59,7 +59,8 @@ use crate::kit::thread::Threads;
 ///
 /// // What is left if the systems were broken off.
 /// ensures lost { IsErrWith result (λ h. h.error ≡ failed.Lost) → HaveStopped S.may_issue
-///     S.may_leave systems.now workers view.entry blocks.now.phase.start (blocks_of reservers.items) }
+///     S.may_leave systems.now workers view.entry blocks.now.phase.start
+///     (blocks_of reservers.items) }
 /// ensures lost_some { IsErrWith result (λ h. h.error ≡ failed.Lost) → 0 < length systems.now }
 /// ensures lost_reservers { IfErr result (λ h. h.error ≡ failed.Lost → h.value.items ≡ []) }
 /// ```

@@ -112,7 +112,8 @@ pub enum Unframed {
 /// ensures stopped_all { IfErr result (IfSyncStopped (λ _ _ _.
 ///     map unused (blocks_of reservers.items) ≡ opened.blocks.phase.blocks)) }
 /// ensures stopped { IfErr result (IfSyncStopped (λ world fault queues.
-///     StopsInBlocks S.may_issue systems.now opened (blocks_of reservers.items) queues world fault)) }
+///     StopsInBlocks S.may_issue systems.now opened (blocks_of reservers.items) queues world
+///     fault)) }
 /// ensures stopped_flushed { IfErr result (IfStoppedAt (λ world _ _ _ _. world.allocator.asked ≡ 0)) }
 /// ensures stopped_memory { IfErr result (IfStoppedAt TakesMemoryAt) }
 /// ensures flush_reserved { IfErr result (IfSyncStopped (λ world fault _.

@@ -8,31 +8,38 @@ use Rattle.ent_blocks.proofs.overflow.phase.Overflow.close.Goals as goal
 use Rattle.ent_blocks.proofs.overflow.phase.Overflow.close.Goals.{After-close-entities}
 
 -- what is known once it is closed
-known : (c : After-close-entities) → Ending c.args.self c.args.callers.items c.close-entities.result.allocator
+known : (c : After-close-entities)
+    → Ending c.args.self c.args.callers.items c.close-entities.result.allocator
 known c =
-    let handed : c.take_past.new.reservers.items ≡ c.self.inside.dealer ∷ past_of c.args.callers.items =
+    let handed : c.take_past.new.reservers.items
+    ≡ c.self.inside.dealer ∷ past_of c.args.callers.items =
     search rules in
     let closed : Closed c.self.inside.shared.start (records_of c.take_past.new.reservers.items)
     c.close-entities.result.allocator = search rules in
     rw (← c.self.view_is)
-    (ending _ _ _ c.self.invariant.0 (rw (← c.self.view_is) at c.requires.own) (rw handed at closed))
+    (ending _ _ _ c.self.invariant.0 (rw (← c.self.view_is) at c.requires.own)
+    (rw handed at closed))
 
 before_is : (c : After-close-entities) → c.dealt-before.result ≡ dealt c.args.self.blocks
-before_is c =
-    c.dealt-before.ensures ∙ ap dealt c.deref.ensures.value ∙ ap (λ (p : Overflow). dealt p.blocks) c.self.view_is
+before_is c = c.dealt-before.ensures ∙ ap dealt c.deref.ensures.value
+    ∙ ap (λ (p : Overflow). dealt p.blocks) c.self.view_is
 
-all_are : (c : After-close-entities) → map unused (own_blocks c.args.callers.items) ≡ c.args.self.blocks
+all_are : (c : After-close-entities)
+    → map unused (own_blocks c.args.callers.items) ≡ c.args.self.blocks
 all_are c = search rules
 
-ends_are : (c : After-close-entities) → c.account.new.all.items ++ past_block c.dealt-before.result (length
-    c.close-entities.result.allocator.taken - c.dealt-before.result) ≡ own_blocks c.args.callers.items ++ past_block
-    (dealt c.args.self.blocks) (length (given_in (past_history c.args.callers.items)))
+ends_are : (c : After-close-entities)
+    → c.account.new.all.items ++ past_block c.dealt-before.result
+    (length c.close-entities.result.allocator.taken - c.dealt-before.result)
+    ≡ own_blocks c.args.callers.items
+    ++ past_block (dealt c.args.self.blocks) (length (given_in (past_history c.args.callers.items)))
 ends_are c =
     let before = before_is c in
     let here = all_here c.args.self.blocks (own_blocks c.args.callers.items) (all_are c) in
     let first : c.account.new.all.items ≡ own_blocks c.args.callers.items = search (rules, here) in
     let given : length c.close-entities.result.allocator.taken - c.dealt-before.result
-    ≡ length (given_in (past_history c.args.callers.items)) = omega (arith, before, (known c).taken) in
+    ≡ length (given_in (past_history c.args.callers.items)) =
+    omega (arith, before, (known c).taken) in
     λ i. first i ++ past_block (before i) (given i)
 
 pub close-entities-requires-clause-own : goal.close-entities-requires-clause-own
@@ -49,7 +56,8 @@ finish-requires c =
     let before = before_is at in
     let ends = ends_are at in
     let all = all_are at in
-    search (rules, arith, k.asked, k.taken, k.back, k.within, before, lie, ends, ends_laid, ends_dealt)
+    search
+    (rules, arith, k.asked, k.taken, k.back, k.within, before, lie, ends, ends_laid, ends_dealt)
 
 pub returns-clause-start : goal.returns-clause-start
 returns-clause-start c =
@@ -65,14 +73,16 @@ pub returns-clause-legal : goal.returns-clause-legal
 returns-clause-legal c = search (rules, known)
 
 pub returns-clause-in_order : goal.returns-clause-in_order
-returns-clause-in_order c = (known (goal.at.returns-clause-in_order c).After-close-entities).in_order
+returns-clause-in_order c =
+    (known (goal.at.returns-clause-in_order c).After-close-entities).in_order
 
 pub returns-clause-falls : goal.returns-clause-falls
 returns-clause-falls c = (known (goal.at.returns-clause-falls c).After-close-entities).falls
 
 pub returns-clause-requested : goal.returns-clause-requested
 returns-clause-requested c =
-    let k = known (goal.at.returns-clause-requested c).After-close-entities in search (rules, before_is)
+    let k = known (goal.at.returns-clause-requested c).After-close-entities in
+    search (rules, before_is)
 
 pub returns-clause-alone : goal.returns-clause-alone
 returns-clause-alone c =

@@ -7,7 +7,8 @@ pub returns-then-left-eq0-clause-stays : goal.returns-then-left-eq0-clause-stays
 returns-then-left-eq0-clause-stays c = search (rules, here, gone_past)
 
 pub returns-then-left-eq0-clause-served : goal.returns-then-left-eq0-clause-served
-returns-then-left-eq0-clause-served c = rw (← c.self.view_is, ← c.caller.view_is) (search (rules, one_past))
+returns-then-left-eq0-clause-served c =
+    rw (← c.self.view_is, ← c.caller.view_is) (search (rules, one_past))
 
 pub returns-clause-stays : goal.returns-clause-stays
 returns-clause-stays c =
@@ -15,4 +16,5 @@ returns-clause-stays c =
     search (rules, used_on)
 
 pub returns-clause-served : goal.returns-clause-served
-returns-clause-served c = rw (← c.self.view_is, ← c.caller.view_is) (search (rules, from_block, one_of_block))
+returns-clause-served c =
+    rw (← c.self.view_is, ← c.caller.view_is) (search (rules, from_block, one_of_block))

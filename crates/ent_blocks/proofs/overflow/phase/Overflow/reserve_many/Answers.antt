@@ -6,7 +6,8 @@ pub returns-then-n-left-clause-stays : goal.returns-then-n-left-clause-stays
 returns-then-n-left-clause-stays c = search (rules, here, gone_past)
 
 pub returns-then-n-left-clause-served : goal.returns-then-n-left-clause-served
-returns-then-n-left-clause-served c = rw (← c.self.view_is, ← c.caller.view_is) (search (rules, from_past))
+returns-then-n-left-clause-served c =
+    rw (← c.self.view_is, ← c.caller.view_is) (search (rules, from_past))
 
 pub returns-clause-stays : goal.returns-clause-stays
 returns-clause-stays c =

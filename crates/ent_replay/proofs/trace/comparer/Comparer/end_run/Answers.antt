@@ -1,5 +1,6 @@
 use Rattle.ent_replay.proofs.Common.{sym, subst, err_from_is_err_and, Follows}
-use Rattle.ent_replay.proofs.Orders.{called-Follows, called-Shows, called-None, settled-None, Shows-more, alone_Reaches}
+use Rattle.ent_replay.proofs.Orders.{called-Follows, called-Shows, called-None, settled-None}
+use Rattle.ent_replay.proofs.Orders.{Shows-more, alone_Reaches}
 use Rattle.ent_replay.proofs.Recorded.{on_differs, on_both, on_err}
 use Rattle.ent_replay.proofs.trace.comparer.Comparer.end_run.Goals as goal
 
@@ -13,7 +14,9 @@ returns-in_err-settle c =
       differs = rw (p.1, p.2) (on_differs c.in_err-settle.field-0.0 _ _
           (λ d shows. Shows-more self c.args.number c.args.line d c.requires (shows c.args.number))
           c.in_err-settle.ensures.differs);
-      none = rw (p.1, p.2) (on_differs c.in_err-settle.field-0.0 _ _ (λ d. settled-None self c.args.line c.requires)
+      none =
+          rw (p.1, p.2)
+          (on_differs c.in_err-settle.field-0.0 _ _ (λ d. settled-None self c.args.line c.requires)
           c.in_err-settle.ensures.none);
       counted = rw (p.1, p.2) c.in_err-settle.ensures.counted;
     }
@@ -28,11 +31,16 @@ returns c =
     record {
       follows = on_both c.call.result _ _ _ (λ fits next is. subst (Follows self l) (sym is)
           (called-Follows self l at alone settled fits)) c.call.ensures.fits c.call.ensures.next;
-      reaches = on_both c.call.result _ _ _ (λ fits next. alone_Reaches self l next at alone settled fits)
+      reaches =
+          on_both c.call.result _ _ _ (λ fits next. alone_Reaches self l next at alone settled fits)
           c.call.ensures.fits c.call.ensures.next;
-      differs = on_err c.call.result _ _ (λ stop. on_differs stop _ _ (λ d. called-Shows self l at c.args.number d alone
+      differs =
+          on_err c.call.result _ _
+          (λ stop. on_differs stop _ _ (λ d. called-Shows self l at c.args.number d alone
           settled)) c.call.ensures.differs;
-      none = on_err c.call.result _ _ (λ stop. on_differs stop _ _ (λ d differs. called-None self l at alone settled
+      none =
+          on_err c.call.result _ _
+          (λ stop. on_differs stop _ _ (λ d differs. called-None self l at alone settled
           differs.unlike)) c.call.ensures.differs;
       counted = c.call.ensures.counted;
     }

@@ -1,4 +1,6 @@
-use Rattle.ent_replay.proofs.Common.{nil_from_length, IsPermutation-map, sum_by-IsPermutation, IsNonDecreasingBy-from_sort_by_key, answers_always, ◌≡◌, ◌≢◌, ◌++◌, [], rules, all_of}
+use Rattle.ent_replay.proofs.Common.{nil_from_length, IsPermutation-map, sum_by-IsPermutation}
+use Rattle.ent_replay.proofs.Common.{IsNonDecreasingBy-from_sort_by_key, answers_always, ◌≡◌, ◌≢◌}
+use Rattle.ent_replay.proofs.Common.{◌++◌, [], rules, all_of}
 use Rattle.ent_replay.proofs.Sorted.{key, empty_keeps}
 use Rattle.ent_replay.proofs.Orders.{asked-settled}
 use Rattle.ent_replay.proofs.Settled.{IsLinedUp, all-settled, some-none, some-Shows}
@@ -19,7 +21,9 @@ lined c =
       steady = c.self.invariant.steady;
       up = IsNonDecreasingBy-from_sort_by_key key sorted c.in_ok-sort_by_cached_key.ensures.sorted
           (λ a r q k. search rules);
-      alike = c.in_ok-sort_by_cached_key.ensures.stable key (answers_always _ _ _ (λ f a r q k. search rules));
+      alike =
+          c.in_ok-sort_by_cached_key.ensures.stable key
+          (answers_always _ _ _ (λ f a r q k. search rules));
       sum = search (rules, sum_by-IsPermutation, IsPermutation-map);
       lined = c.in_ok-lineup.ensures.lined;
       keeps = rw (← all) c.in_ok-lineup.ensures.keeps;
@@ -29,7 +33,8 @@ lined c =
 pub returns-then-not-is_empty-clause-differs : goal.returns-then-not-is_empty-clause-differs
 returns-then-not-is_empty-clause-differs c =
     let lined = lined (goal.at.returns-then-not-is_empty-clause-differs c).In_ok-lineup in
-    rw (← c.self.view_is) (some-Shows lined (search rules) c.in_ok-lineup.ensures.stuck _ c.in_ok-difference.ensures)
+    rw (← c.self.view_is)
+    (some-Shows lined (search rules) c.in_ok-lineup.ensures.stuck _ c.in_ok-difference.ensures)
 
 pub returns-then-not-is_empty-clause-none : goal.returns-then-not-is_empty-clause-none
 returns-then-not-is_empty-clause-none c = search (rules, some-none, lined)
@@ -37,7 +42,9 @@ returns-then-not-is_empty-clause-none c = search (rules, some-none, lined)
 pub invariant_of-result : goal.invariant_of-result
 invariant_of-result c =
     let lined = lined (goal.at.invariant_of-result c).In_ok-lineup in
-    let settled = all-settled lined (search (rules, nil_from_length)) c.deref.ensures.value c.make_all.ensures in
+    let settled =
+    all-settled lined (search (rules, nil_from_length)) c.deref.ensures.value
+    c.make_all.ensures in
     search (rules, asked-settled _ _ settled, empty_keeps)
 
 pub returns-clause-settled : goal.returns-clause-settled

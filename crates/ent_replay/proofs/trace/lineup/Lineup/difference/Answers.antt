@@ -1,5 +1,6 @@
 use Rattle.ent_replay.proofs.Common.{rules, ints, pool_at-cursor}
-use Rattle.ent_replay.proofs.Lineups.{lined-least, lined-passed, at_middle, here, reply-here, pools, is_after}
+use Rattle.ent_replay.proofs.Lineups.{lined-least, lined-passed, at_middle, here, reply-here, pools}
+use Rattle.ent_replay.proofs.Lineups.{is_after}
 use Rattle.ent_replay.proofs.trace.lineup.Lineup.difference.Goals as goal
 
 pub reply_at-requires : goal.reply_at-requires

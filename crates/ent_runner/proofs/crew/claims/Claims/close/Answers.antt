@@ -14,7 +14,9 @@ closed : (c : goal.After-close) → AreClaimsClosed c.args.self.numbers c.args.s
 closed c =
     let i = c.loop-claimer.invariant in
     let ok = c.loop-claimer.claimer-iterator.rest.ok in
-    let all = items_all c.args.claimers.items c.loop-claimer.yielded c.loop-claimer.claimer-iterator.rest.items i.all
+    let all =
+    items_all c.args.claimers.items c.loop-claimer.yielded
+    c.loop-claimer.claimer-iterator.rest.items i.all
     (sym ok.0 ∙ c.in-None.ensures.steps.0) in
     let key = c.self.invariant.key_is in
     search (rules, all, key)
@@ -26,7 +28,8 @@ pub returns-clause-apart : goal.returns-clause-apart
 returns-clause-apart c = apart _ _ c.args.claimers.items c.requires.all (closed c)
 
 pub returns-clause-claimed : goal.returns-clause-claimed
-returns-clause-claimed c = claimed _ _ c.args.claimers.items c.requires.all (closed c) (search rules)
+returns-clause-claimed c =
+    claimed _ _ c.args.claimers.items c.requires.all (closed c) (search rules)
 
 pub returns-clause-once : goal.returns-clause-once
 returns-clause-once c = once _ _ c.args.claimers.items c.requires.all (closed c) (search rules)

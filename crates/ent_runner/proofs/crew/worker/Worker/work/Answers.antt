@@ -11,9 +11,13 @@ loop-number-preserved g c =
     record {
       lent = r.stays;
       claimer = c.next.ensures.stays;
-      claimed = numbers_more _ _ _ _ _ done i.claimed (ap (λ (k : Claimed). k.claims) c.in-Some.ensures.claims);
-      ended = ended_more (g.J.Jobs.may_do c.args.site.now.jobs.now) (g.J.Jobs.may_leave c.args.site.now.jobs.now) _ _ _
-          _ _ _ i.ended (rw c.in_ok-ran.was at r.does) done;
+      claimed =
+          numbers_more _ _ _ _ _ done i.claimed
+          (ap (λ (k : Claimed). k.claims) c.in-Some.ensures.claims);
+      ended =
+          ended_more (g.J.Jobs.may_do c.args.site.now.jobs.now)
+          (g.J.Jobs.may_leave c.args.site.now.jobs.now) _ _ _ _ _ _ i.ended
+          (rw c.in_ok-ran.was at r.does) done;
       stopped = i.stopped;
       room = omega (arith, room);
     }
@@ -22,7 +26,8 @@ pub returns-then-is_err-clause-ended : goal.returns-then-is_err-clause-ended
 returns-then-is_err-clause-ended g c =
     let done = c.reserve.ensures.items ∙ c.push_reserved.ensures.items in
     let r = c.run-output.ensures in
-    ended_more (g.J.Jobs.may_do c.args.site.now.jobs.now) (g.J.Jobs.may_leave c.args.site.now.jobs.now) _ _ _ _ _ _
+    ended_more (g.J.Jobs.may_do c.args.site.now.jobs.now)
+    (g.J.Jobs.may_leave c.args.site.now.jobs.now) _ _ _ _ _ _
     c.loop-number.invariant.ended (rw c.in_ok-ran.was at r.does) done
 
 pub returns-in_err-ran-clause-stopped : goal.returns-in_err-ran-clause-stopped

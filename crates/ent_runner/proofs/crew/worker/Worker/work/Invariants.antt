@@ -1,4 +1,5 @@
-use Rattle.ent_runner.proofs.Common.{◌≡◌, ◌-◌, ◌<◌, length, vec_capacity, IsClaimerOf, numbers_of, HaveEnded, vec_len}
+use Rattle.ent_runner.proofs.Common.{◌≡◌, ◌-◌, ◌<◌, length, vec_capacity, IsClaimerOf, numbers_of}
+use Rattle.ent_runner.proofs.Common.{HaveEnded, vec_len}
 use Rattle.ent_runner.proofs.crew.worker.Worker.work.Given as goal
 
 -- so far it has done what it claimed

@@ -7,9 +7,11 @@ use Rattle.cases_and_examples.specs.Issuing.{IsOnProjectile}
 use Rattle.cases_and_examples.proofs.examples.game.systems.Age.age_one.Goals as goal
 
 -- one command more, on a projectile
-one_more : (view : View) (before after : List Command) (last : Command) → after ≡ before ++ last ∷ []
-    → IsOnProjectile view last → All (IsOnProjectile view) before → All (IsOnProjectile view) after
-one_more view before after last added on all = rw added (All-push (IsOnProjectile view) before last all on)
+one_more : (view : View) (before after : List Command) (last : Command)
+    → after ≡ before ++ last ∷ [] → IsOnProjectile view last → All (IsOnProjectile view) before
+    → All (IsOnProjectile view) after
+one_more view before after last added on all =
+    rw added (All-push (IsOnProjectile view) before last all on)
 
 pub returns-in_ok-one-in-Some-clause-may : goal.returns-in_ok-one-in-Some-clause-may
 returns-in_ok-one-in-Some-clause-may c = on_ok_weaker c.insert-in-Some.result

@@ -5,7 +5,8 @@ use Rattle.cases_and_examples.proofs.examples.game.systems.AgeSystemShared.run.G
 -- names, but it takes some seconds.
 
 pub returns-in_err-age_one-clause-extends : goal.returns-in_err-age_one-clause-extends
-returns-in_err-age_one-clause-extends c = extends_then _ _ _ c.loop-handle.invariant.extends c.age_one.ensures.extends
+returns-in_err-age_one-clause-extends c =
+    extends_then _ _ _ c.loop-handle.invariant.extends c.age_one.ensures.extends
 
 pub loop-handle-preserved : goal.loop-handle-preserved
 loop-handle-preserved c = record {
