@@ -13,10 +13,10 @@ if grep -rnw unsafe --include=*.rs --exclude=refusing_allocator.rs .. | grep -v 
     echo "rust: unsafe code"
     exit 1
 fi
-for test in forgeni/tests/*.rs; do
+for test in ../forgeni/tests/*.rs; do
     name=$(basename "$test" .rs)
-    grep -qx "mod $name;" forgeni/tests/all.rs || grep -qx "name = \"$name\"" forgeni/Cargo.toml || {
-        echo "rust/offline/$test is neither in tests/all.rs nor a program of its own in Cargo.toml, so it isn't run"
+    grep -qx "mod $name;" ../forgeni/tests/all.rs || grep -qx "name = \"$name\"" Cargo.toml || {
+        echo "$test is neither in tests/all.rs nor a program of its own in Cargo.toml, so it isn't run"
         exit 1
     }
 done
@@ -28,8 +28,8 @@ if cargo clippy --version >/dev/null 2>&1; then
     cargo clippy --offline --all-targets -- -D warnings
     cargo clippy --offline --all-targets --no-default-features -- -D warnings
 fi
-printf '%s\n' forgeni/examples/*.rs | sed 's,.*/,,' | python3 ../../.ci/picks.py .ci/forgeni.sh examples
-for example in forgeni/examples/*.rs; do
+printf '%s\n' ../forgeni/examples/*.rs | sed 's,.*/,,' | python3 ../../.ci/picks.py .ci/forgeni.sh examples
+for example in ../forgeni/examples/*.rs; do
     name=$(basename "$example" .rs)
     diff <(sed -n '/^\/\/! ```text$/,/^\/\/! ```$/p' "$example" | sed '1d; $d; s,^//! \{0\,1\},,') \
         <(cargo run --quiet --offline --example "$name")
@@ -39,9 +39,9 @@ cargo test --offline --no-default-features
 
 cargo new --quiet --vcs none "$empty/dependent"
 echo "forgeni = { path = \"$PWD/../forgeni\" }" >>"$empty/dependent/Cargo.toml"
-cp forgeni/examples/first.rs "$empty/dependent/src/main.rs"
+cp ../forgeni/examples/first.rs "$empty/dependent/src/main.rs"
 (cd "$empty/dependent" && cargo run --offline --quiet | grep -qx "4000 alive")
-cargo install --offline --quiet --debug --path forgeni --features programs --root "$empty/installed" 2>"$empty/printed" || {
+cargo install --offline --quiet --debug --path . --features programs --root "$empty/installed" 2>"$empty/printed" || {
     cat "$empty/printed"
     exit 1
 }

@@ -37,21 +37,21 @@ mod tests {
     fn a_file_is_read_from_its_first_byte() {
         let mut file = File::open(
             &HostRuntime,
-            concat!(env!("CARGO_MANIFEST_DIR"), "/LICENSE-MIT"),
+            concat!(env!("CARGO_MANIFEST_DIR"), "/Cargo.toml"),
         );
         let mut text = String::new();
         file.as_mut()
             .expect("a file")
             .read_to_string(&mut text)
             .expect("a text");
-        assert!(text.starts_with("MIT License"));
+        assert!(text.contains("\nname = \"forgeni\"\n"));
     }
 
     #[test]
     fn a_folder_is_no_file() {
         let is_folder = |name| metadata(&HostRuntime, name).map(|it| it.is_dir()).ok();
         assert_eq!(is_folder(env!("CARGO_MANIFEST_DIR")), Some(true));
-        let file = concat!(env!("CARGO_MANIFEST_DIR"), "/LICENSE-MIT");
+        let file = concat!(env!("CARGO_MANIFEST_DIR"), "/Cargo.toml");
         assert_eq!(is_folder(file), Some(false));
         assert_eq!(is_folder("/no/such/file"), None);
     }
