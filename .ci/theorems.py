@@ -65,13 +65,23 @@ def specs_of(file):
 
 
 def rust_span(lines, at):
-    """Where the item at this line begins and ends, its comments and attributes with it."""
+    """The lines of the item at this line, with its attributes and its comments, but without their examples."""
     first = last = at
     while first and lines[first - 1].startswith(("///", "#[")):
         first -= 1
     if not lines[at].endswith((";", "}")):
         last = next(it for it in range(at, len(lines)) if lines[it].startswith("}"))
-    return range(first, last + 1)
+    return [*without_examples(lines, range(first, at)), *range(at, last + 1)]
+
+
+def without_examples(lines, numbers):
+    """These lines of a comment, without those of its examples and the empty one before each."""
+    example = False
+    for number in numbers:
+        fence = lines[number] == "/// ```"
+        if not (example or fence or lines[number : number + 2] == ["///", "/// ```"]):
+            yield number
+        example ^= fence
 
 
 @functools.cache
@@ -85,7 +95,7 @@ def types_of(file):
                 found[head[1]] = rust_span(lines, at)
     made = {}
     for name, span in types.items():
-        model = models.get(name, range(0))
+        model = models.get(name, [])
         made[name] = Item(file, frozenset([*span, *model]), code_of([lines[it] for it in model or span]))
     return made
 
