@@ -1,6 +1,7 @@
 // Made of crates/ent_handle/src/lib.rt by rust/erase. It isn't edited by hand.
 
-//! Handles of entities and their text, and the small types that all crates above share.
+//! Handles of entities and their text, numbers as bytes, and the small types that all crates above
+//! share.
 
 mod birth;
 mod bytes;

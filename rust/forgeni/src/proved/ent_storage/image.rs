@@ -7,8 +7,9 @@ use crate::kit::prove_eq;
 use crate::kit::vec::FallibleVec;
 use crate::proved::ent_storage::image_fault::StorageImageFault;
 use crate::proved::ent_storage::storage::Storage;
-use crate::proved::ent_handle::{Birth, ComponentId, Handle, Memory};
-use crate::proved::ent_handle::{read_long, read_word, write_long, write_word};
+use crate::proved::ent_handle::{
+    Birth, ComponentId, Handle, Memory, read_long, read_word, write_long, write_word,
+};
 
 /// Appends a birth. There is room for its 16 bytes.
 #[inline]
