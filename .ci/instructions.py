@@ -18,7 +18,7 @@ from concurrent.futures import ThreadPoolExecutor
 
 ROOT = pathlib.Path(__file__).resolve().parent.parent
 PACKAGE = ROOT / "rust/offline"
-LIMITS = PACKAGE / "forgeni/benches/instructions.txt"
+LIMITS = ROOT / "rust/forgeni/benches/instructions.txt"
 ORDERS = "orders"
 # The C library copies memory by another code on each kind of processor. So it takes the one that is everywhere.
 PLAIN_PROCESSOR = "glibc.cpu.hwcaps=-AVX,-AVX2,-AVX512F,-AVX512VL,-AVX512BW,-ERMS,-FSRM,-BMI2,-RTM,-SSSE3,-SSE4_1,-SSE4_2"

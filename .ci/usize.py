@@ -91,7 +91,7 @@ class Operation(collections.namedtuple("Operation", "file place function")):
         lines[-1] = lines[-1][: to - 1]
         lines[0] = lines[0][from_ - 1 :]
         text = " ".join(" ".join(lines).split()).replace(": ", ":")
-        return f"{self.file.removeprefix('forgeni/').removeprefix('src/')} {self.function}: {text if len(text) <= 70 else text[:60] + ' ..'}"
+        return f"{self.file.removeprefix('../forgeni/').removeprefix('src/')} {self.function}: {text if len(text) <= 70 else text[:60] + ' ..'}"
 
 
 @functools.cache

@@ -6,6 +6,7 @@ use crate::entities::Entities;
 use crate::errors::{HandedBack, OutOfMemory};
 use crate::follows::Follows;
 use crate::handle::Handle;
+use crate::several::BySlot;
 use crate::shown::{shows, walks};
 use alloc::alloc::handle_alloc_error;
 use alloc::vec;
@@ -109,9 +110,10 @@ pub trait AnyMap:
     /// a `SparseMap`.
     fn iter(&self) -> impl DoubleEndedIterator<Item = (Handle, &Self::Value)> + Clone;
 
-    /// The handles that have a value, by rising slot. Those of a `SparseMap` are listed first:
-    /// `None` if there is no memory for that.
-    fn keys_by_slot(&self) -> Option<impl Iterator<Item = Handle>>;
+    /// The handles and their values, by rising slot. Those of a `SparseMap` are listed first: `None`
+    /// if there is no memory for that.
+    #[doc(hidden)]
+    fn by_slot(&self) -> Option<impl BySlot<&Self::Value>>;
 
     /// The handles and their values in the same order, to be changed.
     ///
@@ -167,9 +169,9 @@ pub trait AnyMap:
     }
 }
 
-/// What both kinds of maps have by hand. `$by_slot` goes over the values by rising slot.
+/// What both kinds of maps have by hand. `$iter_by_slot` goes over the values by rising slot.
 macro_rules! traits_of_a_map {
-    ($Map:ident, $Iter:ident, $by_slot:ident) => {
+    ($Map:ident, $Iter:ident, $iter_by_slot:ident) => {
         impl<T> AnyMap for $Map<T> {
             type Value = T;
 
@@ -208,8 +210,8 @@ macro_rules! traits_of_a_map {
             }
 
             #[inline]
-            fn keys_by_slot(&self) -> Option<impl Iterator<Item = Handle>> {
-                self.sorted_keys()
+            fn by_slot(&self) -> Option<impl BySlot<&T>> {
+                self.sorted()
             }
 
             #[inline]
@@ -329,7 +331,7 @@ macro_rules! traits_of_a_map {
         impl<T: Hash> Hash for $Map<T> {
             fn hash<H: Hasher>(&self, state: &mut H) {
                 state.write_usize(self.len());
-                self.$by_slot().for_each(|entry| entry.hash(state));
+                self.$iter_by_slot().for_each(|entry| entry.hash(state));
             }
         }
 
@@ -406,13 +408,13 @@ macro_rules! traits_of_a_map {
 
 impl<T> HandleMap<T> {
     #[inline]
-    fn sorted_keys(&self) -> Option<Keys<'_, T>> {
-        Some(self.keys())
+    fn sorted(&self) -> Option<&Self> {
+        Some(self)
     }
 }
 
 traits_of_a_map!(HandleMap, Iter, iter);
-traits_of_a_map!(SparseMap, SparseIter, by_slot);
+traits_of_a_map!(SparseMap, SparseIter, iter_by_slot);
 
 #[cold]
 #[inline(never)]

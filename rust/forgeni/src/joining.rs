@@ -1,7 +1,9 @@
 //! Walks over several maps at once. By hand: it uses the calls of each map, and changes none.
 
 use crate::handle::Handle;
+use crate::several::BySlot;
 use crate::{AnyMap, HandleMap, SparseMap};
+use core::iter;
 
 /// Two to six maps in a tuple, for a walk over the handles that have a value in each of them.
 ///
@@ -26,7 +28,7 @@ pub trait JoinMaps {
     /// borrowed mutably: its values may be changed.
     ///
     /// The walk goes over the first map, in its order, and looks each handle up in the others. If
-    /// another map has less than half as many values, the walk goes by that map's handles instead,
+    /// another map has less than half as many values, the walk goes over that map instead,
     /// by rising slot. It takes no memory, unless that map is a `SparseMap`, whose handles it
     /// lists. If there is no memory for the list, or if the first map is a mutable `SparseMap`, the
     /// walk goes over the first map anyway.
@@ -58,11 +60,11 @@ pub trait First {
     /// than half as many.
     fn count(&self) -> usize;
 
-    /// The values of these handles, which come by rising slot. If there are none, all values.
-    fn walk<H: Iterator<Item = Handle>>(
-        self,
-        handles: Option<H>,
-    ) -> impl Iterator<Item = (Handle, Self::Lent)>;
+    /// All values.
+    fn all(self) -> impl Iterator<Item = (Handle, Self::Lent)>;
+
+    /// The values of the handles of another map, beside those.
+    fn of<V>(self, others: impl BySlot<V>) -> impl Iterator<Item = (Handle, Self::Lent, V)>;
 }
 
 impl<'a, M: AnyMap> First for &'a M {
@@ -73,14 +75,14 @@ impl<'a, M: AnyMap> First for &'a M {
     }
 
     #[inline]
-    fn walk<H: Iterator<Item = Handle>>(
-        self,
-        handles: Option<H>,
-    ) -> impl Iterator<Item = (Handle, Self::Lent)> {
-        match handles {
-            None => Walk::First(self.iter()),
-            Some(handles) => Walk::Other(handles.filter_map(|one| Some((one, self.get(one)?)))),
-        }
+    fn all(self) -> impl Iterator<Item = (Handle, Self::Lent)> {
+        self.iter()
+    }
+
+    #[inline]
+    fn of<V>(self, others: impl BySlot<V>) -> impl Iterator<Item = (Handle, Self::Lent, V)> {
+        let others = others.entries();
+        others.filter_map(|(one, other)| Some((one, self.get(one)?, other)))
     }
 }
 
@@ -92,14 +94,13 @@ impl<'a, T> First for &'a mut HandleMap<T> {
     }
 
     #[inline]
-    fn walk<H: Iterator<Item = Handle>>(
-        self,
-        handles: Option<H>,
-    ) -> impl Iterator<Item = (Handle, Self::Lent)> {
-        match handles {
-            None => Walk::First(self.iter_mut()),
-            Some(handles) => Walk::Other(self.all_slots().pick(handles)),
-        }
+    fn all(self) -> impl Iterator<Item = (Handle, Self::Lent)> {
+        self.iter_mut()
+    }
+
+    #[inline]
+    fn of<V>(self, others: impl BySlot<V>) -> impl Iterator<Item = (Handle, Self::Lent, V)> {
+        others.beside(self.all_slots())
     }
 }
 
@@ -112,11 +113,13 @@ impl<'a, T> First for &'a mut SparseMap<T> {
     }
 
     #[inline]
-    fn walk<H: Iterator<Item = Handle>>(
-        self,
-        _none: Option<H>,
-    ) -> impl Iterator<Item = (Handle, Self::Lent)> {
+    fn all(self) -> impl Iterator<Item = (Handle, Self::Lent)> {
         self.into_iter()
+    }
+
+    #[inline]
+    fn of<V>(self, _others: impl BySlot<V>) -> impl Iterator<Item = (Handle, Self::Lent, V)> {
+        iter::empty()
     }
 }
 
@@ -146,16 +149,29 @@ impl<T, F: Iterator<Item = T>, O: Iterator<Item = T>> Iterator for Walk<F, O> {
     }
 }
 
-/// The handles of the map that has so many values.
-macro_rules! handles_of {
-    ($count:ident: $last:ident) => {
-        $last.keys_by_slot()
-    };
-    ($count:ident: $map:ident $($rest:ident)+) => {
-        if $map.len() == $count {
-            $map.keys_by_slot().map(Walk::First)
-        } else {
-            handles_of!($count: $($rest)+).map(Walk::Other)
+/// The value of a map that the walk goes over, in place of the map: it isn't looked up.
+struct Known<'a, V>(&'a V);
+
+impl<'a, V> Known<'a, V> {
+    #[inline]
+    fn get(&self, _one: Handle) -> Option<&'a V> {
+        Some(self.0)
+    }
+}
+
+/// A walk by the first of these maps that has so many values, or over the first map of all.
+macro_rules! walk {
+    ($first:ident, $fewest:ident, ($($all:ident)*)) => {{
+        let walk = $first.all();
+        walk.filter_map(move |(one, it)| Some((one, it, $($all.get(one)?),*)))
+    }};
+    ($first:ident, $fewest:ident, ($($all:ident)*) $map:ident $($rest:ident)*) => {
+        match $fewest.filter(|it| *it == $map.len()).and_then(|_| $map.by_slot()) {
+            Some(entries) => Walk::First($first.of(entries).filter_map(move |(one, it, value)| {
+                let $map = Known(value);
+                Some((one, it, $($all.get(one)?),*))
+            })),
+            None => Walk::Other(walk!($first, $fewest, ($($all)*) $($rest)*)),
         }
     };
 }
@@ -168,11 +184,9 @@ macro_rules! tuples_are_joined {
             #[inline]
             fn join(self) -> impl Iterator<Item = Self::Item> {
                 let (first, $($map),*) = self;
-                let fewest = [$($map.len()),*].into_iter().min().unwrap_or_default();
-                let is_less = fewest < first.count().div_ceil(2);
-                let handles = is_less.then(|| handles_of!(fewest: $($map)*));
-                let walk = first.walk(handles.flatten());
-                walk.filter_map(move |(one, it)| Some((one, it, $($map.get(one)?),*)))
+                let fewest = [$($map.len()),*].into_iter().min();
+                let fewest = fewest.filter(|it| *it < first.count().div_ceil(2));
+                walk!(first, fewest, ($($map)*) $($map)*)
             }
         }
     };

@@ -6,6 +6,7 @@ use crate::errors::OutOfMemory;
 use crate::handle::Handle;
 use crate::proved::ent_storage::handle_map::slot::Slot;
 use crate::{HandleMap, SparseMap};
+use alloc::vec;
 use core::iter::{Enumerate, FusedIterator, Map};
 use core::ops::Range;
 use core::slice;
@@ -111,19 +112,6 @@ impl<'a, T> SlotsMut<'a, T> {
     /// ```
     pub fn iter_mut(&mut self) -> IterMut<'_, T> {
         SlotsMut(self.0, self.1).into_iter()
-    }
-
-    /// The values that these handles have here. The handles come by rising slot.
-    pub(crate) fn pick(
-        self,
-        handles: impl Iterator<Item = Handle>,
-    ) -> impl Iterator<Item = (Handle, &'a mut T)> {
-        let (mut slots, mut first) = (self.0.iter_mut(), self.1);
-        handles.filter_map(move |one| {
-            let slot = slots.nth(one.index().checked_sub(first)? as usize)?;
-            first = one.index() + 1;
-            (slot.generation() == one.generation()).then(|| (one, slot.value_mut()))
-        })
     }
 }
 
@@ -358,6 +346,50 @@ impl<T> HandleMap<T> {
     }
 }
 
+/// The handles of a map and their values, by rising slot, for a walk over several maps.
+pub trait BySlot<V> {
+    /// All of them.
+    fn entries(self) -> impl Iterator<Item = (Handle, V)>;
+
+    /// Those that have a value in these slots too, beside it. They are all slots of a map.
+    fn beside<T>(self, slots: SlotsMut<'_, T>) -> impl Iterator<Item = (Handle, &mut T, V)>;
+}
+
+/// It goes over the slots of both maps, one beside the other.
+impl<'a, V> BySlot<&'a V> for &'a HandleMap<V> {
+    #[inline]
+    fn entries(self) -> impl Iterator<Item = (Handle, &'a V)> {
+        self.iter()
+    }
+
+    #[inline]
+    fn beside<T>(self, slots: SlotsMut<'_, T>) -> impl Iterator<Item = (Handle, &mut T, &'a V)> {
+        let both = self.slots.iter().zip(slots.0).enumerate();
+        both.filter_map(|(at, (slot, other))| {
+            let (one, value) = seen(0, (at, slot))?;
+            (other.generation() == one.generation()).then(|| (one, other.value_mut(), value))
+        })
+    }
+}
+
+/// A list, of few of the slots.
+impl<'a, V> BySlot<&'a V> for vec::IntoIter<(Handle, &'a V)> {
+    #[inline]
+    fn entries(self) -> impl Iterator<Item = (Handle, &'a V)> {
+        self
+    }
+
+    #[inline]
+    fn beside<T>(self, slots: SlotsMut<'_, T>) -> impl Iterator<Item = (Handle, &mut T, &'a V)> {
+        let (end, mut slots) = (slots.slots().end, slots.0.iter_mut());
+        self.filter_map(move |(one, value)| {
+            let first = end - slots.len() as u32;
+            let other = slots.nth(one.index().wrapping_sub(first) as usize)?;
+            (other.generation() == one.generation()).then(|| (one, other.value_mut(), value))
+        })
+    }
+}
+
 impl<'a, T> IntoIterator for &'a mut HandleMap<T> {
     type Item = (Handle, &'a mut T);
     type IntoIter = IterMut<'a, T>;
@@ -434,7 +466,7 @@ impl<T> SparseMap<T> {
     }
 
     /// The handles and their values, by rising slot. It takes time for each slot.
-    pub(crate) fn by_slot(&self) -> impl Iterator<Item = (Handle, &T)> {
+    pub(crate) fn iter_by_slot(&self) -> impl Iterator<Item = (Handle, &T)> {
         let slots = self.positions.iter().zip(0..);
         slots.filter_map(|(at, slot)| {
             let (one, it) = self.entries.get(*at as usize)?;

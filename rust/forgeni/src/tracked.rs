@@ -2,6 +2,7 @@
 
 use crate::handle::Handle;
 use crate::{HandleMap, SparseMap};
+use core::fmt;
 use core::ops::Deref;
 
 /// A value, and the tick at which it was last lent to be changed.
@@ -26,16 +27,18 @@ use core::ops::Deref;
 /// program goes back to a snapshot, the values have the ticks of then. Its ticks go on, and who
 /// keeps something by `changed_since` takes all values once: see
 /// [`History::restart`](crate::History::restart).
-#[derive(Clone, Copy, Debug, Default, PartialEq, Eq, Hash)]
+#[derive(Clone, Copy, Default, PartialEq, Eq, Hash)]
 pub struct Tracked<T> {
     value: T,
-    tick: u64,
+    /// In bytes, so that the whole is aligned as the value is, and takes no more room.
+    tick: [u8; 8],
 }
 
 impl<T> Tracked<T> {
     /// A value that is new at this tick.
     #[inline]
     pub const fn new(value: T, tick: u64) -> Self {
+        let tick = tick.to_ne_bytes();
         Self { value, tick }
     }
 
@@ -43,7 +46,7 @@ impl<T> Tracked<T> {
     /// written.
     #[inline]
     pub fn get_mut(&mut self, tick: u64) -> &mut T {
-        self.tick = tick;
+        self.tick = tick.to_ne_bytes();
         &mut self.value
     }
 
@@ -75,20 +78,28 @@ impl<T> Tracked<T> {
     #[inline]
     #[must_use]
     pub fn tick(&self) -> u64 {
-        self.tick
+        u64::from_ne_bytes(self.tick)
     }
 
     /// Whether that was at this tick or later.
     #[inline]
     #[must_use]
     pub fn is_changed_since(&self, tick: u64) -> bool {
-        self.tick >= tick
+        self.tick() >= tick
     }
 
     /// The value.
     #[inline]
     pub fn into_inner(self) -> T {
         self.value
+    }
+}
+
+impl<T: fmt::Debug> fmt::Debug for Tracked<T> {
+    fn fmt(&self, out: &mut fmt::Formatter<'_>) -> fmt::Result {
+        let mut shown = out.debug_struct("Tracked");
+        shown.field("value", &self.value);
+        shown.field("tick", &self.tick()).finish()
     }
 }
 

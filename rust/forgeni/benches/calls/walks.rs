@@ -1,7 +1,7 @@
 //! Walks over maps, and a despawn from five of them, beside what a program writes by hand.
 
 use crate::{line_of_two, places, rounds, shift, timed, Run, COUNT};
-use forgeni::{tables, Entities, Follows, Handle, HandleMap, JoinMaps, SparseMap};
+use forgeni::{tables, Entities, Follows, Handle, HandleMap, JoinMaps, SparseMap, Tracked};
 use std::hint::black_box;
 
 tables! {
@@ -127,6 +127,28 @@ walks! {
     };
 }
 
+/// As `sum_mut_by_hand`, over values that keep the tick of each change.
+fn tracked<const PLACE: usize>() -> Run {
+    let (_, _, parts) = parts();
+    let places = parts.place.iter();
+    let mut places: HandleMap<Tracked<u64>> = places
+        .map(|(one, it)| (one, Tracked::new(*it, 0)))
+        .collect();
+    shift::<PLACE>();
+    timed(|| {
+        let ticks = (1..=TIMES).map(|tick| {
+            let mut sum = 0;
+            for (_, it) in black_box(&mut places) {
+                let it = it.get_mut(tick);
+                *it += 1;
+                sum += *it;
+            }
+            sum
+        });
+        ticks.sum()
+    })
+}
+
 fn despawn<const PLACE: usize>() -> Run {
     let (mut entities, all, mut parts) = parts();
     shift::<PLACE>();
@@ -193,6 +215,14 @@ pub fn table() {
         name,
         steps,
         places!(sum_mut),
+        places!(sum_mut_by_hand),
+    );
+    let name = "a change of tracked values, beside plain ones";
+    line_of_two(
+        rounds,
+        name,
+        steps,
+        places!(tracked),
         places!(sum_mut_by_hand),
     );
 }

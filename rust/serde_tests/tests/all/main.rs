@@ -7,4 +7,5 @@ mod handles;
 mod hostile;
 mod images;
 mod numbers;
+mod saves;
 mod worlds;
