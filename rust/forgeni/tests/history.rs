@@ -115,8 +115,9 @@ fn mirrors_of_random_births_and_deaths() {
                 let told = history.since(since).map(|it| it.collect::<Vec<_>>());
                 assert_eq!(told, model.since(since), "{place}, since {since}");
             }
-            assert!(history.len() <= limit.min(model.all.len()), "{place}");
-            assert_eq!(history.is_empty(), history.len() == 0);
+            let kept = history.len();
+            assert!(kept <= limit.min(model.all.len()), "{place}");
+            assert_eq!(history.is_empty(), kept == 0, "{place}");
             for mirror in &mut mirrors {
                 if numbers.below(3) == 0 {
                     mirror.update(&history, &entities, &place);
