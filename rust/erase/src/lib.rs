@@ -64,6 +64,7 @@ mod lists;
 mod memory;
 mod messages;
 mod names;
+pub mod naming;
 mod paths;
 pub mod plan;
 pub mod programs;

@@ -14,10 +14,10 @@ use core::fmt;
 use core::hash::{Hash, Hasher};
 use core::ops::{Index, IndexMut};
 
-use crate::proved::ent_storage::sparse_map::{Iter as SparseIter, SparseMap};
+use crate::components::sparse_map::{Iter as SparseIter, SparseMap};
 
-pub use crate::proved::ent_storage::handle_map::{Entry, HandleMap, InsertError, Iter, Keys};
-pub use crate::proved::ent_storage::handle_map::{OccupiedEntry, VacantEntry, Values};
+pub use crate::components::handle_map::{Entry, HandleMap, InsertError, Iter, Keys};
+pub use crate::components::handle_map::{OccupiedEntry, VacantEntry, Values};
 pub use crate::several::{IterMut, SlotsMut};
 
 /// Ends the process as `Vec` does: there is no memory for a value, and the caller can't return an

@@ -34,8 +34,10 @@ pub trait JoinMaps {
     fn join(self) -> impl Iterator<Item = Self::Item>;
 }
 
-/// A map that a walk over several begins with.
-pub trait First {
+/// A map that a walk over several begins with: either map, borrowed, and mutably if its values are to change.
+/// [`JoinMaps::join`] calls what it has.
+pub trait Leads {
+    /// What the walk gives of a value.
     type Lent;
 
     /// How many values a walk over this map comes to. A walk goes over another map only if that has
@@ -49,7 +51,7 @@ pub trait First {
     ) -> impl Iterator<Item = (Handle, Self::Lent)>;
 }
 
-impl<'a, M: AnyMap> First for &'a M {
+impl<'a, M: AnyMap> Leads for &'a M {
     type Lent = &'a M::Value;
 
     fn count(&self) -> usize {
@@ -68,7 +70,7 @@ impl<'a, M: AnyMap> First for &'a M {
     }
 }
 
-impl<'a, T> First for &'a mut HandleMap<T> {
+impl<'a, T> Leads for &'a mut HandleMap<T> {
     type Lent = &'a mut T;
 
     fn count(&self) -> usize {
@@ -87,7 +89,7 @@ impl<'a, T> First for &'a mut HandleMap<T> {
     }
 }
 
-impl<'a, T> First for &'a mut SparseMap<T> {
+impl<'a, T> Leads for &'a mut SparseMap<T> {
     type Lent = &'a mut T;
 
     /// None, so that the walk always goes over it: its values lie in no order of slots.
@@ -146,7 +148,7 @@ macro_rules! handles_of {
 
 macro_rules! tuples_are_joined {
     ($($Map:ident $map:ident)*) => {
-        impl<'a, A: First, $($Map: AnyMap),*> JoinMaps for (A, $(&'a $Map),*) {
+        impl<'a, A: Leads, $($Map: AnyMap),*> JoinMaps for (A, $(&'a $Map),*) {
             type Item = (Handle, A::Lent, $(&'a $Map::Value),*);
 
             #[inline]

@@ -2,12 +2,12 @@
 
 use crate::numbers::next_number;
 use crate::phase::closed;
-use crate::proved::ent_total::share;
+use crate::phases::share;
 use crate::shown::shows;
 use crate::{Entities, HandedBack};
 use alloc::vec::Vec;
 
-pub use crate::proved::ent_total::{CloseError, OtherPhase, Reserver, ShareError, Shared};
+pub use crate::phases::{CloseError, OtherPhase, Reserver, ShareError, Shared};
 
 impl Entities {
     /// Shares the allocator among `callers` reservers, 1 to 1,024, each of which may go to a thread

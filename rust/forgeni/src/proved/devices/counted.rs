@@ -1,6 +1,6 @@
 // Made of crates/devices/src/counted.rt by rust/erase. It isn't edited by hand.
 
-use crate::proved::devices::device::{Failed, Sink, Source};
+use crate::devices::device::{Failed, Sink, Source};
 use std::io;
 use std::io::{ErrorKind, Read, Write};
 

@@ -4,11 +4,11 @@
 
 use alloc::vec::Vec;
 use crate::kit::vec::FallibleVec;
-use crate::proved::ent_alloc::entities::Entities;
-use crate::proved::ent_alloc::refused::Refused;
-use crate::proved::ent_alloc::reserve_error::ReserveError;
-use crate::proved::ent_alloc::reserved::Reserved;
-use crate::proved::ent_handle::Handle;
+use crate::allocator::entities::Entities;
+use crate::allocator::refused::Refused;
+use crate::allocator::reserve_error::ReserveError;
+use crate::allocator::reserved::Reserved;
+use crate::handles::Handle;
 
 /// How many handles may be requested between two flushes.
 pub(super) const MOST: u64 = 1 << 50;

@@ -1,15 +1,15 @@
 // Made of crates/ent_alloc/src/entities.rt by rust/erase. It isn't edited by hand.
 
 use alloc::vec::Vec;
-use crate::proved::ent_alloc::absent::Absent;
-use crate::proved::ent_alloc::fault::{AllocFault, FreeFault, Freed};
-use crate::proved::ent_alloc::limits::Limits;
-use crate::proved::ent_alloc::living::Living;
-use crate::proved::ent_alloc::requests::Requests;
-use crate::proved::ent_alloc::slot_record::Occupancy;
-use crate::proved::ent_alloc::slots::Slots;
-use crate::proved::ent_alloc::state::State;
-use crate::proved::ent_handle::{Handle, Memory};
+use crate::allocator::absent::Absent;
+use crate::allocator::fault::{AllocError, FreeError, Freed};
+use crate::allocator::limits::Limits;
+use crate::allocator::living::Living;
+use crate::allocator::requests::Requests;
+use crate::allocator::slot_record::Occupancy;
+use crate::allocator::slots::Slots;
+use crate::allocator::state::State;
+use crate::handles::{Handle, OutOfMemory};
 
 /// Gives out the handles of entities and knows which are alive, as Bevy's `Entities` does.
 ///
@@ -325,35 +325,35 @@ impl Entities {
     ///
     /// In each case nothing has changed.
     ///
-    /// - [`AllocError::NeedsFlush`](AllocFault::NeedsFlush) if handles were requested since the
+    /// - [`AllocError::NeedsFlush`] if handles were requested since the
     ///   last flush, even if the request was refused.
-    /// - [`AllocError::Space`](AllocFault::Space) if every slot has a living entity or is retired.
-    /// - [`AllocError::Memory`](AllocFault::Memory) if there is no memory for a new slot. It is
+    /// - [`AllocError::Space`] if every slot has a living entity or is retired.
+    /// - [`AllocError::Memory`] if there is no memory for a new slot. It is
     ///   never returned if an old slot waits.
     // Not inlined, its result goes through memory.
     #[inline(always)]
-    pub fn alloc(&mut self) -> Result<Handle, AllocFault>
+    pub fn alloc(&mut self) -> Result<Handle, AllocError>
         // ensures front { IfOk result (λ h. slice_get self.old.allocator.pool 0 ≡ Some h) }
         // ensures within { IfOk result (IsWithin self.old.allocator.limits) }
         // ensures ok { IfOk result (λ h. self.new.allocator ≡ after_alloc self.old.allocator h) }
         // ensures rows { self.new.rows ≡ self.old.rows }
         // ensures no_row { IfOk result (λ h. map.get self.new.rows h ≡ None) }
         // ensures rows_of_living { HasRowsOfLiving self.new }
-        // ensures needs_flush { IsErrOf result AllocFault.NeedsFlush
+        // ensures needs_flush { IsErrOf result AllocError.NeedsFlush
         //     ↔ (0 < self.old.allocator.asked) }
-        // ensures space { IsErrOf result AllocFault.Space
+        // ensures space { IsErrOf result AllocError.Space
         //     ↔ ((self.old.allocator.asked ≡ 0) × (self.old.allocator.pool ≡ [])) }
-        // ensures memory { IsErrOf result AllocFault.Memory → top self.old.allocator ≡ 0 }
+        // ensures memory { IsErrOf result AllocError.Memory → top self.old.allocator ≡ 0 }
         // ensures err { OnErr result (self.new ≡ self.old) }
     {
         if self.needs_flush() {
-            Err(AllocFault::NeedsFlush)
+            Err(AllocError::NeedsFlush)
         } else if let Some(handle) = self.slots.reuse_last() {
             Ok(handle)
         } else if self.room() > 0 {
             Ok(self.slots.make_one()?)
         } else {
-            Err(AllocFault::Space)
+            Err(AllocError::Space)
         }
     }
 
@@ -380,32 +380,32 @@ impl Entities {
     ///
     /// In each case nothing has changed.
     ///
-    /// - [`FreeError::NeedsFlush`](FreeFault::NeedsFlush) if handles were requested since the last
+    /// - [`FreeError::NeedsFlush`] if handles were requested since the last
     ///   flush, even if the request was refused.
-    /// - [`FreeError::NotAlive`](FreeFault::NotAlive) if the entity isn't alive.
-    /// - [`FreeError::Memory`](FreeFault::Memory) if there is no memory for one more slot that
+    /// - [`FreeError::NotAlive`] if the entity isn't alive.
+    /// - [`FreeError::Memory`] if there is no memory for one more slot that
     ///   waits. It is never returned if the slot is retired.
     // Not inlined, its result goes through memory.
     #[inline(always)]
-    pub fn free(&mut self, handle: Handle) -> Result<Freed, FreeFault>
+    pub fn free(&mut self, handle: Handle) -> Result<Freed, FreeError>
         // ensures ok { OnOk result (self.new.allocator ≡ after_free self.old.allocator handle) }
         // ensures row { OnOk result (self.new.rows ≡ map.remove self.old.rows handle) }
         // ensures rows_of_living { HasRowsOfLiving self.new }
         // ensures next { IfOk result (λ freed. freed.next ≡ next self.old.allocator.limits handle) }
         // ensures lived { OnOk result (set.contains self.old.allocator.live handle ≡ true) }
-        // ensures needs_flush { IsErrOf result FreeFault.NeedsFlush
+        // ensures needs_flush { IsErrOf result FreeError.NeedsFlush
         //     ↔ (0 < self.old.allocator.asked) }
-        // ensures not_alive { IsErrOf result FreeFault.NotAlive
+        // ensures not_alive { IsErrOf result FreeError.NotAlive
         //     ↔ ((self.old.allocator.asked ≡ 0)
         //     × (set.contains self.old.allocator.live handle ≡ false)) }
 
         // The slot of a handle of the last generation is retired, which takes no memory.
-        // ensures memory { IsErrOf result FreeFault.Memory
+        // ensures memory { IsErrOf result FreeError.Memory
         //     → handle.generation ≢ self.old.allocator.limits.generations }
         // ensures err { OnErr result (self.new ≡ self.old) }
     {
         if self.needs_flush() {
-            return Err(FreeFault::NeedsFlush);
+            return Err(FreeError::NeedsFlush);
         }
         let next = self.slots.free(handle)?;
         Ok(Freed { next })
@@ -438,7 +438,7 @@ impl Entities {
     ///
     /// # Errors
     ///
-    /// [`OutOfMemory`](Memory) if there is no memory for new slots or for the list. Nothing has changed then,
+    /// [`OutOfMemory`] if there is no memory for new slots or for the list. Nothing has changed then,
     /// neither here nor in `out`: all room is asked for before the first handle is listed.
     ///
     /// <details><summary>Contract</summary>
@@ -463,7 +463,7 @@ impl Entities {
     ///
     /// </details>
     #[inline]
-    pub fn flush(&mut self, out: &mut Vec<Handle>) -> Result<(), Memory> {
+    pub fn flush(&mut self, out: &mut Vec<Handle>) -> Result<(), OutOfMemory> {
         let waiting = self.slots.waiting();
         let kept = self.requests.kept(waiting);
         let fresh = self.requests.fresh(waiting);

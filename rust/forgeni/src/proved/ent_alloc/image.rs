@@ -4,14 +4,14 @@
 
 use alloc::vec::Vec;
 use crate::kit::vec::FallibleVec;
-use crate::proved::ent_alloc::asking::MOST;
-use crate::proved::ent_alloc::entities::Entities;
-use crate::proved::ent_alloc::image_fault::ImageFault;
-use crate::proved::ent_alloc::image_slots::{SLOT, read_long, read_word, write_word};
-use crate::proved::ent_alloc::limits::Limits;
-use crate::proved::ent_alloc::requests::Requests;
-use crate::proved::ent_alloc::slots::Slots;
-use crate::proved::ent_handle::Memory;
+use crate::allocator::asking::MOST;
+use crate::allocator::entities::Entities;
+use crate::allocator::image_fault::ImageFault;
+use crate::allocator::image_slots::{SLOT, read_long, read_word, write_word};
+use crate::allocator::limits::Limits;
+use crate::allocator::requests::Requests;
+use crate::allocator::slots::Slots;
+use crate::handles::OutOfMemory;
 
 /// The letters `FORGENI` and a zero, the first one lowest.
 const MAGIC: u64 = 0x0049_4e45_4752_4f46;
@@ -175,7 +175,7 @@ impl Entities {
     ///
     /// # Errors
     ///
-    /// [`OutOfMemory`](Memory) if there is no memory for the bytes. The list is unchanged then.
+    /// [`OutOfMemory`] if there is no memory for the bytes. The list is unchanged then.
     ///
     /// <details><summary>Contract</summary>
     ///
@@ -198,7 +198,7 @@ impl Entities {
     ///
     /// </details>
     #[inline]
-    pub fn write_image(&self, out: &mut Vec<u8>) -> Result<(), Memory> {
+    pub fn write_image(&self, out: &mut Vec<u8>) -> Result<(), OutOfMemory> {
         out.reserve_fallibly(HEADER + SLOT * self.total() as usize)?;
         write_header(self.header(), out);
         self.slots.write_image(out);

@@ -32,7 +32,7 @@ mod state;
 
 pub use absent::Absent;
 pub use entities::Entities;
-pub use fault::{AllocFault, FreeFault, Freed};
+pub use fault::{AllocError, FreeError, Freed};
 pub use image_fault::ImageFault;
 pub use limits::{Limits, QUOTA};
 pub use living::Living;

@@ -4,27 +4,27 @@ use crate::kit::alloc::{AllocError, AllocFailed};
 
 /// Out of memory: an allocation really failed, or a call says what else counts as such. It is the
 /// only error of a call that has no other.
-#[derive(Clone, Copy, PartialEq, Eq, Hash)]
-pub struct Memory;
+#[derive(Clone, Copy, Debug, PartialEq, Eq, Hash)]
+pub struct OutOfMemory;
 
-impl core::fmt::Display for Memory {
+impl core::fmt::Display for OutOfMemory {
     fn fmt(&self, f: &mut core::fmt::Formatter<'_>) -> core::fmt::Result {
         write!(f, "out of memory")
     }
 }
 
-impl core::error::Error for Memory {}
+impl core::error::Error for OutOfMemory {}
 
-impl From<AllocError> for Memory {
+impl From<AllocError> for OutOfMemory {
     #[inline]
     fn from(_refused: AllocError) -> Self {
-        Memory
+        OutOfMemory
     }
 }
 
-impl<T> From<AllocFailed<T>> for Memory {
+impl<T> From<AllocFailed<T>> for OutOfMemory {
     #[inline]
     fn from(_refused: AllocFailed<T>) -> Self {
-        Memory
+        OutOfMemory
     }
 }

@@ -1,6 +1,6 @@
 // Made of crates/ent_log/src/begin_error.rt by rust/erase. It isn't edited by hand.
 
-use crate::proved::ent_handle::Handle;
+use crate::handles::Handle;
 
 /// Why a sync point of logs did not begin. Nothing has changed.
 #[derive(Clone, Copy, Debug, PartialEq, Eq, Hash)]

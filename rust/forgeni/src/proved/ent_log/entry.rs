@@ -1,9 +1,9 @@
 // Made of crates/ent_log/src/entry.rt by rust/erase. It isn't edited by hand.
 
-use crate::proved::ent_alloc::Refused;
-use crate::proved::ent_handle::Handle;
+use crate::allocator::Refused;
+use crate::handles::Handle;
 
-/// What a [`Log`](crate::proved::ent_log::Log) has of one call, and a sync point hands on.
+/// What a [`Log`](crate::logs::Log) has of one call, and a sync point hands on.
 #[derive(Clone, Copy, Debug, PartialEq, Eq, Hash)]
 pub enum Entry<C> {
     /// A handle that a spawn returned. It is alive when the sync point hands on its first entry.

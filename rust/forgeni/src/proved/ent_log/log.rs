@@ -2,16 +2,16 @@
 
 use alloc::vec::Vec;
 use crate::kit::vec::FallibleVec;
-use crate::proved::ent_log::entry::Entry;
-use crate::proved::ent_log::reserves::Reserves;
-use crate::proved::ent_alloc::{Entities, ReserveError, Source, State};
-use crate::proved::ent_handle::{Handle, Memory};
+use crate::logs::entry::Entry;
+use crate::logs::reserves::Reserves;
+use crate::allocator::{Entities, ReserveError, Source, State};
+use crate::handles::{Handle, OutOfMemory};
 use core::fmt;
 use alloc::vec::IntoIter;
 
 /// What one system spawns and commands, in the order of issue. `C` is the caller's type of commands.
 ///
-/// A [`SyncPoint`](crate::proved::ent_log::SyncPoint) brings to life what was spawned, and hands on the entries. A log
+/// A [`SyncPoint`](crate::logs::SyncPoint) brings to life what was spawned, and hands on the entries. A log
 /// may go to another thread, and several systems of one worker have a log each.
 #[must_use]
 pub struct Log<C> {
@@ -236,7 +236,7 @@ impl<C> Log<C> {
     ///
     /// # Errors
     ///
-    /// [`OutOfMemory`](Memory) if there is no room for it. The log is as it was, and the command is
+    /// [`OutOfMemory`] if there is no room for it. The log is as it was, and the command is
     /// dropped.
     ///
     /// <details><summary>Contract</summary>
@@ -250,7 +250,7 @@ impl<C> Log<C> {
     ///
     /// </details>
     #[inline]
-    pub fn push(&mut self, command: C) -> Result<(), Memory> {
+    pub fn push(&mut self, command: C) -> Result<(), OutOfMemory> {
         self.entries.reserve_fallibly(1)?;
         self.entries.push_reserved(Entry::Command(command));
         Ok(())

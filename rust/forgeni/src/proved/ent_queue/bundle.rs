@@ -3,4 +3,4 @@
 /// Components and their values, by strictly rising number.
 ///
 /// A bundle of up to four components takes no memory.
-pub type Bundle = crate::proved::ent_storage::Bundle<4>;
+pub type Bundle = crate::components::InlineBundle<4>;

@@ -1,23 +1,23 @@
 // Made of crates/ent_queue/src/commands.rt by rust/erase. It isn't edited by hand.
 
-use crate::proved::ent_queue::output::Output;
-use crate::proved::ent_queue::queue::CommandQueue;
-use crate::proved::ent_alloc::Source;
-use crate::proved::ent_handle::Handle;
-use crate::proved::ent_shared::Shared;
+use crate::commands::output::Output;
+use crate::commands::queue::IssuedCommands;
+use crate::allocator::Source;
+use crate::handles::Handle;
+use crate::reserving::SharedSource;
 
 /// Fills what one system fills, with a reserver that is lent to it: the commands of a world, which take
 /// effect when their queue is applied, in a frame at its sync point; or the entries of a log.
 ///
 /// A spawn reserves its handle at once, so a system knows what it will have spawned. `O` is what is
 /// filled, and `S` the source of the handles.
-pub struct Commands<'a, O = CommandQueue, S: Source = Shared> {
+pub struct SystemCommands<'a, O = IssuedCommands, S: Source = SharedSource> {
     pub(super) reserver: &'a mut S::Reserver,
     pub(super) source: &'a S,
     pub(super) output: O,
 }
 
-impl<'a, O: Output, S: Source> Commands<'a, O, S> {
+impl<'a, O: Output, S: Source> SystemCommands<'a, O, S> {
     /// Begins with nothing. The reserver is one of the source's.
     #[inline]
     pub(crate) fn new(source: &'a S, reserver: &'a mut S::Reserver) -> Self
@@ -27,11 +27,11 @@ impl<'a, O: Output, S: Source> Commands<'a, O, S> {
         // ensures source { source_of result ≡ source.now }
         // ensures output { output_of result ≡ O.empty }
     {
-        Commands::resume(source, reserver, O::unfilled())
+        SystemCommands::resume(source, reserver, O::unfilled())
     }
 }
 
-impl<'a, O, S: Source> Commands<'a, O, S> {
+impl<'a, O, S: Source> SystemCommands<'a, O, S> {
     /// Goes on with what was begun before: what it has stays in front. The reserver may be another one
     /// than before, of those of the source.
     #[inline]
@@ -42,7 +42,7 @@ impl<'a, O, S: Source> Commands<'a, O, S> {
         // ensures source { source_of result ≡ source.now }
         // ensures output { output_of result ≡ output }
     {
-        Commands {
+        SystemCommands {
             reserver,
             source,
             output,
@@ -87,7 +87,7 @@ impl<'a, O, S: Source> Commands<'a, O, S> {
     }
 }
 
-impl<O, S: Source> Commands<'_, O, S> {
+impl<O, S: Source> SystemCommands<'_, O, S> {
     /// Gives back what was filled, and the reserver to its owner.
     ///
     /// <details><summary>Contract</summary>
@@ -102,7 +102,7 @@ impl<O, S: Source> Commands<'_, O, S> {
     /// </details>
     #[inline]
     pub fn finish(self) -> O {
-        let Commands {
+        let SystemCommands {
             reserver: _,
             source: _,
             output,

@@ -14,16 +14,16 @@ mod values;
 
 use alloc::vec::Vec;
 use crate::kit::vec::FallibleVec;
-use crate::proved::ent_storage::handle_map::emptying::move_values;
-pub use crate::proved::ent_storage::handle_map::entry::{Entry, OccupiedEntry, VacantEntry};
-pub use crate::proved::ent_storage::handle_map::error::InsertError;
-pub use crate::proved::ent_storage::handle_map::iter::Iter;
-pub use crate::proved::ent_storage::handle_map::keys::Keys;
-use crate::proved::ent_storage::handle_map::retaining::retain_slots;
-use crate::proved::ent_storage::handle_map::slot::{Slot, append_clones, make_slot};
-pub use crate::proved::ent_storage::handle_map::values::Values;
-use crate::proved::ent_storage::limit::Limit;
-use crate::proved::ent_handle::{HandedBack, Handle, Memory};
+use crate::components::handle_map::emptying::move_values;
+pub use crate::components::handle_map::entry::{Entry, OccupiedEntry, VacantEntry};
+pub use crate::components::handle_map::error::InsertError;
+pub use crate::components::handle_map::iter::Iter;
+pub use crate::components::handle_map::keys::Keys;
+use crate::components::handle_map::retaining::retain_slots;
+use crate::components::handle_map::slot::{Slot, append_clones, make_slot};
+pub use crate::components::handle_map::values::Values;
+use crate::components::limit::Limit;
+use crate::handles::{HandedBack, Handle, OutOfMemory};
 use core::mem;
 
 /// A value of any type for each of some handles: a component. At most one handle of a slot has a
@@ -158,7 +158,7 @@ impl<T> HandleMap<T> {
     ///
     /// </details>
     #[inline]
-    pub fn with_capacity(slots: usize) -> Result<Self, Memory> {
+    pub fn with_capacity(slots: usize) -> Result<Self, OutOfMemory> {
         Ok(HandleMap {
             slots: Vec::with_capacity_fallibly(slots)?,
             len: 0,
@@ -398,7 +398,7 @@ impl<T> HandleMap<T> {
     ///
     /// </details>
     #[inline]
-    pub fn reserve(&mut self, additional: usize) -> Result<(), Memory> {
+    pub fn reserve(&mut self, additional: usize) -> Result<(), OutOfMemory> {
         if self.slots.sized_capacity() - self.slots.len() < additional {
             self.slots.reserve_fallibly(additional)?;
         }
@@ -721,7 +721,7 @@ impl<T> HandleMap<T> {
     ///
     /// </details>
     #[inline]
-    pub fn into_entries(self) -> Result<Vec<(Handle, T)>, Memory> {
+    pub fn into_entries(self) -> Result<Vec<(Handle, T)>, OutOfMemory> {
         let mut all = Vec::with_capacity_fallibly(self.len)?;
         move_values(self.slots, self.len, &mut all);
         Ok(all)
@@ -780,7 +780,7 @@ impl<T: Clone> HandleMap<T> {
     ///
     /// </details>
     #[inline]
-    pub fn try_clone(&self) -> Result<Self, Memory> {
+    pub fn try_clone(&self) -> Result<Self, OutOfMemory> {
         let mut slots = Vec::with_capacity_fallibly(self.slots.len())?;
         append_clones(&mut slots, &self.slots)?;
         Ok(HandleMap {
@@ -846,7 +846,7 @@ impl<T: Clone> HandleMap<T> {
     ///
     /// </details>
     #[inline]
-    pub fn try_clone_from(&mut self, source: &Self) -> Result<(), Memory> {
+    pub fn try_clone_from(&mut self, source: &Self) -> Result<(), OutOfMemory> {
         if self.slots.sized_capacity() < source.slots.len() {
             *self = source.try_clone()?;
             return Ok(());

@@ -3,10 +3,10 @@
 //! What a storage has: the look-ups, which change nothing.
 
 use alloc::vec::Vec;
-use crate::proved::ent_storage::items::Items;
-use crate::proved::ent_storage::order::handles_in_order;
-use crate::proved::ent_storage::storage::Storage;
-use crate::proved::ent_handle::{Birth, ComponentId, Handle, Memory};
+use crate::components::items::Items;
+use crate::components::order::handles_in_order;
+use crate::components::storage::Storage;
+use crate::handles::{Birth, ComponentId, Handle, OutOfMemory};
 
 impl Storage {
     /// Whether the entity is there.
@@ -146,7 +146,7 @@ impl Storage {
     ///
     /// </details>
     #[inline]
-    pub fn by_birth(&self) -> Result<Vec<Handle>, Memory> {
+    pub fn by_birth(&self) -> Result<Vec<Handle>, OutOfMemory> {
         let births = self.living.births()?;
         Ok(handles_in_order(births)?)
     }
@@ -216,7 +216,7 @@ impl Storage {
     ///
     /// </details>
     #[inline]
-    pub fn with(&self, id: ComponentId) -> Result<Vec<Handle>, Memory> {
+    pub fn with(&self, id: ComponentId) -> Result<Vec<Handle>, OutOfMemory> {
         let births = self.living.births_at(self.living.pairs(id))?;
         Ok(handles_in_order(births)?)
     }

@@ -6,7 +6,7 @@
 //! vector an index has the place of each handle, and for each component number a sparse set has the
 //! values, by places.
 //!
-//! [`Bundle`] has components and their values by themselves, as commands carry them. And [`search`]
+//! [`InlineBundle`] has components and their values by themselves, as commands carry them. And [`search`]
 //! finds the position of a key among pairs of a key and a value, by strictly rising key.
 //!
 //! `handle_map` has a map from handles to values of any type, at most one for each slot, and
@@ -33,8 +33,8 @@ pub mod sparse_map;
 mod sparse_set;
 mod storage;
 
-pub use bundle::Bundle;
-pub use fault::StorageFault;
+pub use bundle::InlineBundle;
+pub use fault::StorageError;
 pub(crate) use image::{read_long, read_word, write_long, write_word};
 pub use image_fault::StorageImageFault;
 pub use items::Items;

@@ -8,20 +8,20 @@ mod positions;
 
 use alloc::vec::Vec;
 use crate::kit::vec::FallibleVec;
-use crate::proved::ent_storage::handle_map::{InsertError, index_of};
-use crate::proved::ent_storage::limit::Limit;
-use crate::proved::ent_storage::lists::overwrite;
-pub use crate::proved::ent_storage::sparse_map::entry::{Entry, OccupiedEntry, VacantEntry};
-pub use crate::proved::ent_storage::sparse_map::iter::Iter;
-use crate::proved::ent_storage::sparse_map::positions::{make_position, position_of};
-use crate::proved::ent_handle::{HandedBack, Handle, Memory};
+use crate::components::handle_map::{InsertError, index_of};
+use crate::components::limit::Limit;
+use crate::components::lists::overwrite;
+pub use crate::components::sparse_map::entry::{Entry, OccupiedEntry, VacantEntry};
+pub use crate::components::sparse_map::iter::Iter;
+use crate::components::sparse_map::positions::{make_position, position_of};
+use crate::handles::{HandedBack, Handle, OutOfMemory};
 use crate::kit::alloc::AllocError;
 use core::mem;
 
 /// A value of any type for each of few handles: a rare component. At most one handle of a slot has
 /// a value.
 ///
-/// It takes and refuses what a [`HandleMap`](crate::proved::ent_storage::handle_map::HandleMap) does. The values lie
+/// It takes and refuses what a [`HandleMap`](crate::components::handle_map::HandleMap) does. The values lie
 /// side by side, and each slot takes only four bytes, for the position of its value. So ten values
 /// among a million slots take 4.5 MB with values of any size, and are walked in the time of the
 /// ten. A look-up is two accesses to vectors, where a `HandleMap` makes one.
@@ -561,7 +561,7 @@ impl<T: Clone> SparseMap<T> {
     ///
     /// </details>
     #[inline]
-    pub fn try_clone(&self) -> Result<Self, Memory> {
+    pub fn try_clone(&self) -> Result<Self, OutOfMemory> {
         let mut positions = Vec::with_capacity_fallibly(self.positions.len())?;
         positions.extend_from_slice_fallibly(&self.positions)?;
         let mut entries = Vec::with_capacity_fallibly(self.entries.len())?;
@@ -611,7 +611,7 @@ impl<T: Clone> SparseMap<T> {
     ///
     /// </details>
     #[inline]
-    pub fn try_clone_from(&mut self, source: &Self) -> Result<(), Memory> {
+    pub fn try_clone_from(&mut self, source: &Self) -> Result<(), OutOfMemory> {
         let values = source.entries.len();
         let slots = source.positions.len();
         if self.entries.sized_capacity() < values || self.positions.sized_capacity() < slots {

@@ -1,9 +1,9 @@
 // Made of crates/ent_storage/src/storage.rt by rust/erase. It isn't edited by hand.
 
-use super::fault::StorageFault;
+use super::fault::StorageError;
 use super::index::Index;
 use super::living::Living;
-use crate::proved::ent_handle::{Birth, ComponentId, Handle, Memory};
+use crate::handles::{Birth, ComponentId, Handle, OutOfMemory};
 
 /// What living entities are made of: for each handle its birth, and a value for each component that
 /// the entity has.
@@ -97,7 +97,7 @@ impl Storage {
     ///
     /// </details>
     #[inline]
-    pub fn try_clone(&self) -> Result<Self, Memory> {
+    pub fn try_clone(&self) -> Result<Self, OutOfMemory> {
         if self.living.is_empty() && self.spare() == 0 {
             return Ok(Storage::new());
         }
@@ -157,7 +157,7 @@ impl Storage {
     ///
     /// </details>
     #[inline]
-    pub fn try_clone_from(&mut self, source: &Storage) -> Result<(), Memory> {
+    pub fn try_clone_from(&mut self, source: &Storage) -> Result<(), OutOfMemory> {
         let count = source.living.capacity().min(source.index.room());
         self.index.reserve_or_more(count, source.index.room())?;
         self.living.try_clone_from(&source.living, count)?;
@@ -278,7 +278,7 @@ impl Storage {
     ///
     /// </details>
     #[inline]
-    pub fn reserve(&mut self, additional: usize) -> Result<(), Memory> {
+    pub fn reserve(&mut self, additional: usize) -> Result<(), OutOfMemory> {
         if additional <= self.spare() {
             return Ok(());
         }
@@ -329,7 +329,7 @@ impl Storage {
     ///
     /// </details>
     #[inline]
-    pub fn reserve_slots(&mut self, slots: usize) -> Result<(), Memory> {
+    pub fn reserve_slots(&mut self, slots: usize) -> Result<(), OutOfMemory> {
         self.index.reserve(slots)?;
         Ok(())
     }
@@ -362,19 +362,19 @@ impl Storage {
     /// ensures spare { OnOk result (0 < self.old.spare → self.new.spare + 1 ≡ self.old.spare) }
     /// ensures places { OnOk result (self.new.places ≡ self.old.places ++ handle ∷ []) }
     ///
-    /// ensures present { IsErrOf result StorageFault.Present
+    /// ensures present { IsErrOf result StorageError.Present
     ///     ↔ IsTrue (map.contains_key self.old.entities handle) }
-    /// ensures memory_without_room { IsErrOf result StorageFault.Memory → self.old.spare ≡ 0 }
-    /// ensures never_absent { ¬ (IsErrOf result StorageFault.Absent) }
+    /// ensures memory_without_room { IsErrOf result StorageError.Memory → self.old.spare ≡ 0 }
+    /// ensures never_absent { ¬ (IsErrOf result StorageError.Absent) }
     /// ensures err { OnErr result (self.new ≡ self.old) }
     /// ```
     ///
     /// </details>
     #[inline(always)]
-    pub fn born(&mut self, handle: Handle, birth: Birth) -> Result<(), StorageFault> {
+    pub fn born(&mut self, handle: Handle, birth: Birth) -> Result<(), StorageError> {
         if !self.has_spare() {
             if self.contains(handle) {
-                return Err(StorageFault::Present);
+                return Err(StorageError::Present);
             }
             self.reserve(1)?;
         }
@@ -388,22 +388,22 @@ impl Storage {
     ///
     /// `Present`: the entity is there already. Nothing has changed.
     #[inline(always)]
-    pub(crate) fn born_within(&mut self, handle: Handle, birth: Birth) -> Result<(), StorageFault>
+    pub(crate) fn born_within(&mut self, handle: Handle, birth: Birth) -> Result<(), StorageError>
         // requires room { 0 < self.old.spare }
         // ensures ok { OnOk result
         //     (self.new.entities ≡ map.insert self.old.entities handle (newborn birth)) }
         // ensures spare { OnOk result (self.new.spare + 1 ≡ self.old.spare) }
         // ensures places { OnOk result (self.new.places ≡ self.old.places ++ handle ∷ []) }
-        // ensures present { IsErrOf result StorageFault.Present
+        // ensures present { IsErrOf result StorageError.Present
         //     ↔ IsTrue (map.contains_key self.old.entities handle) }
-        // ensures only_present { IfErr result (λ fault. fault ≡ StorageFault.Present) }
+        // ensures only_present { IfErr result (λ fault. fault ≡ StorageError.Present) }
         // ensures err { OnErr result (self.new ≡ self.old) }
     {
         if self.index.put(&self.living, handle) {
             self.living.push(handle, birth);
             Ok(())
         } else {
-            Err(StorageFault::Present)
+            Err(StorageError::Present)
         }
     }
 
@@ -428,17 +428,17 @@ impl Storage {
     ///     (slice_get self.old.places place ≡ Some handle)
     ///     × AreWithout place self.old.places self.new.places)) }
     ///
-    /// ensures absent { IsErrOf result StorageFault.Absent
+    /// ensures absent { IsErrOf result StorageError.Absent
     ///     ↔ (map.get self.old.entities handle ≡ None) }
-    /// ensures only_absent { IfErr result (λ fault. fault ≡ StorageFault.Absent) }
+    /// ensures only_absent { IfErr result (λ fault. fault ≡ StorageError.Absent) }
     /// ensures err { OnErr result (self.new ≡ self.old) }
     /// ```
     ///
     /// </details>
     #[inline(always)]
-    pub fn despawn(&mut self, handle: Handle) -> Result<(), StorageFault> {
+    pub fn despawn(&mut self, handle: Handle) -> Result<(), StorageError> {
         let Some(place) = self.place(handle) else {
-            return Err(StorageFault::Absent);
+            return Err(StorageError::Absent);
         };
         let _ = self.despawn_at(place, handle);
         self.forget(handle);
@@ -513,12 +513,12 @@ impl Storage {
     /// ensures spare { self.new.spare ≡ self.old.spare }
     /// ensures places { self.new.places ≡ self.old.places }
     ///
-    /// ensures absent { IsErrOf result StorageFault.Absent
+    /// ensures absent { IsErrOf result StorageError.Absent
     ///     ↔ (map.get self.old.entities handle ≡ None) }
-    /// ensures memory_to_grow { IsErrOf result StorageFault.Memory
+    /// ensures memory_to_grow { IsErrOf result StorageError.Memory
     ///     → IfSome (components_of self.old.entities handle)
     ///     (λ held. 0 < missing held items.now) }
-    /// ensures never_present { ¬ (IsErrOf result StorageFault.Present) }
+    /// ensures never_present { ¬ (IsErrOf result StorageError.Present) }
     /// ensures err { OnErr result (self.new ≡ self.old) }
     /// ```
     ///
@@ -528,9 +528,9 @@ impl Storage {
         &mut self,
         handle: Handle,
         items: &[(ComponentId, i64)],
-    ) -> Result<(), StorageFault> {
+    ) -> Result<(), StorageError> {
         let Some(place) = self.place(handle) else {
-            return Err(StorageFault::Absent);
+            return Err(StorageError::Absent);
         };
         self.insert_at(place, handle, items)?;
         Ok(())
@@ -552,7 +552,7 @@ impl Storage {
         place: usize,
         handle: Handle,
         items: &[(ComponentId, i64)],
-    ) -> Result<(), Memory>
+    ) -> Result<(), OutOfMemory>
         // requires { slice_get self.old.places place ≡ Some handle }
         // ensures ok { OnOk result (self.new.entities
         //     ≡ with_components self.old.entities handle (λ held. with_items held items.now)) }
@@ -586,17 +586,17 @@ impl Storage {
     /// ensures spare { self.new.spare ≡ self.old.spare }
     /// ensures places { self.new.places ≡ self.old.places }
     ///
-    /// ensures absent { IsErrOf result StorageFault.Absent
+    /// ensures absent { IsErrOf result StorageError.Absent
     ///     ↔ (map.get self.old.entities handle ≡ None) }
-    /// ensures only_absent { IfErr result (λ fault. fault ≡ StorageFault.Absent) }
+    /// ensures only_absent { IfErr result (λ fault. fault ≡ StorageError.Absent) }
     /// ensures err { OnErr result (self.new ≡ self.old) }
     /// ```
     ///
     /// </details>
     #[inline]
-    pub fn remove(&mut self, handle: Handle, id: ComponentId) -> Result<Option<i64>, StorageFault> {
+    pub fn remove(&mut self, handle: Handle, id: ComponentId) -> Result<Option<i64>, StorageError> {
         let Some(place) = self.place(handle) else {
-            return Err(StorageFault::Absent);
+            return Err(StorageError::Absent);
         };
         Ok(self.remove_at(place, handle, id))
     }

@@ -3,12 +3,12 @@
 //! A phase ends, and gives the allocator back.
 
 use alloc::vec::Vec;
-use crate::proved::ent_total::close_error::CloseError;
-use crate::proved::ent_total::reserver::Reserver;
-use crate::proved::ent_total::returning::are_of;
-use crate::proved::ent_total::shared::Shared;
-use crate::proved::ent_alloc::Entities;
-use crate::proved::ent_handle::HandedBack;
+use crate::phases::close_error::CloseError;
+use crate::phases::reserver::Reserver;
+use crate::phases::returning::are_of;
+use crate::phases::shared::Shared;
+use crate::allocator::Entities;
+use crate::handles::HandedBack;
 
 impl Shared {
     /// Ends the phase with all its reservers: those that are returned, and these. The allocator is as

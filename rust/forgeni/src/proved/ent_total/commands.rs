@@ -1,12 +1,12 @@
 // Made of crates/ent_total/src/commands.rt by rust/erase. It isn't edited by hand.
 
 use alloc::vec::Vec;
-use crate::proved::ent_total::command_queue::CommandQueue;
-use crate::proved::ent_total::open_world::OpenWorld;
-use crate::proved::ent_alloc::ReserveError;
-use crate::proved::ent_handle::{Birth, ComponentId, Handle, Memory};
-use crate::proved::ent_shared::Reserver;
-use crate::proved::ent_world::View;
+use crate::phases::command_queue::CommandQueue;
+use crate::phases::open_world::OpenWorld;
+use crate::allocator::ReserveError;
+use crate::handles::{Birth, ComponentId, Handle, OutOfMemory};
+use crate::reserving::SharedReserver;
+use crate::worlds::View;
 use core::mem;
 use crate::kit::sync::Arc;
 
@@ -18,9 +18,9 @@ use crate::kit::sync::Arc;
 #[must_use]
 #[repr(align(128))]
 pub struct Commands {
-    pub(super) world: Arc<crate::proved::ent_world::OpenWorld>,
-    pub(super) reserver: Reserver,
-    pub(super) queue: crate::proved::ent_queue::CommandQueue,
+    pub(super) world: Arc<crate::worlds::OpenWorld>,
+    pub(super) reserver: SharedReserver,
+    pub(super) queue: crate::commands::IssuedCommands,
     pub(super) number: u64,
 }
 
@@ -28,15 +28,15 @@ impl Commands {
     /// A system that has issued nothing.
     #[inline]
     pub(super) fn new(
-        world: Arc<crate::proved::ent_world::OpenWorld>,
-        mut reserver: Reserver,
+        world: Arc<crate::worlds::OpenWorld>,
+        mut reserver: SharedReserver,
         number: u64,
     ) -> Self
         // requires stands_for { J.world_of number ≡ arc_value world }
         // requires own { IsOf (arc_value world).shared reserver }
         // ensures { result ≡ new_commands number (arc_value world) reserver }
     {
-        let queue = crate::proved::ent_queue::Commands::new(world.shared(), &mut reserver).finish();
+        let queue = crate::commands::SystemCommands::new(world.shared(), &mut reserver).finish();
         Commands {
             world,
             reserver,
@@ -98,7 +98,7 @@ impl Commands {
     ) -> Result<Handle, ReserveError> {
         let queue = self.take_queue();
         let shared = self.world.shared();
-        let mut commands = crate::proved::ent_queue::Commands::resume(shared, &mut self.reserver, queue);
+        let mut commands = crate::commands::SystemCommands::resume(shared, &mut self.reserver, queue);
         let spawned = commands.spawn_with(components);
         self.queue = commands.finish();
         spawned
@@ -145,7 +145,7 @@ impl Commands {
     ) -> Result<Vec<Handle>, ReserveError> {
         let queue = self.take_queue();
         let shared = self.world.shared();
-        let mut commands = crate::proved::ent_queue::Commands::resume(shared, &mut self.reserver, queue);
+        let mut commands = crate::commands::SystemCommands::resume(shared, &mut self.reserver, queue);
         let spawned = commands.spawn_many_with(n, components);
         self.queue = commands.finish();
         spawned
@@ -194,10 +194,10 @@ impl Commands {
         &mut self,
         handle: Handle,
         components: &[(ComponentId, i64)],
-    ) -> Result<(), Memory> {
+    ) -> Result<(), OutOfMemory> {
         let queue = self.take_queue();
         let shared = self.world.shared();
-        let mut commands = crate::proved::ent_queue::Commands::resume(shared, &mut self.reserver, queue);
+        let mut commands = crate::commands::SystemCommands::resume(shared, &mut self.reserver, queue);
         let issued = commands.insert_with(handle, components);
         self.queue = commands.finish();
         issued
@@ -222,10 +222,10 @@ impl Commands {
     ///
     /// </details>
     #[inline]
-    pub fn remove(&mut self, handle: Handle, id: ComponentId) -> Result<(), Memory> {
+    pub fn remove(&mut self, handle: Handle, id: ComponentId) -> Result<(), OutOfMemory> {
         let queue = self.take_queue();
         let shared = self.world.shared();
-        let mut commands = crate::proved::ent_queue::Commands::resume(shared, &mut self.reserver, queue);
+        let mut commands = crate::commands::SystemCommands::resume(shared, &mut self.reserver, queue);
         let issued = commands.remove(handle, id);
         self.queue = commands.finish();
         issued
@@ -268,10 +268,10 @@ impl Commands {
     ///
     /// </details>
     #[inline]
-    pub fn despawn(&mut self, handle: Handle) -> Result<(), Memory> {
+    pub fn despawn(&mut self, handle: Handle) -> Result<(), OutOfMemory> {
         let queue = self.take_queue();
         let shared = self.world.shared();
-        let mut commands = crate::proved::ent_queue::Commands::resume(shared, &mut self.reserver, queue);
+        let mut commands = crate::commands::SystemCommands::resume(shared, &mut self.reserver, queue);
         let issued = commands.despawn(handle);
         self.queue = commands.finish();
         issued
@@ -279,12 +279,12 @@ impl Commands {
 
     /// The queue, and leaves an empty one, which takes no memory.
     #[inline]
-    fn take_queue(&mut self) -> crate::proved::ent_queue::CommandQueue
+    fn take_queue(&mut self) -> crate::commands::IssuedCommands
         // ensures queue { result ≡ self.old.queue }
         // ensures rest { self.new ≡ record self.old { queue = [] } }
     {
         let shared = self.world.shared();
-        let empty = crate::proved::ent_queue::Commands::new(shared, &mut self.reserver).finish();
+        let empty = crate::commands::SystemCommands::new(shared, &mut self.reserver).finish();
         mem::replace(&mut self.queue, empty)
     }
 
@@ -356,7 +356,7 @@ impl Commands {
     ///
     /// </details>
     #[inline]
-    pub fn by_birth(&self) -> Result<Vec<Handle>, Memory> {
+    pub fn by_birth(&self) -> Result<Vec<Handle>, OutOfMemory> {
         self.world.view().by_birth()
     }
 

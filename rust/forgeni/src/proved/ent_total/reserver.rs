@@ -1,9 +1,9 @@
 // Made of crates/ent_total/src/reserver.rt by rust/erase. It isn't edited by hand.
 
-use crate::proved::ent_total::other_phase::OtherPhase;
-use crate::proved::ent_total::shared::Shared;
-use crate::proved::ent_alloc::Living;
-use crate::proved::ent_handle::Handle;
+use crate::phases::other_phase::OtherPhase;
+use crate::phases::shared::Shared;
+use crate::allocator::Living;
+use crate::handles::Handle;
 use crate::kit::sync::Arc;
 
 /// The right of one caller to reserve from a shared allocator.
@@ -24,8 +24,8 @@ use crate::kit::sync::Arc;
 /// ```
 #[repr(align(128))]
 pub struct Reserver {
-    pub(super) shared: Arc<crate::proved::ent_shared::Shared>,
-    pub(super) reserver: crate::proved::ent_shared::Reserver,
+    pub(super) shared: Arc<crate::reserving::SharedSource>,
+    pub(super) reserver: crate::reserving::SharedReserver,
     pub(super) number: u64,
 }
 

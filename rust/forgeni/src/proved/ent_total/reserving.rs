@@ -3,9 +3,9 @@
 //! What a reserver reserves: one handle, or many at once.
 use alloc::vec::Vec;
 use crate::kit::vec::FallibleVec;
-use crate::proved::ent_total::reserver::Reserver;
-use crate::proved::ent_alloc::{Refused, ReserveError, Reserved};
-use crate::proved::ent_handle::Handle;
+use crate::phases::reserver::Reserver;
+use crate::allocator::{Refused, ReserveError, Reserved};
+use crate::handles::Handle;
 
 impl Reserver {
     /// Reserves one handle, by one atomic step. It takes no memory.

@@ -2,10 +2,10 @@
 
 use alloc::vec::Vec;
 use crate::kit::vec::FallibleVec;
-use crate::proved::ent_total::reserver::Reserver;
-use crate::proved::ent_total::returning::bring_back;
-use crate::proved::ent_alloc::Living;
-use crate::proved::ent_handle::{Handle, Memory};
+use crate::phases::reserver::Reserver;
+use crate::phases::returning::bring_back;
+use crate::allocator::Living;
+use crate::handles::{Handle, OutOfMemory};
 use crate::kit::sync::Arc;
 
 /// An allocator while it is shared. [`Entities::share`](crate::Entities::share) makes it, with its
@@ -17,16 +17,16 @@ use crate::kit::sync::Arc;
 /// It is `Send` and `Sync`: any thread may read it.
 #[must_use]
 pub struct Shared {
-    shared: Arc<crate::proved::ent_shared::Shared>,
-    returned: Vec<crate::proved::ent_shared::Reserver>,
+    shared: Arc<crate::reserving::SharedSource>,
+    returned: Vec<crate::reserving::SharedReserver>,
     number: u64,
 }
 
 impl Shared {
     #[inline]
     pub(super) fn new(
-        shared: Arc<crate::proved::ent_shared::Shared>,
-        returned: Vec<crate::proved::ent_shared::Reserver>,
+        shared: Arc<crate::reserving::SharedSource>,
+        returned: Vec<crate::reserving::SharedReserver>,
         number: u64,
     ) -> Self
         // requires stands_for { J.shared_of number ≡ arc_value shared }
@@ -223,12 +223,12 @@ impl Shared {
     ///
     /// </details>
     #[inline]
-    pub fn reserver(&mut self) -> Result<Option<Reserver>, Memory> {
+    pub fn reserver(&mut self) -> Result<Option<Reserver>, OutOfMemory> {
         if self.returned.is_empty() {
             return Ok(None);
         }
         let Ok(shared) = Arc::try_clone(&self.shared) else {
-            return Err(Memory);
+            return Err(OutOfMemory);
         };
         let Some(reserver) = self.returned.pop() else {
             unreachable!()
@@ -269,7 +269,7 @@ impl Shared {
 
     /// The allocator with the reservers that are returned, if no other reserver owns it too.
     #[inline]
-    pub(super) fn end(self) -> Result<(crate::proved::ent_shared::Shared, Vec<crate::proved::ent_shared::Reserver>), Self>
+    pub(super) fn end(self) -> Result<(crate::reserving::SharedSource, Vec<crate::reserving::SharedReserver>), Self>
         // ensures ok { IfOk result (λ parts. (parts.0 ≡ self.shared) × (parts.1.items ≡ self.returned)) }
         // ensures own { IfOk result (λ parts. All (IsOf parts.0) parts.1.items) }
         // ensures err { IfErr result (λ shared. shared ≡ self) }

@@ -1,10 +1,10 @@
 // Made of crates/ent_total/src/world.rt by rust/erase. It isn't edited by hand.
 
 use alloc::vec::Vec;
-use crate::proved::ent_alloc::{AllocFault, FreeFault, Freed, Limits};
-use crate::proved::ent_handle::{Birth, ComponentId, Handle, Memory};
-use crate::proved::ent_queue::Bundle;
-use crate::proved::ent_storage::Items;
+use crate::allocator::{AllocError, FreeError, Freed, Limits};
+use crate::handles::{Birth, ComponentId, Handle, OutOfMemory};
+use crate::commands::Bundle;
+use crate::components::Items;
 
 /// The system in the birth of an entity that no system spawned.
 const NO_SYSTEM: u32 = 0xffff_ffff;
@@ -12,7 +12,7 @@ const NO_SYSTEM: u32 = 0xffff_ffff;
 /// The living entities and their components.
 ///
 /// A component is a number ([`ComponentId`]) and a value of 64 bits. Systems that run side by side
-/// don't touch the world: `open` gives each its [`Commands`](crate::proved::ent_total::Commands), and
+/// don't touch the world: `open` gives each its [`Commands`](crate::phases::Commands), and
 /// [`apply`](World::apply) lets their queues take effect. Outside of phases entities come and go at
 /// once ([`spawn`](World::spawn), [`despawn`](World::despawn)), and the components of a living one
 /// change by commands alone.
@@ -45,7 +45,7 @@ const NO_SYSTEM: u32 = 0xffff_ffff;
 /// # Ok::<(), Box<dyn std::error::Error>>(())
 /// ```
 pub struct World {
-    pub(super) world: crate::proved::ent_world::World,
+    pub(super) world: crate::worlds::World,
     /// By it queues know their world. It is given from outside: what a queue says of its world is as
     /// good as it.
     pub(super) number: u64,
@@ -68,7 +68,7 @@ pub struct World {
 #[inline]
 pub fn new_world(limits: Limits, number: u64) -> World {
     World {
-        world: crate::proved::ent_world::World::new(limits),
+        world: crate::worlds::World::new(limits),
         number,
         spawned: 0,
     }
@@ -110,14 +110,14 @@ impl World {
     /// ensures number { self.new.number ≡ self.old.number }
     ///
     /// // When it is refused, and what holds then.
-    /// ensures needs_flush { IsErrOf result AllocFault.NeedsFlush
+    /// ensures needs_flush { IsErrOf result AllocError.NeedsFlush
     ///     ↔ (0 < self.old.world.allocator.asked) }
-    /// ensures space { IsErrOf result AllocFault.Space
+    /// ensures space { IsErrOf result AllocError.Space
     ///     → (self.old.world.allocator.asked ≡ 0) × (self.old.world.allocator.pool ≡ []) }
     /// ensures full { (self.old.world.allocator.asked ≡ 0) × (self.old.world.allocator.pool ≡ [])
-    ///     → IsErrOf result AllocFault.Space
-    ///     ⊎ (IsErrOf result AllocFault.Memory × (4 < length (bundle_of components.now))) }
-    /// ensures memory { IsErrOf result AllocFault.Memory
+    ///     → IsErrOf result AllocError.Space
+    ///     ⊎ (IsErrOf result AllocError.Memory × (4 < length (bundle_of components.now))) }
+    /// ensures memory { IsErrOf result AllocError.Memory
     ///     → (top self.old.world.allocator ≡ 0) ⊎ (0 < length (bundle_of components.now)) }
     /// ensures err { OnErr result (self.new ≡ self.old) }
     /// ```
@@ -127,7 +127,7 @@ impl World {
     pub fn spawn(
         &mut self,
         components: &[(ComponentId, i64)],
-    ) -> Result<Handle, AllocFault> {
+    ) -> Result<Handle, AllocError> {
         let birth = Birth {
             frame: self.world.phase(),
             system: NO_SYSTEM,
@@ -156,14 +156,14 @@ impl World {
     /// }) }
     ///
     /// // When it is refused, and what holds then.
-    /// ensures needs_flush { IsErrOf result AllocFault.NeedsFlush
+    /// ensures needs_flush { IsErrOf result AllocError.NeedsFlush
     ///     ↔ (0 < self.old.world.allocator.asked) }
-    /// ensures space { IsErrOf result AllocFault.Space
+    /// ensures space { IsErrOf result AllocError.Space
     ///     → (self.old.world.allocator.asked ≡ 0) × (self.old.world.allocator.pool ≡ []) }
     /// ensures full { (self.old.world.allocator.asked ≡ 0) × (self.old.world.allocator.pool ≡ [])
-    ///     → IsErrOf result AllocFault.Space
-    ///     ⊎ (IsErrOf result AllocFault.Memory × (4 < length (bundle_of components.now))) }
-    /// ensures memory { IsErrOf result AllocFault.Memory
+    ///     → IsErrOf result AllocError.Space
+    ///     ⊎ (IsErrOf result AllocError.Memory × (4 < length (bundle_of components.now))) }
+    /// ensures memory { IsErrOf result AllocError.Memory
     ///     → (top self.old.world.allocator ≡ 0) ⊎ (0 < length (bundle_of components.now)) }
     /// ensures err { OnErr result (self.new ≡ self.old) }
     /// ```
@@ -174,7 +174,7 @@ impl World {
         &mut self,
         birth: Birth,
         components: &[(ComponentId, i64)],
-    ) -> Result<Handle, AllocFault> {
+    ) -> Result<Handle, AllocError> {
         let Ok(bundle) = Bundle::of(components) else {
             return Err(self.no_bundle());
         };
@@ -183,14 +183,14 @@ impl World {
 
     /// Why nothing was spawned, when there is no memory for the components.
     #[cold]
-    fn no_bundle(&self) -> AllocFault
-        // ensures needs_flush { result ≡ AllocFault.NeedsFlush ↔ (0 < self.now.world.allocator.asked) }
-        // ensures memory { result ≡ AllocFault.Memory ↔ (self.now.world.allocator.asked ≡ 0) }
+    fn no_bundle(&self) -> AllocError
+        // ensures needs_flush { result ≡ AllocError.NeedsFlush ↔ (0 < self.now.world.allocator.asked) }
+        // ensures memory { result ≡ AllocError.Memory ↔ (self.now.world.allocator.asked ≡ 0) }
     {
         if self.world.needs_flush() {
-            AllocFault::NeedsFlush
+            AllocError::NeedsFlush
         } else {
-            AllocFault::Memory
+            AllocError::Memory
         }
     }
 
@@ -222,19 +222,19 @@ impl World {
     /// ensures next { IfOk result (λ freed.
     ///     freed.next ≡ next self.old.world.allocator.limits handle) }
     /// ensures lived { OnOk result (lives_in self.old.world handle ≡ true) }
-    /// ensures needs_flush { IsErrOf result FreeFault.NeedsFlush
+    /// ensures needs_flush { IsErrOf result FreeError.NeedsFlush
     ///     ↔ (0 < self.old.world.allocator.asked) }
-    /// ensures not_alive { IsErrOf result FreeFault.NotAlive
+    /// ensures not_alive { IsErrOf result FreeError.NotAlive
     ///     ↔ ((self.old.world.allocator.asked ≡ 0)
     ///     × (lives_in self.old.world handle ≡ false)) }
-    /// ensures memory { IsErrOf result FreeFault.Memory
+    /// ensures memory { IsErrOf result FreeError.Memory
     ///     → handle.generation ≢ self.old.world.allocator.limits.generations }
     /// ensures err { OnErr result (self.new ≡ self.old) }
     /// ```
     ///
     /// </details>
     #[inline]
-    pub fn despawn(&mut self, handle: Handle) -> Result<Freed, FreeFault> {
+    pub fn despawn(&mut self, handle: Handle) -> Result<Freed, FreeError> {
         self.world.despawn(handle)
     }
 
@@ -354,7 +354,7 @@ impl World {
     ///
     /// </details>
     #[inline]
-    pub fn by_birth(&self) -> Result<Vec<Handle>, Memory> {
+    pub fn by_birth(&self) -> Result<Vec<Handle>, OutOfMemory> {
         self.world.by_birth()
     }
 
@@ -428,7 +428,7 @@ impl World {
     }
 
     /// Whether any handle was requested since the last flush. It is so between
-    /// [`OpenWorld::close`](crate::proved::ent_total::OpenWorld::close) and [`apply`](World::apply), if a system has
+    /// [`OpenWorld::close`](crate::phases::OpenWorld::close) and [`apply`](World::apply), if a system has
     /// spawned.
     ///
     /// <details><summary>Contract</summary>
@@ -473,7 +473,7 @@ impl World {
     ///
     /// </details>
     #[inline]
-    pub fn flush(&mut self) -> Result<(), Memory> {
+    pub fn flush(&mut self) -> Result<(), OutOfMemory> {
         self.world.flush()?;
         self.spawned = 0;
         Ok(())

@@ -1,7 +1,7 @@
 // Made of crates/ent_world/src/fault.rt by rust/erase. It isn't edited by hand.
 
 use alloc::vec::Vec;
-use crate::proved::ent_handle::Handle;
+use crate::handles::Handle;
 
 /// Why a command had no effect.
 #[derive(Clone, Copy, Debug, PartialEq, Eq, Hash)]
@@ -34,8 +34,8 @@ pub struct Fault {
 }
 
 /// What a sync point has done.
-#[derive(Clone, PartialEq, Eq)]
-pub struct SyncReport {
+#[derive(Debug, Clone, PartialEq, Eq)]
+pub struct Report {
     /// The handles that came to life, in the order of the flush.
     pub born: Vec<Handle>,
     /// The commands without effect, in their order.
@@ -56,7 +56,7 @@ pub enum SyncFault {
         /// How many handles of that command are done. It is 0 except at a spawn of many.
         done: usize,
         /// What was done before.
-        so_far: SyncReport,
+        so_far: Report,
     },
 }
 

@@ -42,8 +42,8 @@ mod wants;
 mod work;
 mod world_text;
 
-pub use crate::proved::cli::{LineFault, refuse_words};
-pub use crate::proved::devices::{Counted, Failed, Sink, Source};
+pub use crate::cli::{LineFault, refuse_words};
+pub use crate::devices::{Counted, Failed, Sink, Source};
 pub use frame_text::write_frame;
 pub use product::INPUT_LIMIT;
 pub use program::execute;

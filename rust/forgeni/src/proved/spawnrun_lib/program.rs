@@ -4,14 +4,14 @@
 //! stream.
 
 use crate::kit::programs::format;
-use crate::proved::spawnrun_lib::progress::Progress;
-use crate::proved::spawnrun_lib::status::Status;
-use crate::proved::spawnrun_lib::task::command_line;
-use crate::proved::spawnrun_lib::work::do_task;
-use crate::proved::cli::{LineFault, finish, refuse_line};
-use crate::proved::devices::{Sink, Source};
+use crate::spawnrun_lib::progress::Progress;
+use crate::spawnrun_lib::status::Status;
+use crate::spawnrun_lib::task::command_line;
+use crate::spawnrun_lib::work::do_task;
+use crate::cli::{LineFault, finish, refuse_line};
+use crate::devices::{Sink, Source};
 use crate::kit::programs::string::AsStr;
-use crate::kit::thread::Threads;
+use crate::kit::thread::Join;
 
 /// Does what the words after the program's name ask for, and returns the exit status.
 ///
@@ -84,7 +84,7 @@ pub fn execute<R, S: AsStr, I: Source, O: Sink, E: Sink, P: Progress>(
     progress: &mut P,
 ) -> u8
 where
-    R: Threads + Sync,
+    R: Join + Sync,
 {
     match command_line(words) {
         Ok(task) => {

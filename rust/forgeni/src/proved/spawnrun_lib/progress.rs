@@ -2,7 +2,7 @@
 
 //! How far a run is, and who tells it on a terminal.
 
-use crate::proved::devices::{Failed, Sink};
+use crate::devices::{Failed, Sink};
 use crate::kit::itoa::Buffer;
 use crate::kit::programs::time::{Clock, Duration, Instant};
 

@@ -3,19 +3,19 @@
 //! The program on the words that it was started with.
 
 use crate::kit::programs::rt::AllocGlobal;
-use crate::proved::spawnrun_lib::program::execute;
-use crate::proved::spawnrun_lib::progress::Teller;
-use crate::proved::spawnrun_lib::status::Status;
-use crate::proved::spawnrun_lib::task::is_task;
-use crate::proved::cli::{file_name, finish, refuse_file, refuse_words, words_after_name};
-use crate::proved::devices::{Counted, Muted, Noting, open_named};
+use crate::spawnrun_lib::program::execute;
+use crate::spawnrun_lib::progress::Teller;
+use crate::spawnrun_lib::status::Status;
+use crate::spawnrun_lib::task::is_task;
+use crate::cli::{file_name, finish, refuse_file, refuse_words, words_after_name};
+use crate::devices::{Counted, Muted, Noting, open_named};
 use crate::kit::alloc::AllocError;
 use core::cell::Cell;
 use crate::kit::programs::env;
 use crate::kit::programs::env::Env;
 use std::io::{Read, Write};
 use crate::kit::programs::rt::Files;
-use crate::kit::thread::Threads;
+use crate::kit::thread::Join;
 use crate::kit::programs::time::Clock;
 
 /// Runs the program on the words that it was started with, and returns its exit status: that of
@@ -48,7 +48,7 @@ pub fn start<R, I: Read, O: Write, E: Write, T: Write>(
     tells: bool,
 ) -> u8
 where
-    R: Threads + Sync + Env + Clock + Files + AllocGlobal,
+    R: Join + Sync + Env + Clock + Files + AllocGlobal,
 {
     let has_left = Cell::new(false);
     let mut output = Counted::new(Noting::new(output, &has_left));

@@ -6,11 +6,11 @@
 use crate::kit::programs::format;
 use crate::kit::programs::rt::AllocGlobal;
 use crate::kit::programs::string::String;
-use crate::proved::tracecheck::command_line::{ask_for_a_check, command_line, image_name};
-use crate::proved::tracecheck::running::check_as;
-use crate::proved::tracecheck::status::Status;
-use crate::proved::cli::{LineFault, file_name, finish, refuse_file, refuse_line, refuse_words, words_after_name};
-use crate::proved::devices::{Counted, Muted, Noting, Sink, Source, open_named};
+use crate::tracecheck::command_line::{ask_for_a_check, command_line, image_name};
+use crate::tracecheck::running::check_as;
+use crate::tracecheck::status::Status;
+use crate::cli::{LineFault, file_name, finish, refuse_file, refuse_line, refuse_words, words_after_name};
+use crate::devices::{Counted, Muted, Noting, Sink, Source, open_named};
 use crate::kit::alloc::AllocError;
 use core::cell::Cell;
 use crate::kit::programs::string::AsStr;

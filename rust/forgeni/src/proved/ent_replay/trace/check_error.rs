@@ -2,11 +2,11 @@
 
 //! Why a checker stops.
 
-use crate::proved::ent_replay::trace::difference::Difference;
-use crate::proved::ent_handle::Memory;
+use crate::traces::trace::difference::Difference;
+use crate::handles::OutOfMemory;
 use crate::kit::alloc::{AllocError, AllocFailed};
 
-/// Why a [`Checker`](crate::proved::ent_replay::trace::Checker) takes no more calls.
+/// Why a [`Checker`](crate::traces::trace::Checker) takes no more calls.
 #[non_exhaustive]
 #[derive(Debug, Clone, PartialEq, Eq, Hash)]
 pub enum CheckError {
@@ -47,7 +47,7 @@ impl CheckError {
         match self {
             CheckError::Differs(difference) => match difference.try_copy() {
                 Ok(copy) => CheckError::Differs(copy),
-                Err(Memory) => CheckError::Memory,
+                Err(OutOfMemory) => CheckError::Memory,
             },
             CheckError::TooMany => CheckError::TooMany,
             CheckError::Memory => CheckError::Memory,
@@ -55,9 +55,9 @@ impl CheckError {
     }
 }
 
-impl From<Memory> for CheckError {
+impl From<OutOfMemory> for CheckError {
     #[inline]
-    fn from(_refused: Memory) -> Self {
+    fn from(_refused: OutOfMemory) -> Self {
         CheckError::Memory
     }
 }
