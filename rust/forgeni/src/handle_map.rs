@@ -14,7 +14,7 @@ use core::fmt;
 use core::hash::{Hash, Hasher};
 use core::ops::{Index, IndexMut};
 
-use crate::components::sparse_map::{Iter as SparseIter, SparseMap};
+use crate::components::sparse_map::{self, SparseMap};
 
 pub use crate::components::handle_map::{Entry, HandleMap, InsertError, Iter, Keys};
 pub use crate::components::handle_map::{OccupiedEntry, VacantEntry, Values};
@@ -114,7 +114,7 @@ pub trait AnyMap:
 
 /// What both kinds of maps have by hand. `$by_slot` goes over the values by rising slot.
 macro_rules! traits_of_a_map {
-    ($Map:ident, $Iter:ident, $by_slot:ident) => {
+    ($Map:ident, $($Iter:ident)::+, $by_slot:ident) => {
         impl<T> AnyMap for $Map<T> {
             type Value = T;
 
@@ -340,10 +340,10 @@ macro_rules! traits_of_a_map {
 
         impl<'a, T> IntoIterator for &'a $Map<T> {
             type Item = (Handle, &'a T);
-            type IntoIter = $Iter<'a, T>;
+            type IntoIter = $($Iter)::+<'a, T>;
 
             #[inline]
-            fn into_iter(self) -> $Iter<'a, T> {
+            fn into_iter(self) -> $($Iter)::+<'a, T> {
                 self.iter()
             }
         }
@@ -358,7 +358,7 @@ impl<T> HandleMap<T> {
 }
 
 traits_of_a_map!(HandleMap, Iter, iter);
-traits_of_a_map!(SparseMap, SparseIter, by_slot);
+traits_of_a_map!(SparseMap, sparse_map::Iter, by_slot);
 
 #[cold]
 #[inline(never)]
@@ -380,7 +380,7 @@ impl<T> IntoIterator for HandleMap<T> {
 }
 
 walks!(debug_map: Iter<'_, T>, T: fmt::Debug);
-walks!(debug_map: SparseIter<'_, T>, T: fmt::Debug);
+walks!(debug_map: sparse_map::Iter<'_, T>, T: fmt::Debug);
 walks!(debug_list: Keys<'_, T>, T);
 walks!(debug_list: Values<'_, T>, T: fmt::Debug);
 
