@@ -34,6 +34,12 @@ def named(text):
     return {f"{path.strip()}::{it}" for path, names in lists for it in names.split()}
 
 
+# In what order the results have modules, and the functions of types, each topic in a block of its own.
+ORDER = (TOP / "rust/erase/topics.txt").read_text()
+FIRST = {crate: names.split() for crate, names in re.findall(r"(?m)^modules (\w+) (.*)$", ORDER)}
+TOPICS = {(file, of): [it.split() for it in re.findall(r"(?m)^- .*?: (.*)$", all_of)] for file, of, all_of in re.findall(r"(?m)^impl (\S+) (\w+)\n((?:- .*\n?)+)", ORDER)}
+
+
 # The crates of the two programs, which aren't compared: they use twice as many forms and names of the kit as the others. What the first eraser
 # makes of them is run instead, beside the kit's build of the same sources (`.ci/programs.sh`). They are modules behind a feature.
 LEFT_OUT, FEATURE = {"cli", "devices", "ent_script", "spawnrun", "spawnrun_lib", "tracecheck"}, '#[cfg(feature = "programs")]'
@@ -800,6 +806,46 @@ def step(words):
 RULES = {line.split()[0]: parsed(re.findall(r"'[^']+'|\w+|\S", line.partition(" = ")[2])) for line in GRAMMAR.strip().splitlines()}
 
 
+# The order of a result.
+
+
+def parts(tokens, begin):
+    """The items or members from there on, up to the `}` that closes them: what each has in braces, or its `;`, is its end."""
+    at, depth = begin, 0
+    while at < len(tokens) and (depth or tokens[at].text != "}"):
+        depth += {"{": 1, "}": -1, "(": 1, ")": -1, "[": 1, "]": -1}.get(tokens[at].text, 0)
+        if not depth and tokens[at].text in ("}", ";"):
+            yield tokens[begin : at + 1]
+            begin = at + 1
+        at += 1
+
+
+def arranged(result, tokens):
+    """A result in the order of the table: its modules, if it has a crate's, or the functions of a type by topic."""
+    crate, file = result.split("/", 1)
+    items = list(parts(tokens, 0))
+    if file == "mod.rs":
+        place = {name: at for at, name in enumerate(FIRST.get(crate, []))}
+        is_module = [[token.text for token in it[-3:-2]] == ["mod"] for it in items]
+        modules = iter(sorted((it for it, module in zip(items, is_module) if module), key=lambda it: place.get(it[-2].text, len(place))))
+        return [token for it, module in zip(items, is_module) for token in (next(modules) if module else it)]
+    for of in (of for name, of in TOPICS if name == result):
+        blocks = collections.defaultdict(list)
+        for item in items:
+            words = [it.text for it in item]
+            head = words[: words.index("{")] if "impl" in words[:1] else []
+            if of in head and "for" not in head:
+                blocks[tuple(head)].append(item)
+        for head, same in blocks.items():
+            named = {next(it[at + 1].text for at, token in enumerate(it) if token.text == "fn"): it for item in same for it in parts(item, len(head) + 1)}
+            listed = [[named.pop(name) for name in names if name in named] for names in TOPICS[result, of]]
+            first = same[0]
+            new = [[*first[: len(head) + 1], *(token for it in group for token in it), first[-1]] for group in [*listed, list(named.values())] if group]
+            at = next(at for at, item in enumerate(items) if item is first)
+            items = [*items[:at], *new, *(item for item in items[at:] if all(item is not it for it in same))]
+    return [token for item in items for token in item]
+
+
 # A whole repository.
 
 
@@ -823,7 +869,7 @@ def erase(top, crates):
     readers = [Reader(text, result, unit, first).file() for (text, result), first in zip(files, firsts)]
     notes = [note for it in readers for note in it.log]
     check(notes)
-    made = {result: (text.name, it.out) for (text, result), it in zip(files, readers) if not it.knows("empty", it.result)}
+    made = {result: (text.name, arranged(result, it.out)) for (text, result), it in zip(files, readers) if not it.knows("empty", it.result)}
     others = {it for it in LEFT_OUT if (top / RESULTS / it).is_dir()}
     there = [it for it in MODULES if it in {*crates, *others}]
     modules = "".join(f'{FEATURE * (it in others)} {LINTS} #[path = "{it}/mod.rs"] mod {MODULES[it]};' for it in there)

@@ -1,5 +1,6 @@
 //! What is erased, and where the results go.
 
+use crate::arranging::{arranged, has_the_same_lines};
 use crate::audit::audit;
 use crate::crates::{add_names, below, read, Crate, File};
 use crate::erase;
@@ -223,6 +224,10 @@ fn audited(krate: &Crate, file: &File, path: &Path, names: &Names) -> Result<Str
     let result = Source::read(&path, &text)?;
     audit(&source, &result, &krate.name, names)?;
     let named = named(&text, &krate.name, names)?;
-    differs_by_names(&result, &Source::read(&path, &named)?)?;
-    Ok(named)
+    let named = Source::read(&path, &named)?;
+    differs_by_names(&result, &named)?;
+    let place = format!("{}/{}", krate.name, file.result.display());
+    let arranged = arranged(named.text, &place)?;
+    has_the_same_lines(&named, &Source::read(&path, &arranged)?)?;
+    Ok(arranged)
 }

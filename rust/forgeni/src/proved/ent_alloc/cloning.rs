@@ -7,6 +7,7 @@ use crate::kit::vec::FallibleVec;
 use crate::allocator::entities::Entities;
 use crate::handles::OutOfMemory;
 
+/// # Snapshots
 impl Entities {
     /// Another allocator in the same state: the same entities are alive, with the same rows, the same
     /// handles are reserved, and the limits are the same. So to the same calls both return the same.

@@ -35,35 +35,8 @@ pub struct Entities {
     pub(super) requests: Requests,
 }
 
+/// # Making one
 impl Entities {
-    /// An allocator with no entities, which gives all handles within its limits, also the greatest
-    /// one, which [`with_limits`](Self::with_limits) keeps back. It takes no memory, whatever the
-    /// limits are.
-    ///
-    /// <details><summary>Contract</summary>
-    ///
-    /// In the words of the folder `specs/` of crate `ent_alloc`:
-    ///
-    /// ```text
-    /// ensures allocator { result.allocator ≡ opening limits }
-    /// ensures rows { result.rows ≡ map.empty }
-    /// ensures rows_of_living { HasRowsOfLiving result }
-    ///
-    /// // Whatever calls come then, no handle is given twice, and none that was given is given again.
-    /// ensures given_once { (steps : List Step) → IsRun result.allocator steps
-    ///     → AreSpent (after_run result.allocator steps) (given_in_run result.allocator steps) }
-    /// ```
-    ///
-    /// </details>
-    #[must_use]
-    #[inline]
-    pub const fn with_exact_limits(limits: Limits) -> Self {
-        Entities {
-            slots: Slots::new(limits),
-            requests: Requests::none(),
-        }
-    }
-
     /// An allocator with no entities and these limits. It takes no memory, whatever the limits are.
     ///
     /// It never gives the greatest handle, 4294967294v2147483647: where both limits are the
@@ -99,216 +72,37 @@ impl Entities {
         Entities::with_exact_limits(limits.keeping_placeholder())
     }
 
-    /// How many entities are alive.
+    /// An allocator with no entities, which gives all handles within its limits, also the greatest
+    /// one, which [`with_limits`](Self::with_limits) keeps back. It takes no memory, whatever the
+    /// limits are.
     ///
     /// <details><summary>Contract</summary>
     ///
     /// In the words of the folder `specs/` of crate `ent_alloc`:
     ///
     /// ```text
-    /// ensures { result ≡ set.len self.now.allocator.live }
+    /// ensures allocator { result.allocator ≡ opening limits }
+    /// ensures rows { result.rows ≡ map.empty }
+    /// ensures rows_of_living { HasRowsOfLiving result }
+    ///
+    /// // Whatever calls come then, no handle is given twice, and none that was given is given again.
+    /// ensures given_once { (steps : List Step) → IsRun result.allocator steps
+    ///     → AreSpent (after_run result.allocator steps) (given_in_run result.allocator steps) }
     /// ```
     ///
     /// </details>
     #[must_use]
     #[inline]
-    pub fn len(&self) -> u32 {
-        self.slots.live()
+    pub const fn with_exact_limits(limits: Limits) -> Self {
+        Entities {
+            slots: Slots::new(limits),
+            requests: Requests::none(),
+        }
     }
+}
 
-    /// Whether no entity is alive.
-    ///
-    /// <details><summary>Contract</summary>
-    ///
-    /// In the words of the folder `specs/` of crate `ent_alloc`:
-    ///
-    /// ```text
-    /// ensures { IsTrue result ↔ (set.len self.now.allocator.live ≡ 0) }
-    /// ```
-    ///
-    /// </details>
-    #[must_use]
-    #[inline]
-    pub fn is_empty(&self) -> bool {
-        self.len() == 0
-    }
-
-    /// How many slots were made: each has or had an entity. A retired slot counts for good.
-    ///
-    /// <details><summary>Contract</summary>
-    ///
-    /// In the words of the folder `specs/` of crate `ent_alloc`:
-    ///
-    /// ```text
-    /// ensures { result ≡ self.now.allocator.made }
-    /// ```
-    ///
-    /// </details>
-    #[must_use]
-    #[inline]
-    pub fn total(&self) -> u32 {
-        self.slots.made()
-    }
-
-    /// How many slots there are after the next [`flush`](Self::flush): those that were made, and one for
-    /// each reserved handle of a new slot.
-    ///
-    /// ```
-    /// use forgeni::Entities;
-    ///
-    /// let mut entities = Entities::new();
-    /// entities.request_many(5)?;
-    /// assert_eq!((entities.total(), entities.total_after_flush()), (0, 5));
-    /// # Ok::<(), Box<dyn std::error::Error>>(())
-    /// ```
-    ///
-    /// <details><summary>Contract</summary>
-    ///
-    /// In the words of the folder `specs/` of crate `ent_alloc`:
-    ///
-    /// ```text
-    /// ensures { result ≡ slots_after_flush self.now.allocator }
-    /// ```
-    ///
-    /// </details>
-    #[must_use]
-    #[inline]
-    pub fn total_after_flush(&self) -> u32 {
-        self.total() + self.requests.fresh(self.slots.waiting())
-    }
-
-    /// How many slots can still be made.
-    ///
-    /// <details><summary>Contract</summary>
-    ///
-    /// In the words of the folder `specs/` of crate `ent_alloc`:
-    ///
-    /// ```text
-    /// ensures { result ≡ self.now.allocator.limits.slots - self.now.allocator.made }
-    /// ```
-    ///
-    /// </details>
-    #[must_use]
-    #[inline]
-    pub fn room(&self) -> u32 {
-        self.slots.limits().slots() - self.slots.made()
-    }
-
-    /// How many old slots waited for their next entity at the last `flush`, `alloc` or `free`.
-    /// Requests don't change it.
-    ///
-    /// <details><summary>Contract</summary>
-    ///
-    /// In the words of the folder `specs/` of crate `ent_alloc`:
-    ///
-    /// ```text
-    /// ensures { result ≡ top self.now.allocator }
-    /// ```
-    ///
-    /// </details>
-    #[must_use]
-    #[inline]
-    pub fn top(&self) -> u32 {
-        self.slots.waiting()
-    }
-
-    /// How many slots are retired: the entity of their last generation was freed, and they give no
-    /// handle any more. It takes constant time.
-    ///
-    /// <details><summary>Contract</summary>
-    ///
-    /// In the words of the folder `specs/` of crate `ent_alloc`:
-    ///
-    /// ```text
-    /// ensures value { result ≡ retired self.now.allocator }
-    ///
-    /// // Each slot that was made has a living occupant, waits for the next one, or is retired.
-    /// ensures rest { set.len self.now.allocator.live + top self.now.allocator + result
-    ///     ≡ self.now.allocator.made }
-    /// ```
-    ///
-    /// </details>
-    #[must_use]
-    #[inline]
-    pub fn retired(&self) -> u32 {
-        self.total() - self.slots.live() - self.slots.waiting()
-    }
-
-    /// The number that each request lowers by its count. It is `top` if nothing was requested since
-    /// the last flush; below 0 it counts fresh slots.
-    ///
-    /// <details><summary>Contract</summary>
-    ///
-    /// In the words of the folder `specs/` of crate `ent_alloc`:
-    ///
-    /// ```text
-    /// ensures value { result ≡ cursor self.now.allocator }
-    ///
-    /// // What is true of every state, as that no slot has two handles among the living and those
-    /// // to be given.
-    /// ensures sound { IsSound self.now.allocator }
-    /// ensures rows_of_living { HasRowsOfLiving self.now }
-    /// ```
-    ///
-    /// </details>
-    #[must_use]
-    #[inline]
-    pub fn cursor(&self) -> i64 {
-        self.slots.top() - self.asked() as i64
-    }
-
-    /// How many handles were requested since the last flush, served or refused. It is at most 2^50.
-    ///
-    /// <details><summary>Contract</summary>
-    ///
-    /// In the words of the folder `specs/` of crate `ent_alloc`:
-    ///
-    /// ```text
-    /// ensures value { result ≡ self.now.allocator.asked }
-    /// ensures within { result ≤ 2 ^ 50 }
-    /// ```
-    ///
-    /// </details>
-    #[must_use]
-    #[inline]
-    pub fn asked(&self) -> u64 {
-        self.requests.asked
-    }
-
-    /// Whether any handle was requested since the last flush.
-    ///
-    /// <details><summary>Contract</summary>
-    ///
-    /// In the words of the folder `specs/` of crate `ent_alloc`:
-    ///
-    /// ```text
-    /// ensures { IsTrue result ↔ (0 < self.now.allocator.asked) }
-    /// ```
-    ///
-    /// </details>
-    #[must_use]
-    #[inline]
-    pub fn needs_flush(&self) -> bool {
-        self.asked() > 0
-    }
-
-    /// How many handles the next flush brings to life.
-    ///
-    /// <details><summary>Contract</summary>
-    ///
-    /// In the words of the folder `specs/` of crate `ent_alloc`:
-    ///
-    /// ```text
-    /// ensures { result ≡ length self.now.allocator.taken }
-    /// ```
-    ///
-    /// </details>
-    #[must_use]
-    #[inline]
-    pub fn reserved(&self) -> u32 {
-        self.requests.served
-    }
-
+/// # Handles
+impl Entities {
     /// Gives a handle that is alive at once: the next one of the slot that was freed last, or the
     /// first one of a new slot if none waits. It takes constant time.
     ///
@@ -471,6 +265,37 @@ impl Entities {
         self.requests = Requests::none();
         Ok(())
     }
+}
+
+/// # Looking at entities
+impl Entities {
+    /// Whether the handle is alive. It takes constant time.
+    ///
+    /// ```
+    /// use forgeni::Entities;
+    ///
+    /// let mut entities = Entities::new();
+    /// let target = entities.alloc()?;
+    /// assert!(entities.is_alive(target));
+    /// entities.free(target)?;
+    /// assert!(!entities.is_alive(target));
+    /// # Ok::<(), Box<dyn std::error::Error>>(())
+    /// ```
+    ///
+    /// <details><summary>Contract</summary>
+    ///
+    /// In the words of the folder `specs/` of crate `ent_alloc`:
+    ///
+    /// ```text
+    /// ensures { result ≡ set.contains self.now.allocator.live handle }
+    /// ```
+    ///
+    /// </details>
+    #[must_use]
+    #[inline]
+    pub fn is_alive(&self, handle: Handle) -> bool {
+        self.slots.is_alive(handle)
+    }
 
     /// What became of a handle: whether it is alive, reserved, or neither. It takes constant time.
     ///
@@ -516,34 +341,6 @@ impl Entities {
         } else {
             State::Gone
         }
-    }
-
-    /// Whether the handle is alive. It takes constant time.
-    ///
-    /// ```
-    /// use forgeni::Entities;
-    ///
-    /// let mut entities = Entities::new();
-    /// let target = entities.alloc()?;
-    /// assert!(entities.is_alive(target));
-    /// entities.free(target)?;
-    /// assert!(!entities.is_alive(target));
-    /// # Ok::<(), Box<dyn std::error::Error>>(())
-    /// ```
-    ///
-    /// <details><summary>Contract</summary>
-    ///
-    /// In the words of the folder `specs/` of crate `ent_alloc`:
-    ///
-    /// ```text
-    /// ensures { result ≡ set.contains self.now.allocator.live handle }
-    /// ```
-    ///
-    /// </details>
-    #[must_use]
-    #[inline]
-    pub fn is_alive(&self, handle: Handle) -> bool {
-        self.slots.is_alive(handle)
     }
 
     /// Whether the entity is alive or reserved, as Bevy's and hecs' `contains` tell. It takes
@@ -608,38 +405,6 @@ impl Entities {
         self.slots.occupants()
     }
 
-    /// The place of a handle among those that there were to give at the last flush, counted from 0
-    /// in the order in which they are given. Requests don't change it. `None` if it isn't among
-    /// them. It takes constant time.
-    ///
-    /// <details><summary>Contract</summary>
-    ///
-    /// In the words of the folder `specs/` of crate `ent_alloc`:
-    ///
-    /// ```text
-    /// ensures found { IfSome result (λ place.
-    ///     slice_get (available self.now.allocator) place ≡ Some handle) }
-    /// ensures none { IfNone result (stands_in (available self.now.allocator) handle ≡ false) }
-    /// ```
-    ///
-    /// </details>
-    #[must_use]
-    #[inline]
-    pub fn place(&self, handle: Handle) -> Option<u32> {
-        let waiting = self.slots.waiting();
-        match self.slots.occupancy_of(handle) {
-            Some(Occupancy::Pending { position }) => Some(waiting - 1 - position),
-            Some(Occupancy::Alive) => None,
-            Some(Occupancy::AliveWithRow { .. }) => None,
-            Some(Occupancy::Retired) => None,
-            None if self.slots.is_made(handle) => None,
-            None if self.slots.is_next(handle, self.room()) => {
-                Some(waiting + (handle.index() - self.slots.made()))
-            }
-            None => None,
-        }
-    }
-
     /// The row of a living entity: a number that a program keeps with it, as where its components
     /// are. `None` if the handle isn't alive, or if no row was set since it came to life. It takes
     /// constant time.
@@ -658,18 +423,6 @@ impl Entities {
     #[inline]
     pub fn row(&self, handle: Handle) -> Option<u32> {
         self.slots.row(handle)
-    }
-
-    /// Keeps a row with a living entity until the entity is freed. It takes the place of the row
-    /// that was set before.
-    #[inline]
-    pub(crate) fn set_row(&mut self, handle: Handle, row: u32)
-        // requires { set.contains self.old.allocator.live handle ≡ true }
-        // ensures row { self.new.rows ≡ map.insert self.old.rows handle row }
-        // ensures rows_of_living { HasRowsOfLiving self.new }
-        // ensures allocator { self.new.allocator ≡ self.old.allocator }
-    {
-        self.slots.set_row(handle, row);
     }
 
     /// Keeps a row with a living entity until the entity is freed, in place of the row that was set
@@ -714,5 +467,264 @@ impl Entities {
         } else {
             Err(Absent)
         }
+    }
+
+    /// The place of a handle among those that there were to give at the last flush, counted from 0
+    /// in the order in which they are given. Requests don't change it. `None` if it isn't among
+    /// them. It takes constant time.
+    ///
+    /// <details><summary>Contract</summary>
+    ///
+    /// In the words of the folder `specs/` of crate `ent_alloc`:
+    ///
+    /// ```text
+    /// ensures found { IfSome result (λ place.
+    ///     slice_get (available self.now.allocator) place ≡ Some handle) }
+    /// ensures none { IfNone result (stands_in (available self.now.allocator) handle ≡ false) }
+    /// ```
+    ///
+    /// </details>
+    #[must_use]
+    #[inline]
+    pub fn place(&self, handle: Handle) -> Option<u32> {
+        let waiting = self.slots.waiting();
+        match self.slots.occupancy_of(handle) {
+            Some(Occupancy::Pending { position }) => Some(waiting - 1 - position),
+            Some(Occupancy::Alive) => None,
+            Some(Occupancy::AliveWithRow { .. }) => None,
+            Some(Occupancy::Retired) => None,
+            None if self.slots.is_made(handle) => None,
+            None if self.slots.is_next(handle, self.room()) => {
+                Some(waiting + (handle.index() - self.slots.made()))
+            }
+            None => None,
+        }
+    }
+}
+
+/// # Counts
+impl Entities {
+    /// How many entities are alive.
+    ///
+    /// <details><summary>Contract</summary>
+    ///
+    /// In the words of the folder `specs/` of crate `ent_alloc`:
+    ///
+    /// ```text
+    /// ensures { result ≡ set.len self.now.allocator.live }
+    /// ```
+    ///
+    /// </details>
+    #[must_use]
+    #[inline]
+    pub fn len(&self) -> u32 {
+        self.slots.live()
+    }
+
+    /// Whether no entity is alive.
+    ///
+    /// <details><summary>Contract</summary>
+    ///
+    /// In the words of the folder `specs/` of crate `ent_alloc`:
+    ///
+    /// ```text
+    /// ensures { IsTrue result ↔ (set.len self.now.allocator.live ≡ 0) }
+    /// ```
+    ///
+    /// </details>
+    #[must_use]
+    #[inline]
+    pub fn is_empty(&self) -> bool {
+        self.len() == 0
+    }
+
+    /// How many handles the next flush brings to life.
+    ///
+    /// <details><summary>Contract</summary>
+    ///
+    /// In the words of the folder `specs/` of crate `ent_alloc`:
+    ///
+    /// ```text
+    /// ensures { result ≡ length self.now.allocator.taken }
+    /// ```
+    ///
+    /// </details>
+    #[must_use]
+    #[inline]
+    pub fn reserved(&self) -> u32 {
+        self.requests.served
+    }
+
+    /// Whether any handle was requested since the last flush.
+    ///
+    /// <details><summary>Contract</summary>
+    ///
+    /// In the words of the folder `specs/` of crate `ent_alloc`:
+    ///
+    /// ```text
+    /// ensures { IsTrue result ↔ (0 < self.now.allocator.asked) }
+    /// ```
+    ///
+    /// </details>
+    #[must_use]
+    #[inline]
+    pub fn needs_flush(&self) -> bool {
+        self.asked() > 0
+    }
+
+    /// How many slots are retired: the entity of their last generation was freed, and they give no
+    /// handle any more. It takes constant time.
+    ///
+    /// <details><summary>Contract</summary>
+    ///
+    /// In the words of the folder `specs/` of crate `ent_alloc`:
+    ///
+    /// ```text
+    /// ensures value { result ≡ retired self.now.allocator }
+    ///
+    /// // Each slot that was made has a living occupant, waits for the next one, or is retired.
+    /// ensures rest { set.len self.now.allocator.live + top self.now.allocator + result
+    ///     ≡ self.now.allocator.made }
+    /// ```
+    ///
+    /// </details>
+    #[must_use]
+    #[inline]
+    pub fn retired(&self) -> u32 {
+        self.total() - self.slots.live() - self.slots.waiting()
+    }
+
+    /// How many slots were made: each has or had an entity. A retired slot counts for good.
+    ///
+    /// <details><summary>Contract</summary>
+    ///
+    /// In the words of the folder `specs/` of crate `ent_alloc`:
+    ///
+    /// ```text
+    /// ensures { result ≡ self.now.allocator.made }
+    /// ```
+    ///
+    /// </details>
+    #[must_use]
+    #[inline]
+    pub fn total(&self) -> u32 {
+        self.slots.made()
+    }
+
+    /// How many slots there are after the next [`flush`](Self::flush): those that were made, and one for
+    /// each reserved handle of a new slot.
+    ///
+    /// ```
+    /// use forgeni::Entities;
+    ///
+    /// let mut entities = Entities::new();
+    /// entities.request_many(5)?;
+    /// assert_eq!((entities.total(), entities.total_after_flush()), (0, 5));
+    /// # Ok::<(), Box<dyn std::error::Error>>(())
+    /// ```
+    ///
+    /// <details><summary>Contract</summary>
+    ///
+    /// In the words of the folder `specs/` of crate `ent_alloc`:
+    ///
+    /// ```text
+    /// ensures { result ≡ slots_after_flush self.now.allocator }
+    /// ```
+    ///
+    /// </details>
+    #[must_use]
+    #[inline]
+    pub fn total_after_flush(&self) -> u32 {
+        self.total() + self.requests.fresh(self.slots.waiting())
+    }
+
+    /// How many slots can still be made.
+    ///
+    /// <details><summary>Contract</summary>
+    ///
+    /// In the words of the folder `specs/` of crate `ent_alloc`:
+    ///
+    /// ```text
+    /// ensures { result ≡ self.now.allocator.limits.slots - self.now.allocator.made }
+    /// ```
+    ///
+    /// </details>
+    #[must_use]
+    #[inline]
+    pub fn room(&self) -> u32 {
+        self.slots.limits().slots() - self.slots.made()
+    }
+
+    /// How many old slots waited for their next entity at the last `flush`, `alloc` or `free`.
+    /// Requests don't change it.
+    ///
+    /// <details><summary>Contract</summary>
+    ///
+    /// In the words of the folder `specs/` of crate `ent_alloc`:
+    ///
+    /// ```text
+    /// ensures { result ≡ top self.now.allocator }
+    /// ```
+    ///
+    /// </details>
+    #[must_use]
+    #[inline]
+    pub fn top(&self) -> u32 {
+        self.slots.waiting()
+    }
+
+    /// The number that each request lowers by its count. It is `top` if nothing was requested since
+    /// the last flush; below 0 it counts fresh slots.
+    ///
+    /// <details><summary>Contract</summary>
+    ///
+    /// In the words of the folder `specs/` of crate `ent_alloc`:
+    ///
+    /// ```text
+    /// ensures value { result ≡ cursor self.now.allocator }
+    ///
+    /// // What is true of every state, as that no slot has two handles among the living and those
+    /// // to be given.
+    /// ensures sound { IsSound self.now.allocator }
+    /// ensures rows_of_living { HasRowsOfLiving self.now }
+    /// ```
+    ///
+    /// </details>
+    #[must_use]
+    #[inline]
+    pub fn cursor(&self) -> i64 {
+        self.slots.top() - self.asked() as i64
+    }
+
+    /// How many handles were requested since the last flush, served or refused. It is at most 2^50.
+    ///
+    /// <details><summary>Contract</summary>
+    ///
+    /// In the words of the folder `specs/` of crate `ent_alloc`:
+    ///
+    /// ```text
+    /// ensures value { result ≡ self.now.allocator.asked }
+    /// ensures within { result ≤ 2 ^ 50 }
+    /// ```
+    ///
+    /// </details>
+    #[must_use]
+    #[inline]
+    pub fn asked(&self) -> u64 {
+        self.requests.asked
+    }
+}
+
+impl Entities {
+    /// Keeps a row with a living entity until the entity is freed. It takes the place of the row
+    /// that was set before.
+    #[inline]
+    pub(crate) fn set_row(&mut self, handle: Handle, row: u32)
+        // requires { set.contains self.old.allocator.live handle ≡ true }
+        // ensures row { self.new.rows ≡ map.insert self.old.rows handle row }
+        // ensures rows_of_living { HasRowsOfLiving self.new }
+        // ensures allocator { self.new.allocator ≡ self.old.allocator }
+    {
+        self.slots.set_row(handle, row);
     }
 }

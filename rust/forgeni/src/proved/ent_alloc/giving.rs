@@ -8,6 +8,7 @@ use crate::allocator::fault::AllocError;
 use crate::allocator::requests::Requests;
 use crate::handles::Handle;
 
+/// # Several at once
 impl Entities {
     /// Gives `n` handles that are alive at once, all of them or none: those of `n` calls of
     /// [`alloc`](Self::alloc), in their order. It is faster than these calls.

@@ -153,6 +153,7 @@ fn allowed(read: Result<Entities, ImageFault>, most: u32) -> Result<Entities, Im
     Ok(entities)
 }
 
+/// # Saves
 impl Entities {
     /// Appends the image of the allocator: bytes from which [`read_image`](Self::read_image) makes
     /// the same allocator anew, with its limits, living entities, rows, waiting slots and requests.
@@ -203,20 +204,6 @@ impl Entities {
         write_header(self.header(), out);
         self.slots.write_image(out);
         Ok(())
-    }
-
-    /// Appends the image that the allocator has if none of its entities has a row, for a caller whose
-    /// rows follow from what it writes beside it. There is room for it.
-    #[inline]
-    pub(crate) fn write_image_without_rows(&self, out: &mut Vec<u8>)
-        // requires { vec_len out.old + (40 + 12 * self.now.allocator.made) ≤ vec_capacity out.old }
-        // ensures written { out.new.items ≡ out.old.items ++ image (without_rows self.now) }
-        // ensures has_image { HasImage (without_rows self.now) }
-        // ensures len { vec_len out.new ≡ vec_len out.old + (40 + 12 * self.now.allocator.made) }
-        // ensures capacity { vec_capacity out.old ≤ vec_capacity out.new }
-    {
-        write_header(self.header(), out);
-        self.slots.write_image_without_rows(out);
     }
 
     /// The allocator whose image these bytes are, all of them.
@@ -350,6 +337,22 @@ impl Entities {
     #[inline]
     pub fn read_image_within(bytes: &[u8], most: u32) -> Result<Self, ImageFault> {
         allowed(Entities::read_image(bytes), most)
+    }
+}
+
+impl Entities {
+    /// Appends the image that the allocator has if none of its entities has a row, for a caller whose
+    /// rows follow from what it writes beside it. There is room for it.
+    #[inline]
+    pub(crate) fn write_image_without_rows(&self, out: &mut Vec<u8>)
+        // requires { vec_len out.old + (40 + 12 * self.now.allocator.made) ≤ vec_capacity out.old }
+        // ensures written { out.new.items ≡ out.old.items ++ image (without_rows self.now) }
+        // ensures has_image { HasImage (without_rows self.now) }
+        // ensures len { vec_len out.new ≡ vec_len out.old + (40 + 12 * self.now.allocator.made) }
+        // ensures capacity { vec_capacity out.old ≤ vec_capacity out.new }
+    {
+        write_header(self.header(), out);
+        self.slots.write_image_without_rows(out);
     }
 
     /// What `read_image` returns.

@@ -94,6 +94,7 @@ pub struct HandleMap<T> {
     limit: Limit,
 }
 
+/// # Making one
 impl<T> HandleMap<T> {
     /// A map without values, and without a limit. It takes no memory.
     ///
@@ -165,339 +166,9 @@ impl<T> HandleMap<T> {
             limit: Limit::of(u32::MAX),
         })
     }
-
-    /// For how many slots the map may have values, from slot 0 on: 4,294,967,295, which is no limit,
-    /// or the limit that was set.
-    ///
-    /// <details><summary>Contract</summary>
-    ///
-    /// In the words of the folder `specs/` of crate `ent_storage`:
-    ///
-    /// ```text
-    /// ensures { result ≡ self.now.limit }
-    /// ```
-    ///
-    /// </details>
-    #[must_use]
-    #[inline]
-    pub const fn limit(&self) -> u32 {
-        self.limit.slots()
-    }
-
-    /// Sets the limit. The map keeps the values that it has, even those of slots at or above the
-    /// limit.
-    ///
-    /// ```
-    /// use forgeni::{Handle, HandleMap, InsertError};
-    ///
-    /// let [third, fourth] = [Handle::new(3, 1).unwrap(), Handle::new(4, 1).unwrap()];
-    /// let mut map = HandleMap::new();
-    /// map.insert(third, "c")?;
-    /// map.set_limit(3);
-    /// assert_eq!((map.limit(), map.get(third)), (3, Some(&"c")));
-    /// assert_eq!(*map.insert(fourth, "d").unwrap_err().error(), InsertError::Limit);
-    /// # Ok::<(), Box<dyn std::error::Error + Send + Sync>>(())
-    /// ```
-    ///
-    /// <details><summary>Contract</summary>
-    ///
-    /// In the words of the folder `specs/` of crate `ent_storage`:
-    ///
-    /// ```text
-    /// ensures { self.new ≡ record self.old { limit = limit } }
-    /// ```
-    ///
-    /// </details>
-    #[inline]
-    pub fn set_limit(&mut self, limit: u32) {
-        self.limit = Limit::of(limit);
-    }
-
-    /// How many values there are. It takes constant time.
-    ///
-    /// <details><summary>Contract</summary>
-    ///
-    /// In the words of the folder `specs/` of crate `ent_storage`:
-    ///
-    /// ```text
-    /// ensures { result ≡ map.len self.now.values }
-    /// ```
-    ///
-    /// </details>
-    #[must_use]
-    #[inline]
-    pub fn len(&self) -> usize {
-        self.len
-    }
-
-    /// Whether there is no value.
-    ///
-    /// <details><summary>Contract</summary>
-    ///
-    /// In the words of the folder `specs/` of crate `ent_storage`:
-    ///
-    /// ```text
-    /// ensures { IsTrue result ↔ (map.len self.now.values ≡ 0) }
-    /// ```
-    ///
-    /// </details>
-    #[must_use]
-    #[inline]
-    pub fn is_empty(&self) -> bool {
-        self.len() == 0
-    }
-
-    /// How many slots there is room for. A handle whose index is below it is inserted without
-    /// memory.
-    ///
-    /// <details><summary>Contract</summary>
-    ///
-    /// In the words of the folder `specs/` of crate `ent_storage`:
-    ///
-    /// ```text
-    /// ensures { result ≡ self.now.room }
-    /// ```
-    ///
-    /// </details>
-    #[must_use]
-    #[inline]
-    pub fn capacity(&self) -> usize {
-        self.slots.sized_capacity()
-    }
-
-    /// How many slots there are. They reach up to the slot with the greatest index of those that
-    /// were given a value since the map was made or cleared.
-    ///
-    /// <details><summary>Contract</summary>
-    ///
-    /// In the words of the folder `specs/` of crate `ent_storage`:
-    ///
-    /// ```text
-    /// ensures value { result ≡ self.now.slots }
-    /// ensures room { self.now.slots ≤ self.now.room }
-    /// ensures values { (handle : Handle) → IsSome (map.get self.now.values handle)
-    ///     → handle.index < self.now.slots }
-    /// ```
-    ///
-    /// </details>
-    #[must_use]
-    #[inline]
-    pub fn slots(&self) -> usize {
-        self.slots.len()
-    }
-
-    /// Whether the handle has a value. It takes constant time.
-    ///
-    /// <details><summary>Contract</summary>
-    ///
-    /// In the words of the folder `specs/` of crate `ent_storage`:
-    ///
-    /// ```text
-    /// ensures { result ≡ map.contains_key self.now.values handle }
-    /// ```
-    ///
-    /// </details>
-    #[must_use]
-    #[inline]
-    pub fn contains(&self, handle: Handle) -> bool {
-        self.get(handle).is_some()
-    }
-
-    /// The value of the handle, if it has one. It takes constant time.
-    ///
-    /// ```
-    /// use forgeni::{Entities, HandleMap};
-    ///
-    /// let mut entities = Entities::new();
-    /// let mut names = HandleMap::new();
-    /// let player = entities.alloc()?;
-    /// names.insert(player, "Ada")?;
-    /// assert_eq!(names.get(player), Some(&"Ada"));
-    ///
-    /// let next = entities.free(player)?.next.unwrap();
-    /// assert_eq!(names.get(next), None);
-    /// # Ok::<(), Box<dyn std::error::Error + Send + Sync>>(())
-    /// ```
-    ///
-    /// <details><summary>Contract</summary>
-    ///
-    /// In the words of the folder `specs/` of crate `ent_storage`:
-    ///
-    /// ```text
-    /// ensures { option_copied result ≡ map.get self.now.values handle }
-    /// ```
-    ///
-    /// </details>
-    #[must_use]
-    #[inline]
-    pub fn get(&self, handle: Handle) -> Option<&T> {
-        find(&self.slots, handle)
-    }
-
-    /// The value of the handle, if it has one, to be changed. It takes constant time.
-    ///
-    /// <details><summary>Contract</summary>
-    ///
-    /// In the words of the folder `specs/` of crate `ent_storage`:
-    ///
-    /// ```text
-    /// ensures* writes_back { sem 𝓛 (lends_get T.row self.entry handle result) }
-    /// ensures value { option_copied_mut result ≡ map.get self.old.values handle }
-    /// ```
-    ///
-    /// </details>
-    #[must_use]
-    #[inline]
-    pub fn get_mut(&mut self, handle: Handle) -> Option<&mut T> {
-        if self.contains(handle) {
-            Some(self.value_mut(handle))
-        } else {
-            None
-        }
-    }
-
-    /// The value of a handle that has one.
-    #[inline]
-    fn value_mut(&mut self, handle: Handle) -> &mut T
-        // requires { IsSome (map.get self.old.values handle) }
-        // ensures* writes_back { sem 𝓛 (lends_value T.row self.entry handle result) }
-        // ensures value { map.get self.old.values handle ≡ Some result.now }
-    {
-        self.slots[handle.index() as usize].value_mut()
-    }
-
-    /// Makes room for that many slots more than there [are](Self::slots), as `Vec::reserve` does.
-    /// It takes no memory if there is room.
-    ///
-    /// ```
-    /// use forgeni::{Handle, HandleMap};
-    ///
-    /// let mut map = HandleMap::new();
-    /// map.insert(Handle::new(9, 1).unwrap(), "last")?;
-    /// map.reserve(90)?;
-    /// assert!(map.slots() == 10 && map.capacity() >= 100);
-    /// # Ok::<(), Box<dyn std::error::Error + Send + Sync>>(())
-    /// ```
-    ///
-    /// # Errors
-    ///
-    /// Out of memory. Nothing has changed.
-    ///
-    /// <details><summary>Contract</summary>
-    ///
-    /// In the words of the folder `specs/` of crate `ent_storage`:
-    ///
-    /// ```text
-    /// ensures room { OnOk result (self.old.slots + additional ≤ self.new.room) }
-    /// ensures kept { self.new ≡ record self.old { room = self.new.room } }
-    /// ensures grows { self.old.room ≤ self.new.room }
-    /// ensures in_place { self.old.slots + additional ≤ self.old.room → self.new ≡ self.old }
-    /// ensures memory { OnErr result (self.old.room < self.old.slots + additional) }
-    /// ensures err { OnErr result (self.new ≡ self.old) }
-    /// ```
-    ///
-    /// </details>
-    #[inline]
-    pub fn reserve(&mut self, additional: usize) -> Result<(), OutOfMemory> {
-        if self.slots.sized_capacity() - self.slots.len() < additional {
-            self.slots.reserve_fallibly(additional)?;
-        }
-        Ok(())
-    }
-
-    /// Gives back the room that no slot needs, as `Vec::shrink_to_fit` does. If there is no memory to
-    /// move the slots to, the room stays.
-    ///
-    /// ```
-    /// use forgeni::{Handle, HandleMap};
-    ///
-    /// let mut map = HandleMap::with_capacity(1000)?;
-    /// map.insert(Handle::new(9, 1).unwrap(), "last")?;
-    /// map.shrink_to_fit();
-    /// assert_eq!((map.slots(), map.capacity()), (10, 10));
-    /// # Ok::<(), Box<dyn std::error::Error + Send + Sync>>(())
-    /// ```
-    ///
-    /// <details><summary>Contract</summary>
-    ///
-    /// In the words of the folder `specs/` of crate `ent_storage`:
-    ///
-    /// ```text
-    /// ensures kept { self.new ≡ record self.old { room = self.new.room } }
-    /// ensures shrinks { self.new.room ≤ self.old.room }
-    /// ensures fits { self.old.slots ≤ self.new.room }
-    /// ensures frees { self.old.slots ≡ 0 → self.new.room ≡ 0 }
-    /// ```
-    ///
-    /// </details>
-    #[inline]
-    pub fn shrink_to_fit(&mut self) {
-        self.slots.shrink_to_fit_fallibly();
-    }
-
-    /// The handles and their values, by rising slot. The time is that of a look at each slot.
-    ///
-    /// ```
-    /// use forgeni::{Entities, HandleMap};
-    ///
-    /// let mut entities = Entities::new();
-    /// let mut health = HandleMap::new();
-    /// let all = entities.alloc_many(2)?;
-    /// health.insert(all[1], 20)?;
-    /// health.insert(all[0], 10)?;
-    /// assert!(health.iter().eq([(all[0], &10), (all[1], &20)]));
-    /// # Ok::<(), Box<dyn std::error::Error + Send + Sync>>(())
-    /// ```
-    ///
-    /// <details><summary>Contract</summary>
-    ///
-    /// In the words of the folder `specs/` of crate `ent_storage`:
-    ///
-    /// ```text
-    /// ensures entries { result ≡ map.entries self.now.values }
-    /// ensures rising { AllPairs (λ a b. a.0.index < b.0.index) result }
-    /// ensures count { length result ≡ map.len self.now.values }
-    /// ```
-    ///
-    /// </details>
-    #[inline]
-    pub fn iter(&self) -> Iter<'_, T> {
-        Iter::new(&self.slots, self.len)
-    }
-
-    /// The handles that have a value, by rising slot.
-    ///
-    /// <details><summary>Contract</summary>
-    ///
-    /// In the words of the folder `specs/` of crate `ent_storage`:
-    ///
-    /// ```text
-    /// ensures { result ≡ map.keys self.now.values }
-    /// ```
-    ///
-    /// </details>
-    #[inline]
-    pub fn keys(&self) -> Keys<'_, T> {
-        Keys::new(self.iter())
-    }
-
-    /// The values, by rising slot.
-    ///
-    /// <details><summary>Contract</summary>
-    ///
-    /// In the words of the folder `specs/` of crate `ent_storage`:
-    ///
-    /// ```text
-    /// ensures { result ≡ map.values self.now.values }
-    /// ```
-    ///
-    /// </details>
-    #[inline]
-    pub fn values(&self) -> Values<'_, T> {
-        Values::new(self.iter())
-    }
 }
 
+/// # Values
 impl<T> HandleMap<T> {
     /// Gives the handle a value, and returns the one that it had. If an earlier occupant of the slot
     /// has one, that is dropped.
@@ -573,6 +244,111 @@ impl<T> HandleMap<T> {
         Ok(before.into_value(handle.generation()))
     }
 
+    /// The value of the handle, if it has one. It takes constant time.
+    ///
+    /// ```
+    /// use forgeni::{Entities, HandleMap};
+    ///
+    /// let mut entities = Entities::new();
+    /// let mut names = HandleMap::new();
+    /// let player = entities.alloc()?;
+    /// names.insert(player, "Ada")?;
+    /// assert_eq!(names.get(player), Some(&"Ada"));
+    ///
+    /// let next = entities.free(player)?.next.unwrap();
+    /// assert_eq!(names.get(next), None);
+    /// # Ok::<(), Box<dyn std::error::Error + Send + Sync>>(())
+    /// ```
+    ///
+    /// <details><summary>Contract</summary>
+    ///
+    /// In the words of the folder `specs/` of crate `ent_storage`:
+    ///
+    /// ```text
+    /// ensures { option_copied result ≡ map.get self.now.values handle }
+    /// ```
+    ///
+    /// </details>
+    #[must_use]
+    #[inline]
+    pub fn get(&self, handle: Handle) -> Option<&T> {
+        find(&self.slots, handle)
+    }
+
+    /// The value of the handle, if it has one, to be changed. It takes constant time.
+    ///
+    /// <details><summary>Contract</summary>
+    ///
+    /// In the words of the folder `specs/` of crate `ent_storage`:
+    ///
+    /// ```text
+    /// ensures* writes_back { sem 𝓛 (lends_get T.row self.entry handle result) }
+    /// ensures value { option_copied_mut result ≡ map.get self.old.values handle }
+    /// ```
+    ///
+    /// </details>
+    #[must_use]
+    #[inline]
+    pub fn get_mut(&mut self, handle: Handle) -> Option<&mut T> {
+        if self.contains(handle) {
+            Some(self.value_mut(handle))
+        } else {
+            None
+        }
+    }
+
+    /// Removes the value of the handle, and returns it if it had one. It takes constant time and no
+    /// memory.
+    ///
+    /// ```
+    /// use forgeni::{Handle, HandleMap};
+    ///
+    /// let crate_of_gold = Handle::new(0, 1).unwrap();
+    /// let mut weight = HandleMap::new();
+    /// weight.insert(crate_of_gold, 900)?;
+    /// assert_eq!(weight.remove(crate_of_gold), Some(900));
+    /// assert_eq!(weight.remove(crate_of_gold), None);
+    /// # Ok::<(), Box<dyn std::error::Error + Send + Sync>>(())
+    /// ```
+    ///
+    /// <details><summary>Contract</summary>
+    ///
+    /// In the words of the folder `specs/` of crate `ent_storage`:
+    ///
+    /// ```text
+    /// ensures value { result ≡ map.get self.old.values handle }
+    /// ensures map { self.new
+    ///     ≡ record self.old { values = map.remove self.old.values handle } }
+    /// ```
+    ///
+    /// </details>
+    #[inline]
+    pub fn remove(&mut self, handle: Handle) -> Option<T> {
+        if !self.contains(handle) {
+            return None;
+        }
+        self.len -= 1;
+        let slot = mem::replace(&mut self.slots[handle.index() as usize], Slot::Vacant);
+        slot.into_value(handle.generation())
+    }
+
+    /// Whether the handle has a value. It takes constant time.
+    ///
+    /// <details><summary>Contract</summary>
+    ///
+    /// In the words of the folder `specs/` of crate `ent_storage`:
+    ///
+    /// ```text
+    /// ensures { result ≡ map.contains_key self.now.values handle }
+    /// ```
+    ///
+    /// </details>
+    #[must_use]
+    #[inline]
+    pub fn contains(&self, handle: Handle) -> bool {
+        self.get(handle).is_some()
+    }
+
     /// What the map has for the handle: a value, or none. What is done with the entry looks for the
     /// handle once more.
     ///
@@ -617,18 +393,21 @@ impl<T> HandleMap<T> {
             Entry::Vacant(VacantEntry { map: self, handle })
         }
     }
+}
 
-    /// Removes the value of the handle, and returns it if it had one. It takes constant time and no
-    /// memory.
+/// # All values
+impl<T> HandleMap<T> {
+    /// The handles and their values, by rising slot. The time is that of a look at each slot.
     ///
     /// ```
-    /// use forgeni::{Handle, HandleMap};
+    /// use forgeni::{Entities, HandleMap};
     ///
-    /// let crate_of_gold = Handle::new(0, 1).unwrap();
-    /// let mut weight = HandleMap::new();
-    /// weight.insert(crate_of_gold, 900)?;
-    /// assert_eq!(weight.remove(crate_of_gold), Some(900));
-    /// assert_eq!(weight.remove(crate_of_gold), None);
+    /// let mut entities = Entities::new();
+    /// let mut health = HandleMap::new();
+    /// let all = entities.alloc_many(2)?;
+    /// health.insert(all[1], 20)?;
+    /// health.insert(all[0], 10)?;
+    /// assert!(health.iter().eq([(all[0], &10), (all[1], &20)]));
     /// # Ok::<(), Box<dyn std::error::Error + Send + Sync>>(())
     /// ```
     ///
@@ -637,20 +416,47 @@ impl<T> HandleMap<T> {
     /// In the words of the folder `specs/` of crate `ent_storage`:
     ///
     /// ```text
-    /// ensures value { result ≡ map.get self.old.values handle }
-    /// ensures map { self.new
-    ///     ≡ record self.old { values = map.remove self.old.values handle } }
+    /// ensures entries { result ≡ map.entries self.now.values }
+    /// ensures rising { AllPairs (λ a b. a.0.index < b.0.index) result }
+    /// ensures count { length result ≡ map.len self.now.values }
     /// ```
     ///
     /// </details>
     #[inline]
-    pub fn remove(&mut self, handle: Handle) -> Option<T> {
-        if !self.contains(handle) {
-            return None;
-        }
-        self.len -= 1;
-        let slot = mem::replace(&mut self.slots[handle.index() as usize], Slot::Vacant);
-        slot.into_value(handle.generation())
+    pub fn iter(&self) -> Iter<'_, T> {
+        Iter::new(&self.slots, self.len)
+    }
+
+    /// The handles that have a value, by rising slot.
+    ///
+    /// <details><summary>Contract</summary>
+    ///
+    /// In the words of the folder `specs/` of crate `ent_storage`:
+    ///
+    /// ```text
+    /// ensures { result ≡ map.keys self.now.values }
+    /// ```
+    ///
+    /// </details>
+    #[inline]
+    pub fn keys(&self) -> Keys<'_, T> {
+        Keys::new(self.iter())
+    }
+
+    /// The values, by rising slot.
+    ///
+    /// <details><summary>Contract</summary>
+    ///
+    /// In the words of the folder `specs/` of crate `ent_storage`:
+    ///
+    /// ```text
+    /// ensures { result ≡ map.values self.now.values }
+    /// ```
+    ///
+    /// </details>
+    #[inline]
+    pub fn values(&self) -> Values<'_, T> {
+        Values::new(self.iter())
     }
 
     /// Calls `keep` on each value once, by rising slot, and drops the values of which it returns
@@ -695,6 +501,23 @@ impl<T> HandleMap<T> {
         retain_slots(&mut self.slots, &mut self.len, keep);
     }
 
+    /// Drops all values. The room stays.
+    ///
+    /// <details><summary>Contract</summary>
+    ///
+    /// In the words of the folder `specs/` of crate `ent_storage`:
+    ///
+    /// ```text
+    /// ensures { self.new ≡ record self.old { values = map.empty; slots = 0 } }
+    /// ```
+    ///
+    /// </details>
+    #[inline]
+    pub fn clear(&mut self) {
+        self.len = 0;
+        self.slots.clear();
+    }
+
     /// The handles and their values, by rising slot.
     ///
     /// ```
@@ -726,25 +549,213 @@ impl<T> HandleMap<T> {
         move_values(self.slots, self.len, &mut all);
         Ok(all)
     }
+}
 
-    /// Drops all values. The room stays.
+/// # Counts and room
+impl<T> HandleMap<T> {
+    /// How many values there are. It takes constant time.
     ///
     /// <details><summary>Contract</summary>
     ///
     /// In the words of the folder `specs/` of crate `ent_storage`:
     ///
     /// ```text
-    /// ensures { self.new ≡ record self.old { values = map.empty; slots = 0 } }
+    /// ensures { result ≡ map.len self.now.values }
+    /// ```
+    ///
+    /// </details>
+    #[must_use]
+    #[inline]
+    pub fn len(&self) -> usize {
+        self.len
+    }
+
+    /// Whether there is no value.
+    ///
+    /// <details><summary>Contract</summary>
+    ///
+    /// In the words of the folder `specs/` of crate `ent_storage`:
+    ///
+    /// ```text
+    /// ensures { IsTrue result ↔ (map.len self.now.values ≡ 0) }
+    /// ```
+    ///
+    /// </details>
+    #[must_use]
+    #[inline]
+    pub fn is_empty(&self) -> bool {
+        self.len() == 0
+    }
+
+    /// How many slots there are. They reach up to the slot with the greatest index of those that
+    /// were given a value since the map was made or cleared.
+    ///
+    /// <details><summary>Contract</summary>
+    ///
+    /// In the words of the folder `specs/` of crate `ent_storage`:
+    ///
+    /// ```text
+    /// ensures value { result ≡ self.now.slots }
+    /// ensures room { self.now.slots ≤ self.now.room }
+    /// ensures values { (handle : Handle) → IsSome (map.get self.now.values handle)
+    ///     → handle.index < self.now.slots }
+    /// ```
+    ///
+    /// </details>
+    #[must_use]
+    #[inline]
+    pub fn slots(&self) -> usize {
+        self.slots.len()
+    }
+
+    /// For how many slots the map may have values, from slot 0 on: 4,294,967,295, which is no limit,
+    /// or the limit that was set.
+    ///
+    /// <details><summary>Contract</summary>
+    ///
+    /// In the words of the folder `specs/` of crate `ent_storage`:
+    ///
+    /// ```text
+    /// ensures { result ≡ self.now.limit }
+    /// ```
+    ///
+    /// </details>
+    #[must_use]
+    #[inline]
+    pub const fn limit(&self) -> u32 {
+        self.limit.slots()
+    }
+
+    /// Sets the limit. The map keeps the values that it has, even those of slots at or above the
+    /// limit.
+    ///
+    /// ```
+    /// use forgeni::{Handle, HandleMap, InsertError};
+    ///
+    /// let [third, fourth] = [Handle::new(3, 1).unwrap(), Handle::new(4, 1).unwrap()];
+    /// let mut map = HandleMap::new();
+    /// map.insert(third, "c")?;
+    /// map.set_limit(3);
+    /// assert_eq!((map.limit(), map.get(third)), (3, Some(&"c")));
+    /// assert_eq!(*map.insert(fourth, "d").unwrap_err().error(), InsertError::Limit);
+    /// # Ok::<(), Box<dyn std::error::Error + Send + Sync>>(())
+    /// ```
+    ///
+    /// <details><summary>Contract</summary>
+    ///
+    /// In the words of the folder `specs/` of crate `ent_storage`:
+    ///
+    /// ```text
+    /// ensures { self.new ≡ record self.old { limit = limit } }
     /// ```
     ///
     /// </details>
     #[inline]
-    pub fn clear(&mut self) {
-        self.len = 0;
-        self.slots.clear();
+    pub fn set_limit(&mut self, limit: u32) {
+        self.limit = Limit::of(limit);
+    }
+
+    /// How many slots there is room for. A handle whose index is below it is inserted without
+    /// memory.
+    ///
+    /// <details><summary>Contract</summary>
+    ///
+    /// In the words of the folder `specs/` of crate `ent_storage`:
+    ///
+    /// ```text
+    /// ensures { result ≡ self.now.room }
+    /// ```
+    ///
+    /// </details>
+    #[must_use]
+    #[inline]
+    pub fn capacity(&self) -> usize {
+        self.slots.sized_capacity()
+    }
+
+    /// Makes room for that many slots more than there [are](Self::slots), as `Vec::reserve` does.
+    /// It takes no memory if there is room.
+    ///
+    /// ```
+    /// use forgeni::{Handle, HandleMap};
+    ///
+    /// let mut map = HandleMap::new();
+    /// map.insert(Handle::new(9, 1).unwrap(), "last")?;
+    /// map.reserve(90)?;
+    /// assert!(map.slots() == 10 && map.capacity() >= 100);
+    /// # Ok::<(), Box<dyn std::error::Error + Send + Sync>>(())
+    /// ```
+    ///
+    /// # Errors
+    ///
+    /// Out of memory. Nothing has changed.
+    ///
+    /// <details><summary>Contract</summary>
+    ///
+    /// In the words of the folder `specs/` of crate `ent_storage`:
+    ///
+    /// ```text
+    /// ensures room { OnOk result (self.old.slots + additional ≤ self.new.room) }
+    /// ensures kept { self.new ≡ record self.old { room = self.new.room } }
+    /// ensures grows { self.old.room ≤ self.new.room }
+    /// ensures in_place { self.old.slots + additional ≤ self.old.room → self.new ≡ self.old }
+    /// ensures memory { OnErr result (self.old.room < self.old.slots + additional) }
+    /// ensures err { OnErr result (self.new ≡ self.old) }
+    /// ```
+    ///
+    /// </details>
+    #[inline]
+    pub fn reserve(&mut self, additional: usize) -> Result<(), OutOfMemory> {
+        if self.slots.sized_capacity() - self.slots.len() < additional {
+            self.slots.reserve_fallibly(additional)?;
+        }
+        Ok(())
+    }
+
+    /// Gives back the room that no slot needs, as `Vec::shrink_to_fit` does. If there is no memory to
+    /// move the slots to, the room stays.
+    ///
+    /// ```
+    /// use forgeni::{Handle, HandleMap};
+    ///
+    /// let mut map = HandleMap::with_capacity(1000)?;
+    /// map.insert(Handle::new(9, 1).unwrap(), "last")?;
+    /// map.shrink_to_fit();
+    /// assert_eq!((map.slots(), map.capacity()), (10, 10));
+    /// # Ok::<(), Box<dyn std::error::Error + Send + Sync>>(())
+    /// ```
+    ///
+    /// <details><summary>Contract</summary>
+    ///
+    /// In the words of the folder `specs/` of crate `ent_storage`:
+    ///
+    /// ```text
+    /// ensures kept { self.new ≡ record self.old { room = self.new.room } }
+    /// ensures shrinks { self.new.room ≤ self.old.room }
+    /// ensures fits { self.old.slots ≤ self.new.room }
+    /// ensures frees { self.old.slots ≡ 0 → self.new.room ≡ 0 }
+    /// ```
+    ///
+    /// </details>
+    #[inline]
+    pub fn shrink_to_fit(&mut self) {
+        self.slots.shrink_to_fit_fallibly();
     }
 }
 
+impl<T> HandleMap<T> {
+    /// The value of a handle that has one.
+    #[inline]
+    fn value_mut(&mut self, handle: Handle) -> &mut T
+        // requires { IsSome (map.get self.old.values handle) }
+        // ensures* writes_back { sem 𝓛 (lends_value T.row self.entry handle result) }
+        // ensures value { map.get self.old.values handle ≡ Some result.now }
+    {
+        self.slots[handle.index() as usize].value_mut()
+    }
+}
+
+/// # Snapshots
 impl<T: Clone> HandleMap<T> {
     /// A map with a clone of each value, and with the same slots and the same limit. Without slots it
     /// takes no memory.

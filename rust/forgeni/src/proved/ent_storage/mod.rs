@@ -12,10 +12,13 @@
 //! `handle_map` has a map from handles to values of any type, at most one for each slot, and
 //! `sparse_map` one for values that few handles have.
 
+mod storage;
+mod looking;
+pub mod handle_map;
+pub mod sparse_map;
 mod bundle;
 mod columns;
 mod fault;
-pub mod handle_map;
 mod image;
 mod image_fault;
 mod index;
@@ -24,14 +27,11 @@ mod key;
 mod limit;
 mod lists;
 mod living;
-mod looking;
 mod order;
 mod pairs;
 mod places;
 mod slot;
-pub mod sparse_map;
 mod sparse_set;
-mod storage;
 
 pub use bundle::InlineBundle;
 pub use fault::StorageError;

@@ -60,6 +60,7 @@ pub struct SparseMap<T> {
     limit: Limit,
 }
 
+/// # Making one
 impl<T> SparseMap<T> {
     /// A map without values, and without a limit. It takes no memory.
     ///
@@ -102,278 +103,9 @@ impl<T> SparseMap<T> {
             limit: Limit::of(limit),
         }
     }
-
-    /// For how many slots the map may have values, from slot 0 on: 4,294,967,295, which is no
-    /// limit, or the limit that was set.
-    ///
-    /// <details><summary>Contract</summary>
-    ///
-    /// In the words of the folder `specs/` of crate `ent_storage`:
-    ///
-    /// ```text
-    /// ensures { result ≡ self.now.limit }
-    /// ```
-    ///
-    /// </details>
-    #[must_use]
-    #[inline]
-    pub fn limit(&self) -> u32 {
-        self.limit.slots()
-    }
-
-    /// Sets the limit. The map keeps the values that it has, even those of slots at or above the
-    /// limit.
-    ///
-    /// <details><summary>Contract</summary>
-    ///
-    /// In the words of the folder `specs/` of crate `ent_storage`:
-    ///
-    /// ```text
-    /// ensures { self.new ≡ record self.old { limit = limit } }
-    /// ```
-    ///
-    /// </details>
-    #[inline]
-    pub fn set_limit(&mut self, limit: u32) {
-        self.limit = Limit::of(limit);
-    }
-
-    /// How many values there are. It takes constant time.
-    ///
-    /// <details><summary>Contract</summary>
-    ///
-    /// In the words of the folder `specs/` of crate `ent_storage`:
-    ///
-    /// ```text
-    /// ensures { result ≡ map.len self.now.values }
-    /// ```
-    ///
-    /// </details>
-    #[must_use]
-    #[inline]
-    pub fn len(&self) -> usize {
-        self.entries.len()
-    }
-
-    /// Whether there is no value.
-    ///
-    /// <details><summary>Contract</summary>
-    ///
-    /// In the words of the folder `specs/` of crate `ent_storage`:
-    ///
-    /// ```text
-    /// ensures { IsTrue result ↔ (map.len self.now.values ≡ 0) }
-    /// ```
-    ///
-    /// </details>
-    #[must_use]
-    #[inline]
-    pub fn is_empty(&self) -> bool {
-        self.len() == 0
-    }
-
-    /// How many values there is room for.
-    ///
-    /// <details><summary>Contract</summary>
-    ///
-    /// In the words of the folder `specs/` of crate `ent_storage`:
-    ///
-    /// ```text
-    /// ensures { result ≡ self.now.room }
-    /// ```
-    ///
-    /// </details>
-    #[must_use]
-    #[inline]
-    pub fn capacity(&self) -> usize {
-        self.entries.sized_capacity()
-    }
-
-    /// How many slots there is room for, from slot 0 on. Each takes four bytes.
-    ///
-    /// <details><summary>Contract</summary>
-    ///
-    /// In the words of the folder `specs/` of crate `ent_storage`:
-    ///
-    /// ```text
-    /// ensures value { result ≡ self.now.slots }
-    /// ensures values { (handle : Handle) → IsSome (map.get self.now.values handle)
-    ///     → handle.index < self.now.slots }
-    /// ```
-    ///
-    /// </details>
-    #[must_use]
-    #[inline]
-    pub fn slots(&self) -> usize {
-        self.positions.len()
-    }
-
-    /// Whether the handle has a value. It takes constant time.
-    ///
-    /// <details><summary>Contract</summary>
-    ///
-    /// In the words of the folder `specs/` of crate `ent_storage`:
-    ///
-    /// ```text
-    /// ensures { result ≡ map.contains_key self.now.values handle }
-    /// ```
-    ///
-    /// </details>
-    #[must_use]
-    #[inline]
-    pub fn contains(&self, handle: Handle) -> bool {
-        self.get(handle).is_some()
-    }
-
-    /// The value of the handle, if it has one. It takes constant time.
-    ///
-    /// ```
-    /// use forgeni::{Entities, SparseMap};
-    ///
-    /// let mut entities = Entities::new();
-    /// let mut names = SparseMap::new();
-    /// let player = entities.alloc()?;
-    /// names.insert(player, "Ada")?;
-    /// assert_eq!(names.get(player), Some(&"Ada"));
-    ///
-    /// let next = entities.free(player)?.next.unwrap();
-    /// assert_eq!(names.get(next), None);
-    /// # Ok::<(), Box<dyn std::error::Error + Send + Sync>>(())
-    /// ```
-    ///
-    /// <details><summary>Contract</summary>
-    ///
-    /// In the words of the folder `specs/` of crate `ent_storage`:
-    ///
-    /// ```text
-    /// ensures { option_copied result ≡ map.get self.now.values handle }
-    /// ```
-    ///
-    /// </details>
-    #[must_use]
-    #[inline]
-    pub fn get(&self, handle: Handle) -> Option<&T> {
-        find(&self.entries, &self.positions, handle)
-    }
-
-    /// The value of the handle, if it has one, to be changed. It takes constant time.
-    ///
-    /// <details><summary>Contract</summary>
-    ///
-    /// In the words of the folder `specs/` of crate `ent_storage`:
-    ///
-    /// ```text
-    /// ensures* writes_back { sem 𝓛 (lends_get T.row self.entry handle result) }
-    /// ensures value { option_copied_mut result ≡ map.get self.old.values handle }
-    /// ```
-    ///
-    /// </details>
-    #[must_use]
-    #[inline]
-    pub fn get_mut(&mut self, handle: Handle) -> Option<&mut T> {
-        if self.contains(handle) {
-            Some(self.value_mut(handle))
-        } else {
-            None
-        }
-    }
-
-    /// The value of a handle that has one.
-    #[inline]
-    fn value_mut(&mut self, handle: Handle) -> &mut T
-        // requires { IsSome (map.get self.old.values handle) }
-        // ensures* writes_back { sem 𝓛 (lends_value T.row self.entry handle result) }
-        // ensures value { map.get self.old.values handle ≡ Some result.now }
-    {
-        let position = self.positions[handle.index() as usize] as usize;
-        &mut self.entries[position].1
-    }
-
-    /// Gives back the room that no value needs, as `Vec::shrink_to_fit` does. If there is no memory to
-    /// move the values to, the room stays. That for slots stays too.
-    ///
-    /// <details><summary>Contract</summary>
-    ///
-    /// In the words of the folder `specs/` of crate `ent_storage`:
-    ///
-    /// ```text
-    /// ensures kept { self.new ≡ record self.old { room = self.new.room } }
-    /// ensures shrinks { self.new.room ≤ self.old.room }
-    /// ensures fits { map.len self.old.values ≤ self.new.room }
-    /// ensures frees { map.len self.old.values ≡ 0 → self.new.room ≡ 0 }
-    /// ```
-    ///
-    /// </details>
-    #[inline]
-    pub fn shrink_to_fit(&mut self) {
-        self.entries.shrink_to_fit_fallibly();
-    }
-
-    /// The handles and their values, in no order. The same calls leave them in the same order.
-    ///
-    /// ```
-    /// use forgeni::{Entities, SparseMap};
-    ///
-    /// let mut entities = Entities::new();
-    /// let mut health = SparseMap::new();
-    /// let all = entities.alloc_many(2)?;
-    /// health.insert(all[1], 20)?;
-    /// health.insert(all[0], 10)?;
-    /// let least = health.entries().iter().min_by_key(|(_, health)| health);
-    /// assert_eq!(least, Some(&(all[0], 10)));
-    /// # Ok::<(), Box<dyn std::error::Error + Send + Sync>>(())
-    /// ```
-    ///
-    /// <details><summary>Contract</summary>
-    ///
-    /// In the words of the folder `specs/` of crate `ent_storage`:
-    ///
-    /// ```text
-    /// ensures { AreEntries self.now.values result.now }
-    /// ```
-    ///
-    /// </details>
-    #[must_use]
-    #[inline]
-    pub fn entries(&self) -> &[(Handle, T)] {
-        &self.entries
-    }
-
-    /// The handles and their values, in the order of [`entries`](Self::entries).
-    ///
-    /// <details><summary>Contract</summary>
-    ///
-    /// In the words of the folder `specs/` of crate `ent_storage`:
-    ///
-    /// ```text
-    /// ensures { AreEntries self.now.values result }
-    /// ```
-    ///
-    /// </details>
-    #[inline]
-    pub fn iter(&self) -> Iter<'_, T> {
-        Iter::new(&self.entries)
-    }
-
-    /// The handles and their values, in the order of [`entries`](Self::entries). It takes no
-    /// memory.
-    ///
-    /// <details><summary>Contract</summary>
-    ///
-    /// In the words of the folder `specs/` of crate `ent_storage`:
-    ///
-    /// ```text
-    /// ensures { AreEntries self.values result.items }
-    /// ```
-    ///
-    /// </details>
-    #[must_use]
-    #[inline]
-    pub fn into_entries(self) -> Vec<(Handle, T)> {
-        self.entries
-    }
 }
 
+/// # Values
 impl<T> SparseMap<T> {
     /// Gives the handle a value, and returns the one that it had. If an earlier occupant of the
     /// slot has one, that is dropped.
@@ -445,6 +177,109 @@ impl<T> SparseMap<T> {
         put(&mut self.entries, &mut self.positions, handle, value)
     }
 
+    /// The value of the handle, if it has one. It takes constant time.
+    ///
+    /// ```
+    /// use forgeni::{Entities, SparseMap};
+    ///
+    /// let mut entities = Entities::new();
+    /// let mut names = SparseMap::new();
+    /// let player = entities.alloc()?;
+    /// names.insert(player, "Ada")?;
+    /// assert_eq!(names.get(player), Some(&"Ada"));
+    ///
+    /// let next = entities.free(player)?.next.unwrap();
+    /// assert_eq!(names.get(next), None);
+    /// # Ok::<(), Box<dyn std::error::Error + Send + Sync>>(())
+    /// ```
+    ///
+    /// <details><summary>Contract</summary>
+    ///
+    /// In the words of the folder `specs/` of crate `ent_storage`:
+    ///
+    /// ```text
+    /// ensures { option_copied result ≡ map.get self.now.values handle }
+    /// ```
+    ///
+    /// </details>
+    #[must_use]
+    #[inline]
+    pub fn get(&self, handle: Handle) -> Option<&T> {
+        find(&self.entries, &self.positions, handle)
+    }
+
+    /// The value of the handle, if it has one, to be changed. It takes constant time.
+    ///
+    /// <details><summary>Contract</summary>
+    ///
+    /// In the words of the folder `specs/` of crate `ent_storage`:
+    ///
+    /// ```text
+    /// ensures* writes_back { sem 𝓛 (lends_get T.row self.entry handle result) }
+    /// ensures value { option_copied_mut result ≡ map.get self.old.values handle }
+    /// ```
+    ///
+    /// </details>
+    #[must_use]
+    #[inline]
+    pub fn get_mut(&mut self, handle: Handle) -> Option<&mut T> {
+        if self.contains(handle) {
+            Some(self.value_mut(handle))
+        } else {
+            None
+        }
+    }
+
+    /// Removes the value of the handle, and returns it if it had one. It takes constant time and no
+    /// memory.
+    ///
+    /// ```
+    /// use forgeni::{Handle, SparseMap};
+    ///
+    /// let crate_of_gold = Handle::new(0, 1).unwrap();
+    /// let mut weight = SparseMap::new();
+    /// weight.insert(crate_of_gold, 900)?;
+    /// assert_eq!(weight.remove(crate_of_gold), Some(900));
+    /// assert_eq!(weight.remove(crate_of_gold), None);
+    /// # Ok::<(), Box<dyn std::error::Error + Send + Sync>>(())
+    /// ```
+    ///
+    /// <details><summary>Contract</summary>
+    ///
+    /// In the words of the folder `specs/` of crate `ent_storage`:
+    ///
+    /// ```text
+    /// ensures value { result ≡ map.get self.old.values handle }
+    /// ensures map { self.new
+    ///     ≡ record self.old { values = map.remove self.old.values handle } }
+    /// ```
+    ///
+    /// </details>
+    #[inline]
+    pub fn remove(&mut self, handle: Handle) -> Option<T> {
+        if !self.contains(handle) {
+            return None;
+        }
+        Some(take(&mut self.entries, &mut self.positions, handle))
+    }
+
+    /// Whether the handle has a value. It takes constant time.
+    ///
+    /// <details><summary>Contract</summary>
+    ///
+    /// In the words of the folder `specs/` of crate `ent_storage`:
+    ///
+    /// ```text
+    /// ensures { result ≡ map.contains_key self.now.values handle }
+    /// ```
+    ///
+    /// </details>
+    #[must_use]
+    #[inline]
+    pub fn contains(&self, handle: Handle) -> bool {
+        self.get(handle).is_some()
+    }
+
     /// What the map has for the handle: a value, or none. What is done with the entry looks for the
     /// handle once more.
     ///
@@ -489,18 +324,38 @@ impl<T> SparseMap<T> {
             Entry::Vacant(VacantEntry { map: self, handle })
         }
     }
+}
 
-    /// Removes the value of the handle, and returns it if it had one. It takes constant time and no
-    /// memory.
+/// # All values
+impl<T> SparseMap<T> {
+    /// The handles and their values, in the order of [`entries`](Self::entries).
+    ///
+    /// <details><summary>Contract</summary>
+    ///
+    /// In the words of the folder `specs/` of crate `ent_storage`:
+    ///
+    /// ```text
+    /// ensures { AreEntries self.now.values result }
+    /// ```
+    ///
+    /// </details>
+    #[inline]
+    pub fn iter(&self) -> Iter<'_, T> {
+        Iter::new(&self.entries)
+    }
+
+    /// The handles and their values, in no order. The same calls leave them in the same order.
     ///
     /// ```
-    /// use forgeni::{Handle, SparseMap};
+    /// use forgeni::{Entities, SparseMap};
     ///
-    /// let crate_of_gold = Handle::new(0, 1).unwrap();
-    /// let mut weight = SparseMap::new();
-    /// weight.insert(crate_of_gold, 900)?;
-    /// assert_eq!(weight.remove(crate_of_gold), Some(900));
-    /// assert_eq!(weight.remove(crate_of_gold), None);
+    /// let mut entities = Entities::new();
+    /// let mut health = SparseMap::new();
+    /// let all = entities.alloc_many(2)?;
+    /// health.insert(all[1], 20)?;
+    /// health.insert(all[0], 10)?;
+    /// let least = health.entries().iter().min_by_key(|(_, health)| health);
+    /// assert_eq!(least, Some(&(all[0], 10)));
     /// # Ok::<(), Box<dyn std::error::Error + Send + Sync>>(())
     /// ```
     ///
@@ -509,18 +364,14 @@ impl<T> SparseMap<T> {
     /// In the words of the folder `specs/` of crate `ent_storage`:
     ///
     /// ```text
-    /// ensures value { result ≡ map.get self.old.values handle }
-    /// ensures map { self.new
-    ///     ≡ record self.old { values = map.remove self.old.values handle } }
+    /// ensures { AreEntries self.now.values result.now }
     /// ```
     ///
     /// </details>
+    #[must_use]
     #[inline]
-    pub fn remove(&mut self, handle: Handle) -> Option<T> {
-        if !self.contains(handle) {
-            return None;
-        }
-        Some(take(&mut self.entries, &mut self.positions, handle))
+    pub fn entries(&self) -> &[(Handle, T)] {
+        &self.entries
     }
 
     /// Drops all values. The room stays.
@@ -538,8 +389,168 @@ impl<T> SparseMap<T> {
     pub fn clear(&mut self) {
         self.entries.clear();
     }
+
+    /// The handles and their values, in the order of [`entries`](Self::entries). It takes no
+    /// memory.
+    ///
+    /// <details><summary>Contract</summary>
+    ///
+    /// In the words of the folder `specs/` of crate `ent_storage`:
+    ///
+    /// ```text
+    /// ensures { AreEntries self.values result.items }
+    /// ```
+    ///
+    /// </details>
+    #[must_use]
+    #[inline]
+    pub fn into_entries(self) -> Vec<(Handle, T)> {
+        self.entries
+    }
 }
 
+/// # Counts and room
+impl<T> SparseMap<T> {
+    /// How many values there are. It takes constant time.
+    ///
+    /// <details><summary>Contract</summary>
+    ///
+    /// In the words of the folder `specs/` of crate `ent_storage`:
+    ///
+    /// ```text
+    /// ensures { result ≡ map.len self.now.values }
+    /// ```
+    ///
+    /// </details>
+    #[must_use]
+    #[inline]
+    pub fn len(&self) -> usize {
+        self.entries.len()
+    }
+
+    /// Whether there is no value.
+    ///
+    /// <details><summary>Contract</summary>
+    ///
+    /// In the words of the folder `specs/` of crate `ent_storage`:
+    ///
+    /// ```text
+    /// ensures { IsTrue result ↔ (map.len self.now.values ≡ 0) }
+    /// ```
+    ///
+    /// </details>
+    #[must_use]
+    #[inline]
+    pub fn is_empty(&self) -> bool {
+        self.len() == 0
+    }
+
+    /// How many slots there is room for, from slot 0 on. Each takes four bytes.
+    ///
+    /// <details><summary>Contract</summary>
+    ///
+    /// In the words of the folder `specs/` of crate `ent_storage`:
+    ///
+    /// ```text
+    /// ensures value { result ≡ self.now.slots }
+    /// ensures values { (handle : Handle) → IsSome (map.get self.now.values handle)
+    ///     → handle.index < self.now.slots }
+    /// ```
+    ///
+    /// </details>
+    #[must_use]
+    #[inline]
+    pub fn slots(&self) -> usize {
+        self.positions.len()
+    }
+
+    /// For how many slots the map may have values, from slot 0 on: 4,294,967,295, which is no
+    /// limit, or the limit that was set.
+    ///
+    /// <details><summary>Contract</summary>
+    ///
+    /// In the words of the folder `specs/` of crate `ent_storage`:
+    ///
+    /// ```text
+    /// ensures { result ≡ self.now.limit }
+    /// ```
+    ///
+    /// </details>
+    #[must_use]
+    #[inline]
+    pub fn limit(&self) -> u32 {
+        self.limit.slots()
+    }
+
+    /// Sets the limit. The map keeps the values that it has, even those of slots at or above the
+    /// limit.
+    ///
+    /// <details><summary>Contract</summary>
+    ///
+    /// In the words of the folder `specs/` of crate `ent_storage`:
+    ///
+    /// ```text
+    /// ensures { self.new ≡ record self.old { limit = limit } }
+    /// ```
+    ///
+    /// </details>
+    #[inline]
+    pub fn set_limit(&mut self, limit: u32) {
+        self.limit = Limit::of(limit);
+    }
+
+    /// How many values there is room for.
+    ///
+    /// <details><summary>Contract</summary>
+    ///
+    /// In the words of the folder `specs/` of crate `ent_storage`:
+    ///
+    /// ```text
+    /// ensures { result ≡ self.now.room }
+    /// ```
+    ///
+    /// </details>
+    #[must_use]
+    #[inline]
+    pub fn capacity(&self) -> usize {
+        self.entries.sized_capacity()
+    }
+
+    /// Gives back the room that no value needs, as `Vec::shrink_to_fit` does. If there is no memory to
+    /// move the values to, the room stays. That for slots stays too.
+    ///
+    /// <details><summary>Contract</summary>
+    ///
+    /// In the words of the folder `specs/` of crate `ent_storage`:
+    ///
+    /// ```text
+    /// ensures kept { self.new ≡ record self.old { room = self.new.room } }
+    /// ensures shrinks { self.new.room ≤ self.old.room }
+    /// ensures fits { map.len self.old.values ≤ self.new.room }
+    /// ensures frees { map.len self.old.values ≡ 0 → self.new.room ≡ 0 }
+    /// ```
+    ///
+    /// </details>
+    #[inline]
+    pub fn shrink_to_fit(&mut self) {
+        self.entries.shrink_to_fit_fallibly();
+    }
+}
+
+impl<T> SparseMap<T> {
+    /// The value of a handle that has one.
+    #[inline]
+    fn value_mut(&mut self, handle: Handle) -> &mut T
+        // requires { IsSome (map.get self.old.values handle) }
+        // ensures* writes_back { sem 𝓛 (lends_value T.row self.entry handle result) }
+        // ensures value { map.get self.old.values handle ≡ Some result.now }
+    {
+        let position = self.positions[handle.index() as usize] as usize;
+        &mut self.entries[position].1
+    }
+}
+
+/// # Snapshots
 impl<T: Clone> SparseMap<T> {
     /// A map with a clone of each value, with room for the same slots, and with the same limit.
     /// Without room for slots it takes no memory.

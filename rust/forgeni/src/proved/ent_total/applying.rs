@@ -10,6 +10,7 @@ use crate::phases::sync_error::SyncError;
 use crate::phases::world::World;
 use crate::worlds::{SyncFault, Report};
 
+/// # Sync points
 impl World {
     /// The sync point: brings to life what is reserved, and then lets the queues take effect, one
     /// after the other, in their order. A command on an entity that is not alive at its turn has no

@@ -10,6 +10,7 @@ use crate::phases::shared::Shared;
 use crate::allocator::Entities;
 use crate::handles::HandedBack;
 
+/// # Closing
 impl Shared {
     /// Ends the phase with all its reservers: those that are returned, and these. The allocator is as
     /// if their reservations had been made one by one, in the order of their atomic steps, and
@@ -150,7 +151,9 @@ impl Shared {
             Err(shared) => Err(shared.in_use()),
         }
     }
+}
 
+impl Shared {
     /// How many reservers are missing beside those returned and these, if these may come back.
     #[inline]
     fn missing(&self, reservers: &[Reserver]) -> Option<usize>

@@ -24,27 +24,8 @@ pub struct Commands {
     pub(super) number: u64,
 }
 
+/// # Issuing
 impl Commands {
-    /// A system that has issued nothing.
-    #[inline]
-    pub(super) fn new(
-        world: Arc<crate::worlds::OpenWorld>,
-        mut reserver: SharedReserver,
-        number: u64,
-    ) -> Self
-        // requires stands_for { J.world_of number ≡ arc_value world }
-        // requires own { IsOf (arc_value world).shared reserver }
-        // ensures { result ≡ new_commands number (arc_value world) reserver }
-    {
-        let queue = crate::commands::SystemCommands::new(world.shared(), &mut reserver).finish();
-        Commands {
-            world,
-            reserver,
-            queue,
-            number,
-        }
-    }
-
     /// Reserves a handle at once, by one atomic step. It is to have these components, in any order.
     /// If a component is listed twice, its last value counts.
     ///
@@ -276,18 +257,10 @@ impl Commands {
         self.queue = commands.finish();
         issued
     }
+}
 
-    /// The queue, and leaves an empty one, which takes no memory.
-    #[inline]
-    fn take_queue(&mut self) -> crate::commands::IssuedCommands
-        // ensures queue { result ≡ self.old.queue }
-        // ensures rest { self.new ≡ record self.old { queue = [] } }
-    {
-        let shared = self.world.shared();
-        let empty = crate::commands::SystemCommands::new(shared, &mut self.reserver).finish();
-        mem::replace(&mut self.queue, empty)
-    }
-
+/// # Looking at the world
+impl Commands {
     /// The value of the entity's component, if the entity is alive and has it.
     ///
     /// <details><summary>Contract</summary>
@@ -305,23 +278,6 @@ impl Commands {
         self.world.view().get(handle, id)
     }
 
-    /// When and by whom the entity was brought to life, if it is alive.
-    ///
-    /// <details><summary>Contract</summary>
-    ///
-    /// In the words of the folder `specs/` of crate `ent_total`:
-    ///
-    /// ```text
-    /// ensures { result ≡ birth_of self.now.world.entities handle }
-    /// ```
-    ///
-    /// </details>
-    #[must_use]
-    #[inline]
-    pub fn birth(&self, handle: Handle) -> Option<Birth> {
-        self.world.view().birth(handle)
-    }
-
     /// Whether the entity is alive. What the systems of the phase spawn isn't yet.
     ///
     /// <details><summary>Contract</summary>
@@ -337,6 +293,23 @@ impl Commands {
     #[inline]
     pub fn contains(&self, handle: Handle) -> bool {
         self.world.view().contains(handle)
+    }
+
+    /// When and by whom the entity was brought to life, if it is alive.
+    ///
+    /// <details><summary>Contract</summary>
+    ///
+    /// In the words of the folder `specs/` of crate `ent_total`:
+    ///
+    /// ```text
+    /// ensures { result ≡ birth_of self.now.world.entities handle }
+    /// ```
+    ///
+    /// </details>
+    #[must_use]
+    #[inline]
+    pub fn birth(&self, handle: Handle) -> Option<Birth> {
+        self.world.view().birth(handle)
     }
 
     /// The handles of all entities, by birth and then by handle. The time is that of a sort.
@@ -377,6 +350,27 @@ impl Commands {
     pub fn view(&self) -> View<'_> {
         self.world.view()
     }
+}
+
+/// # Its phase
+impl Commands {
+    /// Which of the systems it is: its position in the list that the phase began with, from 0.
+    /// Births and faults count systems by the order of their queues at the close instead.
+    ///
+    /// <details><summary>Contract</summary>
+    ///
+    /// In the words of the folder `specs/` of crate `ent_total`:
+    ///
+    /// ```text
+    /// ensures { result ≡ self.now.reserver.own.number }
+    /// ```
+    ///
+    /// </details>
+    #[must_use]
+    #[inline]
+    pub fn number(&self) -> usize {
+        self.reserver.number()
+    }
 
     /// Whether it is of this phase.
     ///
@@ -394,24 +388,6 @@ impl Commands {
     #[inline]
     pub fn is_of(&self, phase: &OpenWorld) -> bool {
         self.number == phase.number()
-    }
-
-    /// Which of the systems it is: its position in the list that the phase began with, from 0.
-    /// Births and faults count systems by the order of their queues at the close instead.
-    ///
-    /// <details><summary>Contract</summary>
-    ///
-    /// In the words of the folder `specs/` of crate `ent_total`:
-    ///
-    /// ```text
-    /// ensures { result ≡ self.now.reserver.own.number }
-    /// ```
-    ///
-    /// </details>
-    #[must_use]
-    #[inline]
-    pub fn number(&self) -> usize {
-        self.reserver.number()
     }
 
     /// Ends the issuing, and returns the queue, which [`OpenWorld::close`] takes. The system can
@@ -436,5 +412,38 @@ impl Commands {
     #[inline]
     pub fn finish(self) -> CommandQueue {
         CommandQueue::new(self)
+    }
+}
+
+impl Commands {
+    /// A system that has issued nothing.
+    #[inline]
+    pub(super) fn new(
+        world: Arc<crate::worlds::OpenWorld>,
+        mut reserver: SharedReserver,
+        number: u64,
+    ) -> Self
+        // requires stands_for { J.world_of number ≡ arc_value world }
+        // requires own { IsOf (arc_value world).shared reserver }
+        // ensures { result ≡ new_commands number (arc_value world) reserver }
+    {
+        let queue = crate::commands::SystemCommands::new(world.shared(), &mut reserver).finish();
+        Commands {
+            world,
+            reserver,
+            queue,
+            number,
+        }
+    }
+
+    /// The queue, and leaves an empty one, which takes no memory.
+    #[inline]
+    fn take_queue(&mut self) -> crate::commands::IssuedCommands
+        // ensures queue { result ≡ self.old.queue }
+        // ensures rest { self.new ≡ record self.old { queue = [] } }
+    {
+        let shared = self.world.shared();
+        let empty = crate::commands::SystemCommands::new(shared, &mut self.reserver).finish();
+        mem::replace(&mut self.queue, empty)
     }
 }

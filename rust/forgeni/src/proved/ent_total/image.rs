@@ -11,6 +11,7 @@ use crate::worlds::WorldImageFault;
 /// How many bytes the count of spawned entities has. They are the last ones.
 const COUNT: usize = 4;
 
+/// # Saves
 impl World {
     /// Appends the image of the world: bytes from which [`read_image`](Self::read_image) makes the
     /// same world anew, with its limits, entities, births, components, waiting slots and requests.

@@ -22,60 +22,8 @@ pub struct Shared {
     number: u64,
 }
 
+/// # Looking at entities
 impl Shared {
-    #[inline]
-    pub(super) fn new(
-        shared: Arc<crate::reserving::SharedSource>,
-        returned: Vec<crate::reserving::SharedReserver>,
-        number: u64,
-    ) -> Self
-        // requires stands_for { J.shared_of number ≡ arc_value shared }
-        // requires own { All (IsOf (arc_value shared)) returned.items }
-        // requires room { (arc_value shared).count ≤ vec_capacity returned }
-        // ensures { result
-        //     ≡ record { number = number; shared = arc_value shared; returned = returned.items } }
-    {
-        Shared {
-            shared,
-            returned,
-            number,
-        }
-    }
-
-    /// How many reservers it has, whether they exist, are returned or were lost.
-    ///
-    /// <details><summary>Contract</summary>
-    ///
-    /// In the words of the folder `specs/` of crate `ent_total`:
-    ///
-    /// ```text
-    /// ensures { result ≡ self.now.shared.count }
-    /// ```
-    ///
-    /// </details>
-    #[must_use]
-    #[inline]
-    pub fn count(&self) -> usize {
-        self.shared.count()
-    }
-
-    /// How many reservers are returned: a close that was refused took them.
-    ///
-    /// <details><summary>Contract</summary>
-    ///
-    /// In the words of the folder `specs/` of crate `ent_total`:
-    ///
-    /// ```text
-    /// ensures { result ≡ length self.now.returned }
-    /// ```
-    ///
-    /// </details>
-    #[must_use]
-    #[inline]
-    pub fn returned(&self) -> usize {
-        self.returned.len()
-    }
-
     /// Whether the entity was alive when the phase was opened. It stays so until the close: what is
     /// reserved comes to life after it, and nothing is freed before. Any thread may ask, and it
     /// takes constant time.
@@ -109,24 +57,34 @@ impl Shared {
         self.shared.is_alive(handle)
     }
 
-    /// The row that was set with the entity ([`try_set_row`](crate::Entities::try_set_row)), when the
-    /// phase was opened. `None` if the entity was not alive then, or had no row. Any thread may ask,
-    /// and it takes constant time.
+    /// The entities that were alive when the phase was opened, by rising slot.
+    ///
+    /// ```
+    /// use forgeni::Entities;
+    ///
+    /// let mut entities = Entities::new();
+    /// let old = entities.alloc()?;
+    /// let (shared, mut reservers) = entities.share(1)?;
+    /// let new = reservers[0].reserve()?;
+    /// assert_eq!(shared.iter().collect::<Vec<_>>(), [old]);
+    /// # Ok::<(), Box<dyn std::error::Error + Send + Sync>>(())
+    /// ```
     ///
     /// <details><summary>Contract</summary>
     ///
     /// In the words of the folder `specs/` of crate `ent_total`:
     ///
     /// ```text
-    /// ensures value { result ≡ map.get self.now.shared.rows handle }
-    /// ensures alive { OnSome result (set.contains self.now.shared.start.live handle ≡ true) }
+    /// ensures living { set.from_list result ≡ self.now.shared.start.live }
+    /// ensures rising { AllPairs (λ g h. g.index < h.index) result }
+    /// ensures count { length result ≡ set.len self.now.shared.start.live }
     /// ```
     ///
     /// </details>
     #[must_use]
     #[inline]
-    pub fn row(&self, handle: Handle) -> Option<u32> {
-        self.shared.row(handle)
+    pub fn iter(&self) -> Living<'_> {
+        self.shared.iter()
     }
 
     /// How many entities were alive when the phase was opened.
@@ -163,42 +121,61 @@ impl Shared {
         self.shared.is_empty()
     }
 
-    /// The entities that were alive when the phase was opened, by rising slot.
-    ///
-    /// ```
-    /// use forgeni::Entities;
-    ///
-    /// let mut entities = Entities::new();
-    /// let old = entities.alloc()?;
-    /// let (shared, mut reservers) = entities.share(1)?;
-    /// let new = reservers[0].reserve()?;
-    /// assert_eq!(shared.iter().collect::<Vec<_>>(), [old]);
-    /// # Ok::<(), Box<dyn std::error::Error + Send + Sync>>(())
-    /// ```
+    /// The row that was set with the entity ([`try_set_row`](crate::Entities::try_set_row)), when the
+    /// phase was opened. `None` if the entity was not alive then, or had no row. Any thread may ask,
+    /// and it takes constant time.
     ///
     /// <details><summary>Contract</summary>
     ///
     /// In the words of the folder `specs/` of crate `ent_total`:
     ///
     /// ```text
-    /// ensures living { set.from_list result ≡ self.now.shared.start.live }
-    /// ensures rising { AllPairs (λ g h. g.index < h.index) result }
-    /// ensures count { length result ≡ set.len self.now.shared.start.live }
+    /// ensures value { result ≡ map.get self.now.shared.rows handle }
+    /// ensures alive { OnSome result (set.contains self.now.shared.start.live handle ≡ true) }
     /// ```
     ///
     /// </details>
     #[must_use]
     #[inline]
-    pub fn iter(&self) -> Living<'_> {
-        self.shared.iter()
+    pub fn row(&self, handle: Handle) -> Option<u32> {
+        self.shared.row(handle)
+    }
+}
+
+/// # The phase
+impl Shared {
+    /// How many reservers it has, whether they exist, are returned or were lost.
+    ///
+    /// <details><summary>Contract</summary>
+    ///
+    /// In the words of the folder `specs/` of crate `ent_total`:
+    ///
+    /// ```text
+    /// ensures { result ≡ self.now.shared.count }
+    /// ```
+    ///
+    /// </details>
+    #[must_use]
+    #[inline]
+    pub fn count(&self) -> usize {
+        self.shared.count()
     }
 
+    /// How many reservers are returned: a close that was refused took them.
+    ///
+    /// <details><summary>Contract</summary>
+    ///
+    /// In the words of the folder `specs/` of crate `ent_total`:
+    ///
+    /// ```text
+    /// ensures { result ≡ length self.now.returned }
+    /// ```
+    ///
+    /// </details>
+    #[must_use]
     #[inline]
-    pub(super) fn number(&self) -> u64
-        // ensures number { result ≡ self.now.number }
-        // ensures stands_for { J.shared_of result ≡ self.now.shared }
-    {
-        self.number
+    pub fn returned(&self) -> usize {
+        self.returned.len()
     }
 
     /// The last of the reservers that are returned, or `None` if none is. It takes no memory.
@@ -238,6 +215,35 @@ impl Shared {
             reserver,
             number: self.number,
         }))
+    }
+}
+
+impl Shared {
+    #[inline]
+    pub(super) fn new(
+        shared: Arc<crate::reserving::SharedSource>,
+        returned: Vec<crate::reserving::SharedReserver>,
+        number: u64,
+    ) -> Self
+        // requires stands_for { J.shared_of number ≡ arc_value shared }
+        // requires own { All (IsOf (arc_value shared)) returned.items }
+        // requires room { (arc_value shared).count ≤ vec_capacity returned }
+        // ensures { result
+        //     ≡ record { number = number; shared = arc_value shared; returned = returned.items } }
+    {
+        Shared {
+            shared,
+            returned,
+            number,
+        }
+    }
+
+    #[inline]
+    pub(super) fn number(&self) -> u64
+        // ensures number { result ≡ self.now.number }
+        // ensures stands_for { J.shared_of result ≡ self.now.shared }
+    {
+        self.number
     }
 
     /// Gives out those returned, the last one first, to a list that has room for them. One whose

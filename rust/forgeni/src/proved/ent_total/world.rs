@@ -74,6 +74,7 @@ pub fn new_world(limits: Limits, number: u64) -> World {
     }
 }
 
+/// # Entities
 impl World {
     /// Brings an entity to life at once, with these components, in any order. If a component is listed
     /// twice, its last value counts.
@@ -138,62 +139,6 @@ impl World {
         Ok(handle)
     }
 
-    /// As [`spawn`](World::spawn), with this birth. It may be any, even that of another entity.
-    ///
-    /// # Errors
-    ///
-    /// As of `spawn`.
-    ///
-    /// <details><summary>Contract</summary>
-    ///
-    /// In the words of the folder `specs/` of crate `ent_total`:
-    ///
-    /// ```text
-    /// ensures front { IfOk result (λ handle.
-    ///     slice_get self.old.world.allocator.pool 0 ≡ Some handle) }
-    /// ensures ok { IfOk result (λ handle. self.new ≡ record self.old {
-    ///   world = after_spawn birth (bundle_of components.now) handle self.old.world;
-    /// }) }
-    ///
-    /// // When it is refused, and what holds then.
-    /// ensures needs_flush { IsErrOf result AllocError.NeedsFlush
-    ///     ↔ (0 < self.old.world.allocator.asked) }
-    /// ensures space { IsErrOf result AllocError.Space
-    ///     → (self.old.world.allocator.asked ≡ 0) × (self.old.world.allocator.pool ≡ []) }
-    /// ensures full { (self.old.world.allocator.asked ≡ 0) × (self.old.world.allocator.pool ≡ [])
-    ///     → IsErrOf result AllocError.Space
-    ///     ⊎ (IsErrOf result AllocError.Memory × (4 < length (bundle_of components.now))) }
-    /// ensures memory { IsErrOf result AllocError.Memory
-    ///     → (top self.old.world.allocator ≡ 0) ⊎ (0 < length (bundle_of components.now)) }
-    /// ensures err { OnErr result (self.new ≡ self.old) }
-    /// ```
-    ///
-    /// </details>
-    #[inline(always)]
-    pub fn spawn_with_birth(
-        &mut self,
-        birth: Birth,
-        components: &[(ComponentId, i64)],
-    ) -> Result<Handle, AllocError> {
-        let Ok(bundle) = Bundle::of(components) else {
-            return Err(self.no_bundle());
-        };
-        self.world.spawn(birth, &bundle)
-    }
-
-    /// Why nothing was spawned, when there is no memory for the components.
-    #[cold]
-    fn no_bundle(&self) -> AllocError
-        // ensures needs_flush { result ≡ AllocError.NeedsFlush ↔ (0 < self.now.world.allocator.asked) }
-        // ensures memory { result ≡ AllocError.Memory ↔ (self.now.world.allocator.asked ≡ 0) }
-    {
-        if self.world.needs_flush() {
-            AllocError::NeedsFlush
-        } else {
-            AllocError::Memory
-        }
-    }
-
     /// Takes a living entity out, with all its components.
     ///
     /// ```
@@ -238,6 +183,85 @@ impl World {
         self.world.despawn(handle)
     }
 
+    /// As [`spawn`](World::spawn), with this birth. It may be any, even that of another entity.
+    ///
+    /// # Errors
+    ///
+    /// As of `spawn`.
+    ///
+    /// <details><summary>Contract</summary>
+    ///
+    /// In the words of the folder `specs/` of crate `ent_total`:
+    ///
+    /// ```text
+    /// ensures front { IfOk result (λ handle.
+    ///     slice_get self.old.world.allocator.pool 0 ≡ Some handle) }
+    /// ensures ok { IfOk result (λ handle. self.new ≡ record self.old {
+    ///   world = after_spawn birth (bundle_of components.now) handle self.old.world;
+    /// }) }
+    ///
+    /// // When it is refused, and what holds then.
+    /// ensures needs_flush { IsErrOf result AllocError.NeedsFlush
+    ///     ↔ (0 < self.old.world.allocator.asked) }
+    /// ensures space { IsErrOf result AllocError.Space
+    ///     → (self.old.world.allocator.asked ≡ 0) × (self.old.world.allocator.pool ≡ []) }
+    /// ensures full { (self.old.world.allocator.asked ≡ 0) × (self.old.world.allocator.pool ≡ [])
+    ///     → IsErrOf result AllocError.Space
+    ///     ⊎ (IsErrOf result AllocError.Memory × (4 < length (bundle_of components.now))) }
+    /// ensures memory { IsErrOf result AllocError.Memory
+    ///     → (top self.old.world.allocator ≡ 0) ⊎ (0 < length (bundle_of components.now)) }
+    /// ensures err { OnErr result (self.new ≡ self.old) }
+    /// ```
+    ///
+    /// </details>
+    #[inline(always)]
+    pub fn spawn_with_birth(
+        &mut self,
+        birth: Birth,
+        components: &[(ComponentId, i64)],
+    ) -> Result<Handle, AllocError> {
+        let Ok(bundle) = Bundle::of(components) else {
+            return Err(self.no_bundle());
+        };
+        self.world.spawn(birth, &bundle)
+    }
+
+    /// Brings to life what is reserved, without components: what the systems of a phase had spawned
+    /// whose queues are not to take effect. [`apply`](World::apply) brings entities to life too.
+    ///
+    /// The birth of each entity names the phase that ends, no system, and the entity's number among
+    /// those that are born. So an entity that [`spawn`](World::spawn) made in that phase may have
+    /// the same birth.
+    ///
+    /// # Errors
+    ///
+    /// `OutOfMemory`, only if something is reserved. Nothing has changed then.
+    ///
+    /// <details><summary>Contract</summary>
+    ///
+    /// In the words of the folder `specs/` of crate `ent_total`:
+    ///
+    /// ```text
+    /// ensures ok { OnOk result (self.new ≡ record self.old {
+    ///   world = after_births [] self.old.world;
+    ///   spawned = 0;
+    /// }) }
+    /// ensures flushed { OnOk result (self.new.world.allocator.asked ≡ 0) }
+    /// ensures err { OnErr result (self.new ≡ self.old) }
+    /// ensures memory { OnErr result (0 < length self.old.world.allocator.taken) }
+    /// ```
+    ///
+    /// </details>
+    #[inline]
+    pub fn flush(&mut self) -> Result<(), OutOfMemory> {
+        self.world.flush()?;
+        self.spawned = 0;
+        Ok(())
+    }
+}
+
+/// # Looking at entities
+impl World {
     /// The value of the entity's component, if the entity is alive and has it.
     ///
     /// ```
@@ -265,23 +289,6 @@ impl World {
     #[inline]
     pub fn get(&self, handle: Handle, id: ComponentId) -> Option<i64> {
         self.world.get(handle, id)
-    }
-
-    /// When and by whom the entity was brought to life, if it is alive.
-    ///
-    /// <details><summary>Contract</summary>
-    ///
-    /// In the words of the folder `specs/` of crate `ent_total`:
-    ///
-    /// ```text
-    /// ensures { result ≡ birth_of self.now.world.entities handle }
-    /// ```
-    ///
-    /// </details>
-    #[must_use]
-    #[inline]
-    pub fn birth(&self, handle: Handle) -> Option<Birth> {
-        self.world.birth(handle)
     }
 
     /// Whether the entity is alive. It takes constant time.
@@ -328,6 +335,23 @@ impl World {
         self.world.items(handle)
     }
 
+    /// When and by whom the entity was brought to life, if it is alive.
+    ///
+    /// <details><summary>Contract</summary>
+    ///
+    /// In the words of the folder `specs/` of crate `ent_total`:
+    ///
+    /// ```text
+    /// ensures { result ≡ birth_of self.now.world.entities handle }
+    /// ```
+    ///
+    /// </details>
+    #[must_use]
+    #[inline]
+    pub fn birth(&self, handle: Handle) -> Option<Birth> {
+        self.world.birth(handle)
+    }
+
     /// The handles of all entities, by birth and then by handle. The time is that of a sort.
     ///
     /// ```
@@ -357,7 +381,10 @@ impl World {
     pub fn by_birth(&self) -> Result<Vec<Handle>, OutOfMemory> {
         self.world.by_birth()
     }
+}
 
+/// # Counts
+impl World {
     /// How many entities are alive.
     ///
     /// <details><summary>Contract</summary>
@@ -410,23 +437,6 @@ impl World {
         self.world.phase()
     }
 
-    /// How many slots are retired: they give no handle any more. It takes constant time.
-    ///
-    /// <details><summary>Contract</summary>
-    ///
-    /// In the words of the folder `specs/` of crate `ent_total`:
-    ///
-    /// ```text
-    /// ensures { result ≡ retired self.now.world.allocator }
-    /// ```
-    ///
-    /// </details>
-    #[must_use]
-    #[inline]
-    pub fn retired(&self) -> u32 {
-        self.world.retired()
-    }
-
     /// Whether any handle was requested since the last flush. It is so between
     /// [`OpenWorld::close`](crate::phases::OpenWorld::close) and [`apply`](World::apply), if a system has
     /// spawned.
@@ -446,36 +456,35 @@ impl World {
         self.world.needs_flush()
     }
 
-    /// Brings to life what is reserved, without components: what the systems of a phase had spawned
-    /// whose queues are not to take effect. [`apply`](World::apply) brings entities to life too.
-    ///
-    /// The birth of each entity names the phase that ends, no system, and the entity's number among
-    /// those that are born. So an entity that [`spawn`](World::spawn) made in that phase may have
-    /// the same birth.
-    ///
-    /// # Errors
-    ///
-    /// `OutOfMemory`, only if something is reserved. Nothing has changed then.
+    /// How many slots are retired: they give no handle any more. It takes constant time.
     ///
     /// <details><summary>Contract</summary>
     ///
     /// In the words of the folder `specs/` of crate `ent_total`:
     ///
     /// ```text
-    /// ensures ok { OnOk result (self.new ≡ record self.old {
-    ///   world = after_births [] self.old.world;
-    ///   spawned = 0;
-    /// }) }
-    /// ensures flushed { OnOk result (self.new.world.allocator.asked ≡ 0) }
-    /// ensures err { OnErr result (self.new ≡ self.old) }
-    /// ensures memory { OnErr result (0 < length self.old.world.allocator.taken) }
+    /// ensures { result ≡ retired self.now.world.allocator }
     /// ```
     ///
     /// </details>
+    #[must_use]
     #[inline]
-    pub fn flush(&mut self) -> Result<(), OutOfMemory> {
-        self.world.flush()?;
-        self.spawned = 0;
-        Ok(())
+    pub fn retired(&self) -> u32 {
+        self.world.retired()
+    }
+}
+
+impl World {
+    /// Why nothing was spawned, when there is no memory for the components.
+    #[cold]
+    fn no_bundle(&self) -> AllocError
+        // ensures needs_flush { result ≡ AllocError.NeedsFlush ↔ (0 < self.now.world.allocator.asked) }
+        // ensures memory { result ≡ AllocError.Memory ↔ (self.now.world.allocator.asked ≡ 0) }
+    {
+        if self.world.needs_flush() {
+            AllocError::NeedsFlush
+        } else {
+            AllocError::Memory
+        }
     }
 }
